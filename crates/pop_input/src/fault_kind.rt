@@ -3,7 +3,7 @@ ghost use Rattle.std.specs.Prelude.{◌≡◌, ◌≤◌};
 ghost use Rattle.pop_input.specs.FaultKinds.{kind_numbered, number_of};
 
 /// Why an item isn't sound (own), in the order of the numbers 1 to 21.
-#[derive(Clone, Copy, PartialEq, Eq)]
+#[derive(Clone, Copy)]
 pub enum FaultKind {
     /// 1: another word, or the end of the input, where the first BeginProblem is awaited.
     BeginProblemMissing,

@@ -6,7 +6,7 @@ use crate::fault_kind::FaultKind;
 use crate::problem::Problem;
 
 /// Why an item is not sound.
-#[derive(Clone, Copy, PartialEq, Eq)]
+#[derive(Clone, Copy)]
 pub struct Fault {
     /// The number of its kind, 1 to 21.
     pub number: u8,

@@ -9,7 +9,7 @@ use crate::condition::Condition;
 use chess_core::man::{Colour, Kind};
 
 /// A part of a problem, which a command opens.
-#[derive(Clone, Copy, PartialEq, Eq)]
+#[derive(Clone, Copy)]
 pub enum Section {
     /// Colours, and men on squares.
     Pieces,
@@ -22,7 +22,7 @@ pub enum Section {
 }
 
 /// A word that stands between sections.
-#[derive(Clone, Copy, PartialEq, Eq)]
+#[derive(Clone, Copy)]
 pub enum Command {
     /// BeginProblem, the first word of an input.
     Begin,
@@ -35,7 +35,7 @@ pub enum Command {
 }
 
 /// What an option awaits.
-#[derive(Clone, Copy, PartialEq, Eq)]
+#[derive(Clone, Copy)]
 pub enum Awaited {
     /// The limit of MaxSolutions.
     Number,
@@ -48,7 +48,7 @@ pub enum Awaited {
 }
 
 /// A word of the section of options.
-#[derive(Clone, Copy, PartialEq, Eq)]
+#[derive(Clone, Copy)]
 pub enum OptionWord {
     /// Set play comes before the play.
     SetPlay,
@@ -61,7 +61,7 @@ pub enum OptionWord {
 }
 
 /// The words that take the rest of their line.
-#[derive(Clone, Copy, PartialEq, Eq)]
+#[derive(Clone, Copy)]
 pub enum TextWord {
     /// The title: the last one stands in the head.
     Title,

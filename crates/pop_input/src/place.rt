@@ -7,7 +7,7 @@ use crate::short_word::ShortWord;
 use crate::values::squares_of;
 
 /// The section, and what an option awaits.
-#[derive(Clone, Copy, PartialEq, Eq)]
+#[derive(Clone, Copy)]
 pub struct Place {
     /// The section that is open, none before the first.
     pub section: Option<Section>,
@@ -16,7 +16,7 @@ pub struct Place {
 }
 
 /// A value that an option awaits, a command, or another word in its section.
-#[derive(Clone, Copy, PartialEq, Eq)]
+#[derive(Clone, Copy)]
 pub enum Role {
     /// The number of MaxSolutions.
     Limit,

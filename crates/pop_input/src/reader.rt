@@ -25,7 +25,7 @@ use pop_text::word::Word;
 use std::marker::Model;
 
 /// Which block of the input is next: a block ends with NextProblem or EndProblem.
-#[derive(Clone, Copy, PartialEq, Eq)]
+#[derive(Clone, Copy)]
 pub enum Next {
     /// The first, which has to begin with BeginProblem.
     First,

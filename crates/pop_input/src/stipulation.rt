@@ -30,7 +30,7 @@ pub enum Goal {
 pub const MOST_MOVES: u8 = 16;
 
 /// A form, its goal and its number of moves: 1 to 16, with `HelpHalf` 0 to 15.
-#[derive(Clone, Copy, PartialEq, Eq)]
+#[derive(Clone, Copy)]
 pub struct Stipulation {
     pub form: Form,
     pub goal: Goal,

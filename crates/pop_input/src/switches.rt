@@ -1,7 +1,7 @@
 //! Options that hold or do not.
 
 /// The options without a value (Popeye manual).
-#[derive(Clone, Copy, PartialEq, Eq)]
+#[derive(Clone, Copy)]
 pub struct Switches {
     /// Set play comes before the play.
     pub set_play: bool,

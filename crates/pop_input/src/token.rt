@@ -14,7 +14,7 @@ use pop_text::text::Text;
 use pop_text::word::Word;
 
 /// What comes next in the input. The numbers are those of lines, counted from 1.
-#[derive(Clone, Copy, PartialEq, Eq)]
+#[derive(Clone, Copy)]
 pub enum ReadToken {
     /// A word.
     Word,

@@ -2,7 +2,7 @@
 ghost use Rattle.std.specs.Prelude.{◌≡◌, ◌≤◌, ℕ, IfSome, length, map, option_map, true};
 ghost use Rattle.std.specs.Char.{to_ascii_lowercase};
 ghost use Rattle.pop_input.specs.Ends.{is_stated};
-ghost use Rattle.pop_input.specs.Values.{goal_of, is_digit, limit_of, most_solutions, one_digit, only_square, square_by, squares_of, stipulation_of, stipulation_with, two_digits};
+ghost use Rattle.pop_input.specs.Values.{goal_of, is_digit, limit_of, most_solutions, one_digit, only_square, square_by, squares_of, stipulation_in_small_letters, stipulation_of, stipulation_with, two_digits};
 
 use crate::stipulation::{Form, Goal, MOST_MOVES, Stipulation};
 use arrayvec::ArrayVec;
@@ -149,8 +149,15 @@ pub(crate) fn stipulation_of(word: &[u8]) -> Option<Stipulation>
     if word.len() > 6 {
         return None;
     }
-    let letters = small_letters(word);
-    match letters.as_slice() {
+    stipulation_in_small_letters(small_letters(word).as_slice())
+}
+
+// The same of a word in small letters.
+fn stipulation_in_small_letters(letters: &[u8]) -> Option<Stipulation>
+    ensures value { result ≡ stipulation_in_small_letters letters.now }
+    ensures range { is_stated result ≡ true }
+{
+    match letters {
         [sign, n] => stipulation_with(Form::Direct, goal_of(*sign), one_digit(*n)),
         [b's', sign, n] => stipulation_with(Form::SelfMate, goal_of(*sign), one_digit(*n)),
         [b'h', sign, n] => stipulation_with(Form::Help, goal_of(*sign), one_digit(*n)),

@@ -1,43 +1,61 @@
 //! Options and values of a command.
-ghost use Rattle.std.specs.Prelude.{◌≡◌, IfOk};
-ghost use Rattle.clap.specs.Simple.{app_of, new_rule, with_rule};
+ghost use Rattle.std.specs.Prelude.{◌≡◌, IfOk, false};
+ghost use Rattle.clap.specs.Simple.{App, app_of, new_rule, with_rule};
+ghost use Rattle.clap.specs.Walk.{rule_of};
 ghost use Rattle.pop_settings.specs.Commands.{flag, option_with_value};
 
 use clap::{Arg, ArgAction, Command};
 use std::alloc::{AllocError, Global};
 
+// The command with one more argument, where there was memory for it so far.
+fn with<'a>(
+    command: Result<Command<'a>, AllocError>,
+    argument: Arg<'a>,
+) -> Result<Command<'a>, AllocError>
+    ensures { (app : App) → argument.entry.global ≡ false → IfOk command.entry (λ c. app_of c ≡ app)
+        → IfOk result (λ c. app_of c ≡ with_rule app (rule_of argument.entry)) }
+{
+    match command {
+        Ok(command) => command.arg(argument),
+        Err(error) => Err(error),
+    }
+}
+
 // The command with one more option that takes no value.
 pub(crate) fn with_flag<'a>(
-    command: Command<'a>,
+    command: Result<Command<'a>, AllocError>,
     alloc: Global,
     name: &'a str,
 ) -> Result<Command<'a>, AllocError>
-    ensures { IfOk result (λ c. app_of c ≡ with_rule (app_of command.entry) (flag name.now)) }
+    ensures { (app : App) → IfOk command.entry (λ c. app_of c ≡ app)
+        → IfOk result (λ c. app_of c ≡ with_rule app (flag name.now)) }
 {
     let option = Arg::new(alloc, name).long(name).action(ArgAction::SetTrue);
-    command.arg(option)
+    with(command, option)
 }
 
 // The command with one more option that takes a value.
 pub(crate) fn with_option<'a>(
-    command: Command<'a>,
+    command: Result<Command<'a>, AllocError>,
     alloc: Global,
     name: &'a str,
 ) -> Result<Command<'a>, AllocError>
-    ensures { IfOk result (λ c. app_of c ≡ with_rule (app_of command.entry) (option_with_value name.now)) }
+    ensures { (app : App) → IfOk command.entry (λ c. app_of c ≡ app)
+        → IfOk result (λ c. app_of c ≡ with_rule app (option_with_value name.now)) }
 {
     let option = Arg::new(alloc, name).long(name);
-    command.arg(option)
+    with(command, option)
 }
 
 // The command with one more value that no option announces.
 pub(crate) fn with_value<'a>(
-    command: Command<'a>,
+    command: Result<Command<'a>, AllocError>,
     alloc: Global,
     name: &'a str,
 ) -> Result<Command<'a>, AllocError>
-    ensures { IfOk result (λ c. app_of c ≡ with_rule (app_of command.entry) (new_rule name.now)) }
+    ensures { (app : App) → IfOk command.entry (λ c. app_of c ≡ app)
+        → IfOk result (λ c. app_of c ≡ with_rule app (new_rule name.now)) }
 {
     let value = Arg::new(alloc, name);
-    command.arg(value)
+    with(command, value)
 }

@@ -1,7 +1,7 @@
 //! Why a scanner has no word or text line to give.
 
 /// Each case holds the line, counted from 1. The limits are this project's own.
-#[derive(Clone, Copy, PartialEq, Eq)]
+#[derive(Clone, Copy)]
 pub enum ReadFault {
     /// A word has more than 160 bytes: the line on which it begins. It is used up, and reading goes on behind it.
     TooLong(u64),

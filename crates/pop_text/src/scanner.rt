@@ -24,7 +24,7 @@ const LIMIT: u32 = 1 << 30;
 const WINDOW: usize = 4096;
 
 /// How the input ends, as far as that is known.
-#[derive(Clone, Copy, PartialEq, Eq)]
+#[derive(Clone, Copy)]
 pub enum End {
     /// Nothing is known yet.
     Open,
@@ -35,7 +35,7 @@ pub enum End {
 }
 
 /// Whether there is a word.
-#[derive(Clone, Copy, PartialEq, Eq)]
+#[derive(Clone, Copy)]
 pub enum Found {
     /// There is one.
     Word,

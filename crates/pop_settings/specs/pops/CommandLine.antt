@@ -1,6 +1,6 @@
 -- The command line `pops [--check] [--no-board] [FILE]`, and the settings of its words (own).
 use Rattle.std.specs.Prelude.{◌≡◌, ◌≢◌, List, [], codes, Option, Some, None, Bool, true, false, option_map, string_bytes}
-use Rattle.clap.specs.Walk.{Rule, Text, first_of, one_of}
+use Rattle.clap.specs.Walk.{Row, Rule, Text, first_of, one_of}
 use Rattle.clap.specs.Simple.{App, new_app, new_rule, with_rule, matches_of}
 use Rattle.clap.specs.Faults.{fault_of}
 use Rattle.clap.specs.Takes.{takes}
@@ -29,11 +29,15 @@ pub record IsFlag (text : Option Text) (flag : Bool) : Type 0 where
   pub set : text ≡ Some (codes "true") → flag ≡ true
   pub unset : text ≡ Some (codes "false") → flag ≡ false
 
--- the settings are the matches that clap defines for the words, of which the first is the program's name
-pub record IsSettings (words : List Text) (s : Settings) : Type 0 where
-  pub file : option_map string_bytes s.file ≡ first_of (codes "file") (matches_of command words)
-  pub check : IsFlag (one_of (codes "check") (matches_of command words)) s.check
-  pub no_board : IsFlag (one_of (codes "no-board") (matches_of command words)) s.no_board
+-- the settings are those that clap's matches choose
+pub record IsChosen (rows : List Row) (s : Settings) : Type 0 where
+  pub file : option_map string_bytes s.file ≡ first_of (codes "file") rows
+  pub check : IsFlag (one_of (codes "check") rows) s.check
+  pub no_board : IsFlag (one_of (codes "no-board") rows) s.no_board
+
+-- the settings are those of the words, of which the first is the program's name
+abbrev pub IsSettings : List Text → Settings → Type 0
+IsSettings words = IsChosen (matches_of command words)
 
 -- the kinds of error that clap may give at the words for another cause than memory: none where it takes them
 abbrev pub refusals : List Text → Kinds

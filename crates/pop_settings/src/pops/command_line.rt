@@ -6,7 +6,7 @@ ghost use Rattle.clap.specs.Matches.{found_of};
 ghost use Rattle.clap.specs.Simple.{matches_of};
 ghost use Rattle.clap.specs.Takes.{takes};
 ghost use Rattle.clap.specs.Kinds.{FailsBy};
-ghost use Rattle.pop_settings.specs.pops.CommandLine.{command, refusals, IsMemoryIfTaken, IsSettings, IsUsageIfRefused};
+ghost use Rattle.pop_settings.specs.pops.CommandLine.{command, refusals, IsChosen, IsMemoryIfTaken, IsSettings, IsUsageIfRefused};
 
 use crate::arg_fault::{ArgFault, fault_told};
 use crate::commands::{with_flag, with_value};
@@ -29,6 +29,14 @@ pub fn settings(alloc: Global, words: &[&str]) -> Result<Settings, ArgFault>
         Ok(matches) => matches,
         Err(error) => return Err(fault_told(&error)),
     };
+    chosen(alloc, &matches)
+}
+
+// What the options choose, or `Memory`.
+fn chosen(alloc: Global, matches: &ArgMatches<'_>) -> Result<Settings, ArgFault>
+    ensures chosen { IfOk result (IsChosen (rows_of (found_of matches.now))) }
+    ensures refused { IfErr result (λ fault. fault ≡ ArgFault.Memory) }
+{
     let file = match matches.get_str("file") {
         Some(file) => match String::from_str(alloc, file) {
             Ok(file) => Some(file),
@@ -52,8 +60,8 @@ fn matched<'a>(alloc: Global, words: &'a [&'a str]) -> Result<ArgMatches<'a>, Er
     ensures kinds { FailsBy (refusals (map (λ s. s.now) words.now)) result }
 {
     let command = Command::new(alloc, "pops");
-    let command = with_flag(command, alloc, "check")?;
-    let command = with_flag(command, alloc, "no-board")?;
+    let command = with_flag(Ok(command), alloc, "check");
+    let command = with_flag(command, alloc, "no-board");
     let command = with_value(command, alloc, "file")?;
     command.try_get_matches_from(words)
 }

@@ -157,11 +157,11 @@ fn matched<'a>(alloc: Global, words: &'a [&'a str]) -> Result<ArgMatches<'a>, Er
     ensures kinds { FailsBy (refusals (map (λ s. s.now) words.now)) result }
 {
     let command = Command::new(alloc, "pops-part");
-    let command = with_flag(command, alloc, "list")?;
-    let command = with_option(command, alloc, "depth")?;
-    let command = with_option(command, alloc, "item")?;
-    let command = with_option(command, alloc, "phase")?;
-    let command = with_option(command, alloc, "part")?;
+    let command = with_flag(Ok(command), alloc, "list");
+    let command = with_option(command, alloc, "depth");
+    let command = with_option(command, alloc, "item");
+    let command = with_option(command, alloc, "phase");
+    let command = with_option(command, alloc, "part");
     let command = with_value(command, alloc, "file")?;
     command.try_get_matches_from(words)
 }

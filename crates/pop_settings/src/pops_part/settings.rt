@@ -1,14 +1,14 @@
 //! What the command line chooses.
 
 /// A phase by its name: set play or the play itself.
-#[derive(Clone, Copy, PartialEq, Eq)]
+#[derive(Clone, Copy)]
 pub enum PhaseName {
     Set,
     Play,
 }
 
 /// Parts of a phase of an item: those with the numbers from `first` to `last`. Items and parts are counted from 1.
-#[derive(Clone, Copy, PartialEq, Eq)]
+#[derive(Clone, Copy)]
 pub struct NamedParts {
     pub item: u64,
     pub phase: PhaseName,
@@ -19,7 +19,7 @@ pub struct NamedParts {
 }
 
 /// What is told of the input.
-#[derive(Clone, Copy, PartialEq, Eq)]
+#[derive(Clone, Copy)]
 pub enum Wanted {
     /// How many parts the phases of each item have, where so many moves tell those of help play apart.
     List { depth: usize },

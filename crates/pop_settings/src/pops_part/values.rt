@@ -9,7 +9,7 @@ use crate::pops_part::settings::PhaseName;
 const MOST: u64 = 999_999_999_999_999_999;
 
 /// Numbers from a first to a last one.
-#[derive(Clone, Copy, PartialEq, Eq)]
+#[derive(Clone, Copy)]
 pub struct Range {
     pub first: u64,
     pub last: u64,

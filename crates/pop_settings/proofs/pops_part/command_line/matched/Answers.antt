@@ -1,4 +1,4 @@
-use Rattle.pop_settings.proofs.Basics.{app_of, ap₂, is_simple, map, refl, true, with_rule, ◌∙◌, ◌≡◌}
+use Rattle.pop_settings.proofs.Basics.{app_of, is_simple, map, refl, true, ◌≡◌}
 use Rattle.pop_settings.proofs.Matching.{matched_kinds, matched_passes, matched_rows}
 unfoldable use Rattle.pop_settings.specs.pops_part.CommandLine.{command}
 use Rattle.clap.specs.Faults.{is_simple_and_free}
@@ -13,11 +13,10 @@ is_simple_command : is_simple command ≡ true
 unfolding clap_on_literals command
 is_simple_command = refl
 
-command_is : (c : goal.After-try_get_matches_from) → app_of c.in_ok-command-6.command ≡ command
+command_is : (c : goal.After-try_get_matches_from) → app_of c.in_ok-command.command ≡ command
 unfolding command
-command_is c = c.in_ok-command-6.ensures ∙ ap₂ with_rule (c.in_ok-command-5.ensures ∙ ap₂ with_rule (c.in_ok-command-4.ensures ∙ ap₂ with_rule
-    (c.in_ok-command-3.ensures ∙ ap₂ with_rule (c.in_ok-command-2.ensures ∙ ap₂ with_rule (c.in_ok-command.ensures ∙ ap₂ with_rule c.new-command.ensures.app refl)
-    refl) refl) refl) refl) refl
+command_is c = c.in_ok-command.ensures _ (c.with_option-command-4.ensures _ (c.with_option-command-3.ensures _ (c.with_option-command-2.ensures _
+    (c.with_option-command.ensures _ (c.with_flag-command.ensures _ c.new-command.ensures.app)))))
 
 pub returns-clause-rows : goal.returns-clause-rows
 returns-clause-rows c = let parse = c.try_get_matches_from in

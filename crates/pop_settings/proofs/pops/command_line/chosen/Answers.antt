@@ -1,18 +1,18 @@
-use Rattle.pop_settings.proofs.Basics.{Some, ap, codes, first_of, one_of, option_map, string_bytes, sym, ◌∙◌}
+use Rattle.pop_settings.proofs.Basics.{Some, ap, codes, option_map, string_bytes, sym, ◌∙◌}
 use Rattle.clap.specs.Matches.{found_of}
 use Rattle.clap.proofs.WalkLemmas.{first_value-rows, one_text-rows}
-use Rattle.pop_settings.proofs.pops.command_line.settings.Goals as goal
-use Rattle.pop_settings.proofs.pops.command_line.settings.Goals.{in-Some+in-Ok-from_str, in-None}
+use Rattle.pop_settings.proofs.pops.command_line.chosen.Goals as goal
+use Rattle.pop_settings.proofs.pops.command_line.chosen.Goals.{in-Some+in-Ok, in-None}
 
 pub returns-clause-chosen : goal.returns-clause-chosen
 returns-clause-chosen c =
-    let f = found_of c.in-Ok.matches in
-    let check_text = one_text-rows f (codes "check") ∙ ap (one_of (codes "check")) c.in-Ok.ensures.rows in
-    let board_text = one_text-rows f (codes "no-board") ∙ ap (one_of (codes "no-board")) c.in-Ok.ensures.rows in
-    let file_text = first_value-rows f (codes "file") ∙ ap (first_of (codes "file")) c.in-Ok.ensures.rows in
+    let f = found_of c.args.matches.now in
+    let check_text = one_text-rows f (codes "check") in
+    let board_text = one_text-rows f (codes "no-board") in
+    let file_text = first_value-rows f (codes "file") in
     record {
       file = elim c.match-get_str.branch [
-        | in-Some+in-Ok-from_str w ↦ ap (option_map string_bytes) w.file-is ∙ ap Some w.in-Ok-from_str.ensures.ok
+        | in-Some+in-Ok w ↦ ap (option_map string_bytes) w.file-is ∙ ap Some w.in-Ok.ensures.ok
             ∙ ap (option_map (λ s. s.now)) (sym w.in-Some.is) ∙ c.get_str.ensures ∙ file_text
         | in-None w ↦ ap (option_map string_bytes) w.file-is ∙ ap (option_map (λ s. s.now)) (sym w.in-None.is) ∙ c.get_str.ensures ∙ file_text
       ];
