@@ -38,7 +38,8 @@ type Choices = ArrayVec<Choice, MOVES>;
 
 fn choices(plain: &Plain, rule: Rule) -> Choices {
     let mut choices = ArrayVec::new();
-    for m in &plain.moves_but_for_check(rule) {
+    let moves = plain.moves_but_for_check(rule);
+    for m in moves.as_slice() {
         if plain.is_legal(rule, m) {
             let mates = plain.after(rule, m).is_mate(rule);
             let _fits = choices.try_push(Choice { by: *m, mates });
@@ -54,10 +55,11 @@ pub(crate) fn first_unlike<R: Rules>(board: &mut Board, rule: Rule) -> Option<Qu
 {
     let plain = Plain::of(board);
     let choices = choices(&plain, rule);
+    let choices = choices.as_slice();
     if let Some(question) = unlike_of_men::<R>(board, &plain, rule) {
         return Some(question);
     }
-    if let Some(question) = unlike_of_moves::<R>(board, &choices) {
+    if let Some(question) = unlike_of_moves::<R>(board, choices) {
         return Some(question);
     }
     if is_mate::<R>(board) != plain.is_mate(rule)
@@ -90,7 +92,7 @@ fn unlike_of_men<R: Rules>(board: &Board, plain: &Plain, rule: Rule) -> Option<Q
 }
 
 // Of the ways to the moves.
-fn unlike_of_moves<R: Rules>(board: &mut Board, choices: &Choices) -> Option<Question>
+fn unlike_of_moves<R: Rules>(board: &mut Board, choices: &[Choice]) -> Option<Question>
     requires { IsWellFormed board.old }
     ensures { board.new ≡ board.old }
 {
@@ -122,7 +124,7 @@ fn unlike_of_moves<R: Rules>(board: &mut Board, choices: &Choices) -> Option<Que
     None
 }
 
-fn gives_moves<R: Rules>(board: &mut Board, choices: &Choices) -> bool
+fn gives_moves<R: Rules>(board: &mut Board, choices: &[Choice]) -> bool
     requires { IsWellFormed board.old }
     ensures { board.new ≡ board.old }
 {
@@ -135,7 +137,7 @@ fn gives_moves<R: Rules>(board: &mut Board, choices: &Choices) -> bool
     place.next(board).is_none() && place.next(board).is_none()
 }
 
-fn gives_legal_moves<R: Rules>(board: &mut Board, choices: &Choices) -> bool
+fn gives_legal_moves<R: Rules>(board: &mut Board, choices: &[Choice]) -> bool
     requires { IsWellFormed board.old }
     ensures { board.new ≡ board.old }
 {
@@ -148,7 +150,7 @@ fn gives_legal_moves<R: Rules>(board: &mut Board, choices: &Choices) -> bool
     place.next(board).is_none() && place.next(board).is_none()
 }
 
-fn gives_mating_moves<R: Rules>(board: &mut Board, choices: &Choices) -> bool
+fn gives_mating_moves<R: Rules>(board: &mut Board, choices: &[Choice]) -> bool
     requires { IsWellFormed board.old }
     ensures { board.new ≡ board.old }
 {
@@ -174,7 +176,7 @@ fn place_behind<R: Rules>(board: &mut Board, count: usize) -> Moves<R>
 }
 
 // Whether the moves behind the first `passed` legal ones up to the one numbered `last` are given.
-fn gives_until<R: Rules>(board: &mut Board, choices: &Choices, passed: usize, last: usize) -> bool
+fn gives_until<R: Rules>(board: &mut Board, choices: &[Choice], passed: usize, last: usize) -> bool
     requires { IsWellFormed board.old }
     ensures { board.new ≡ board.old }
 {
@@ -189,7 +191,7 @@ fn gives_until<R: Rules>(board: &mut Board, choices: &Choices, passed: usize, la
 }
 
 // Whether the mates behind the first `passed` legal moves are given.
-fn gives_mates<R: Rules>(board: &mut Board, choices: &Choices, passed: usize) -> bool
+fn gives_mates<R: Rules>(board: &mut Board, choices: &[Choice], passed: usize) -> bool
     requires { IsWellFormed board.old }
     ensures { board.new ≡ board.old }
 {
@@ -208,7 +210,7 @@ fn gives_mates<R: Rules>(board: &mut Board, choices: &Choices, passed: usize) ->
 // Whether the mates behind the first `passed` legal moves up to the one numbered `last` are given.
 fn gives_mates_until<R: Rules>(
     board: &mut Board,
-    choices: &Choices,
+    choices: &[Choice],
     passed: usize,
     last: usize,
 ) -> bool

@@ -77,24 +77,23 @@ impl Draw {
         self.below(count) == 0
     }
 
+    // The first once in so many draws, else the second.
+    pub(crate) fn pick<T: Copy>(&mut self, count: u8, rare: T, usual: T) -> T
+        requires { 0 < count }
+    {
+        if self.once_in(count) { rare } else { usual }
+    }
+
     pub(crate) fn square(&mut self) -> Square {
         Square::numbered(self.below(64))
     }
 
     pub(crate) fn colour(&mut self) -> Colour {
-        if self.once_in(2) {
-            Colour::White
-        } else {
-            Colour::Black
-        }
+        self.pick(2, Colour::White, Colour::Black)
     }
 
     pub(crate) fn kinds(&mut self) -> Kinds {
-        if self.once_in(2) {
-            Kinds::Orthodox
-        } else {
-            Kinds::All
-        }
+        self.pick(2, Kinds::Orthodox, Kinds::All)
     }
 
     // A kind, no king.

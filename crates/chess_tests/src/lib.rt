@@ -5,6 +5,8 @@
 #[cfg(test)]
 mod agreement;
 #[cfg(test)]
+mod case;
+#[cfg(test)]
 mod compared;
 #[cfg(test)]
 mod count;

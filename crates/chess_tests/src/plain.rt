@@ -51,6 +51,11 @@ pub(crate) const LINES: [(u8, u8); 8] = [
     (255, 255),
 ];
 
+// Those of a rook, and those of a bishop.
+const STRAIGHT: [(u8, u8); 4] = [(1, 0), (255, 0), (0, 1), (0, 255)];
+
+const SLANTED: [(u8, u8); 4] = [(1, 1), (1, 255), (255, 1), (255, 255)];
+
 pub(crate) const LEAPS: [(u8, u8); 8] = [
     (1, 2),
     (1, 254),
@@ -197,16 +202,10 @@ impl Plain {
         };
         match man.kind {
             Kind::King => steps(from, to, &LINES),
-            Kind::Queen => self.rides(from, to, &LINES),
-            Kind::Rook => self.rides(from, to, &LINES[..4]),
-            Kind::Bishop => self.rides(from, to, &LINES[4..]),
             Kind::Knight => steps(from, to, &LEAPS),
-            Kind::Nightrider => self.rides(from, to, &LEAPS),
             Kind::Grasshopper => self.hops(from, to),
-            Kind::Pawn => {
-                next(from, (1, up(man.colour))) == Some(to)
-                    || next(from, (255, up(man.colour))) == Some(to)
-            }
+            Kind::Pawn => steps(from, to, &[(1, up(man.colour)), (255, up(man.colour))]),
+            rider => self.rides(from, to, ways_of(rider)),
         }
     }
 
@@ -264,6 +263,30 @@ impl Plain {
         squares
     }
 
+    // For each man that could capture on the square.
+    pub(crate) fn reachers(&self, to: Square) -> u64 {
+        let mut squares = 0u64;
+        for number in 0..64u8 {
+            let from = Square::numbered(number);
+            if self.reaches(from, to) {
+                squares |= bit(from);
+            }
+        }
+        squares
+    }
+
+    // For each paralysed man.
+    pub(crate) fn paralysed(&self, rule: Rule) -> u64 {
+        let mut squares = 0u64;
+        for number in 0..64u8 {
+            let square = Square::numbered(number);
+            if self.is_paralysed(rule, square) {
+                squares |= bit(square);
+            }
+        }
+        squares
+    }
+
     // For each square that the colour's men attack.
     pub(crate) fn attacked(&self, rule: Rule, colour: Colour) -> u64 {
         let mut squares = 0u64;
@@ -283,51 +306,39 @@ impl Plain {
     // Whether a pawn may go so.
     fn pawn_goes(&self, colour: Colour, m: &Move) -> bool {
         if self.reaches(m.from, m.to) {
-            return !self.is_empty(m.to) || self.crossed == Some(m.to);
+            !self.is_empty(m.to) || self.crossed == Some(m.to)
+        } else {
+            self.pawn_steps(colour, m)
         }
+    }
+
+    // Whether it may go one step ahead, or two from its first square.
+    fn pawn_steps(&self, colour: Colour, m: &Move) -> bool {
         let Some(one) = next(m.from, (0, up(colour))) else {
             return false;
         };
         if !self.is_empty(one) {
             return false;
         }
+        if one == m.to {
+            return true;
+        }
         let start = match colour {
             Colour::White => 2,
             Colour::Black => 7,
         };
-        one == m.to
-            || (m.from.rank() == start
-                && next(one, (0, up(colour))) == Some(m.to)
-                && self.is_empty(m.to))
+        m.from.rank() == start && next(one, (0, up(colour))) == Some(m.to) && self.is_empty(m.to)
     }
 
     // The rook's square and the crossed one, where the king goes two squares to an unmoved rook over
     // empty squares.
     pub(crate) fn castling(&self, king: Man, m: &Move) -> Option<(Square, Square)> {
-        let home = match king.colour {
-            Colour::White => 0u8,
-            Colour::Black => 56,
-        };
-        if m.from.index() != home + 4 || !self.unmoved.has(m.from) {
-            return None;
-        }
-        let (corner, crossed, low, high) = if m.to.index() == home + 6 {
-            (home + 7, home + 5, home + 5, home + 7)
-        } else if m.to.index() == home + 2 {
-            (home, home + 3, home + 1, home + 4)
+        let (rook, crossed) = castling_squares(king.colour, m)?;
+        if self.unmoved.has(m.from) && self.unmoved.has(rook) && self.rides(rook, m.from, &LINES) {
+            Some((rook, crossed))
         } else {
-            return None;
-        };
-        for number in low..high {
-            if !self.is_empty(Square::numbered(number)) {
-                return None;
-            }
+            None
         }
-        let rook = Square::numbered(corner);
-        if !self.unmoved.has(rook) {
-            return None;
-        }
-        Some((rook, Square::numbered(crossed)))
     }
 
     // Whether a king may castle so.
@@ -365,21 +376,30 @@ impl Plain {
         }
     }
 
-    // Whether the move may be made, check to the mover apart.
-    pub(crate) fn may_go(&self, rule: Rule, man: Man, m: &Move) -> bool {
-        let free = match self.man(m.to) {
-            Some(other) => other.colour != man.colour && other.kind != Kind::King,
+    // Whether a man of the colour may stand there: alone, or in place of one that it captures.
+    fn is_free_for(&self, colour: Colour, square: Square) -> bool {
+        match self.man(square) {
+            Some(other) => other.colour != colour && other.kind != Kind::King,
             None => true,
-        };
-        if man.colour != self.turn || !free || !self.is_promotion_right(man, m) {
-            return false;
         }
-        let goes = match man.kind {
+    }
+
+    // Whether the man goes so, paralysed or not.
+    fn goes(&self, rule: Rule, man: Man, m: &Move) -> bool {
+        match man.kind {
             Kind::Pawn => self.pawn_goes(man.colour, m),
             Kind::King => self.reaches(m.from, m.to) || self.castles(rule, man, m),
             _ => self.reaches(m.from, m.to),
-        };
-        goes && !self.is_paralysed(rule, m.from)
+        }
+    }
+
+    // Whether the move may be made, check to the mover apart.
+    pub(crate) fn may_go(&self, rule: Rule, man: Man, m: &Move) -> bool {
+        man.colour == self.turn
+            && self.is_free_for(man.colour, m.to)
+            && self.is_promotion_right(man, m)
+            && self.goes(rule, man, m)
+            && !self.is_paralysed(rule, m.from)
     }
 
     // Whether the move is legal.
@@ -431,7 +451,7 @@ impl Plain {
         for number in 0..64u8 {
             let mut moves = ArrayVec::new();
             self.add_moves_from(rule, Square::numbered(number), &mut moves);
-            for m in &moves {
+            for m in moves.as_slice() {
                 if self.is_legal(rule, m) {
                     return true;
                 }
@@ -455,44 +475,42 @@ impl Plain {
             return *self;
         };
         let captured = self.capture_square(man, m);
-        let victim = self.man(captured);
         let mut plain = *self;
         plain.turn = self.turn.other();
         plain.unmoved = self.unmoved.without(m.from).without(m.to).without(captured);
         plain.crossed = passed(man, m);
-        plain.men[captured.index() as usize] = None;
-        plain.men[m.from.index() as usize] = None;
-        plain.men[m.to.index() as usize] = Some(Man {
-            colour: man.colour,
-            kind: m.promo.unwrap_or(man.kind),
-        });
+        plain.carry(man, m, captured);
         plain.move_rook(man, m);
-        if let (Rule::Circe, Some(victim)) = (rule, victim) {
+        if let (Rule::Circe, Some(victim)) = (rule, self.man(captured)) {
             plain.bear_again(victim, captured);
         }
         plain
     }
 
+    // Takes the captured man off and moves the other, who may become another.
+    fn carry(&mut self, man: Man, m: &Move, captured: Square) {
+        self.men[captured.index() as usize] = None;
+        self.men[m.from.index() as usize] = None;
+        self.men[m.to.index() as usize] = Some(Man {
+            colour: man.colour,
+            kind: m.promo.unwrap_or(man.kind),
+        });
+    }
+
     // Castles the rook where the king goes two squares.
     fn move_rook(&mut self, man: Man, m: &Move) {
-        if man.kind != Kind::King || m.from.file() != 5 {
-            return;
-        }
-        let rank = m.from.rank();
-        if m.to.file() == 7 {
-            self.shift(Square::new(8, rank), Square::new(6, rank));
-        } else if m.to.file() == 3 {
-            self.shift(Square::new(1, rank), Square::new(4, rank));
+        if man.kind == Kind::King {
+            if let Some((rook, crossed)) = castling_squares(man.colour, m) {
+                self.shift(rook, crossed);
+            }
         }
     }
 
     // Moves a rook.
-    fn shift(&mut self, from: Option<Square>, to: Option<Square>) {
-        if let (Some(from), Some(to)) = (from, to) {
-            self.men[to.index() as usize] = self.man(from);
-            self.men[from.index() as usize] = None;
-            self.unmoved = self.unmoved.without(from);
-        }
+    fn shift(&mut self, from: Square, to: Square) {
+        self.men[to.index() as usize] = self.man(from);
+        self.men[from.index() as usize] = None;
+        self.unmoved = self.unmoved.without(from);
     }
 
     // Puts a captured man on its home square, if this is empty: a rook is unmoved there.
@@ -514,6 +532,33 @@ impl Plain {
             Kind::Queen | Kind::Rook | Kind::Bishop | Kind::Knight => true,
             Kind::King | Kind::Pawn => false,
         }
+    }
+}
+
+// The rook's square and the crossed one, where the king goes two squares from home along his rank.
+fn castling_squares(colour: Colour, m: &Move) -> Option<(Square, Square)> {
+    let rank = match colour {
+        Colour::White => 1u8,
+        Colour::Black => 8,
+    };
+    if Some(m.from) != Square::new(5, rank) || m.to.rank() != rank {
+        return None;
+    }
+    match m.to.file() {
+        7 => Some((Square::new(8, rank)?, Square::new(6, rank)?)),
+        3 => Some((Square::new(1, rank)?, Square::new(4, rank)?)),
+        _ => None,
+    }
+}
+
+// The directions of a rider of the kind; none of another man.
+fn ways_of(kind: Kind) -> &'static [(u8, u8)] {
+    match kind {
+        Kind::Queen => &LINES,
+        Kind::Rook => &STRAIGHT,
+        Kind::Bishop => &SLANTED,
+        Kind::Nightrider => &LEAPS,
+        _ => &[],
     }
 }
 

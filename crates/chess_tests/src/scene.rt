@@ -1,7 +1,22 @@
 //! Diagrams put together man by man, so that they stay well formed.
 use crate::draw::{Draw, Kinds};
-use crate::plain::next;
+use crate::plain::{LINES, next};
 use chess_core::{Colour, Diagram, Kind, Man, Square};
+
+// A board without men, and a drawn side to move.
+pub(crate) fn board(draw: &mut Draw) -> Diagram {
+    let mut diagram = Diagram::new();
+    diagram.turn = draw.colour();
+    diagram
+}
+
+// The rank that is so for White, and for Black as far from his own end.
+pub(crate) fn rank_for(colour: Colour, rank: u8) -> u8 {
+    match colour {
+        Colour::White => rank,
+        Colour::Black => 9u8.wrapping_sub(rank),
+    }
+}
 
 // A man of this colour and kind.
 pub(crate) fn man(colour: Colour, kind: Kind) -> Man {
@@ -15,6 +30,11 @@ pub(crate) fn steps(from: Square, way: (u8, u8), count: u8) -> Option<Square> {
         at = next(at, way)?;
     }
     Some(at)
+}
+
+// The other direction on the same line.
+pub(crate) fn back(way: (u8, u8)) -> (u8, u8) {
+    (way.0.wrapping_neg(), way.1.wrapping_neg())
 }
 
 // Puts the man there if the square is on the board and empty, and the man may stand there: no pawn on the
@@ -32,11 +52,27 @@ pub(crate) fn put(diagram: &mut Diagram, square: Option<Square>, man: Man) -> bo
     diagram.put(square, man).is_ok()
 }
 
+// A square that isn't at the edge.
+pub(crate) fn inner_square(draw: &mut Draw) -> Square {
+    Square::new(2 + draw.below(6), 2 + draw.below(6)).unwrap_or_default()
+}
+
 // Puts a king on a drawn square, if it is empty, and answers the square.
 pub(crate) fn put_king(diagram: &mut Diagram, draw: &mut Draw, colour: Colour) -> Square {
     let at = draw.square();
     let _put = put(diagram, Some(at), man(colour, Kind::King));
     at
+}
+
+// Puts men of the other side's beside his king, on a square in three.
+pub(crate) fn put_blockers(diagram: &mut Diagram, draw: &mut Draw, kinds: Kinds, king: Square) {
+    let colour = diagram.turn.other();
+    for way in &LINES {
+        if draw.once_in(3) {
+            let blocker = man(colour, draw.kind(kinds));
+            let _blocker = put(diagram, next(king, *way), blocker);
+        }
+    }
 }
 
 // Puts drawn men on drawn squares, as many as find theirs empty.
@@ -52,9 +88,14 @@ pub(crate) fn scatter(diagram: &mut Diagram, draw: &mut Draw, kinds: Kinds, coun
 pub(crate) fn rider(draw: &mut Draw, way: (u8, u8)) -> Kind {
     if way.0 == 2 || way.0 == 254 || way.1 == 2 || way.1 == 254 {
         Kind::Nightrider
-    } else if draw.once_in(2) {
-        Kind::Queen
-    } else if way.0 == 0 || way.1 == 0 {
+    } else {
+        draw.pick(2, Kind::Queen, line_rider(way))
+    }
+}
+
+// Rook or bishop, whichever goes along the direction.
+pub(crate) fn line_rider(way: (u8, u8)) -> Kind {
+    if way.0 == 0 || way.1 == 0 {
         Kind::Rook
     } else {
         Kind::Bishop
@@ -91,16 +132,19 @@ pub(crate) fn put_rider(
     put(diagram, steps(target, way, gap), man(colour, rider))
 }
 
+// The castling squares and who stands there unmoved.
+const HOMES: [(u8, Colour, Kind); 6] = [
+    (0, Colour::White, Kind::Rook),
+    (4, Colour::White, Kind::King),
+    (7, Colour::White, Kind::Rook),
+    (56, Colour::Black, Kind::Rook),
+    (60, Colour::Black, Kind::King),
+    (63, Colour::Black, Kind::Rook),
+];
+
 // Marks castling squares as unmoved where the men stand at home, most times.
 pub(crate) fn mark_homes(diagram: &mut Diagram, draw: &mut Draw) {
-    for (number, colour, kind) in &[
-        (0, Colour::White, Kind::Rook),
-        (4, Colour::White, Kind::King),
-        (7, Colour::White, Kind::Rook),
-        (56, Colour::Black, Kind::Rook),
-        (60, Colour::Black, Kind::King),
-        (63, Colour::Black, Kind::Rook),
-    ] {
+    for (number, colour, kind) in &HOMES {
         let at = Square::numbered(*number % 64);
         if diagram.man_at(at) == Some(man(*colour, *kind)) && !draw.once_in(8) {
             diagram.unmoved = diagram.unmoved.with(at);

@@ -90,18 +90,22 @@ pub(crate) fn named(name: &str) -> Option<Square> {
 // The move of a word: origin, arrival and the letter of what a pawn becomes.
 pub(crate) fn move_of(word: &str) -> Option<Move> {
     match word.as_bytes() {
-        [a, b, c, d] => Some(Move {
-            from: at(*a, *b)?,
-            to: at(*c, *d)?,
-            promo: None,
-        }),
-        [a, b, c, d, letter] => Some(Move {
-            from: at(*a, *b)?,
-            to: at(*c, *d)?,
-            promo: Some(man_of(*letter)?.kind),
-        }),
+        [a, b, c, d] => between(at(*a, *b), at(*c, *d), None),
+        [a, b, c, d, letter] => {
+            let promo = man_of(*letter)?.kind;
+            between(at(*a, *b), at(*c, *d), Some(promo))
+        }
         _ => None,
     }
+}
+
+// The move between these squares, if both are on the board.
+fn between(from: Option<Square>, to: Option<Square>, promo: Option<Kind>) -> Option<Move> {
+    Some(Move {
+        from: from?,
+        to: to?,
+        promo,
+    })
 }
 
 // The moves of these words, parted by blanks.

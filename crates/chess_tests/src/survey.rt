@@ -1,10 +1,11 @@
 //! Whole boards of positions of one family, compared and counted.
 ghost use Rattle.chess_core.specs.WellFormed.{IsWellFormed};
 
+use crate::case::Case;
 use crate::compared::{Question, first_unlike};
 use crate::draw::Draw;
 use crate::family::Family;
-use crate::motif::{Case, Motif};
+use crate::motif::Motif;
 use crate::plain::{Plain, Rule};
 use chess_core::{Board, Kind, Move, Square};
 use chess_rules::{Circe, Madrasi, Moves, Orthodox, Rules};
@@ -33,7 +34,8 @@ pub(crate) struct Survey {
 impl Survey {
     // Counts the moves that show a motif.
     fn count(&mut self, plain: &Plain, rule: Rule, motifs: &[Motif]) {
-        for m in &plain.moves_but_for_check(rule) {
+        let moves = plain.moves_but_for_check(rule);
+        for m in moves.as_slice() {
             self.count_move(plain, rule, m, motifs);
         }
         for m in &castlings() {

@@ -6,5 +6,3 @@ pub mod session;
 pub mod settings;
 mod solutions;
 pub mod status;
-#[cfg(test)]
-mod tests;

@@ -141,14 +141,23 @@ fn stipulation_of(word: &[u8]) -> Option<(u8, u8, u8)> {
     if n == 0 { None } else { Some((form, sign, n)) }
 }
 
+const COMMANDS: [&[u8]; 7] = [
+    b"beginproblem",
+    b"pieces",
+    b"stipulation",
+    b"condition",
+    b"option",
+    b"nextproblem",
+    b"endproblem",
+];
+
 fn is_command(word: &[u8]) -> bool {
-    is_short(b"beginproblem", word, 3)
-        || is_short(b"pieces", word, 3)
-        || is_short(b"stipulation", word, 3)
-        || is_short(b"condition", word, 3)
-        || is_short(b"option", word, 3)
-        || is_short(b"nextproblem", word, 3)
-        || is_short(b"endproblem", word, 3)
+    for name in &COMMANDS {
+        if is_short(name, word, 3) {
+            return true;
+        }
+    }
+    false
 }
 
 // The fault of a word.
@@ -166,135 +175,171 @@ fn read(known: &mut Known, word: &[u8]) -> Option<FaultKind> {
     }
     match known.wait {
         Await::Nothing => read_plain(known, word),
-        Await::Limit => {
-            known.wait = Await::Nothing;
-            match number_of(word) {
-                Some(value) if value >= 1 && value <= 4_000_000_000 => {
-                    known.limit = value as u32;
-                    None
-                }
-                _ => Some(FaultKind::BadLimit),
-            }
+        Await::Limit => read_limit(known, word),
+        Await::Square => read_crossed(known, word),
+        Await::Squares => read_barred(known, word),
+        Await::MoreSquares => read_more_barred(known, word),
+    }
+}
+
+fn read_limit(known: &mut Known, word: &[u8]) -> Option<FaultKind> {
+    known.wait = Await::Nothing;
+    match number_of(word) {
+        Some(value) if value >= 1 && value <= 4_000_000_000 => {
+            known.limit = value as u32;
+            None
         }
-        Await::Square => {
-            known.wait = Await::Nothing;
-            match squares_of(word) {
-                Some(squares) => match squares.as_slice() {
-                    [square] => {
-                        known.crossed = *square;
-                        None
-                    }
-                    _ => Some(FaultKind::SquareMissing),
-                },
-                None => Some(FaultKind::SquareMissing),
-            }
+        _ => Some(FaultKind::BadLimit),
+    }
+}
+
+// The square of a word that names one.
+fn square_of(word: &[u8]) -> Option<u8> {
+    match squares_of(word)?.as_slice() {
+        [square] => Some(*square),
+        _ => None,
+    }
+}
+
+fn read_crossed(known: &mut Known, word: &[u8]) -> Option<FaultKind> {
+    known.wait = Await::Nothing;
+    match square_of(word) {
+        Some(square) => {
+            known.crossed = square;
+            None
         }
-        Await::Squares => match squares_of(word) {
-            Some(squares) => bar(known, squares.as_slice()),
-            None => Some(FaultKind::SquareMissing),
-        },
-        Await::MoreSquares => match squares_of(word) {
-            Some(squares) => bar(known, squares.as_slice()),
-            None => {
-                known.wait = Await::Nothing;
-                read_plain(known, word)
-            }
-        },
+        None => Some(FaultKind::SquareMissing),
+    }
+}
+
+fn read_barred(known: &mut Known, word: &[u8]) -> Option<FaultKind> {
+    match squares_of(word) {
+        Some(squares) => bar(known, squares.as_slice()),
+        None => Some(FaultKind::SquareMissing),
+    }
+}
+
+fn read_more_barred(known: &mut Known, word: &[u8]) -> Option<FaultKind> {
+    match squares_of(word) {
+        Some(squares) => bar(known, squares.as_slice()),
+        None => {
+            known.wait = Await::Nothing;
+            read_plain(known, word)
+        }
     }
 }
 
 fn bar(known: &mut Known, squares: &[u8]) -> Option<FaultKind> {
     known.wait = Await::MoreSquares;
     for square in squares {
-        let mut castles = false;
-        for place in 0..6usize {
-            if CORNERS[place] == *square {
-                known.barred[place] = true;
-                castles = true;
-            }
-        }
-        if !castles {
+        if !bar_one(known, *square) {
             return Some(FaultKind::NoneCastlesThere);
         }
     }
     None
 }
 
+// Bars castling from a square. Answers whether it is one of the six.
+fn bar_one(known: &mut Known, square: u8) -> bool {
+    for place in 0..6usize {
+        if CORNERS[place] == square {
+            known.barred[place] = true;
+            return true;
+        }
+    }
+    false
+}
+
 // A word that no option awaits.
 fn read_plain(known: &mut Known, word: &[u8]) -> Option<FaultKind> {
     if is_command(word) {
-        known.colour = 0;
-        if is_short(b"beginproblem", word, 3) {
-            return Some(FaultKind::WordMisplaced);
-        }
-        if is_short(b"pieces", word, 3) {
-            known.open = Open::Pieces;
-        } else if is_short(b"stipulation", word, 3) {
-            known.open = Open::Stipulation;
-        } else if is_short(b"condition", word, 3) {
-            known.open = Open::Condition;
-        } else if is_short(b"option", word, 3) {
-            known.open = Open::Options;
-        }
-        return None;
+        return open_section(known, word);
     }
     match known.open {
         Open::Nothing => Some(FaultKind::WordMisplaced),
         Open::Pieces => read_men(known, word),
-        Open::Stipulation => {
-            if known.stated {
-                return if word.contains(&b'#') || word.contains(&b'=') {
-                    Some(FaultKind::SecondStipulation)
-                } else {
-                    Some(FaultKind::WordMisplaced)
-                };
-            }
-            match stipulation_of(word) {
-                Some((form, sign, n)) => {
-                    known.stated = true;
-                    known.form = form;
-                    known.sign = sign;
-                    known.n = n;
-                    None
-                }
-                None => Some(FaultKind::BadStipulation),
-            }
-        }
-        Open::Condition => {
-            let condition = if is_short(b"circe", word, 3) {
-                1
-            } else if is_short(b"madrasi", word, 3) {
-                2
-            } else {
-                return Some(FaultKind::WordMisplaced);
-            };
-            if known.condition != 0 {
-                return Some(FaultKind::SecondCondition);
-            }
-            known.condition = condition;
-            None
-        }
+        Open::Stipulation => read_stipulation(known, word),
+        Open::Condition => read_condition(known, word),
         Open::Options => read_option(known, word),
     }
 }
 
-fn read_option(known: &mut Known, word: &[u8]) -> Option<FaultKind> {
-    if is_short(b"setplay", word, 3) {
-        known.options[0] = true;
-    } else if is_short(b"variation", word, 3) {
-        known.options[1] = true;
-    } else if is_short(b"noboard", word, 3) {
-        known.options[2] = true;
-    } else if is_short(b"maxsolutions", word, 3) {
-        known.wait = Await::Limit;
-    } else if is_short(b"enpassant", word, 3) {
-        known.wait = Await::Square;
-    } else if is_short(b"nocastling", word, 3) {
-        known.wait = Await::Squares;
-    } else {
+const SECTIONS: [(&[u8], Open); 4] = [
+    (b"pieces", Open::Pieces),
+    (b"stipulation", Open::Stipulation),
+    (b"condition", Open::Condition),
+    (b"option", Open::Options),
+];
+
+fn open_section(known: &mut Known, word: &[u8]) -> Option<FaultKind> {
+    known.colour = 0;
+    if is_short(b"beginproblem", word, 3) {
         return Some(FaultKind::WordMisplaced);
     }
+    for (name, section) in &SECTIONS {
+        if is_short(name, word, 3) {
+            known.open = *section;
+        }
+    }
     None
+}
+
+fn read_stipulation(known: &mut Known, word: &[u8]) -> Option<FaultKind> {
+    if known.stated {
+        let has_sign = word.contains(&b'#') || word.contains(&b'=');
+        return Some(if has_sign {
+            FaultKind::SecondStipulation
+        } else {
+            FaultKind::WordMisplaced
+        });
+    }
+    let Some((form, sign, n)) = stipulation_of(word) else {
+        return Some(FaultKind::BadStipulation);
+    };
+    known.stated = true;
+    known.form = form;
+    known.sign = sign;
+    known.n = n;
+    None
+}
+
+fn read_condition(known: &mut Known, word: &[u8]) -> Option<FaultKind> {
+    let condition = if is_short(b"circe", word, 3) {
+        1
+    } else if is_short(b"madrasi", word, 3) {
+        2
+    } else {
+        return Some(FaultKind::WordMisplaced);
+    };
+    if known.condition != 0 {
+        return Some(FaultKind::SecondCondition);
+    }
+    known.condition = condition;
+    None
+}
+
+const FLAGS: [&[u8]; 3] = [b"setplay", b"variation", b"noboard"];
+
+const AWAITING: [(&[u8], Await); 3] = [
+    (b"maxsolutions", Await::Limit),
+    (b"enpassant", Await::Square),
+    (b"nocastling", Await::Squares),
+];
+
+fn read_option(known: &mut Known, word: &[u8]) -> Option<FaultKind> {
+    for place in 0..3usize {
+        if is_short(FLAGS[place], word, 3) {
+            known.options[place] = true;
+            return None;
+        }
+    }
+    for (name, wait) in &AWAITING {
+        if is_short(name, word, 3) {
+            known.wait = *wait;
+            return None;
+        }
+    }
+    Some(FaultKind::WordMisplaced)
 }
 
 fn read_men(known: &mut Known, word: &[u8]) -> Option<FaultKind> {
@@ -313,7 +358,16 @@ fn read_men(known: &mut Known, word: &[u8]) -> Option<FaultKind> {
     if !b"KQRBSPGN".contains(&letter) {
         return Some(FaultKind::WordMisplaced);
     }
-    let squares = squares_of(behind);
+    read_squares(known, word, letter, squares_of(behind))
+}
+
+// The squares behind the letter of a man, if they are some.
+fn read_squares(
+    known: &mut Known,
+    word: &[u8],
+    letter: u8,
+    squares: Option<ArrayVec<u8, 80>>,
+) -> Option<FaultKind> {
     if squares.is_none() && word.len() >= 3 && !has_digit(word) {
         return Some(FaultKind::WordMisplaced);
     }
@@ -323,24 +377,33 @@ fn read_men(known: &mut Known, word: &[u8]) -> Option<FaultKind> {
     let Some(squares) = squares else {
         return Some(FaultKind::SquareMissing);
     };
+    for square in squares.as_slice() {
+        let fault = put_man(known, letter, *square);
+        if fault.is_some() {
+            return fault;
+        }
+    }
+    None
+}
+
+// A man of the colour that stands.
+fn put_man(known: &mut Known, letter: u8, square: u8) -> Option<FaultKind> {
+    let place = (square & 63) as usize;
     let man = if known.colour == b'w' {
         letter
     } else {
         letter.to_ascii_lowercase()
     };
-    for square in squares.as_slice() {
-        let place = (*square & 63) as usize;
-        if known.men[place] != 0 {
-            return Some(FaultKind::SquareTaken);
-        }
-        if letter == b'P' && (place < 8 || place >= 56) {
-            return Some(FaultKind::PawnOnOuterRank);
-        }
-        if letter == b'K' && known.men.contains(&man) {
-            return Some(FaultKind::SecondKing);
-        }
-        known.men[place] = man;
+    if known.men[place] != 0 {
+        return Some(FaultKind::SquareTaken);
     }
+    if letter == b'P' && (place < 8 || place >= 56) {
+        return Some(FaultKind::PawnOnOuterRank);
+    }
+    if letter == b'K' && known.men.contains(&man) {
+        return Some(FaultKind::SecondKing);
+    }
+    known.men[place] = man;
     None
 }
 
@@ -413,37 +476,50 @@ fn told(fault: FaultKind, line: u64) -> Told {
     Told::Faulty(fault.number(), line)
 }
 
-// The item of a block that a word in this line closes.
-fn closed(known: &Known, line: u64) -> Told {
-    if let Some(fault) = known.fault {
-        return told(fault, known.line);
-    }
+// The fault of a block's end.
+fn fault_at_end(known: &Known) -> Option<FaultKind> {
     if !known.stated {
-        return told(FaultKind::StipulationMissing, line);
+        return Some(FaultKind::StipulationMissing);
     }
     if known.men == [0; 64] {
-        return told(FaultKind::NoMen, line);
+        return Some(FaultKind::NoMen);
     }
     if known.crossed < 64 && !was_passed(known) {
-        return told(FaultKind::EnPassantImpossible, line);
+        return Some(FaultKind::EnPassantImpossible);
     }
     let king = if known.form == 1 { b'K' } else { b'k' };
     if known.sign == b'#' && !known.men.contains(&king) {
-        return told(FaultKind::KingMissing, line);
+        return Some(FaultKind::KingMissing);
     }
     if checked(known) {
-        return told(FaultKind::WaitingSideInCheck, line);
+        return Some(FaultKind::WaitingSideInCheck);
     }
+    None
+}
+
+// Which of the men that castle stand at home and aren't barred.
+fn unmoved(known: &Known) -> [bool; 6] {
     let home = [b'R', b'K', b'R', b'r', b'k', b'r'];
     let mut unmoved = [false; 6];
     for place in 0..6usize {
         unmoved[place] = !known.barred[place]
             && known.men[(CORNERS[place] & 63) as usize] == home[place];
     }
+    unmoved
+}
+
+// The item of a block that a word in this line closes.
+fn closed(known: &Known, line: u64) -> Told {
+    if let Some(fault) = known.fault {
+        return told(fault, known.line);
+    }
+    if let Some(fault) = fault_at_end(known) {
+        return told(fault, line);
+    }
     Told::Sound(Summary {
         men: known.men,
         black_starts: known.form == 2,
-        unmoved,
+        unmoved: unmoved(known),
         crossed: known.crossed,
         form: known.form,
         sign: known.sign,

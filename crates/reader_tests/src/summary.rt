@@ -1,5 +1,5 @@
 //! What an item says, in numbers that can be compared.
-use chess_core::{Colour, Kind, Man, Square};
+use chess_core::{Colour, Diagram, Kind, Man, Square};
 use pop_input::condition::Condition;
 use pop_input::item::Item;
 use pop_input::problem::Problem;
@@ -64,43 +64,63 @@ fn letter_of(man: Man) -> u8 {
     }
 }
 
-fn summary_of(problem: &Problem) -> Summary {
-    let diagram = problem.diagram();
+fn men_of(diagram: &Diagram) -> [u8; 64] {
     let mut men = [0; 64];
     for number in 0..64u8 {
         if let Some(man) = diagram.man_at(Square::numbered(number)) {
             men[number as usize] = letter_of(man);
         }
     }
+    men
+}
+
+fn unmoved_of(diagram: &Diagram) -> [bool; 6] {
     let mut unmoved = [false; 6];
     for place in 0..6usize {
         unmoved[place] = diagram.unmoved.has(Square::numbered(CORNERS[place] & 63));
     }
+    unmoved
+}
+
+fn form_of(form: Form) -> u8 {
+    match form {
+        Form::Direct => 0,
+        Form::SelfMate => 1,
+        Form::Help => 2,
+        Form::HelpHalf => 3,
+    }
+}
+
+fn sign_of(goal: Goal) -> u8 {
+    match goal {
+        Goal::Mate => b'#',
+        Goal::Stalemate => b'=',
+    }
+}
+
+fn condition_of(condition: Option<Condition>) -> u8 {
+    match condition {
+        None => 0,
+        Some(Condition::Circe) => 1,
+        Some(Condition::Madrasi) => 2,
+    }
+}
+
+fn summary_of(problem: &Problem) -> Summary {
+    let diagram = problem.diagram();
     let stipulation = problem.stipulation();
     Summary {
-        men,
+        men: men_of(&diagram),
         black_starts: diagram.turn == Colour::Black,
-        unmoved,
+        unmoved: unmoved_of(&diagram),
         crossed: match diagram.crossed {
             Some(square) => square.index(),
             None => 64,
         },
-        form: match stipulation.form {
-            Form::Direct => 0,
-            Form::SelfMate => 1,
-            Form::Help => 2,
-            Form::HelpHalf => 3,
-        },
-        sign: match stipulation.goal {
-            Goal::Mate => b'#',
-            Goal::Stalemate => b'=',
-        },
+        form: form_of(stipulation.form),
+        sign: sign_of(stipulation.goal),
         n: stipulation.n,
-        condition: match problem.condition() {
-            None => 0,
-            Some(Condition::Circe) => 1,
-            Some(Condition::Madrasi) => 2,
-        },
+        condition: condition_of(problem.condition()),
         options: [problem.set_play(), problem.variation(), problem.no_board()],
         limit: problem.max_solutions(),
         title: digest(problem.title().bytes()),

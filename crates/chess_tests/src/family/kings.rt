@@ -1,111 +1,119 @@
 //! Kings that flee, that have nowhere to go, or that are missing.
 use crate::draw::{Draw, Kinds};
-use crate::plain::{LINES, next};
-use crate::scene::{man, mark_homes, put, put_battery, put_king, put_rider, scatter, steps};
-use chess_core::{Colour, Diagram, Kind, Square};
+use crate::plain::{LINES, next, up};
+use crate::scene::{
+    board, inner_square, man, mark_homes, put, put_battery, put_blockers, put_king, put_rider,
+    rank_for, scatter, steps,
+};
+use chess_core::{Diagram, Kind, Square};
 
 // A king in check along a line that goes on behind him.
 pub(crate) fn king_steps(draw: &mut Draw) -> Diagram {
-    let mut diagram = Diagram::new();
-    diagram.turn = draw.colour();
+    let mut diagram = board(draw);
     let mover = diagram.turn;
     let kinds = draw.kinds();
-    let at = Square::new(2 + draw.below(6), 2 + draw.below(6)).unwrap_or_default();
+    let at = inner_square(draw);
     let _king = put(&mut diagram, Some(at), man(mover, Kind::King));
     let leaps = kinds == Kinds::All && draw.once_in(4);
     let way = if leaps { draw.leap() } else { draw.line() };
     let _checker = put_rider(&mut diagram, draw, at, way, mover.other());
-    if kinds == Kinds::All && draw.once_in(2) {
-        let line = draw.line();
-        let far = 2 + draw.below(3);
-        let _hopper = put(
-            &mut diagram,
-            steps(at, line, far),
-            man(mover.other(), Kind::Grasshopper),
-        );
-        let _hurdle = put(&mut diagram, next(at, line), draw.man(kinds));
-    }
+    put_hopper(&mut diagram, draw, kinds, at);
     let _other = put_king(&mut diagram, draw, mover.other());
     let count = draw.below(6);
     scatter(&mut diagram, draw, kinds, count);
     diagram
 }
 
+// A grasshopper that checks over a man beside the king, once in two draws.
+fn put_hopper(diagram: &mut Diagram, draw: &mut Draw, kinds: Kinds, king: Square) {
+    if kinds == Kinds::All && draw.once_in(2) {
+        let line = draw.line();
+        let far = steps(king, line, 2 + draw.below(3));
+        let hopper = man(diagram.turn.other(), Kind::Grasshopper);
+        let _hopper = put(diagram, far, hopper);
+        let _hurdle = put(diagram, next(king, line), draw.man(kinds));
+    }
+}
+
 // The other side's king at the edge, some of his squares taken by his men or seen by the mover's.
 pub(crate) fn flights(draw: &mut Draw) -> Diagram {
-    let mut diagram = Diagram::new();
-    diagram.turn = draw.colour();
+    let mut diagram = board(draw);
     let mover = diagram.turn;
     let kinds = draw.kinds();
-    let edge = [1u8, 8][draw.below(2) as usize];
+    let at = edge_square(draw);
+    let _king = put(&mut diagram, Some(at), man(mover.other(), Kind::King));
+    put_blockers(&mut diagram, draw, kinds, at);
+    let near = steps(at, draw.line(), 2).unwrap_or(draw.square());
+    let _own = put(&mut diagram, Some(near), man(mover, Kind::King));
+    put_attackers(&mut diagram, draw, kinds);
+    diagram
+}
+
+// A square at the edge.
+fn edge_square(draw: &mut Draw) -> Square {
+    let edge = draw.pick(2, 1u8, 8);
     let other = 1 + draw.below(8);
     let at = if draw.once_in(2) {
         Square::new(edge, other)
     } else {
         Square::new(other, edge)
     };
-    let at = at.unwrap_or_default();
-    let _king = put(&mut diagram, Some(at), man(mover.other(), Kind::King));
-    for way in &LINES {
-        if draw.once_in(3) {
-            let blocker = man(mover.other(), draw.kind(kinds));
-            let _blocker = put(&mut diagram, next(at, *way), blocker);
-        }
-    }
-    let near = steps(at, draw.line(), 2).unwrap_or(draw.square());
-    let _own = put(&mut diagram, Some(near), man(mover, Kind::King));
+    at.unwrap_or_default()
+}
+
+// Three to five men of the mover's and a queen, anywhere.
+fn put_attackers(diagram: &mut Diagram, draw: &mut Draw, kinds: Kinds) {
+    let mover = diagram.turn;
     for _man in 0..3 + draw.below(3) {
         let kind = draw.kind(kinds);
-        let square = draw.square();
-        let _man = put(&mut diagram, Some(square), man(mover, kind));
+        let _man = put(diagram, Some(draw.square()), man(mover, kind));
     }
-    let _queen = put(&mut diagram, Some(draw.square()), man(mover, Kind::Queen));
-    diagram
+    let _queen = put(diagram, Some(draw.square()), man(mover, Kind::Queen));
 }
 
 // The other side's king among his men, riders of the mover on lines to him and to the squares beside him, and
 // one behind a man of the mover's on a line to such a square.
 pub(crate) fn refuges(draw: &mut Draw) -> Diagram {
-    let mut diagram = Diagram::new();
-    diagram.turn = draw.colour();
+    let mut diagram = board(draw);
     let mover = diagram.turn;
     let kinds = draw.kinds();
     let at = draw.square();
     let _king = put(&mut diagram, Some(at), man(mover.other(), Kind::King));
-    for way in &LINES {
-        if draw.once_in(2) {
-            let guard = [Kind::Pawn, Kind::Knight][draw.below(2) as usize];
-            let _guard = put(&mut diagram, next(at, *way), man(mover.other(), guard));
-        }
-    }
+    put_guards(&mut diagram, draw, at);
     let beside = next(at, draw.line()).unwrap_or(at);
     let front = man(mover, draw.kind(kinds));
     let line = draw.line();
     let _battery = put_battery(&mut diagram, draw, beside, line, front, mover);
-    for _rider in 0..3u8 {
-        let near = next(at, draw.line()).unwrap_or(at);
-        let line = draw.line();
-        let _rider = put_rider(&mut diagram, draw, near, line, mover);
-    }
+    put_near_riders(&mut diagram, draw, at);
     let _own = put_king(&mut diagram, draw, mover);
     let _queen = put(&mut diagram, Some(draw.square()), man(mover, Kind::Queen));
     diagram
 }
 
+// Pawns and knights of the other side's on every second square beside his king.
+fn put_guards(diagram: &mut Diagram, draw: &mut Draw, king: Square) {
+    let colour = diagram.turn.other();
+    for way in &LINES {
+        if draw.once_in(2) {
+            let guard = draw.pick(2, Kind::Pawn, Kind::Knight);
+            let _guard = put(diagram, next(king, *way), man(colour, guard));
+        }
+    }
+}
+
+// Riders of the mover's that see squares beside the king.
+fn put_near_riders(diagram: &mut Diagram, draw: &mut Draw, king: Square) {
+    for _rider in 0..3u8 {
+        let near = next(king, draw.line()).unwrap_or(king);
+        put_seer(diagram, draw, near);
+    }
+}
+
 // Lines to kings that stand there and to squares where none does.
 pub(crate) fn missing_kings(draw: &mut Draw) -> Diagram {
-    let mut diagram = Diagram::new();
-    diagram.turn = draw.colour();
-    let mover = diagram.turn;
+    let mut diagram = board(draw);
     let kinds = draw.kinds();
-    let present = draw.below(3);
-    let at = draw.square();
-    if present == 1 {
-        let _own = put(&mut diagram, Some(at), man(mover, Kind::King));
-    }
-    if present == 2 {
-        let _other = put(&mut diagram, Some(at), man(mover.other(), Kind::King));
-    }
+    let at = put_one_king(&mut diagram, draw);
     for _battery in 0..3u8 {
         let line = draw.line();
         let front = draw.man(kinds);
@@ -118,18 +126,25 @@ pub(crate) fn missing_kings(draw: &mut Draw) -> Diagram {
     diagram
 }
 
+// The mover's king, the other one or none, and the square.
+fn put_one_king(diagram: &mut Diagram, draw: &mut Draw) -> Square {
+    let mover = diagram.turn;
+    let present = draw.below(3);
+    let at = draw.square();
+    if present > 0 {
+        let colour = if present == 1 { mover } else { mover.other() };
+        let _king = put(diagram, Some(at), man(colour, Kind::King));
+    }
+    at
+}
+
 // The other side's king shut in by his men but for one square: there a pawn of the mover's may check him, or
 // from there on the mover's king or a pawn stands between him and a rider.
 pub(crate) fn nooks(draw: &mut Draw) -> Diagram {
-    let mut diagram = Diagram::new();
-    diagram.turn = draw.colour();
+    let mut diagram = board(draw);
     let mover = diagram.turn;
-    let middle = match mover {
-        Colour::White => 5u8,
-        Colour::Black => 4,
-    };
     let rank = if draw.once_in(2) {
-        middle
+        rank_for(mover, 5)
     } else {
         2 + draw.below(6)
     };
@@ -138,35 +153,37 @@ pub(crate) fn nooks(draw: &mut Draw) -> Diagram {
     let hole = if draw.once_in(2) {
         put_pawn_before(&mut diagram, draw, at)
     } else {
-        let line = draw.line();
-        let front = [Kind::Pawn, Kind::King][draw.below(2) as usize];
-        let _battery = put_battery(&mut diagram, draw, at, line, man(mover, front), mover);
-        next(at, line).unwrap_or(at)
+        put_battery_before(&mut diagram, draw, at)
     };
     shut_in(&mut diagram, draw, at, hole);
     let _own = put_king(&mut diagram, draw, mover);
     diagram
 }
 
+// A pawn or the mover's king between the king and a rider, and the square beside him on their line.
+fn put_battery_before(diagram: &mut Diagram, draw: &mut Draw, king: Square) -> Square {
+    let mover = diagram.turn;
+    let line = draw.line();
+    let front = man(mover, draw.pick(2, Kind::Pawn, Kind::King));
+    let _battery = put_battery(diagram, draw, king, line, front, mover);
+    next(king, line).unwrap_or(king)
+}
+
 // A pawn of the mover's one step, two steps or a capture before a square from which it checks the king, and
 // that square.
 fn put_pawn_before(diagram: &mut Diagram, draw: &mut Draw, king: Square) -> Square {
     let mover = diagram.turn;
-    let back = match mover {
-        Colour::White => 255u8,
-        Colour::Black => 1,
-    };
-    let sides = [1u8, 255];
-    let checked_from = next(king, (sides[draw.below(2) as usize], back)).unwrap_or_default();
+    let down = up(mover.other());
+    let checked_from = next(king, (draw.pick(2, 1, 255), down)).unwrap_or_default();
     let pawn = man(mover, Kind::Pawn);
     if draw.once_in(3) {
-        let way = (sides[draw.below(2) as usize], back);
+        let way = (draw.pick(2, 1, 255), down);
         let victim = man(mover.other(), Kind::Bishop);
         let _victim = put(diagram, Some(checked_from), victim);
         let _pawn = put(diagram, next(checked_from, way), pawn);
     } else {
         let far = 1 + draw.below(2);
-        let _pawn = put(diagram, steps(checked_from, (0, back), far), pawn);
+        let _pawn = put(diagram, steps(checked_from, (0, down), far), pawn);
     }
     checked_from
 }
@@ -174,16 +191,22 @@ fn put_pawn_before(diagram: &mut Diagram, draw: &mut Draw, king: Square) -> Squa
 // The king's own men on the other squares beside him, a rider that sees the hole, and one that sees another
 // square.
 fn shut_in(diagram: &mut Diagram, draw: &mut Draw, king: Square, hole: Square) {
-    let mover = diagram.turn;
+    let colour = diagram.turn.other();
     for way in &LINES {
         let beside = next(king, *way);
         if beside != Some(hole) && !draw.once_in(20) {
-            let guard = [Kind::Pawn, Kind::Bishop][draw.below(2) as usize];
-            let _guard = put(diagram, beside, man(mover.other(), guard));
+            let guard = draw.pick(2, Kind::Pawn, Kind::Bishop);
+            let _guard = put(diagram, beside, man(colour, guard));
         }
     }
-    for seen in &[hole, next(king, draw.line()).unwrap_or(king)] {
-        let line = draw.line();
-        let _rider = put_rider(diagram, draw, *seen, line, mover);
-    }
+    let other = next(king, draw.line()).unwrap_or(king);
+    put_seer(diagram, draw, hole);
+    put_seer(diagram, draw, other);
+}
+
+// A rider of the mover's that sees the square.
+fn put_seer(diagram: &mut Diagram, draw: &mut Draw, seen: Square) {
+    let line = draw.line();
+    let mover = diagram.turn;
+    let _rider = put_rider(diagram, draw, seen, line, mover);
 }

@@ -1,6 +1,7 @@
 //! Kings and riders on one line.
 use crate::draw::{Draw, Kinds};
-use crate::scene::{man, put, put_battery, put_king, put_rider, scatter};
+use crate::plain::next;
+use crate::scene::{board, man, put, put_battery, put_king, put_rider, scatter};
 use chess_core::{Colour, Diagram, Kind, Man};
 
 // A direction in which a rider of these kinds goes.
@@ -27,8 +28,7 @@ fn front(draw: &mut Draw, kinds: Kinds, colour: Colour) -> Man {
 }
 
 pub(crate) fn pins(draw: &mut Draw) -> Diagram {
-    let mut diagram = Diagram::new();
-    diagram.turn = draw.colour();
+    let mut diagram = board(draw);
     let kinds = draw.kinds();
     let mover = diagram.turn;
     let king = put_king(&mut diagram, draw, mover);
@@ -42,8 +42,7 @@ pub(crate) fn pins(draw: &mut Draw) -> Diagram {
 }
 
 pub(crate) fn batteries(draw: &mut Draw) -> Diagram {
-    let mut diagram = Diagram::new();
-    diagram.turn = draw.colour();
+    let mut diagram = board(draw);
     let kinds = draw.kinds();
     let mover = diagram.turn;
     let target = put_king(&mut diagram, draw, mover.other());
@@ -61,30 +60,38 @@ pub(crate) fn batteries(draw: &mut Draw) -> Diagram {
 }
 
 pub(crate) fn double_checks(draw: &mut Draw) -> Diagram {
-    let mut diagram = Diagram::new();
-    diagram.turn = draw.colour();
+    let mut diagram = board(draw);
     let kinds = draw.kinds();
     let mover = diagram.turn;
     if draw.once_in(2) {
-        let king = put_king(&mut diagram, draw, mover);
-        for _rider in 0..3u8 {
-            let way = way(draw, kinds);
-            let _put = put_rider(&mut diagram, draw, king, way, mover.other());
-        }
+        put_checkers(&mut diagram, draw, kinds);
         finish(&mut diagram, draw, kinds, mover.other());
     } else {
-        let target = put_king(&mut diagram, draw, mover.other());
-        for _battery in 0..3u8 {
-            let way = way(draw, kinds);
-            let front = front(draw, kinds, mover);
-            let _put = put_battery(&mut diagram, draw, target, way, front, mover);
-        }
-        let _near = put(
-            &mut diagram,
-            crate::plain::next(target, draw.leap()),
-            man(mover, Kind::Queen),
-        );
+        put_double(&mut diagram, draw, kinds);
         finish(&mut diagram, draw, kinds, mover);
     }
     diagram
+}
+
+// The mover's king, and riders that see him.
+fn put_checkers(diagram: &mut Diagram, draw: &mut Draw, kinds: Kinds) {
+    let mover = diagram.turn;
+    let king = put_king(diagram, draw, mover);
+    for _rider in 0..3u8 {
+        let way = way(draw, kinds);
+        let _put = put_rider(diagram, draw, king, way, mover.other());
+    }
+}
+
+// The other king, batteries on lines to him, and a queen a leap away.
+fn put_double(diagram: &mut Diagram, draw: &mut Draw, kinds: Kinds) {
+    let mover = diagram.turn;
+    let target = put_king(diagram, draw, mover.other());
+    for _battery in 0..3u8 {
+        let way = way(draw, kinds);
+        let front = front(draw, kinds, mover);
+        let _put = put_battery(diagram, draw, target, way, front, mover);
+    }
+    let near = next(target, draw.leap());
+    let _near = put(diagram, near, man(mover, Kind::Queen));
 }

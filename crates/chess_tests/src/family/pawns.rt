@@ -1,36 +1,22 @@
 //! Captures en passant and promotions.
 use crate::draw::{Draw, Kinds};
 use crate::plain::next;
-use crate::scene::{man, put, put_battery, put_king, put_rider, scatter, steps};
+use crate::scene::{
+    back, board, line_rider, man, put, put_battery, put_king, put_rider, rank_for, scatter, steps,
+};
 use chess_core::{Colour, Diagram, Kind, Square};
 
 // A pawn of the side to move beside one that has just gone two squares. Between them and a rider stands a
 // king of either side, on one of the lines that the capture may open.
 pub(crate) fn en_passant(draw: &mut Draw) -> Diagram {
-    let mut diagram = Diagram::new();
-    diagram.turn = draw.colour();
-    let mover = diagram.turn;
-    let (rank, crossed) = match mover {
-        Colour::White => (5u8, 6u8),
-        Colour::Black => (4u8, 3u8),
-    };
-    let file = 1 + draw.below(8);
-    diagram.crossed = Square::new(file, crossed);
-    let passing = Square::new(file, rank).unwrap_or_default();
-    let side = if draw.once_in(2) { 1u8 } else { 255 };
-    let beside = next(passing, (side, 0)).or(next(passing, (side.wrapping_neg(), 0)));
-    let capturer = beside.unwrap_or_default();
-    let _passing = put(&mut diagram, Some(passing), man(mover.other(), Kind::Pawn));
-    let _capturer = put(&mut diagram, Some(capturer), man(mover, Kind::Pawn));
+    let mut diagram = board(draw);
+    let (passing, capturer) = put_pawns(&mut diagram, draw);
     let kinds = draw.kinds();
     put_line(&mut diagram, draw, passing, capturer);
+    let mover = diagram.turn;
     let _own = put_king(&mut diagram, draw, mover);
     let _other = put_king(&mut diagram, draw, mover.other());
-    if draw.once_in(2) {
-        for kind in &[Kind::Queen, Kind::Queen, Kind::Rook] {
-            let _helper = put(&mut diagram, Some(draw.square()), man(mover, *kind));
-        }
-    }
+    put_helpers(&mut diagram, draw);
     let count = draw.below(5);
     scatter(&mut diagram, draw, kinds, count);
     if !diagram.is_well_formed() {
@@ -39,81 +25,116 @@ pub(crate) fn en_passant(draw: &mut Draw) -> Diagram {
     diagram
 }
 
+// The pawn that has just gone two squares, and one of the side to move beside it. Answers their squares.
+fn put_pawns(diagram: &mut Diagram, draw: &mut Draw) -> (Square, Square) {
+    let mover = diagram.turn;
+    let file = 1 + draw.below(8);
+    diagram.crossed = Square::new(file, rank_for(mover, 6));
+    let passing = Square::new(file, rank_for(mover, 5)).unwrap_or_default();
+    let side = (draw.pick(2, 1u8, 255), 0);
+    let beside = next(passing, side).or(next(passing, back(side)));
+    let capturer = beside.unwrap_or_default();
+    let _passing = put(diagram, Some(passing), man(mover.other(), Kind::Pawn));
+    let _capturer = put(diagram, Some(capturer), man(mover, Kind::Pawn));
+    (passing, capturer)
+}
+
+// Queens and a rook of the mover's, once in two draws.
+fn put_helpers(diagram: &mut Diagram, draw: &mut Draw) {
+    if draw.once_in(2) {
+        let mover = diagram.turn;
+        for kind in &[Kind::Queen, Kind::Queen, Kind::Rook] {
+            let _helper = put(diagram, Some(draw.square()), man(mover, *kind));
+        }
+    }
+}
+
 // A king and a rider on two ends of a line through the pawns: their rank, or another line through one.
 fn put_line(diagram: &mut Diagram, draw: &mut Draw, passing: Square, capturer: Square) {
     let mover = diagram.turn;
-    let king = if draw.once_in(3) {
-        mover.other()
-    } else {
-        mover
-    };
+    let king = draw.pick(3, mover.other(), mover);
     let along_rank = draw.once_in(2);
-    let way = if along_rank { (1u8, 0u8) } else { draw.line() };
-    let (way, back) = if draw.once_in(2) {
-        (way, (way.0.wrapping_neg(), way.1.wrapping_neg()))
-    } else {
-        ((way.0.wrapping_neg(), way.1.wrapping_neg()), way)
-    };
-    let middle = if draw.once_in(2) { passing } else { capturer };
+    let line = if along_rank { (1, 0) } else { draw.line() };
+    let way = draw.pick(2, line, back(line));
+    let middle = draw.pick(2, passing, capturer);
     let front = if along_rank { passing } else { middle };
+    put_ends(diagram, draw, front, way, king);
+}
+
+// A king of this colour in a direction, and in the other a rider that sees him.
+fn put_ends(diagram: &mut Diagram, draw: &mut Draw, front: Square, way: (u8, u8), king: Colour) {
     let to_king = 1 + draw.below(3);
     let to_rider = 1 + draw.below(4);
     let _king = put(diagram, steps(front, way, to_king), man(king, Kind::King));
-    let rider = if way.0 == 0 || way.1 == 0 {
-        Kind::Rook
-    } else {
-        Kind::Bishop
-    };
-    let rider = if draw.once_in(3) { Kind::Queen } else { rider };
-    let _rider = put(
-        diagram,
-        steps(front, back, to_rider),
-        man(king.other(), rider),
-    );
+    let rider = draw.pick(3, Kind::Queen, line_rider(way));
+    let behind = steps(front, back(way), to_rider);
+    let _rider = put(diagram, behind, man(king.other(), rider));
 }
 
 // Pawns on the rank before the last, men to capture behind them, and kings near.
 pub(crate) fn promotions(draw: &mut Draw) -> Diagram {
-    let mut diagram = Diagram::new();
-    diagram.turn = draw.colour();
-    let mover = diagram.turn;
+    let mut diagram = board(draw);
     let kinds = draw.kinds();
-    let (before, last) = match mover {
-        Colour::White => (7u8, 8u8),
-        Colour::Black => (2u8, 1u8),
-    };
-    let third = if mover == Colour::White { 6u8 } else { 3 };
-    let file = if draw.once_in(2) { 2u8 } else { 7 };
-    let (own, other) = if draw.once_in(2) {
-        let corner = if file == 2 { 1u8 } else { 8 };
-        (Square::new(file, third), Square::new(corner, last))
-    } else {
-        let rank = [last, 4][draw.below(2) as usize];
-        let other_rank = [last, before][draw.below(2) as usize];
-        (
-            Square::new(1 + draw.below(8), rank),
-            Square::new(1 + draw.below(8), other_rank),
-        )
-    };
-    let own = own.unwrap_or_default();
-    let _own = put(&mut diagram, Some(own), man(mover, Kind::King));
-    let _other = put(&mut diagram, other, man(mover.other(), Kind::King));
+    let own = put_kings(&mut diagram, draw);
+    let mover = diagram.turn;
     for _pawn in 0..3u8 {
-        let at = Square::new(1 + draw.below(8), before);
+        let at = Square::new(1 + draw.below(8), rank_for(mover, 7));
         let _pawn = put(&mut diagram, at, man(mover, Kind::Pawn));
     }
-    put_victims(&mut diagram, draw, kinds, own, last);
+    put_victims(&mut diagram, draw, kinds);
+    put_pinned(&mut diagram, draw, own);
+    let count = draw.below(5);
+    scatter(&mut diagram, draw, kinds, count);
+    put_nightrider(&mut diagram, draw, kinds);
     diagram
 }
 
-// Men to capture on the last rank, a checker or a pinned pawn, and men anywhere.
-fn put_victims(diagram: &mut Diagram, draw: &mut Draw, kinds: Kinds, own: Square, last: u8) {
+// Both kings. Answers the square of the mover's.
+fn put_kings(diagram: &mut Diagram, draw: &mut Draw) -> Square {
+    let mover = diagram.turn;
+    let file = draw.pick(2, 2u8, 7);
+    let (own, other) = if draw.once_in(2) {
+        cornered(mover, file)
+    } else {
+        near_the_end(draw, mover)
+    };
+    let own = own.unwrap_or_default();
+    let _own = put(diagram, Some(own), man(mover, Kind::King));
+    let _other = put(diagram, other, man(mover.other(), Kind::King));
+    own
+}
+
+// The other king in the corner, and the mover's two ranks before the end on the file beside him.
+fn cornered(mover: Colour, file: u8) -> (Option<Square>, Option<Square>) {
+    let corner = if file == 2 { 1u8 } else { 8 };
+    (
+        Square::new(file, rank_for(mover, 6)),
+        Square::new(corner, rank_for(mover, 8)),
+    )
+}
+
+// The mover's king on the last rank or the fourth, the other on the last or before it.
+fn near_the_end(draw: &mut Draw, mover: Colour) -> (Option<Square>, Option<Square>) {
+    let last = rank_for(mover, 8);
+    let rank = draw.pick(2, last, 4);
+    let other_rank = draw.pick(2, last, rank_for(mover, 7));
+    let own = Square::new(1 + draw.below(8), rank);
+    (own, Square::new(1 + draw.below(8), other_rank))
+}
+
+// Men to capture on the last rank.
+fn put_victims(diagram: &mut Diagram, draw: &mut Draw, kinds: Kinds) {
     let mover = diagram.turn;
     for _victim in 0..3u8 {
-        let at = Square::new(1 + draw.below(8), last);
+        let at = Square::new(1 + draw.below(8), rank_for(mover, 8));
         let kind = draw.kind(kinds);
         let _victim = put(diagram, at, man(mover.other(), kind));
     }
+}
+
+// A checker or a pinned pawn.
+fn put_pinned(diagram: &mut Diagram, draw: &mut Draw, own: Square) {
+    let mover = diagram.turn;
     let line = draw.line();
     if draw.once_in(2) {
         let _checker = put_rider(diagram, draw, own, line, mover.other());
@@ -121,8 +142,10 @@ fn put_victims(diagram: &mut Diagram, draw: &mut Draw, kinds: Kinds, own: Square
         let pawn = man(mover, Kind::Pawn);
         let _pinned = put_battery(diagram, draw, own, line, pawn, mover.other());
     }
-    let count = draw.below(5);
-    scatter(diagram, draw, kinds, count);
+}
+
+// A nightrider anywhere, so that pawns may become one.
+fn put_nightrider(diagram: &mut Diagram, draw: &mut Draw, kinds: Kinds) {
     if kinds == Kinds::All {
         let at = draw.square();
         let _rider = put(diagram, Some(at), man(draw.colour(), Kind::Nightrider));

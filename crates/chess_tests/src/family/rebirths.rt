@@ -1,42 +1,21 @@
 //! What captures bring back, and what men of one kind do to each other.
 use crate::draw::{Draw, Kinds};
-use crate::plain::{LINES, home, next};
-use crate::scene::{man, mark_homes, put, put_battery, put_king, put_rider, rider, scatter, steps};
-use chess_core::{Colour, Diagram, Kind, Square};
+use crate::plain::{home, next, up};
+use crate::scene::{
+    back, board, man, mark_homes, put, put_battery, put_blockers, put_king, put_rider, rank_for,
+    rider, scatter, steps,
+};
+use chess_core::{Colour, Diagram, Kind, Man, Square};
 
 // Kings on the ranks where the victims come back, and victims beside the mover's men.
 pub(crate) fn rebirths(draw: &mut Draw) -> Diagram {
-    let mut diagram = Diagram::new();
-    diagram.turn = draw.colour();
-    let mover = diagram.turn;
+    let mut diagram = board(draw);
     let kinds = draw.kinds();
-    let home = match mover {
-        Colour::White => 8u8,
-        Colour::Black => 1u8,
-    };
-    let inward = match mover {
-        Colour::White => 7u8,
-        Colour::Black => 2u8,
-    };
-    for colour in &[mover, mover.other()] {
-        let rank = if draw.once_in(3) { inward } else { home };
-        let at = Square::new(1 + draw.below(8), rank).unwrap_or_default();
-        let _king = put(&mut diagram, Some(at), man(*colour, Kind::King));
-        let line = draw.line();
-        if draw.once_in(2) {
-            let _rider = put_rider(&mut diagram, draw, at, line, colour.other());
-        } else {
-            let victim = man(mover.other(), draw.kind(kinds));
-            let _front = put_battery(&mut diagram, draw, at, line, victim, colour.other());
-        }
-    }
+    let mover = diagram.turn;
+    put_aimed_king(&mut diagram, draw, kinds, mover);
+    put_aimed_king(&mut diagram, draw, kinds, mover.other());
     for _pair in 0..4u8 {
-        let at = Square::new(1 + draw.below(8), 2 + draw.below(6)).unwrap_or_default();
-        let victim = man(mover.other(), draw.kind(kinds));
-        let _victim = put(&mut diagram, Some(at), victim);
-        let beside = next(at, draw.line());
-        let taker = man(mover, draw.kind(kinds));
-        let _taker = put(&mut diagram, beside, taker);
+        put_pair(&mut diagram, draw, kinds);
     }
     let count = draw.below(6);
     scatter(&mut diagram, draw, kinds, count);
@@ -44,110 +23,146 @@ pub(crate) fn rebirths(draw: &mut Draw) -> Diagram {
     diagram
 }
 
+// A king of this colour, and an enemy rider that sees him, or would but for a victim.
+fn put_aimed_king(diagram: &mut Diagram, draw: &mut Draw, kinds: Kinds, colour: Colour) {
+    let mover = diagram.turn;
+    let rank = draw.pick(3, rank_for(mover, 7), rank_for(mover, 8));
+    let at = Square::new(1 + draw.below(8), rank).unwrap_or_default();
+    let _king = put(diagram, Some(at), man(colour, Kind::King));
+    let line = draw.line();
+    if draw.once_in(2) {
+        let _rider = put_rider(diagram, draw, at, line, colour.other());
+    } else {
+        let victim = man(mover.other(), draw.kind(kinds));
+        let _front = put_battery(diagram, draw, at, line, victim, colour.other());
+    }
+}
+
+// A victim, and a man of the mover's beside it.
+fn put_pair(diagram: &mut Diagram, draw: &mut Draw, kinds: Kinds) {
+    let mover = diagram.turn;
+    let at = Square::new(1 + draw.below(8), 2 + draw.below(6)).unwrap_or_default();
+    let victim = man(mover.other(), draw.kind(kinds));
+    let _victim = put(diagram, Some(at), victim);
+    let beside = next(at, draw.line());
+    let taker = man(mover, draw.kind(kinds));
+    let _taker = put(diagram, beside, taker);
+}
+
 // Men to be captured who come back beside the other side's king, and behind their home squares grasshoppers
 // or other men of the mover.
 pub(crate) fn reborn_hurdles(draw: &mut Draw) -> Diagram {
-    let mut diagram = Diagram::new();
-    diagram.turn = draw.colour();
-    let mover = diagram.turn;
-    let promotes = draw.once_in(2);
-    let (before, last) = match mover {
-        Colour::White => (7u8, 8u8),
-        Colour::Black => (2u8, 1u8),
-    };
-    let kind = draw.kind(Kinds::Orthodox);
-    let victim = man(mover.other(), kind);
-    let rank = if promotes { last } else { 2 + draw.below(6) };
-    let at = Square::new(1 + draw.below(8), rank).unwrap_or_default();
-    let home = home(victim, at);
-    let line = draw.line();
-    let _king = put(
-        &mut diagram,
-        next(home, line),
-        man(mover.other(), Kind::King),
-    );
-    let _victim = put(&mut diagram, Some(at), victim);
-    let back = (line.0.wrapping_neg(), line.1.wrapping_neg());
-    let colour = if draw.once_in(3) {
-        mover.other()
+    let mut diagram = board(draw);
+    if draw.once_in(2) {
+        put_promoting(&mut diagram, draw);
     } else {
-        mover
-    };
-    let rear = if promotes {
-        draw.square()
-    } else {
-        steps(home, back, 1 + draw.below(5)).unwrap_or_default()
-    };
-    let _hopper = put(&mut diagram, Some(rear), man(colour, Kind::Grasshopper));
-    if promotes {
-        let side = if draw.once_in(2) { 1u8 } else { 255 };
-        let file = at.file().wrapping_add(side);
-        let _pawn = put(
-            &mut diagram,
-            Square::new(file, before),
-            man(mover, Kind::Pawn),
-        );
-    } else {
-        let aside = draw.line();
-        let taker = man(mover, rider(draw, aside));
-        let _taker = put(&mut diagram, steps(at, aside, 1 + draw.below(3)), taker);
+        put_captured(&mut diagram, draw);
     }
+    let mover = diagram.turn;
     let _own = put_king(&mut diagram, draw, mover);
     let count = draw.below(5);
     scatter(&mut diagram, draw, Kinds::All, count);
     diagram
 }
 
+// A victim on the last rank, a pawn of the mover's beside it, and a grasshopper anywhere.
+fn put_promoting(diagram: &mut Diagram, draw: &mut Draw) {
+    let mover = diagram.turn;
+    let victim = man(mover.other(), draw.kind(Kinds::Orthodox));
+    let at = Square::new(1 + draw.below(8), rank_for(mover, 8)).unwrap_or_default();
+    let _line = put_victim(diagram, draw, victim, at);
+    let hopper = hopper_of(draw, mover);
+    let _hopper = put(diagram, Some(draw.square()), hopper);
+    let file = at.file().wrapping_add(draw.pick(2, 1u8, 255));
+    let pawn = man(mover, Kind::Pawn);
+    let _pawn = put(diagram, Square::new(file, rank_for(mover, 7)), pawn);
+}
+
+// A victim, a rider of the mover's that captures it, and a grasshopper behind its home square.
+fn put_captured(diagram: &mut Diagram, draw: &mut Draw) {
+    let mover = diagram.turn;
+    let victim = man(mover.other(), draw.kind(Kinds::Orthodox));
+    let rank = 2 + draw.below(6);
+    let at = Square::new(1 + draw.below(8), rank).unwrap_or_default();
+    let line = put_victim(diagram, draw, victim, at);
+    let hopper = hopper_of(draw, mover);
+    let rear = steps(home(victim, at), back(line), 1 + draw.below(5));
+    let _hopper = put(diagram, Some(rear.unwrap_or_default()), hopper);
+    let aside = draw.line();
+    put_taker(diagram, draw, at, aside);
+}
+
+// A grasshopper, mostly of the mover's.
+fn hopper_of(draw: &mut Draw, mover: Colour) -> Man {
+    man(draw.pick(3, mover.other(), mover), Kind::Grasshopper)
+}
+
+// The victim, and the other king beside its home square. Answers the direction in which he stands.
+fn put_victim(diagram: &mut Diagram, draw: &mut Draw, victim: Man, at: Square) -> (u8, u8) {
+    let line = draw.line();
+    let king = man(victim.colour, Kind::King);
+    let _king = put(diagram, next(home(victim, at), line), king);
+    let _victim = put(diagram, Some(at), victim);
+    line
+}
+
+// A rider of the mover's that sees the square from this direction.
+fn put_taker(diagram: &mut Diagram, draw: &mut Draw, at: Square, line: (u8, u8)) {
+    let taker = man(diagram.turn, rider(draw, line));
+    let _taker = put(diagram, steps(at, line, 1 + draw.below(3)), taker);
+}
+
 // The other side's king in the corner, without a flight, and a grasshopper that sees him along the diagonal,
 // once a pawn captured aside has come back between them.
 pub(crate) fn hurdle_nets(draw: &mut Draw) -> Diagram {
-    let mut diagram = Diagram::new();
-    diagram.turn = draw.colour();
-    let mover = diagram.turn;
-    let (last, third, down) = match mover {
-        Colour::White => (8u8, 6u8, 255u8),
-        Colour::Black => (1u8, 3u8, 1u8),
-    };
-    let (file, beside, inward) = if draw.once_in(2) {
-        (1u8, 2u8, 1u8)
-    } else {
-        (8u8, 7u8, 255u8)
-    };
-    let corner = Square::new(file, last).unwrap_or_default();
-    let _king = put(&mut diagram, Some(corner), man(mover.other(), Kind::King));
-    let guard = man(mover.other(), Kind::Bishop);
-    let _guard = put(&mut diagram, Square::new(beside, last), guard);
-    let _own = put(
-        &mut diagram,
-        Square::new(beside, third),
-        man(mover, Kind::King),
-    );
-    let hopper = steps(corner, (inward, down), 3 + draw.below(3));
-    let _hopper = put(&mut diagram, hopper, man(mover, Kind::Grasshopper));
+    let mut diagram = board(draw);
+    let beside = put_corner(&mut diagram, draw);
     let at = Square::new(beside, 3 + draw.below(4)).unwrap_or_default();
-    let _victim = put(&mut diagram, Some(at), man(mover.other(), Kind::Pawn));
+    let victim = man(diagram.turn.other(), Kind::Pawn);
+    let _victim = put(&mut diagram, Some(at), victim);
     for _taker in 0..2u8 {
         let line = draw.line();
-        let taker = man(mover, rider(draw, line));
-        let _taker = put(&mut diagram, steps(at, line, 1 + draw.below(3)), taker);
+        put_taker(&mut diagram, draw, at, line);
     }
     let count = draw.below(4);
     scatter(&mut diagram, draw, Kinds::All, count);
     diagram
 }
 
+// The king in the corner, a bishop beside him, the mover's king before it and the grasshopper. Answers the file beside the
+// corner.
+fn put_corner(diagram: &mut Diagram, draw: &mut Draw) -> u8 {
+    let mover = diagram.turn;
+    let last = rank_for(mover, 8);
+    let (file, beside, inward) = if draw.once_in(2) {
+        (1u8, 2u8, 1u8)
+    } else {
+        (8, 7, 255)
+    };
+    let corner = Square::new(file, last).unwrap_or_default();
+    let _king = put(diagram, Some(corner), man(mover.other(), Kind::King));
+    let guard = man(mover.other(), Kind::Bishop);
+    let _guard = put(diagram, Square::new(beside, last), guard);
+    let own = Square::new(beside, rank_for(mover, 6));
+    let _own = put(diagram, own, man(mover, Kind::King));
+    let diagonal = (inward, up(mover.other()));
+    let far = steps(corner, diagonal, 3 + draw.below(3));
+    let _hopper = put(diagram, far, man(mover, Kind::Grasshopper));
+    beside
+}
+
 // Riders that aim at the kings, and men of their kinds that face them or may come to.
 pub(crate) fn paralysis(draw: &mut Draw) -> Diagram {
-    let mut diagram = Diagram::new();
-    diagram.turn = draw.colour();
+    let mut diagram = board(draw);
     let mover = diagram.turn;
     let kinds = draw.kinds();
     let own = put_king(&mut diagram, draw, mover);
     let other = put_king(&mut diagram, draw, mover.other());
-    for (king, colour) in &[(own, mover.other()), (other, mover)] {
-        for _aimed in 0..2u8 {
-            put_facing(&mut diagram, draw, *king, *colour);
-        }
+    for _aimed in 0..2u8 {
+        put_facing(&mut diagram, draw, own, mover.other());
+    }
+    for _aimed in 0..2u8 {
+        put_facing(&mut diagram, draw, other, mover);
     }
     let count = 2 + draw.below(7);
     scatter(&mut diagram, draw, kinds, count);
@@ -171,59 +186,62 @@ fn put_facing(diagram: &mut Diagram, draw: &mut Draw, king: Square, colour: Colo
 
 // The other side's king on his home rank before the mover's, and captures that check him.
 pub(crate) fn nets(draw: &mut Draw) -> Diagram {
-    let mut diagram = Diagram::new();
-    diagram.turn = draw.colour();
-    let mover = diagram.turn;
-    let (home, second, third) = match mover {
-        Colour::White => (8u8, 7u8, 6u8),
-        Colour::Black => (1u8, 2u8, 3u8),
-    };
-    let corner = draw.once_in(2);
-    let (file, beside) = if !corner {
+    let mut diagram = board(draw);
+    if draw.once_in(2) {
+        put_corner_net(&mut diagram, draw);
+    } else {
         let file = 1 + draw.below(8);
-        (file, file)
-    } else if draw.once_in(2) {
-        (1, 2)
-    } else {
-        (8, 7)
-    };
-    let king = Square::new(file, home).unwrap_or_default();
-    let own = Square::new(beside, third);
-    let _king = put(&mut diagram, Some(king), man(mover.other(), Kind::King));
-    let _own = put(&mut diagram, own, man(mover, Kind::King));
-    if corner {
-        let victim = man(mover.other(), draw.kind(Kinds::Orthodox));
-        let _victim = put(&mut diagram, Square::new(file, second), victim);
-        let taker = Square::new(2 + draw.below(6), second);
-        let _taker = put(&mut diagram, taker, man(mover, Kind::Rook));
-    } else {
-        put_captures(&mut diagram, draw, king);
+        put_opposed(&mut diagram, file, file);
+        put_captures(&mut diagram, draw, file);
     }
     let count = draw.below(4);
     scatter(&mut diagram, draw, Kinds::Orthodox, count);
     diagram
 }
 
-// Men to be captured on lines of the king by riders that then see him, and men beside him.
-fn put_captures(diagram: &mut Diagram, draw: &mut Draw, king: Square) {
+// The other side's king on his home rank, and the mover's two ranks before it, on these files.
+fn put_opposed(diagram: &mut Diagram, file: u8, own_file: u8) {
     let mover = diagram.turn;
+    let king = Square::new(file, rank_for(mover, 8));
+    let _king = put(diagram, king, man(mover.other(), Kind::King));
+    let own = Square::new(own_file, rank_for(mover, 6));
+    let _own = put(diagram, own, man(mover, Kind::King));
+}
+
+// The king in a corner, a man before him, and a rook of the mover's on their rank that captures it.
+fn put_corner_net(diagram: &mut Diagram, draw: &mut Draw) {
+    let mover = diagram.turn;
+    let (file, beside) = if draw.once_in(2) { (1u8, 2u8) } else { (8, 7) };
+    put_opposed(diagram, file, beside);
+    let second = rank_for(mover, 7);
+    let victim = man(mover.other(), draw.kind(Kinds::Orthodox));
+    let _victim = put(diagram, Square::new(file, second), victim);
+    let taker = Square::new(2 + draw.below(6), second);
+    let _taker = put(diagram, taker, man(mover, Kind::Rook));
+}
+
+// Men to be captured on lines of the king by riders that then see him, and men beside him.
+fn put_captures(diagram: &mut Diagram, draw: &mut Draw, file: u8) {
+    let rank = rank_for(diagram.turn, 8);
+    let king = Square::new(file, rank).unwrap_or_default();
     for _capture in 0..3u8 {
         let line = draw.line();
         let gap = 1 + draw.below(5);
         if let Some(at) = steps(king, line, gap) {
-            let victim = man(mover.other(), draw.kind(Kinds::Orthodox));
-            let _victim = put(diagram, Some(at), victim);
-            let taker = man(mover, rider(draw, line));
-            let aside = 1 + draw.below(4);
-            let _taker = put(diagram, steps(at, turned(line), aside), taker);
+            put_capture(diagram, draw, at, line);
         }
     }
-    for way in &LINES {
-        if draw.once_in(3) {
-            let blocker = man(mover.other(), draw.kind(Kinds::Orthodox));
-            let _blocker = put(diagram, next(king, *way), blocker);
-        }
-    }
+    put_blockers(diagram, draw, Kinds::Orthodox, king);
+}
+
+// A man to be captured on a line, and a rider that goes along the line and captures it from the side.
+fn put_capture(diagram: &mut Diagram, draw: &mut Draw, at: Square, line: (u8, u8)) {
+    let mover = diagram.turn;
+    let victim = man(mover.other(), draw.kind(Kinds::Orthodox));
+    let _victim = put(diagram, Some(at), victim);
+    let taker = man(mover, rider(draw, line));
+    let aside = 1 + draw.below(4);
+    let _taker = put(diagram, steps(at, turned(line), aside), taker);
 }
 
 // The direction turned by a right angle.

@@ -3,8 +3,4 @@ use Rattle.chess_mates.specs.ties.Mates.{IsMatingPlaceIn}
 use Rattle.chess_tests.proofs.compared.gives_mating_moves.Given as goal
 
 abbrev pub invariant-loop-choice : goal.invariant-loop-choice
-invariant-loop-choice g l =
-    (goal.iterator-loop-choice g).can_next l.choice-iterator ×
-    (goal.iterator-loop-choice g).is_finite l.choice-iterator ×
-    (l.board ≡ l.fn.board) ×
-    IsMatingPlaceIn g.R.Rules.rule l.fn.board l.place
+invariant-loop-choice g l = (l.board ≡ l.fn.board) × IsMatingPlaceIn g.R.Rules.rule l.fn.board l.place

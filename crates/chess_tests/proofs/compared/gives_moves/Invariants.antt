@@ -2,7 +2,4 @@ use Rattle.std.proofs.Common.{◌≡◌}
 use Rattle.chess_tests.proofs.compared.gives_moves.Given as goal
 
 abbrev pub invariant-loop-choice : goal.invariant-loop-choice
-invariant-loop-choice g l =
-    (goal.iterator-loop-choice g).can_next l.choice-iterator ×
-    (goal.iterator-loop-choice g).is_finite l.choice-iterator ×
-    (l.board ≡ l.fn.board)
+invariant-loop-choice g l = l.board ≡ l.fn.board

@@ -1,5 +1,6 @@
-use Rattle.pop_run.proofs.Basics.{Open, false, ◌≡◌}
-use Rattle.pop_run.proofs.tests.devices.steps_behind_a_failed_write.Given as goal
+use Rattle.std.proofs.Common.{false, ◌≡◌}
+use Rattle.pop_text.specs.declared.scanner.End.TheVariants.{Open}
+use Rattle.run_tests.proofs.tests.devices.steps_behind_a_failed_write.Given as goal
 
 -- neither device has failed while it may still be asked
 abbrev pub invariant-steps : goal.invariant-steps

@@ -1,7 +1,7 @@
 //! Inputs without end: 2^30 + 8,192 bytes, more than a run reads. The limit is 2^30 bytes.
-use crate::run::run;
-use crate::status::Status;
-use crate::tests::devices::settings;
+use crate::report::settings;
+use pop_run::run::run;
+use pop_run::status::Status;
 use pop_text::trial_sink::TrialSink;
 use pop_text::trial_source::TrialSource;
 
@@ -13,7 +13,7 @@ const WITHOUT_END: usize = LIMIT + 8192;
 fn tells(text: &[u8], bytes: usize, report: &[u8]) -> bool {
     let mut source = TrialSource::repeated(text, bytes, 4096, None);
     let mut sink = TrialSink::<256>::new(256, None);
-    let status = run(&settings(), &mut source, &mut sink);
+    let status = run(&settings(false), &mut source, &mut sink);
     status == Status::Faulty && sink.text() == report
 }
 

@@ -1,11 +1,11 @@
 //! Inputs longer than the reading window, and sources and sinks that fail.
 ghost use Rattle.std.specs.Prelude.{◌<◌};
 
-use crate::run::run;
-use crate::session::Session;
-use crate::settings::Settings;
-use crate::status::{Status, StepOutcome};
-use crate::tests::counted::Counted;
+use crate::counted::Counted;
+use crate::report::settings;
+use pop_run::run::run;
+use pop_run::session::Session;
+use pop_run::status::{Status, StepOutcome};
 use pop_text::sink::SinkFault;
 use pop_text::source::Source;
 use pop_text::trial_sink::TrialSink;
@@ -29,13 +29,6 @@ const THREE_REPORT: &[u8] =
 // The room of a sink, more than any report here takes.
 const ROOM: usize = 1024;
 
-pub(crate) fn settings() -> Settings {
-    Settings {
-        check: false,
-        no_board: false,
-    }
-}
-
 // The front, so many bytes, and the back.
 fn text(
     rt: &HostRuntime,
@@ -56,7 +49,7 @@ fn text(
 fn mates(input: &[u8]) -> bool {
     let mut source = TrialSource::new(input, 65_536, None);
     let mut sink = TrialSink::<ROOM>::new(4096, None);
-    let status = run(&settings(), &mut source, &mut sink);
+    let status = run(&settings(false), &mut source, &mut sink);
     status == Status::Sound && sink.text() == REPORT
 }
 
@@ -82,11 +75,22 @@ fn blanks_behind_the_end(rt: HostRuntime) -> Result<(), Fail> {
     let input = text(&rt, PROBLEM, b' ', 1000, b"")?;
     let mut source = TrialSource::new(input.as_slice(), 65_536, None);
     let mut sink = TrialSink::<ROOM>::new(4096, None);
-    assert!(rt; run(&settings(), &mut source, &mut sink) == Status::Sound);
+    assert!(rt; run(&settings(false), &mut source, &mut sink) == Status::Sound);
     assert!(rt; sink.text() == REPORT);
     let mut more = [0; 16];
     assert!(rt; source.read(&mut more) == Ok(0));
     Ok(())
+}
+
+// Whether the report is given over a source and a sink that move at most so many bytes a call.
+fn reports_three(given: usize, taken: usize) -> bool
+    requires given { 0 < given }
+    requires taken { 0 < taken }
+{
+    let mut source = TrialSource::new(THREE, given, None);
+    let mut sink = TrialSink::<ROOM>::new(taken, None);
+    let status = run(&settings(false), &mut source, &mut sink);
+    status == Status::Faulty && sink.text() == THREE_REPORT
 }
 
 // How many bytes a source gives or a sink takes a call changes nothing.
@@ -94,15 +98,8 @@ fn blanks_behind_the_end(rt: HostRuntime) -> Result<(), Fail> {
 fn bytes_a_call(rt: HostRuntime) {
     for given in &[1, 2, 3, 4095, 4096, 4097] {
         for taken in &[1, 2, 3, 4096] {
-            let mut source = TrialSource::new(THREE, *given, None);
-            let mut sink = TrialSink::<ROOM>::new(*taken, None);
-            let status = run(&settings(), &mut source, &mut sink);
             assert!(rt;
-                status == Status::Faulty,
-                "{given} bytes given, {taken} taken"
-            );
-            assert!(rt;
-                sink.text() == THREE_REPORT,
+                reports_three(*given, *taken),
                 "{given} bytes given, {taken} taken"
             );
         }
@@ -143,23 +140,41 @@ fn failure_in(bytes: &[u8]) -> &'static [u8] {
     }
 }
 
+// Whether the failure of a source behind this beginning is told, and the source isn't asked again.
+fn tells_failure(beginning: &[u8], given: usize) -> bool
+    requires { 0 < given }
+{
+    let bytes = beginning.len();
+    let mut source = Counted::new(TrialSource::new(THREE, given, Some(bytes)));
+    let mut sink = TrialSink::<ROOM>::new(4096, None);
+    let status = run(&settings(false), &mut source, &mut sink);
+    let report = sink.text().strip_prefix(before_the_failure(bytes));
+    status == Status::InputFailed
+        && report == Some(failure_in(beginning))
+        && source.calls_after_failure == 0
+}
+
 // The source fails once, behind each count of bytes. It would work again, and isn't asked again.
 #[test]
 fn a_source_that_fails(rt: HostRuntime) {
     for bytes in 0..THREE.len() + 1 {
         for given in &[1, 4096] {
-            let mut source = Counted::new(TrialSource::new(THREE, *given, Some(bytes)));
-            let mut sink = TrialSink::<ROOM>::new(4096, None);
-            let status = run(&settings(), &mut source, &mut sink);
-            assert!(rt; status == Status::InputFailed, "{bytes} bytes");
-            let report = sink.text().strip_prefix(before_the_failure(bytes));
-            assert!(rt;
-                report == Some(failure_in(&THREE[..bytes])),
-                "{bytes} bytes"
-            );
-            assert_eq!(rt; source.calls_after_failure, 0, "{bytes} bytes");
+            assert!(rt; tells_failure(&THREE[..bytes], *given), "{bytes} bytes");
         }
     }
+}
+
+// Whether a sink that fails behind this beginning of the report holds just that, and isn't asked again.
+fn holds(beginning: &[u8], taken: usize) -> bool
+    requires { 0 < taken }
+{
+    let mut source = TrialSource::new(THREE, 4096, None);
+    let failing = TrialSink::<ROOM>::new(taken, Some(beginning.len()));
+    let mut sink = Counted::new(failing);
+    let status = run(&settings(false), &mut source, &mut sink);
+    status == Status::OutputFailed
+        && sink.device.text() == beginning
+        && sink.calls_after_failure == 0
 }
 
 // The sink fails once, behind each count of bytes of the report, and holds just those. It would work again, and isn't
@@ -168,15 +183,7 @@ fn a_source_that_fails(rt: HostRuntime) {
 fn a_sink_that_fails(rt: HostRuntime) {
     for bytes in 0..THREE_REPORT.len() {
         for taken in &[1, 4096] {
-            let mut source = TrialSource::new(THREE, 4096, None);
-            let mut sink = Counted::new(TrialSink::<ROOM>::new(*taken, Some(bytes)));
-            let status = run(&settings(), &mut source, &mut sink);
-            assert!(rt; status == Status::OutputFailed, "{bytes} bytes");
-            assert!(rt;
-                sink.device.text() == &THREE_REPORT[..bytes],
-                "{bytes} bytes"
-            );
-            assert_eq!(rt; sink.calls_after_failure, 0, "{bytes} bytes");
+            assert!(rt; holds(&THREE_REPORT[..bytes], *taken), "{bytes} bytes");
         }
     }
 }
@@ -187,7 +194,7 @@ fn steps_behind_a_failed_write(rt: HostRuntime) {
     for bytes in 0..THREE_REPORT.len() {
         let mut source = Counted::new(TrialSource::new(THREE, 1, None));
         let mut sink = Counted::new(TrialSink::<ROOM>::new(4096, Some(bytes)));
-        let mut session = Session::new(&settings());
+        let mut session = Session::new(&settings(false));
         let mut failed = None;
         'steps: for _step in 0..8u8 {
             let step = session.step(&mut source, &mut sink);
@@ -221,7 +228,7 @@ const TWO: &[u8] =
 fn calls_of_a_step(rt: HostRuntime) {
     let mut source = Counted::new(TrialSource::new(TWO, 1, None));
     let mut sink = TrialSink::<ROOM>::new(4096, None);
-    let mut session = Session::new(&settings());
+    let mut session = Session::new(&settings(false));
     let first = session.step(&mut source, &mut sink);
     let calls_of_first = source.calls;
     let second = session.step(&mut source, &mut sink);
@@ -238,7 +245,7 @@ fn calls_of_a_step(rt: HostRuntime) {
 fn calls_of_a_step_behind_a_fault(rt: HostRuntime) {
     let mut source = Counted::new(TrialSource::new(THREE, 1, None));
     let mut sink = TrialSink::<ROOM>::new(4096, None);
-    let mut session = Session::new(&settings());
+    let mut session = Session::new(&settings(false));
     assert!(rt; session.step(&mut source, &mut sink) == Ok(StepOutcome::Problem { sound: false }));
     assert_eq!(rt; source.calls, 103);
 }
@@ -248,7 +255,7 @@ fn calls_of_a_step_behind_a_fault(rt: HostRuntime) {
 fn steps_behind_the_last_item(rt: HostRuntime) {
     let mut source = Counted::new(TrialSource::new(PROBLEM, 1, None));
     let mut sink = Counted::new(TrialSink::<ROOM>::new(4096, None));
-    let mut session = Session::new(&settings());
+    let mut session = Session::new(&settings(false));
     assert!(rt; session.step(&mut source, &mut sink) == Ok(StepOutcome::Problem { sound: true }));
     let calls = (source.calls, sink.calls);
     assert!(rt; session.step(&mut source, &mut sink) == Ok(StepOutcome::Finished(Status::Sound)));

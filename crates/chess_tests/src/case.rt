@@ -1,0 +1,530 @@
+//! A move and what it shows. All is told by the plain rules.
+use crate::motif::Motif;
+use crate::plain::{LINES, Plain, Rule, bit, next};
+use chess_core::{Colour, Kind, Man, Move, Square};
+
+// A move that may be made, but for check to the mover, or a castling that only attack or paralysis forbids.
+#[derive(Drop)]
+pub(crate) struct Case<'a> {
+    rule: Rule,
+    before: &'a Plain,
+    man: Man,
+    m: Move,
+    after: Plain,
+    legal: bool,
+    was_in_check: bool,
+    // A bit for each enemy that attacks the mover's king after the move.
+    exposing: u64,
+    // For each man of the mover that attacks the other king after it.
+    checkers: u64,
+    // For each man that stood there before.
+    stood: u64,
+}
+
+// A bit for each man that attacks the colour's king.
+fn checkers(plain: &Plain, rule: Rule, colour: Colour) -> u64 {
+    match king_square(plain, colour) {
+        Some(king) => plain.attackers(rule, king, colour.other()),
+        None => 0,
+    }
+}
+
+// For each man that stood there before the move as well.
+fn stood(before: &Plain, after: &Plain, m: Move) -> u64 {
+    let mut squares = 0u64;
+    for number in 0..64u8 {
+        let square = Square::numbered(number);
+        if square != m.to && before.man(square) == after.man(square) {
+            squares |= bit(square);
+        }
+    }
+    squares
+}
+
+fn king_square(plain: &Plain, colour: Colour) -> Option<Square> {
+    for number in 0..64u8 {
+        let square = Square::numbered(number);
+        if plain.has(square, colour, Kind::King) {
+            return Some(square);
+        }
+    }
+    None
+}
+
+// A bit for each square beside this one.
+fn beside(square: Square) -> u64 {
+    let mut squares = 0u64;
+    for way in &LINES {
+        if let Some(near) = next(square, *way) {
+            squares |= bit(near);
+        }
+    }
+    squares
+}
+
+// A bit for each square of the rank.
+fn rank_of(square: Square) -> u64 {
+    bit(Square::new(1, square.rank()).unwrap_or_default()).wrapping_mul(255)
+}
+
+impl<'a> Case<'a> {
+    pub(crate) fn of(before: &'a Plain, rule: Rule, man: Man, m: Move) -> Case<'a> {
+        let after = before.after(rule, &m);
+        Case {
+            rule,
+            before,
+            man,
+            m,
+            after,
+            legal: before.is_legal(rule, &m),
+            was_in_check: before.is_in_check(rule, man.colour),
+            exposing: checkers(&after, rule, man.colour),
+            checkers: checkers(&after, rule, man.colour.other()),
+            stood: stood(before, &after, m),
+        }
+    }
+
+    pub(crate) fn shows(&self, motif: Motif) -> bool {
+        match motif {
+            Motif::Exposes(kind) => self.is_pinned(kind),
+            Motif::ExposedTo(kind) => self.is_pinned_by(kind),
+            Motif::Uncovers(kind) => self.uncovers_by(kind),
+            Motif::UncoveredBy(kind) => self.is_uncovered_by(kind),
+            Motif::DoubleCheck => self.checks_twice(),
+            Motif::InDoubleCheck => self.is_in_double_check(),
+            Motif::Mates => self.mates(),
+            Motif::Parries(kind) => self.parries_by(kind),
+            other => self.shows_of_pawns(other),
+        }
+    }
+
+    fn shows_of_pawns(&self, motif: Motif) -> bool {
+        match motif {
+            Motif::PromotionChecks(kind) => self.promotes_with_check(kind),
+            Motif::PromotionMates(kind) => self.promotes_with_mate(kind),
+            Motif::PromotionParries => self.parries_by_promotion(),
+            Motif::StepMates => self.mates_ahead(1),
+            Motif::DoubleStepMates => self.mates_ahead(2),
+            Motif::CaptureMates => self.mates_by_capture(),
+            Motif::UncoversMate(kind) => self.uncovers_mate(kind),
+            other => self.shows_en_passant(other),
+        }
+    }
+
+    fn shows_en_passant(&self, motif: Motif) -> bool {
+        let shown = match motif {
+            Motif::EnPassant => self.legal,
+            Motif::EnPassantOpensRank => self.opens_rank(),
+            Motif::EnPassantOpensLine => self.opens_line(),
+            Motif::EnPassantParries => self.parries(),
+            Motif::EnPassantUncovers => self.uncovers(),
+            Motif::EnPassantMates => self.mates(),
+            other => return self.shows_castling(other),
+        };
+        shown && self.is_en_passant()
+    }
+
+    fn shows_castling(&self, motif: Motif) -> bool {
+        let shown = match motif {
+            Motif::Castles => self.legal,
+            Motif::CastlingChecks => self.checks(),
+            Motif::CastlingMates => self.mates(),
+            Motif::CastlingFromCheck => self.was_in_check,
+            Motif::CastlingAcross => self.castles_across(),
+            Motif::CastlingInto => self.castles_into(),
+            Motif::CastlingParalysed => self.castles_with_paralysed_rook(),
+            other => return self.shows_of_kings(other),
+        };
+        shown && self.castling().is_some()
+    }
+
+    fn shows_of_kings(&self, motif: Motif) -> bool {
+        match motif {
+            Motif::StepsAlong => self.steps_along(),
+            Motif::FlightOpened => self.opens_flight(),
+            Motif::FlightCovered => self.covers_flight(),
+            Motif::FlightBehind => self.bars_flight_behind(),
+            Motif::FlightUnmasked => self.unmasks_flight(),
+            Motif::KinglessMover => self.goes_without(self.man.colour),
+            Motif::KinglessEnemy => self.goes_without(self.man.colour.other()),
+            other => self.shows_hurdle(other),
+        }
+    }
+
+    fn shows_hurdle(&self, motif: Motif) -> bool {
+        match motif {
+            Motif::HurdleArrives => self.checks_over(true),
+            Motif::HurdleLeaves => self.checks_over(false),
+            Motif::OwnHurdleArrives => self.is_exposed_over(true),
+            Motif::OwnHurdleLeaves => self.is_exposed_over(false),
+            other => self.shows_rebirth(other),
+        }
+    }
+
+    fn shows_rebirth(&self, motif: Motif) -> bool {
+        match motif {
+            Motif::RebirthExposes => self.is_exposed_by_rebirth(),
+            Motif::RebirthSaves => self.is_saved_by_rebirth(),
+            Motif::RebirthParries => self.is_parried_by_rebirth(),
+            Motif::RebirthParriesPromoted => self.is_promotion_parried(),
+            Motif::RebirthChecks => self.checks_by_rebirth(),
+            Motif::RebirthMatesOver => self.mates_over_reborn(),
+            Motif::RebirthChecksPromoted => self.checks_over_by_promotion(),
+            Motif::RebirthMates => self.mates_by_rebirth(),
+            Motif::RebirthAnswers => self.is_mate_answered_by_rebirth(),
+            other => self.shows_paralysis(other),
+        }
+    }
+
+    fn shows_paralysis(&self, motif: Motif) -> bool {
+        match motif {
+            Motif::FreesEnemy => self.frees_enemy(),
+            Motif::FreesChecker => self.frees_checker(),
+            Motif::ParalysesChecker => self.paralyses_checker(),
+            Motif::ParalysisMates => self.mates_by_paralysis(),
+            Motif::ParalysisSaves => self.is_saved_by_paralysis(),
+            _ => false,
+        }
+    }
+
+    fn king(&self, colour: Colour) -> Option<Square> {
+        king_square(self.before, colour)
+    }
+
+    // Whether the move is refused for check to a king that wasn't in check.
+    fn exposes(&self) -> bool {
+        !self.was_in_check && self.exposing != 0
+    }
+
+    fn is_pinned(&self, kind: Kind) -> bool {
+        self.man.kind == kind && self.exposes()
+    }
+
+    fn is_pinned_by(&self, kind: Kind) -> bool {
+        self.exposes() && self.exposing & self.after.of_kind(kind) != 0
+    }
+
+    fn parries(&self) -> bool {
+        self.was_in_check && self.legal
+    }
+
+    fn parries_by(&self, kind: Kind) -> bool {
+        self.man.kind == kind && self.parries()
+    }
+
+    fn parries_by_promotion(&self) -> bool {
+        self.m.promo.is_some() && self.parries()
+    }
+
+    fn checks(&self) -> bool {
+        self.legal && self.checkers != 0
+    }
+
+    fn checks_twice(&self) -> bool {
+        self.legal && self.checkers.count_ones() > 1
+    }
+
+    fn mates(&self) -> bool {
+        self.checks() && self.after.is_mate(self.rule)
+    }
+
+    fn gave_no_check(&self) -> bool {
+        !self.before.is_in_check(self.rule, self.man.colour.other())
+    }
+
+    fn uncovers(&self) -> bool {
+        self.legal && self.gave_no_check() && self.checkers & self.stood != 0
+    }
+
+    fn uncovers_by(&self, kind: Kind) -> bool {
+        self.man.kind == kind && self.uncovers()
+    }
+
+    fn uncovers_mate(&self, kind: Kind) -> bool {
+        self.uncovers_by(kind) && self.mates()
+    }
+
+    fn is_uncovered_by(&self, kind: Kind) -> bool {
+        self.uncovers() && self.checkers & self.stood & self.after.of_kind(kind) != 0
+    }
+
+    fn is_in_double_check(&self) -> bool {
+        self.man.kind != Kind::King
+            && checkers(self.before, self.rule, self.man.colour).count_ones() > 1
+            && !self.legal
+    }
+
+    fn promotes_with_check(&self, kind: Kind) -> bool {
+        self.legal && self.m.promo == Some(kind) && self.checkers & bit(self.m.to) != 0
+    }
+
+    fn promotes_with_mate(&self, kind: Kind) -> bool {
+        self.promotes_with_check(kind) && self.mates()
+    }
+
+    // Whether a pawn mates, stays one and gives check itself.
+    fn pawn_mates(&self) -> bool {
+        self.man.kind == Kind::Pawn
+            && self.m.promo.is_none()
+            && self.mates()
+            && self.checkers & bit(self.m.to) != 0
+    }
+
+    // Whether the move goes so many ranks along its file.
+    fn goes_ahead(&self, ranks: u8) -> bool {
+        self.m.from.file() == self.m.to.file()
+            && self.m.from.rank().abs_diff(self.m.to.rank()) == ranks
+    }
+
+    fn mates_ahead(&self, ranks: u8) -> bool {
+        self.goes_ahead(ranks) && self.pawn_mates()
+    }
+
+    fn mates_by_capture(&self) -> bool {
+        !self.before.is_empty(self.m.to) && self.pawn_mates()
+    }
+
+    fn goes_without(&self, colour: Colour) -> bool {
+        self.legal && self.king(colour).is_none()
+    }
+
+    fn steps_along(&self) -> bool {
+        self.was_in_check
+            && self.man.kind == Kind::King
+            && !self.legal
+            && !self
+                .before
+                .is_attacked(self.rule, self.m.to, self.man.colour.other())
+    }
+
+    fn opens_flight(&self) -> bool {
+        if !self.checks() || self.after.is_mate(self.rule) {
+            return false;
+        }
+        let answers = self.after.moves_but_for_check(self.rule);
+        for answer in answers.as_slice() {
+            if !self.flees(answer) && self.after.is_legal(self.rule, answer) {
+                return false;
+            }
+        }
+        true
+    }
+
+    // Whether the king answers by going to a square that was attacked before the move.
+    fn flees(&self, answer: &Move) -> bool {
+        self.after.has(answer.from, self.after.turn, Kind::King)
+            && self
+                .before
+                .is_attacked(self.rule, answer.to, self.man.colour)
+    }
+
+    // A bit for each square beside the other king on which none of his men stands after the move.
+    fn refuges(&self) -> u64 {
+        match self.king(self.man.colour.other()) {
+            Some(king) => beside(king) & !self.after.of_colour(self.man.colour.other()),
+            None => 0,
+        }
+    }
+
+    // Those that the mover didn't attack before it.
+    fn fresh_refuges(&self) -> u64 {
+        self.refuges() & !self.before.attacked(self.rule, self.man.colour)
+    }
+
+    fn covers_flight(&self) -> bool {
+        self.mates() && self.fresh_refuges() != 0
+    }
+
+    fn bars_flight_behind(&self) -> bool {
+        self.mates() && self.refuges() & !self.after.attacked(self.rule, self.man.colour) != 0
+    }
+
+    // Whether a man of the mover that stood there attacks a refuge that none attacked before.
+    fn unmasks_flight(&self) -> bool {
+        if !self.mates() {
+            return false;
+        }
+        let refuges = self.fresh_refuges();
+        for number in 0..64u8 {
+            let square = Square::numbered(number);
+            if refuges & bit(square) != 0 && self.stood_attackers(square) != 0 {
+                return true;
+            }
+        }
+        false
+    }
+
+    // A bit for each man of the mover that stood there and attacks the square after the move.
+    fn stood_attackers(&self, square: Square) -> u64 {
+        self.stood & self.after.attackers(self.rule, square, self.man.colour)
+    }
+
+    fn is_en_passant(&self) -> bool {
+        self.man.kind == Kind::Pawn
+            && self.before.is_empty(self.m.to)
+            && self.m.from.file() != self.m.to.file()
+    }
+
+    // Whether a man attacks the mover's king along the rank that the move left.
+    fn is_rank_open(&self) -> bool {
+        match self.king(self.man.colour) {
+            Some(king) => {
+                king.rank() == self.m.from.rank() && self.exposing & rank_of(king) != 0
+            }
+            None => false,
+        }
+    }
+
+    fn opens_rank(&self) -> bool {
+        self.exposes() && self.is_rank_open()
+    }
+
+    fn opens_line(&self) -> bool {
+        self.exposes() && !self.is_rank_open()
+    }
+
+    // The crossed square, if the move is castling.
+    fn castling(&self) -> Option<(Square, Square)> {
+        if self.man.kind != Kind::King {
+            return None;
+        }
+        self.before.castling(self.man, &self.m)
+    }
+
+    // Whether the move is castling over a square that is attacked.
+    fn is_crossing_attacked(&self) -> bool {
+        match self.castling() {
+            Some((_, crossed)) => self
+                .before
+                .with_king_on(self.man, self.m.from, crossed)
+                .is_in_check(self.rule, self.man.colour),
+            None => false,
+        }
+    }
+
+    fn castles_across(&self) -> bool {
+        !self.was_in_check && self.is_crossing_attacked()
+    }
+
+    fn castles_into(&self) -> bool {
+        self.exposes() && !self.is_crossing_attacked()
+    }
+
+    fn castles_with_paralysed_rook(&self) -> bool {
+        match self.castling() {
+            Some((rook, _)) => self.before.is_paralysed(self.rule, rook),
+            None => false,
+        }
+    }
+
+    // Whether a grasshopper that stood there and didn't reach the king of this colour before, who hasn't moved, attacks him
+    // over the man that arrived, or not over it.
+    fn gets_hurdle(&self, attackers: u64, colour: Colour, arrives: bool) -> bool {
+        let Some(king) = king_square(&self.after, colour) else {
+            return false;
+        };
+        let hoppers = attackers & self.stood & self.after.of_kind(Kind::Grasshopper);
+        let anew = hoppers & !self.before.reachers(king);
+        let over = self.lifted().reachers(king);
+        king != self.m.to && anew & (if arrives { !over } else { over }) != 0
+    }
+
+    // The position after the move without the man that arrived.
+    fn lifted(&self) -> Plain {
+        let mut lifted = self.after;
+        lifted.men[self.m.to.index() as usize] = None;
+        lifted
+    }
+
+    fn checks_over(&self, arrives: bool) -> bool {
+        self.legal && self.gets_hurdle(self.checkers, self.man.colour.other(), arrives)
+    }
+
+    fn is_exposed_over(&self, arrives: bool) -> bool {
+        self.exposes() && self.gets_hurdle(self.exposing, self.man.colour, arrives)
+    }
+
+    // The position after the move, were no man reborn.
+    fn unborn(&self) -> Plain {
+        self.before.after(Rule::Orthodox, &self.m)
+    }
+
+    // Whether the colour would be in check, were no man reborn.
+    fn is_unborn_check(&self, colour: Colour) -> bool {
+        self.unborn().is_in_check(self.rule, colour)
+    }
+
+    fn is_exposed_by_rebirth(&self) -> bool {
+        self.exposing != 0 && !self.is_unborn_check(self.man.colour)
+    }
+
+    fn is_saved_by_rebirth(&self) -> bool {
+        self.legal && self.is_unborn_check(self.man.colour)
+    }
+
+    fn is_parried_by_rebirth(&self) -> bool {
+        self.legal && self.checkers == 0 && self.is_unborn_check(self.man.colour.other())
+    }
+
+    fn is_promotion_parried(&self) -> bool {
+        self.m.promo.is_some() && self.is_parried_by_rebirth()
+    }
+
+    fn checks_by_rebirth(&self) -> bool {
+        self.checks() && !self.is_unborn_check(self.man.colour.other())
+    }
+
+    fn mates_over_reborn(&self) -> bool {
+        self.checks_by_rebirth() && self.mates()
+    }
+
+    // Whether a pawn has become the grasshopper, where the mover had none.
+    fn checks_over_by_promotion(&self) -> bool {
+        self.m.promo.is_some() && !self.had_grasshopper() && self.checks_by_rebirth()
+    }
+
+    // Whether the mover had a grasshopper before the move.
+    fn had_grasshopper(&self) -> bool {
+        self.before.of_kind(Kind::Grasshopper) & self.before.of_colour(self.man.colour) != 0
+    }
+
+    fn mates_by_rebirth(&self) -> bool {
+        self.mates() && !self.unborn().is_mate(self.rule)
+    }
+
+    fn is_mate_answered_by_rebirth(&self) -> bool {
+        self.legal && !self.mates() && self.unborn().is_mate(self.rule)
+    }
+
+    fn frees_enemy(&self) -> bool {
+        self.exposes() && self.was_paralysed(self.exposing, self.man.colour)
+    }
+
+    fn frees_checker(&self) -> bool {
+        self.legal && self.was_paralysed(self.checkers, self.man.colour.other())
+    }
+
+    // Whether one of these, who stood there, reached the king of this colour before, but was paralysed.
+    fn was_paralysed(&self, attackers: u64, colour: Colour) -> bool {
+        match self.king(colour) {
+            Some(king) => {
+                let freed = attackers & self.stood & self.before.paralysed(self.rule);
+                freed != 0 && freed & self.before.reachers(king) != 0
+            }
+            None => false,
+        }
+    }
+
+    fn paralyses_checker(&self) -> bool {
+        let checkers = checkers(self.before, self.rule, self.man.colour);
+        self.parries() && checkers & self.stood & self.after.paralysed(self.rule) != 0
+    }
+
+    fn mates_by_paralysis(&self) -> bool {
+        self.mates() && !self.after.is_mate(Rule::Orthodox)
+    }
+
+    fn is_saved_by_paralysis(&self) -> bool {
+        self.legal && !self.mates() && self.after.is_mate(Rule::Orthodox)
+    }
+}

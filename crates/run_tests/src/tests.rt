@@ -1,0 +1,5 @@
+//! Runs over texts and devices.
+mod devices;
+mod endless;
+mod goals;
+mod rows;
