@@ -119,6 +119,11 @@ class ProblemInParts:
         return self._of[part.phase].is_needless(part.number)
 
     @property
+    def is_limited(self) -> bool:
+        """Whether parts can matter no more because others have enough solutions."""
+        return self._limit != math.inf
+
+    @property
     def tally(self) -> Tally:
         tallies = [phase.tally for phase in self._of.values()]
         return Tally(sum(it.done for it in tallies), sum(it.of_all for it in tallies))

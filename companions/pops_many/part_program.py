@@ -2,16 +2,27 @@
 
 import signal
 import subprocess
-from typing import Dict, List, Optional, Sequence, Set, Tuple
+import tempfile
+from contextlib import closing
+from typing import Dict, Generator, Iterator, List, Sequence, Set, Tuple
 
 from pops_many.leash import Leashed
-from pops_many.parts import Key, Part, PartsError, Phase, count_in, phases_listed
+from pops_many.lots import Lot, numbers_of
+from pops_many.parts import Key, Part, PartsError, Phase, count_in, is_total, phases_listed
 from pops_many.program import SOUND, RunError, Runs
 from pops_many.tasks import whole_lines
 
 
+def _whole(lines: Sequence[bytes]) -> bytes:
+    """The report of a part. RunError where its number of solutions lacks or is another one."""
+    report = b"".join(lines)
+    if count_in(report) is None:
+        raise RunError("the lines of a part don't end with their number")
+    return report
+
+
 class PartProgram(Runs):
-    """pops-part, which lists the parts of a problem and solves each by itself."""
+    """pops-part, which lists the parts of a problem and solves lots of them."""
 
     def __init__(self, path: str, depth: int):
         super().__init__("pops-part", [path])
@@ -23,41 +34,70 @@ class PartProgram(Runs):
 
     def phases(self, text: bytes) -> List[Phase]:
         """The phases of the one problem of an input. PartsError where they can't be told."""
-        status, listed, error = self._answer(["--list", "--depth", str(self.depth)], text, None)
+        status, listed, error = self._answer(["--list", "--depth", str(self.depth)], text)
         if status != SOUND:
             raise PartsError(self._reason(status, error))
         return phases_listed(listed)
 
-    def report(self, part: Part) -> bytes:
-        """The report of a part. RunError where it didn't come to its end."""
-        words = ["--item", "1", "--phase", part.phase, "--part", str(part.number)]
-        words += ["--depth", str(part.depth)]
-        status, report, error = self._answer(words, part.text, part.key)
-        if status == SOUND and count_in(report) is not None:
-            return report
-        self.begun[part.key] = whole_lines(report)
-        raise RunError(self._reason(status, error))
-
-    def _answer(
-        self, words: Sequence[str], text: bytes, key: Optional[Key]
-    ) -> Tuple[int, bytes, bytes]:
-        """Status, output and message of a run; that of a part may be dropped meanwhile."""
+    def _answer(self, words: Sequence[str], text: bytes) -> Tuple[int, bytes, bytes]:
+        """Status, output and message of a run."""
         leashed = self._started(words, subprocess.PIPE, subprocess.PIPE)
-        with self._lock:
-            if key is not None:
-                self._at_work[key] = leashed
-            if key in self._dropped:
-                leashed.send(signal.SIGKILL)
-        try:
-            _, output, error = self._ended(leashed, text, None)
-        finally:
-            with self._lock:
-                if key is not None:
-                    del self._at_work[key]
+        _, output, error = self._ended(leashed, text, None)
         return leashed.run.returncode, output, error
 
+    def report(self, part: Part) -> bytes:
+        """The report of a part. RunError where it didn't come to its end."""
+        return next(self.reports([part]))
+
+    def reports(self, lot: Lot) -> Iterator[bytes]:
+        """The report of each part of a lot as it comes, all from one run.
+
+        RunError at the first part that didn't come to its end.
+        """
+        first, left = lot[0], list(lot)
+        words = ["--item", "1", "--phase", first.phase, "--part", numbers_of(lot)]
+        words += ["--depth", str(first.depth)]
+        written: List[bytes] = []
+        try:
+            with closing(self._lines(words, first)) as lines:
+                for line in lines:
+                    written.append(line)
+                    # (the last part is whole once the run has ended well)
+                    if len(left) > 1 and is_total(line):
+                        yield _whole(written)
+                        del left[0]
+                        written = []
+            if len(left) > 1:
+                raise RunError(self._reason(SOUND, b""))
+            yield _whole(written)
+        except RunError:
+            if written:
+                self.begun[left[0].key] = whole_lines(b"".join(written))
+            raise
+
+    def _lines(self, words: Sequence[str], first: Part) -> Generator[bytes, None, None]:
+        """The lines of a run on a lot as they come; it may be dropped meanwhile.
+
+        RunError where it doesn't end well.
+        """
+        with tempfile.TemporaryFile() as errors:
+            leashed = self._started(words, subprocess.PIPE, errors)
+            with self._lock:
+                self._at_work[first.key] = leashed
+                if first.key in self._dropped:
+                    leashed.send(signal.SIGKILL)
+            try:
+                yield from self._written(leashed, first.text)
+            finally:
+                with self._lock:
+                    del self._at_work[first.key]
+            status = leashed.run.returncode
+            if status != SOUND:
+                errors.seek(0)
+                raise RunError(self._reason(status, errors.read()))
+
     def drop(self, part: Part) -> None:
-        """Stops a part that can't matter any more."""
+        """Stops the run that begins with a part that can't matter any more."""
         with self._lock:
             self._dropped.add(part.key)
             if part.key in self._at_work:

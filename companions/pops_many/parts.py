@@ -116,7 +116,12 @@ def solutions_in(lines: bytes) -> List[bytes]:
 
 def without_totals(lines: bytes) -> List[bytes]:
     """The lines but those that tell how many solutions there are."""
-    return [line for line in lines.splitlines(keepends=True) if _TOTAL.fullmatch(line) is None]
+    return [line for line in lines.splitlines(keepends=True) if not is_total(line)]
+
+
+def is_total(line: bytes) -> bool:
+    """Whether a line tells how many solutions there are."""
+    return _TOTAL.fullmatch(line) is not None
 
 
 def solutions_of(report: bytes) -> List[bytes]:

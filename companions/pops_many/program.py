@@ -6,7 +6,7 @@ import signal
 import subprocess
 import threading
 from pathlib import Path
-from typing import Optional, Sequence, Set, Tuple
+from typing import Generator, Optional, Sequence, Set, Tuple
 
 from pops_many.leash import Leashed, Stream
 from pops_many.tasks import UNFINISHED, Result, Task, is_whole, whole_lines
@@ -133,6 +133,27 @@ class Runs:
                 report, error = leashed.run.communicate()
             return in_time, report, error or b""
         finally:
+            with self._lock:
+                self._running.discard(leashed)
+            leashed.let_go()
+
+    def _written(self, leashed: Leashed, text: bytes) -> Generator[bytes, None, None]:
+        """The lines that a run writes, each as it comes. It is stopped where they aren't read on."""
+        run, is_read = leashed.run, False
+        assert run.stdin is not None and run.stdout is not None
+        try:
+            try:
+                with run.stdin:
+                    run.stdin.write(text)
+            except BrokenPipeError:
+                pass
+            yield from run.stdout
+            is_read = True
+        finally:
+            if not is_read:
+                leashed.send(signal.SIGKILL)
+            run.stdout.close()
+            run.wait()
             with self._lock:
                 self._running.discard(leashed)
             leashed.let_go()

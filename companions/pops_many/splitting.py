@@ -1,10 +1,12 @@
 """Solves problems in parts, on this machine and on others, and puts their reports together."""
 
-from concurrent.futures import FIRST_COMPLETED, Future, ThreadPoolExecutor, wait
-from typing import Callable, Dict, Iterator, List, Optional, Sequence, Tuple
+from concurrent.futures import Future, ThreadPoolExecutor
+from queue import SimpleQueue
+from typing import Callable, Dict, Iterator, List, NamedTuple, Optional, Sequence, Tuple, Union
 
 from pops_many.in_parts import ProblemInParts, Tally
 from pops_many.journal import Journal
+from pops_many.lots import Lot, Lots
 from pops_many.machines import Machines, MachinesError
 from pops_many.part_program import PartProgram
 from pops_many.parts import Part, PartsError, head_of, limit_of
@@ -15,6 +17,14 @@ from pops_many.tasks import Result, Task
 
 # A part that came to no end is tried so many times in all on this machine.
 _TRIES = 2
+
+
+class Came(NamedTuple):
+    """What came of a part: its report, or why it came to no end."""
+
+    part: Part
+    report: Optional[bytes]
+    error: str
 
 
 class Splitting:
@@ -138,44 +148,78 @@ class Splitting:
         self._finish(Result(task, SOUND, report))
 
     def _run_here(self, parts: Sequence[Part], jobs: int) -> None:
-        waiting = iter(parts)
-        running: "Dict[Future[bytes], Part]" = {}
-        with ThreadPoolExecutor(jobs) as pool:
-            try:
-                while True:
-                    while len(running) < jobs:
-                        part = next((it for it in waiting if not self._is_needless(it)), None)
-                        if part is None:
-                            break
-                        running[pool.submit(self._tried, part)] = part
-                    if not running:
-                        return
-                    done, _ = wait(running, return_when=FIRST_COMPLETED)
-                    if any([self._take(future, running.pop(future)) for future in done]):
-                        for part in filter(self._is_needless, running.values()):
-                            self._program.drop(part)
-            except BaseException:
-                self._program.stop()
-                raise
-
-    def _take(self, future: "Future[bytes]", part: Part) -> bool:
-        """Takes what came of a part. Whether others matter no more by it."""
+        lots = Lots(parts, jobs, lambda part: self._problems[part.task.place].is_limited)
+        came: "SimpleQueue[Union[Came, Future[None]]]" = SimpleQueue()
         try:
-            return self._keep(part, future.result())
-        except RunError as error:
-            self._fail([part], str(error))
-            return False
-
-    def _tried(self, part: Part) -> bytes:
-        """The report of a part, which is tried once more where it came to no end."""
-        for tried in range(1, _TRIES + 1):
-            try:
-                return self._program.report(part)
-            except RunError as error:
-                if tried == _TRIES or self._program.is_over(part):
+            with ThreadPoolExecutor(jobs) as pool:
+                try:
+                    self._hand_out(lots, jobs, pool, came)
+                except BaseException:
+                    self._program.stop()
                     raise
-                self._progress.say(f"{part.shown}: {error}; tried once more")
-        raise AssertionError("a part is tried at least once")
+        finally:
+            # What came while the run was stopped is kept too.
+            while not came.empty():
+                last = came.get()
+                if isinstance(last, Came) and last.report is not None:
+                    self._keep(last.part, last.report)
+
+    def _hand_out(
+        self,
+        lots: Lots,
+        jobs: int,
+        pool: ThreadPoolExecutor,
+        came: "SimpleQueue[Union[Came, Future[None]]]",
+    ) -> None:
+        """Hands lots out to so many runs at a time, and takes what comes of them."""
+        running: "Dict[Future[None], Lot]" = {}
+        while True:
+            while len(running) < jobs:
+                lot = lots.next(self._is_needless)
+                if not lot:
+                    break
+                future = pool.submit(self._go_through, lot, came.put)
+                running[future] = lot
+                future.add_done_callback(came.put)
+            if not running:
+                return
+            last = came.get()
+            if not isinstance(last, Came):
+                del running[last]
+                last.result()
+            elif self._take(last):
+                for lot in running.values():
+                    if all(map(self._is_needless, lot)):
+                        self._program.drop(lot[0])
+
+    def _take(self, came: "Came") -> bool:
+        """Takes what came of a part. Whether others matter no more by it."""
+        if came.report is not None:
+            return self._keep(came.part, came.report)
+        self._fail([came.part], came.error)
+        return False
+
+    def _go_through(self, lot: Lot, hand_on: Callable[["Came"], None]) -> None:
+        """Hands on what comes of the parts of a lot.
+
+        One that came to no end is tried once more with those behind it, and then passed over.
+        """
+        left, tried = list(lot), 0
+        while left:
+            try:
+                for report in self._program.reports(tuple(left)):
+                    hand_on(Came(left.pop(0), report, ""))
+                    tried = 0
+            except RunError as error:
+                tried += 1
+                is_over = self._program.is_over(left[0])
+                if tried < _TRIES and not is_over:
+                    self._progress.say(f"{left[0].shown}: {error}; tried once more")
+                    continue
+                hand_on(Came(left.pop(0), None, str(error)))
+                tried = 0
+                if is_over:
+                    return
 
     def lines_found(self, place: int) -> Optional[Tuple[bytes, str]]:
         """What is known of a problem that isn't done, and how far it is; None of another one."""

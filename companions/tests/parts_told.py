@@ -54,12 +54,13 @@ def count(text: bytes, depth: int) -> int:
 
 
 def answer(words: Sequence[str], text: bytes) -> bytes:
-    """The output of pops-part with these words, for a list or a part that there is."""
+    """The output of pops-part with these words, for a list or parts that there are."""
     values = dict(zip(words[-2::-2], words[::-2]))
     problem = told(text, int(values["--depth"]))
     if "--list" in words:
         return problem.listed
-    return problem.parts[values["--phase"]][int(values["--part"]) - 1]
+    first, _, last = values["--part"].partition("..")
+    return b"".join(problem.parts[values["--phase"]][int(first) - 1 : int(last or first)])
 
 
 def _run(words: Sequence[str], text: bytes) -> "subprocess.CompletedProcess[bytes]":

@@ -28,10 +28,15 @@ printf %s "$text" | exec {pops} "$@"
 _POPS_PART = """#!/bin/sh
 case $(cat) in *Pa7*) of=problem ;; *) of=probe ;; esac
 if [ "$1" = --list ]; then echo $of >> "{room}/lists"; exec cat "{room}/told/$of/list-$3"; fi
-part=$4-$6
-[ $of = probe ] || echo "$part" >> "{room}/parts"
-case $of-$part in {pattern}) {then} ;; esac
-exec cat "{room}/told/$of/$part-$8"
+[ $of = probe ] || echo "$4-$6" >> "{room}/runs_on_parts"
+number=${{6%%.*}}
+while [ $number -le ${{6##*.}} ]; do
+  part=$4-$number
+  [ $of = probe ] || echo "$part" >> "{room}/parts"
+  case $of-$part in {pattern}) {then} ;; esac
+  cat "{room}/told/$of/$part-$8"
+  number=$((number + 1))
+done
 """
 
 
@@ -77,7 +82,8 @@ class SplitRoom(SixProblems):
         )
 
     def words_of_split(self, pops_part: str, *more: str) -> List[str]:
-        words = ["--split", "--split-after", "0.4", "--pops-part", pops_part]
+        words = ["--split", "--split-after", "0.4", "--split-depth", "1"]
+        words += ["--pops-part", pops_part]
         words += ["--pops", str(self.room / "stand_in"), "-o", str(self.report), str(self.input)]
         return words + list(more)
 
@@ -89,16 +95,21 @@ class SplitRoom(SixProblems):
         path = self.room / "parts"
         return path.read_text().splitlines() if path.exists() else []
 
+    def runs_on_parts(self) -> List[str]:
+        """The parts that each run was asked for, as `play-2..4`."""
+        return (self.room / "runs_on_parts").read_text().splitlines()
+
     def lists(self) -> List[str]:
         """The problems of which a list was asked for."""
         return (self.room / "lists").read_text().splitlines()
 
     def forget(self) -> None:
         """Takes away what a run left."""
-        for path in (self.room / "parts", self.report, self.journal, self.rest):
+        own = [self.room / "parts", self.room / "runs_on_parts"]
+        for path in (*own, self.report, self.journal, self.rest):
             if path.exists():
                 path.unlink()
 
     def files(self) -> List[str]:
-        own = {"parts", "lists", "pops_part", "told", "failed", "ssh"}
+        own = {"parts", "runs_on_parts", "lists", "pops_part", "told", "failed", "ssh"}
         return [name for name in super().files() if name not in own]

@@ -6,7 +6,7 @@ import re
 import tempfile
 import unittest
 from pathlib import Path
-from typing import List, Optional, Sequence, Tuple
+from typing import Generator, List, Optional, Sequence, Tuple
 from unittest import mock
 
 import made_inputs
@@ -15,9 +15,9 @@ import problems_in_parts
 import support
 
 from pops_many.in_parts import ProblemInParts
+from pops_many.lots import Lots, numbers_of
 from pops_many.part_program import PartProgram
 from pops_many.parts import (
-    Key,
     Part,
     PartsError,
     Phase,
@@ -52,10 +52,11 @@ class Slow(Program):
 class Told(PartProgram):
     """pops-part, asked for all parts of a phase at once."""
 
-    def _answer(
-        self, words: Sequence[str], text: bytes, key: Optional[Key]
-    ) -> Tuple[int, bytes, bytes]:
+    def _answer(self, words: Sequence[str], text: bytes) -> Tuple[int, bytes, bytes]:
         return 0, parts_told.answer(words, text), b""
+
+    def _lines(self, words: Sequence[str], first: Part) -> Generator[bytes, None, None]:
+        yield from parts_told.answer(words, first.text).splitlines(keepends=True)
 
 
 def split(path: Path, *words: str) -> Tuple[int, bytes]:
@@ -195,6 +196,75 @@ class Texts(unittest.TestCase):
             progress.line_of_parts(name, (10, 31), 3, 20),
             f"pops-many: {name}: 10 of 31 parts, 3 solutions, about 1:00 left",
         )
+
+
+class Handed(unittest.TestCase):
+    """How parts are handed out."""
+
+    def lots(self, parts: List[Part], jobs: int, alone: Sequence[int] = ()) -> List[str]:
+        """The numbers of all lots, where every seventh part is needless."""
+        lots = Lots(parts, jobs, lambda part: part.number in alone)
+        found = []
+        while True:
+            lot = lots.next(lambda part: part.number % 7 == 0)
+            if not lot:
+                return found
+            self.assertEqual({part.phase for part in lot}, {lot[0].phase})
+            found.append(numbers_of(lot))
+
+    def parts(self, phase: str, numbers: Sequence[int]) -> List[Part]:
+        task = tasks_of([Source(None, b"")])[0]
+        return [Part(task, phase, number, 1) for number in numbers]
+
+    def test_lots_grow_smaller(self) -> None:
+        lots = Lots(self.parts("play", range(1, 2001)), 4, lambda part: False)
+        sizes, next_one = [], 1
+        while True:
+            lot = lots.next(lambda part: False)
+            if not lot:
+                break
+            numbers = list(range(next_one, next_one + len(lot)))
+            self.assertEqual([part.number for part in lot], numbers)
+            next_one += len(lot)
+            sizes.append(len(lot))
+        self.assertEqual(sum(sizes), 2000)
+        self.assertEqual(sizes, sorted(sizes, reverse=True))
+        self.assertEqual((sizes[0], sizes[-1]), (125, 1))
+        self.assertLess(len(sizes), 120)
+
+    def test_lots_stand_one_behind_another(self) -> None:
+        parts = self.parts("set", [1, 2, 3, 5, 6, 8]) + self.parts("play", range(9, 14))
+        self.assertEqual(self.lots(parts, 100), "1 2 3 5 6 8 9 10 11 12 13".split())
+        with mock.patch("pops_many.lots.LOTS_OF_A_RUN", 1):
+            for jobs, alone, wanted in (
+                (1, [], "1..3 5..6 8 9..13"),
+                (2, [], "1..3 5..6 8 9..10 11 12 13"),
+                (1, [2, 11], "1 2..3 5..6 8 9..10 11..13"),
+            ):
+                self.assertEqual(self.lots(parts, jobs, alone), wanted.split())
+            self.assertEqual(self.lots(self.parts("play", range(5, 10)), 1), ["5..6", "8..9"])
+        self.assertEqual(self.lots([], 1), [])
+
+    def test_cut_soon_where_processors_have_nothing_to_do(self) -> None:
+        for words, problems, moment in (
+            ([], 3, 0.2),
+            ([], 4, 2),
+            (["--split-after", "7"], 3, 7),
+            (["--split-after", "0.1"], 5, 0.1),
+        ):
+            with self.subTest(words, problems=problems):
+                settings = MANY.arguments(["--split", *words])
+                self.assertEqual(MANY.moment_of(settings, problems, 4), moment)
+
+    def test_depths(self) -> None:
+        for words, depth in (
+            ([], 2),
+            (["--split-depth", "1"], 1),
+            (["--sshlogin", "x"], 1),
+            (["--sshlogin", "x", "--split-depth", "3"], 3),
+        ):
+            with self.subTest(words):
+                self.assertEqual(MANY.depth_of(MANY.arguments(["--split", *words])), depth)
 
 
 class Problems(unittest.TestCase):

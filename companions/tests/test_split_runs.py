@@ -24,6 +24,28 @@ class Runs(SplitRoom):
         self.assertGreater(len(asked), 20)
         self.assertEqual(self.files(), ["six.report"])
 
+    def test_a_run_goes_through_several_parts(self) -> None:
+        self.assertEqual(self.split(self.pops_part(), "--jobs", "1"), (0, b"", ""))
+        self.assertEqual(self.report.read_bytes(), self.wanted)
+        runs = self.runs_on_parts()
+        self.assertEqual(runs[:3], ["set-1..6", "set-7..11", "set-12..14"])
+        self.assertEqual(runs[-7:], [f"play-{number}" for number in range(1, 8)])
+        self.assertLess(len(runs), len(self.parts()))
+
+    def test_a_run_goes_on_behind_a_part_that_fails(self) -> None:
+        outcome = self.split(self.pops_part("problem-set-3", "exit 4"), "--jobs", "1")
+        self.assertEqual(outcome.status, 6)
+        self.assertEqual(self.runs_on_parts()[:3], ["set-1..6", "set-3..6", "set-4..6"])
+        self.assertIn("unfinished: stopped with 25 of 26 parts done", self.rest.read_text())
+
+    def test_parts_that_came_are_kept_when_the_rest_of_a_run_is_cut_off(self) -> None:
+        then = f"if mkdir {self.room}/failed; then printf 1.x; kill -9 $$; fi 2> /dev/null"
+        outcome = self.split(self.pops_part("problem-set-3", then), "--jobs", "1")
+        self.assertEqual(outcome.status, 0)
+        self.assertIn("part 3 of the set of problem 1", outcome.error)
+        self.assertEqual(self.report.read_bytes(), self.wanted)
+        self.assertEqual([self.parts().count(f"set-{number}") for number in (2, 3)], [1, 2])
+
     def test_quick_problems_stay_whole(self) -> None:
         text = SIX.replace(b"EndProblem\n", b"NextProblem\n")
         self.input.write_bytes(text + self.input.read_bytes()[len(b"BeginProblem") :])
