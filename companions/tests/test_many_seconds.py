@@ -27,7 +27,7 @@ class Seconds(SixProblems):
         ) % (seconds, where)
 
     def test_a_problem_that_takes_longer_is_kept_beside_and_taken_up_alone(self) -> None:
-        outcome = self.many(self.stand_in(TWO_LINES), "--seconds", "0.4")
+        outcome = self.many(self.stand_in(TWO_LINES), "--seconds", "3")
         self.assertEqual((outcome.status, outcome.output), (6, b""))
         self.assertEqual(
             outcome.error,
@@ -37,15 +37,15 @@ class Seconds(SixProblems):
         )
         self.assertEqual(self.runs(), 6)
         self.assertEqual(self.report.read_bytes(), self.others)
-        self.assertEqual(self.rest.read_bytes(), self.marked(b"line one\nline two\n", b"0.4"))
+        self.assertEqual(self.rest.read_bytes(), self.marked(b"line one\nline two\n", b"3"))
 
-        again = self.many(self.stand_in(NO_LINE), "--resume", "--seconds", "0.5")
+        again = self.many(self.stand_in(NO_LINE), "--resume", "--seconds", "4")
         self.assertEqual(again.status, 6)
         self.assertEqual(self.runs(), 7)
         self.assertEqual(self.report.read_bytes(), self.others)
-        self.assertEqual(self.rest.read_bytes(), self.marked(b"", b"0.5"))
+        self.assertEqual(self.rest.read_bytes(), self.marked(b"", b"4"))
 
-        no_longer = self.many(self.stand_in(":"), "--resume", "--seconds", "0.5")
+        no_longer = self.many(self.stand_in(":"), "--resume", "--seconds", "4")
         self.assertEqual((no_longer.status, no_longer.error), (6, again.error))
         self.assertEqual(self.runs(), 7)
 
@@ -55,7 +55,7 @@ class Seconds(SixProblems):
         self.assertEqual(self.files(), ["six.report"])
 
     def test_no_limit_takes_them_up_too(self) -> None:
-        self.many(self.stand_in(TWO_LINES), "--seconds", "0.4")
+        self.many(self.stand_in(TWO_LINES), "--seconds", "3")
         self.assertEqual(self.many(self.stand_in(":"), "--resume"), (0, b"", ""))
         self.assertEqual(self.runs(), 7)
         self.assertEqual(self.report.read_bytes(), self.wanted)
@@ -69,30 +69,30 @@ class Seconds(SixProblems):
 
     def test_a_run_that_fails_keeps_the_lines_all_the_same(self) -> None:
         both = f"{TWO_LINES} ;; *'number 2'*) kill -9 $$"
-        outcome = self.many(self.stand_in(both), "--seconds", "0.4")
+        outcome = self.many(self.stand_in(both), "--seconds", "3")
         self.assertEqual(outcome.status, 6)
         self.assertIn("problem 2 ", outcome.error)
         self.assertIn("4 of 6 problems are done", outcome.error)
         self.assertEqual(self.files(), ["six.report.journal", "six.report.unfinished"])
-        self.assertEqual(self.rest.read_bytes(), self.marked(b"line one\nline two\n", b"0.4"))
+        self.assertEqual(self.rest.read_bytes(), self.marked(b"line one\nline two\n", b"3"))
         # The fourth had its time: the second alone is run once more, and fails no longer.
-        self.many(self.stand_in(TWO_LINES), "--resume", "--seconds", "0.4")
+        self.many(self.stand_in(TWO_LINES), "--resume", "--seconds", "3")
         self.assertEqual(self.runs(), 8)
         self.assertEqual(self.report.read_bytes(), self.others)
-        self.assertEqual(self.rest.read_bytes(), self.marked(b"line one\nline two\n", b"0.4"))
+        self.assertEqual(self.rest.read_bytes(), self.marked(b"line one\nline two\n", b"3"))
         self.assertEqual(self.many(support.pops(), "--resume"), (0, b"", ""))
         self.assertEqual(self.report.read_bytes(), self.wanted)
         self.assertEqual(self.files(), ["six.report"])
 
     def test_standard_output_passes_over_them(self) -> None:
         words = ["--jobs", "1", "--journal", str(self.journal), "--unfinished", str(self.rest)]
-        words += ["--seconds", "0.4", str(self.input), "--pops"]
+        words += ["--seconds", "3", str(self.input), "--pops"]
         outcome = support.companion("pops-many", *words, self.stand_in(TWO_LINES))
         self.assertEqual((outcome.status, outcome.output), (6, self.others))
-        self.assertEqual(self.rest.read_bytes(), self.marked(b"line one\nline two\n", b"0.4"))
+        self.assertEqual(self.rest.read_bytes(), self.marked(b"line one\nline two\n", b"3"))
         again = support.companion("pops-many", *words, support.pops(), "--resume")
         self.assertEqual((again.status, again.output), (6, self.others))
-        words[words.index("0.4")] = "30"
+        words[words.index("3")] = "30"
         last = support.companion("pops-many", *words, support.pops(), "--resume")
         self.assertEqual(last, (0, self.wanted, ""))
         self.assertEqual(self.files(), [])
@@ -116,10 +116,10 @@ class Seconds(SixProblems):
         self.input.write_bytes(
             b"BeginProblem\nPieces White Kg6 Qa1 Rh1 Black Kg8 Pa7b7\nStipulation h#8\nEndProblem\n"
         )
-        words = self.words(support.pops(), "--seconds", "0.5")
+        words = self.words(support.pops(), "--seconds", "4")
         self.assertEqual(support.companion("pops-many", *words).status, 6)
         self.assertEqual(self.report.read_bytes(), b"")
-        lines, mark, _ = self.rest.read_bytes().partition(b"unfinished: stopped after 0.5 s (")
+        lines, mark, _ = self.rest.read_bytes().partition(b"unfinished: stopped after 4 s (")
         self.assertTrue(mark)
         self.assertIn(b"\nplay\n1.a7-a5 ", lines)
         self.assertEqual(lines, whole_lines(lines))
