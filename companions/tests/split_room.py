@@ -82,7 +82,7 @@ class SplitRoom(SixProblems):
         )
 
     def words_of_split(self, pops_part: str, *more: str) -> List[str]:
-        words = ["--split", "--split-after", "0.4", "--split-depth", "1"]
+        words = ["--split", "--split-after", "1", "--split-depth", "1"]
         words += ["--pops-part", pops_part]
         words += ["--pops", str(self.room / "stand_in"), "-o", str(self.report), str(self.input)]
         return words + list(more)
