@@ -6,7 +6,7 @@ and solves each; in their order they make the phase.
 
 import re
 from dataclasses import dataclass
-from typing import List, NamedTuple, Optional
+from typing import List, NamedTuple, Optional, Pattern
 
 from pops_many.cutting import BLANKS, TEXT_LINES, short_forms
 from pops_many.tasks import Task
@@ -19,6 +19,7 @@ _LIST = re.compile(rb"1: (?:set (?:(?P<set>\d+)|(?P<barred>not possible)), )?pla
 _TOTAL = re.compile(rb"solutions: (\d+)(?:, stopped)?\n")
 _TEXT_LINE = re.compile(rb"(?<![^" + BLANKS + rb"])" + TEXT_LINES, re.IGNORECASE)
 _LIMIT = re.compile(short_forms("maxsolutions"), re.IGNORECASE)
+_STIPULATION = re.compile(short_forms("stipulation"), re.IGNORECASE)
 
 
 class PartsError(Exception):
@@ -61,6 +62,11 @@ class Part:
         return self.task.text_without_line_ends
 
     @property
+    def is_of_help_play(self) -> bool:
+        """Whether the problem's stipulation, where it has one, is that of help play."""
+        return any(after[:1].lower() == b"h" for after in _behind(_STIPULATION, self.text))
+
+    @property
     def shown(self) -> str:
         """The part as messages name it."""
         return f"part {self.number} of the {self.phase} of {self.task.shown}"
@@ -86,14 +92,18 @@ def limit_of(text: bytes) -> Optional[int]:
 
     Its number is the next word; text lines may stand before it.
     """
-    words = _TEXT_LINE.sub(b"", text).split()
     limit = None
-    for word, after in zip(words, words[1:]):
-        if _LIMIT.fullmatch(word):
-            if not after.isdigit():
-                raise PartsError(f"no number behind {word.decode('ascii')}")
-            limit = int(after)
+    for after in _behind(_LIMIT, text):
+        if not after.isdigit():
+            raise PartsError("no number behind MaxSolutions")
+        limit = int(after)
     return limit
+
+
+def _behind(word: Pattern[bytes], text: bytes) -> List[bytes]:
+    """The words behind each such word of a text; text lines may stand before it."""
+    words = _TEXT_LINE.sub(b"", text).split()
+    return [after for before, after in zip(words, words[1:]) if word.fullmatch(before)]
 
 
 def head_of(checked: bytes) -> bytes:

@@ -212,8 +212,11 @@ class Handed(unittest.TestCase):
             self.assertEqual({part.phase for part in lot}, {lot[0].phase})
             found.append(numbers_of(lot))
 
-    def parts(self, phase: str, numbers: Sequence[int]) -> List[Part]:
-        task = tasks_of([Source(None, b"")])[0]
+    def parts(
+        self, phase: str, numbers: Sequence[int], stipulation: bytes = b"h#3"
+    ) -> List[Part]:
+        text = b"BeginProblem Title Stipulation s#2\nStip " + stipulation + b" EndProblem"
+        task = tasks_of([Source(None, text)])[0]
         return [Part(task, phase, number, 1) for number in numbers]
 
     def test_lots_grow_smaller(self) -> None:
@@ -231,6 +234,12 @@ class Handed(unittest.TestCase):
         self.assertEqual(sizes, sorted(sizes, reverse=True))
         self.assertEqual((sizes[0], sizes[-1]), (125, 1))
         self.assertLess(len(sizes), 120)
+
+    def test_lots_of_battle_play_are_larger(self) -> None:
+        for stipulation, wanted in ((b"#5", 8), (b"s=4", 8), (b"h=5", 3), (b"H#2.5", 3)):
+            with self.subTest(stipulation=stipulation):
+                lots = Lots(self.parts("play", range(1, 50), stipulation), 4, lambda part: False)
+                self.assertEqual(len(lots.next(lambda part: False)), wanted)
 
     def test_lots_stand_one_behind_another(self) -> None:
         parts = self.parts("set", [1, 2, 3, 5, 6, 8]) + self.parts("play", range(9, 14))

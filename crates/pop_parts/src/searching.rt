@@ -7,6 +7,7 @@ use chess_rules::rules::Rules;
 use pop_input::problem::Problem;
 use pop_solve::count_parts;
 use pop_solve::event::Phase;
+use pop_solve::killers::Killers;
 use pop_solve::part_search::PartSearch;
 
 /// How many parts a phase has, up to the greatest u64.
@@ -20,12 +21,13 @@ pub(crate) fn parts_in<R: Rules>(problem: &Problem, phase: Phase, depth: usize) 
     count_parts::<R, 33>(problem, phase, depth)
 }
 
-/// A search of the part with a number, where the phase has it.
+/// A search of the part with a number, where the phase has it; its tests begin with the killers.
 pub(crate) fn part_of<R: Rules>(
     problem: &Problem,
     phase: Phase,
     depth: usize,
     number: u64,
+    killers: Killers<R>,
 ) -> Option<PartSearch<R, 33>>
     requires depth { 1 ≤ depth }
     requires rules { R.rule ≡ rule_of problem.now.condition }
@@ -36,5 +38,5 @@ pub(crate) fn part_of<R: Rules>(
 {
     // For the proof: a stipulation that was read has at most 32 half-moves.
     let _aim = problem.stipulation();
-    PartSearch::of(problem, phase, depth, number)
+    PartSearch::of(problem, phase, depth, number, killers)
 }

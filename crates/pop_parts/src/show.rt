@@ -24,6 +24,7 @@ use pop_input::problem::Problem;
 use pop_input::reader::Reader;
 use pop_print::print_event;
 use pop_solve::event::Phase;
+use pop_solve::killers::Killers;
 use pop_solve::part_search::PartSearch;
 use pop_text::sink::{Sink, SinkFault};
 use pop_text::source::Source;
@@ -168,7 +169,7 @@ fn has_parts<R: Rules>(asked: &Asked, problem: &Problem) -> bool
         && asked.last <= parts_in::<R>(problem, asked.phase, asked.depth)
 }
 
-// Prints the parts asked for, one after another.
+// Prints the parts asked for, one after another; each goes on with the killers of the one before.
 fn print_parts<R: Rules, W: Sink>(
     sink: &mut W,
     asked: &Asked,
@@ -183,22 +184,24 @@ fn print_parts<R: Rules, W: Sink>(
         (parts_asked R.rule asked.now problem.now)) result }
     ensures counted { W.failures sink.new ≡ count_after result (W.failures sink.old) }
 {
+    let mut killers = Killers::none();
     let mut left = asked.last - asked.first + 1;
     'parts: while left > 0 {
         left -= 1;
-        print_part::<R, W>(sink, asked, problem, asked.last - left)?;
+        killers = print_part::<R, W>(sink, asked, problem, asked.last - left, killers)?;
     }
     Ok(())
 }
 
-// Prints the part with a number.
+// Prints the part with a number, and answers the killers of its tests, which begin with these.
 #[tactic(auto, unfolding(crate::specs::Parts::part_text))]
 fn print_part<R: Rules, W: Sink>(
     sink: &mut W,
     asked: &Asked,
     problem: &Problem,
     number: u64,
-) -> Result<(), SinkFault>
+    killers: Killers<R>,
+) -> Result<Killers<R>, SinkFault>
     requires depth { 1 ≤ asked.now.depth }
     requires sink { W.failures sink.old < greatest_count }
     requires rules { R.rule ≡ rule_of problem.now.condition }
@@ -207,9 +210,12 @@ fn print_part<R: Rules, W: Sink>(
         (part_numbered R.rule problem.now asked.now.phase asked.now.depth number)) result }
     ensures counted { W.failures sink.new ≡ count_after result (W.failures sink.old) }
 {
-    match part_of::<R>(problem, asked.phase, asked.depth, number) {
-        None => Ok(()),
-        Some(mut search) => print_events::<R, W>(sink, &mut search),
+    match part_of::<R>(problem, asked.phase, asked.depth, number, killers) {
+        None => Ok(Killers::none()),
+        Some(mut search) => {
+            print_events::<R, W>(sink, &mut search)?;
+            Ok(search.into_killers())
+        }
     }
 }
 

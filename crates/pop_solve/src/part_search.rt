@@ -238,8 +238,15 @@ impl<R: Rules, const N: usize> PartSearch<R, N> {
 
     /// A search of the part with a number, counted from 1 in the order of moves, among the parts of a phase that `depth` moves
     /// tell apart; `None` where the phase has fewer. `N` is at least the half-moves of the play plus one, and no more than
-    /// 33, and `R` are the rules of the problem's condition.
-    pub fn of(problem: &Problem, phase: Phase, depth: usize, number: u64) -> Option<Self>
+    /// 33, and `R` are the rules of the problem's condition. The killers cost time alone: those of another part make tests
+    /// quicker.
+    pub fn of(
+        problem: &Problem,
+        phase: Phase,
+        depth: usize,
+        number: u64,
+        mut killers: Killers<R>,
+    ) -> Option<Self>
         requires room { half_moves problem.now.stipulation < N }
         requires few { N ≤ 33 }
         requires rule { R.rule ≡ rule_of problem.now.condition }
@@ -254,7 +261,6 @@ impl<R: Rules, const N: usize> PartSearch<R, N> {
         let mut frames = ArrayVec::new();
         let by = go_to_part::<R, N>(problem, phase, depth, number, &mut board, &mut frames)?;
         let front = front_of::<R, N>(&frames, by);
-        let mut killers = Killers::none();
         let mut opened = 0;
         let stage = begin::<R, N>(
             problem,
@@ -311,6 +317,13 @@ impl<R: Rules, const N: usize> PartSearch<R, N> {
             )),
             PartStage::Behind => None,
         }
+    }
+
+    /// The moves that decided its tests last, for the search of another part. Contracts don't see them, since they cost time
+    /// alone.
+    pub fn into_killers(self) -> Killers<R> {
+        let PartSearch { killers, .. } = self;
+        killers
     }
 
     /// The frames opened for a half-move so far, the beginnings and the test of mate apart, up to the greatest u64. In help

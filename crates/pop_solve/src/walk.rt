@@ -196,8 +196,10 @@ pub(crate) fn opened_by(opened: u64, tried: usize, tested: bool) -> u64
 }
 
 /// Plays a legal move, after which `left` half-moves are left, and opens the frame of the position after it where the
-/// walk follows the move. Answers whether its path is given.
+/// walk follows the move. Answers whether its path is given. A call for each move, from two places: left to itself the
+/// compiler makes it no part of the walk.
 #[tactic(auto, using(chess_rules::proofs::listing_moves::Calls::playing), unfolding(crate::specs::ties::Walk::follows, crate::specs::ties::Walk::half_moves_on))]
+#[inline(always)]
 pub(crate) fn enter<R: Rules, const N: usize>(
     plan: Plan,
     root: bool,
