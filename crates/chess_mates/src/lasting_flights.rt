@@ -233,9 +233,9 @@ fn goes_alone(man: Man, m: &Move) -> bool
     !is_castling(man, m)
 }
 
-/// Whether the side to move keeps a flight after this move, whatever the other side then plays: so no move
-/// behind it mates. It may answer `false` where one is kept, and does where kings castle, in Circe, and where
-/// the other side has a grasshopper or a nightrider.
+/// Where it answers `true`, no reply to this move mates: the king keeps a flight, whatever is played. `false`
+/// says nothing: so it answers where kings castle, in Circe, beside a grasshopper or a nightrider of the other
+/// side, and beside many of its men.
 pub fn keeps_flight<R: Rules>(board: &Board, m: &Move) -> bool
     requires well_formed { IsWellFormed board.now }
     requires legal { is_legal R.rule board.now m.now ≡ true }

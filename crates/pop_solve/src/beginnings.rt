@@ -93,7 +93,7 @@ fn seek<R: Rules, const N: usize>(
 }
 
 /// Puts a phase's first position on the board and its frame on the others, from which no move has been taken; or finds
-/// that the phase has no part and leaves the board.
+/// that the phase has no part.
 fn set_out<R: Rules, const N: usize>(
     problem: &Problem,
     phase: Phase,
