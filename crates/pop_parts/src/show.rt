@@ -169,7 +169,7 @@ fn has_parts<R: Rules>(asked: &Asked, problem: &Problem) -> bool
         && asked.last <= parts_in::<R>(problem, asked.phase, asked.depth)
 }
 
-// Prints the parts asked for, one after another; each goes on with the killers of the one before.
+// Prints the parts asked for, one after another.
 fn print_parts<R: Rules, W: Sink>(
     sink: &mut W,
     asked: &Asked,
@@ -184,7 +184,25 @@ fn print_parts<R: Rules, W: Sink>(
         (parts_asked R.rule asked.now problem.now)) result }
     ensures counted { W.failures sink.new ≡ count_after result (W.failures sink.old) }
 {
-    let mut killers = Killers::none();
+    print_parts_with::<R, W>(sink, asked, problem, Killers::none())
+}
+
+// The same, where the first part's tests begin with these killers; each part goes on with those of the one before.
+fn print_parts_with<R: Rules, W: Sink>(
+    sink: &mut W,
+    asked: &Asked,
+    problem: &Problem,
+    mut killers: Killers<R>,
+) -> Result<(), SinkFault>
+    requires depth { 1 ≤ asked.now.depth }
+    requires sink { W.failures sink.old < greatest_count }
+    requires rules { R.rule ≡ rule_of problem.now.condition }
+    requires parts { has_the_parts R.rule asked.now problem.now ≡ true }
+    ensures bytes { Writes (W.taken sink.old) (W.taken sink.new)
+        (flat_map (part_text R.rule problem.now asked.now.phase)
+        (parts_asked R.rule asked.now problem.now)) result }
+    ensures counted { W.failures sink.new ≡ count_after result (W.failures sink.old) }
+{
     let mut left = asked.last - asked.first + 1;
     'parts: while left > 0 {
         left -= 1;

@@ -2,7 +2,7 @@ use Rattle.std.proofs.Common.{drop, take, ◌+◌, ◌-◌, ◌≡◌, ◌≤◌
 use Rattle.pop_run.proofs.Findings.{IsPrinting}
 use Rattle.pop_solve.specs.Parts.{parts}
 use Rattle.pop_parts.specs.Parts.{part_text, parts_asked}
-use Rattle.pop_parts.proofs.show.print_parts.Given as goal
+use Rattle.pop_parts.proofs.show.print_parts_with.Given as goal
 
 -- the parts so far are printed, and the last ones are still to come
 abbrev pub invariant-parts : goal.invariant-parts
