@@ -43,9 +43,11 @@ module _ (men position_after : List (Option Man)) (a b : ℕ) (z : Man) (c : Col
   reaches_after e Nightrider f h = cc
   reaches_after e j f h = h
 
+-- where a man of a side stands, some man of its colour stands
 pub side_there : (o : Option Man) (c : Colour) → is_side o c ≡ true → (y : Man) × ((o ≡ Some y) × (same_colour y.colour c ≡ true))
 side_there o c h = grind arith
 
+-- on the square of a king, which is on the board, he stands
 pub king_there : (men : List (Option Man)) (c : Colour) (k : ℕ) → king_square men c ≡ Some k → (k < 64) × (is_man (man_on men k) c King ≡ true)
 unfolding king_square squares
 king_there men c k h =

@@ -7,19 +7,23 @@ use Rattle.chess_rules.proofs.listing_moves.Places.{drop_triples, drop_triples_p
 take-none : (n : ℕ) → take {A = Move} n [] ≡ []
 take-none n = grind arith
 
+-- none lies between a place and one that isn't behind it
 pub between-none : (rule : RuleSet) (p : Position) (a b : ℕ) → b ≤ a → moves_between rule p a b ≡ []
 unfolding moves_between
 between-none rule p a b le = let z : b - a ≡ 0 = omega (arith, le) in rw z refl
 
+-- nor behind the last triple
 pub between-past : (rule : RuleSet) (p : Position) (a b : ℕ) → 28672 ≤ a → moves_between rule p a b ≡ []
 unfolding moves_between
 between-past rule p a b ge = rw (drop_triples_past a ge, take-none (b - a)) refl
 
+-- the triple at the first place comes first, if it is legal
 pub between-here : (rule : RuleSet) (p : Position) (a b : ℕ) → a < 28672 → a < b → is_legal rule p (triple_at a) ≡ true
     → moves_between rule p a b ≡ triple_at a ∷ moves_between rule p (a + 1) b
 unfolding moves_between
 between-here rule p a b lt low h = search (rules, drop_triples)
 
+-- and is passed over, if it isn't
 pub between-skip : (rule : RuleSet) (p : Position) (a b : ℕ) → a < 28672 → is_legal rule p (triple_at a) ≡ false
     → moves_between rule p a b ≡ moves_between rule p (a + 1) b
 unfolding moves_between

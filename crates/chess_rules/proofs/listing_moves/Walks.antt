@@ -9,9 +9,11 @@ use Rattle.chess_rules.proofs.listing_moves.Places.{not_pseudo}
 pub on_first : (a b i : ℕ) → (bit_at (bit_and a b) i == 1) ≡ true → (bit_at a i == 1) ≡ true
 on_first a b i h = search (rules, bit_at-lt, bit_at_and, eq-eqb, eqb-true)
 
+-- a square of the first word that isn't in both isn't in the second
 pub off_second : (a b i : ℕ) → (bit_at (bit_and a b) i == 1) ≡ false → (bit_at a i == 1) ≡ true → (bit_at b i == 1) ≡ false
 off_second a b i h on = search (rules, bit_at_and, eq-eqb, eqb-true, false_by)
 
+-- the word 0 has no square
 pub off_zero : (i : ℕ) → (bit_at 0 i == 1) ≡ false
 off_zero i = rw (bit_at-zero i) refl
 
@@ -22,6 +24,7 @@ module _ (rule : RuleSet) (p : Position) (test : Move → Bool) (needs : (m : Mo
       → AreCandidates rule p test s (bit_and a w)
   candidates s a w arrivals h = search (rules, arrival_needed, cases_Bool, off_second, on_first, word_has)
 
+  -- where no arrival could pass the test there are none
   pub no_candidates : (s w : ℕ) → w ≡ 0 → ((m : Move) → m.from ≡ s → m.to < 64 → is_pseudo_legal rule p m ≡ true → (bit_at w m.to == 1) ≡ false
       → test m ≡ false)
       → AreCandidates rule p test s 0

@@ -18,6 +18,7 @@ pub record IsTaken (p : Position) (m : Move) (s : ℕ) : Type 0 where
 taken_there : (rule : RuleSet) (p : Position) (x : Man) (m : Move) → IsMade rule p x m → is_some (man_on p.men m.to) ≡ true → IsTaken p m m.to
 taken_there rule p x m made e = search rules
 
+-- an option that passes the test of a square holds this square
 pub is_square-some : (o : Option ℕ) (t : ℕ) → is_square o t ≡ true → o ≡ Some t
 is_square-some o t h = grind (arith, eqb-true)
 
@@ -25,6 +26,7 @@ is_man-some : (o : Option Man) (c : Colour) (k : Kind) → is_man o c k ≡ true
     → (y : Man) × ((o ≡ Some y) × ((same_colour y.colour c ≡ true) × (same_kind y.kind k ≡ true)))
 is_man-some o c k h = grind (arith, and_parts)
 
+-- a pawn is no king
 pub pawn_is_no_king : (k : Kind) → same_kind k Pawn ≡ true → same_kind k King ≡ false
 pawn_is_no_king k h = grind arith
 
@@ -102,6 +104,7 @@ capture_of_piece p x m s piece h = search rules
 abbrev pub arrived : Position → Man → Move → List (Option Man)
 arrived p x m = with_man (without_at (without_man p.men m.from) (capture_square p x m)) m.to (arriving_man x m.promo)
 
+-- the kind that passes the test of a king is the king
 pub kind_is_king : (k : Kind) → same_kind k King ≡ true → k ≡ King
 kind_is_king k h = grind arith
 
@@ -149,6 +152,7 @@ can_castle : (rule : RuleSet) (p : Position) (x : Man) (m : Move) → IsWellForm
     → CanCastle (arrived p x m) (corner m) (halfway m)
 can_castle rule p x m well made castling = search (rules, arrived_none, castle_of, corner_stays, man_on-without_none, rook_is_no_king)
 
+-- a move that may be made can be made on the board, man by man
 pub can_move : (rule : RuleSet) (p : Position) (x : Man) (m : Move) → IsWellFormed p → IsMade rule p x m → CanMove p x m
 can_move rule p x m well made = record {
   here = made.here;

@@ -20,6 +20,7 @@ length-without_at men o = grind (arith, length-set)
 arrived_there : (p : Position) (x : Man) (m : Move) → length p.men ≡ 64 → m.to < 64 → man_on (arrived p x m) m.to ≡ Some (arriving_man x m.promo)
 arrived_there p x m size small = search rules
 
+-- after any move, castling too, its man stands on the arrival
 pub moved_arrival : (rule : RuleSet) (p : Position) (x : Man) (m : Move) → IsWellFormed p → IsMade rule p x m → m.to < 64
     → man_on (moved_men p x m) m.to ≡ Some (arriving_man x m.promo)
 unfolding moved_men
@@ -167,6 +168,7 @@ pub record GoesBack (q2 p : Position) (m : Move) (u : Undo) (a : ℕ) (r : Optio
   pub can : (y : Man) → man_on q2.men a ≡ Some y → CanReturn q2.men (leaving_man y r) m u
   pub gives : (y : Man) → man_on q2.men a ≡ Some y → before_by q2 (leaving_man y r) m u ≡ p
 
+-- a move played and taken back leaves the position before it
 pub restores : (rule : RuleSet) (q q2 p : Position) (m : Move) (u : Undo) (a : ℕ) (r : Option Kind) → IsWellFormed p → is_pseudo_legal rule p m ≡ true
     → q ≡ position_after rule p m → u ≡ undo_of rule p m → q2 ≡ record q { men = without_at q.men u.rebirth } → a ≡ m.to → a < 64 → r ≡ m.promo
     → GoesBack q2 p m u a r

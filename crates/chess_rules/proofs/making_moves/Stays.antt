@@ -73,6 +73,7 @@ castled_sound : (men : List (Option Man)) (a b : ℕ) (o : Option Man) → IsSou
     → ((z : Man) → o ≡ Some z → (same_kind z.kind King ≡ false) × (same_kind z.kind Pawn ≡ false)) → IsSound (move_man men a b o)
 castled_sound men a b o sound rook = search (rules, IsSound-with, IsSound-without, other_inside)
 
+-- the men are sound after a move, before a rebirth
 pub moved_sound : (rule : RuleSet) (p : Position) (x : Man) (m : Move) → IsWellFormed p → IsMade rule p x m → IsSound (moved_men p x m)
 unfolding moved_men
 moved_sound rule p x m well made =
@@ -117,6 +118,7 @@ rook_reborn y c s r is h = grind (arith, cases_Bool)
 kind_is_rook : (k : Kind) → same_kind k Rook ≡ true → k ≡ Rook
 kind_is_rook k h = grind arith
 
+-- a colour is the same as itself
 pub colour_self : (c : Colour) → same_colour c c ≡ true
 colour_self c = grind arith
 
@@ -143,10 +145,12 @@ captured rule p x m z well made h =
     let man : z ≡ t.man = cc in
     rw man (t.mortal, t.enemy)
 
+-- no king is captured
 pub captured_mortal : (rule : RuleSet) (p : Position) (x : Man) (m : Move) (z : Man) → IsWellFormed p → IsMade rule p x m
     → man_on_at p.men (capture_square p x m) ≡ Some z → same_kind z.kind King ≡ false
 captured_mortal rule p x m z well made h = (captured rule p x m z well made h).0
 
+-- and no man of the mover
 pub captured_enemy : (rule : RuleSet) (p : Position) (x : Man) (m : Move) (z : Man) → IsWellFormed p → IsMade rule p x m
     → man_on_at p.men (capture_square p x m) ≡ Some z → same_colour z.colour p.turn ≡ false
 captured_enemy rule p x m z well made h = (captured rule p x m z well made h).1
@@ -224,6 +228,7 @@ shade_small s a b r la lb h = search rules
 at_small : (f k r : ℕ) → square_at f k ≡ Some r → r < 64
 at_small f k r h = let i : IsAt f k r = square_at-is f k r (rw h (eq-eqb r r refl)) in i.small
 
+-- a man is reborn on a square of the board
 pub rebirth_small : (c : Colour) (k : Kind) (s r : ℕ) → rebirth c k s ≡ Some r → r < 64
 unfolding rebirth
 rebirth_small c k s r h = grind (arith, shade_small, at_small)
@@ -275,6 +280,7 @@ after_crossed : (rule : RuleSet) (p : Position) (x : Man) (m : Move) → IsWellF
 unfolding after_by is_crossed_right
 after_crossed rule p x m well made = search (rules, double_right)
 
+-- the position after a man's move is well formed
 pub after_by_well : (rule : RuleSet) (p : Position) (x : Man) (m : Move) → IsWellFormed p → IsMade rule p x m → IsWellFormed (after_by rule p x m)
 unfolding after_by
 after_by_well rule p x m well made = grind (arith, after_sound rule p x m well made, made, after_home rule p x m well made, after_crossed rule p x m well made)
