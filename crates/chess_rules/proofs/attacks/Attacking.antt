@@ -61,7 +61,7 @@ reached_none men c k t w h z =
     word_empty _ (λ s b. and_left (is_man (man_on men s) c k) (reaches men s t) (word_lacks (λ s. is_man (man_on men s) c k) (sym h ∙ z) s b))
 
 -- the men that ride along lines, and the others
-abbrev pub others : List Kind
+abbrev others : List Kind
 others = King ∷ Knight ∷ Pawn ∷ Grasshopper ∷ Nightrider ∷ []
 
 by_lines : (b : Bool) (k : Kind) (r s d : Bool) → (k ≡ Rook → r ≡ s) → (k ≡ Bishop → r ≡ d) → (k ≡ Queen → r ≡ (s || d))

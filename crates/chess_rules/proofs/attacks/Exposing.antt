@@ -20,7 +20,7 @@ pub record IsSimple (rule : RuleSet) (p : Position) (x : Man) (m : Move) : Type 
 none_there : (b : Bool) (o : Option ℕ) → (b && is_some o) ≡ false → b ≡ true → o ≡ None
 none_there b o p q = grind arith
 
-pub simple_parts : (rule : RuleSet) (p : Position) (x : Man) (m : Move) → is_simple rule x m (is_some (capture_square p x m)) ≡ true → IsSimple rule p x m
+simple_parts : (rule : RuleSet) (p : Position) (x : Man) (m : Move) → is_simple rule x m (is_some (capture_square p x m)) ≡ true → IsSimple rule p x m
 simple_parts rule p x m h = grind (arith, and_parts, not-true, none_there)
 
 -- the arriving man in a word by kind
@@ -75,7 +75,7 @@ goes_capturing : (rule : RuleSet) (p : Position) (x : Man) (m : Move) → IsWell
 goes_capturing rule p x m well is small = search (rules, captures_arrival, other_differs)
 
 -- the king after the move
-pub free_of_king : (c : Colour) (o : Option Man) → is_arrival_free c o ≡ true → is_man o c King ≡ false
+free_of_king : (c : Colour) (o : Option Man) → is_arrival_free c o ≡ true → is_man o c King ≡ false
 free_of_king c o h = grind (arith, and_left, and_parts, not-true)
 
 -- a king isn't promoted

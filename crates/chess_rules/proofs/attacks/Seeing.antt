@@ -4,7 +4,7 @@ use Rattle.chess_rules.proofs.Chess.{AreSeen, Colour, Kind, King, Man, differs, 
 use Rattle.chess_rules.proofs.making_moves.Plays.{stays_empty}
 use Rattle.chess_rules.proofs.Bits.{every_square}
 
-pub and_true : (a : Bool) → (a && true) ≡ a
+and_true : (a : Bool) → (a && true) ≡ a
 and_true a = grind arith
 
 -- a man stands on s once the man on a is gone, that on o too, and one has come to b

@@ -214,7 +214,7 @@ not_attacked rule men e k h =
     })
 
 -- what is asked of a shift, so that the king of colour c isn't in check after it
-pub record IsHarmless (men : List (Option Man)) (c : Colour) (a b : ℕ) (z : Man) : Type 0 where
+record IsHarmless (men : List (Option Man)) (c : Colour) (a b : ℕ) (z : Man) : Type 0 where
   pub one : AtMostOneKing men
   pub king : is_man (Some z) c King ≡ true → king_square men c ≡ Some a
   pub cannot_expose : may_expose men c a ≡ false
@@ -241,7 +241,7 @@ king_stays men position_after a b z c k i g small h =
           king_is men c k g.one small (rw there is)
     ]
 
-pub stays_safe : (rule : RuleSet) (men position_after : List (Option Man)) (a b : ℕ) (z : Man) (c : Colour) → IsShift men position_after a b z
+stays_safe : (rule : RuleSet) (men position_after : List (Option Man)) (a b : ℕ) (z : Man) (c : Colour) → IsShift men position_after a b z
     → IsHarmless men c a b z
     → in_check rule position_after c ≡ false
 unfolding in_check king_square squares may_expose may_stand_between
@@ -260,7 +260,7 @@ stays_safe rule men position_after a b z c i g = by (king_square position_after 
 none_reborn : (men : List (Option Man)) (o : Option Man) (s : ℕ) → reborn_at false men o (Some s) ≡ None
 none_reborn men o s = grind arith
 
-pub nobody_reborn : (circe : Bool) (men before : List (Option Man)) (o : Option ℕ) → (circe ≡ true → o ≡ None)
+nobody_reborn : (circe : Bool) (men before : List (Option Man)) (o : Option ℕ) → (circe ≡ true → o ≡ None)
     → reborn_at circe men (man_on_at before o) o ≡ None
 nobody_reborn circe men before o h = grind (arith, none_reborn)
 

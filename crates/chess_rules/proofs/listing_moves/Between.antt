@@ -30,7 +30,7 @@ unfolding moves_between
 between-skip rule p a b lt h = search (rules, between-none, drop_triples)
 
 -- over a stretch without moves
-pub between-none-is_legal : (rule : RuleSet) (p : Position) (a b e : ℕ) → (b < 28672 → a ≤ b) → b ≤ 28672 → HaveNone (is_legal rule p) a b
+between-none-is_legal : (rule : RuleSet) (p : Position) (a b e : ℕ) → (b < 28672 → a ≤ b) → b ≤ 28672 → HaveNone (is_legal rule p) a b
     → moves_between rule p a e ≡ moves_between rule p b e
 between-none-is_legal rule p a b e =
     over (λ n. moves_between rule p n e) (is_legal rule p) (λ n lt h. between-skip rule p n e lt h) [] (λ n ge. between-past rule p n e ge) a b
@@ -41,6 +41,7 @@ pub until-is_legal : (rule : RuleSet) (p : Position) (a n e : ℕ) → a ≤ n �
     → moves_between rule p a e ≡ triple_at n ∷ moves_between rule p (n + 1) e
 until-is_legal rule p a n e low before fits none h = grind (arith, between-none-is_legal, between-here rule p n e fits before h)
 
+-- where the walk gets to the end without one, no move lies before it
 pub until-end : (rule : RuleSet) (p : Position) (a n e : ℕ) → n ≤ 28672 → n ≤ e → (n < 28672 → e ≤ n) → HaveNone (is_legal rule p) a n
     → moves_between rule p a e ≡ []
 until-end rule p a n e fits before all none = search (rules, between-none, between-none-is_legal, between-past)

@@ -9,10 +9,12 @@ pub pawn_word : (x : Man) (s n : ℕ) → same_kind x.kind Pawn ≡ true → n �
 unfolding steps_to
 pawn_word x s n pawn h = h ∙ squares_same _ _ (λ t b. sym (cond-true (same_kind x.kind Pawn) _ _ pawn))
 
+-- a king's word has the squares two files aside
 pub king_word : (x : Man) (s n : ℕ) → same_kind x.kind Pawn ≡ false → same_kind x.kind King ≡ true → n ≡ word (is_aside s) → n ≡ word (steps_to x s)
 unfolding steps_to
 king_word x s n none king h = search (rules, cond-false, cond-true, squares_same)
 
+-- another man's has none
 pub other_word : (x : Man) (s : ℕ) → same_kind x.kind Pawn ≡ false → same_kind x.kind King ≡ false → 0 ≡ word (steps_to x s)
 unfolding steps_to
 other_word x s none king = search (rules, cond-false, word_empty)
@@ -58,7 +60,7 @@ false_by b h = grind arith
 promoted : (p : Position) (x : Man) (m : Move) (o : Option Kind) → is_promotion_right p x m o ≡ true → o ≡ None → arrives x m.to ≡ false
 promoted p x m o h e = grind (arith, cases_Bool)
 
-pub unpromoted : (p : Position) (x : Man) (m : Move) (o : Option Kind) (k : Kind) → is_promotion_right p x m o ≡ true → o ≡ Some k → arrives x m.to ≡ true
+unpromoted : (p : Position) (x : Man) (m : Move) (o : Option Kind) (k : Kind) → is_promotion_right p x m o ≡ true → o ≡ Some k → arrives x m.to ≡ true
 unpromoted p x m o k h e = grind (arith, and_parts)
 
 no_promotion_here : (rule : RuleSet) (p : Position) (x : Man) (m : Move) (k : Kind) → man_on p.men m.from ≡ Some x → m.promo ≡ Some k → arrives x m.to ≡ false
@@ -88,7 +90,7 @@ own_moves p rule m (Some x) e h =
       same Black = refl
 
 -- stretches of one origin
-pub from-empty : (p : Position) (s z a : ℕ) → IsBarrenFrom p s z a a
+from-empty : (p : Position) (s z a : ℕ) → IsBarrenFrom p s z a a
 from-empty p s z a = record { fails = λ rule k lo hi on. absurd (omega (arith, lo, hi)) }
 
 -- from an empty square there is no move
@@ -100,7 +102,7 @@ pub from-join : (p : Position) (s z a b c : ℕ) → IsBarrenFrom p s z a b → 
 from-join p s z a b c x y = search rules
 
 -- no square of the word lies between
-pub from-missed : (p : Position) (s a b w : ℕ) → ((t : ℕ) → a / 7 ≤ t → t < (b + 6) / 7 → (bit_at w t == 1) ≡ false) → IsBarrenFrom p s w a b
+from-missed : (p : Position) (s a b w : ℕ) → ((t : ℕ) → a / 7 ≤ t → t < (b + 6) / 7 → (bit_at w t == 1) ≡ false) → IsBarrenFrom p s w a b
 from-missed p s a b w none = search rules
 
 -- each promotion but the first names a kind
@@ -120,7 +122,7 @@ from-unpromoted p x s z t a here h lt = record {
 }
 
 -- on the last there is one
-pub from-promoted : (p : Position) (x : Man) (s z t : ℕ) → man_on p.men s ≡ Some x → arrives x t ≡ true → IsBarrenFrom p s z (7 * t) (7 * t + 1)
+from-promoted : (p : Position) (x : Man) (s z t : ℕ) → man_on p.men s ≡ Some x → arrives x t ≡ true → IsBarrenFrom p s z (7 * t) (7 * t + 1)
 from-promoted p x s z t here h = record {
   fails = λ rule k lo hi on.
       let to : k / 7 ≡ t = omega arith in

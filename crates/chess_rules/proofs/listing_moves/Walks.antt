@@ -30,7 +30,7 @@ module _ (rule : RuleSet) (p : Position) (test : Move → Bool) (needs : (m : Mo
       → AreCandidates rule p test s 0
   no_candidates s w zero h = search (rules, cases_Bool, off_zero)
 
-  pub none-join : (a b c : ℕ) → HaveNone test a b → HaveNone test b c → HaveNone test a c
+  none-join : (a b c : ℕ) → HaveNone test a b → HaveNone test b c → HaveNone test a c
   none-join a b c x y = search (rules, cases_lt)
 
   none-move : (s w : ℕ) (m : Move) → AreCandidates rule p test s w → m.from ≡ s → m.to < 64 → ((bit_at w m.to == 1) ≡ true → is_pseudo_legal rule p m ≡ false)

@@ -40,7 +40,7 @@ taken_passing : (c : Colour) (p : Position) (x : Man) (m : Move) (s : ℕ) → p
 taken_passing c p x m s turn mine here take passed at = grind (arith, and_parts, eqb-true, is_man-some, other_colours, pawn_is_no_king)
 
 -- a pawn that leaves its file captures
-pub diagonal_takes : (rule : RuleSet) (p : Position) (x : Man) (m : Move) → IsMade rule p x m → same_kind x.kind Pawn ≡ true → is_diagonal m ≡ true
+diagonal_takes : (rule : RuleSet) (p : Position) (x : Man) (m : Move) → IsMade rule p x m → same_kind x.kind Pawn ≡ true → is_diagonal m ≡ true
     → IsPawnTake x.colour m.from m.to
 diagonal_takes rule p x m made pawn diagonal = search (rules, pawn_goes, pawn_reaches, ways)
 
@@ -84,7 +84,7 @@ without_at-no_king : (men : List (Option Man)) (o : Option ℕ) (c : Colour) →
 without_at-no_king men o c none = grind (arith, false_from_ne_true, is_man-without)
 
 -- what isn't taken off stands
-pub man_on-without_at : (men : List (Option Man)) (o : Option ℕ) (t : ℕ) → ((s : ℕ) → o ≡ Some s → t ≢ s) → man_on (without_at men o) t ≡ man_on men t
+man_on-without_at : (men : List (Option Man)) (o : Option ℕ) (t : ℕ) → ((s : ℕ) → o ≡ Some s → t ≢ s) → man_on (without_at men o) t ≡ man_on men t
 man_on-without_at men o t ne = grind (arith, man_on-without_other)
 
 some-is_some : (men : List (Option Man)) (s : ℕ) (y : Man) → man_on men s ≡ Some y → IsSome (man_on men s)

@@ -70,7 +70,7 @@ pub record IsPawnStep (p : Position) (x : Man) (m : Move) : Type 0 where
   pub ahead : file_of m.from ≡ file_of m.to
   pub way : Advances x.colour m.from m.to 1 ⊎ ((rank_of m.from ≡ second_rank x.colour) × (Advances x.colour m.from m.to 2 × (man_on p.men (halfway m) ≡ None)))
 
-pub record IsAhead (c : Colour) (s t n : ℕ) : Type 0 where
+record IsAhead (c : Colour) (s t n : ℕ) : Type 0 where
   pub advances : Advances c s t n
   pub file : file_of s ≡ file_of t
   pub small : t < 64

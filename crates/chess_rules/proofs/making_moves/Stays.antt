@@ -161,7 +161,7 @@ pub reborn_is : (rule : RuleSet) (p : Position) (x : Man) (m : Move) (r : ℕ) �
 unfolding reborn_square
 reborn_is rule p x m r h = search (rules, reborn_parts)
 
-pub after_sound : (rule : RuleSet) (p : Position) (x : Man) (m : Move) → IsWellFormed p → IsMade rule p x m
+after_sound : (rule : RuleSet) (p : Position) (x : Man) (m : Move) → IsWellFormed p → IsMade rule p x m
     → IsSound (put_at (moved_men p x m) (reborn_square rule p x m) (man_on_at p.men (capture_square p x m)))
 after_sound rule p x m well made =
     reborn_sound (moved_men p x m) (reborn_square rule p x m) (man_on_at p.men (capture_square p x m)) (moved_sound rule p x m well made) (λ r z at who.
@@ -233,7 +233,7 @@ pub rebirth_small : (c : Colour) (k : Kind) (s r : ℕ) → rebirth c k s ≡ So
 unfolding rebirth
 rebirth_small c k s r h = grind (arith, shade_small, at_small)
 
-pub after_home : (rule : RuleSet) (p : Position) (x : Man) (m : Move) → IsWellFormed p → IsMade rule p x m
+after_home : (rule : RuleSet) (p : Position) (x : Man) (m : Move) → IsWellFormed p → IsMade rule p x m
     → AreHome (unmoved_after rule p x m) (put_at (moved_men p x m) (reborn_square rule p x m) (man_on_at p.men (capture_square p x m)))
 unfolding unmoved_after
 after_home rule p x m well made =

@@ -5,7 +5,7 @@ use Rattle.chess_rules.proofs.rays.Ends.{back, rides-back, returns_to}
 use Rattle.chess_rules.proofs.rays.Hops.{hops-back}
 
 -- equality of steps as a test
-abbrev pub same_step : Step → Step → Bool
+abbrev same_step : Step → Step → Bool
 same_step a b = (a.right == b.right && a.left == b.left) && (a.up == b.up && a.down == b.down)
 
 step_is : (a b : Step) → same_step a b ≡ true → a ≡ b
@@ -29,7 +29,7 @@ across p q (x ∷ xs) ds h o y =
     let parts = and_parts (list_any (same_step (back x)) ds) (opposed xs ds) o in
     elim (or_cases (p x) (list_any p xs) y) [ inl e ↦ held q ds (back x) parts.0 (h x e) | inr r ↦ across p q xs ds h parts.1 r ]
 
-pub flip : (xs ds : List Step) (p q : Step → Bool) → opposed xs ds ≡ true → opposed ds xs ≡ true → ((d : Step) → p d ≡ q (back d))
+flip : (xs ds : List Step) (p q : Step → Bool) → opposed xs ds ≡ true → opposed ds xs ≡ true → ((d : Step) → p d ≡ q (back d))
     → list_any p xs ≡ list_any q ds
 flip xs ds p q there here h = search (rules, across, back, same_Bool)
 

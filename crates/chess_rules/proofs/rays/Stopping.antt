@@ -20,7 +20,7 @@ pub passes_test : (test : ℕ → Bool) (w q : ℕ) → w ≡ word test → q < 
 passes_test test w q h b e = sym (word_has test w q h b) ∙ eq-eqb _ 1 e
 
 -- the men ahead of s
-pub ahead_men : (men : List (Option Man)) (s : ℕ) (d : Step) (r o : ℕ) → r ≡ ray s d → o ≡ word (λ q. is_some (man_on men q))
+ahead_men : (men : List (Option Man)) (s : ℕ) (d : Step) (r o : ℕ) → r ≡ ray s d → o ≡ word (λ q. is_some (man_on men q))
     → bit_and r o ≡ word (λ q. is_ahead s d q && is_some (man_on men q))
 unfolding ray
 ahead_men men s d r o h i = (λ j. bit_and (h j) (i j)) ∙ squares_both (is_ahead s d) (λ q. is_some (man_on men q))
