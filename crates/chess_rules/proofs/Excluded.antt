@@ -83,7 +83,7 @@ pub crossed_square_may_meet_a_check : (w : ℕ) → AreEvasionsFrom orthodox pas
 crossed_square_may_meet_a_check w are = true_from_ne_false _ (λ e. true≢false
     (sym (are.elsewhere (go e5 d6) refl (omega arith) en_passant_meets.1 e) ∙ en_passant_meets.2))
 
--- a man on d6 neither has captured the pawn on d5 nor stands between
+-- d6 is neither the checking pawn's square nor one between it and the king
 pub no_evasion_there : is_evasion passing_check.men White e4 d5 d6 ≡ false
 unfolding reaches_as rides is_clear along
 no_evasion_there = refl
@@ -101,7 +101,7 @@ king_goes = (refl, refl, refl)
 pub king_may_leave_a_check : (w : ℕ) → AreEvasionsFrom orthodox rook_check a1 w → (bit_at w b1 == 1) ≡ true
 king_may_leave_a_check w are = true_from_ne_false _ (λ e. true≢false (sym (are.elsewhere (go a1 b1) refl (omega arith) king_goes.1 e) ∙ king_goes.2))
 
--- a man on b1 neither has captured the rook nor stands between
+-- b1 is neither the rook's square nor one between it and the king
 pub no_other_man_meets_it_there : is_evasion rook_check.men White a1 a8 b1 ≡ false
 unfolding reaches_as rides is_clear along
 no_other_man_meets_it_there = refl

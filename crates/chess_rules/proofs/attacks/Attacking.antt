@@ -184,7 +184,7 @@ pub is_reached_by : (men : List (Option Man)) (t w : ℕ) (c : Colour) → w ≡
 unfolding is_reached
 is_reached_by men t w c h = ap (λ n. not (n == 0)) h ∙ not_zero (λ s. is_side (man_on men s) c && reaches men s t)
 
--- an enemy of a man's kind reaches its square exactly if their word isn't 0
+-- an enemy of a man's kind reaches its square exactly if the word of those isn't 0
 pub faced : (men : List (Option Man)) (x : Man) (t w : ℕ) → w ≡ word (λ s. is_man (man_on men s) (other x.colour) x.kind && reaches men s t)
     → not (w == 0) ≡ faces_its_like men x t
 unfolding faces_its_like faces

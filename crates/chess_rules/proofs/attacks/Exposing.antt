@@ -3,14 +3,16 @@ use Rattle.chess_rules.proofs.Basics.{Bool, List, None, Option, Some, and_from, 
 use Rattle.chess_rules.proofs.Chess.{AreArrived, AreOthers, AreSeen, Colour, IsWellFormed, Kind, King, Man, Move, Position, RuleSet, arriving_man, capture_square, differs, faces, faces_its_like, in_check, is_arrival_free, is_attacked_at, is_castling, is_circe, is_faced, is_madrasi, is_man, is_paralysed, is_promotion_right, is_pseudo_legal, is_side, is_simple, is_square, king_after, king_square, man_on, other, position_after, reaches, same_colour, same_colour-true, same_kind, sight_after, some_square, squares_both, squares_either, squares_not, squares_of, squares_same, word}
 use Rattle.chess_rules.specs.ties.Sight.{is_arriving_as, own_after}
 use Rattle.chess_rules.specs.declared.sight.Sight.{Sight}
+use Rattle.chess_core.proofs.Kept.{same_colour-refl}
 use Rattle.chess_rules.proofs.attacks.Attacking.{attacked_by}
 use Rattle.chess_rules.proofs.Bits.{not_zero, word_empty, word_has}
-use Rattle.chess_rules.proofs.making_moves.Fits.{arrived, arriving_king, is_square-some, pawn_is_no_king, taken}
+use Rattle.chess_rules.proofs.rays.Ends.{square_is}
+use Rattle.chess_rules.proofs.making_moves.Fits.{arrived, arriving_king, pawn_is_no_king, taken}
 use Rattle.chess_rules.proofs.making_moves.Pseudo.{IsMade, made}
 use Rattle.chess_rules.proofs.attacks.Seeing.{IsCapture, IsNoKing, kept_now, king_stands, left_now, seen_after, there_now}
 use Rattle.chess_rules.proofs.attacks.Shielding.{other_twice, arriving_colour, king_is, moved_plainly, other_differs, simple_after}
 use Rattle.chess_rules.proofs.making_moves.Returns.{moved_arrival}
-use Rattle.chess_rules.proofs.making_moves.Stays.{colour_self, moved_sound}
+use Rattle.chess_rules.proofs.making_moves.Stays.{moved_sound}
 
 -- the parts of a simple move
 pub record IsSimple (rule : RuleSet) (p : Position) (x : Man) (m : Move) : Type 0 where
@@ -47,7 +49,7 @@ faced_is men c y s side = grind (arith, same_colour-true, other_twice)
 pub faced_king : (king f : Bool) → king ≡ true → not king ≡ (not king && f)
 faced_king king f h = (λ i. not (h i)) ∙ sym (ap (λ (k : Bool). not k && f) h)
 
--- another man is paralysed exactly if one of its kind, of the mover's men, reaches it
+-- an enemy man, if no king, is paralysed exactly if a mover's man of its kind reaches it
 pub paralysed_by : (rule : RuleSet) (before men : List (Option Man)) (x : Man) (m : Move) (v : Sight) (s : ℕ) (y : Man) (b : Bool) → is_madrasi rule ≡ true
     → AreArrived before men x m v → is_side (man_on men s) (other x.colour) ≡ true → man_on before s ≡ Some y
     → b ≡ (not (same_kind y.kind King) && some_square (λ q. is_man (man_on men q) x.colour y.kind && reaches men q s))
@@ -94,7 +96,7 @@ goes_without_king rule p x m well is small other_man = record {
       false≢true (sym other_man ∙ ap (λ (y : Man). same_kind y.kind King) (sym same) ∙ king));
   arrival = free_of_king p.turn (man_on p.men m.to) is.arrival;
   captured = λ s at.
-      let t = taken rule p x m s well is (is_square-some (capture_square p x m) s at) in
+      let t = taken rule p x m s well is (square_is (capture_square p x m) s at) in
       ap (λ (o : Option Man). is_man o p.turn King) t.there ∙ and_right (same_colour t.man.colour p.turn) _ t.mortal;
 }
 
@@ -106,7 +108,7 @@ king_is_after rule p x m well is small castling =
       arith,
       and_from,
       cases_Bool,
-      colour_self,
+      same_colour-refl,
       cond-false,
       cond-true,
       goes_without_king,
@@ -156,7 +158,7 @@ own_on rule p x m k s well is small = elim (cases_eq s m.to) [
       own_there (is_man (man_on p.men s) x.colour k) _ _ (same_kind (arriving_man x m.promo).kind k) (is_square (Some m.to) s) free (eq-eqb m.to s (sym e))
       ∙ sym (ap (λ (o : Option Man). is_man o x.colour k) there
       ∙ ap (λ (y : Bool). y && same_kind (arriving_man x m.promo).kind k)
-      (ap (λ (c : Colour). same_colour c x.colour) (arriving_colour x m.promo) ∙ colour_self x.colour))
+      (ap (λ (c : Colour). same_colour c x.colour) (arriving_colour x m.promo) ∙ same_colour-refl x.colour))
   | inr ne ↦
       let off : is_square (Some m.to) s ≡ false = differs m.to s (λ e. ne (sym e)) in
       elim (cases_Bool (is_square (Some m.from) s || is_square (capture_square p x m) s)) [

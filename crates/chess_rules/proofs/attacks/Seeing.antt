@@ -27,7 +27,7 @@ occupied_words men a o b = search (rules, squares_both, squares_either, squares_
 abbrev pub gone_to : List (Option Man) → ℕ → Option ℕ → ℕ → Man → List (Option Man)
 gone_to men a o b z = with_man (without_at (without_man men a) o) b z
 
--- a board without a man has as many squares
+-- taking a man off leaves the number of squares
 pub length-without_at : (men : List (Option Man)) (o : Option ℕ) → length (without_at men o) ≡ length men
 length-without_at men o = grind (arith, length-set)
 

@@ -10,7 +10,7 @@ use Rattle.chess_rules.specs.declared.shields.RiderLines.TheVariants.{Diagonal}
 use Rattle.chess_rules.proofs.rays.Ends.{square_is}
 use Rattle.chess_rules.proofs.Bits.{not_zero, word_empty, word_has, every_square}
 use Rattle.chess_rules.proofs.attacks.FairyLines.{Holds, WasThere, fairy_parts, hopper_before, nightrider_before, once, ride_kept}
-use Rattle.chess_rules.proofs.making_moves.Fits.{arrived, arriving_king, is_square-some}
+use Rattle.chess_rules.proofs.making_moves.Fits.{arrived, arriving_king}
 use Rattle.chess_rules.proofs.rays.Flips.{backward, opposed, rides_turned}
 use Rattle.chess_rules.proofs.rays.Parting.{Frees, line_open}
 use Rattle.chess_rules.proofs.making_moves.Plays.{none_from_is_some}
@@ -313,7 +313,7 @@ pub arrived_shift : (rule : RuleSet) (p : Position) (x : Man) (m : Move) → IsW
     → IsShift p.men (arrived p x m) m.from m.to (arriving_man x m.promo)
 arrived_shift rule p x m well is small plain =
     gone_shift p.men m.from (capture_square p x m) m.to (arriving_man x m.promo) (omega (arith, small, well.size))
-    (λ s at. captures_there p x m s plain.crossed (is_square-some (capture_square p x m) s at))
+    (λ s at. captures_there p x m s plain.crossed (square_is (capture_square p x m) s at))
 
 -- a king that arrives left its own square
 king_came : (p : Position) (x : Man) (m : Move) (c : Colour) → IsWellFormed p → man_on p.men m.from ≡ Some x → is_promotion_right p x m m.promo ≡ true
@@ -334,7 +334,7 @@ plain_safe rule p x m c well is small plain cannot_expose aside quiet = search (
 pub arriving_colour : (x : Man) (r : Option Kind) → (arriving_man x r).colour ≡ x.colour
 arriving_colour x r = grind arith
 
--- the other of the other colour is the first
+-- the other colour's other colour is the first
 pub other_twice : (c : Colour) → other (other c) ≡ c
 other_twice c = grind arith
 
@@ -391,7 +391,7 @@ pub shield_squares_all : (men : List (Option Man)) (c : Colour) (k : ℕ) → ki
 unfolding may_expose
 shield_squares_all men c k at reached = search (rules, every_square, or_left)
 
--- with another, his own, those that shut a line to him, and those on fairy lines
+-- else his own, those that shut a line to him, and those on fairy lines
 pub shield_squares_some : (men : List (Option Man)) (c : Colour) (k w n : ℕ) → king_square men c ≡ Some k → is_reached men k (other c) ≡ false
     → w ≡ bit_or (bit_or (word (is_square (Some k))) (word (is_shut men (other c) Rook straight_steps k)))
     (word (is_shut men (other c) Bishop diagonal_steps k))
@@ -416,7 +416,7 @@ pub cannot_expose_is : (rule : RuleSet) (p : Position) (x : Man) (c : Colour) (m
 unfolding cannot_expose
 cannot_expose_is rule p x c m w s b here h same small e = search (rules, word_has)
 
--- where nobody stands on the origin, it is said of no move
+-- where nobody stands on the origin, the answer is no
 pub cannot_expose_nobody : (rule : RuleSet) (p : Position) (c : Colour) (m : Move) → man_on p.men m.from ≡ None → false ≡ cannot_expose rule p c m
 unfolding cannot_expose
 cannot_expose_nobody rule p c m none = rw none refl

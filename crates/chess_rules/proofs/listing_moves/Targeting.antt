@@ -175,7 +175,7 @@ pub named_at : (p : Position) (x : Man) (s t n w : ℕ) → man_on p.men s ≡ S
     → is_some (promotion_at (n % 7)) ≡ arrives x t → IsNamed p s w n
 named_at p x s t n w here set at named = record { man = x; here = here; inside = rw at set; promotion = rw at named }
 
--- the first names none
+-- the first promotion names no kind
 pub none_named : (n : ℕ) → n ≡ 0 → is_some (promotion_at n) ≡ false
 none_named n e = rw e refl
 

@@ -3,7 +3,7 @@ use Rattle.chess_rules.proofs.Basics.{Bool, None, Some, and_right, ap, arith, bi
 use Rattle.chess_rules.proofs.Chess.{AreCandidates, AreEvasionsFrom, AreOrigins, HaveNone, IsAimed, IsBarrenFrom, IsNamed, Move, Position, RuleSet, find_first, find_no, is_arrival, is_legal, is_pseudo_legal, promotion_at, side_of, triple_at, word}
 use Rattle.chess_rules.proofs.Bits.{word_has}
 use Rattle.chess_rules.proofs.listing_moves.Targeting.{arrival_needed, false_by, own_moves}
-use Rattle.chess_rules.proofs.listing_moves.Places.{not_pseudo}
+use Rattle.chess_rules.specs.ties.Idle.{is_legal-idle}
 
 -- squares of two words
 pub on_first : (a b i : ℕ) → (bit_at (bit_and a b) i == 1) ≡ true → (bit_at a i == 1) ≡ true
@@ -106,4 +106,4 @@ unfolding is_legal
 evasions_elsewhere rule p s w h m at small may off = and_right (is_pseudo_legal rule p m) _ (ap not (h.elsewhere m at small may off))
 
 -- for the candidates of one origin
-pub ruleset legal_candidates = (candidates, evasions_elsewhere, not_pseudo)
+pub ruleset legal_candidates = (candidates, evasions_elsewhere, is_legal-idle)

@@ -4,6 +4,7 @@ use Rattle.chess_rules.proofs.Chess.{CanCastle, CanMove, Colour, HasNoKing, IsAt
 use Rattle.chess_rules.proofs.making_moves.Castles.{no_king_left, same_colour_self}
 use Rattle.chess_rules.proofs.making_moves.Plays.{stays_empty}
 use Rattle.chess_rules.proofs.making_moves.Pseudo.{IsCastle, IsMade, IsPawnTake, king_castles, king_is_no_pawn, made, on_board, pawn_goes, pawn_reaches, ways}
+use Rattle.chess_rules.proofs.rays.Ends.{square_is}
 use Rattle.chess_rules.proofs.rays.Tables.{king_step_is_no_castling}
 
 -- an enemy stands on the square of capture, not on the origin, and is no king
@@ -17,10 +18,6 @@ pub record IsTaken (p : Position) (m : Move) (s : ℕ) : Type 0 where
 -- an enemy on the arrival
 taken_there : (rule : RuleSet) (p : Position) (x : Man) (m : Move) → IsMade rule p x m → is_some (man_on p.men m.to) ≡ true → IsTaken p m m.to
 taken_there rule p x m made e = search rules
-
--- an option that passes the test of a square holds this square
-pub is_square-some : (o : Option ℕ) (t : ℕ) → is_square o t ≡ true → o ≡ Some t
-is_square-some o t h = grind (arith, eqb-true)
 
 is_man-some : (o : Option Man) (c : Colour) (k : Kind) → is_man o c k ≡ true
     → (y : Man) × ((o ≡ Some y) × ((same_colour y.colour c ≡ true) × (same_kind y.kind k ≡ true)))
@@ -60,7 +57,7 @@ taken rule p x m s well made h = elim (cases_Bool (is_some (man_on p.men m.to)))
             sym (cond-true (same_kind x.kind Pawn && is_diagonal m && is_square p.crossed m.to) _ _ q) ∙ h1 in
             let q1 = and_parts _ _ q in
             let q2 = and_parts _ _ q1.0 in
-            let crossed : p.crossed ≡ Some m.to = is_square-some p.crossed m.to q1.1 in
+            let crossed : p.crossed ≡ Some m.to = square_is p.crossed m.to q1.1 in
             let right : is_crossed_right p.men p.turn (Some m.to) ≡ true = ap (λ (o : Option ℕ). is_crossed_right p.men p.turn o) (sym crossed)
             ∙ well.crossed in
             let passed : was_passed p.men x.colour m.to ≡ true = ap (λ (c : Colour). was_passed p.men c m.to) made.mine ∙ right in

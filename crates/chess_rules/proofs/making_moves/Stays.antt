@@ -4,6 +4,7 @@ use Rattle.chess_rules.proofs.Chess.{AtMostOneKing, AtMostOneKing-without, CanCa
 use Rattle.chess_rules.proofs.Chess.{if_empty, is_castling, is_circe, is_crossed_right, is_double_step, is_home, is_home-none, is_man, is_pawn_inside, is_promotion_right, is_vacant_at, last_rank, man_on, man_on-with_other, man_on-with_same, man_on-without_none, man_on-without_other, man_on-without_same, man_on_at, may_promote, move_man}
 use Rattle.chess_rules.proofs.Chess.{is_pseudo_legal, moved_men, other, put_at, rank_of, rebirth, reborn_at, reborn_square, same_colour, same_kind, second_rank, square_at, square_at-is, unmoved_after, unmoved_with_rook, unmoved_without_at, was_passed, with_man, without_at, without_man, without_unmoved}
 use Rattle.chess_core.specs.declared.man.Unmoved.{Unmoved}
+use Rattle.chess_core.proofs.Kept.{same_colour-refl}
 use Rattle.chess_rules.proofs.making_moves.Fits.{arrived, arrived_other, can_move, castle_of, corner_stays, no_capture, pawn_is_no_king, taken}
 use Rattle.chess_rules.proofs.making_moves.Plays.{none_from_is_some}
 use Rattle.chess_rules.proofs.making_moves.Pseudo.{Advances, IsMade, kind_is_pawn, made, pawn_goes, pawn_reaches, ways}
@@ -118,14 +119,10 @@ rook_reborn y c s r is h = grind (arith, cases_Bool)
 kind_is_rook : (k : Kind) → same_kind k Rook ≡ true → k ≡ Rook
 kind_is_rook k h = grind arith
 
--- a colour is the same as itself
-pub colour_self : (c : Colour) → same_colour c c ≡ true
-colour_self c = grind arith
-
 reborn_rook_home : (y : Man) (s r : ℕ) → same_kind y.kind Rook ≡ true → rebirth y.colour y.kind s ≡ Some r → is_home (Some y) r ≡ true
 reborn_rook_home y s r rook h =
     let k : y.kind ≡ Rook = kind_is_rook y.kind rook in
-    rook_reborn y y.colour s r (and_from _ _ (colour_self y.colour) rook) (rw k at h)
+    rook_reborn y y.colour s r (and_from _ _ (same_colour-refl y.colour) rook) (rw k at h)
 
 -- the men once a man is reborn
 reborn_sound : (men : List (Option Man)) (o : Option ℕ) (y : Option Man) → IsSound men

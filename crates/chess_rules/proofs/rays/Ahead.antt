@@ -92,7 +92,7 @@ falling d non down = record {
       rw non far;
 }
 
--- the line of each of the sixteen directions does
+-- each of the sixteen directions does
 pub ordered : (x : Direction) → Ordered (step_of x)
 unfolding rises
 ordered x = grind (arith, rising, falling)

@@ -42,7 +42,7 @@ on_board x a b = and_from _ _ (le-leb 1 x a) (le-leb x 8 b)
 pub cond-on : (b : Bool) (s n : ℕ) → b ≡ true → n ≡ s → cond b (Some n) None ≡ Some s
 cond-on b s n h e = grind (arith, false≢true)
 
--- no step at all leads from a square to itself
+-- after zero steps the square is the same
 pub stays : (s : ℕ) (d : Step) → s < 64 → along s d 0 ≡ Some s
 unfolding along
 stays s d p = search rules

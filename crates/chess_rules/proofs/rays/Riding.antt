@@ -44,11 +44,11 @@ ridden_more men ds w n q r v h i first =
     ap (λ (b : Bool). ridden_below men ds w n s || (b && list_any (rides men q s) ds)) (sym first.here)
     ∙ upto (λ q. bit_at w q == 1 && list_any (rides men q s) ds) n q first.low (λ j lo hi. and_left (bit_at w j == 1) _ (first.before j lo hi)))
 
--- before the first rider none is there
+-- below 0 there is no rider, and so no square
 pub ridden_none : (men : List (Option Man)) (ds : List Step) (w : ℕ) → 0 ≡ word (ridden_below men ds w 0)
 ridden_none men ds w = word_empty (ridden_below men ds w 0) (λ s small. refl)
 
--- behind the last they are the squares to which any rider gets
+-- once no rider is left, they are the squares to which any of them gets
 pub ridden_all : (men : List (Option Man)) (ds : List Step) (w n r : ℕ) → n ≤ 64 → r ≡ word (ridden_below men ds w n)
     → ((j : ℕ) → n ≤ j → j < 64 → (bit_at w j == 1) ≡ false) → r ≡ word (λ s. some_square (λ q. bit_at w q == 1 && list_any (rides men q s) ds))
 unfolding some_square squares
@@ -60,7 +60,7 @@ ridden_all men ds w n r le h none =
 abbrev pub is_rider : List (Option Man) → Colour → Kind → List Step → ℕ → ℕ → Bool
 is_rider men e j ds k q = (is_man (man_on men q) e j || is_man (man_on men q) e Queen) && is_on_some ds k q
 
--- they are the rook or bishop and the queen of those lines, where they stand on one
+-- the rooks or bishops and the queens on the lines from a square
 pub riders_are : (men : List (Option Man)) (e : Colour) (j : Kind) (ds : List Step) (k r l : ℕ) → r ≡ bit_or (squares_of men e j) (squares_of men e Queen)
     → l ≡ word (is_on_some ds k) → bit_and r l ≡ word (is_rider men e j ds k)
 unfolding squares_of
@@ -77,7 +77,7 @@ none_shut men e j ds k w h zero =
           ∙ ap (λ (n : ℕ). n == 1) (bit_at-zero q));
     })))
 
--- with them, a square shuts a line if it is seen from the king's square and from a rider
+-- else a square shuts a line exactly if the king's square and a rider both see it
 pub shut_are : (men : List (Option Man)) (e : Colour) (j : Kind) (ds : List Step) (k w n r : ℕ) → w ≡ word (is_rider men e j ds k)
     → n ≡ word (λ t. list_any (rides men k t) ds) → r ≡ word (λ s. some_square (λ q. bit_at w q == 1 && list_any (rides men q s) ds))
     → bit_and n r ≡ word (is_shut men e j ds k)
