@@ -6,8 +6,9 @@ use Rattle.chess_mates.proofs.Chess.{squares_of, strikes, triple_at, without_man
 use Rattle.std.proofs.Common.{IfSome}
 use Rattle.chess_mates.specs.ties.Flights.{IsSeenFrom, has_flight, is_flight, is_flight_from, is_open}
 use Rattle.chess_rules.proofs.Bits.{word_has}
+use Rattle.chess_rules.proofs.rays.Ends.{square_is}
 use Rattle.chess_rules.proofs.attacks.Exposing.{IsSimple, check_is}
-use Rattle.chess_rules.proofs.making_moves.Fits.{arrived, arriving_king, capture_of_piece, is_square-some, king_no_step, no_capture, taken}
+use Rattle.chess_rules.proofs.making_moves.Fits.{arrived, arriving_king, capture_of_piece, king_no_step, no_capture, taken}
 use Rattle.chess_mates.proofs.Landing.{StandAlike, no_step_there, reaches_alike}
 use Rattle.chess_mates.proofs.Mating.{turn_after}
 use Rattle.chess_rules.proofs.listing_moves.Places.{moves_behind-here, moves_behind-skip, moves_behind-start}
@@ -114,7 +115,7 @@ module _ (rule : RuleSet) (p : Position) (m : Move) (x : Man) (k : ℕ) (i : IsS
           comes = and_right (same_colour (arriving_man x m.promo).colour (other p.turn)) _ no_king_arrives;
           arrival = no_king_free p.turn (other p.turn) (man_on p.men m.to) is_made.arrival;
           captured = λ s at.
-              let t = taken rule p x m s i.well_formed is_made (is_square-some (capture_square p x m) s at) in
+              let t = taken rule p x m s i.well_formed is_made (square_is (capture_square p x m) s at) in
               ap (λ (o : Option Man). is_man o (other p.turn) King) t.there ∙ and_right (same_colour t.man.colour (other p.turn)) _ t.mortal;
         })
         ∙ i.king
@@ -279,7 +280,7 @@ module _ (rule : RuleSet) (p : Position) (m : Move) (x : Man) (k : ℕ) (i : IsS
       → IsStep p.men m.from (capture_square p x m) m.to k (capture_square (position_after rule p m) y (step_to k t)) t y p.turn
   is_step y t there king =
       let free = (is_made rule p m x k i).arrival in
-      grind (arith, taken, capture_of_piece, king_is_no_pawn, is_square-some, king_is_other, other_side, king_there, no_own_free, no_king_square)
+      grind (arith, taken, capture_of_piece, king_is_no_pawn, square_is, king_is_other, other_side, king_there, no_own_free, no_king_square)
 
   module _ (n r : ℕ) (near : AreOpen rule (position_after rule p m).men (other p.turn) k n)
       (arrives : (l : List (Option Man)) → (sight_lifted p.men m.from (capture_square p x m) m.to k).occupied ≡ occupied_squares l

@@ -1,6 +1,7 @@
 -- A king who goes next to the other king is in check there: no legal move does so.
 use Rattle.chess_rules.proofs.Basics.{Bool, List, None, Option, Some, and_from, and_left, and_parts, ap, arith, cases_Bool, false, false_from_ne_true, false≢true, inl, inr, not-true, refl, sym, true, ℕ, ◌<◌, ◌||◌, ◌∙◌, ◌≡◌, ◌≢◌}
 use Rattle.chess_mates.proofs.Chess.{CanCastle, Colour, IsWellFormed, King, Man, Move, Position, RuleSet, capture_square, corner, halfway, in_check, is_absent, is_attacked, is_attacked_at, is_castling, is_fairy, is_legal, is_man, is_pseudo_legal, king_square, man_on, man_on-with_other, man_on-without_other, man_on_at, may_check_from, may_check_from_on, moved_men, other, position_after, put_at, reaches_as, reborn_square, same_colour, same_kind, some_square_true, strikes}
+use Rattle.chess_core.proofs.Kept.{same_colour-refl}
 use Rattle.chess_rules.proofs.listing_moves.Calls.{is_pseudo_legal-from_legal}
 use Rattle.chess_rules.proofs.attacks.Exposing.{king_stays_king}
 use Rattle.chess_rules.proofs.making_moves.Fits.{arrived, arrived_other, can_move, kind_is_king, taken}
@@ -10,7 +11,7 @@ use Rattle.chess_rules.proofs.making_moves.Pseudo.{IsMade, made}
 use Rattle.chess_mates.proofs.Rebirths.{after_is}
 use Rattle.chess_rules.proofs.making_moves.Returns.{moved_arrival}
 use Rattle.chess_rules.proofs.attacks.Shielding.{king_is, moved_plainly, other_differs}
-use Rattle.chess_rules.proofs.making_moves.Stays.{after_well_formed, colour_self, move_man_other, reborn_is}
+use Rattle.chess_rules.proofs.making_moves.Stays.{after_well_formed, move_man_other, reborn_is}
 
 -- who stands on a square stays there when somebody is put on an empty one
 stays_put : (men : List (Option Man)) (o : Option ℕ) (w : Option Man) (s : ℕ) (z : Man) → ((r : ℕ) → o ≡ Some r → man_on men r ≡ None)
@@ -72,7 +73,7 @@ module _ (rule : RuleSet) (p : Position) (x : Man) (m : Move) (well : IsWellForm
       unfolding in_check is_attacked
       in_check_there may =
           let own : is_man (Some x) p.turn King ≡ true =
-          and_from _ _ (ap (λ (c : Colour). same_colour c p.turn) is.mine ∙ colour_self p.turn) king in
+          and_from _ _ (ap (λ (c : Colour). same_colour c p.turn) is.mine ∙ same_colour-refl p.turn) king in
           let square : king_square (position_after rule p m).men p.turn ≡ Some m.to =
           king_is (position_after rule p m).men p.turn m.to (after_well_formed rule p m well may).kings small
           (ap (λ (o : Option Man). is_man o p.turn King) came ∙ own) in

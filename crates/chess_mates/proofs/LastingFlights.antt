@@ -9,12 +9,13 @@ use Rattle.chess_mates.specs.ties.LastingFlights.{AreApproached, AreGuarded, Are
 use Rattle.chess_rules.proofs.Bits.{off_left, off_right, on_left, on_right, word_has}
 use Rattle.chess_rules.proofs.Tests.{find_no}
 use Rattle.chess_rules.proofs.rays.Flips.{diagonal-back, king-back, knight-back, nightrider-back, pawn-back, queen_rides-back, straight-back}
+use Rattle.chess_rules.proofs.rays.Ends.{square_is}
 use Rattle.chess_rules.proofs.attacks.Exposing.{king_is_after}
 use Rattle.chess_rules.proofs.attacks.Seeing.{kept_now, king_stands, left_now, there_now}
 use Rattle.chess_rules.proofs.attacks.Shielding.{arriving_colour, other_differs, other_twice, simple_after}
 use Rattle.chess_rules.proofs.listing_moves.Arrivals.{may_go_aimed}
 use Rattle.chess_rules.proofs.listing_moves.Targeting.{arrival_needed, every_square_on, false_by}
-use Rattle.chess_rules.proofs.making_moves.Fits.{arrived, castle_of, is_square-some, taken}
+use Rattle.chess_rules.proofs.making_moves.Fits.{arrived, castle_of, taken}
 use Rattle.chess_rules.proofs.making_moves.Pseudo.{IsMade, made, on_board}
 use Rattle.chess_rules.proofs.making_moves.Stays.{after_well_formed, maker}
 use Rattle.chess_mates.proofs.CheckTargets.{last_rank_on}
@@ -356,7 +357,7 @@ module _ (rule : RuleSet) (p : Position) (m : Move) (x : Man) (k w : ℕ) (well 
               (ap (λ (c : Colour). same_colour c p.turn) (arriving_colour y n.promo) ∙ not_mine y p.turn enemy_y);
           arrival = no_king_free q.turn p.turn (man_on q.men n.to) is_n.arrival;
           captured = λ s at.
-              let t = taken rule q y n s well_q is_n (is_square-some (capture_square q y n) s at) in
+              let t = taken rule q y n s well_q is_n (square_is (capture_square q y n) s at) in
               ap (λ (o : Option Man). is_man o p.turn King) t.there ∙ and_right (same_colour t.man.colour p.turn) _ t.mortal;
         })
         ∙ king_q

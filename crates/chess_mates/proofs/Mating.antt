@@ -1,7 +1,8 @@
 -- The moves that mate, by their numbers.
 use Rattle.chess_rules.proofs.Basics.{Bool, [], and_left, and_right, ap, arith, cases_Bool, cases_lt, false, inl, inr, not, refl, rules, suc, sym, true, zero, ℕ, ◌&&◌, ◌+◌, ◌-◌, ◌<◌, ◌∙◌, ◌∷◌, ◌≡◌, ◌≤◌}
 use Rattle.chess_mates.proofs.Chess.{HaveNone, Move, Position, RuleSet, after_by, first_of_and, in_check, is_legal, is_mate, is_pseudo_legal, mates, mates_behind, other, position_after, second_of_and, triple_at}
-use Rattle.chess_rules.proofs.listing_moves.Places.{moves_behind-end, moves_behind-here, moves_behind-skip, not_pseudo}
+use Rattle.chess_rules.proofs.listing_moves.Places.{moves_behind-end, moves_behind-here, moves_behind-skip}
+use Rattle.chess_rules.specs.ties.Idle.{is_legal-idle}
 use Rattle.chess_rules.proofs.making_moves.Stays.{maker}
 use Rattle.chess_rules.proofs.listing_moves.Calls.{is_pseudo_legal-from_legal}
 
@@ -20,7 +21,7 @@ mates_behind-skip rule p n lt h = search (rules, false_second, moves_behind-here
 
 pub not_mating : (rule : RuleSet) (p : Position) (m : Move) → is_pseudo_legal rule p m ≡ false → mates rule p m ≡ false
 unfolding mates
-not_mating rule p m h = and_left _ _ (not_pseudo rule p m h)
+not_mating rule p m h = and_left _ _ (is_legal-idle rule p m h)
 
 -- over a stretch without mates
 skip_by : (rule : RuleSet) (p : Position) (n a b : ℕ) → b ≡ a + n → b ≤ 28672 → HaveNone (mates rule p) a b → mates_behind rule p a ≡ mates_behind rule p b

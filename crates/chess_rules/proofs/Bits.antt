@@ -2,6 +2,7 @@
 use Rattle.chess_rules.proofs.Basics.{Bool, None, Some, ap, arith, bit_and, bit_at, bit_at-lt, bit_at-pow_other, bit_at-pow_same, bit_at-trailing_zeros, bit_at-zero, bit_at_and, bit_at_mask_below, bit_at_mask_inside, bit_at_or, bit_not, bit_or, cases_eq, cases_lt, eq-eqb, eqb-true, false, false_from_ne_true, find, inl, inr, not, one_shl, ones_shl, range_with_len, refl, rules, sym, trailing_zeros, true, true_from_ne_false, w64, ℕ, ◌%◌, ◌*◌, ◌-◌, ◌<◌, ◌==◌, ◌^◌, ◌∙◌, ◌≡◌, ◌≤◌, ◌⊎◌}
 use Rattle.chess_rules.proofs.Chess.{bit_of, differs, find_range_none, find_range_some, is_square, some_square, square_bit, square_word, squares_none, squares_not, squares_same, squares_some, word}
 
+-- the bits of a word from a place on
 abbrev pub from_on : ℕ → ℕ → ℕ
 from_on word from = bit_and word ((2 ^ 64 - 1) * 2 ^ from % 2 ^ 64)
 
@@ -15,14 +16,17 @@ bit_below word from i le lt = grind (arith, ones_shl 64 from le, bit_at_and word
 not_set : (n : ℕ) → n ≡ 0 → (n == 1) ≡ false
 not_set n h = rw h refl
 
+-- where no bit is left from the place on, none is found
 pub next_none : (word from : ℕ) → from < 64 → from_on word from ≡ 0 → find (λ s. bit_at word s == 1) (range_with_len from (64 - from)) ≡ None
 next_none word from p h =
     find_range_none (λ s. bit_at word s == 1) from (64 - from)
     (λ k lo hi. not_set (bit_at word k) (sym (bit_from_on word from k lo (omega arith)) ∙ ap (λ n. bit_at n k) h ∙ bit_at-zero k))
 
+-- the lowest bit from the place on isn't below the place
 pub next_low : (word from : ℕ) → from < 64 → 0 < from_on word from → from_on word from < 2 ^ 64 → from ≤ trailing_zeros w64 (from_on word from)
 next_low word from p pos fits = grind (arith, bit_at-trailing_zeros w64 (from_on word from) pos fits, cases_lt, bit_below)
 
+-- and it is the one that is found
 pub next_some : (word from : ℕ) → from < 64 → 0 < from_on word from → from_on word from < 2 ^ 64
     → find (λ s. bit_at word s == 1) (range_with_len from (64 - from)) ≡ Some (trailing_zeros w64 (from_on word from))
 next_some word from p pos fits =
@@ -40,6 +44,7 @@ is_bit b = grind arith
 zero_or : (n : ℕ) → (n ≡ 0) ⊎ (0 < n)
 zero_or n = grind arith
 
+-- a word isn't 0 exactly if some square passes
 pub not_zero : (test : ℕ → Bool) → not (word test == 0) ≡ some_square test
 not_zero test = search (rules, squares_none, squares_some, zero_or)
 
@@ -68,6 +73,7 @@ every_square test h = ap (bit_not w64) (word_empty (λ s. false) (λ s b. refl))
 pub off_left : (a b i : ℕ) → (bit_at (bit_or a b) i == 1) ≡ false → (bit_at a i == 1) ≡ false
 off_left a b i h = search (rules, bit_at-lt, bit_at_or, eq-eqb, eqb-true, false_from_ne_true)
 
+-- and off the second word
 pub off_right : (a b i : ℕ) → (bit_at (bit_or a b) i == 1) ≡ false → (bit_at b i == 1) ≡ false
 off_right a b i h = search (rules, bit_at-lt, bit_at_or, eq-eqb, eqb-true, false_from_ne_true)
 
@@ -75,5 +81,6 @@ off_right a b i h = search (rules, bit_at-lt, bit_at_or, eq-eqb, eqb-true, false
 pub on_left : (a b i : ℕ) → (bit_at a i == 1) ≡ true → (bit_at (bit_or a b) i == 1) ≡ true
 on_left a b i h = true_from_ne_false _ (λ e. let off = off_left a b i e in cc)
 
+-- and so is one of the second word
 pub on_right : (a b i : ℕ) → (bit_at b i == 1) ≡ true → (bit_at (bit_or a b) i == 1) ≡ true
 on_right a b i h = true_from_ne_false _ (λ e. let off = off_right a b i e in cc)

@@ -34,6 +34,7 @@ use Rattle.chess_core.specs.SquareNames.{a1, b1, c1, d1, e1, g1, h1, a2, b2, h2,
 abbrev own_rooks : List (Option Man)
 own_rooks = set_up (on White Rook a1 ∷ on White Rook a8 ∷ [])
 
+-- the rook on a8 reaches the one on a1, which no enemy of its kind faces
 pub own_men_do_not_paralyse : (faces_its_like own_rooks (man White Rook) a1 ≡ false)
     × (some_square (λ q. is_man (man_on own_rooks q) White Rook && reaches own_rooks q a1) ≡ true)
 unfolding reaches reaches_as rides hops leaps is_clear along squares some_square faces_its_like faces
@@ -82,6 +83,7 @@ pub crossed_square_may_meet_a_check : (w : ℕ) → AreEvasionsFrom orthodox pas
 crossed_square_may_meet_a_check w are = true_from_ne_false _ (λ e. true≢false
     (sym (are.elsewhere (go e5 d6) refl (omega arith) en_passant_meets.1 e) ∙ en_passant_meets.2))
 
+-- d6 is neither the checking pawn's square nor one between it and the king
 pub no_evasion_there : is_evasion passing_check.men White e4 d5 d6 ≡ false
 unfolding reaches_as rides is_clear along
 no_evasion_there = refl
@@ -95,9 +97,11 @@ king_goes : (in_check orthodox rook_check.men White ≡ true) × (is_pseudo_lega
 unfolding check_after_a_move
 king_goes = (refl, refl, refl)
 
+-- so the squares to which the king must go hold b1
 pub king_may_leave_a_check : (w : ℕ) → AreEvasionsFrom orthodox rook_check a1 w → (bit_at w b1 == 1) ≡ true
 king_may_leave_a_check w are = true_from_ne_false _ (λ e. true≢false (sym (are.elsewhere (go a1 b1) refl (omega arith) king_goes.1 e) ∙ king_goes.2))
 
+-- b1 is neither the rook's square nor one between it and the king
 pub no_other_man_meets_it_there : is_evasion rook_check.men White a1 a8 b1 ≡ false
 unfolding reaches_as rides is_clear along
 no_other_man_meets_it_there = refl
@@ -191,6 +195,7 @@ grasshopper_is_seen = (refl, refl, refl)
 abbrev grasshopper_check : List (Option Man)
 grasshopper_check = set_up (on White King a1 ∷ on White Pawn a2 ∷ on Black King h8 ∷ on Black Grasshopper a8 ∷ [])
 
+-- the king is in check, and a man on b1 would meet no check of a rook on a8
 pub grasshopper_checks : (in_check orthodox grasshopper_check White ≡ true) × (is_evasion grasshopper_check White a1 a8 b1 ≡ false)
 unfolding check_after_a_move
 grasshopper_checks = (refl, refl)
@@ -258,6 +263,7 @@ paralysed_man_attacks_nothing = (refl, refl)
 abbrev rook_faces_rook : Position
 rook_faces_rook = position (on White King h1 ∷ on White Rook d1 ∷ on Black King b8 ∷ on Black Rook h3 ∷ []) White
 
+-- Rd1-d3 ends the check in Madrasi, and not in orthodox chess
 pub arriving_man_paralyses : (in_check madrasi rook_faces_rook.men White ≡ true) × (is_pseudo_legal madrasi rook_faces_rook (go d1 d3) ≡ true)
     × (in_check madrasi (position_after madrasi rook_faces_rook (go d1 d3)).men White ≡ false)
     × (in_check orthodox (position_after orthodox rook_faces_rook (go d1 d3)).men White ≡ true)
@@ -268,6 +274,7 @@ arriving_man_paralyses = (refl, refl, refl, refl)
 abbrev king_faces_king : Position
 king_faces_king = position (on White King a1 ∷ on Black King c3 ∷ []) White
 
+-- so Black's king isn't paralysed and gives check
 pub kings_are_never_paralysed : (faces_its_like (position_after madrasi king_faces_king (go a1 b2)).men (man Black King) c3 ≡ true)
     × (is_paralysed madrasi (position_after madrasi king_faces_king (go a1 b2)).men c3 ≡ false)
     × (in_check madrasi (position_after madrasi king_faces_king (go a1 b2)).men White ≡ true)
@@ -278,6 +285,7 @@ kings_are_never_paralysed = (refl, refl, refl)
 abbrev queen_faces_queen : Position
 queen_faces_queen = position (on White King h1 ∷ on White Queen d1 ∷ on Black King b8 ∷ on Black Queen h3 ∷ []) White
 
+-- the move ends the check
 pub queens_are_paralysed : (in_check madrasi queen_faces_queen.men White ≡ true)
     × (in_check madrasi (position_after madrasi queen_faces_queen (go d1 d3)).men White ≡ false)
 unfolding check_after_a_move
@@ -293,6 +301,7 @@ lines_to_a_king = tt
 abbrev hurdle_comes : Position
 hurdle_comes = position (on White King a1 ∷ on White Rook h2 ∷ on Black King h8 ∷ on Black Grasshopper a8 ∷ []) White
 
+-- so the move to a2 uncovers the king: the arrival tells, the origin doesn't
 pub arriving_man_is_a_hurdle : (may_expose hurdle_comes.men White h2 ≡ false) × (may_stand_between hurdle_comes.men White h2 ≡ false)
     × (may_stand_between hurdle_comes.men White a2 ≡ true) × (cannot_expose orthodox hurdle_comes White (go h2 a2) ≡ false)
     × (is_pseudo_legal orthodox hurdle_comes (go h2 a2) ≡ true) × (in_check orthodox hurdle_comes.men White ≡ false)
@@ -304,6 +313,7 @@ arriving_man_is_a_hurdle = (refl, refl, refl, refl, refl, refl, refl)
 abbrev hurdle_goes : Position
 hurdle_goes = position (on White King a1 ∷ on White Rook a2 ∷ on White Knight a4 ∷ on Black King h8 ∷ on Black Grasshopper a8 ∷ []) White
 
+-- so a move from a4 may uncover the king, and Na4-b6 does
 pub leaving_man_opens_a_hop : (is_shut hurdle_goes.men Black Rook straight_steps a1 a4 ≡ false)
     × (may_stand_between hurdle_goes.men Black a4 ≡ false) × (may_expose hurdle_goes.men White a4 ≡ true)
     × (is_pseudo_legal orthodox hurdle_goes (go a4 b6) ≡ true) × (in_check orthodox hurdle_goes.men White ≡ false)
@@ -315,6 +325,7 @@ leaving_man_opens_a_hop = (refl, refl, refl, refl, refl, refl)
 abbrev shut_nightrider : Kind → Position
 shut_nightrider k = position (on White King c1 ∷ on White Bishop d3 ∷ on Black King h8 ∷ on Black k e5 ∷ []) White
 
+-- so d3 lies on a fairy line to the king, on none with a knight, and Bd3-e4 uncovers him
 pub nightriders_line_is_shut : (may_stand_between (shut_nightrider Nightrider).men White d3 ≡ true)
     × (may_stand_between (shut_nightrider Knight).men White d3 ≡ false)
     × (is_pseudo_legal orthodox (shut_nightrider Nightrider) (go d3 e4) ≡ true) × (in_check orthodox (shut_nightrider Nightrider).men White ≡ false)
@@ -333,6 +344,7 @@ pub stretch_ends_at_a_move : (w b : ℕ) → (bit_at w b1 == 1) ≡ true → IsB
 unfolding check_after_a_move
 stretch_ends_at_a_move w b there barren = ends_at (position (on White Rook a1 ∷ []) White) a1 w 7 b there refl barren
 
+-- of a pawn on e7 to e8, where it becomes a queen
 pub stretch_ends_at_a_promotion : (w b : ℕ) → (bit_at w e8 == 1) ≡ true → IsBarrenFrom (position (on White Pawn e7 ∷ []) White) e7 w 0 b → b ≤ 421
 unfolding check_after_a_move
 stretch_ends_at_a_promotion w b there barren = ends_at (position (on White Pawn e7 ∷ []) White) e7 w 421 b there refl barren

@@ -2,12 +2,15 @@
 use Rattle.chess_rules.proofs.Basics.{Bool, List, None, Some, [], and_from, and_left, and_parts, arith, cases_Bool, cases_eq, cases_lt, cond-false, cond-true, false, false≢true, find, inl, inr, list_all, list_any, not, or_cases, or_left, or_right, range_with_len, refl, rules, suc, sym, true, zero, ℕ, ◌&&◌, ◌+◌, ◌-◌, ◌<◌, ◌==◌, ◌||◌, ◌∙◌, ◌∷◌, ◌≡◌, ◌≤◌, ◌⊎◌}
 use Rattle.chess_core.proofs.Ranges.{NoneBelow}
 
+-- where two tests both pass, the first does
 pub first_of_and : (a b : Bool) → (a && b) ≡ true → a ≡ true
 first_of_and a b h = grind arith
 
+-- and the second
 pub second_of_and : (a b : Bool) → (a && b) ≡ true → b ≡ true
 second_of_and a b h = grind (arith, false≢true)
 
+-- what holds of all numbers of a range holds of each
 pub all_at : (p : ℕ → Bool) (a n k : ℕ) → list_all p (range_with_len a n) ≡ true → a ≤ k → k < a + n → p k ≡ true
 all_at p a zero k h lo hi = absurd (omega arith)
 all_at p a (suc n) k h lo hi = elim (cases_eq k a) [
@@ -15,9 +18,11 @@ all_at p a (suc n) k h lo hi = elim (cases_eq k a) [
   | inr ne ↦ all_at p (a + 1) n k (second_of_and (p a) _ h) (omega arith) (omega arith)
 ]
 
+-- where the first test passes and implies the second, the second passes
 pub implied : (a b : Bool) → (not a || b) ≡ true → a ≡ true → b ≡ true
 implied a b h e = grind (arith, false≢true)
 
+-- two tests agree if each passes where the other does
 pub same_Bool : (a b : Bool) → (a ≡ true → b ≡ true) → (b ≡ true → a ≡ true) → a ≡ b
 same_Bool a b f g = grind arith
 
@@ -26,10 +31,12 @@ pub all_kept : {A : Type 0} (f g : A → Bool) (xs : List A) → ((x : A) → f 
 all_kept f g [] each h = refl
 all_kept f g (x ∷ xs) each h = search (rules, each, all_kept f g xs each, and_parts, and_from)
 
+-- where one test implies another, some element passes the second if some passes the first
 pub any_kept : {A : Type 0} (f g : A → Bool) (xs : List A) → ((x : A) → f x ≡ true → g x ≡ true) → list_any f xs ≡ true → list_any g xs ≡ true
 any_kept f g [] each h = h
 any_kept f g (x ∷ xs) each h = search (rules, each, any_kept f g xs each, or_cases, or_left, or_right)
 
+-- two numbers that differ fail the test of equality
 pub differs : (a b : ℕ) → (a ≡ b → ⊥) → (a == b) ≡ false
 differs a b ne = search rules
 
@@ -53,9 +60,11 @@ pub record IsFirst (p : ℕ → Bool) (a n k : ℕ) : Type 0 where
   pub here : p k ≡ true
   pub before : (j : ℕ) → a ≤ j → j < k → p j ≡ false
 
+-- what two equal options hold is equal
 pub some_is : (a b : ℕ) → Some a ≡ Some b → a ≡ b
 some_is a b h = cc
 
+-- what `find` gives is the first of the range that passes
 pub find_first : (p : ℕ → Bool) (a n k : ℕ) → find p (range_with_len a n) ≡ Some k → IsFirst p a n k
 find_first p a zero k h = absurd (let bad : None ≡ Some k = h in cc)
 find_first p a (suc n) k h = elim (cases_Bool (p a)) [
@@ -72,6 +81,7 @@ find_first p a (suc n) k h = elim (cases_Bool (p a)) [
       }
 ]
 
+-- where `find` gives nothing, no number of the range passes
 pub find_no : (p : ℕ → Bool) (a n k : ℕ) → find p (range_with_len a n) ≡ None → a ≤ k → k < a + n → p k ≡ false
 find_no p a zero k h lo hi = absurd (omega arith)
 find_no p a (suc n) k h lo hi = elim (cases_Bool (p a)) [
@@ -86,6 +96,7 @@ find_no p a (suc n) k h lo hi = elim (cases_Bool (p a)) [
 pub skipped : (p r : ℕ → Bool) (a n k : ℕ) → NoneBelow (λ s. p s && r s) a → IsFirst p a n k → NoneBelow (λ s. p s && r s) k
 skipped p r a n k past f = search rules
 
+-- where none of the rest passes the first test, none of the 64 passes both
 pub skipped_all : (p r : ℕ → Bool) (a : ℕ) → NoneBelow (λ s. p s && r s) a → find p (range_with_len a (64 - a)) ≡ None → NoneBelow (λ s. p s && r s) 64
 skipped_all p r a past h = record {
   fails = λ j b. elim (cases_lt j a) [ inl lt ↦ past.fails j lt | inr ge ↦ and_left (p j) (r j) (find_no p a (64 - a) j h ge (omega arith)) ];

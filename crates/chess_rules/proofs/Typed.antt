@@ -2,6 +2,7 @@
 use Rattle.chess_rules.proofs.Basics.{List, None, Option, Some, [], false, repeat, ℕ, ◌∷◌}
 use Rattle.chess_rules.proofs.Chess.{Colour, Kind, Man, Move, Position, none_unmoved, with_man}
 
+-- a man of this colour and kind
 abbrev pub man : Colour → Kind → Man
 man c k = record { colour = c; kind = k }
 
@@ -30,8 +31,10 @@ position xs c = record {
   nightriders = false;
 }
 
+-- the move from one square to another
 abbrev pub go : ℕ → ℕ → Move
 go a b = record { from = a; to = b; promo = None }
 
+-- the same with a promotion
 abbrev pub promoting : ℕ → ℕ → Kind → Move
 promoting a b k = record { from = a; to = b; promo = Some k }

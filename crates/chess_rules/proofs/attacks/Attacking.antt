@@ -21,10 +21,12 @@ turned : (men : List (Option Man)) (c : Colour) (j : Kind) (s t : ℕ) → (j �
 unfolding reaches_as
 turned men c j s t piece p q = grind (arith, king-back, queen_rides-back, straight-back, diagonal-back, knight-back, pawn-back, nightrider-back)
 
+-- a man, grasshoppers apart, reaches t from where its like of the other colour on t reaches
 pub comes_back : (men : List (Option Man)) (c e : Colour) (j : Kind) (t w : ℕ) → (j ≡ Grasshopper → ⊥) → t < 64 → w ≡ word (reaches_as men e j t)
     → e ≡ other c → w ≡ word (λ s. reaches_as men c j s t)
 comes_back men c e j t w piece q h enemy = grind (arith, squares_same, turned)
 
+-- a grasshopper reaches t from the squares found by looking back from t
 pub comes_grasshopper : (men : List (Option Man)) (c : Colour) (t : ℕ) → t < 64
     → word (λ s. list_any (hopped_from men t s) queen_steps) ≡ word (λ s. reaches_as men c Grasshopper s t)
 unfolding reaches_as
@@ -38,6 +40,7 @@ reaches_of_man men o c k s t h = grind (arith, first_of_and, same_colour-true, s
 only_then : (a b c : Bool) → (a ≡ true → b ≡ c) → (a && b) ≡ (a && c)
 only_then a b c p = grind arith
 
+-- the men of a kind on the squares from which that kind reaches t
 pub reached : (men : List (Option Man)) (c : Colour) (k : Kind) (t w n : ℕ) → w ≡ squares_of men c k → n ≡ word (λ s. reaches_as men c k s t)
     → bit_and w n ≡ word (λ s. is_man (man_on men s) c k && reaches men s t)
 unfolding reaches squares_of
@@ -50,6 +53,7 @@ reached men c k t w n h r =
 word_lacks : (test : ℕ → Bool) → word test ≡ 0 → (s : ℕ) → s < 64 → test s ≡ false
 word_lacks test h s b = sym (word_has test (word test) s refl b) ∙ word_has (λ s. false) (word test) s (h ∙ word_empty (λ s. false) (λ s b. refl)) b
 
+-- where no men of the kind stand, none reaches t
 pub reached_none : (men : List (Option Man)) (c : Colour) (k : Kind) (t w : ℕ) → w ≡ squares_of men c k → w ≡ 0
     → 0 ≡ word (λ s. is_man (man_on men s) c k && reaches men s t)
 unfolding squares_of
@@ -57,7 +61,7 @@ reached_none men c k t w h z =
     word_empty _ (λ s b. and_left (is_man (man_on men s) c k) (reaches men s t) (word_lacks (λ s. is_man (man_on men s) c k) (sym h ∙ z) s b))
 
 -- the men that ride along lines, and the others
-abbrev pub others : List Kind
+abbrev others : List Kind
 others = King ∷ Knight ∷ Pawn ∷ Grasshopper ∷ Nightrider ∷ []
 
 by_lines : (b : Bool) (k : Kind) (r s d : Bool) → (k ≡ Rook → r ≡ s) → (k ≡ Bishop → r ≡ d) → (k ≡ Queen → r ≡ (s || d))
@@ -88,6 +92,7 @@ at_square : (men : List (Option Man)) (c : Colour) (o : Option Man) (s t : ℕ) 
 at_square men c None s t p q = refl
 at_square men c (Some x) s t p q = search (rules, bishop_reaches, by_lines, queen_reaches, rook_reaches)
 
+-- the riders of a kind and the queens on the squares to which a ride from t gets
 pub met : (men : List (Option Man)) (c : Colour) (k : Kind) (t m n w : ℕ) (ds : List Step) → m ≡ squares_of men c k → n ≡ squares_of men c Queen
     → w ≡ word (λ s. list_any (rides men t s) ds)
     → bit_and (bit_or m n) w ≡ word (is_met men c k ds t)
@@ -99,6 +104,7 @@ ahead_of : (men : List (Option Man)) (k s : ℕ) (d : Step) → rides men k s d 
 unfolding rides is_ahead
 ahead_of men k s d h = search (rules, any_kept, first_of_and)
 
+-- a square to which a ride gets lies on its line
 pub goes_on : (men : List (Option Man)) (k s : ℕ) (ds : List Step) → list_any (rides men k s) ds ≡ true → list_any (λ d. is_ahead k d s) ds ≡ true
 goes_on men k s ds h = any_kept (rides men k s) (λ d. is_ahead k d s) ds (λ d. ahead_of men k s d) h
 
@@ -109,6 +115,7 @@ rides_some men t s ds h = false_from_ne_true _ (λ y. false≢true (sym h ∙ go
 apart : (m l r : Bool) → (m && l) ≡ false → (l ≡ false → r ≡ false) → (m && r) ≡ false
 apart m l r p q = grind arith
 
+-- where none of them stands on a line from t, none is met
 pub met_none : (men : List (Option Man)) (c : Colour) (k : Kind) (t m n l : ℕ) (ds : List Step) → m ≡ squares_of men c k → n ≡ squares_of men c Queen
     → l ≡ word (is_on_some ds t) → bit_and (bit_or m n) l ≡ 0
     → 0 ≡ word (is_met men c k ds t)
@@ -128,6 +135,7 @@ comer men c t k s = is_man (man_on men s) c k && reaches men s t
 one_by_one : (x a b c d e : Bool) → ((((x || a) || b) || c) || (d || e)) ≡ (x || (a || (b || (c || (d || (e || false))))))
 one_by_one x a b c d e = grind arith
 
+-- the men that reach t: riders on straight lines, on diagonals, and the others by kind
 pub attackers_are : (men : List (Option Man)) (c : Colour) (t r b k n p f : ℕ) → t < 64
     → r ≡ word (is_met men c Rook straight_steps t)
     → b ≡ word (is_met men c Bishop diagonal_steps t)
@@ -156,6 +164,7 @@ pub fairy_are : (men : List (Option Man)) (c : Colour) (t g f : ℕ) → g ≡ w
     → bit_or g f ≡ word (λ s. comer men c t Grasshopper s || comer men c t Nightrider s)
 fairy_are men c t g f hg hf = (λ a. bit_or (hg a) (hf a)) ∙ squares_either (comer men c t Grasshopper) (comer men c t Nightrider)
 
+-- where there are neither, no fairy man reaches t
 pub fairy_none : (men : List (Option Man)) (c : Colour) (t g f : ℕ) → g ≡ squares_of men c Grasshopper → f ≡ squares_of men c Nightrider → g ≡ 0 → f ≡ 0
     → 0 ≡ word (λ s. comer men c t Grasshopper s || comer men c t Nightrider s)
 fairy_none men c t g f hg hf zg zf = fairy_are men c t 0 0 (reached_none men c Grasshopper t g hg zg) (reached_none men c Nightrider t f hf zf)
@@ -169,11 +178,13 @@ pub attacked_by : (rule : RuleSet) (men : List (Option Man)) (t w : ℕ) (c : Co
 unfolding is_attacked strikes
 attacked_by rule men t w c h = search (rules, some_square_same, word_has)
 
+-- the square is reached exactly if the word of the men that reach it isn't 0
 pub is_reached_by : (men : List (Option Man)) (t w : ℕ) (c : Colour) → w ≡ word (λ s. is_side (man_on men s) c && reaches men s t)
     → not (w == 0) ≡ is_reached men t c
 unfolding is_reached
 is_reached_by men t w c h = ap (λ n. not (n == 0)) h ∙ not_zero (λ s. is_side (man_on men s) c && reaches men s t)
 
+-- an enemy of a man's kind reaches its square exactly if the word of those isn't 0
 pub faced : (men : List (Option Man)) (x : Man) (t w : ℕ) → w ≡ word (λ s. is_man (man_on men s) (other x.colour) x.kind && reaches men s t)
     → not (w == 0) ≡ faces_its_like men x t
 unfolding faces_its_like faces

@@ -12,9 +12,11 @@ pub plain_elsewhere : (rule : RuleSet) (p : Position) (x : Man) (m : Move) (b d 
 unfolding is_plain
 plain_elsewhere rule p x m b d small no_castling crossed off-b reborn off-d = search (rules, and_left, and_right, cases_Bool, word_has)
 
+-- where nobody stands there is no move, so any word will do
 pub evasions_from_nobody : (rule : RuleSet) (p : Position) (f w : ℕ) → man_on p.men f ≡ None → AreEvasionsFrom rule p f w
 evasions_from_nobody rule p f w none = search (rules, nobody_moves)
 
+-- the word of all squares leaves no move out
 pub evasions_from_all : (rule : RuleSet) (p : Position) (f : ℕ) → AreEvasionsFrom rule p f (bit_not w64 0)
 evasions_from_all rule p f = search (rules, every_square_on)
 
@@ -31,5 +33,6 @@ module _ (rule : RuleSet) (p : Position) (x : Man) (f : ℕ) (well : IsWellForme
       (plain_elsewhere rule p x m b c small no_castling crossed (off_right a b m.to off-ab) reborn (off_right (bit_or a b) c m.to off))
       piece evasion_squares (off_left a b m.to off-ab)
 
+  -- another man than the king needs the evasions, the crossed square and in Circe those with men
   pub evasions_from_some : AreEvasionsFrom rule p f (bit_or (bit_or a b) c)
   evasions_from_some = record { elsewhere = check_elsewhere }

@@ -3,14 +3,16 @@ use Rattle.chess_rules.proofs.Basics.{Bool, List, None, Option, Some, and_from, 
 use Rattle.chess_rules.proofs.Chess.{AreArrived, AreOthers, AreSeen, Colour, IsWellFormed, Kind, King, Man, Move, Position, RuleSet, arriving_man, capture_square, differs, faces, faces_its_like, in_check, is_arrival_free, is_attacked_at, is_castling, is_circe, is_faced, is_madrasi, is_man, is_paralysed, is_promotion_right, is_pseudo_legal, is_side, is_simple, is_square, king_after, king_square, man_on, other, position_after, reaches, same_colour, same_colour-true, same_kind, sight_after, some_square, squares_both, squares_either, squares_not, squares_of, squares_same, word}
 use Rattle.chess_rules.specs.ties.Sight.{is_arriving_as, own_after}
 use Rattle.chess_rules.specs.declared.sight.Sight.{Sight}
+use Rattle.chess_core.proofs.Kept.{same_colour-refl}
 use Rattle.chess_rules.proofs.attacks.Attacking.{attacked_by}
 use Rattle.chess_rules.proofs.Bits.{not_zero, word_empty, word_has}
-use Rattle.chess_rules.proofs.making_moves.Fits.{arrived, arriving_king, is_square-some, pawn_is_no_king, taken}
+use Rattle.chess_rules.proofs.rays.Ends.{square_is}
+use Rattle.chess_rules.proofs.making_moves.Fits.{arrived, arriving_king, pawn_is_no_king, taken}
 use Rattle.chess_rules.proofs.making_moves.Pseudo.{IsMade, made}
 use Rattle.chess_rules.proofs.attacks.Seeing.{IsCapture, IsNoKing, kept_now, king_stands, left_now, seen_after, there_now}
 use Rattle.chess_rules.proofs.attacks.Shielding.{other_twice, arriving_colour, king_is, moved_plainly, other_differs, simple_after}
 use Rattle.chess_rules.proofs.making_moves.Returns.{moved_arrival}
-use Rattle.chess_rules.proofs.making_moves.Stays.{colour_self, moved_sound}
+use Rattle.chess_rules.proofs.making_moves.Stays.{moved_sound}
 
 -- the parts of a simple move
 pub record IsSimple (rule : RuleSet) (p : Position) (x : Man) (m : Move) : Type 0 where
@@ -20,7 +22,7 @@ pub record IsSimple (rule : RuleSet) (p : Position) (x : Man) (m : Move) : Type 
 none_there : (b : Bool) (o : Option ℕ) → (b && is_some o) ≡ false → b ≡ true → o ≡ None
 none_there b o p q = grind arith
 
-pub simple_parts : (rule : RuleSet) (p : Position) (x : Man) (m : Move) → is_simple rule x m (is_some (capture_square p x m)) ≡ true → IsSimple rule p x m
+simple_parts : (rule : RuleSet) (p : Position) (x : Man) (m : Move) → is_simple rule x m (is_some (capture_square p x m)) ≡ true → IsSimple rule p x m
 simple_parts rule p x m h = grind (arith, and_parts, not-true, none_there)
 
 -- the arriving man in a word by kind
@@ -28,6 +30,7 @@ pub arrives_as : (x : Man) (m : Move) (k : Kind) (w : ℕ) → w ≡ word (is_sq
     → w ≡ word (is_arriving_as x m k)
 arrives_as x m k w h is = h ∙ squares_same _ _ (λ s b. sym (ap (λ (y : Bool). y && is_square (Some m.to) s) is))
 
+-- it is in no word of another kind
 pub arrives_otherwise : (x : Man) (m : Move) (k : Kind) → same_kind (arriving_man x m.promo).kind k ≡ false → 0 ≡ word (is_arriving_as x m k)
 arrives_otherwise x m k off = word_empty (is_arriving_as x m k) (λ s b. and_left _ (is_square (Some m.to) s) off)
 
@@ -46,6 +49,7 @@ faced_is men c y s side = grind (arith, same_colour-true, other_twice)
 pub faced_king : (king f : Bool) → king ≡ true → not king ≡ (not king && f)
 faced_king king f h = (λ i. not (h i)) ∙ sym (ap (λ (k : Bool). not k && f) h)
 
+-- an enemy man, if no king, is paralysed exactly if a mover's man of its kind reaches it
 pub paralysed_by : (rule : RuleSet) (before men : List (Option Man)) (x : Man) (m : Move) (v : Sight) (s : ℕ) (y : Man) (b : Bool) → is_madrasi rule ≡ true
     → AreArrived before men x m v → is_side (man_on men s) (other x.colour) ≡ true → man_on before s ≡ Some y
     → b ≡ (not (same_kind y.kind King) && some_square (λ q. is_man (man_on men q) x.colour y.kind && reaches men q s))
@@ -58,6 +62,7 @@ paralysed_by rule before men x m v s y b is are side at h =
     ∙ sym (ap (λ (o : Option Man). is_faced men o s) there)
     ∙ sym (ap (λ (a : Bool). a && is_faced men (man_on men s) s) is)
 
+-- outside Madrasi nobody is paralysed
 pub none_paralysed : (rule : RuleSet) (men : List (Option Man)) (s : ℕ) → is_madrasi rule ≡ false → false ≡ is_paralysed rule men s
 unfolding is_paralysed
 none_paralysed rule men s off = sym (and_left (is_madrasi rule) _ off)
@@ -72,9 +77,10 @@ goes_capturing : (rule : RuleSet) (p : Position) (x : Man) (m : Move) → IsWell
 goes_capturing rule p x m well is small = search (rules, captures_arrival, other_differs)
 
 -- the king after the move
-pub free_of_king : (c : Colour) (o : Option Man) → is_arrival_free c o ≡ true → is_man o c King ≡ false
+free_of_king : (c : Colour) (o : Option Man) → is_arrival_free c o ≡ true → is_man o c King ≡ false
 free_of_king c o h = grind (arith, and_left, and_parts, not-true)
 
+-- a king isn't promoted
 pub king_stays_king : (p : Position) (x : Man) (m : Move) (r : Option Kind) → is_promotion_right p x m r ≡ true → same_kind x.kind King ≡ true
     → arriving_man x r ≡ x
 king_stays_king p x m r right king = grind (arith, and_parts, false≢true, pawn_is_no_king)
@@ -90,10 +96,11 @@ goes_without_king rule p x m well is small other_man = record {
       false≢true (sym other_man ∙ ap (λ (y : Man). same_kind y.kind King) (sym same) ∙ king));
   arrival = free_of_king p.turn (man_on p.men m.to) is.arrival;
   captured = λ s at.
-      let t = taken rule p x m s well is (is_square-some (capture_square p x m) s at) in
+      let t = taken rule p x m s well is (square_is (capture_square p x m) s at) in
       ap (λ (o : Option Man). is_man o p.turn King) t.there ∙ and_right (same_colour t.man.colour p.turn) _ t.mortal;
 }
 
+-- the mover's king stands on the arrival if he went, else where he stood
 pub king_is_after : (rule : RuleSet) (p : Position) (x : Man) (m : Move) → IsWellFormed p → IsMade rule p x m → m.to < 64 → is_castling x m ≡ false
     → king_square (arrived p x m) p.turn ≡ king_after p x m
 king_is_after rule p x m well is small castling =
@@ -101,7 +108,7 @@ king_is_after rule p x m well is small castling =
       arith,
       and_from,
       cases_Bool,
-      colour_self,
+      same_colour-refl,
       cond-false,
       cond-true,
       goes_without_king,
@@ -113,11 +120,13 @@ king_is_after rule p x m well is small castling =
       moved_sound,
     )
 
+-- the mover is in check after a simple move exactly if that square is attacked
 pub check_is : (rule : RuleSet) (p : Position) (x : Man) (m : Move) (o : Option ℕ) → IsWellFormed p → IsMade rule p x m → m.to < 64 → IsSimple rule p x m
     → king_after p x m ≡ o → in_check rule (position_after rule p m).men p.turn ≡ is_attacked_at rule (arrived p x m) o (other p.turn)
 unfolding in_check
 check_is rule p x m o well is small simple king = search (rules, king_is_after, simple_after)
 
+-- without a king the mover isn't in check
 pub no_king_exposed : (rule : RuleSet) (p : Position) (x : Man) (m : Move) → IsWellFormed p → is_pseudo_legal rule p m ≡ true → m.to < 64
     → man_on p.men m.from ≡ Some x
     → is_simple rule x m (is_some (capture_square p x m)) ≡ true → king_after p x m ≡ None → false ≡ in_check rule (position_after rule p m).men p.turn
@@ -149,7 +158,7 @@ own_on rule p x m k s well is small = elim (cases_eq s m.to) [
       own_there (is_man (man_on p.men s) x.colour k) _ _ (same_kind (arriving_man x m.promo).kind k) (is_square (Some m.to) s) free (eq-eqb m.to s (sym e))
       ∙ sym (ap (λ (o : Option Man). is_man o x.colour k) there
       ∙ ap (λ (y : Bool). y && same_kind (arriving_man x m.promo).kind k)
-      (ap (λ (c : Colour). same_colour c x.colour) (arriving_colour x m.promo) ∙ colour_self x.colour))
+      (ap (λ (c : Colour). same_colour c x.colour) (arriving_colour x m.promo) ∙ same_colour-refl x.colour))
   | inr ne ↦
       let off : is_square (Some m.to) s ≡ false = differs m.to s (λ e. ne (sym e)) in
       elim (cases_Bool (is_square (Some m.from) s || is_square (capture_square p x m) s)) [
@@ -190,6 +199,7 @@ are_arrived : (rule : RuleSet) (p : Position) (x : Man) (m : Move) → IsWellFor
     → AreArrived p.men (arrived p x m) x m (sight_after p.men m.from (capture_square p x m) m.to)
 are_arrived rule p x m well is small = search (rules, seen_after, goes_capturing, own_words, others_on)
 
+-- the mover is in check exactly if an unparalysed enemy then reaches the king's square
 pub exposed_is : (rule : RuleSet) (p : Position) (x : Man) (m : Move) (k w : ℕ) (b : Bool) → IsWellFormed p → is_pseudo_legal rule p m ≡ true → m.to < 64
     → man_on p.men m.from ≡ Some x → is_simple rule x m (is_some (capture_square p x m)) ≡ true → king_after p x m ≡ Some k
     → ((men : List (Option Man)) → AreSeen p.men men (other p.turn) (sight_after p.men m.from (capture_square p x m) m.to)

@@ -81,9 +81,11 @@ hop_kept men after a b s k d i o beside none_there h =
           (λ n. is_square (along s d n) k && is_occupied after (along s d (n - 1)) && is_clear after s d (n - 2)) 2 6 none) ∙ h))
     ]
 
+-- the eight directions of a queen
 abbrev pub queen_directions : List Direction
 queen_directions = East ∷ West ∷ North ∷ South ∷ NorthEast ∷ SouthEast ∷ NorthWest ∷ SouthWest ∷ []
 
+-- and those of a knight
 abbrev pub knight_directions : List Direction
 knight_directions = NorthNorthEast ∷ SouthSouthEast ∷ NorthNorthWest ∷ SouthSouthWest ∷ EastNorthEast ∷ EastSouthEast ∷ WestNorthWest ∷ WestSouthWest ∷ []
 
@@ -136,6 +138,7 @@ module _ (men after : List (Option Man)) (e : Colour) (a b k s : ℕ) (i : Frees
       any_off knight_directions (λ x. rides after s k (step_of x)) (λ x. rides men s k (step_of x)) lined lined
       (λ x u v ride. ride_kept men after a s k (step_of x) i (beside Nightrider (step_of x) was u) ride) off off h
 
+-- a square on no fairy line is on no line with a grasshopper and on none with a nightrider
 pub fairy_parts : (men : List (Option Man)) (e : Colour) (k t : ℕ) → is_on_fairy_line men e k t ≡ false
     → (list_any (is_lined men e Grasshopper k t) queen_steps ≡ false) × (list_any (is_lined men e Nightrider k t) knight_steps ≡ false)
 unfolding is_on_fairy_line
@@ -146,11 +149,13 @@ passed : (test : ℕ → Bool) (k w r : ℕ) (d : Step) → w ≡ word test → 
 unfolding ray
 passed test k w r d h i = grind (arith, squares_both, not_zero, some_square_same)
 
+-- of a line on which such a man stands, every square is lined with it
 pub line_passes : (test : ℕ → Bool) (k w r : ℕ) (d : Step) → w ≡ word test → r ≡ ray k d → (bit_and r w == 0) ≡ false
     → r ≡ word (λ t. is_ahead k d t && some_square (λ q. test q && is_ahead k d q))
 unfolding ray
 line_passes test k w r d h i some = grind (arith, squares_same, passed test k w r d h i)
 
+-- of one on which none stands, no square is
 pub line_misses : (test : ℕ → Bool) (k w r : ℕ) (d : Step) → w ≡ word test → r ≡ ray k d → (bit_and r w == 0) ≡ true
     → 0 ≡ word (λ t. is_ahead k d t && some_square (λ q. test q && is_ahead k d q))
 line_misses test k w r d h i none = grind (arith, word_empty, and_right, passed test k w r d h i)
@@ -176,14 +181,17 @@ no_line men e k t h =
     let n = or_parts (some_square (λ s. is_man (man_on men s) e Grasshopper)) (some_square (λ s. is_man (man_on men s) e Nightrider)) h in
     (λ i. no_man_lined men e Grasshopper k t queen_steps n.0 i || no_man_lined men e Nightrider k t knight_steps n.1 i)
 
+-- without enemy fairy men no square is on a fairy line to the king
 pub no_fairy_line : (men : List (Option Man)) (c : Colour) → has_fairy men (other c) ≡ false → 0 ≡ word (may_stand_between men c)
 unfolding may_stand_between
 no_fairy_line men c h = search (rules, no_line, word_empty)
 
+-- without a king none is either
 pub no_king_lined : (men : List (Option Man)) (c : Colour) → king_square men c ≡ None → 0 ≡ word (may_stand_between men c)
 unfolding may_stand_between
 no_king_lined men c h = word_empty _ (λ t b. ap (λ (o : Option ℕ). is_on_fairy_line_to men o c t) h)
 
+-- the squares on a grasshopper's line to the king, and those on a nightrider's
 pub fairy_lines_are : (men : List (Option Man)) (c : Colour) (k w n : ℕ) → king_square men c ≡ Some k
     → w ≡ word (λ t. list_any (is_lined men (other c) Grasshopper k t) queen_steps)
     → n ≡ word (λ t. list_any (is_lined men (other c) Nightrider k t) knight_steps) → bit_or w n ≡ word (may_stand_between men c)
@@ -193,6 +201,7 @@ fairy_lines_are men c k w n at h i =
     ∙ squares_either (λ t. list_any (is_lined men (other c) Grasshopper k t) queen_steps) (λ t. list_any (is_lined men (other c) Nightrider k t) knight_steps)
     ∙ squares_same _ _ (λ t b. sym (ap (λ (o : Option ℕ). is_on_fairy_line_to men o c t) at))
 
+-- the word of the men of a colour and kind, told by a test
 pub man_test : (men : List (Option Man)) (e : Colour) (j : Kind) (w : ℕ) → w ≡ squares_of men e j → w ≡ word (λ q. is_man (man_on men q) e j)
 unfolding squares_of
 man_test men e j w h = h

@@ -4,7 +4,7 @@ use Rattle.chess_rules.proofs.Chess.{AreSeen, Colour, Kind, King, Man, differs, 
 use Rattle.chess_rules.proofs.making_moves.Plays.{stays_empty}
 use Rattle.chess_rules.proofs.Bits.{every_square}
 
-pub and_true : (a : Bool) → (a && true) ≡ a
+and_true : (a : Bool) → (a && true) ≡ a
 and_true a = grind arith
 
 -- a man stands on s once the man on a is gone, that on o too, and one has come to b
@@ -27,9 +27,11 @@ occupied_words men a o b = search (rules, squares_both, squares_either, squares_
 abbrev pub gone_to : List (Option Man) → ℕ → Option ℕ → ℕ → Man → List (Option Man)
 gone_to men a o b z = with_man (without_at (without_man men a) o) b z
 
+-- taking a man off leaves the number of squares
 pub length-without_at : (men : List (Option Man)) (o : Option ℕ) → length (without_at men o) ≡ length men
 length-without_at men o = grind (arith, length-set)
 
+-- on the arrival stands the man that came
 pub there_now : (men : List (Option Man)) (a : ℕ) (o : Option ℕ) (b : ℕ) (z : Man) → b < length men → man_on (gone_to men a o b z) b ≡ Some z
 there_now men a o b z small = search rules
 
@@ -39,6 +41,7 @@ gone_at men o q h = grind (arith, false≢true, eqb-true, man_on-without_same)
 kept_at : (men : List (Option Man)) (o : Option ℕ) (q : ℕ) → is_square o q ≡ false → man_on (without_at men o) q ≡ man_on men q
 kept_at men o q h = grind (arith, man_on-without_other, false≢true, eq-eqb)
 
+-- origin and square of capture are empty, unless the man came there
 pub left_now : (men : List (Option Man)) (a : ℕ) (o : Option ℕ) (b : ℕ) (z : Man) (q : ℕ) → q ≢ b → (is_square (Some a) q || is_square o q) ≡ true
     → man_on (gone_to men a o b z) q ≡ None
 left_now men a o b z q ne h =
@@ -48,6 +51,7 @@ left_now men a o b z q ne h =
       | inr y ↦ gone_at (without_man men a) o q y
     ]
 
+-- every other square is as it was
 pub kept_now : (men : List (Option Man)) (a : ℕ) (o : Option ℕ) (b : ℕ) (z : Man) (q : ℕ) → q ≢ b → (is_square (Some a) q || is_square o q) ≡ false
     → man_on (gone_to men a o b z) q ≡ man_on men q
 kept_now men a o b z q ne h = search (rules, kept_at, man_on-with_other, or_parts)
@@ -58,6 +62,7 @@ is_gone h l t p q = grind arith
 is_kept : (h l t : Bool) → l ≡ false → t ≡ false → ((h && not l) || t) ≡ h
 is_kept h l t p q = grind arith
 
+-- so the test says on which squares men stand after the move
 pub occupied_now : (men : List (Option Man)) (a : ℕ) (o : Option ℕ) (b : ℕ) (z : Man) (q : ℕ) → b < length men
     → is_occupied_after men a o b q ≡ is_some (man_on (gone_to men a o b z) q)
 occupied_now men a o b z q small = search (rules, cases_Bool, cases_eq, differs, eq-eqb, is_gone, is_kept, kept_now, left_now, or_right, there_now)
@@ -69,6 +74,7 @@ pub record IsCapture (men : List (Option Man)) (a : ℕ) (o : Option ℕ) (b : �
   pub arriving_man : same_colour z.colour (other c) ≡ false
   pub captured : is_some (man_on men b) ≡ true → is_square o b ≡ true
 
+-- where no man of a colour stands, none of this colour and any kind does
 pub no_man : (o : Option Man) (c : Colour) (k : Kind) → is_side o c ≡ false → is_man o c k ≡ false
 no_man o c k h = grind (arith, and_left)
 
@@ -124,6 +130,7 @@ king_now : (men : List (Option Man)) (a : ℕ) (o : Option ℕ) (b : ℕ) (z : M
 king_now men a o b z c q i =
     grind (arith, cases_eq q b, there_now men a o b z i.small, cases_Bool (is_square (Some a) q || is_square o q), left_now, or_cases, eqb-true a q, kept_now)
 
+-- then the king stands where he stood
 pub king_stands : (men : List (Option Man)) (a : ℕ) (o : Option ℕ) (b : ℕ) (z : Man) (c : Colour) → IsNoKing men a o b z c
     → king_square (gone_to men a o b z) c ≡ king_square men c
 unfolding king_square squares

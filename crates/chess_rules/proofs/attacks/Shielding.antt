@@ -10,7 +10,7 @@ use Rattle.chess_rules.specs.declared.shields.RiderLines.TheVariants.{Diagonal}
 use Rattle.chess_rules.proofs.rays.Ends.{square_is}
 use Rattle.chess_rules.proofs.Bits.{not_zero, word_empty, word_has, every_square}
 use Rattle.chess_rules.proofs.attacks.FairyLines.{Holds, WasThere, fairy_parts, hopper_before, nightrider_before, once, ride_kept}
-use Rattle.chess_rules.proofs.making_moves.Fits.{arrived, arriving_king, is_square-some}
+use Rattle.chess_rules.proofs.making_moves.Fits.{arrived, arriving_king}
 use Rattle.chess_rules.proofs.rays.Flips.{backward, opposed, rides_turned}
 use Rattle.chess_rules.proofs.rays.Parting.{Frees, line_open}
 use Rattle.chess_rules.proofs.making_moves.Plays.{none_from_is_some}
@@ -26,6 +26,7 @@ pub record IsShift (men position_after : List (Option Man)) (a b : ℕ) (z : Man
   pub others : (q : ℕ) (y : Man) → man_on position_after q ≡ Some y → q ≢ b → man_on men q ≡ Some y
   pub arrived : (y : Man) → man_on position_after b ≡ Some y → y ≡ z
 
+-- a man that goes, and captures on its arrival alone, makes such a shift
 pub gone_shift : (men : List (Option Man)) (a : ℕ) (o : Option ℕ) (b : ℕ) (z : Man) → b < length men → ((s : ℕ) → is_square o s ≡ true → s ≡ b)
     → IsShift men (gone_to men a o b z) a b z
 gone_shift men a o b z small taken = grind (arith, gone_to, there_now, kept_now, left_now, cases_Bool)
@@ -58,6 +59,7 @@ pub record IsCovered (men : List (Option Man)) (c : Colour) (a k : ℕ) : Type 0
   pub diagonal : is_shut men (other c) Bishop diagonal_steps k a ≡ false
   pub unlined : is_on_fairy_line men (other c) k a ≡ false
 
+-- a king is covered so, if a move from a can't expose him
 pub covered_parts : (men : List (Option Man)) (c : Colour) (a k : ℕ) → may_expose_on men (Some k) c a ≡ false → IsCovered men c a k
 covered_parts men c a k h = search (rules, or_parts)
 
@@ -77,6 +79,7 @@ pub record IsQuiet (men : List (Option Man)) (c : Colour) (a b k : ℕ) (z : Man
   pub quiet : same_colour z.colour (other c) ≡ true → reaches_as men z.colour z.kind b k ≡ false
   pub stood : same_colour z.colour (other c) ≡ true → (man_on men a ≡ Some z) × (a < 64)
 
+-- where a man of a colour and kind stands, some man stands
 pub man_there : (o : Option Man) (c : Colour) (j : Kind) → is_man o c j ≡ true → (y : Man) × (o ≡ Some y)
 man_there o c j h = grind arith
 
@@ -92,6 +95,7 @@ module _ (men position_after : List (Option Man)) (a b : ℕ) (z : Man) (i : IsS
   stays_vacant : (o : Option ℕ) → is_vacant position_after o ≡ true → is_square o a ≡ false → is_vacant men o ≡ true
   stays_vacant o h ne = grind (arith, none_from_is_some, not-true, eq-eqb)
 
+  -- what is empty after a shift was empty before, the origin apart
   pub frees : Frees position_after men a
   frees = record { vacant = stays_vacant }
 
@@ -107,6 +111,7 @@ module _ (men position_after : List (Option Man)) (a b : ℕ) (z : Man) (i : IsS
   rode_there Straight k h = rode (East ∷ West ∷ North ∷ South ∷ []) k h
   rode_there Diagonal k h = rode (NorthEast ∷ SouthEast ∷ NorthWest ∷ SouthWest ∷ []) k h
 
+  -- a rider's line that is open after a shift was open before, unless the origin shut it
   pub line_before : (l : RiderLines) (k s : ℕ) → s < 64 → k < 64
       → (is_on_some (steps_along l) k s ≡ true → IsParted men a k s (steps_along l) → ⊥)
       → list_any (rides position_after s k) (steps_along l) ≡ true → list_any (rides men s k) (steps_along l) ≡ true
@@ -209,7 +214,7 @@ not_attacked rule men e k h =
     })
 
 -- what is asked of a shift, so that the king of colour c isn't in check after it
-pub record IsHarmless (men : List (Option Man)) (c : Colour) (a b : ℕ) (z : Man) : Type 0 where
+record IsHarmless (men : List (Option Man)) (c : Colour) (a b : ℕ) (z : Man) : Type 0 where
   pub one : AtMostOneKing men
   pub king : is_man (Some z) c King ≡ true → king_square men c ≡ Some a
   pub cannot_expose : may_expose men c a ≡ false
@@ -236,7 +241,7 @@ king_stays men position_after a b z c k i g small h =
           king_is men c k g.one small (rw there is)
     ]
 
-pub stays_safe : (rule : RuleSet) (men position_after : List (Option Man)) (a b : ℕ) (z : Man) (c : Colour) → IsShift men position_after a b z
+stays_safe : (rule : RuleSet) (men position_after : List (Option Man)) (a b : ℕ) (z : Man) (c : Colour) → IsShift men position_after a b z
     → IsHarmless men c a b z
     → in_check rule position_after c ≡ false
 unfolding in_check king_square squares may_expose may_stand_between
@@ -255,7 +260,7 @@ stays_safe rule men position_after a b z c i g = by (king_square position_after 
 none_reborn : (men : List (Option Man)) (o : Option Man) (s : ℕ) → reborn_at false men o (Some s) ≡ None
 none_reborn men o s = grind arith
 
-pub nobody_reborn : (circe : Bool) (men before : List (Option Man)) (o : Option ℕ) → (circe ≡ true → o ≡ None)
+nobody_reborn : (circe : Bool) (men before : List (Option Man)) (o : Option ℕ) → (circe ≡ true → o ≡ None)
     → reborn_at circe men (man_on_at before o) o ≡ None
 nobody_reborn circe men before o h = grind (arith, none_reborn)
 
@@ -277,10 +282,12 @@ pub record IsPlain (rule : RuleSet) (p : Position) (x : Man) (m : Move) : Type 0
 first_off : (a b : Bool) → (a && b) ≡ false → a ≡ true → b ≡ false
 first_off a b p q = grind arith
 
+-- a plain move has them
 pub plain_parts : (rule : RuleSet) (p : Position) (x : Man) (m : Move) → is_plain rule p x m ≡ true → IsPlain rule p x m
 unfolding is_plain
 plain_parts rule p x m h = grind (arith, and_parts, not-true, captures_nobody, first_off)
 
+-- where nobody castles, the moved men are those once the man has arrived
 pub moved_plainly : (p : Position) (x : Man) (m : Move) → is_castling x m ≡ false → moved_men p x m ≡ arrived p x m
 unfolding moved_men
 moved_plainly p x m h = rw h refl
@@ -296,15 +303,17 @@ pub simple_after : (rule : RuleSet) (p : Position) (x : Man) (m : Move) → man_
     → (is_circe rule ≡ true → capture_square p x m ≡ None) → (position_after rule p m).men ≡ arrived p x m
 simple_after rule p x m here castling rebirth = unreborn_after rule p x m here rebirth ∙ moved_plainly p x m castling
 
+-- so it is after a plain move
 pub men_after : (rule : RuleSet) (p : Position) (x : Man) (m : Move) → man_on p.men m.from ≡ Some x → IsPlain rule p x m
     → (position_after rule p m).men ≡ arrived p x m
 men_after rule p x m here plain = simple_after rule p x m here plain.castling plain.rebirth
 
+-- a plain move is a shift from its origin to its arrival
 pub arrived_shift : (rule : RuleSet) (p : Position) (x : Man) (m : Move) → IsWellFormed p → IsMade rule p x m → m.to < 64 → IsPlain rule p x m
     → IsShift p.men (arrived p x m) m.from m.to (arriving_man x m.promo)
 arrived_shift rule p x m well is small plain =
     gone_shift p.men m.from (capture_square p x m) m.to (arriving_man x m.promo) (omega (arith, small, well.size))
-    (λ s at. captures_there p x m s plain.crossed (is_square-some (capture_square p x m) s at))
+    (λ s at. captures_there p x m s plain.crossed (square_is (capture_square p x m) s at))
 
 -- a king that arrives left its own square
 king_came : (p : Position) (x : Man) (m : Move) (c : Colour) → IsWellFormed p → man_on p.men m.from ≡ Some x → is_promotion_right p x m m.promo ≡ true
@@ -314,26 +323,32 @@ king_came p x m c well here right h =
     let is : is_man (Some x) c King ≡ true = ap (λ (y : Man). is_man (Some y) c King) (sym same) ∙ h in
     king_is p.men c m.from well.kings (on_board p.men m.from x well.size here) (rw here is)
 
+-- a plain move that uncovers no king, and whose man doesn't reach him, gives no check
 pub plain_safe : (rule : RuleSet) (p : Position) (x : Man) (m : Move) (c : Colour) → IsWellFormed p → IsMade rule p x m → m.to < 64 → IsPlain rule p x m
     → may_expose p.men c m.from ≡ false → may_stand_between p.men c m.to ≡ false
     → ((k : ℕ) → king_square p.men c ≡ Some k → IsQuiet p.men c m.from m.to k (arriving_man x m.promo))
     → in_check rule (position_after rule p m).men c ≡ false
 plain_safe rule p x m c well is small plain cannot_expose aside quiet = search (rules, men_after, stays_safe, arrived, arrived_shift, king_came)
 
+-- a promoted man keeps its colour
 pub arriving_colour : (x : Man) (r : Option Kind) → (arriving_man x r).colour ≡ x.colour
 arriving_colour x r = grind arith
 
+-- the other colour's other colour is the first
 pub other_twice : (c : Colour) → other (other c) ≡ c
 other_twice c = grind arith
 
+-- no colour is the other
 pub other_differs : (c : Colour) → same_colour c (other c) ≡ false
 other_differs c = grind arith
 
+-- the parts of the test that a move can't uncover the king of colour c
 pub record CannotExpose (rule : RuleSet) (p : Position) (x : Man) (c : Colour) (m : Move) : Type 0 where
   pub origin : may_expose p.men c m.from ≡ false
   pub aside : may_stand_between p.men c m.to ≡ false
   pub plain : IsPlain rule p x m
 
+-- a move that passes has them
 pub cannot_expose_parts : (rule : RuleSet) (p : Position) (x : Man) (c : Colour) (m : Move) → man_on p.men m.from ≡ Some x → cannot_expose rule p c m ≡ true
     → CannotExpose rule p x c m
 unfolding cannot_expose
@@ -359,6 +374,7 @@ pub some_grasshopper : (men : List (Option Man)) (c : Colour) (w : ℕ) → w �
 unfolding has_fairy squares_of
 some_grasshopper men c w h some = search (rules, differs, or_left, not_zero)
 
+-- and where no grasshopper stands, by that of the nightriders
 pub some_nightrider : (men : List (Option Man)) (c : Colour) (w n : ℕ) → w ≡ squares_of men c Grasshopper → w ≡ 0 → n ≡ squares_of men c Nightrider
     → not (n == 0) ≡ has_fairy men c
 unfolding has_fairy squares_of
@@ -369,11 +385,13 @@ pub shield_squares_none : (men : List (Option Man)) (c : Colour) → king_square
 unfolding may_expose
 shield_squares_none men c h = word_empty (may_expose men c) (λ s b. ap (λ (o : Option ℕ). may_expose_on men o c s) h)
 
+-- with a king that an enemy reaches, they are all squares
 pub shield_squares_all : (men : List (Option Man)) (c : Colour) (k : ℕ) → king_square men c ≡ Some k → is_reached men k (other c) ≡ true
     → bit_not w64 0 ≡ word (may_expose men c)
 unfolding may_expose
 shield_squares_all men c k at reached = search (rules, every_square, or_left)
 
+-- else his own, those that shut a line to him, and those on fairy lines
 pub shield_squares_some : (men : List (Option Man)) (c : Colour) (k w n : ℕ) → king_square men c ≡ Some k → is_reached men k (other c) ≡ false
     → w ≡ bit_or (bit_or (word (is_square (Some k))) (word (is_shut men (other c) Rook straight_steps k)))
     (word (is_shut men (other c) Bishop diagonal_steps k))
@@ -398,6 +416,7 @@ pub cannot_expose_is : (rule : RuleSet) (p : Position) (x : Man) (c : Colour) (m
 unfolding cannot_expose
 cannot_expose_is rule p x c m w s b here h same small e = search (rules, word_has)
 
+-- where nobody stands on the origin, the answer is no
 pub cannot_expose_nobody : (rule : RuleSet) (p : Position) (c : Colour) (m : Move) → man_on p.men m.from ≡ None → false ≡ cannot_expose rule p c m
 unfolding cannot_expose
 cannot_expose_nobody rule p c m none = rw none refl

@@ -43,9 +43,11 @@ module _ (men position_after : List (Option Man)) (a b : ℕ) (z : Man) (c : Col
   reaches_after e Nightrider f h = cc
   reaches_after e j f h = h
 
+-- where a man of a side stands, some man of its colour stands
 pub side_there : (o : Option Man) (c : Colour) → is_side o c ≡ true → (y : Man) × ((o ≡ Some y) × (same_colour y.colour c ≡ true))
 side_there o c h = grind arith
 
+-- on the square of a king, which is on the board, he stands
 pub king_there : (men : List (Option Man)) (c : Colour) (k : ℕ) → king_square men c ≡ Some k → (k < 64) × (is_man (man_on men k) c King ≡ true)
 unfolding king_square squares
 king_there men c k h =
@@ -53,7 +55,7 @@ king_there men c k h =
     (omega (arith, f.high), f.here)
 
 -- the square that an unanswered check comes from, and the king's, aren't touched by the move
-pub record IsAway (men : List (Option Man)) (c : Colour) (a b : ℕ) : Type 0 where
+record IsAway (men : List (Option Man)) (c : Colour) (a b : ℕ) : Type 0 where
   pub size : (s : ℕ) (y : Man) → man_on men s ≡ Some y → s < 64
   pub king : (k : ℕ) → king_square men c ≡ Some k → (k ≢ a) × (k ≢ b)
   pub enemy : (s : ℕ) → is_side (man_on men s) (other c) ≡ true → s ≢ a
@@ -95,7 +97,7 @@ free_of_king : (o : Option Man) (c : Colour) → is_arrival_free c o ≡ true �
 free_of_king o c h k = grind (arith, and_parts)
 
 -- a plain move that doesn't meet a check, and isn't the king's, leaves its mover in check
-pub check_stays : (rule : RuleSet) (p : Position) (x : Man) (m : Move) → IsWellFormed p → is_pseudo_legal rule p m ≡ true → man_on p.men m.from ≡ Some x
+check_stays : (rule : RuleSet) (p : Position) (x : Man) (m : Move) → IsWellFormed p → is_pseudo_legal rule p m ≡ true → man_on p.men m.from ≡ Some x
     → m.to < 64
     → IsPlain rule p x m → same_kind x.kind King ≡ false → IsNoEvasion rule p.men p.turn m.to → in_check rule (position_after rule p m).men p.turn ≡ true
 check_stays rule p x m well may here small plain piece u =

@@ -12,6 +12,7 @@ free_of a c k = grind arith
 free_on : (o : Option Man) (c : Colour) → not (is_side o c || is_man o (other c) King) ≡ is_arrival_free c o
 free_on o c = grind (arith, free_of)
 
+-- the squares with neither a man of the mover nor an enemy king
 pub free_word : (men : List (Option Man)) (c : Colour) (a b : ℕ) → a ≡ side_of men c → b ≡ squares_of men (other c) King
     → bit_not w64 (bit_or a b) ≡ word (λ t. is_arrival_free c (man_on men t))
 unfolding side_of squares_of
@@ -98,6 +99,7 @@ module _ (p : Position) (x : Man) (s : ℕ) (small : s < 64) (a o k : ℕ) (adva
   half_small : (t : ℕ) → t < 64 → (s + t) / 2 < 64
   half_small t lt = omega (arith, lt, small)
 
+  -- where no free square is next, the pawn steps nowhere
   pub goes-blocked : find (λ q. bit_at (bit_and (bit_and a (bit_not w64 o)) k) q == 1) (range_with_len 0 64) ≡ None → 0 ≡ word (pawn_goes p x s)
   goes-blocked none = word_empty (pawn_goes p x s) (λ t lt. false_by (pawn_goes p x s t) (λ y.
       let parts = and_parts (is_vacant_at p.men t) (is_square (along s (forward x.colour) 1) t
@@ -117,6 +119,7 @@ module _ (p : Position) (x : Man) (s : ℕ) (small : s < 64) (a o k : ℕ) (adva
           let on : next t ≡ true = next_of t lt one free in
           cc
 
+  -- where it is free, a pawn on its second rank steps to what is free of both
   pub goes-twice : (u : ℕ) → IsFirst (λ q. bit_at (bit_and (bit_and a (bit_not w64 o)) k) q == 1) 0 64 u → (rank_of s == second_rank x.colour) ≡ true
       → bit_and a (bit_not w64 o) ≡ word (pawn_goes p x s)
   goes-twice u first second = ahead_word ∙ squares_same ahead (pawn_goes p x s) (λ t lt. same_Bool (ahead t) (pawn_goes p x s t) (onto t lt) (back t))
@@ -143,6 +146,7 @@ module _ (p : Position) (x : Man) (s : ℕ) (small : s < 64) (a o k : ℕ) (adva
       back : (t : ℕ) → pawn_goes p x s t ≡ true → ahead t ≡ true
       back t h = search (rules, and_parts, and_from, or_cases, or_left, or_right)
 
+  -- from another rank it steps to the next one alone
   pub goes-once : (rank_of s == second_rank x.colour) ≡ false → bit_and (bit_and a (bit_not w64 o)) k ≡ word (pawn_goes p x s)
   goes-once none = next_word ∙ squares_same next (pawn_goes p x s) (λ t lt. same_Bool (next t) (pawn_goes p x s t) (onto t lt) (back t lt))
     where
@@ -166,6 +170,7 @@ pawn_ways p x s r o y g pawn hr ho hy hg =
     ∙ squares_either (λ t. reaches_as p.men x.colour x.kind s t && (is_some (man_on p.men t) || is_square p.crossed t)) (pawn_goes p x s)
     ∙ squares_same _ _ (λ t b. sym (cond-true (same_kind x.kind Pawn) _ _ pawn))
 
+-- other men go where they reach, and an unmoved king two squares aside too
 pub other_ways : (p : Position) (x : Man) (s r g : ℕ) → same_kind x.kind Pawn ≡ false → r ≡ word (λ t. reaches_as p.men x.colour x.kind s t)
     → g ≡ word (λ t. has_unmoved p.unmoved s && steps_to x s t) → bit_or r g ≡ word (may_go p x s)
 unfolding may_go
@@ -176,16 +181,19 @@ pub arrivals_nobody : (rule : RuleSet) (p : Position) (s : ℕ) → man_on p.men
 unfolding is_arrival
 arrivals_nobody rule p s h = word_empty (is_arrival rule p s) (λ t b. ap (λ o. is_arrival_of rule p o s t) h)
 
+-- an enemy man on it goes nowhere
 pub arrivals_other : (rule : RuleSet) (p : Position) (x : Man) (s : ℕ) → man_on p.men s ≡ Some x → same_colour x.colour p.turn ≡ false
     → 0 ≡ word (is_arrival rule p s)
 unfolding is_arrival
 arrivals_other rule p x s here h = word_empty (is_arrival rule p s) (λ t b. rw (here, h) refl)
 
+-- nor does a paralysed man
 pub arrivals_paralysed : (rule : RuleSet) (p : Position) (x : Man) (s : ℕ) → man_on p.men s ≡ Some x → same_colour x.colour p.turn ≡ true
     → is_paralysed rule p.men s ≡ true → 0 ≡ word (is_arrival rule p s)
 unfolding is_arrival
 arrivals_paralysed rule p x s here mine h = word_empty (is_arrival rule p s) (λ t b. rw (here, mine, h) refl)
 
+-- any other goes where its ways lead to a free arrival
 pub arrivals_some : (rule : RuleSet) (p : Position) (x : Man) (s f g : ℕ) → man_on p.men s ≡ Some x → same_colour x.colour p.turn ≡ true
     → is_paralysed rule p.men s ≡ false → f ≡ word (λ t. is_arrival_free p.turn (man_on p.men t)) → g ≡ word (may_go p x s)
     → bit_and f g ≡ word (is_arrival rule p s)
@@ -203,6 +211,7 @@ goes_as_pawn : (rule : RuleSet) (p : Position) (x : Man) (m : Move) → man_on p
 unfolding may_go reaches
 goes_as_pawn rule p x m here pawn h = search (rules, and_from, and_parts, cond-true, or_cases, or_left, or_right)
 
+-- a man that is neither pawn nor king goes only where it reaches
 pub no_steps : (x : Man) (s t : ℕ) (a u : Bool) → same_kind x.kind Pawn ≡ false → same_kind x.kind King ≡ false → (a || (u && steps_to x s t)) ≡ true → a ≡ true
 unfolding steps_to
 no_steps x s t a u none piece h = search (rules, and_parts, cond-false, or_cases)
@@ -219,6 +228,7 @@ goes_as_king : (rule : RuleSet) (p : Position) (x : Man) (m : Move) → man_on p
 unfolding may_go reaches
 goes_as_king rule p x m here king moved h = search (rules, and_parts, cond-false, king_is_no_pawn, or_cases, or_left)
 
+-- where a man may go it goes by the rules, an unmoved king apart
 pub goes_on : (rule : RuleSet) (p : Position) (x : Man) (m : Move) → man_on p.men m.from ≡ Some x → may_go p x m.from m.to ≡ true
     → (same_kind x.kind King && has_unmoved p.unmoved m.from) ≡ false → true ≡ goes rule p x m
 goes_on rule p x m here h free = search (rules, cases_Bool, goes_as_king, goes_as_pawn, goes_as_piece)
@@ -235,10 +245,12 @@ left_to_test rule p x m here h = search (rules, and_parts, last_two)
 middle : (a b c : Bool) → a ≡ true → c ≡ true → ((a && b) && c) ≡ b
 middle a b c h i = grind arith
 
+-- it may be made with a promotion exactly if this promotion is allowed
 pub aimed_promotion : (rule : RuleSet) (p : Position) (m : Move) (k : Kind) → IsAimed rule p m → m.promo ≡ Some k → may_promote p k ≡ is_pseudo_legal rule p m
 aimed_promotion rule p m k a e =
     grind (arith, and_parts, goes_as_pawn, may_go_aimed rule p a.man m a.here a.arrival, left_to_test rule p a.man m a.here a.arrival, middle)
 
+-- and without one exactly if the man goes so
 pub aimed_plain : (rule : RuleSet) (p : Position) (m : Move) (x : Man) → IsAimed rule p m → m.promo ≡ None → man_on p.men m.from ≡ Some x
     → goes rule p x m ≡ is_pseudo_legal rule p m
 aimed_plain rule p m x a e here = grind (arith, left_to_test rule p x m here a.arrival)

@@ -3,12 +3,15 @@ use Rattle.chess_rules.proofs.Basics.{AllPairs, Bool, Contains, Contains-append_
 use Rattle.std.proofs.lemmas.List.Kept.{AllPairs-cons}
 
 module _ {X : Type 0} where
+  -- an empty list has no elements
   pub none_in_nil : (x : X) → Contains [] x → ⊥
   none_in_nil x (k, less, at) = omega (arith, less)
 
+  -- the first element of a list is in it
   pub first_in : (x : X) (xs : List X) → Contains (x ∷ xs) x
   first_in x xs = (0, omega arith, refl)
 
+  -- and so is each later one
   pub later_in : (y : X) (xs : List X) (x : X) → Contains xs x → Contains (y ∷ xs) x
   later_in y xs x (k, less, at) = (suc k, omega (arith, less), at)
 
@@ -21,6 +24,7 @@ module _ {X : Type 0} where
   from_filter test [] x c = absurd (none_in_nil x c)
   from_filter test (y ∷ xs) x c = grind (arith, later_in, in_cases, from_filter test xs x)
 
+  -- an element that passes the test is in the filter
   pub in_filter : (test : X → Bool) (xs : List X) (x : X) → Contains xs x → test x ≡ true → Contains (filter test xs) x
   in_filter test [] x c t = absurd (none_in_nil x c)
   in_filter test (y ∷ xs) x c t = elim (in_cases y xs x c) [
@@ -44,6 +48,7 @@ in_range a (suc n) k low high = elim (cases_eq a k) [
   | inr ne ↦ later_in a (range_with_len (a + 1) n) k (in_range (a + 1) n k (omega (arith, low, ne)) (omega (arith, high)))
 ]
 
+-- and it has no others
 pub from_range : (a n k : ℕ) → Contains (range_with_len a n) k → (a ≤ k) × (k < a + n)
 from_range a zero k c = absurd (none_in_nil k c)
 from_range a (suc n) k c = elim (in_cases a (range_with_len (a + 1) n) k c) [
@@ -60,6 +65,7 @@ module _ {X Y : Type 0} where
     | inr r ↦ let w = from_map f xs y r in (w.0, later_in x xs w.0 w.1, w.2)
   ]
 
+  -- the image of an element is in the map
   pub in_map : (f : X → Y) (xs : List X) (x : X) → Contains xs x → Contains (map f xs) (f x)
   in_map f [] x c = absurd (none_in_nil x c)
   in_map f (z ∷ xs) x c = elim (in_cases z xs x c) [
@@ -75,6 +81,7 @@ module _ {X Y : Type 0} where
     | inr r ↦ let w = from_flat_map f xs y r in (w.0, later_in x xs w.0 w.1, w.2)
   ]
 
+  -- an element of one of the lists is in the joined list
   pub in_flat_map : (f : X → List Y) (xs : List X) (x : X) (y : Y) → Contains xs x → Contains (f x) y → Contains (flat_map f xs) y
   in_flat_map f [] x y c h = absurd (none_in_nil x c)
   in_flat_map f (z ∷ xs) x y c h = elim (in_cases z xs x c) [
@@ -85,18 +92,23 @@ module _ {X Y : Type 0} where
 -- Lists of which each element stands before each later one.
 
 module _ {X : Type 0} (R : X → X → Type 0) where
+  -- an empty list is in order
   pub pairs_nil : AllPairs R []
   pairs_nil i j d low high = absurd (omega (arith, high))
 
+  -- the first element of a list in order stands before each other
   pub pairs_first : (x : X) (xs : List X) → AllPairs R (x ∷ xs) → (y : X) → Contains xs y → R x y
   pairs_first x xs pairs y (k, less, at) = rw at at (pairs 0 (suc k) y (omega arith) (omega (arith, less)))
 
+  -- the others are in order
   pub pairs_later : (x : X) (xs : List X) → AllPairs R (x ∷ xs) → AllPairs R xs
   pairs_later x xs pairs i j d low high = pairs (suc i) (suc j) d (omega (arith, low)) (omega (arith, high))
 
+  -- a list is in order if its first stands before all others, and these are in order
   pub pairs_of : (x : X) (xs : List X) → ((y : X) → Contains xs y → R x y) → AllPairs R xs → AllPairs R (x ∷ xs)
   pairs_of x xs first pairs = AllPairs-cons R x xs (λ k d less. first (get_or xs k d) (Contains-get_or xs k d less)) pairs
 
+  -- two lists in order are so joined, if each of the first stands before each of the second
   pub pairs_append : (xs ys : List X) → AllPairs R xs → AllPairs R ys → ((x y : X) → Contains xs x → Contains ys y → R x y) → AllPairs R (xs ++ ys)
   pairs_append [] ys a b across = b
   pairs_append (x ∷ xs) ys a b across =
@@ -105,15 +117,18 @@ module _ {X : Type 0} (R : X → X → Type 0) where
         | inr there ↦ across x y (first_in x xs) there
       ]) (pairs_append xs ys (pairs_later x xs a) b (λ z y c. across z y (later_in x xs z c)))
 
+  -- the beginning of a list in order is in order
   pub pairs_front : (xs ys : List X) → AllPairs R (xs ++ ys) → AllPairs R xs
   pairs_front [] ys a = pairs_nil
   pairs_front (x ∷ xs) ys a =
       pairs_of x xs (λ y c. pairs_first x (xs ++ ys) a y (Contains-append_left xs ys y c)) (pairs_front xs ys (pairs_later x (xs ++ ys) a))
 
+-- a list in order is in any weaker order
 pub pairs_weaker : {X : Type 0} (R S : X → X → Type 0) (xs : List X) → ((x y : X) → R x y → S x y) → AllPairs R xs → AllPairs S xs
 pairs_weaker R S xs weaker a i j d low high = weaker (get_or xs i d) (get_or xs j d) (a i j d low high)
 
 module _ {X Y : Type 0} (R : X → X → Type 0) (S : Y → Y → Type 0) where
+  -- a map that keeps the order keeps a list in order
   pub pairs_map : (f : X → Y) (xs : List X) → ((x y : X) → R x y → S (f x) (f y)) → AllPairs R xs → AllPairs S (map f xs)
   pairs_map f [] keeps a = pairs_nil S
   pairs_map f (x ∷ xs) keeps a =

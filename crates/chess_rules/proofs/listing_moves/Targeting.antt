@@ -9,10 +9,12 @@ pub pawn_word : (x : Man) (s n : ℕ) → same_kind x.kind Pawn ≡ true → n �
 unfolding steps_to
 pawn_word x s n pawn h = h ∙ squares_same _ _ (λ t b. sym (cond-true (same_kind x.kind Pawn) _ _ pawn))
 
+-- a king's word has the squares two files aside
 pub king_word : (x : Man) (s n : ℕ) → same_kind x.kind Pawn ≡ false → same_kind x.kind King ≡ true → n ≡ word (is_aside s) → n ≡ word (steps_to x s)
 unfolding steps_to
 king_word x s n none king h = search (rules, cond-false, cond-true, squares_same)
 
+-- another man's has none
 pub other_word : (x : Man) (s : ℕ) → same_kind x.kind Pawn ≡ false → same_kind x.kind King ≡ false → 0 ≡ word (steps_to x s)
 unfolding steps_to
 other_word x s none king = search (rules, cond-false, word_empty)
@@ -21,6 +23,7 @@ other_word x s none king = search (rules, cond-false, word_empty)
 square_of : (f r t : ℕ) → t < 64 → f ≡ file_of t → r ≡ rank_of t → is_square (square_at f r) t ≡ true
 square_of f r t p e h = search rules
 
+-- a king that castles goes two squares aside
 pub castling_steps : (x : Man) (m : Move) → m.to < 64 → is_castling x m ≡ true → steps_to x m.from m.to ≡ true
 unfolding steps_to along
 castling_steps x m small h = search rules
@@ -44,10 +47,12 @@ arrival_by : (rule : RuleSet) (p : Position) (m : Move) (o : Option Man) → m.t
     → is_arrival rule p m.from m.to ≡ true
 arrival_by rule p m o small here h = grind (arith, arrival_of)
 
+-- a move that may be made goes where its man may go
 pub arrival_needed : (rule : RuleSet) (p : Position) (m : Move) → m.to < 64 → is_pseudo_legal rule p m ≡ true → is_arrival rule p m.from m.to ≡ true
 unfolding is_pseudo_legal
 arrival_needed rule p m small h = arrival_by rule p m (man_on p.men m.from) small refl h
 
+-- a test that can't pass fails
 pub false_by : (b : Bool) → (b ≡ true → ⊥) → b ≡ false
 false_by b h = grind arith
 
@@ -55,7 +60,7 @@ false_by b h = grind arith
 promoted : (p : Position) (x : Man) (m : Move) (o : Option Kind) → is_promotion_right p x m o ≡ true → o ≡ None → arrives x m.to ≡ false
 promoted p x m o h e = grind (arith, cases_Bool)
 
-pub unpromoted : (p : Position) (x : Man) (m : Move) (o : Option Kind) (k : Kind) → is_promotion_right p x m o ≡ true → o ≡ Some k → arrives x m.to ≡ true
+unpromoted : (p : Position) (x : Man) (m : Move) (o : Option Kind) (k : Kind) → is_promotion_right p x m o ≡ true → o ≡ Some k → arrives x m.to ≡ true
 unpromoted p x m o k h e = grind (arith, and_parts)
 
 no_promotion_here : (rule : RuleSet) (p : Position) (x : Man) (m : Move) (k : Kind) → man_on p.men m.from ≡ Some x → m.promo ≡ Some k → arrives x m.to ≡ false
@@ -73,6 +78,7 @@ pub nobody_moves : (rule : RuleSet) (p : Position) (m : Move) → man_on p.men m
 unfolding is_pseudo_legal
 nobody_moves rule p m h = ap (λ o. is_pseudo_legal_of rule p o m) h
 
+-- nor is there one if the man there isn't the mover's
 pub own_moves : (p : Position) (rule : RuleSet) (m : Move) (o : Option Man) → man_on p.men m.from ≡ o → is_side o p.turn ≡ false
     → is_pseudo_legal rule p m ≡ false
 own_moves p rule m None e h = nobody_moves rule p m e
@@ -84,19 +90,22 @@ own_moves p rule m (Some x) e h =
       same Black = refl
 
 -- stretches of one origin
-pub from-empty : (p : Position) (s z a : ℕ) → IsBarrenFrom p s z a a
+from-empty : (p : Position) (s z a : ℕ) → IsBarrenFrom p s z a a
 from-empty p s z a = record { fails = λ rule k lo hi on. absurd (omega (arith, lo, hi)) }
 
+-- from an empty square there is no move
 pub from-nobody : (p : Position) (s z a b : ℕ) → man_on p.men s ≡ None → IsBarrenFrom p s z a b
 from-nobody p s z a b h = search (rules, nobody_moves)
 
+-- two stretches without a move, one behind the other, are one
 pub from-join : (p : Position) (s z a b c : ℕ) → IsBarrenFrom p s z a b → IsBarrenFrom p s z b c → IsBarrenFrom p s z a c
 from-join p s z a b c x y = search rules
 
 -- no square of the word lies between
-pub from-missed : (p : Position) (s a b w : ℕ) → ((t : ℕ) → a / 7 ≤ t → t < (b + 6) / 7 → (bit_at w t == 1) ≡ false) → IsBarrenFrom p s w a b
+from-missed : (p : Position) (s a b w : ℕ) → ((t : ℕ) → a / 7 ≤ t → t < (b + 6) / 7 → (bit_at w t == 1) ≡ false) → IsBarrenFrom p s w a b
 from-missed p s a b w none = search rules
 
+-- each promotion but the first names a kind
 pub some_named : (n : ℕ) → 1 ≤ n → n < 7 → is_some (promotion_at n) ≡ true
 some_named n lo hi = grind (arith, agree_below_at)
 
@@ -113,7 +122,7 @@ from-unpromoted p x s z t a here h lt = record {
 }
 
 -- on the last there is one
-pub from-promoted : (p : Position) (x : Man) (s z t : ℕ) → man_on p.men s ≡ Some x → arrives x t ≡ true → IsBarrenFrom p s z (7 * t) (7 * t + 1)
+from-promoted : (p : Position) (x : Man) (s z t : ℕ) → man_on p.men s ≡ Some x → arrives x t ≡ true → IsBarrenFrom p s z (7 * t) (7 * t + 1)
 from-promoted p x s z t here h = record {
   fails = λ rule k lo hi on.
       let to : k / 7 ≡ t = omega arith in
@@ -126,6 +135,7 @@ pub from-target : (p : Position) (s start at t w : ℕ) → IsBarrenFrom p s w s
     → IsBarrenFrom p s w start (7 * t)
 from-target p s start at t w past f = search rules
 
+-- and past the move to it without a promotion, where a pawn arrives on its last rank
 pub from-first : (p : Position) (x : Man) (s start at t w n : ℕ) → man_on p.men s ≡ Some x → IsBarrenFrom p s w start at
     → find (λ q. bit_at w q == 1) (range_with_len (at / 7) (64 - at / 7)) ≡ Some t → arrives x t ≡ true → n ≡ 7 * t → IsBarrenFrom p s w start (n + 1)
 from-first p x s start at t w n here past found last e = search (rules, from-join, from-target p s start, find_first, from-promoted p x s w t here last)
@@ -148,11 +158,13 @@ from-plain p x s a w here h = elim (cases_eq (a % 7) 0) [
       rw at (from-unpromoted p x s w (a / 7) a here (no_pawn_promotes x (a / 7) h) (omega (arith, ne)))
 ]
 
+-- for another man than a pawn, up to the next target
 pub plain-target : (p : Position) (x : Man) (s start t w : ℕ) → man_on p.men s ≡ Some x → same_kind x.kind Pawn ≡ false
     → IsFirst (λ q. bit_at w q == 1) ((start + 6) / 7) (64 - (start + 6) / 7) t
     → IsBarrenFrom p s w start (7 * t)
 plain-target p x s start t w here h f = grind (arith, from-target, from-plain p x s start w here h)
 
+-- or to the end, where there is none
 pub plain-none : (p : Position) (x : Man) (s start w : ℕ) → man_on p.men s ≡ Some x → same_kind x.kind Pawn ≡ false
     → find (λ q. bit_at w q == 1) (range_with_len ((start + 6) / 7) (64 - (start + 6) / 7)) ≡ None
     → IsBarrenFrom p s w start 448
@@ -163,13 +175,16 @@ pub named_at : (p : Position) (x : Man) (s t n w : ℕ) → man_on p.men s ≡ S
     → is_some (promotion_at (n % 7)) ≡ arrives x t → IsNamed p s w n
 named_at p x s t n w here set at named = record { man = x; here = here; inside = rw at set; promotion = rw at named }
 
+-- the first promotion names no kind
 pub none_named : (n : ℕ) → n ≡ 0 → is_some (promotion_at n) ≡ false
 none_named n e = rw e refl
 
+-- for another man than a pawn it is the one without a promotion
 pub plain-named : (p : Position) (x : Man) (s t w : ℕ) → man_on p.men s ≡ Some x → same_kind x.kind Pawn ≡ false → (bit_at w t == 1) ≡ true
     → IsNamed p s w (7 * t)
 plain-named p x s t w here h set = grind (arith, named_at, none_named, no_pawn_promotes)
 
+-- the word of all squares has each square
 pub every_square_on : (t : ℕ) → t < 64 → (bit_at (bit_not w64 0) t == 1) ≡ true
 every_square_on t lt = agree_below_at (λ n. bit_at (bit_not w64 0) n == 1) (λ _. true) 64 t refl lt
 

@@ -7,6 +7,7 @@ use Rattle.chess_rules.proofs.listing_moves.Places.{triples_numbered}
 use Rattle.chess_rules.proofs.making_moves.Pseudo.{IsMade, made, pawn_goes, ways, on_board}
 use Rattle.chess_rules.proofs.making_moves.Stays.{maker}
 
+-- each origin, arrival and promotion of the lists make a triple
 pub in_triples : (m : Move) → m.from < 64 → m.to < 64 → Contains promotions m.promo → Contains triples m
 unfolding triples squares
 in_triples m a b c =
@@ -16,6 +17,7 @@ in_triples m a b c =
     (in_range 0 64 m.to (omega arith) (omega (arith, b)))
     (in_map (λ r. record { from = m.from; to = m.to; promo = r }) promotions m.promo c))
 
+-- and there are no other triples
 pub from_triples : (m : Move) → Contains triples m → (m.from < 64) × (m.to < 64) × Contains promotions m.promo
 unfolding triples squares
 from_triples m c =
@@ -47,6 +49,7 @@ range_rises a (suc n) =
     (λ k c. let w = from_range (a + 1) n k c in (omega (arith, w), omega (arith, w)))
     (rw e at (range_rises (a + 1) n))
 
+-- the triples stand in the order of their numbers
 pub triples_rise : AllPairs (λ m n. triple_number m < triple_number n) triples
 triples_rise =
     rw triples_numbered (pairs_map (λ j k. (j < k) × (k < 0 + 28672)) (λ m n. triple_number m < triple_number n) triple_at (range_with_len 0 28672)
@@ -108,6 +111,7 @@ may_be_promoted p Nightrider h = (6, omega arith, refl)
 promotion_is_one : (p : Position) (x : Man) (m : Move) (r : Option Kind) → is_promotion_right p x m r ≡ true → Contains promotions r
 promotion_is_one p x m r h = grind (arith, may_be_promoted, and_parts)
 
+-- a move that may be made is one of the triples
 pub made_is_triple : (rule : RuleSet) (p : Position) (m : Move) → length p.men ≡ 64 → is_pseudo_legal rule p m ≡ true
     → (m.from < 64) × (m.to < 64) × Contains promotions m.promo
 made_is_triple rule p m size h =
@@ -118,6 +122,7 @@ made_is_triple rule p m size h =
 
 -- The order by parts: arrivals below 64 and promotions below 9.
 
+-- by number is by origin, then by arrival, then by promotion
 pub by_parts : (m n : Move) → m.to < 64 → n.to < 64
     → (triple_number m < triple_number n) ↔ ((m.from < n.from)
     ⊎ ((m.from ≡ n.from) × ((m.to < n.to) ⊎ ((m.to ≡ n.to) × (promotion_place m.promo < promotion_place n.promo)))))
@@ -127,6 +132,7 @@ by_parts m n a b = search rules
 pub nothing_in : (ms : List Move) → is_nil ms ≡ true → (m : Move) → Contains ms m → ⊥
 nothing_in ms h m c = grind (arith, none_in_nil, false≢true)
 
+-- a list that contains no move is empty
 pub nil_where_nothing : (ms : List Move) → ((m : Move) → Contains ms m → ⊥) → is_nil ms ≡ true
 nil_where_nothing [] h = refl
 nil_where_nothing (x ∷ ms) h = absurd (h x (first_in x ms))

@@ -3,15 +3,17 @@ use Rattle.chess_rules.proofs.Basics.{Bool, None, Some, and_right, ap, arith, bi
 use Rattle.chess_rules.proofs.Chess.{AreCandidates, AreEvasionsFrom, AreOrigins, HaveNone, IsAimed, IsBarrenFrom, IsNamed, Move, Position, RuleSet, find_first, find_no, is_arrival, is_legal, is_pseudo_legal, promotion_at, side_of, triple_at, word}
 use Rattle.chess_rules.proofs.Bits.{word_has}
 use Rattle.chess_rules.proofs.listing_moves.Targeting.{arrival_needed, false_by, own_moves}
-use Rattle.chess_rules.proofs.listing_moves.Places.{not_pseudo}
+use Rattle.chess_rules.specs.ties.Idle.{is_legal-idle}
 
 -- squares of two words
 pub on_first : (a b i : ℕ) → (bit_at (bit_and a b) i == 1) ≡ true → (bit_at a i == 1) ≡ true
 on_first a b i h = search (rules, bit_at-lt, bit_at_and, eq-eqb, eqb-true)
 
+-- a square of the first word that isn't in both isn't in the second
 pub off_second : (a b i : ℕ) → (bit_at (bit_and a b) i == 1) ≡ false → (bit_at a i == 1) ≡ true → (bit_at b i == 1) ≡ false
 off_second a b i h on = search (rules, bit_at_and, eq-eqb, eqb-true, false_by)
 
+-- the word 0 has no square
 pub off_zero : (i : ℕ) → (bit_at 0 i == 1) ≡ false
 off_zero i = rw (bit_at-zero i) refl
 
@@ -22,12 +24,13 @@ module _ (rule : RuleSet) (p : Position) (test : Move → Bool) (needs : (m : Mo
       → AreCandidates rule p test s (bit_and a w)
   candidates s a w arrivals h = search (rules, arrival_needed, cases_Bool, off_second, on_first, word_has)
 
+  -- where no arrival could pass the test there are none
   pub no_candidates : (s w : ℕ) → w ≡ 0 → ((m : Move) → m.from ≡ s → m.to < 64 → is_pseudo_legal rule p m ≡ true → (bit_at w m.to == 1) ≡ false
       → test m ≡ false)
       → AreCandidates rule p test s 0
   no_candidates s w zero h = search (rules, cases_Bool, off_zero)
 
-  pub none-join : (a b c : ℕ) → HaveNone test a b → HaveNone test b c → HaveNone test a c
+  none-join : (a b c : ℕ) → HaveNone test a b → HaveNone test b c → HaveNone test a c
   none-join a b c x y = search (rules, cases_lt)
 
   none-move : (s w : ℕ) (m : Move) → AreCandidates rule p test s w → m.from ≡ s → m.to < 64 → ((bit_at w m.to == 1) ≡ true → is_pseudo_legal rule p m ≡ false)
@@ -103,4 +106,4 @@ unfolding is_legal
 evasions_elsewhere rule p s w h m at small may off = and_right (is_pseudo_legal rule p m) _ (ap not (h.elsewhere m at small may off))
 
 -- for the candidates of one origin
-pub ruleset legal_candidates = (candidates, evasions_elsewhere, not_pseudo)
+pub ruleset legal_candidates = (candidates, evasions_elsewhere, is_legal-idle)

@@ -4,6 +4,7 @@ use Rattle.chess_rules.proofs.Chess.{CanCastle, CanMove, Colour, HasNoKing, IsAt
 use Rattle.chess_rules.proofs.making_moves.Castles.{no_king_left, same_colour_self}
 use Rattle.chess_rules.proofs.making_moves.Plays.{stays_empty}
 use Rattle.chess_rules.proofs.making_moves.Pseudo.{IsCastle, IsMade, IsPawnTake, king_castles, king_is_no_pawn, made, on_board, pawn_goes, pawn_reaches, ways}
+use Rattle.chess_rules.proofs.rays.Ends.{square_is}
 use Rattle.chess_rules.proofs.rays.Tables.{king_step_is_no_castling}
 
 -- an enemy stands on the square of capture, not on the origin, and is no king
@@ -18,13 +19,11 @@ pub record IsTaken (p : Position) (m : Move) (s : ℕ) : Type 0 where
 taken_there : (rule : RuleSet) (p : Position) (x : Man) (m : Move) → IsMade rule p x m → is_some (man_on p.men m.to) ≡ true → IsTaken p m m.to
 taken_there rule p x m made e = search rules
 
-pub is_square-some : (o : Option ℕ) (t : ℕ) → is_square o t ≡ true → o ≡ Some t
-is_square-some o t h = grind (arith, eqb-true)
-
 is_man-some : (o : Option Man) (c : Colour) (k : Kind) → is_man o c k ≡ true
     → (y : Man) × ((o ≡ Some y) × ((same_colour y.colour c ≡ true) × (same_kind y.kind k ≡ true)))
 is_man-some o c k h = grind (arith, and_parts)
 
+-- a pawn is no king
 pub pawn_is_no_king : (k : Kind) → same_kind k Pawn ≡ true → same_kind k King ≡ false
 pawn_is_no_king k h = grind arith
 
@@ -38,7 +37,7 @@ taken_passing : (c : Colour) (p : Position) (x : Man) (m : Move) (s : ℕ) → p
 taken_passing c p x m s turn mine here take passed at = grind (arith, and_parts, eqb-true, is_man-some, other_colours, pawn_is_no_king)
 
 -- a pawn that leaves its file captures
-pub diagonal_takes : (rule : RuleSet) (p : Position) (x : Man) (m : Move) → IsMade rule p x m → same_kind x.kind Pawn ≡ true → is_diagonal m ≡ true
+diagonal_takes : (rule : RuleSet) (p : Position) (x : Man) (m : Move) → IsMade rule p x m → same_kind x.kind Pawn ≡ true → is_diagonal m ≡ true
     → IsPawnTake x.colour m.from m.to
 diagonal_takes rule p x m made pawn diagonal = search (rules, pawn_goes, pawn_reaches, ways)
 
@@ -58,7 +57,7 @@ taken rule p x m s well made h = elim (cases_Bool (is_some (man_on p.men m.to)))
             sym (cond-true (same_kind x.kind Pawn && is_diagonal m && is_square p.crossed m.to) _ _ q) ∙ h1 in
             let q1 = and_parts _ _ q in
             let q2 = and_parts _ _ q1.0 in
-            let crossed : p.crossed ≡ Some m.to = is_square-some p.crossed m.to q1.1 in
+            let crossed : p.crossed ≡ Some m.to = square_is p.crossed m.to q1.1 in
             let right : is_crossed_right p.men p.turn (Some m.to) ≡ true = ap (λ (o : Option ℕ). is_crossed_right p.men p.turn o) (sym crossed)
             ∙ well.crossed in
             let passed : was_passed p.men x.colour m.to ≡ true = ap (λ (c : Colour). was_passed p.men c m.to) made.mine ∙ right in
@@ -82,7 +81,7 @@ without_at-no_king : (men : List (Option Man)) (o : Option ℕ) (c : Colour) →
 without_at-no_king men o c none = grind (arith, false_from_ne_true, is_man-without)
 
 -- what isn't taken off stands
-pub man_on-without_at : (men : List (Option Man)) (o : Option ℕ) (t : ℕ) → ((s : ℕ) → o ≡ Some s → t ≢ s) → man_on (without_at men o) t ≡ man_on men t
+man_on-without_at : (men : List (Option Man)) (o : Option ℕ) (t : ℕ) → ((s : ℕ) → o ≡ Some s → t ≢ s) → man_on (without_at men o) t ≡ man_on men t
 man_on-without_at men o t ne = grind (arith, man_on-without_other)
 
 some-is_some : (men : List (Option Man)) (s : ℕ) (y : Man) → man_on men s ≡ Some y → IsSome (man_on men s)
@@ -102,6 +101,7 @@ capture_of_piece p x m s piece h = search rules
 abbrev pub arrived : Position → Man → Move → List (Option Man)
 arrived p x m = with_man (without_at (without_man p.men m.from) (capture_square p x m)) m.to (arriving_man x m.promo)
 
+-- the kind that passes the test of a king is the king
 pub kind_is_king : (k : Kind) → same_kind k King ≡ true → k ≡ King
 kind_is_king k h = grind arith
 
@@ -149,6 +149,7 @@ can_castle : (rule : RuleSet) (p : Position) (x : Man) (m : Move) → IsWellForm
     → CanCastle (arrived p x m) (corner m) (halfway m)
 can_castle rule p x m well made castling = search (rules, arrived_none, castle_of, corner_stays, man_on-without_none, rook_is_no_king)
 
+-- a move that may be made can be made on the board, man by man
 pub can_move : (rule : RuleSet) (p : Position) (x : Man) (m : Move) → IsWellFormed p → IsMade rule p x m → CanMove p x m
 can_move rule p x m well made = record {
   here = made.here;

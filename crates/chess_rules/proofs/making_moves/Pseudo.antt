@@ -11,6 +11,7 @@ pub record IsMade (rule : RuleSet) (p : Position) (x : Man) (m : Move) : Type 0 
   pub promotion : is_promotion_right p x m m.promo ≡ true
   pub goes : goes rule p x m ≡ true
 
+-- each move that may be made has them
 pub made : (rule : RuleSet) (p : Position) (m : Move) (x : Man) → is_pseudo_legal rule p m ≡ true → man_on p.men m.from ≡ Some x → IsMade rule p x m
 unfolding is_pseudo_legal
 made rule p m x h here = search (rules, and_parts, same_colour-true)
@@ -19,15 +20,19 @@ made rule p m x h here = search (rules, and_parts, same_colour-true)
 abbrev pub IsPawnWay : Position → Man → Move → Type 0
 IsPawnWay p x m = (same_kind x.kind Pawn ≡ true) × ((pawn_takes p m ≡ true) ⊎ (pawn_steps p x m ≡ true))
 
+-- another man reaches the arrival or castles
 abbrev pub IsPieceWay : RuleSet → Position → Man → Move → Type 0
 IsPieceWay rule p x m = (same_kind x.kind Pawn ≡ false) × ((reaches p.men m.from m.to ≡ true) ⊎ (castles rule p x m ≡ true))
 
+-- a pawn goes one of its ways, another man one of its own
 pub ways : (rule : RuleSet) (p : Position) (x : Man) (m : Move) → goes rule p x m ≡ true → IsPawnWay p x m ⊎ IsPieceWay rule p x m
 ways rule p x m h = search rules
 
+-- the kind that passes the test of a pawn is the pawn
 pub kind_is_pawn : (k : Kind) → same_kind k Pawn ≡ true → k ≡ Pawn
 kind_is_pawn k h = grind arith
 
+-- a king is no pawn
 pub king_is_no_pawn : (k : Kind) → same_kind k King ≡ true → same_kind k Pawn ≡ false
 king_is_no_pawn k h = grind arith
 
@@ -50,6 +55,7 @@ pawn_leaps : (c : Colour) (s t : ℕ) → list_any (leaps s t) (pawn_captures c)
 unfolding leaps
 pawn_leaps c s t h = grind (arith, along-is, or_cases)
 
+-- where a pawn reaches, it goes by such a step
 pub pawn_reaches : (men : List (Option Man)) (x : Man) (s t : ℕ) → man_on men s ≡ Some x → same_kind x.kind Pawn ≡ true → reaches men s t ≡ true
     → IsPawnTake x.colour s t
 unfolding reaches reaches_as
@@ -64,7 +70,7 @@ pub record IsPawnStep (p : Position) (x : Man) (m : Move) : Type 0 where
   pub ahead : file_of m.from ≡ file_of m.to
   pub way : Advances x.colour m.from m.to 1 ⊎ ((rank_of m.from ≡ second_rank x.colour) × (Advances x.colour m.from m.to 2 × (man_on p.men (halfway m) ≡ None)))
 
-pub record IsAhead (c : Colour) (s t n : ℕ) : Type 0 where
+record IsAhead (c : Colour) (s t n : ℕ) : Type 0 where
   pub advances : Advances c s t n
   pub file : file_of s ≡ file_of t
   pub small : t < 64
@@ -75,6 +81,7 @@ ahead_one c s t h = grind (arith, along-is)
 ahead_two : (c : Colour) (s t : ℕ) → is_square (along s (forward c) 2) t ≡ true → IsAhead c s t 2
 ahead_two c s t h = grind (arith, along-is)
 
+-- where a pawn steps, it goes so
 pub pawn_goes : (p : Position) (x : Man) (m : Move) → pawn_steps p x m ≡ true → IsPawnStep p x m
 pawn_goes p x m h =
     let h1 = and_parts _ _ h in
@@ -105,6 +112,7 @@ king_from x s king h = search (rules, is_home-square)
 rook_on : (o : Option Man) (s : ℕ) → s ≢ 4 → s ≢ 60 → is_home o s ≡ true → (z : Man) → o ≡ Some z → same_kind z.kind Rook ≡ true
 rook_on o s n4 n60 h z e = search (rules, is_home-square)
 
+-- where a king castles, he and the rook stand and go so
 pub king_castles : (rule : RuleSet) (p : Position) (x : Man) (m : Move) → IsWellFormed p → man_on p.men m.from ≡ Some x → castles rule p x m ≡ true
     → IsCastle p m
 unfolding castles may_castle

@@ -20,6 +20,7 @@ length-without_at men o = grind (arith, length-set)
 arrived_there : (p : Position) (x : Man) (m : Move) → length p.men ≡ 64 → m.to < 64 → man_on (arrived p x m) m.to ≡ Some (arriving_man x m.promo)
 arrived_there p x m size small = search rules
 
+-- after any move, castling too, its man stands on the arrival
 pub moved_arrival : (rule : RuleSet) (p : Position) (x : Man) (m : Move) → IsWellFormed p → IsMade rule p x m → m.to < 64
     → man_on (moved_men p x m) m.to ≡ Some (arriving_man x m.promo)
 unfolding moved_men
@@ -94,7 +95,7 @@ unfolding moved_men
 castle_back rule p x m well made e =
     grind (arith, can_move, castle_of, corner_stays, length-set, length-without_at, lift_after_place, man_on-with_same, man_on-without_same, rook_stands)
 
-pub can_return : (rule : RuleSet) (p : Position) (x : Man) (m : Move) (u : Undo) → IsWellFormed p → IsMade rule p x m → m.to < 64 → u ≡ undo_by rule p x m
+can_return : (rule : RuleSet) (p : Position) (x : Man) (m : Move) (u : Undo) → IsWellFormed p → IsMade rule p x m → m.to < 64 → u ≡ undo_by rule p x m
     → CanReturn (moved_men p x m) x m u
 unfolding undo_by
 can_return rule p x m u well made small lost =
@@ -115,27 +116,27 @@ can_return rule p x m u well made small lost =
     )
 
 -- the men before the rebirth
-pub unreborn : (rule : RuleSet) (p : Position) (x : Man) (m : Move)
+unreborn : (rule : RuleSet) (p : Position) (x : Man) (m : Move)
     → without_at (put_at (moved_men p x m) (reborn_square rule p x m) (man_on_at p.men (capture_square p x m))) (reborn_square rule p x m) ≡ moved_men p x m
 unreborn rule p x m = unborn (moved_men p x m) (reborn_square rule p x m) (man_on_at p.men (capture_square p x m))
     (λ s e. let b = reborn_is rule p x m s e in (b.empty, rw b.who refl))
 
 -- the man that goes back
-pub goes_back : (rule : RuleSet) (p : Position) (x : Man) (m : Move) → IsMade rule p x m → leaving_man (arriving_man x m.promo) m.promo ≡ x
+goes_back : (rule : RuleSet) (p : Position) (x : Man) (m : Move) → IsMade rule p x m → leaving_man (arriving_man x m.promo) m.promo ≡ x
 goes_back rule p x m made = leaving_arriving p x m m.promo made.promotion
 
-pub before_is : (rule : RuleSet) (p : Position) (x : Man) (m : Move) (u : Undo) → IsWellFormed p → IsMade rule p x m → u ≡ undo_by rule p x m
+before_is : (rule : RuleSet) (p : Position) (x : Man) (m : Move) (u : Undo) → IsWellFormed p → IsMade rule p x m → u ≡ undo_by rule p x m
     → before_by (record (after_by rule p x m) { men = moved_men p x m }) x m u ≡ p
 unfolding before_by after_by undo_by
 before_is rule p x m u well made lost = search (rules, place_after_lift, returned)
 
 -- a reborn man stands on his square
-pub reborn_stands : (rule : RuleSet) (p : Position) (x : Man) (m : Move) (s : ℕ) → IsWellFormed p → IsMade rule p x m → reborn_square rule p x m ≡ Some s
+reborn_stands : (rule : RuleSet) (p : Position) (x : Man) (m : Move) (s : ℕ) → IsWellFormed p → IsMade rule p x m → reborn_square rule p x m ≡ Some s
     → IsSome (man_on (put_at (moved_men p x m) (reborn_square rule p x m) (man_on_at p.men (capture_square p x m))) s)
 reborn_stands rule p x m s well made e =
     grind (arith, reborn_is rule p x m s e, moved_sound rule p x m well made, made, rebirth_small, some_there, man_on-with_same)
 
-pub undo_is : (rule : RuleSet) (p : Position) (x : Man) (m : Move) → man_on p.men m.from ≡ Some x → undo_of rule p m ≡ undo_by rule p x m
+undo_is : (rule : RuleSet) (p : Position) (x : Man) (m : Move) → man_on p.men m.from ≡ Some x → undo_of rule p m ≡ undo_by rule p x m
 unfolding undo_of
 undo_is rule p x m here = rw here refl
 
@@ -167,6 +168,7 @@ pub record GoesBack (q2 p : Position) (m : Move) (u : Undo) (a : ℕ) (r : Optio
   pub can : (y : Man) → man_on q2.men a ≡ Some y → CanReturn q2.men (leaving_man y r) m u
   pub gives : (y : Man) → man_on q2.men a ≡ Some y → before_by q2 (leaving_man y r) m u ≡ p
 
+-- a move played and taken back leaves the position before it
 pub restores : (rule : RuleSet) (q q2 p : Position) (m : Move) (u : Undo) (a : ℕ) (r : Option Kind) → IsWellFormed p → is_pseudo_legal rule p m ≡ true
     → q ≡ position_after rule p m → u ≡ undo_of rule p m → q2 ≡ record q { men = without_at q.men u.rebirth } → a ≡ m.to → a < 64 → r ≡ m.promo
     → GoesBack q2 p m u a r

@@ -4,6 +4,7 @@ use Rattle.chess_rules.proofs.Chess.{AtMostOneKing, AtMostOneKing-without, CanCa
 use Rattle.chess_rules.proofs.Chess.{if_empty, is_castling, is_circe, is_crossed_right, is_double_step, is_home, is_home-none, is_man, is_pawn_inside, is_promotion_right, is_vacant_at, last_rank, man_on, man_on-with_other, man_on-with_same, man_on-without_none, man_on-without_other, man_on-without_same, man_on_at, may_promote, move_man}
 use Rattle.chess_rules.proofs.Chess.{is_pseudo_legal, moved_men, other, put_at, rank_of, rebirth, reborn_at, reborn_square, same_colour, same_kind, second_rank, square_at, square_at-is, unmoved_after, unmoved_with_rook, unmoved_without_at, was_passed, with_man, without_at, without_man, without_unmoved}
 use Rattle.chess_core.specs.declared.man.Unmoved.{Unmoved}
+use Rattle.chess_core.proofs.Kept.{same_colour-refl}
 use Rattle.chess_rules.proofs.making_moves.Fits.{arrived, arrived_other, can_move, castle_of, corner_stays, no_capture, pawn_is_no_king, taken}
 use Rattle.chess_rules.proofs.making_moves.Plays.{none_from_is_some}
 use Rattle.chess_rules.proofs.making_moves.Pseudo.{Advances, IsMade, kind_is_pawn, made, pawn_goes, pawn_reaches, ways}
@@ -73,6 +74,7 @@ castled_sound : (men : List (Option Man)) (a b : ℕ) (o : Option Man) → IsSou
     → ((z : Man) → o ≡ Some z → (same_kind z.kind King ≡ false) × (same_kind z.kind Pawn ≡ false)) → IsSound (move_man men a b o)
 castled_sound men a b o sound rook = search (rules, IsSound-with, IsSound-without, other_inside)
 
+-- the men are sound after a move, before a rebirth
 pub moved_sound : (rule : RuleSet) (p : Position) (x : Man) (m : Move) → IsWellFormed p → IsMade rule p x m → IsSound (moved_men p x m)
 unfolding moved_men
 moved_sound rule p x m well made =
@@ -117,13 +119,10 @@ rook_reborn y c s r is h = grind (arith, cases_Bool)
 kind_is_rook : (k : Kind) → same_kind k Rook ≡ true → k ≡ Rook
 kind_is_rook k h = grind arith
 
-pub colour_self : (c : Colour) → same_colour c c ≡ true
-colour_self c = grind arith
-
 reborn_rook_home : (y : Man) (s r : ℕ) → same_kind y.kind Rook ≡ true → rebirth y.colour y.kind s ≡ Some r → is_home (Some y) r ≡ true
 reborn_rook_home y s r rook h =
     let k : y.kind ≡ Rook = kind_is_rook y.kind rook in
-    rook_reborn y y.colour s r (and_from _ _ (colour_self y.colour) rook) (rw k at h)
+    rook_reborn y y.colour s r (and_from _ _ (same_colour-refl y.colour) rook) (rw k at h)
 
 -- the men once a man is reborn
 reborn_sound : (men : List (Option Man)) (o : Option ℕ) (y : Option Man) → IsSound men
@@ -143,10 +142,12 @@ captured rule p x m z well made h =
     let man : z ≡ t.man = cc in
     rw man (t.mortal, t.enemy)
 
+-- no king is captured
 pub captured_mortal : (rule : RuleSet) (p : Position) (x : Man) (m : Move) (z : Man) → IsWellFormed p → IsMade rule p x m
     → man_on_at p.men (capture_square p x m) ≡ Some z → same_kind z.kind King ≡ false
 captured_mortal rule p x m z well made h = (captured rule p x m z well made h).0
 
+-- and no man of the mover
 pub captured_enemy : (rule : RuleSet) (p : Position) (x : Man) (m : Move) (z : Man) → IsWellFormed p → IsMade rule p x m
     → man_on_at p.men (capture_square p x m) ≡ Some z → same_colour z.colour p.turn ≡ false
 captured_enemy rule p x m z well made h = (captured rule p x m z well made h).1
@@ -157,7 +158,7 @@ pub reborn_is : (rule : RuleSet) (p : Position) (x : Man) (m : Move) (r : ℕ) �
 unfolding reborn_square
 reborn_is rule p x m r h = search (rules, reborn_parts)
 
-pub after_sound : (rule : RuleSet) (p : Position) (x : Man) (m : Move) → IsWellFormed p → IsMade rule p x m
+after_sound : (rule : RuleSet) (p : Position) (x : Man) (m : Move) → IsWellFormed p → IsMade rule p x m
     → IsSound (put_at (moved_men p x m) (reborn_square rule p x m) (man_on_at p.men (capture_square p x m)))
 after_sound rule p x m well made =
     reborn_sound (moved_men p x m) (reborn_square rule p x m) (man_on_at p.men (capture_square p x m)) (moved_sound rule p x m well made) (λ r z at who.
@@ -224,11 +225,12 @@ shade_small s a b r la lb h = search rules
 at_small : (f k r : ℕ) → square_at f k ≡ Some r → r < 64
 at_small f k r h = let i : IsAt f k r = square_at-is f k r (rw h (eq-eqb r r refl)) in i.small
 
+-- a man is reborn on a square of the board
 pub rebirth_small : (c : Colour) (k : Kind) (s r : ℕ) → rebirth c k s ≡ Some r → r < 64
 unfolding rebirth
 rebirth_small c k s r h = grind (arith, shade_small, at_small)
 
-pub after_home : (rule : RuleSet) (p : Position) (x : Man) (m : Move) → IsWellFormed p → IsMade rule p x m
+after_home : (rule : RuleSet) (p : Position) (x : Man) (m : Move) → IsWellFormed p → IsMade rule p x m
     → AreHome (unmoved_after rule p x m) (put_at (moved_men p x m) (reborn_square rule p x m) (man_on_at p.men (capture_square p x m)))
 unfolding unmoved_after
 after_home rule p x m well made =
@@ -275,6 +277,7 @@ after_crossed : (rule : RuleSet) (p : Position) (x : Man) (m : Move) → IsWellF
 unfolding after_by is_crossed_right
 after_crossed rule p x m well made = search (rules, double_right)
 
+-- the position after a man's move is well formed
 pub after_by_well : (rule : RuleSet) (p : Position) (x : Man) (m : Move) → IsWellFormed p → IsMade rule p x m → IsWellFormed (after_by rule p x m)
 unfolding after_by
 after_by_well rule p x m well made = grind (arith, after_sound rule p x m well made, made, after_home rule p x m well made, after_crossed rule p x m well made)

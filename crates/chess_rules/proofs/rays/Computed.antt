@@ -51,6 +51,7 @@ row k none = refl
 entry : (f : ℕ → ℕ) (table : List ℕ) (s i d : ℕ) → table ≡ map f (range_with_len 0 64) → i ≡ s → i < 64 → get_or table i d ≡ f s
 entry f table s i d is same small = ap (λ r. get_or r i d) is ∙ get_or-map-range_with_len f 0 64 i i d small (omega arith) ∙ ap f same
 
+-- an entry of the table of lines is the word of that line
 pub ray_at : (x : Direction) (s i : ℕ) (none : List ℕ) (d : ℕ) → i ≡ s → i < 64 → get_or (get_or RAYS (direction_number x) none) i d ≡ ray s (step_of x)
 unfolding ray is_ahead
 ray_at x s i none d same small =
@@ -60,6 +61,7 @@ neighbours_are : NEIGHBOURS ≡ map (near queen_steps) (range_with_len 0 64)
 unfolding along
 neighbours_are = refl
 
+-- the table of a king's steps
 pub neighbours_at : (s i d : ℕ) → i ≡ s → i < 64 → get_or NEIGHBOURS i d ≡ word (λ t. list_any (leaps s t) queen_steps)
 unfolding leaps
 neighbours_at s i d same small = entry (near queen_steps) NEIGHBOURS s i d neighbours_are same small ∙ each_is (map (λ d. along s d 1) queen_steps)
@@ -68,6 +70,7 @@ knight_leaps_are : KNIGHT_LEAPS ≡ map (near knight_steps) (range_with_len 0 64
 unfolding along
 knight_leaps_are = refl
 
+-- the table of a knight's
 pub knight_leaps_at : (s i d : ℕ) → i ≡ s → i < 64 → get_or KNIGHT_LEAPS i d ≡ word (λ t. list_any (leaps s t) knight_steps)
 unfolding leaps
 knight_leaps_at s i d same small = entry (near knight_steps) KNIGHT_LEAPS s i d knight_leaps_are same small ∙ each_is (map (λ d. along s d 1) knight_steps)
@@ -76,6 +79,7 @@ white_captures_are : WHITE_CAPTURES ≡ map (near (pawn_captures White)) (range_
 unfolding along
 white_captures_are = refl
 
+-- the table of the squares that a White pawn attacks
 pub white_captures_at : (s i d : ℕ) → i ≡ s → i < 64 → get_or WHITE_CAPTURES i d ≡ word (λ t. list_any (leaps s t) (pawn_captures White))
 unfolding leaps
 white_captures_at s i d same small = entry (near (pawn_captures White)) WHITE_CAPTURES s i d white_captures_are same small ∙ each_is (map (λ d. along s d 1) (pawn_captures White))
@@ -84,6 +88,7 @@ black_captures_are : BLACK_CAPTURES ≡ map (near (pawn_captures Black)) (range_
 unfolding along
 black_captures_are = refl
 
+-- and a Black one
 pub black_captures_at : (s i d : ℕ) → i ≡ s → i < 64 → get_or BLACK_CAPTURES i d ≡ word (λ t. list_any (leaps s t) (pawn_captures Black))
 unfolding leaps
 black_captures_at s i d same small = entry (near (pawn_captures Black)) BLACK_CAPTURES s i d black_captures_are same small ∙ each_is (map (λ d. along s d 1) (pawn_captures Black))
@@ -97,6 +102,7 @@ unfolding along
 off East = refl
 off k = refl
 
+-- no line has eight steps
 pub eighth : (x : Direction) (s : ℕ) → s < 64 → along s (step_of x) 8 ≡ None
 eighth x s p =
     sym (get_or-map-range_with_len (λ s. along s (step_of x) 8) 0 64 s s None p (omega arith)) ∙ ap (λ r. get_or r s None) (off x)
@@ -106,6 +112,7 @@ white_steps_are : WHITE_STEPS ≡ map (ahead White) (range_with_len 0 64)
 unfolding along
 white_steps_are = refl
 
+-- the table of the one or two squares ahead of a White pawn
 pub white_steps_at : (s i d : ℕ) → i ≡ s → i < 64 → get_or WHITE_STEPS i d ≡ word (is_advance White s)
 white_steps_at s i d same small =
     entry (ahead White) WHITE_STEPS s i d white_steps_are same small ∙ two_is (along s (forward White) 1) (along s (forward White) 2)
@@ -114,6 +121,7 @@ black_steps_are : BLACK_STEPS ≡ map (ahead Black) (range_with_len 0 64)
 unfolding along
 black_steps_are = refl
 
+-- and of a Black one
 pub black_steps_at : (s i d : ℕ) → i ≡ s → i < 64 → get_or BLACK_STEPS i d ≡ word (is_advance Black s)
 black_steps_at s i d same small =
     entry (ahead Black) BLACK_STEPS s i d black_steps_are same small ∙ two_is (along s (forward Black) 1) (along s (forward Black) 2)
@@ -126,6 +134,7 @@ aside_are : ASIDE ≡ map beside (range_with_len 0 64)
 unfolding along
 aside_are = refl
 
+-- the table of the squares two files aside, for castling
 pub aside_at : (s i d : ℕ) → i ≡ s → i < 64 → get_or ASIDE i d ≡ word (is_aside s)
 aside_at s i d same small = entry beside ASIDE s i d aside_are same small ∙ two_is (along s (step_by 2 0 0 0) 1) (along s (step_by 0 2 0 0) 1)
 
@@ -137,6 +146,7 @@ on x s = get_or (get_or RAYS (direction_number x) []) s 0
 abbrev joined : Direction → Direction → Direction → Direction → ℕ → ℕ
 joined a b c e s = bit_or (bit_or (bit_or (on a s) (on b s)) (on c s)) (on e s)
 
+-- the table of the rook's lines on the empty board
 pub straight_lines_at : (s i d : ℕ) → i ≡ s → i < 64 → get_or STRAIGHT_LINES i d ≡ word (is_on_some straight_steps s)
 unfolding is_on_some ray
 straight_lines_at s i d is small =
@@ -145,6 +155,7 @@ straight_lines_at s i d is small =
     (ray_at East s s [] 0 refl (omega arith)) (ray_at West s s [] 0 refl (omega arith))
     (ray_at North s s [] 0 refl (omega arith)) (ray_at South s s [] 0 refl (omega arith))
 
+-- and of the bishop's
 pub diagonal_lines_at : (s i d : ℕ) → i ≡ s → i < 64 → get_or DIAGONAL_LINES i d ≡ word (is_on_some diagonal_steps s)
 unfolding is_on_some ray
 diagonal_lines_at s i d is small =

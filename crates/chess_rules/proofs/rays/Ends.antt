@@ -21,6 +21,7 @@ placed_at f r t a b c d e = record { f_low = a; f_high = b; r_low = c; r_high = 
 placed_by : (f r t : ℕ) (b : Bool) → (is_on_board f && is_on_board r) ≡ b → cond b (Some (8 * (r - 1) + (f - 1))) None ≡ Some t → Placed f r t
 placed_by f r t b on h = grind (arith, first_of_and, leb-true, placed_at, second_of_and, some_is)
 
+-- a square made of file and rank has that file and that rank
 pub placed_from : (f r t : ℕ) → square_at f r ≡ Some t → Placed f r t
 placed_from f r t h = placed_by f r t (is_on_board f && is_on_board r) refl h
 
@@ -28,23 +29,29 @@ placed_from f r t h = placed_by f r t (is_on_board f && is_on_board r) refl h
 part : (f k i r l : ℕ) → i ≤ k → 1 ≤ f + k * r - k * l → f + k * r - k * l + (k - i) * l - (k - i) * r ≡ f + i * r - i * l
 part f k i r l le on = search (rules, add-mul)
 
+-- the squares of a line are the same, counted back from its end
 pub between : (s t : ℕ) (d : Step) (k i : ℕ) → i ≤ k → along s d k ≡ Some t → along t (back d) (k - i) ≡ along s d i
 unfolding along
 between s t d k i le h = grind (arith, placed_from, part)
 
+-- files and ranks from 1 to 8 are on the board
 pub on_board : (x : ℕ) → 1 ≤ x → x ≤ 8 → is_on_board x ≡ true
 on_board x a b = and_from _ _ (le-leb 1 x a) (le-leb x 8 b)
 
+-- a square given on a test is there where the test passes
 pub cond-on : (b : Bool) (s n : ℕ) → b ≡ true → n ≡ s → cond b (Some n) None ≡ Some s
 cond-on b s n h e = grind (arith, false≢true)
 
+-- after zero steps the square is the same
 pub stays : (s : ℕ) (d : Step) → s < 64 → along s d 0 ≡ Some s
 unfolding along
 stays s d p = search rules
 
+-- an option that passes the test of a square holds this square
 pub square_is : (o : Option ℕ) (t : ℕ) → is_square o t ≡ true → o ≡ Some t
 square_is o t h = grind (arith, false≢true, eqb-true)
 
+-- as many steps lead back from t to s as lead from s to t
 pub returns_to : (s t : ℕ) (d : Step) (k : ℕ) → s < 64 → is_square (along s d k) t ≡ true → is_square (along t (back d) k) s ≡ true
 returns_to s t d k p h = grind (arith, square_is _ t h, between s t d k 0 (omega arith), stays s d p, eq-eqb s s refl)
 

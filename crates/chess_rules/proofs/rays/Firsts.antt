@@ -10,6 +10,7 @@ has_bit n i h = search rules
 kept : (n m i : ℕ) → bit_at n i ≡ 1 → bit_at (bit_or n m) i ≡ 1
 kept n m i h = omega (arith, bit_at_or n m i, bit_at-lt m i)
 
+-- where the numbers rise along a line, its first man is the lowest bit
 pub lowest_stop : (d : Step) (w : ℕ) → w < 2 ^ 64 → rises d ≡ true → IsStop d w (trailing_zeros w64 (bit_or w (1 * 2 ^ 63 % 2 ^ 64)))
 lowest_stop d w fits up =
     let v : ℕ = bit_or w (1 * 2 ^ 63 % 2 ^ 64) in
@@ -31,6 +32,7 @@ top_bit n r a b = search rules
 none_above : (n r q : ℕ) → n < 2 * 2 ^ r → r < q → bit_at n q ≡ 0
 none_above n r q b lt = bit_at_above n (suc r) q (omega (arith, pow-suc 2 r)) (omega arith)
 
+-- where they fall, the highest
 pub highest_stop : (d : Step) (w r : ℕ) → rises d ≡ false → 2 ^ r ≤ bit_or w 1 → bit_or w 1 < 2 * 2 ^ r → r < 64 → IsStop d w r
 highest_stop d w r down a b small = record {
   small = small;

@@ -5,7 +5,7 @@ use Rattle.chess_rules.proofs.rays.Ends.{back, rides-back, returns_to}
 use Rattle.chess_rules.proofs.rays.Hops.{hops-back}
 
 -- equality of steps as a test
-abbrev pub same_step : Step → Step → Bool
+abbrev same_step : Step → Step → Bool
 same_step a b = (a.right == b.right && a.left == b.left) && (a.up == b.up && a.down == b.down)
 
 step_is : (a b : Step) → same_step a b ≡ true → a ≡ b
@@ -29,7 +29,7 @@ across p q (x ∷ xs) ds h o y =
     let parts = and_parts (list_any (same_step (back x)) ds) (opposed xs ds) o in
     elim (or_cases (p x) (list_any p xs) y) [ inl e ↦ held q ds (back x) parts.0 (h x e) | inr r ↦ across p q xs ds h parts.1 r ]
 
-pub flip : (xs ds : List Step) (p q : Step → Bool) → opposed xs ds ≡ true → opposed ds xs ≡ true → ((d : Step) → p d ≡ q (back d))
+flip : (xs ds : List Step) (p q : Step → Bool) → opposed xs ds ≡ true → opposed ds xs ≡ true → ((d : Step) → p d ≡ q (back d))
     → list_any p xs ≡ list_any q ds
 flip xs ds p q there here h = search (rules, across, back, same_Bool)
 
@@ -37,6 +37,7 @@ flip xs ds p q there here h = search (rules, across, back, same_Bool)
 pub backward : (ds : List Step) (p : Step → Bool) → opposed ds ds ≡ true → list_any (λ d. p (back d)) ds ≡ list_any p ds
 backward ds p o = flip ds ds (λ d. p (back d)) p o o (λ d. refl)
 
+-- with each step's opposite among them, rides from s to t are rides from t to s
 pub rides_turned : (ds : List Step) (men : List (Option Man)) (s t : ℕ) → opposed ds ds ≡ true → s < 64 → t < 64
     → list_any (rides men s t) ds ≡ list_any (rides men t s) ds
 rides_turned ds men s t o p q = flip ds ds (rides men s t) (rides men t s) o o (λ d. rides-back men s t d p q)
@@ -46,23 +47,29 @@ leaps_turned : (xs ds : List Step) (s t : ℕ) → opposed xs ds ≡ true → op
 unfolding leaps
 leaps_turned xs ds s t there here p q = search (rules, back, flip, returns_to, same_Bool)
 
+-- a queen rides from s to t exactly if one rides from t to s
 pub queen_rides-back : (men : List (Option Man)) (s t : ℕ) → s < 64 → t < 64 → list_any (rides men s t) queen_steps ≡ list_any (rides men t s) queen_steps
 queen_rides-back men s t = rides_turned queen_steps men s t refl
 
+-- so does a rook
 pub straight-back : (men : List (Option Man)) (s t : ℕ) → s < 64 → t < 64
     → list_any (rides men s t) straight_steps ≡ list_any (rides men t s) straight_steps
 straight-back men s t = rides_turned straight_steps men s t refl
 
+-- so does a bishop
 pub diagonal-back : (men : List (Option Man)) (s t : ℕ) → s < 64 → t < 64
     → list_any (rides men s t) diagonal_steps ≡ list_any (rides men t s) diagonal_steps
 diagonal-back men s t = rides_turned diagonal_steps men s t refl
 
+-- so does a nightrider
 pub nightrider-back : (men : List (Option Man)) (s t : ℕ) → s < 64 → t < 64 → list_any (rides men s t) knight_steps ≡ list_any (rides men t s) knight_steps
 nightrider-back men s t = rides_turned knight_steps men s t refl
 
+-- so does a knight
 pub knight-back : (s t : ℕ) → s < 64 → t < 64 → list_any (leaps s t) knight_steps ≡ list_any (leaps t s) knight_steps
 knight-back s t = leaps_turned knight_steps knight_steps s t refl refl
 
+-- so does a king
 pub king-back : (s t : ℕ) → s < 64 → t < 64 → list_any (leaps s t) queen_steps ≡ list_any (leaps t s) queen_steps
 king-back s t = leaps_turned queen_steps queen_steps s t refl refl
 
@@ -70,5 +77,6 @@ king-back s t = leaps_turned queen_steps queen_steps s t refl refl
 pub pawn-back : (c : Colour) (s t : ℕ) → s < 64 → t < 64 → list_any (leaps s t) (pawn_captures c) ≡ list_any (leaps t s) (pawn_captures (other c))
 pawn-back c s t = grind (arith, leaps_turned)
 
+-- a grasshopper's hop is found by looking back from where it lands
 pub grasshopper-back : (men : List (Option Man)) (s t : ℕ) → s < 64 → t < 64 → list_any (hops men s t) queen_steps ≡ list_any (hopped_from men t s) queen_steps
 grasshopper-back men s t p q = search (rules, flip, hops-back)

@@ -80,6 +80,7 @@ landed men s d b t line stop p q h =
     let next : along b d 1 ≡ Some t = onward s b d on.0 1 on.1.at ∙ ap (along s d) e ∙ at in
     rw next (eq-eqb t t refl)
 
+-- a hop goes to the square right behind the first man ahead, if the board has one
 pub hop_is : (men : List (Option Man)) (s : ℕ) (x : Direction) (b w : ℕ) → Stops men s (step_of x) b → s < 64
     → w ≡ word (λ t. is_square (along b (step_of x) 1) t) → w ≡ word (λ t. hops men s t (step_of x))
 hop_is men s x b w stop p h = search (rules, landed, lands, ordered, same_Bool, squares_same)
@@ -121,11 +122,13 @@ from_second men t n s x p at =
     (omega arith) in
     ap (is_vacant men) (on i) ∙ f))))
 
+-- where a man stands next to t, hops over it to t come from where a ride from it gets
 pub hop_back_over : (men : List (Option Man)) (t n w : ℕ) (x : Direction) → t < 64 → along t (step_of x) 1 ≡ Some n → is_some (man_on men n) ≡ true
     → w ≡ word (λ s. rides men n s (step_of x)) → w ≡ word (λ s. hopped_from men t s (step_of x))
 unfolding hopped_from
 hop_back_over men t n w x p at man h = search (rules, from_second)
 
+-- where none stands next to t, no hop comes to t from that side
 pub hop_back_none : (men : List (Option Man)) (t : ℕ) (d : Step) → is_occupied men (along t d 1) ≡ false → 0 ≡ word (λ s. hopped_from men t s d)
 unfolding hopped_from
 hop_back_none men t d h = word_empty (λ s. hopped_from men t s d) (λ s b. ap (λ o. o && rides_on 2 men t s d) h)
@@ -160,6 +163,7 @@ next_is s x r b t p h stop ahead =
 none_at : (o : Option ℕ) → ((q : ℕ) → o ≡ Some q → ⊥) → None ≡ o
 none_at o h = grind arith
 
+-- a line without squares has no next square
 pub next_none : (s : ℕ) (d : Step) (r : ℕ) → s < 64 → r ≡ ray s d → r ≡ 0 → None ≡ along s d 1
 unfolding ray
 next_none s d r p h z = none_at (along s d 1) (λ q at. elim (cases_lt q 64) [
@@ -169,6 +173,7 @@ next_none s d r p h z = none_at (along s d 1) (λ q at. elim (cases_lt q 64) [
       omega arith)
 ])
 
+-- the next square of a line is the one that it passes first
 pub next_some : (s : ℕ) (x : Direction) (r b : ℕ) → s < 64 → r ≡ ray s (step_of x) → r ≢ 0 → IsStop (step_of x) r b → Some b ≡ along s (step_of x) 1
 unfolding ray
 next_some s x r b p h some stop =

@@ -63,6 +63,7 @@ some_blocked men others b k s (d ∷ ds) i h ne =
           (or_right (rides men k b d) _ rest.0, or_right (rides men s b (back d)) _ rest.1)
     ]
 
+-- a ride stays open if b isn't on it between its ends
 pub line_open : (men others : List (Option Man)) (b k s : ℕ) (ds : List Step) → Frees men others b → list_any (rides men k s) ds ≡ true
     → (list_any (rides men k b) ds ≡ true → list_any (λ d. rides men s b (back d)) ds ≡ true → ⊥) → list_any (rides others k s) ds ≡ true
 line_open men others b k s ds i h never = search (rules, some_blocked)

@@ -34,6 +34,7 @@ none_more p n m le none = elim (any_range_cases p 0 n) [
 abbrev pub ridden_below : List (Option Man) → List Step → ℕ → ℕ → ℕ → Bool
 ridden_below men ds w n s = list_any (λ q. bit_at w q == 1 && list_any (rides men q s) ds) (range_with_len 0 n)
 
+-- with one more rider, the squares to which it gets are joined
 pub ridden_more : (men : List (Option Man)) (ds : List Step) (w n q r v : ℕ) → r ≡ word (ridden_below men ds w n) → v ≡ word (λ s. list_any (rides men q s) ds)
     → IsFirst (λ s. bit_at w s == 1) n (64 - n) q
     → bit_or r v ≡ word (ridden_below men ds w (q + 1))
@@ -43,9 +44,11 @@ ridden_more men ds w n q r v h i first =
     ap (λ (b : Bool). ridden_below men ds w n s || (b && list_any (rides men q s) ds)) (sym first.here)
     ∙ upto (λ q. bit_at w q == 1 && list_any (rides men q s) ds) n q first.low (λ j lo hi. and_left (bit_at w j == 1) _ (first.before j lo hi)))
 
+-- below 0 there is no rider, and so no square
 pub ridden_none : (men : List (Option Man)) (ds : List Step) (w : ℕ) → 0 ≡ word (ridden_below men ds w 0)
 ridden_none men ds w = word_empty (ridden_below men ds w 0) (λ s small. refl)
 
+-- once no rider is left, they are the squares to which any of them gets
 pub ridden_all : (men : List (Option Man)) (ds : List Step) (w n r : ℕ) → n ≤ 64 → r ≡ word (ridden_below men ds w n)
     → ((j : ℕ) → n ≤ j → j < 64 → (bit_at w j == 1) ≡ false) → r ≡ word (λ s. some_square (λ q. bit_at w q == 1 && list_any (rides men q s) ds))
 unfolding some_square squares
@@ -57,11 +60,13 @@ ridden_all men ds w n r le h none =
 abbrev pub is_rider : List (Option Man) → Colour → Kind → List Step → ℕ → ℕ → Bool
 is_rider men e j ds k q = (is_man (man_on men q) e j || is_man (man_on men q) e Queen) && is_on_some ds k q
 
+-- the rooks or bishops and the queens on the lines from a square
 pub riders_are : (men : List (Option Man)) (e : Colour) (j : Kind) (ds : List Step) (k r l : ℕ) → r ≡ bit_or (squares_of men e j) (squares_of men e Queen)
     → l ≡ word (is_on_some ds k) → bit_and r l ≡ word (is_rider men e j ds k)
 unfolding squares_of
 riders_are men e j ds k r l h g = search (rules, squares_both, squares_either)
 
+-- without such riders no square shuts a line
 pub none_shut : (men : List (Option Man)) (e : Colour) (j : Kind) (ds : List Step) (k w : ℕ) → w ≡ word (is_rider men e j ds k) → w ≡ 0
     → 0 ≡ word (is_shut men e j ds k)
 unfolding is_shut is_behind
@@ -72,6 +77,7 @@ none_shut men e j ds k w h zero =
           ∙ ap (λ (n : ℕ). n == 1) (bit_at-zero q));
     })))
 
+-- else a square shuts a line exactly if the king's square and a rider both see it
 pub shut_are : (men : List (Option Man)) (e : Colour) (j : Kind) (ds : List Step) (k w n r : ℕ) → w ≡ word (is_rider men e j ds k)
     → n ≡ word (λ t. list_any (rides men k t) ds) → r ≡ word (λ s. some_square (λ q. bit_at w q == 1 && list_any (rides men q s) ds))
     → bit_and n r ≡ word (is_shut men e j ds k)

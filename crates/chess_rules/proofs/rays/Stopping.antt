@@ -11,22 +11,26 @@ pub record Stops (men : List (Option Man)) (s : ℕ) (d : Step) (b : ℕ) : Type
   pub first : (q : ℕ) → q < 64 → is_ahead s d q ≡ true → is_some (man_on men q) ≡ true → place d b ≤ place d q
   pub here : place d b < 63 → (is_ahead s d b && is_some (man_on men b)) ≡ true
 
+-- a square that passes has its bit in the word
 pub marked : (test : ℕ → Bool) (w q : ℕ) → w ≡ word test → q < 64 → test q ≡ true → bit_at w q ≡ 1
 marked test w q h b e = eqb-true _ _ (word_has test w q h b ∙ e)
 
+-- a square whose bit is in the word passes
 pub passes_test : (test : ℕ → Bool) (w q : ℕ) → w ≡ word test → q < 64 → bit_at w q ≡ 1 → test q ≡ true
 passes_test test w q h b e = sym (word_has test w q h b) ∙ eq-eqb _ 1 e
 
 -- the men ahead of s
-pub ahead_men : (men : List (Option Man)) (s : ℕ) (d : Step) (r o : ℕ) → r ≡ ray s d → o ≡ word (λ q. is_some (man_on men q))
+ahead_men : (men : List (Option Man)) (s : ℕ) (d : Step) (r o : ℕ) → r ≡ ray s d → o ≡ word (λ q. is_some (man_on men q))
     → bit_and r o ≡ word (λ q. is_ahead s d q && is_some (man_on men q))
 unfolding ray
 ahead_men men s d r o h i = (λ j. bit_and (h j) (i j)) ∙ squares_both (is_ahead s d) (λ q. is_some (man_on men q))
 
+-- the first man ahead in the word of men is where the line stops
 pub stops : (men : List (Option Man)) (s : ℕ) (d : Step) (r o b : ℕ) → r ≡ ray s d → o ≡ word (λ q. is_some (man_on men q)) → IsStop d (bit_and r o) b
     → Stops men s d b
 stops men s d r o b h i stop = grind (arith, ahead_men men s d r o h i, marked, and_from, passes_test)
 
+-- a place on a line is at most 63
 pub place_le : (up : Bool) (t : ℕ) → t < 64 → place_by up t ≤ 63
 place_le up t p = grind arith
 
@@ -36,6 +40,7 @@ pub record Steps (s : ℕ) (d : Step) (t k : ℕ) : Type 0 where
   pub high : k < 8
   pub at : along s d k ≡ Some t
 
+-- a square ahead is one to seven steps on
 pub steps_on : (s : ℕ) (d : Step) (t : ℕ) → is_ahead s d t ≡ true → (k : ℕ) × Steps s d t k
 unfolding is_ahead
 steps_on s d t h = elim (any_range_cases (λ k. is_square (along s d k) t) 1 7) [
@@ -43,6 +48,7 @@ steps_on s d t h = elim (any_range_cases (λ k. is_square (along s d k) t) 1 7) 
   | inr none ↦ absurd (false≢true (sym (any_range_false (λ k. is_square (along s d k) t) 1 7 none) ∙ h))
 ]
 
+-- and what is so many steps on is ahead
 pub ahead_at : (s : ℕ) (d : Step) (t k : ℕ) → 1 ≤ k → k < 8 → along s d k ≡ Some t → is_ahead s d t ≡ true
 unfolding is_ahead
 ahead_at s d t k lo hi at = any_range_true (λ k. is_square (along s d k) t) 1 7 k lo (omega arith) (rw at (eq-eqb t t refl))
@@ -124,6 +130,7 @@ ridden men s d b t line stop p q = elim (cases_Bool (is_ahead s d t)) [
       ])))
 ]
 
+-- a ride gets to what is ahead, without what is ahead of the first man
 pub ride_is : (men : List (Option Man)) (s : ℕ) (d : Step) (r o b n : ℕ) → Ordered d → s < 64 → r ≡ ray s d → o ≡ word (λ q. is_some (man_on men q))
     → IsStop d (bit_and r o) b → n ≡ ray b d → bit_and r (bit_not w64 n) ≡ word (λ t. rides men s t d)
 unfolding ray
