@@ -7,6 +7,7 @@ abbrev pub with_front : List ℕ → Option (List ℕ) → Option (List ℕ)
 with_front done None = None
 with_front done (Some squares) = Some (done ++ squares)
 
+-- one square more before those of a text
 pub front_more : (done : List ℕ) (square : ℕ) (squares : Option (List ℕ))
     → with_front done (before_squares (Some square) squares) ≡ with_front (done ++ square ∷ []) squares
 front_more done square squares = grind (arith, append_assoc)

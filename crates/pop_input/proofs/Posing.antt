@@ -27,18 +27,21 @@ pub crossed_wrong : (state : State) (form : Form) → ArePut state.men → (IsWe
     → is_crossed_right state.men (starting_side form) state.crossed ≡ false
 crossed_wrong state form put ill = grind (arith, cases_Bool, well_formed_by)
 
+-- where it is well formed, a pawn can have passed the crossed square
 pub crossed_fine : (setup : Diagram) → IsWellFormed (position_of setup) → is_crossed_right setup.men setup.turn setup.crossed ≡ true
 unfolding position_of
 crossed_fine setup well = well.crossed
 
 -- The faults.
 
+-- a diagram and its position have the same men
 pub shown_men : (setup : Diagram) → (position_of setup).men ≡ setup.men
 unfolding position_of
 shown_men setup = refl
 
 module _ (state : State) (stipulation : Stipulation) (setup : Diagram) (is : setup ≡ diagram_of state stipulation.form) (put : ArePut state.men)
     (some : has_men setup.men ≡ true) where
+  -- where men stand and the position isn't well formed, the fault is the crossed square's
   pub ill_fault : (IsWellFormed (position_of setup) → ⊥) → Some EnPassantImpossible ≡ diagram_fault state stipulation setup
   ill_fault ill = grind (arith, crossed_wrong)
 

@@ -12,15 +12,19 @@ use Rattle.pop_input.proofs.Taking.{takes_then}
 some_all : {test : ℕ → Bool} {old new : Reading} {had left : Option (List ℕ)} → UsesAll test old new had left → UsesSome old new had left
 some_all p = record { bytes = p.bytes; uses = p.uses }
 
+-- the bytes of a gap and a run were used
 pub some_run : {old new : Reading} {had left : Option (List ℕ)} {number : ℕ} {run : List ℕ} → UsesRun old new had left number run → UsesSome old new had left
 some_run {run = run} p = record { bytes = p.gap ++ run; uses = p.uses }
 
+-- bytes were used, and then others
 pub some_then : {a b c : Reading} {had mid left : Option (List ℕ)} → UsesSome a b had mid → UsesSome b c mid left → UsesSome a c had left
 some_then p q = record { bytes = p.bytes ++ q.bytes; uses = uses_then p.uses q.uses }
 
+-- no byte was used
 pub some_none : (place : Reading) (had : Option (List ℕ)) → UsesSome place place had had
 some_none place had = record { bytes = []; uses = uses_none place had }
 
+-- the bytes of a text line were used
 pub line_some : {old new : Reading} {had left : Option (List ℕ)} (text : Text) → UsesLine old new had left (Ok text) → UsesSome old new had left
 line_some text (line, plain, is, inl u) = record { bytes = line ++ 10 ∷ []; uses = u }
 line_some text (line, plain, is, inr u) = record { bytes = line; uses = u.0 }
@@ -39,6 +43,7 @@ line_cut keyword (TooLong line) s u rest at = absurd rest
 line_cut keyword (InputTooLong line) s u rest at = (some_then s (some_all u), at)
 line_cut keyword (Device line) s u rest at = (some_then s (some_all u), at)
 
+-- bytes were used, and then plain words skipped
 pub some_skipped : {a b c : Reading} {had left : Option (List ℕ)} → UsesSome a b had left → Skips b c → UsesSome a c had left
 some_skipped {left = left} p s = record { bytes = p.bytes ++ s.bytes; uses = uses_then p.uses (s.uses left) }
 
@@ -88,6 +93,7 @@ closed_item old new behind had left met block line last (Sound problem answered)
 closed_item old new behind had left met block line last (Faulty fault answered) c is stays same = rw (stays, same) (inl is)
 closed_item old new behind had left met block line last End c is stays same = absurd c
 
+-- where a fault cuts the input, no token is taken
 pub cut_takes : {old new : Reading} {had left : Option (List ℕ)} (cut : ReadFault) → CutsOff old new had left cut → Takes (among old) (among new) had left []
 cut_takes (TooLong line) t = absurd t
 cut_takes (InputTooLong line) t = t.0

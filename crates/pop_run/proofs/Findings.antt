@@ -11,9 +11,11 @@ pub record IsPrinting {A : Type 0} (text : A → List ℕ) (all left : List A) (
   pub written : Appends before now front
   pub whole : flat_map text all ≡ front ++ flat_map text left
 
+-- before the first text nothing is written
 pub printing_starts : {A : Type 0} (text : A → List ℕ) (all : List A) (before : Option (List ℕ)) → IsPrinting text all all before before
 printing_starts text all before = record { front = []; written = appends_none before; whole = refl }
 
+-- one text more is written
 pub printing_goes_on : {A : Type 0} (text : A → List ℕ) (all left : List A) (item : A) (before mid now : Option (List ℕ))
     → IsPrinting text all (item ∷ left) before mid → Appends mid now (text item) → IsPrinting text all left before now
 printing_goes_on text all left item before mid now p q = record {

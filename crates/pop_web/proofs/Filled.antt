@@ -56,41 +56,50 @@ module _ (Ending : Type 0) (number : Ending → ℕ) (Does : List ℕ → Bool �
   shown_first f other over = first f.cut f.ending f.told f.does f.full other over
 
 module _ (choice : Choice) (text shown : List ℕ) (answer : ℕ) (f : Shows choice text shown answer) where
+  -- a report that isn't cut is shown whole, with the number of the text's status
   pub report_whole : answer ≢ number_of OutputFailed → (shown ≡ report choice (whole_input text)) × (answer ≡ number_of (status (whole_input text)))
   report_whole other = shown_whole _ _ _ (report choice (whole_input text)) (status (whole_input text)) OutputFailed (λ now ending does. does)
       (λ now ending does. does) _ _ f other
 
+  -- of one that is cut as many bytes are shown as there is room for
   pub report_first : answer ≡ number_of OutputFailed → shown ≡ take room (report choice (whole_input text))
   report_first over = shown_first _ _ _ (report choice (whole_input text)) (status (whole_input text)) OutputFailed (λ now ending does. does)
       (λ now ending does. does) _ _ f (other_number (entries_in (whole_input text))) over
 
+  -- one that is cut has filled the room
   pub report_full : answer ≡ number_of OutputFailed → length shown ≡ room
   report_full over = room_is_full _ _ _ (report choice (whole_input text)) (status (whole_input text)) OutputFailed (λ now ending does. does)
       (λ now ending does. does) _ _ f (other_number (entries_in (whole_input text))) over
 
 module _ (depth : ℕ) (text shown : List ℕ) (answer : ℕ) (f : Lists depth text shown answer) where
+  -- a list of parts that isn't cut is shown whole
   pub list_whole : answer ≢ number_of OutputFailed → (shown ≡ list_text depth (whole_input text)) × (answer ≡ number_of (status (whole_input text)))
   list_whole other = shown_whole _ _ _ (list_text depth (whole_input text)) (status (whole_input text)) OutputFailed (λ now ending does. does)
       (λ now ending does. does) _ _ f other
 
+  -- of one that is cut as many bytes are shown as there is room for
   pub list_first : answer ≡ number_of OutputFailed → shown ≡ take room (list_text depth (whole_input text))
   list_first over = shown_first _ _ _ (list_text depth (whole_input text)) (status (whole_input text)) OutputFailed (λ now ending does. does)
       (λ now ending does. does) _ _ f (other_number (entries_in (whole_input text))) over
 
+  -- one that is cut has filled the room
   pub list_full : answer ≡ number_of OutputFailed → length shown ≡ room
   list_full over = room_is_full _ _ _ (list_text depth (whole_input text)) (status (whole_input text)) OutputFailed (λ now ending does. does)
       (λ now ending does. does) _ _ f (other_number (entries_in (whole_input text))) over
 
 module _ (asked : Asked) (text shown : List ℕ) (answer : ℕ) (f : ShowsParts asked text shown answer) where
+  -- a part that isn't cut is shown whole, with how its call ended
   pub part_whole : answer ≢ number_of_parts PartsCut → (shown ≡ text_of asked (whole_input text))
       × (answer ≡ number_of_parts (outcome_of asked (whole_input text)))
   part_whole other = shown_whole _ _ _ (text_of asked (whole_input text)) (outcome_of asked (whole_input text)) PartsCut (λ now ending does. does)
       (λ now ending does. does) _ _ f other
 
+  -- of one that is cut as many bytes are shown as there is room for
   pub part_first : answer ≡ number_of_parts PartsCut → shown ≡ take room (text_of asked (whole_input text))
   part_first over = shown_first _ _ _ (text_of asked (whole_input text)) (outcome_of asked (whole_input text)) PartsCut (λ now ending does. does)
       (λ now ending does. does) _ _ f (other_outcome asked text) over
 
+  -- one that is cut has filled the room
   pub part_full : answer ≡ number_of_parts PartsCut → length shown ≡ room
   part_full over = room_is_full _ _ _ (text_of asked (whole_input text)) (outcome_of asked (whole_input text)) PartsCut (λ now ending does. does)
       (λ now ending does. does) _ _ f (other_outcome asked text) over
