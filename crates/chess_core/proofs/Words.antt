@@ -5,20 +5,20 @@ use Rattle.std.proofs.lemmas.List.FromFn.{get_or-range_with_len}
 use Rattle.chess_core.proofs.Ranges.{some_square_true, some_square_false}
 
 -- the word of a list has no more bits than the list has members
-pub word_small : {X : Type 0} (test : X → Bool) (xs : List X) → word_of test xs < 2 ^ length xs
+word_small : {X : Type 0} (test : X → Bool) (xs : List X) → word_of test xs < 2 ^ length xs
 unfolding word_of
 word_small test [] = omega arith
 word_small test (x ∷ xs) = grind (arith, word_small test xs)
 
 -- bit i of a word
-pub word_bit : {X : Type 0} (test : X → Bool) (xs : List X) (d : X) (i : ℕ) → i < length xs → bit_at (word_of test xs) i ≡ bit_of (test (get_or xs i d))
+word_bit : {X : Type 0} (test : X → Bool) (xs : List X) (d : X) (i : ℕ) → i < length xs → bit_at (word_of test xs) i ≡ bit_of (test (get_or xs i d))
 unfolding word_of
 word_bit test [] d i h = absurd (omega arith)
 word_bit test (x ∷ xs) d zero h = grind (arith, bit_at_lowest)
 word_bit test (x ∷ xs) d (suc i) h = grind (arith, bit_at-suc, word_bit test xs d i (omega arith))
 
 -- a number of 64 bits with these bits is the word
-pub word_from_bits : {X : Type 0} (test : X → Bool) (xs : List X) (d : X) (n : ℕ) → length xs ≡ 64 → n < 2 ^ 64
+word_from_bits : {X : Type 0} (test : X → Bool) (xs : List X) (d : X) (n : ℕ) → length xs ≡ 64 → n < 2 ^ 64
     → ((i : ℕ) → i < 64 → bit_at n i ≡ bit_of (test (get_or xs i d))) → n ≡ word_of test xs
 word_from_bits test xs d n l b h =
     let w : word_of test xs < 2 ^ 64 = subst (λ k. word_of test xs < 2 ^ k) l (word_small test xs) in
@@ -63,7 +63,7 @@ word_both p q r xs d l h =
     word_from_bits r xs d _ l (omega (arith, and_le_l (word_of p xs) (word_of q xs))) (grind (arith, bit_at_and, word_bit, both))
 
 -- the square with a number stands at its place in the list
-pub squares_at : (i : ℕ) → i < 64 → get_or squares i 0 ≡ i
+squares_at : (i : ℕ) → i < 64 → get_or squares i 0 ≡ i
 unfolding squares
 squares_at i p = get_or-range_with_len 0 64 i 0 p ∙ omega arith
 

@@ -5,11 +5,11 @@ use Rattle.pop_input.specs.declared.names.Command.TheVariants.{Next, Last}
 -- One more token.
 
 -- the fault of a word of a problem
-abbrev pub word_fault : List (List ℕ) → ℕ → List ℕ → Option Fault
+abbrev word_fault : List (List ℕ) → ℕ → List ℕ → Option Fault
 word_fault before line text = at_line line (fault_of true (state_of before) text)
 
 -- the first fault behind one more word: an earlier one, or that of the word
-pub fault_more : (before : List (List ℕ)) (done : List Token) (line : ℕ) (text : List ℕ)
+fault_more : (before : List (List ℕ)) (done : List Token) (line : ℕ) (text : List ℕ)
     → first_fault before (done ++ Word line text ∷ []) ≡ or_else (first_fault before done) (word_fault (words_before before done) line text)
 fault_more before [] line text = grind arith
 fault_more before (Word l t ∷ done) line text = grind (arith, fault_more (t ∷ before) done line text)
@@ -98,18 +98,18 @@ open_parts : (token : Token) (done : List Token) → list_all closes_none (token
 open_parts token done h = grind arith
 
 -- open tokens stand in the first block
-pub blocks_open : (done tokens : List Token) → list_all closes_none done ≡ true → (b : List Token) (bs : List (List Token)) → blocks_of tokens ≡ b ∷ bs
+blocks_open : (done tokens : List Token) → list_all closes_none done ≡ true → (b : List Token) (bs : List (List Token)) → blocks_of tokens ≡ b ∷ bs
     → blocks_of (done ++ tokens) ≡ (done ++ b) ∷ bs
 blocks_open [] tokens h b bs e = e
 blocks_open (token ∷ done) tokens h b bs e = grind (arith, open_parts, blocks_open done tokens (open_parts token done h).1 b bs e)
 
 -- no line closes open tokens
-pub open_line : (done : List Token) → list_all closes_none done ≡ true → closing_line done ≡ None
+open_line : (done : List Token) → list_all closes_none done ≡ true → closing_line done ≡ None
 open_line [] h = refl
 open_line (token ∷ done) h = grind (arith, open_line done)
 
 -- the closing word's line closes its block
-pub closed_line : (done : List Token) (token : Token) → closes (closing_of token) ≡ true → closing_line (done ++ token ∷ []) ≡ Some (line_of token)
+closed_line : (done : List Token) (token : Token) → closes (closing_of token) ≡ true → closing_line (done ++ token ∷ []) ≡ Some (line_of token)
 closed_line [] token h = grind arith
 closed_line (other ∷ done) token h = grind (arith, closed_line done token h)
 

@@ -27,7 +27,7 @@ pub block_starts : (first : Bool) (place : Reading) (had : Option (List ℕ)) (b
 block_starts first place had block n = grind (arith, takes_none)
 
 -- of two, where neither is there, the first isn't
-pub or_first : {A : Type 0} (a b : Option A) → or_else a b ≡ None → a ≡ None
+or_first : {A : Type 0} (a b : Option A) → or_else a b ≡ None → a ≡ None
 or_first a b h = grind arith
 
 -- a word too long is no command

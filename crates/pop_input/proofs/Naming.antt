@@ -6,7 +6,7 @@ abbrev pub small : List ℕ → List ℕ
 small word = map to_ascii_lowercase word
 
 -- one letter more
-pub begins_step : (name word : List ℕ) (i : ℕ) → i < length name → i < length word
+begins_step : (name word : List ℕ) (i : ℕ) → i < length name → i < length word
     → starts_with nat_eq (drop i name) (small (drop i word)) ≡ (nat_eq (to_ascii_lowercase (get_or word i 0)) (get_or name i 0)
     && starts_with nat_eq (drop (i + 1) name) (small (drop (i + 1) word)))
 begins_step name word i in_name in_word = rw (drop_more name i 0 in_name, drop_more word i 0 in_word) refl
@@ -30,7 +30,7 @@ pub too_long : (name word : List ℕ) → length name < length word → starts_w
 too_long name word long = longer name (small word) (omega (arith, length-map word to_ascii_lowercase))
 
 -- a word of another first letter is no short form
-pub other_letter : (name word : List ℕ) → 0 < length name → 0 < length word → nat_eq (to_ascii_lowercase (get_or word 0 0)) (get_or name 0 0) ≡ false
+other_letter : (name word : List ℕ) → 0 < length name → 0 < length word → nat_eq (to_ascii_lowercase (get_or word 0 0)) (get_or name 0 0) ≡ false
     → starts_with nat_eq name (small word) ≡ false
 other_letter (a ∷ name) (b ∷ word) p q h = rw h refl
 other_letter name word p q h = grind arith

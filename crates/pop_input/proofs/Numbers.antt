@@ -6,7 +6,7 @@ use Rattle.pop_input.specs.declared.item.Last.{Last}
 use Rattle.pop_input.specs.declared.place.Role.{Role}
 
 -- no fault, or one of a word or of the end of its block
-abbrev pub IsSmall : Option FaultKind → Type 0
+abbrev IsSmall : Option FaultKind → Type 0
 IsSmall None = Unit {0}
 IsSmall (Some kind) = (1 ≤ number_of kind) × (number_of kind ≤ 19)
 
@@ -73,7 +73,7 @@ block_small true (TextLine line keyword text ∷ tokens) = block_small true toke
 -- Items.
 
 -- an item with such a fault has a number that any place allows
-pub small_item : (place : Reading) (fault : Fault) (last : Last) → SmallFault (Some fault) → IsNumbered place (Faulty fault last)
+small_item : (place : Reading) (fault : Fault) (last : Last) → SmallFault (Some fault) → IsNumbered place (Faulty fault last)
 small_item place fault last p = grind arith
 
 -- so has the item that a word closes

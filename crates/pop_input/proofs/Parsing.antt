@@ -13,7 +13,7 @@ pub front_more : (done : List ℕ) (square : ℕ) (squares : Option (List ℕ))
 front_more done square squares = grind (arith, append_assoc)
 
 -- a word that isn't empty
-pub some_squares : (word : List ℕ) → 0 < length word → squares_of word ≡ squares_from word
+some_squares : (word : List ℕ) → 0 < length word → squares_of word ≡ squares_from word
 unfolding squares_of
 some_squares word h = grind arith
 

@@ -6,7 +6,7 @@ use Rattle.pop_input.specs.declared.stipulation.Form.{Form}
 
 module _ (men : List (Option Man)) (barred : Unmoved) where
   -- the man that castles from it stands on each square that counts as unmoved
-  pub homes : (s : ℕ) → has_unmoved (unmoved_of men barred) s ≡ true → is_home (man_on men s) s ≡ true
+  homes : (s : ℕ) → has_unmoved (unmoved_of men barred) s ≡ true → is_home (man_on men s) s ≡ true
   unfolding has_unmoved mark_unmoved none_unmoved unmoved_of
   homes s h = search rules
 
@@ -23,12 +23,12 @@ unfolding is_crossed_right
 well_formed_without state form setup is put none = rw is (well_formed_by state form put (rw none refl))
 
 -- where it isn't, the crossed square cannot be
-pub crossed_wrong : (state : State) (form : Form) → ArePut state.men → (IsWellFormed (position_of (diagram_of state form)) → ⊥)
+crossed_wrong : (state : State) (form : Form) → ArePut state.men → (IsWellFormed (position_of (diagram_of state form)) → ⊥)
     → is_crossed_right state.men (starting_side form) state.crossed ≡ false
 crossed_wrong state form put ill = grind (arith, cases_Bool, well_formed_by)
 
 -- where it is well formed, a pawn can have passed the crossed square
-pub crossed_fine : (setup : Diagram) → IsWellFormed (position_of setup) → is_crossed_right setup.men setup.turn setup.crossed ≡ true
+crossed_fine : (setup : Diagram) → IsWellFormed (position_of setup) → is_crossed_right setup.men setup.turn setup.crossed ≡ true
 unfolding position_of
 crossed_fine setup well = well.crossed
 

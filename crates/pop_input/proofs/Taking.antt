@@ -13,7 +13,7 @@ some_rest Open = (record { bytes = []; ending = Clean }, tt)
 some_rest end = grind arith
 
 -- an input that begins with bytes and then with others
-pub after_both : (xs ys : List ℕ) (rest : Input) → onto_input (xs ++ ys) rest ≡ onto_input xs (onto_input ys rest)
+after_both : (xs ys : List ℕ) (rest : Input) → onto_input (xs ++ ys) rest ≡ onto_input xs (onto_input ys rest)
 after_both xs ys rest = rw (append_assoc xs ys rest.bytes) refl
 
 -- tokens taken one after another

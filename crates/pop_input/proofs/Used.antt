@@ -30,7 +30,7 @@ line_some text (line, plain, is, inl u) = record { bytes = line ++ 10 ∷ []; us
 line_some text (line, plain, is, inr u) = record { bytes = line; uses = u.0 }
 
 -- a run that a fault cuts, or that is too long
-pub cut_some : {old new : Reading} {had left : Option (List ℕ)} (fault : ReadFault) → UsesWord old new had left (Err fault) → UsesSome old new had left
+cut_some : {old new : Reading} {had left : Option (List ℕ)} (fault : ReadFault) → UsesWord old new had left (Err fault) → UsesSome old new had left
 cut_some (TooLong line) (run, long, p, over) = some_run p
 cut_some (InputTooLong line) (run, p) = some_run p
 cut_some (Device line) (run, p) = some_run p

@@ -25,7 +25,7 @@ printing_goes_on text all left item before mid now p q = record {
 }
 
 -- the last text is written
-pub printing_ends : {A : Type 0} (text : A → List ℕ) (all : List A) (before now : Option (List ℕ)) → IsPrinting text all [] before now
+printing_ends : {A : Type 0} (text : A → List ℕ) (all : List A) (before now : Option (List ℕ)) → IsPrinting text all [] before now
     → Appends before now (flat_map text all)
 printing_ends text all before now p = rw (p.whole, append-nil) p.written
 

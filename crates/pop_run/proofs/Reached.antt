@@ -207,7 +207,7 @@ module _ (new : Standing) (r ys : List ℕ) (s : Stopped new (Some r) (Some ys))
     | inr over ↦ inr (record { all = all_used new.at taken s.bytes rest s.used.uses.unread s.used.uses.used over.1 may; none = over.0 })
   ]
 
-  pub reads_known : IsSeen new.at.end (Some ys) → length new.at.window ≤ 4096 → ReadsUpTo (input_met (is_broken new.at.end) r (Some ys)) (taken_of r (Some ys))
+  reads_known : IsSeen new.at.end (Some ys) → length new.at.window ≤ 4096 → ReadsUpTo (input_met (is_broken new.at.end) r (Some ys)) (taken_of r (Some ys))
   reads_known seen few =
       let m = met_after new.at.end (Some ys) r taken s.used.uses.consumed seen in
       rw m.2 (record {

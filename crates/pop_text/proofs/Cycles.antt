@@ -3,7 +3,7 @@ use Rattle.pop_text.proofs.Basics.{List, [], ap, arith, cases_lt, drop, length, 
 use Rattle.pop_text.specs.ties.Trials.{cycled_bytes}
 
 -- the first bytes of the rest come first
-pub cycled_front : (text rest : List ℕ) (n k : ℕ) → k ≤ n → k ≤ length rest → cycled_bytes text rest n ≡ take k rest ++ cycled_bytes text (drop k rest) (n - k)
+cycled_front : (text rest : List ℕ) (n k : ℕ) → k ≤ n → k ≤ length rest → cycled_bytes text rest n ≡ take k rest ++ cycled_bytes text (drop k rest) (n - k)
 cycled_front text rest n zero some few = grind arith
 cycled_front text rest zero (suc k) some few = grind arith
 cycled_front text [] (suc n) (suc k) some few = absurd (omega arith)

@@ -18,7 +18,7 @@ or_parts : (p q : Bool) → (p || q) ≡ false → (p ≡ false) × (q ≡ false
 or_parts p q h = grind arith
 
 -- a word that begins like no text word and no closing word is no text word
-pub plain_no_text : (word : List ℕ) → is_named word ≡ false → is_text_word word ≡ false
+plain_no_text : (word : List ℕ) → is_named word ≡ false → is_text_word word ≡ false
 plain_no_text [] h = refl
 plain_no_text (a ∷ []) h = refl
 plain_no_text (a ∷ b ∷ []) h = refl

@@ -28,7 +28,7 @@ uses_none place had = record {
 }
 
 -- before the first byte nothing is used
-unfoldable pub no_run : (test : ℕ → Bool) (place : Reading) (had : Option (List ℕ)) → UsesAll test place place had had
+unfoldable no_run : (test : ℕ → Bool) (place : Reading) (had : Option (List ℕ)) → UsesAll test place place had had
 no_run test place had = record { bytes = []; all = refl; uses = uses_none place had }
 
 -- bytes that pass a test, used one after another

@@ -11,12 +11,12 @@ use Rattle.pop_parts.specs.declared.asked.Outcome.TheVariants.{OutputFailed as P
 use Rattle.pop_web.specs.Page.{Fills, Lists, Shows, ShowsParts, number_of, number_of_parts, room, whole_input}
 
 -- no input has the number of a failed output
-pub other_number : (entries : List Entry) → number_of (status_of entries) ≢ number_of OutputFailed
+other_number : (entries : List Entry) → number_of (status_of entries) ≢ number_of OutputFailed
 unfolding status_of
 other_number entries = grind arith
 
 -- nothing that is asked of an input ends as a failed output does
-pub other_outcome : (asked : Asked) (text : List ℕ) → number_of_parts (outcome_of asked (whole_input text)) ≢ number_of_parts PartsCut
+other_outcome : (asked : Asked) (text : List ℕ) → number_of_parts (outcome_of asked (whole_input text)) ≢ number_of_parts PartsCut
 other_outcome asked text = grind arith
 
 -- A call that writes these bytes and ends well, or a beginning of them and is cut; and what a page is shown of it.
@@ -42,16 +42,16 @@ module _ (Ending : Type 0) (number : Ending → ℕ) (Does : List ℕ → Bool �
   filled true ending told does full other over = full refl
 
   -- a call that is told as cut has filled the room
-  pub room_is_full : Fills Ending number Does shown answer → number well ≢ number cut_short → answer ≡ number cut_short
+  room_is_full : Fills Ending number Does shown answer → number well ≢ number cut_short → answer ≡ number cut_short
       → length shown ≡ room
   room_is_full f other over = filled f.cut f.ending f.told f.does f.full other over
 
   -- a call that isn't cut has shown all
-  pub shown_whole : Fills Ending number Does shown answer → answer ≢ number cut_short → (shown ≡ bytes) × (answer ≡ number well)
+  shown_whole : Fills Ending number Does shown answer → answer ≢ number cut_short → (shown ≡ bytes) × (answer ≡ number well)
   shown_whole f other = same f.cut f.ending f.told f.does other
 
   -- one that is cut has shown as many bytes as the page has room for
-  pub shown_first : Fills Ending number Does shown answer → number well ≢ number cut_short → answer ≡ number cut_short
+  shown_first : Fills Ending number Does shown answer → number well ≢ number cut_short → answer ≡ number cut_short
       → shown ≡ take room bytes
   shown_first f other over = first f.cut f.ending f.told f.does f.full other over
 

@@ -5,7 +5,7 @@ use Rattle.pop_run.specs.Run.{grew}
 use Rattle.pop_web.specs.Page.{Fills, room}
 
 -- bytes copied to the front of some room
-pub copied_in_front : (copied kept rest : List ℕ) → copied ≡ kept → take (length kept) (copied ++ rest) ≡ kept
+copied_in_front : (copied kept rest : List ℕ) → copied ≡ kept → take (length kept) (copied ++ rest) ≡ kept
 copied_in_front copied kept rest same = rw same (take-append_seam kept rest)
 
 -- what a call wrote into a sink in memory
