@@ -33,7 +33,8 @@ pub reads_then : (a b c : Standing) (had mid left : Option (List ℕ)) (xs ys : 
     → Reads a c had left (xs ++ ys)
 reads_then a b c had mid left xs ys p q = grind (arith, consumes_then had mid left p.bytes q.bytes p.taken q.taken, append_assoc, length-append p.bytes q.bytes)
 
-report-append : (choice : Choice) (n : ℕ) (xs ys : List Entry) → report_from choice n (xs ++ ys) ≡ report_from choice n xs
+-- the report of items and others behind them is that of the first, and then that of the others
+pub report-append : (choice : Choice) (n : ℕ) (xs ys : List Entry) → report_from choice n (xs ++ ys) ≡ report_from choice n xs
     ++ report_from choice (n + length xs) ys
 report-append choice n [] ys = ap (λ k. report_from choice k ys) (omega arith)
 report-append choice n (x ∷ xs) ys = grind (arith, append_assoc, report-append choice (n + 1) xs ys)
