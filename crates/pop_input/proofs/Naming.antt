@@ -1,5 +1,5 @@
 -- Names letter by letter.
-use Rattle.pop_input.proofs.Words.{List, arith, drop, drop_all, drop_more, eq-eqb, false, get_or, length, length-map, longer, map, nat_eq, ne_eqb, refl, starts_with, to_ascii_lowercase, true, ℕ, ◌&&◌, ◌+◌, ◌<◌, ◌∷◌, ◌≡◌, ◌≤◌}
+use Rattle.pop_input.proofs.Words.{List, arith, drop, drop_all, drop_more, eq-eqb, false, get_or, length, length-map, longer, map, nat_eq, ne_eqb, refl, starts_with, to_ascii_lowercase, true, ℕ, ◌&&◌, ◌+◌, ◌<◌, ◌≡◌, ◌≤◌}
 
 -- a word in small letters
 abbrev pub small : List ℕ → List ℕ
@@ -28,9 +28,3 @@ begins_all name word i over = rw (drop_all i word over) (grind arith)
 -- no name begins with a word longer than itself
 pub too_long : (name word : List ℕ) → length name < length word → starts_with nat_eq name (small word) ≡ false
 too_long name word long = longer name (small word) (omega (arith, length-map word to_ascii_lowercase))
-
--- a word of another first letter is no short form
-other_letter : (name word : List ℕ) → 0 < length name → 0 < length word → nat_eq (to_ascii_lowercase (get_or word 0 0)) (get_or name 0 0) ≡ false
-    → starts_with nat_eq name (small word) ≡ false
-other_letter (a ∷ name) (b ∷ word) p q h = rw h refl
-other_letter name word p q h = grind arith

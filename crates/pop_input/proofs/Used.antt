@@ -1,5 +1,5 @@
 -- Which bytes tokens and items use.
-use Rattle.pop_input.proofs.Words.{Block, Bool, Closes, CutsOff, Device, Err, IsClosed, IsInputOver, IsRunOver, IsUnclosed, Item, List, Ok, Option, Peeks, ReadFault, Reading, RestOfLine, Skips, Some, Standing, Sticks, Takes, TakesPart, TooLong, UsesAll, UsesItem, UsesLine, UsesRun, UsesSome, UsesWord, Word, [], among, append-nil, append_assoc, command_of, inl, inr, last_of, next_behind, subst, uses_none, uses_then, ℕ, ◌++◌, ◌∷◌, ◌≡◌}
+use Rattle.pop_input.proofs.Words.{Block, Bool, Closes, CutsOff, Device, Err, IsClosed, IsInputOver, IsRunOver, IsUnclosed, Item, List, Ok, Option, Peeks, ReadFault, Reading, RestOfLine, Skips, Some, Standing, Sticks, Takes, TakesPart, TooLong, UsesAll, UsesItem, UsesLine, UsesRun, UsesSome, Word, [], among, append-nil, append_assoc, command_of, inl, inr, last_of, next_behind, subst, uses_none, uses_then, ℕ, ◌++◌, ◌∷◌, ◌≡◌}
 use Rattle.pop_text.specs.declared.read_fault.ReadFault.TheVariants.{InputTooLong}
 use Rattle.pop_text.specs.declared.text.Text.{Text}
 use Rattle.pop_input.specs.declared.item.Item.TheVariants.{Sound, Faulty, End}
@@ -28,12 +28,6 @@ some_none place had = record { bytes = []; uses = uses_none place had }
 pub line_some : {old new : Reading} {had left : Option (List ℕ)} (text : Text) → UsesLine old new had left (Ok text) → UsesSome old new had left
 line_some text (line, plain, is, inl u) = record { bytes = line ++ 10 ∷ []; uses = u }
 line_some text (line, plain, is, inr u) = record { bytes = line; uses = u.0 }
-
--- a run that a fault cuts, or that is too long
-cut_some : {old new : Reading} {had left : Option (List ℕ)} (fault : ReadFault) → UsesWord old new had left (Err fault) → UsesSome old new had left
-cut_some (TooLong line) (run, long, p, over) = some_run p
-cut_some (InputTooLong line) (run, p) = some_run p
-cut_some (Device line) (run, p) = some_run p
 
 -- a text line that a fault cuts
 pub line_cut : {old mid new : Reading} {had met left : Option (List ℕ)} (keyword : List ℕ) (fault : ReadFault) → UsesSome old mid had met
