@@ -18,19 +18,22 @@ empty = repeat 64 (None ∷ [])
 abbrev two_kings : List (Option Man)
 two_kings = with_man (with_man empty h8 white_king) a1 white_king
 
--- a square that is put into the set is in it, h8 too; one that is taken out isn't; the empty set has none
+-- a square that is put into the set is in it
 pub square_is_in : has_unmoved (with_unmoved none_unmoved a1) a1 ≡ true
 unfolding has_unmoved mark_unmoved none_unmoved
 square_is_in = refl
 
+-- so is h8, the last square
 pub h8_is_in : has_unmoved (with_unmoved none_unmoved h8) h8 ≡ true
 unfolding has_unmoved mark_unmoved none_unmoved
 h8_is_in = refl
 
+-- a square that is taken out isn't in it
 pub square_is_out : has_unmoved (without_unmoved (with_unmoved none_unmoved a1) a1) a1 ≡ false
 unfolding has_unmoved mark_unmoved none_unmoved
 square_is_out = refl
 
+-- the empty set has no e8
 pub none_has_no_e8 : has_unmoved none_unmoved e8 ≡ false
 unfolding has_unmoved none_unmoved
 none_has_no_e8 = refl
@@ -50,37 +53,41 @@ pub king_at_home : (is_home (Some white_king) e1 ≡ true) × (is_home (Some whi
 unfolding is_home
 king_at_home = (refl, refl)
 
--- a man who is put on a square stands there, with his colour; lifted, he doesn't
+-- a man who is put on a square stands there, with his colour and kind
 pub man_stands : man_on (with_man empty a1 white_king) a1 ≡ Some white_king
 man_stands = refl
 
+-- lifted, he stands there no more
 pub man_is_gone : man_on (without_man (with_man empty a1 white_king) a1) a1 ≡ None
 man_is_gone = refl
 
--- his square is in the words of his colour and of his kind, at its own bit
+-- his square is in the word of his colour, at its own bit
 pub colour_has_square : side_of (with_man empty a1 white_king) White ≡ 1
 unfolding side_of word word_of squares
 colour_has_square = refl
 
+-- and in the word of his kind
 pub kind_has_square : squares_of (with_man empty b1 white_king) White King ≡ 2
 unfolding squares_of word word_of squares
 kind_has_square = refl
 
--- a pawn on a2 is seen, and no king; on a1 a pawn is out of place, and not on a2
+-- a pawn on a2 is seen, and no king
 pub pawn_is_seen : (has_kind (with_man empty a2 white_pawn) Pawn ≡ true) × (has_kind (with_man empty a2 white_pawn) King ≡ false)
 unfolding has_kind shows some_square squares
 pawn_is_seen = (refl, refl)
 
+-- a pawn on a1 is out of place, and not on a2
 pub pawn_is_astray : (some_square (is_stray_pawn (with_man empty a1 white_pawn)) ≡ true)
     × (some_square (is_stray_pawn (with_man empty a2 white_pawn)) ≡ false)
 unfolding is_stray_pawn some_square squares
 pawn_is_astray = (refl, refl)
 
--- of two kings the first is found, and the second seen, which one king isn't
+-- of two kings the first is found
 pub first_king_is_found : king_square two_kings White ≡ Some a1
 unfolding king_square squares
 first_king_is_found = refl
 
+-- the second of two kings is seen; one king alone has none beside him
 pub second_king_is_seen : (some_square (is_second_king two_kings White) ≡ true)
     × (some_square (is_second_king (with_man empty a1 white_king) White) ≡ false)
 unfolding is_second_king is_other_king some_square squares

@@ -4,20 +4,21 @@ use Rattle.chess_core.proofs.Basics.{get_or-set_other, get_or-set_same, inl, inr
 use Rattle.std.proofs.lemmas.List.FromFn.{get_or-range_with_len}
 use Rattle.chess_core.proofs.Ranges.{some_square_true, some_square_false}
 
-pub word_small : {X : Type 0} (test : X → Bool) (xs : List X) → word_of test xs < 2 ^ length xs
+-- the word of a list has no more bits than the list has members
+word_small : {X : Type 0} (test : X → Bool) (xs : List X) → word_of test xs < 2 ^ length xs
 unfolding word_of
 word_small test [] = omega arith
 word_small test (x ∷ xs) = grind (arith, word_small test xs)
 
 -- bit i of a word
-pub word_bit : {X : Type 0} (test : X → Bool) (xs : List X) (d : X) (i : ℕ) → i < length xs → bit_at (word_of test xs) i ≡ bit_of (test (get_or xs i d))
+word_bit : {X : Type 0} (test : X → Bool) (xs : List X) (d : X) (i : ℕ) → i < length xs → bit_at (word_of test xs) i ≡ bit_of (test (get_or xs i d))
 unfolding word_of
 word_bit test [] d i h = absurd (omega arith)
 word_bit test (x ∷ xs) d zero h = grind (arith, bit_at_lowest)
 word_bit test (x ∷ xs) d (suc i) h = grind (arith, bit_at-suc, word_bit test xs d i (omega arith))
 
 -- a number of 64 bits with these bits is the word
-pub word_from_bits : {X : Type 0} (test : X → Bool) (xs : List X) (d : X) (n : ℕ) → length xs ≡ 64 → n < 2 ^ 64
+word_from_bits : {X : Type 0} (test : X → Bool) (xs : List X) (d : X) (n : ℕ) → length xs ≡ 64 → n < 2 ^ 64
     → ((i : ℕ) → i < 64 → bit_at n i ≡ bit_of (test (get_or xs i d))) → n ≡ word_of test xs
 word_from_bits test xs d n l b h =
     let w : word_of test xs < 2 ^ 64 = subst (λ k. word_of test xs < 2 ^ k) l (word_small test xs) in
@@ -61,11 +62,12 @@ word_both p q r xs d l h =
     let w : word_of p xs < 2 ^ 64 = subst (λ k. word_of p xs < 2 ^ k) l (word_small p xs) in
     word_from_bits r xs d _ l (omega (arith, and_le_l (word_of p xs) (word_of q xs))) (grind (arith, bit_at_and, word_bit, both))
 
--- the same word by the numbers of the squares
-pub squares_at : (i : ℕ) → i < 64 → get_or squares i 0 ≡ i
+-- the square with a number stands at its place in the list
+squares_at : (i : ℕ) → i < 64 → get_or squares i 0 ≡ i
 unfolding squares
 squares_at i p = get_or-range_with_len 0 64 i 0 p ∙ omega arith
 
+-- a word over the men on the squares, by the numbers of the squares
 pub word_on : {X : Type 0} (test : X → Bool) (xs : List X) (d : X) → length xs ≡ 64 → word_of test xs ≡ word (λ s. test (get_or xs s d))
 unfolding word squares
 word_on test xs d l = word_from_bits (λ s. test (get_or xs s d)) squares 0 (word_of test xs) refl (subst (λ k. word_of test xs < 2 ^ k) l (word_small test xs))
@@ -76,6 +78,7 @@ pub square_bit : (test : ℕ → Bool) (s : ℕ) → s < 64 → bit_at (word tes
 unfolding word squares
 square_bit test s p = word_bit test squares 0 s p ∙ ap (λ n. bit_of (test n)) (squares_at s p)
 
+-- a word of squares fits into 64 bits
 pub square_word_small : (test : ℕ → Bool) → word test < 2 ^ 64
 unfolding word squares
 square_word_small test = word_small test squares
@@ -93,23 +96,28 @@ square_alone s p = square_word (λ t. eqb s t) _ (omega arith)
 either : (a b : Bool) → max (bit_of a) (bit_of b) ≡ bit_of (a || b)
 either a b = grind arith
 
+-- the squares that pass one test or the other
 pub squares_either : (p q : ℕ → Bool) → bit_or (word p) (word q) ≡ word (λ s. p s || q s)
 squares_either p q = search (rules, square_word, or_lt, square_word_small, bit_at_or, square_bit, either)
 
+-- the squares that pass both tests
 pub squares_both : (p q : ℕ → Bool) → bit_and (word p) (word q) ≡ word (λ s. p s && q s)
 squares_both p q = search (rules, square_word, and_le_l, square_word_small, bit_at_and, square_bit, both)
 
--- a word is 0 where no square passes
+-- a bit 0 means that the test fails
 pub bit_false : (b : Bool) → bit_of b ≡ 0 → b ≡ false
 bit_false b h = grind arith
 
+-- a word is 0 where no square passes
 pub squares_none : (test : ℕ → Bool) → word test ≡ 0 → some_square test ≡ false
 squares_none test h =
     some_square_false test 64 (omega arith) (record { fails = λ s p. bit_false (test s) (sym (square_bit test s p) ∙ ap (λ n. bit_at n s) h ∙ bit_at-zero s) })
 
+-- a bit 1 means that the test passes
 pub bit_true : (b : Bool) → bit_of b ≡ 1 → b ≡ true
 bit_true b h = grind arith
 
+-- a word above 0 has a square that passes
 pub squares_some : (test : ℕ → Bool) → 0 < word test → some_square test ≡ true
 squares_some test h =
     let w = bit_at-trailing_zeros w64 (word test) h (square_word_small test) in
@@ -122,9 +130,11 @@ some_square_told test n h = grind (arith, cases_eq, squares_none, ne_eqb, square
 negated : (b : Bool) → 1 - bit_of b ≡ bit_of (not b)
 negated b = grind arith
 
+-- the squares that don't pass
 pub squares_not : (p : ℕ → Bool) → bit_not w64 (word p) ≡ word (λ s. not (p s))
 squares_not p = square_word (λ s. not (p s)) _ (omega (arith, square_word_small p))
     (λ s b. bit_at_not w64 (word p) s (square_word_small p) b ∙ ap (λ n. 1 - n) (square_bit p s b) ∙ negated (p s))
 
+-- tests that agree on the board's squares have the same word
 pub squares_same : (p q : ℕ → Bool) → ((s : ℕ) → s < 64 → p s ≡ q s) → word p ≡ word q
 squares_same p q h = square_word q (word p) (square_word_small p) (λ s b. square_bit p s b ∙ ap bit_of (h s b))

@@ -5,10 +5,11 @@ use Rattle.pop_input.specs.declared.names.Command.TheVariants.{Next, Last}
 -- One more token.
 
 -- the fault of a word of a problem
-abbrev pub word_fault : List (List ℕ) → ℕ → List ℕ → Option Fault
+abbrev word_fault : List (List ℕ) → ℕ → List ℕ → Option Fault
 word_fault before line text = at_line line (fault_of true (state_of before) text)
 
-pub fault_more : (before : List (List ℕ)) (done : List Token) (line : ℕ) (text : List ℕ)
+-- the first fault behind one more word: an earlier one, or that of the word
+fault_more : (before : List (List ℕ)) (done : List Token) (line : ℕ) (text : List ℕ)
     → first_fault before (done ++ Word line text ∷ []) ≡ or_else (first_fault before done) (word_fault (words_before before done) line text)
 fault_more before [] line text = grind arith
 fault_more before (Word l t ∷ done) line text = grind (arith, fault_more (t ∷ before) done line text)
@@ -30,15 +31,18 @@ pub block_more : (first : Bool) (done : List Token) (line : ℕ) (text : List �
 block_more first [] line text = grind arith
 block_more first (token ∷ done) line text = grind (arith, fault_more, block_more first done line text)
 
+-- one more text line of a block brings no fault
 pub block_line : (first : Bool) (done : List Token) (line : ℕ) (keyword text : List ℕ)
     → block_fault first (done ++ TextLine line keyword text ∷ []) ≡ block_fault first done
 block_line first [] line keyword text = grind arith
 block_line first (token ∷ done) line keyword text = grind (arith, fault_line, block_line first done line keyword text)
 
+-- a problem has begun once a word has come
 pub begun_word : (first : Bool) (done : List Token) (line : ℕ) (text : List ℕ) → has_begun first (done ++ Word line text ∷ []) ≡ true
 begun_word first [] line text = grind arith
 begun_word first (token ∷ done) line text = grind (arith, begun_word first done line text)
 
+-- a text line begins none
 pub begun_line : (first : Bool) (done : List Token) (line : ℕ) (keyword text : List ℕ)
     → has_begun first (done ++ TextLine line keyword text ∷ []) ≡ has_begun first done
 begun_line first [] line keyword text = grind arith
@@ -50,33 +54,38 @@ pub inside_more : (first : Bool) (done : List Token) (token : Token) → has_beg
 inside_more first [] token h = grind arith
 inside_more first (other ∷ done) token h = grind (arith, inside_more first done token)
 
--- before the first problem none does, nor does its first word
+-- before the first problem none does
 pub inside_none : (first : Bool) (done : List Token) → has_begun first done ≡ false → tokens_inside first done ≡ []
 inside_none first [] h = grind arith
 inside_none first (token ∷ done) h = grind (arith, inside_none first done)
 
+-- nor does the word that begins it
 pub inside_first : (first : Bool) (done : List Token) (token : Token) → has_begun first done ≡ false → tokens_inside first (done ++ token ∷ []) ≡ []
 inside_first first [] token h = grind arith
 inside_first first (other ∷ done) token h = grind (arith, inside_first first done token)
 
+-- one more word of a problem: the words stand last first
 pub words_more : (before : List (List ℕ)) (done : List Token) (line : ℕ) (text : List ℕ)
     → words_before before (done ++ Word line text ∷ []) ≡ text ∷ words_before before done
 words_more before [] line text = refl
 words_more before (Word l t ∷ done) line text = words_more (t ∷ before) done line text
 words_more before (TextLine l k t ∷ done) line text = words_more before done line text
 
+-- a text line adds no word
 pub words_line : (before : List (List ℕ)) (done : List Token) (line : ℕ) (keyword text : List ℕ)
     → words_before before (done ++ TextLine line keyword text ∷ []) ≡ words_before before done
 words_line before [] line keyword text = refl
 words_line before (Word l t ∷ done) line keyword text = words_line (t ∷ before) done line keyword text
 words_line before (TextLine l k t ∷ done) line keyword text = words_line before done line keyword text
 
+-- a word changes neither title nor author
 pub text_more : (wanted : TextWord) (old : List ℕ) (done : List Token) (line : ℕ) (text : List ℕ)
     → last_text wanted old (done ++ Word line text ∷ []) ≡ last_text wanted old done
 text_more wanted old [] line text = refl
 text_more wanted old (Word l t ∷ done) line text = text_more wanted old done line text
 text_more wanted old (TextLine l k t ∷ done) line text = text_more wanted (text_after wanted old (text_word_of k) t) done line text
 
+-- a text line replaces the text that it names
 pub text_line : (wanted : TextWord) (old : List ℕ) (done : List Token) (line : ℕ) (keyword text : List ℕ)
     → last_text wanted old (done ++ TextLine line keyword text ∷ []) ≡ text_after wanted (last_text wanted old done) (text_word_of keyword) text
 text_line wanted old [] line keyword text = refl
@@ -89,18 +98,18 @@ open_parts : (token : Token) (done : List Token) → list_all closes_none (token
 open_parts token done h = grind arith
 
 -- open tokens stand in the first block
-pub blocks_open : (done tokens : List Token) → list_all closes_none done ≡ true → (b : List Token) (bs : List (List Token)) → blocks_of tokens ≡ b ∷ bs
+blocks_open : (done tokens : List Token) → list_all closes_none done ≡ true → (b : List Token) (bs : List (List Token)) → blocks_of tokens ≡ b ∷ bs
     → blocks_of (done ++ tokens) ≡ (done ++ b) ∷ bs
 blocks_open [] tokens h b bs e = e
 blocks_open (token ∷ done) tokens h b bs e = grind (arith, open_parts, blocks_open done tokens (open_parts token done h).1 b bs e)
 
 -- no line closes open tokens
-pub open_line : (done : List Token) → list_all closes_none done ≡ true → closing_line done ≡ None
+open_line : (done : List Token) → list_all closes_none done ≡ true → closing_line done ≡ None
 open_line [] h = refl
 open_line (token ∷ done) h = grind (arith, open_line done)
 
 -- the closing word's line closes its block
-pub closed_line : (done : List Token) (token : Token) → closes (closing_of token) ≡ true → closing_line (done ++ token ∷ []) ≡ Some (line_of token)
+closed_line : (done : List Token) (token : Token) → closes (closing_of token) ≡ true → closing_line (done ++ token ∷ []) ≡ Some (line_of token)
 closed_line [] token h = grind arith
 closed_line (other ∷ done) token h = grind (arith, closed_line done token h)
 

@@ -49,6 +49,7 @@ module _ (first : Bool) (old new : Standing) (had left : Option (List ℕ)) (sta
     last_closes item c is over = closed_reads item Yes c over (reads_by full taken _ (λ rest may.
         grind (arith, last_entries first b.done line text b.plain (words_left None new.at rest) is)))
 
+    -- a closing word ends the block, and its item is the next one to come
     pub word_closes : (item : Item) (last : Last) (c : Option Command) → Closes next line last item → command_of text ≡ c → last_of c ≡ Some last
         → new.next ≡ next_behind last → NextItem old new had left item
     word_closes item last c how is e behind = grind (arith, next_closes, last_closes)
@@ -91,6 +92,7 @@ module _ (first : Bool) (old new : Standing) (had left : Option (List ℕ)) (sta
     cut_without_fault (PastLimit line) is t nothing = cut_alone InputTooLong line Long is t.0 t.1 t.2 (λ begun. grind arith) nothing
     cut_without_fault (Device line) is t nothing = cut_alone DeviceFailed line Failing is t.0.0 t.0.1 t.0.2 (λ begun. grind arith) nothing
 
+    -- a block that is cut tells its own fault first, and else how it was cut
     pub cut_read : (f : Option Fault) (cut : ReadFault) → block.fault ≡ f → CutsOff mid new.at met left cut → new.next ≡ next_behind (told_of_cut f cut).1
         → NextItem old new had left (FaultyItem (told_of_cut f cut).0 (told_of_cut f cut).1)
     cut_read None cut is t behind = cut_without_fault cut is t behind

@@ -22,10 +22,12 @@ pub record BlockSoFar (first : Bool) (old new : Reading) (had left : Option (Lis
   pub on : old.used ≤ new.used
   pub further : block.fault ≡ None ⊎ (old.used < new.used)
 
+-- where a block begins no token of it is read
 pub block_starts : (first : Bool) (place : Reading) (had : Option (List ℕ)) (block : Block) → IsNew first block → BlockSoFar first place place had had block
 block_starts first place had block n = grind (arith, takes_none)
 
-pub or_first : {A : Type 0} (a b : Option A) → or_else a b ≡ None → a ≡ None
+-- of two, where neither is there, the first isn't
+or_first : {A : Type 0} (a b : Option A) → or_else a b ≡ None → a ≡ None
 or_first a b h = grind arith
 
 -- a word too long is no command
@@ -53,6 +55,7 @@ words_inside : (first : Bool) (done : List Token) (line : ℕ) (name rest : List
 words_inside first done line name rest begun at = grind (arith, words_line, inside_more, inside_none, inside_first)
 
 module _ (first : Bool) (old mid new : Reading) (had met left : Option (List ℕ)) (block next : Block) (b : BlockSoFar first old mid had met block) where
+  -- the block's tokens are taken, and one more
   pub takes_more : (part : Token) → TakesPart mid new met left part → Takes (among old) (among new) had left (b.done ++ part ∷ [])
   takes_more part t = takes_then (among old) (among mid) (among new) had met left b.done (part ∷ []) b.takes t.0
 
@@ -97,5 +100,6 @@ module _ (first : Bool) (old mid new : Reading) (had met left : Option (List ℕ
       (fault ∙ ap (λ n. or_else block.fault (at_line line n)) (sym (long_fault block.begun block.draft text long)))
       (λ none. absurd (grind arith)) t (ap closes (long_no_command text long))
 
+-- a word that closes no item closes no block
 pub not_closing : (c : Option Command) → last_of c ≡ None → closes c ≡ false
 not_closing c h = grind arith

@@ -6,7 +6,7 @@ use Rattle.pop_input.specs.declared.item.Last.{Last}
 use Rattle.pop_input.specs.declared.place.Role.{Role}
 
 -- no fault, or one of a word or of the end of its block
-abbrev pub IsSmall : Option FaultKind → Type 0
+abbrev IsSmall : Option FaultKind → Type 0
 IsSmall None = Unit {0}
 IsSmall (Some kind) = (1 ≤ number_of kind) × (number_of kind ≤ 19)
 
@@ -50,6 +50,7 @@ end_small state = grind arith
 
 -- Faults.
 
+-- the same of a fault with its line
 abbrev pub SmallFault : Option Fault → Type 0
 SmallFault None = Unit {0}
 SmallFault (Some fault) = (1 ≤ fault.number) × (fault.number ≤ 19)
@@ -62,6 +63,7 @@ first_small before [] = tt
 first_small before (Word line text ∷ tokens) = grind (arith, fault_else, word_small true (state_of before) text, first_small (text ∷ before) tokens)
 first_small before (TextLine line keyword text ∷ tokens) = first_small before tokens
 
+-- a block's words have no fault, or one numbered from 1 to 19
 pub block_small : (first : Bool) (tokens : List Token) → SmallFault (block_fault first tokens)
 block_small false tokens = first_small [] tokens
 block_small true [] = tt
@@ -70,16 +72,20 @@ block_small true (TextLine line keyword text ∷ tokens) = block_small true toke
 
 -- Items.
 
-pub small_item : (place : Reading) (fault : Fault) (last : Last) → SmallFault (Some fault) → IsNumbered place (Faulty fault last)
+-- an item with such a fault has a number that any place allows
+small_item : (place : Reading) (fault : Fault) (last : Last) → SmallFault (Some fault) → IsNumbered place (Faulty fault last)
 small_item place fault last p = grind arith
 
+-- so has the item that a word closes
 pub closed_numbered : (place : Reading) (block : Block) (line : ℕ) (last : Last) (item : Item) → Closes block line last item → SmallFault block.fault
     → IsNumbered place item
 closed_numbered place block line last item c p = grind (arith, small_item, fault_else, end_small)
 
+-- so has one in which the input ends
 pub ended_numbered : (place : Reading) (block : Block) (line : ℕ) → SmallFault block.fault → IsNumbered place (ended_item block line)
 ended_numbered place block line p = grind arith
 
+-- so has one that is cut: only a broken input has the last number
 pub cut_told : (old new : Reading) (had left : Option (List ℕ)) (f : Option Fault) (cut : ReadFault) → CutsOff old new had left cut → SmallFault f
     → IsNumbered new (Faulty (told_of_cut f cut).0 (told_of_cut f cut).1)
 cut_told old new had left f cut t p = grind arith

@@ -1,5 +1,5 @@
 -- Squares and numbers, byte by byte.
-use Rattle.pop_input.proofs.Words.{List, None, Option, Some, [], append_assoc, arith, before_squares, drop, drop_more, get_or, is_digit, length, list_all, map, most_solutions, refl, square_by, squares_from, squares_of, stipulation_in_small_letters, to_ascii_lowercase, true, value_of, ℕ, ◌*◌, ◌++◌, ◌+◌, ◌<◌, ◌∷◌, ◌≡◌, ◌≤◌}
+use Rattle.pop_input.proofs.Words.{List, None, Option, Some, [], append_assoc, arith, before_squares, drop, drop_more, get_or, is_digit, length, list_all, map, most_solutions, refl, square_by, squares_from, stipulation_in_small_letters, to_ascii_lowercase, true, value_of, ℕ, ◌*◌, ◌++◌, ◌+◌, ◌<◌, ◌∷◌, ◌≡◌, ◌≤◌}
 use Rattle.std.proofs.Math.Seq.{drop-length}
 
 -- squares before those of a text
@@ -7,14 +7,10 @@ abbrev pub with_front : List ℕ → Option (List ℕ) → Option (List ℕ)
 with_front done None = None
 with_front done (Some squares) = Some (done ++ squares)
 
+-- one square more before those of a text
 pub front_more : (done : List ℕ) (square : ℕ) (squares : Option (List ℕ))
     → with_front done (before_squares (Some square) squares) ≡ with_front (done ++ square ∷ []) squares
 front_more done square squares = grind (arith, append_assoc)
-
--- a word that isn't empty
-pub some_squares : (word : List ℕ) → 0 < length word → squares_of word ≡ squares_from word
-unfolding squares_of
-some_squares word h = grind arith
 
 -- This much of a number is read: it is known as far as it is no more than the greatest limit.
 pub record DigitsSoFar (text : List ℕ) (value : ℕ) : Type 0 where

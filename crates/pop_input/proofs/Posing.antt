@@ -6,7 +6,7 @@ use Rattle.pop_input.specs.declared.stipulation.Form.{Form}
 
 module _ (men : List (Option Man)) (barred : Unmoved) where
   -- the man that castles from it stands on each square that counts as unmoved
-  pub homes : (s : ℕ) → has_unmoved (unmoved_of men barred) s ≡ true → is_home (man_on men s) s ≡ true
+  homes : (s : ℕ) → has_unmoved (unmoved_of men barred) s ≡ true → is_home (man_on men s) s ≡ true
   unfolding has_unmoved mark_unmoved none_unmoved unmoved_of
   homes s h = search rules
 
@@ -23,22 +23,25 @@ unfolding is_crossed_right
 well_formed_without state form setup is put none = rw is (well_formed_by state form put (rw none refl))
 
 -- where it isn't, the crossed square cannot be
-pub crossed_wrong : (state : State) (form : Form) → ArePut state.men → (IsWellFormed (position_of (diagram_of state form)) → ⊥)
+crossed_wrong : (state : State) (form : Form) → ArePut state.men → (IsWellFormed (position_of (diagram_of state form)) → ⊥)
     → is_crossed_right state.men (starting_side form) state.crossed ≡ false
 crossed_wrong state form put ill = grind (arith, cases_Bool, well_formed_by)
 
-pub crossed_fine : (setup : Diagram) → IsWellFormed (position_of setup) → is_crossed_right setup.men setup.turn setup.crossed ≡ true
+-- where it is well formed, a pawn can have passed the crossed square
+crossed_fine : (setup : Diagram) → IsWellFormed (position_of setup) → is_crossed_right setup.men setup.turn setup.crossed ≡ true
 unfolding position_of
 crossed_fine setup well = well.crossed
 
 -- The faults.
 
+-- a diagram and its position have the same men
 pub shown_men : (setup : Diagram) → (position_of setup).men ≡ setup.men
 unfolding position_of
 shown_men setup = refl
 
 module _ (state : State) (stipulation : Stipulation) (setup : Diagram) (is : setup ≡ diagram_of state stipulation.form) (put : ArePut state.men)
     (some : has_men setup.men ≡ true) where
+  -- where men stand and the position isn't well formed, the fault is the crossed square's
   pub ill_fault : (IsWellFormed (position_of setup) → ⊥) → Some EnPassantImpossible ≡ diagram_fault state stipulation setup
   ill_fault ill = grind (arith, crossed_wrong)
 

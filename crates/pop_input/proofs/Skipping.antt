@@ -43,5 +43,6 @@ module _ (first : Bool) (old mid new : Reading) (had left : Option (List ℕ)) (
   by_fault : (fault : Option Fault) → block.fault ≡ fault → (block.fault ≡ None → new ≡ mid) → BlockSoFar first old new had left block
   by_fault fault is same = grind (arith, behind_fault)
 
+  -- behind a fault plain words may be skipped: what is known of the block stays
   pub skip_read : (block.fault ≡ None → new ≡ mid) → BlockSoFar first old new had left block
   skip_read same = by_fault block.fault refl same

@@ -12,9 +12,11 @@ pub some_rest : (end : End) → (rest : Input) × MayFollow end rest
 some_rest Open = (record { bytes = []; ending = Clean }, tt)
 some_rest end = grind arith
 
-pub after_both : (xs ys : List ℕ) (rest : Input) → onto_input (xs ++ ys) rest ≡ onto_input xs (onto_input ys rest)
+-- an input that begins with bytes and then with others
+after_both : (xs ys : List ℕ) (rest : Input) → onto_input (xs ++ ys) rest ≡ onto_input xs (onto_input ys rest)
 after_both xs ys rest = rw (append_assoc xs ys rest.bytes) refl
 
+-- tokens taken one after another
 pub takes_then : (a b c : Spot) (had mid left : Option (List ℕ)) (xs ys : List Token) → Takes a b had mid xs → Takes b c mid left ys
     → Takes a c had left (xs ++ ys)
 takes_then a b c had mid left xs ys p q = record {
@@ -48,6 +50,7 @@ module _ (old mid new : Reading) (had met left : Option (List ℕ)) (room : Room
     rest.2,
   )
 
+  -- a text word whose line a fault cuts
   pub cut_token : (fault : ReadFault) (kept : List ℕ) → GoesOn old mid → RestOfLine name mid new met left (Err fault)
       → NextToken old new had left room kept (Cut fault)
   cut_token (TooLong number) kept goes rest = absurd rest

@@ -1,5 +1,5 @@
 -- Which bytes tokens and items use.
-use Rattle.pop_input.proofs.Words.{Block, Bool, Closes, CutsOff, Device, Err, IsClosed, IsInputOver, IsRunOver, IsUnclosed, Item, List, Ok, Option, Peeks, ReadFault, Reading, RestOfLine, Skips, Some, Standing, Sticks, Takes, TakesPart, TooLong, UsesAll, UsesItem, UsesLine, UsesRun, UsesSome, UsesWord, Word, [], among, append-nil, append_assoc, command_of, inl, inr, last_of, next_behind, subst, uses_none, uses_then, ℕ, ◌++◌, ◌∷◌, ◌≡◌}
+use Rattle.pop_input.proofs.Words.{Block, Bool, Closes, CutsOff, Device, Err, IsClosed, IsInputOver, IsRunOver, IsUnclosed, Item, List, Ok, Option, Peeks, ReadFault, Reading, RestOfLine, Skips, Some, Standing, Sticks, Takes, TakesPart, TooLong, UsesAll, UsesItem, UsesLine, UsesRun, UsesSome, Word, [], among, append-nil, append_assoc, command_of, inl, inr, last_of, next_behind, subst, uses_none, uses_then, ℕ, ◌++◌, ◌∷◌, ◌≡◌}
 use Rattle.pop_text.specs.declared.read_fault.ReadFault.TheVariants.{InputTooLong}
 use Rattle.pop_text.specs.declared.text.Text.{Text}
 use Rattle.pop_input.specs.declared.item.Item.TheVariants.{Sound, Faulty, End}
@@ -12,24 +12,22 @@ use Rattle.pop_input.proofs.Taking.{takes_then}
 some_all : {test : ℕ → Bool} {old new : Reading} {had left : Option (List ℕ)} → UsesAll test old new had left → UsesSome old new had left
 some_all p = record { bytes = p.bytes; uses = p.uses }
 
+-- the bytes of a gap and a run were used
 pub some_run : {old new : Reading} {had left : Option (List ℕ)} {number : ℕ} {run : List ℕ} → UsesRun old new had left number run → UsesSome old new had left
 some_run {run = run} p = record { bytes = p.gap ++ run; uses = p.uses }
 
+-- bytes were used, and then others
 pub some_then : {a b c : Reading} {had mid left : Option (List ℕ)} → UsesSome a b had mid → UsesSome b c mid left → UsesSome a c had left
 some_then p q = record { bytes = p.bytes ++ q.bytes; uses = uses_then p.uses q.uses }
 
+-- no byte was used
 pub some_none : (place : Reading) (had : Option (List ℕ)) → UsesSome place place had had
 some_none place had = record { bytes = []; uses = uses_none place had }
 
+-- the bytes of a text line were used
 pub line_some : {old new : Reading} {had left : Option (List ℕ)} (text : Text) → UsesLine old new had left (Ok text) → UsesSome old new had left
 line_some text (line, plain, is, inl u) = record { bytes = line ++ 10 ∷ []; uses = u }
 line_some text (line, plain, is, inr u) = record { bytes = line; uses = u.0 }
-
--- a run that a fault cuts, or that is too long
-pub cut_some : {old new : Reading} {had left : Option (List ℕ)} (fault : ReadFault) → UsesWord old new had left (Err fault) → UsesSome old new had left
-cut_some (TooLong line) (run, long, p, over) = some_run p
-cut_some (InputTooLong line) (run, p) = some_run p
-cut_some (Device line) (run, p) = some_run p
 
 -- a text line that a fault cuts
 pub line_cut : {old mid new : Reading} {had met left : Option (List ℕ)} (keyword : List ℕ) (fault : ReadFault) → UsesSome old mid had met
@@ -39,6 +37,7 @@ line_cut keyword (TooLong line) s u rest at = absurd rest
 line_cut keyword (InputTooLong line) s u rest at = (some_then s (some_all u), at)
 line_cut keyword (Device line) s u rest at = (some_then s (some_all u), at)
 
+-- bytes were used, and then plain words skipped
 pub some_skipped : {a b c : Reading} {had left : Option (List ℕ)} → UsesSome a b had left → Skips b c → UsesSome a c had left
 some_skipped {left = left} p s = record { bytes = p.bytes ++ s.bytes; uses = uses_then p.uses (s.uses left) }
 
@@ -88,6 +87,7 @@ closed_item old new behind had left met block line last (Sound problem answered)
 closed_item old new behind had left met block line last (Faulty fault answered) c is stays same = rw (stays, same) (inl is)
 closed_item old new behind had left met block line last End c is stays same = absurd c
 
+-- where a fault cuts the input, no token is taken
 pub cut_takes : {old new : Reading} {had left : Option (List ℕ)} (cut : ReadFault) → CutsOff old new had left cut → Takes (among old) (among new) had left []
 cut_takes (TooLong line) t = absurd t
 cut_takes (InputTooLong line) t = t.0

@@ -8,7 +8,7 @@ use Rattle.pop_print.specs.Events.{node_text, prefix_text}
 use Rattle.pop_solve.specs.Shown.{Shown}
 
 -- a row of blanks in two parts
-pub blanks_cut : (part whole : ℕ) → part ≤ whole → replicate {A = ℕ} whole 32 ≡ replicate part 32 ++ replicate (whole - part) 32
+blanks_cut : (part whole : ℕ) → part ≤ whole → replicate {A = ℕ} whole 32 ≡ replicate part 32 ++ replicate (whole - part) 32
 blanks_cut part whole within = grind (arith, replicate-append-replicate)
 
 -- a node whose first blanks stand apart

@@ -13,22 +13,24 @@ same_item : (old new : Standing) (had left : List ℕ) (entry other : Entry) →
     → Reads old new (Some had) (Some left) (other ∷ []) → entry ≡ other
 same_item old new had left entry other p q = grind (arith, append_cancel_right p.bytes q.bytes left (sym p.taken ∙ q.taken), some_rest new.at.end)
 
--- where a sound problem is read a step says that it is sound, and where a fault is read that it isn't
+-- where a sound problem is read a step says that it is sound
 pub sound_is_told : (old new : RunState) (had left : List ℕ) (before now : Option (List ℕ)) (sound : Bool) (posed : Posed)
     → Reads old.at new.at (Some had) (Some left) (SoundEntry posed ∷ []) → Steps old new (Some had) (Some left) before now (Ok (Problem sound)) → sound ≡ true
 sound_is_told old new had left before now sound posed reads (entry, p, text, runs, told) =
     told ∙ ap (λ e. not (is_faulty e)) (same_item old.at new.at had left entry (SoundEntry posed) p.reads reads)
 
+-- where a fault is read it says that it isn't
 pub fault_is_told : (old new : RunState) (had left : List ℕ) (before now : Option (List ℕ)) (sound : Bool) (fault : Fault)
     → Reads old.at new.at (Some had) (Some left) (FaultyEntry fault ∷ []) → Steps old new (Some had) (Some left) before now (Ok (Problem sound)) → sound ≡ false
 fault_is_told old new had left before now sound fault reads (entry, p, text, runs, told) =
     told ∙ ap (λ e. not (is_faulty e)) (same_item old.at new.at had left entry (FaultyEntry fault) p.reads reads)
 
--- where the sink failed the status says so, and only there
+-- where the sink failed the status says so
 pub failed_sink_is_told : (choice : Choice) (input : Input) (before now : Option (List ℕ)) (answer : Status) → Runs choice input before now true answer
     → answer ≡ OutputFailed
 failed_sink_is_told choice input before now answer (begun, told) = told
 
+-- and only there
 pub sound_sink_is_told : (choice : Choice) (input : Input) (before now : Option (List ℕ)) → Runs choice input before now false OutputFailed → ⊥
 unfolding status_of
 sound_sink_is_told choice input before now (written, told) = grind arith

@@ -1,5 +1,5 @@
 -- The events of a problem, printed one by one.
-use Rattle.pop_run.proofs.Basics.{Appends, Begins, List, None, Option, Some, [], ap, append-nil, append_assoc, appends_none, appends_then, begins_later, begins_longer, drop, event_of, events, events_of, flat_map, map, refl, slice_get, sym, ℕ, ◌++◌, ◌∙◌, ◌∷◌, ◌≡◌}
+use Rattle.pop_run.proofs.Basics.{Appends, Begins, List, Option, Some, [], ap, append_assoc, appends_none, appends_then, begins_later, begins_longer, drop, event_of, events, events_of, flat_map, map, refl, slice_get, sym, ℕ, ◌++◌, ◌∙◌, ◌∷◌, ◌≡◌}
 use Rattle.std.specs.Option.{option_map}
 use Rattle.std.proofs.lemmas.Option.{none-some, same_Some}
 use Rattle.chess_rules.specs.RuleSet.{RuleSet}
@@ -11,9 +11,11 @@ pub record IsPrinting {A : Type 0} (text : A → List ℕ) (all left : List A) (
   pub written : Appends before now front
   pub whole : flat_map text all ≡ front ++ flat_map text left
 
+-- before the first text nothing is written
 pub printing_starts : {A : Type 0} (text : A → List ℕ) (all : List A) (before : Option (List ℕ)) → IsPrinting text all all before before
 printing_starts text all before = record { front = []; written = appends_none before; whole = refl }
 
+-- one text more is written
 pub printing_goes_on : {A : Type 0} (text : A → List ℕ) (all left : List A) (item : A) (before mid now : Option (List ℕ))
     → IsPrinting text all (item ∷ left) before mid → Appends mid now (text item) → IsPrinting text all left before now
 printing_goes_on text all left item before mid now p q = record {
@@ -21,11 +23,6 @@ printing_goes_on text all left item before mid now p q = record {
   written = appends_then before mid now p.front (text item) p.written q;
   whole = p.whole ∙ sym (append_assoc p.front (text item) (flat_map text left));
 }
-
--- the last text is written
-pub printing_ends : {A : Type 0} (text : A → List ℕ) (all : List A) (before now : Option (List ℕ)) → IsPrinting text all [] before now
-    → Appends before now (flat_map text all)
-printing_ends text all before now p = rw (p.whole, append-nil) p.written
 
 -- of one text a beginning was written
 pub printing_breaks_off : {A : Type 0} (text : A → List ℕ) (all left : List A) (item : A) (before mid now : Option (List ℕ))
@@ -38,11 +35,6 @@ pub first_shown : {S E : Type 0} (show : S → E) (left new : List S) (event : E
     → map show left ≡ event ∷ map show new
 first_shown show [] new event shown behind = absurd (none-some event (sym shown))
 first_shown show (step ∷ left) new event shown behind = rw behind (ap (λ e. e ∷ map show left) (sym (same_Some event (show step) shown)))
-
--- no step is left where none is shown
-pub none_left : {S E : Type 0} (show : S → E) (left : List S) → None ≡ option_map show (slice_get left 0) → map show left ≡ []
-none_left show [] shown = refl
-none_left show (step ∷ left) shown = absurd (none-some (show step) shown)
 
 -- the events of a problem are those under rules that are its condition's
 pub events_under : (rule : RuleSet) (posed : Posed) → rule ≡ rule_of posed.condition → events_of posed ≡ map (event_of rule posed) (events rule posed)

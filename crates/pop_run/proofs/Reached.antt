@@ -73,6 +73,7 @@ pub record Reached (now : Standing) (had left : Option (List ℕ)) : Type 0 wher
   pub goes : ends now.next ≡ false → list_all goes_on tokens ≡ true
   pub stops : ends now.next ≡ true → Stops now.at bytes tokens
 
+-- at its beginning a run has used nothing
 pub reached_start : (had : Option (List ℕ)) → Reached first_standing had had
 reached_start had = record {
   bytes = [];
@@ -82,6 +83,7 @@ reached_start had = record {
   stops = λ over. absurd (let no : false ≡ true = over in cc);
 }
 
+-- behind the last item a run may stop
 pub stopped_last : {now : Standing} {had left : Option (List ℕ)} → Reached now had left → ends now.next ≡ true → Stopped now had left
 stopped_last p over = record { bytes = p.bytes; tokens = p.tokens; used = p.used; stops = p.stops over }
 
@@ -139,6 +141,7 @@ module _ (old new : Standing) (had mid left : Option (List ℕ)) (p : Reached ol
     stops = λ over. (unclosed_stops c).stops;
   }
 
+  -- each item that a run reads brings it one item further
   pub item_reached : (entry : Entry) → UsesEntry old new mid left entry → Reached new had left
   item_reached (SoundEntry posed) c = closed_reached c
   item_reached (FaultyEntry fault) (inl c) = closed_reached c
@@ -204,7 +207,7 @@ module _ (new : Standing) (r ys : List ℕ) (s : Stopped new (Some r) (Some ys))
     | inr over ↦ inr (record { all = all_used new.at taken s.bytes rest s.used.uses.unread s.used.uses.used over.1 may; none = over.0 })
   ]
 
-  pub reads_known : IsSeen new.at.end (Some ys) → length new.at.window ≤ 4096 → ReadsUpTo (input_met (is_broken new.at.end) r (Some ys)) (taken_of r (Some ys))
+  reads_known : IsSeen new.at.end (Some ys) → length new.at.window ≤ 4096 → ReadsUpTo (input_met (is_broken new.at.end) r (Some ys)) (taken_of r (Some ys))
   reads_known seen few =
       let m = met_after new.at.end (Some ys) r taken s.used.uses.consumed seen in
       rw m.2 (record {
@@ -217,6 +220,7 @@ module _ (new : Standing) (r ys : List ℕ) (s : Stopped new (Some r) (Some ys))
         stops = stops_are m.0 m.1;
       })
 
+-- a run that stops has read up to an item's end or the input's, and at most a window more
 pub stopped_reads : (new : Standing) (r : List ℕ) (left : Option (List ℕ)) → Stopped new (Some r) left → IsSeen new.at.end left
     → length new.at.window ≤ 4096 → ReadsUpTo (input_met (is_broken new.at.end) r left) (taken_of r left)
 stopped_reads new r None s seen few = absurd s.used.uses.consumed

@@ -33,11 +33,13 @@ pub reads_then : (a b c : Standing) (had mid left : Option (List ℕ)) (xs ys : 
     → Reads a c had left (xs ++ ys)
 reads_then a b c had mid left xs ys p q = grind (arith, consumes_then had mid left p.bytes q.bytes p.taken q.taken, append_assoc, length-append p.bytes q.bytes)
 
-report-append : (choice : Choice) (n : ℕ) (xs ys : List Entry) → report_from choice n (xs ++ ys) ≡ report_from choice n xs
+-- the report of items and others behind them is that of the first, and then that of the others
+pub report-append : (choice : Choice) (n : ℕ) (xs ys : List Entry) → report_from choice n (xs ++ ys) ≡ report_from choice n xs
     ++ report_from choice (n + length xs) ys
 report-append choice n [] ys = ap (λ k. report_from choice k ys) (omega arith)
 report-append choice n (x ∷ xs) ys = grind (arith, append_assoc, report-append choice (n + 1) xs ys)
 
+-- a test of a list with one more at its end
 pub any_more : (test : Entry → Bool) (xs : List Entry) (x : Entry) → list_any test (xs ++ x ∷ []) ≡ (list_any test xs || test x)
 any_more test [] x = grind arith
 any_more test (y ∷ xs) x = rw (any_more test xs x) (grind arith)
@@ -47,6 +49,7 @@ pub status_more : (xs : List Entry) (x : Entry) → status_of (xs ++ x ∷ []) �
 unfolding status_of
 status_more xs x = grind (arith, any_more)
 
+-- before the first item nothing is read or written
 pub progress_start : (choice : Choice) (had before : Option (List ℕ)) → Progress choice (first_state choice) had had before before
 unfolding status_of
 progress_start choice had before = record {
@@ -64,6 +67,7 @@ progress_start choice had before = record {
 more_left : (old new : RunState) (had left : Option (List ℕ)) (entry : Entry) → TakesItem old new had left entry → ends old.at.next ≡ false
 more_left old new had left entry t = let r = some_rest new.at.at.end in still_more old.at new.at had left entry r.0 r.1 t.reads
 
+-- a step reads one item more and writes its text
 pub progress_step : (choice : Choice) (old new : RunState) (had mid left before t now : Option (List ℕ)) (sound : Bool) → Progress choice old had mid before t
     → Steps old new mid left t now (Ok (Problem sound)) → Progress choice new had left before now
 progress_step choice old new had mid left before t now sound p q = record {
@@ -128,9 +132,11 @@ progress_cut choice old new mid left before t now r fault p q seen =
     ap entries_in m.2 ∙ sym (all_to_come _) ∙ all.begin m.0 m.1 in
     (rw items (cut_begins choice p.items q.0 _ before t now p.written (rw (p.number, p.choice_is) at q.2)), refl)
 
+-- a count that stays hasn't grown
 pub grew_same : (n : ℕ) → grew n n ≡ false
 grew_same n = grind arith
 
+-- a count with one more has grown
 pub grew_more : (n : ℕ) → grew n (n + 1) ≡ true
 grew_more n = lt-ltb n (n + 1) (omega arith)
 
@@ -138,6 +144,7 @@ grew_more n = lt-ltb n (n + 1) (omega arith)
 pub grew_broken : (e : End) (n m : ℕ) → m ≡ failures_after Open e n → grew n m ≡ is_broken e
 grew_broken e n m is = grind (arith, grew_same, grew_more)
 
+-- a run that meets the end of its input writes the whole report, and its status is the report's
 pub run_ends : (choice : Choice) (old new : RunState) (had mid left before t now : Option (List ℕ)) (answer : Status) (n m v w : ℕ)
     → Progress choice old had mid before t → Steps old new mid left t now (Ok (Finished answer)) → IsSeen new.at.at.end left
     → m ≡ failures_after Open new.at.at.end n → w ≡ v → IfSome had (λ r. Runs choice (input_met (grew n m) r left) before now (grew v w) answer)
@@ -145,6 +152,7 @@ run_ends choice old new None mid left before t now answer n m v w p q seen reads
 run_ends choice old new (Some r) mid left before t now answer n m v w p q seen reads writes =
     rw (grew_broken new.at.at.end n m reads, writes, grew_same v) (progress_end choice old new mid left before t now r answer p q seen)
 
+-- a run whose sink fails writes a beginning of the report, and its status says so
 pub run_cut : (choice : Choice) (old new : RunState) (had mid left before t now : Option (List ℕ)) (fault : SinkFault) (n m v w : ℕ)
     → Progress choice old had mid before t → Steps old new mid left t now (Err fault) → IsSeen new.at.at.end left → m ≡ failures_after Open new.at.at.end n
     → w ≡ v + 1 → IfSome had (λ r. Runs choice (input_met (grew n m) r left) before now (grew v w) OutputFailed)
@@ -162,6 +170,7 @@ taken_most new r left items p within waits = grind (arith, length-append, length
 pub failed_once : (e : End) (n m : ℕ) → m ≡ failures_after Open e n → m ≤ n + 1
 failed_once e n m is = grind arith
 
+-- a run that ends takes at most the limit and one window
 pub ended_most : (choice : Choice) (old new : RunState) (had mid left before t now : Option (List ℕ)) (answer : Status) → Progress choice old had mid before t
     → Steps old new mid left t now (Ok (Finished answer)) → new.at.at.used ≤ limit → length new.at.at.window ≤ 4096
     → IfSome had (λ r. length (taken_of r left) ≤ 2 ^ 30 + 4096)
@@ -169,6 +178,7 @@ ended_most choice old new None mid left before t now answer p q within waits = t
 ended_most choice old new (Some r) mid left before t now answer p q within waits =
     taken_most new.at r left _ (last_reads choice old new (Some r) mid left before t now answer p q) within waits
 
+-- so does one whose sink fails
 pub cut_most : (choice : Choice) (old new : RunState) (had mid left before t now : Option (List ℕ)) (fault : SinkFault) → Progress choice old had mid before t
     → Steps old new mid left t now (Err fault) → new.at.at.used ≤ limit → length new.at.at.window ≤ 4096
     → IfSome had (λ r. length (taken_of r left) ≤ 2 ^ 30 + 4096)
@@ -178,6 +188,7 @@ cut_most choice old new (Some r) mid left before t now fault p q within waits = 
 
 -- How far a run reads.
 
+-- a run that ends reads up to an item's end or the input's, and at most a window more
 pub ended_reads : (choice : Choice) (old new : RunState) (had mid left before t now : Option (List ℕ)) (answer : Status) (n m : ℕ)
     → Progress choice old had mid before t → Steps old new mid left t now (Ok (Finished answer)) → IsSeen new.at.at.end left
     → length new.at.at.window ≤ 4096 → m ≡ failures_after Open new.at.at.end n → IfSome had (λ r. ReadsUpTo (input_met (grew n m) r left) (taken_of r left))
@@ -185,6 +196,7 @@ ended_reads choice old new None mid left before t now answer n m p q seen few re
 ended_reads choice old new (Some r) mid left before t now answer n m p q seen few reads =
     rw (grew_broken new.at.at.end n m reads) (stopped_reads new.at r left (last_stops choice old new (Some r) mid left before t now answer p q) seen few)
 
+-- so does one whose sink fails
 pub cut_reads : (choice : Choice) (old new : RunState) (had mid left before t now : Option (List ℕ)) (fault : SinkFault) (n m : ℕ)
     → Progress choice old had mid before t → Steps old new mid left t now (Err fault) → IsSeen new.at.at.end left → length new.at.at.window ≤ 4096
     → m ≡ failures_after Open new.at.at.end n → IfSome had (λ r. ReadsUpTo (input_met (grew n m) r left) (taken_of r left))

@@ -15,10 +15,11 @@ pub no_other_flag : (words : List Text) (s : PopsSettings) → one_of (codes "ch
     → one_of (codes "no-board") (matches_of pops.command words) ≡ Some (codes "true") → pops.IsSettings words s → (s.check ≡ false) × (s.no_board ≡ true)
 no_other_flag words s absent given is = (is.check.absent absent, is.no_board.set given)
 
--- words that the command takes aren't told as wrong, and words that it refuses aren't told as wrong without a cause
+-- words that the command takes aren't told as wrong
 pub taken_words_are_right : (words : List Text) → takes pops.command words ≡ true → pops.IsMemoryIfTaken words Usage → ⊥
 taken_words_are_right words right told = let wrong = told right in cc
 
+-- words aren't told as wrong without a cause
 pub refused_words_are_wrong : (words : List Text) → pops.refusals words ≡ [] → pops.IsUsageIfRefused words Usage → ⊥
 refused_words_are_wrong words none told = absurd (told refl none)
 
@@ -26,11 +27,12 @@ refused_words_are_wrong words none told = absurd (told refl none)
 pub nothing_else_wanted : (words : List Text) (s t : PartSettings) → part.IsSettings words s → part.IsSettings words t → s.wanted ≡ t.wanted
 nothing_else_wanted words s t one other = let same : Some s.wanted ≡ Some t.wanted = sym one.wanted ∙ other.wanted in cc
 
--- words of one of the forms that the command takes aren't told as wrong, and no words are without a cause
+-- words of one of the forms that the command takes aren't told as wrong
 pub words_of_a_form_are_right : (words : List Text) → takes part.command words ≡ true → is_some (part.wanted_by (matches_of part.command words)) ≡ true
     → part.IsMemoryIfTaken words Usage → ⊥
 words_of_a_form_are_right words right meant told = let wrong = told right meant in cc
 
+-- nor are any words without a cause
 pub words_of_no_form_are_wrong : (words : List Text) (wanted : Wanted) → part.refusals words ≡ []
     → part.wanted_by (matches_of part.command words) ≡ Some wanted → part.IsUsageIfRefused words Usage → ⊥
 words_of_no_form_are_wrong words wanted none meant told = elim (told refl) [

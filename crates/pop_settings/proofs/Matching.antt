@@ -13,14 +13,17 @@ use Rattle.clap.specs.declared.error.kind.ErrorKind.TheVariants.{OutOfMemory}
 use Rattle.clap.specs.declared.parser.matches.ArgMatches.{ArgMatches}
 
 module _ (r : Result ArgMatches Error) (given command : App) (words : List Text) where
+  -- what clap found are the matches that the command defines
   pub matched_rows : given ≡ command → is_simple command ≡ true → IfOk r (HasMatchesOf given words)
       → IfOk r (λ m. rows_of (found_of m) ≡ matches_of command words)
   matched_rows is simple h = IfOk-weaker r _ _ (λ m has. (has simple).0) (subst (λ a. IfOk r (HasMatchesOf a words)) is h)
 
+  -- words that the command takes fail only for want of memory
   pub matched_passes : given ≡ command → IfErr r (λ e. takes given words ≡ true → kind_of e ≡ OutOfMemory)
       → IfErr r (λ e. takes command words ≡ true → kind_of e ≡ OutOfMemory)
   matched_passes is h = subst (λ a. IfErr r (λ e. takes a words ≡ true → kind_of e ≡ OutOfMemory)) is h
 
+  -- clap fails as the command says of these words
   pub matched_kinds : given ≡ command → is_simple_and_free command ≡ true → (is_simple_and_free given ≡ true → FailsBy (fault_of given words) r)
       → FailsBy (fault_of command words) r
   matched_kinds is free h = subst (λ a. is_simple_and_free a ≡ true → FailsBy (fault_of a words) r) is h free

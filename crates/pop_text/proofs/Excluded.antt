@@ -14,6 +14,7 @@ no_more : (xs behind : List ℕ) → xs ≡ xs ++ behind → behind ≡ []
 no_more xs [] e = refl
 no_more xs (b ∷ behind) e = absurd (omega (arith, ap length e, length-append xs (b ∷ behind)))
 
+-- no byte belongs to a gap and to a word
 pub gap_or_word : (b : ℕ) → is_gap b ≡ true → is_in_word b ≡ true → ⊥
 gap_or_word b g w = grind (arith, g, w)
 
@@ -33,10 +34,11 @@ nothing_behind_word old new had left number gap c run behind blank solid used u 
     let same = same_gap gap u.gap c run behind blank u.blank solid (same_bytes old new had left (u.gap ++ c ∷ run) ((gap ++ c ∷ run) ++ behind) u.uses used) in
     (same.1, u.line ∙ ap (λ g. old.line + count_by is_line_end g) (sym same.0))
 
--- no word is over before a byte that belongs to it, nor where only the window ends
+-- no word is over before a byte that belongs to it
 pub word_is_whole : (new : Reading) (c : ℕ) (rest : List ℕ) → is_in_word c ≡ true → new.window ≡ c ∷ rest → IsRunOver new → ⊥
 word_is_whole new c rest solid at over = grind (arith, gap_or_word)
 
+-- nor where only the window ends
 pub window_ends_no_word : (new : Reading) → new.window ≡ [] → new.end ≡ Open → IsRunOver new → ⊥
 window_ends_no_word new none unknown over = grind arith
 

@@ -7,15 +7,18 @@ use Rattle.pop_text.specs.declared.word.Word.{Word as Read}
 
 -- A word too long is no text word.
 
+-- a test that also asks for something false fails
 pub and_false : (x : Bool) → (x && false) ≡ false
 and_false x = grind arith
 
+-- a name doesn't begin with a word longer than itself
 pub longer : (name word : List ℕ) → length name < length word → starts_with nat_eq name word ≡ false
 longer [] [] less = absurd (omega arith)
 longer [] (b ∷ word) less = refl
 longer (a ∷ name) [] less = absurd (omega arith)
 longer (a ∷ name) (b ∷ word) less = grind (arith, and_false, longer name word (omega arith))
 
+-- a word longer than a name is no short form of it
 pub no_short_form : (name word : List ℕ) → length name < length word → is_short_form name word ≡ false
 no_short_form name word less = grind (arith, longer, length-map, and_false)
 
@@ -25,6 +28,7 @@ no_short_form name word less = grind (arith, longer, length-map, and_false)
 abbrev pub view_at : Reading → Input → List ℕ
 view_at place rest = take (limit - place.used) (place.window ++ rest.bytes)
 
+-- how what is read from a place on ends
 abbrev pub tail_at : Reading → Input → Tail
 tail_at place rest = tail_of (drop (limit - place.used) (place.window ++ rest.bytes)) rest.ending
 
@@ -32,6 +36,7 @@ same_words : (ts us : List Token) (tail : Tail) (l m : ℕ) → ts ≡ us → l 
     → ◌≡◌ {A = Words} (record { tokens = ts; tail = tail; tail_line = l }) (record { tokens = us; tail = tail; tail_line = m })
 same_words ts us tail l m e f = rw (e, f) refl
 
+-- line numbers go on by the line ends of one text after another
 pub count_then : (line : ℕ) (xs ys : List ℕ) → line + count_by is_line_end (xs ++ ys) ≡ (line + count_by is_line_end xs) + count_by is_line_end ys
 count_then line xs ys = omega (arith, sum_by-append (λ x. cond (is_line_end x) 1 0) xs ys)
 
@@ -143,10 +148,12 @@ line_takes {old} {new} keyword line plain (inl u) within =
 line_takes {old} {new} keyword line plain (inr last) within = takes last.0 within (Some keyword) None (TextLine old.line keyword line ∷ []) (λ rest may.
     grind (arith, stops_at_end, append-nil, take_last_line))
 
+-- the bytes used behind a text word, up to its line's end, are its text line
 pub line_of : (old new : Reading) (had left : Option (List ℕ)) (keyword : List ℕ) (text : Text) → UsesLine old new had left (Ok text) → new.used ≤ limit
     → RestOfLine keyword old new had left (Ok text)
 line_of old new had left keyword text (line, plain, is, whole) within = (line, line_takes keyword line plain whole within, is, grind arith, within)
 
+-- where a fault cuts a text line no word is taken, and none is left
 pub line_cut : {old new : Reading} {had left : Option (List ℕ)} (keyword : List ℕ) (fault : ReadFault) → UsesAll is_in_line old new had left
     → Peeks new (Err fault) → RestOfLine keyword old new had left (Err fault)
 line_cut {old} {new} keyword fault p at = none_left (Some keyword) fault at (omega (arith, p.uses.used))

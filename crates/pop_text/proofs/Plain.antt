@@ -17,7 +17,8 @@ no_front x y z name a b c word h = grind (arith, and_false)
 or_parts : (p q : Bool) → (p || q) ≡ false → (p ≡ false) × (q ≡ false)
 or_parts p q h = grind arith
 
-pub plain_no_text : (word : List ℕ) → is_named word ≡ false → is_text_word word ≡ false
+-- a word that begins like no text word and no closing word is no text word
+plain_no_text : (word : List ℕ) → is_named word ≡ false → is_text_word word ≡ false
 plain_no_text [] h = refl
 plain_no_text (a ∷ []) h = refl
 plain_no_text (a ∷ b ∷ []) h = refl
@@ -30,6 +31,7 @@ plain_no_closing word h = grind (arith, or_parts, no_front)
 
 -- Words, one more.
 
+-- where there are no bytes there are no words, so all are plain
 pub none_plain : IsPlain []
 none_plain = record { tokens = λ line. []; plain = λ line. refl; words = λ cut line behind ends. let same : line + 0 ≡ line = omega arith in rw same refl }
 
@@ -70,6 +72,7 @@ module _ (bytes gap word : List ℕ) (some : 0 < length word) (blank : list_all 
 
 -- A step over a view: a gap of g bytes behind the first k, and a run of r.
 
+-- where no byte is taken no run is cut
 pub none_out : (behind : List ℕ) → RunsOut [] behind
 none_out behind = grind arith
 
@@ -90,6 +93,7 @@ module _ (view left behind : List ℕ) (k g r lines more : ℕ) (at_left : left 
   less : r < length behind
   less = omega (arith, short, fits)
 
+  -- behind plain words a gap and one plain word more
   pub step_more : list_all is_gap (take g left) ≡ true → list_all is_in_word (take r behind) ≡ true → (r < length behind → is_gap (get_or behind r 0) ≡ true)
       → is_named (take r behind) ≡ false → more ≡ count_by is_line_end (take g left) → ArePlain view k lines → ArePlain view (k + (g + r)) (lines + more)
   step_more blank solid over plain are s =
@@ -125,6 +129,7 @@ module _ (old new : Reading) (bytes out : List ℕ) (uses : (had : Option (List 
   skip_takes had = takes (uses had) within None None (plain.tokens old.line) (λ rest may.
       grind (arith, plain.words (is_cut (tail_at new rest)) old.line (view_at new rest) (ends_at bytes out new rest over is), (uses had).line))
 
+  -- bytes that are plain words, used up to a gap or the end of what may be read, are skipped
   pub skips : new.end ≡ old.end → length new.window ≤ length old.window → Skips old new
   skips end waits = record {
     tokens = plain.tokens old.line;
@@ -142,9 +147,11 @@ module _ (old new : Reading) (bytes out : List ℕ) (uses : (had : Option (List 
 pub behind_view : (view window : List ℕ) (room k : ℕ) → view ≡ take room window → k ≤ room → drop k view ≡ take (room - k) (drop k window)
 behind_view view window room k is few = let parts : room ≡ k + (room - k) = omega arith in grind (arith, drop-take k (room - k) window)
 
+-- where nothing was used no word was taken
 pub takes_none : (place : Reading) (had : Option (List ℕ)) → Takes (among place) (among place) had had []
 takes_none place had = record { bytes = []; amount = omega arith; taken = keeps_bytes had; follows = λ rest may. may; begin = λ rest may. refl }
 
+-- nor is any skipped
 pub skips_none : (place : Reading) → Skips place place
 skips_none place = record {
   tokens = [];

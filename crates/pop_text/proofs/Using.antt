@@ -4,12 +4,15 @@ use Rattle.pop_text.proofs.Basics.{inl, inr, is_gap, is_in_word, is_line_end, le
 use Rattle.pop_text.specs.declared.word.Word.{Word as Read}
 use Rattle.pop_text.proofs.WordLaws.{line_lines, solid_line}
 
+-- bytes taken from a source one after another
 pub consumes_then : (a b c : Option (List ℕ)) (xs ys : List ℕ) → Consumes a b xs → Consumes b c ys → Consumes a c (xs ++ ys)
 consumes_then a b c xs ys p q = grind (arith, append_assoc)
 
+-- a source from which nothing was taken has all that it had
 pub keeps_bytes : (had : Option (List ℕ)) → Consumes had had []
 keeps_bytes had = grind arith
 
+-- bytes used one after another
 pub uses_then : {a b c : Reading} {had mid left : Option (List ℕ)} {xs ys : List ℕ} → Uses a b had mid xs → Uses b c mid left ys → Uses a c had left (xs ++ ys)
 uses_then {a} {b} {c} {had} {mid} {left} {xs} {ys} p q = grind (arith, consumes_then, append_assoc, length-append, sum_by-append)
 
@@ -24,14 +27,16 @@ uses_none place had = record {
   still = inr (refl, refl);
 }
 
-unfoldable pub no_run : (test : ℕ → Bool) (place : Reading) (had : Option (List ℕ)) → UsesAll test place place had had
+-- before the first byte nothing is used
+unfoldable no_run : (test : ℕ → Bool) (place : Reading) (had : Option (List ℕ)) → UsesAll test place place had had
 no_run test place had = record { bytes = []; all = refl; uses = uses_none place had }
 
+-- bytes that pass a test, used one after another
 unfoldable pub all_then : {test : ℕ → Bool} {a b c : Reading} {had mid left : Option (List ℕ)} → UsesAll test a b had mid → UsesAll test b c mid left
     → UsesAll test a c had left
 all_then {test} p q = record { bytes = p.bytes ++ q.bytes; all = list_all-append test p.bytes q.bytes ∙ rw (p.all, q.all) refl; uses = uses_then p.uses q.uses }
 
--- after a byte was looked at
+-- a byte that is looked at is still unused
 unfoldable pub all_seen : {test : ℕ → Bool} {a b c : Reading} {had mid left : Option (List ℕ)} → UsesAll test a b had mid → Uses b c mid left []
     → UsesAll test a c had left
 all_seen p u = record { bytes = p.bytes; all = p.all; uses = rw append-nil at (uses_then p.uses u) }
@@ -41,10 +46,12 @@ pub record SoFar {A : Type 0} (test : ℕ → Bool) (keep : List ℕ → A) (old
   pub used : UsesAll test old new had left
   pub is : kept ≡ keep used.bytes
 
+-- nor is anything kept
 pub none_so_far : {A : Type 0} (test : ℕ → Bool) (keep : List ℕ → A) (place : Reading) (had : Option (List ℕ)) → SoFar test keep place place had had (keep [])
 unfolding no_run
 none_so_far test keep place had = record { used = no_run test place had; is = refl }
 
+-- a byte that is looked at adds nothing
 pub seen_so_far : {A : Type 0} {test : ℕ → Bool} {keep : List ℕ → A} {a b c : Reading} {had mid left : Option (List ℕ)} {kept : A}
     → SoFar test keep a b had mid kept → Uses b c mid left [] → SoFar test keep a c had left kept
 unfolding all_seen
@@ -64,9 +71,11 @@ pub failures_then : (a b c : End) (n m k : ℕ) → a ≡ Open ⊎ b ≡ a → b
     → k ≡ failures_after a c n
 failures_then a b c n m k p q e f = grind arith
 
+-- a source that isn't asked doesn't fail
 pub asks_none : (end : End) (had : Option (List ℕ)) (n : ℕ) → Asks end end had had n n
 asks_none end had n = grind arith
 
+-- what a source was asked in two steps
 pub asks_then : {a b c : End} {had mid left : Option (List ℕ)} {n m k : ℕ} → Asks a b had mid n m → Asks b c mid left m k → Asks a c had left n k
 asks_then p q = grind arith
 
@@ -127,6 +136,7 @@ unfolding no_run
 uses_cut old new had left fault p at = found_uses old new new had left left (record { bytes = record { items = [] }; line = new.line }) (Err fault) p refl
     ([], record { solid = refl; uses = (no_run is_gap new left).uses }, at)
 
+-- a fault found at a place is found there by every later call
 pub fault_sticks : (fault : ReadFault) (place : Reading) → Peeks place (Err fault) → Sticks place fault
 fault_sticks fault place at = grind arith
 

@@ -21,11 +21,13 @@ module _ (cells : List ℕ) (start stop : ℕ) (within : stop ≤ length cells) 
   pub front_peeks : (used line : ℕ) (end : End) → start < stop → used < limit → Peeks (reading start used line end) (Ok (Some (get_or cells start 0)))
   front_peeks used line end some room = (slice_range cells (start + 1) stop, window_front cells start stop some within, room)
 
+  -- the first bytes of the window are used, and their lines counted
   pub some_used : (used line count lines : ℕ) (end : End) (had : Option (List ℕ)) → start ≤ stop → count ≤ length (slice_range cells start stop)
       → lines ≡ count_by is_line_end (take count (slice_range cells start stop))
       → Uses (reading start used line end) (reading (start + count) (used + count) (line + lines) end) had had (take count (slice_range cells start stop))
   some_used used line count lines end had in_order few are = grind (arith, window_drop, keeps_bytes, append-nil, take-append-drop, length-take, length-drop)
 
+  -- the bytes behind them still wait
   pub rest_waits : (count : ℕ) → start ≤ stop → count ≤ length (slice_range cells start stop)
       → slice_range cells (start + count) stop ≡ drop count (slice_range cells start stop)
   rest_waits count in_order few = window_drop cells start stop count (grind (arith, length-take, length-drop))
@@ -39,6 +41,7 @@ pub record IsWithin (now : Reading) (view : List ℕ) (count : ℕ) : Type 0 whe
   pub room : now.used + count ≤ limit
 
 module _ {now : Reading} {view : List ℕ} {count : ℕ} (is : IsView now view) (few : count ≤ length view) where
+  -- the first bytes of a view are a front of the window within the limit
   pub view_within : IsWithin now view count
   view_within = grind (arith, take-take, length-take)
 
@@ -47,6 +50,7 @@ module _ {now : Reading} {view : List ℕ} {count : ℕ} (is : IsView now view) 
       → test b ≡ true → now.used < limit → 0 < count
   view_some test some b rest at passes room = grind arith
 
+-- the first bytes of a view that pass a test are a front that ends no line
 pub front_is : {now : Reading} {view : List ℕ} {count : ℕ} (test : ℕ → Bool) → IsView now view → Leads test view count
     → ((bytes : List ℕ) → list_all test bytes ≡ true → list_all is_in_line bytes ≡ true) → IsFront test now (take count view)
 front_is {now} {view} {count} test is p plain = grind (arith, length-take-le count view p.within, view_within is p.within, line_lines, view_some)
@@ -58,6 +62,7 @@ plain_front view zero within none = refl
 plain_front [] (suc count) within none = absurd (omega arith)
 plain_front (b ∷ view) (suc count) within none = grind (arith, none 0, plain_front view count (omega arith) (λ k lt. none (suc k) (omega arith)))
 
+-- a view without a line end is part of one line
 pub plain_all : (view : List ℕ) → ((k : ℕ) → k < length view → (slice_index view k == 10) ≡ true → ⊥) → list_all is_in_line (take (length view) view) ≡ true
 plain_all view none = plain_front view (length view) (omega arith) none
 

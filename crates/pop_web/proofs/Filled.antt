@@ -11,12 +11,12 @@ use Rattle.pop_parts.specs.declared.asked.Outcome.TheVariants.{OutputFailed as P
 use Rattle.pop_web.specs.Page.{Fills, Lists, Shows, ShowsParts, number_of, number_of_parts, room, whole_input}
 
 -- no input has the number of a failed output
-pub other_number : (entries : List Entry) → number_of (status_of entries) ≢ number_of OutputFailed
+other_number : (entries : List Entry) → number_of (status_of entries) ≢ number_of OutputFailed
 unfolding status_of
 other_number entries = grind arith
 
 -- nothing that is asked of an input ends as a failed output does
-pub other_outcome : (asked : Asked) (text : List ℕ) → number_of_parts (outcome_of asked (whole_input text)) ≢ number_of_parts PartsCut
+other_outcome : (asked : Asked) (text : List ℕ) → number_of_parts (outcome_of asked (whole_input text)) ≢ number_of_parts PartsCut
 other_outcome asked text = grind arith
 
 -- A call that writes these bytes and ends well, or a beginning of them and is cut; and what a page is shown of it.
@@ -42,55 +42,64 @@ module _ (Ending : Type 0) (number : Ending → ℕ) (Does : List ℕ → Bool �
   filled true ending told does full other over = full refl
 
   -- a call that is told as cut has filled the room
-  pub room_is_full : Fills Ending number Does shown answer → number well ≢ number cut_short → answer ≡ number cut_short
+  room_is_full : Fills Ending number Does shown answer → number well ≢ number cut_short → answer ≡ number cut_short
       → length shown ≡ room
   room_is_full f other over = filled f.cut f.ending f.told f.does f.full other over
 
   -- a call that isn't cut has shown all
-  pub shown_whole : Fills Ending number Does shown answer → answer ≢ number cut_short → (shown ≡ bytes) × (answer ≡ number well)
+  shown_whole : Fills Ending number Does shown answer → answer ≢ number cut_short → (shown ≡ bytes) × (answer ≡ number well)
   shown_whole f other = same f.cut f.ending f.told f.does other
 
   -- one that is cut has shown as many bytes as the page has room for
-  pub shown_first : Fills Ending number Does shown answer → number well ≢ number cut_short → answer ≡ number cut_short
+  shown_first : Fills Ending number Does shown answer → number well ≢ number cut_short → answer ≡ number cut_short
       → shown ≡ take room bytes
   shown_first f other over = first f.cut f.ending f.told f.does f.full other over
 
 module _ (choice : Choice) (text shown : List ℕ) (answer : ℕ) (f : Shows choice text shown answer) where
+  -- a report that isn't cut is shown whole, with the number of the text's status
   pub report_whole : answer ≢ number_of OutputFailed → (shown ≡ report choice (whole_input text)) × (answer ≡ number_of (status (whole_input text)))
   report_whole other = shown_whole _ _ _ (report choice (whole_input text)) (status (whole_input text)) OutputFailed (λ now ending does. does)
       (λ now ending does. does) _ _ f other
 
+  -- of one that is cut as many bytes are shown as there is room for
   pub report_first : answer ≡ number_of OutputFailed → shown ≡ take room (report choice (whole_input text))
   report_first over = shown_first _ _ _ (report choice (whole_input text)) (status (whole_input text)) OutputFailed (λ now ending does. does)
       (λ now ending does. does) _ _ f (other_number (entries_in (whole_input text))) over
 
+  -- one that is cut has filled the room
   pub report_full : answer ≡ number_of OutputFailed → length shown ≡ room
   report_full over = room_is_full _ _ _ (report choice (whole_input text)) (status (whole_input text)) OutputFailed (λ now ending does. does)
       (λ now ending does. does) _ _ f (other_number (entries_in (whole_input text))) over
 
 module _ (depth : ℕ) (text shown : List ℕ) (answer : ℕ) (f : Lists depth text shown answer) where
+  -- a list of parts that isn't cut is shown whole
   pub list_whole : answer ≢ number_of OutputFailed → (shown ≡ list_text depth (whole_input text)) × (answer ≡ number_of (status (whole_input text)))
   list_whole other = shown_whole _ _ _ (list_text depth (whole_input text)) (status (whole_input text)) OutputFailed (λ now ending does. does)
       (λ now ending does. does) _ _ f other
 
+  -- of one that is cut as many bytes are shown as there is room for
   pub list_first : answer ≡ number_of OutputFailed → shown ≡ take room (list_text depth (whole_input text))
   list_first over = shown_first _ _ _ (list_text depth (whole_input text)) (status (whole_input text)) OutputFailed (λ now ending does. does)
       (λ now ending does. does) _ _ f (other_number (entries_in (whole_input text))) over
 
+  -- one that is cut has filled the room
   pub list_full : answer ≡ number_of OutputFailed → length shown ≡ room
   list_full over = room_is_full _ _ _ (list_text depth (whole_input text)) (status (whole_input text)) OutputFailed (λ now ending does. does)
       (λ now ending does. does) _ _ f (other_number (entries_in (whole_input text))) over
 
 module _ (asked : Asked) (text shown : List ℕ) (answer : ℕ) (f : ShowsParts asked text shown answer) where
+  -- a part that isn't cut is shown whole, with how its call ended
   pub part_whole : answer ≢ number_of_parts PartsCut → (shown ≡ text_of asked (whole_input text))
       × (answer ≡ number_of_parts (outcome_of asked (whole_input text)))
   part_whole other = shown_whole _ _ _ (text_of asked (whole_input text)) (outcome_of asked (whole_input text)) PartsCut (λ now ending does. does)
       (λ now ending does. does) _ _ f other
 
+  -- of one that is cut as many bytes are shown as there is room for
   pub part_first : answer ≡ number_of_parts PartsCut → shown ≡ take room (text_of asked (whole_input text))
   part_first over = shown_first _ _ _ (text_of asked (whole_input text)) (outcome_of asked (whole_input text)) PartsCut (λ now ending does. does)
       (λ now ending does. does) _ _ f (other_outcome asked text) over
 
+  -- one that is cut has filled the room
   pub part_full : answer ≡ number_of_parts PartsCut → length shown ≡ room
   part_full over = room_is_full _ _ _ (text_of asked (whole_input text)) (outcome_of asked (whole_input text)) PartsCut (λ now ending does. does)
       (λ now ending does. does) _ _ f (other_outcome asked text) over

@@ -1,12 +1,7 @@
 -- What a call into memory shows.
-use Rattle.std.proofs.Common.{Bool, List, arith, length, take, ℕ, ◌++◌, ◌<◌, ◌≡◌}
-use Rattle.std.proofs.Math.Seq.{take-append_seam}
+use Rattle.std.proofs.Common.{Bool, List, arith, length, ℕ, ◌<◌, ◌≡◌}
 use Rattle.pop_run.specs.Run.{grew}
 use Rattle.pop_web.specs.Page.{Fills, room}
-
--- bytes copied to the front of some room
-pub copied_in_front : (copied kept rest : List ℕ) → copied ≡ kept → take (length kept) (copied ++ rest) ≡ kept
-copied_in_front copied kept rest same = rw same (take-append_seam kept rest)
 
 -- what a call wrote into a sink in memory
 pub call_is_shown : (Ending : Type 0) (number : Ending → ℕ) (Does : List ℕ → Bool → Ending → Type 0) (taken shown : List ℕ)

@@ -1,5 +1,6 @@
 -- The report of an input is the texts of its items, each a function of its own block, its number and what is chosen: no neighbour changes it.
-use Rattle.pop_run.proofs.Basics.{Choice, Entry, Input, List, None, Words, [], ap, append_assoc, arith, drop, entries_in, entries_of, entry_text, enumerate_from, flat_map, get_or, length, limit, map, put_before, refl, report, report_from, sym, words_from, words_of, ℕ, ◌++◌, ◌+◌, ◌-◌, ◌<◌, ◌∙◌, ◌∷◌, ◌≡◌, ◌≤◌}
+use Rattle.pop_run.proofs.Basics.{Choice, Entry, Input, List, None, Words, [], ap, arith, drop, entries_in, entries_of, entry_text, enumerate_from, flat_map, get_or, length, limit, map, put_before, refl, report, report_from, sym, words_from, words_of, ℕ, ◌++◌, ◌+◌, ◌-◌, ◌<◌, ◌∙◌, ◌∷◌, ◌≡◌, ◌≤◌}
+use Rattle.pop_run.proofs.Running.{report-append}
 use Rattle.pop_input.proofs.theorems.Entries.{AreNext, ClosedBlock, blocks_first, entries_are, entries_behind, is_first, length-own_entries, own_entries, own_entry, tokens_in}
 use Rattle.pop_input.proofs.Pieces.{tokens_at}
 use Rattle.pop_input.proofs.theorems.Inputs.{AreWholeLines, IsLineOver, line_behind, rest_of, words_of_last, words_of_lines_and_own, words_of_lines_and_rest}
@@ -33,8 +34,7 @@ module _ (choice : Choice) where
   -- Of items one after another the report is that of the first ones, and then that of the others, which are numbered on.
   pub report_of_both : (number : ℕ) (first others : List Entry)
       → report_from choice number (first ++ others) ≡ report_from choice number first ++ report_from choice (number + length first) others
-  report_of_both number [] others = let e : number + 0 ≡ number = omega arith in rw e refl
-  report_of_both number (entry ∷ first) others = grind (arith, append_assoc, report_of_both (number + 1) first others)
+  report_of_both number first others = report-append choice number first others
 
   text_behind : (number : ℕ) (first : List Entry) (entry : Entry) (others : List Entry)
       → get_or (texts_from number (first ++ entry ∷ others)) (length first) [] ≡ entry_text choice (number + length first) entry

@@ -25,18 +25,22 @@ module _ (choice : Choice) (text shown written : List ℕ) (answer : ℕ) (ends 
 -- the same of the list of the text's parts, beside the program pops-part that wrote it
 module _ (depth : ℕ) (text shown written : List ℕ) (answer : ℕ) (ends : Status)
     (writes : ListRuns depth (whole_input text) (Some []) (Some written) false ends) where
+  -- where the list isn't cut, the bytes and the status are the program's
   pub same_list_as_the_program : Lists depth text shown answer → answer ≢ number_of OutputFailed → (shown ≡ written) × (answer ≡ number_of ends)
   same_list_as_the_program f other = let it = list_whole _ _ _ _ f other in (it.0 ∙ sym writes.0, it.1 ∙ ap number_of (sym writes.1))
 
+  -- where it is cut, the bytes are the first of the program's
   pub first_of_the_list : Lists depth text shown answer → answer ≡ number_of OutputFailed → shown ≡ take room written
   first_of_the_list f over = list_first _ _ _ _ f over ∙ ap (λ now. take room now) (sym writes.0)
 
 -- the same of parts, beside the program pops-part that wrote them
 module _ (asked : Asked) (text shown written : List ℕ) (answer : ℕ) (ends : Outcome)
     (writes : PartsRun asked (whole_input text) (Some []) (Some written) false ends) where
+  -- where the part isn't cut, the bytes and how it ended are the program's
   pub same_part_as_the_program : ShowsParts asked text shown answer → answer ≢ number_of_parts PartsCut
       → (shown ≡ written) × (answer ≡ number_of_parts ends)
   same_part_as_the_program f other = let it = part_whole _ _ _ _ f other in (it.0 ∙ sym writes.0, it.1 ∙ ap number_of_parts (sym writes.1))
 
+  -- where it is cut, the bytes are the first of the program's
   pub first_of_the_part : ShowsParts asked text shown answer → answer ≡ number_of_parts PartsCut → shown ≡ take room written
   first_of_the_part f over = part_first _ _ _ _ f over ∙ ap (λ now. take room now) (sym writes.0)

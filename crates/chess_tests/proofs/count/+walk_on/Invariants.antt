@@ -2,11 +2,14 @@ use Rattle.std.proofs.Common.{◌≡◌, length}
 use Rattle.chess_rules.specs.ties.Places.{moves_behind}
 use Rattle.chess_tests.proofs.count.+walk_on.Given as goal
 
+-- each call walks lines that are one move shorter
 abbrev pub decreases-walk_on : goal.decreases-walk_on
 decreases-walk_on g l = l.length
 
+-- each move tried is taken back
 abbrev pub invariant-loop-m : goal.invariant-loop-m
 invariant-loop-m g l = l.board ≡ l.fn.board
 
+-- fewer legal moves are still to come
 abbrev pub decreases-loop-m : goal.decreases-loop-m
 decreases-loop-m g l = length (moves_behind g.R.Rules.rule l.fn.board l.place)

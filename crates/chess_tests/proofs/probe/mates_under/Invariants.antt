@@ -3,11 +3,13 @@ use Rattle.chess_core.specs.Diagrams.{position_of}
 use Rattle.chess_mates.specs.ties.Mates.{IsMatingPlaceIn, mates_behind}
 use Rattle.chess_tests.proofs.probe.mates_under.Given as goal
 
+-- the board is the diagram's, and the place is one in its mating moves
 abbrev pub invariant-loop-m : goal.invariant-loop-m
 invariant-loop-m g l = record {
   board : l.board ≡ position_of l.fn.diagram;
   place : IsMatingPlaceIn g.R.Rules.rule (position_of l.fn.diagram) l.place;
 }
 
+-- fewer mating moves are still to come
 abbrev pub decreases-loop-m : goal.decreases-loop-m
 decreases-loop-m g l = length (mates_behind g.R.Rules.rule (position_of l.fn.diagram) l.place.place)

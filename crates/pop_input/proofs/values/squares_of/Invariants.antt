@@ -10,5 +10,6 @@ invariant-pairs l = record {
   rest : squares_of l.word ≡ with_front l.squares.items (squares_from (drop l.at l.word));
 }
 
+-- fewer bytes are left to read
 abbrev pub decreases-pairs : goal.decreases-pairs
 decreases-pairs l = length l.word - l.at

@@ -12,5 +12,6 @@ invariant-items g l = record {
   write_failures : g.W.Sink.failures l.sink ≡ g.W.Sink.failures l.fn.sink;
 }
 
+-- less of the input is left to read
 abbrev pub decreases-items : goal.decreases-items
 decreases-items g l = work_left l.session.at

@@ -11,5 +11,6 @@ invariant-events g l = record {
   counted : g.W.Sink.failures l.sink ≡ g.W.Sink.failures l.fn.sink;
 }
 
+-- fewer events are still to come
 abbrev pub decreases-events : goal.decreases-events
 decreases-events g l = length l.search.left

@@ -13,5 +13,6 @@ invariant-words g l = record {
       (g.S.Source.failures l.fn.source) (g.S.Source.failures l.source);
 }
 
+-- each turn uses a byte, and the limit stops it
 abbrev pub decreases-words : goal.decreases-words
 decreases-words g l = limit - l.self-inside.scanner.used

@@ -1,5 +1,6 @@
 use Rattle.std.proofs.Common.{◌≡◌, ◌++◌, replicate}
 use Rattle.pop_print.proofs.line.LineBuffer.add_blanks.Given as goal
 
+-- the blanks so far are added
 abbrev pub invariant-blanks : goal.invariant-blanks
 invariant-blanks l = l.self ≡ l.fn.self ++ replicate l._blank 32

@@ -10,5 +10,6 @@ invariant-digits l = record {
   within : l.at ≤ length l.text;
 }
 
+-- fewer bytes are left to look at
 abbrev pub decreases-digits : goal.decreases-digits
 decreases-digits l = length l.text - l.at

@@ -12,5 +12,6 @@ invariant-line g l = record {
       (g.S.Source.failures l.source);
 }
 
+-- each turn uses a byte, and the limit stops it
 abbrev pub decreases-line : goal.decreases-line
 decreases-line g l = limit - l.self.used

@@ -10,5 +10,6 @@ invariant-gap g l = record {
       (g.S.Source.failures l.source);
 }
 
+-- each turn uses a byte, and the limit stops it
 abbrev pub decreases-gap : goal.decreases-gap
 decreases-gap g l = limit - l.self.used

@@ -10,5 +10,6 @@ invariant-run g l = record {
       (g.S.Source.failures l.source);
 }
 
+-- each turn uses a byte, and the limit stops it
 abbrev pub decreases-run : goal.decreases-run
 decreases-run g l = limit - l.self.used

@@ -5,5 +5,6 @@ use Rattle.pop_text.proofs.text.Text.trimmed.Given as goal
 abbrev pub invariant-trim : goal.invariant-trim
 invariant-trim l = without_trailing l.kept.items ≡ without_trailing l.fn.kept.items
 
+-- the text gets shorter
 abbrev pub decreases-trim : goal.decreases-trim
 decreases-trim l = length l.kept.items
