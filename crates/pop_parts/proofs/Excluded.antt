@@ -1,4 +1,5 @@
--- What the clauses of a list and of parts exclude: text of parts that are refused, and a failed sink told as another end, or another end as a failed sink.
+-- What the clauses of a list and of parts exclude: text of parts that are refused, a failed sink told as another end or another end as a failed sink,
+-- parts that are numbered from 0, and solutions in a part with whose moves they don't begin.
 use Rattle.std.proofs.Common.{Bool, List, None, Option, Some, [], arith, false, refl, rules, sym, true, ℕ, ◌∙◌, ◌≡◌, ◌≢◌}
 use Rattle.pop_text.specs.Bytes.{Appends}
 use Rattle.pop_text.specs.Words.{Input}
@@ -9,6 +10,10 @@ use Rattle.pop_run.specs.Report.{entries_in, tells_failure}
 unfoldable use Rattle.pop_run.specs.Report.{status_of}
 use Rattle.pop_run.specs.declared.status.Status.{Status}
 use Rattle.pop_run.specs.declared.status.Status.TheVariants.{OutputFailed as ListCut}
+use Rattle.pop_solve.proofs.Words.{Move, Posed, RuleSet, ap, eqb, slice_get, ◌∷◌}
+use Rattle.pop_solve.specs.declared.event.Phase.{Phase}
+use Rattle.chess_core.specs.MoveOrder.{triple_number}
+use Rattle.pop_parts.specs.PhaseParts.{begins_path, begins_so, part_numbered, parts}
 use Rattle.pop_parts.specs.Parts.{entry_numbered, outcome_at, outcome_of, text_at, text_of}
 unfoldable use Rattle.pop_parts.specs.Parts.{text_in}
 use Rattle.pop_parts.specs.Runs.{Lists, Shows}
@@ -44,3 +49,24 @@ sound_sink_is_told asked input before now (written, told) =
 pub sound_sink_of_a_list_is_told : (depth : ℕ) (input : Input) (before now : Option (List ℕ)) → Lists depth input before now false ListCut → ⊥
 unfolding status_of
 sound_sink_of_a_list_is_told depth input before now (written, told) = grind arith
+
+module _ (rule : RuleSet) (problem : Posed) (phase : Phase) (depth : ℕ) where
+  -- the parts of a phase are counted from 1: none is numbered 0
+  pub no_part_is_numbered_0 : part_numbered rule problem phase depth 0 ≡ None
+  no_part_is_numbered_0 = refl
+
+  -- and 1 is the first, so the last bears the number of all
+  pub first_part_is_numbered_1 : (front : List Move) (fronts : List (List Move)) → parts rule problem phase depth ≡ front ∷ fronts
+      → part_numbered rule problem phase depth 1 ≡ Some front
+  first_part_is_numbered_1 front fronts are = ap (λ all. slice_get all 0) are
+
+-- a solution that begins with another move than the part's first isn't the part's
+pub no_other_first_move : (m n : Move) (front path : List Move) (paths : List (List Move)) → eqb (triple_number m) (triple_number n) ≡ false
+    → begins_so (m ∷ front) ((n ∷ path) ∷ paths) ≡ false
+unfolding begins_path
+no_other_first_move m n front path paths other = rw other refl
+
+-- nor one that is shorter than the part's moves
+pub no_shorter_path : (m : Move) (front : List Move) (paths : List (List Move)) → begins_so (m ∷ front) ([] ∷ paths) ≡ false
+unfolding begins_path
+no_shorter_path m front paths = refl

@@ -1,3 +1,11 @@
+pub mod Seeking
+pub mod PartNumbers
+pub mod PartEvents
+pub mod PartLists
+pub mod Parts
+pub mod PartBegins
+pub mod PartsJoined
+pub mod theorems
 pub mod Excluded
 pub mod Listing
 pub mod Ranges

@@ -1,3 +1,4 @@
+pub mod PhaseParts
 pub mod Parts
 pub mod Runs
 pub mod ties

@@ -6,7 +6,7 @@ use Rattle.pop_text.specs.Words.{Input}
 use Rattle.pop_input.specs.Blocks.{Entry, Sound, Faulty}
 use Rattle.pop_input.specs.Posed.{Posed, rule_of}
 use Rattle.pop_solve.specs.Events.{Path, event_of, is_barred}
-use Rattle.pop_solve.specs.Parts.{parts, part_events}
+use Rattle.pop_parts.specs.PhaseParts.{parts, part_events}
 use Rattle.pop_solve.specs.declared.event.Phase.{Phase}
 use Rattle.pop_solve.specs.declared.event.Phase.TheVariants.{Set, Play}
 use Rattle.pop_print.specs.Events.{event_text}

@@ -2,7 +2,9 @@
 #![tactic(auto)]
 
 pub mod asked;
+pub mod beginnings;
 mod items;
 pub mod list;
+pub mod part_search;
 mod searching;
 pub mod show;

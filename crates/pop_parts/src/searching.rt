@@ -1,14 +1,14 @@
 //! Searches of parts, with a frame for each half-move of the longest stipulation and one behind the last.
 ghost use Rattle.std.specs.Prelude.{◌≡◌, ◌≤◌, ◌-◌, ◌^◌, MatchOption, None, Some, length, min};
 ghost use Rattle.pop_input.specs.Posed.{rule_of};
-ghost use Rattle.pop_solve.specs.Parts.{part_events, part_numbered, parts};
+ghost use Rattle.pop_parts.specs.PhaseParts.{part_events, part_numbered, parts};
 
+use crate::beginnings::count_parts;
+use crate::part_search::PartSearch;
 use chess_rules::rules::Rules;
 use pop_input::problem::Problem;
-use pop_solve::count_parts;
 use pop_solve::event::Phase;
 use pop_solve::killers::Killers;
-use pop_solve::part_search::PartSearch;
 
 /// How many parts a phase has, up to the greatest u64.
 pub(crate) fn parts_in<R: Rules>(problem: &Problem, phase: Phase, depth: usize) -> u64

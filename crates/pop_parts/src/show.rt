@@ -8,7 +8,7 @@ ghost use Rattle.pop_parts.specs.declared.asked.Outcome.TheVariants.{FaultyItem,
 ghost use Rattle.pop_input.specs.Posed.{rule_of};
 ghost use Rattle.pop_solve.specs.Events.{event_of};
 ghost use Rattle.pop_print.specs.Events.{event_text};
-ghost use Rattle.pop_solve.specs.Parts.{part_numbered};
+ghost use Rattle.pop_parts.specs.PhaseParts.{part_numbered};
 ghost use Rattle.pop_run.specs.Run.{FailsOnce, grew, input_met};
 ghost use Rattle.pop_parts.specs.Parts.{has_parts as has_the_parts, has_phase as has_the_phase, outcome_at, outcome_in, part_text, parts_asked, text_at, text_in};
 ghost use Rattle.pop_parts.specs.Runs.{Shows};
@@ -16,6 +16,7 @@ ghost use Rattle.pop_parts.specs.ties.Items.{entry_in, text_if};
 
 use crate::asked::{Asked, Outcome};
 use crate::items::{is_device_failure, is_end, tells_failure};
+use crate::part_search::PartSearch;
 use crate::searching::{part_of, parts_in};
 use chess_rules::{Circe, Madrasi, Orthodox, Rules};
 use pop_input::condition::Condition;
@@ -25,7 +26,6 @@ use pop_input::reader::Reader;
 use pop_print::print_event;
 use pop_solve::event::Phase;
 use pop_solve::killers::Killers;
-use pop_solve::part_search::PartSearch;
 use pop_text::sink::{Sink, SinkFault};
 use pop_text::source::Source;
 

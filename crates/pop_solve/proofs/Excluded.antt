@@ -1,8 +1,6 @@
 -- What the clauses of a search exclude: events given after the board was taken back or given twice, totals that say the wrong thing or come too early,
 -- mates passed over, and counts of events and frames that begin or grow otherwise.
-use Rattle.pop_solve.proofs.Words.{ArrayVec, BareEvent, Barred, Before, Bool, Event, Frame, Gives, GoesTo, IsGiven, IsOpened, Line, List, Move, Node, None, Phase, Plan, Posed, Position, RuleSet, Shown, Some, Total, Within, [], ap, arith, eqb, event_of, false, filter, filter-append, first_phase, is_help, is_mating, is_walked_once, keep, left_of, length, map, min, moves_behind, path_event, phase_paths, refl, rest_open, slice_get, total, true, ℕ, ◌++◌, ◌+◌, ◌-◌, ◌^◌, ◌∷◌, ◌≡◌}
-use Rattle.chess_core.specs.MoveOrder.{triple_number}
-use Rattle.pop_solve.specs.Parts.{begins_path, begins_so, part_numbered, parts}
+use Rattle.pop_solve.proofs.Words.{ArrayVec, BareEvent, Barred, Before, Bool, Event, Frame, Gives, GoesTo, IsGiven, IsOpened, Line, List, Move, Node, Phase, Plan, Posed, Position, RuleSet, Shown, Total, Within, [], ap, arith, eqb, event_of, filter, filter-append, first_phase, is_help, is_mating, is_walked_once, keep, left_of, length, map, min, moves_behind, path_event, phase_paths, rest_open, total, true, ℕ, ◌++◌, ◌+◌, ◌-◌, ◌^◌, ◌∷◌, ◌≡◌}
 
 module _ (rule : RuleSet) (problem : Posed) (old new : List BareEvent) (board : Position) where
   -- no line is given with no frame in use, as after all moves were taken back
@@ -67,24 +65,3 @@ module _ (rule : RuleSet) (plan : Plan) (left place : ℕ) (p : Position) where
   pub first_mate_is_next : (m n : Move) (more rest : List Move) → moves_behind rule p place ≡ m ∷ more → is_mating rule p m ≡ true
       → is_mating rule p n ≡ true → GoesTo rule plan left p place (n ∷ rest) → n ≡ m
   first_mate_is_next m n more rest here mates too t = grind (arith, no_mate_is_passed_over (n ∷ rest) t)
-
-module _ (rule : RuleSet) (problem : Posed) (phase : Phase) (depth : ℕ) where
-  -- the parts of a phase are counted from 1: none is numbered 0
-  pub no_part_is_numbered_0 : part_numbered rule problem phase depth 0 ≡ None
-  no_part_is_numbered_0 = refl
-
-  -- and 1 is the first, so the last bears the number of all
-  pub first_part_is_numbered_1 : (front : List Move) (fronts : List (List Move)) → parts rule problem phase depth ≡ front ∷ fronts
-      → part_numbered rule problem phase depth 1 ≡ Some front
-  first_part_is_numbered_1 front fronts are = ap (λ all. slice_get all 0) are
-
--- a solution that begins with another move than the part's first isn't the part's
-pub no_other_first_move : (m n : Move) (front path : List Move) (paths : List (List Move)) → eqb (triple_number m) (triple_number n) ≡ false
-    → begins_so (m ∷ front) ((n ∷ path) ∷ paths) ≡ false
-unfolding begins_path
-no_other_first_move m n front path paths other = rw other refl
-
--- nor one that is shorter than the part's moves
-pub no_shorter_path : (m : Move) (front : List Move) (paths : List (List Move)) → begins_so (m ∷ front) ([] ∷ paths) ≡ false
-unfolding begins_path
-no_shorter_path m front paths = refl

@@ -5,4 +5,3 @@ pub mod HelpLines
 pub mod Trees
 pub mod Solutions
 pub mod Events
-pub mod Parts

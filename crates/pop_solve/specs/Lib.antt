@@ -4,5 +4,4 @@ pub mod Tree
 pub mod Shown
 pub mod Chess
 pub mod Events
-pub mod Parts
 pub mod ties

@@ -1,10 +1,7 @@
-pub mod Beginnings
 pub mod Calls
 pub mod Counts
 pub mod Frames
 pub mod Marks
-pub mod PartStages
-pub mod PartsSeen
 pub mod Phases
 pub mod Plans
 pub mod Seen

@@ -60,7 +60,7 @@ pub(crate) fn next_behind<R: Rules>(moves: &mut LegalMoves<R>, board: &mut Board
 }
 
 /// The next legal move behind the place, which moves on to it; what is then known of the position's moves is kept.
-pub(crate) fn next_move<R: Rules>(
+pub fn next_move<R: Rules>(
     known: &mut Option<LegalMoves<R>>,
     place: &mut Moves<R>,
     board: &mut Board,
@@ -162,7 +162,7 @@ pub(crate) fn must_mate<R: Rules>(board: &mut Board) -> bool
 
 /// Takes a move back.
 #[tactic(auto, using(chess_rules::proofs::listing_moves::Calls::playing))]
-pub(crate) fn retract<R: Rules>(board: &mut Board, by: Move, undo: Undo)
+pub fn retract<R: Rules>(board: &mut Board, by: Move, undo: Undo)
     requires came { (p : Position) × CameBy R.rule by undo board.old p }
     ensures before { (p : Position) → CameBy R.rule by undo board.old p → board.new ≡ p }
 {
@@ -223,7 +223,7 @@ pub(crate) fn is_for_mate(goal: Goal) -> bool
 }
 
 /// Whether the goal is reached in the board's position.
-pub(crate) fn reaches_goal<R: Rules>(goal: Goal, board: &mut Board) -> bool
+pub fn reaches_goal<R: Rules>(goal: Goal, board: &mut Board) -> bool
     requires well_formed { IsWellFormed board.old }
     ensures unchanged { board.new ≡ board.old }
     ensures reached { result ≡ (chess goal R.rule).goal board.old }

@@ -2,24 +2,20 @@
 #![tactic(auto)]
 
 mod aim;
-pub mod beginnings;
-mod chess;
+pub mod chess;
 pub mod event;
 pub mod frame;
 pub mod killers;
-pub mod part_search;
-mod phases;
+pub mod phases;
 pub mod plan;
 pub mod search;
 mod showing;
 pub mod shown;
 mod value;
-mod walk;
+pub mod walk;
 
-pub use beginnings::count_parts;
 pub use event::{Event, Phase};
 pub use frame::{Early, Frame, Order, Stretch};
 pub use killers::Killers;
-pub use part_search::PartSearch;
 pub use search::Search;
 pub use shown::{Mark, Shown, Side};

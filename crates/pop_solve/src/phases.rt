@@ -50,7 +50,7 @@ pub(crate) fn first_phase(problem: &Problem) -> Phase
 }
 
 /// The half-moves of a phase: set play drops the first.
-pub(crate) fn phase_half_moves(problem: &Problem, phase: Phase) -> usize
+pub fn phase_half_moves(problem: &Problem, phase: Phase) -> usize
     ensures { result ≡ half_moves_of_phase problem.now phase }
 {
     let half_moves = problem.stipulation().half_moves();
@@ -80,7 +80,7 @@ fn is_full(plan: Plan, depth: usize, limit: u32) -> bool
 
 /// Walks on to the next path that is given, in a phase in which `limit` solutions are still to begin. Answers whether
 /// there is one.
-pub(crate) fn walk_on<R: Rules, const N: usize>(
+pub fn walk_on<R: Rules, const N: usize>(
     problem: &Problem,
     phase: Phase,
     limit: u32,
@@ -132,7 +132,7 @@ fn close_all<R: Rules, const N: usize>(
 }
 
 /// The event of the path to the top frame, where the board stands.
-pub(crate) fn event_at<R: Rules>(
+pub fn event_at<R: Rules>(
     problem: &Problem,
     phase: Phase,
     frames: &[Frame<R>],
@@ -164,7 +164,7 @@ pub(crate) fn event_at<R: Rules>(
 }
 
 /// Puts the first position of a phase on the board, or finds that it isn't possible and leaves the board.
-pub(crate) fn set_up<R: Rules>(problem: &Problem, phase: Phase, board: &mut Board) -> bool
+pub fn set_up<R: Rules>(problem: &Problem, phase: Phase, board: &mut Board) -> bool
     requires { board.old ≡ play_start problem.now }
     ensures possible { result ≡ not (is_barred R.rule problem.now phase) }
     ensures board { board.new ≡ (if result then phase_start problem.now phase
@@ -217,7 +217,7 @@ fn begin<R: Rules, const N: usize>(
 }
 
 /// Ends a phase: closes its frames and puts the first position of the play on the board.
-pub(crate) fn end<R: Rules, const N: usize>(
+pub fn end<R: Rules, const N: usize>(
     problem: &Problem,
     phase: Phase,
     board: &mut Board,
@@ -280,7 +280,7 @@ fn go_on<R: Rules, const N: usize>(
 }
 
 /// How many solutions of a phase may still begin, once `count` have begun.
-pub(crate) fn still_to_begin(problem: &Problem, count: u32) -> u32
+pub fn still_to_begin(problem: &Problem, count: u32) -> u32
     requires { count ≤ problem.now.max_solutions }
     ensures { result ≡ problem.now.max_solutions - count }
 {
@@ -288,7 +288,7 @@ pub(crate) fn still_to_begin(problem: &Problem, count: u32) -> u32
 }
 
 /// The event of the end of a phase that gave `count` solutions: the limit stopped it where they are as many.
-pub(crate) fn total(problem: &Problem, count: u32) -> Event
+pub fn total(problem: &Problem, count: u32) -> Event
     ensures { result ≡ Total count (count == problem.now.max_solutions) }
 {
     Event::Total {
@@ -298,7 +298,7 @@ pub(crate) fn total(problem: &Problem, count: u32) -> Event
 }
 
 /// The count of solutions, with one that begins at a path to the top of so many frames.
-pub(crate) fn count_with(problem: &Problem, depth: usize, count: u32) -> u32
+pub fn count_with(problem: &Problem, depth: usize, count: u32) -> u32
     requires sound { IsSound problem.now }
     requires begins { (if is_help problem.now.stipulation.form || (depth == 2) then 1 else 0)
         ≤ problem.now.max_solutions - count }

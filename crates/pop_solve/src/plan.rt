@@ -48,7 +48,7 @@ impl Tree {
 
 impl Plan {
     /// What is walked of a problem.
-    pub(crate) fn of(problem: &Problem) -> Plan
+    pub fn of(problem: &Problem) -> Plan
         ensures { result ≡ plan_of problem.now }
     {
         let stipulation = problem.stipulation();

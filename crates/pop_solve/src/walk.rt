@@ -139,7 +139,7 @@ fn seeking_last(plan: Plan) -> bool
 
 /// Whether each path that is given ends with the next half-move, which mates: the last one of play for mate, by a side
 /// that seeks it.
-pub(crate) fn ends_with_mate(plan: Plan, left: usize) -> bool
+pub fn ends_with_mate(plan: Plan, left: usize) -> bool
     ensures { IsTrue result ↔ ((is_for_mate plan.goal ≡ true) × (seeks_last plan ≡ true)
         × (left ≡ 1)) }
 {
@@ -200,7 +200,7 @@ pub(crate) fn opened_by(opened: u64, tried: usize, tested: bool) -> u64
 /// compiler makes it no part of the walk.
 #[tactic(auto, using(chess_rules::proofs::listing_moves::Calls::playing), unfolding(crate::specs::ties::Walk::follows, crate::specs::ties::Walk::half_moves_on))]
 #[inline(always)]
-pub(crate) fn enter<R: Rules, const N: usize>(
+pub fn enter<R: Rules, const N: usize>(
     plan: Plan,
     root: bool,
     left: usize,
@@ -278,7 +278,7 @@ fn next_of<R: Rules>(
 }
 
 /// Takes back the move of a frame that is closed, unless it is the lowest.
-pub(crate) fn step_back<R: Rules>(depth: usize, top: Frame<R>, board: &mut Board)
+pub fn step_back<R: Rules>(depth: usize, top: Frame<R>, board: &mut Board)
     requires { 0 < depth → CameFrom R.rule top board.old }
     ensures lowest { depth ≡ 0 → board.new ≡ board.old }
     ensures before { (p : Position) → 0 < depth → CameFromAt R.rule top board.old p

@@ -1,6 +1,6 @@
 use Rattle.std.proofs.Common.{arith, length, rules, ◌∙◌, ◌<◌, ◌≤◌}
 use Rattle.std.proofs.lemmas.Result.{err_from_is_err_and}
-use Rattle.pop_solve.specs.Parts.{parts}
+use Rattle.pop_parts.specs.PhaseParts.{parts}
 use Rattle.pop_parts.proofs.Ranges.{parts_break_off, parts_go_on}
 use Rattle.pop_parts.proofs.show.print_parts_with.Goals as goal
 

@@ -1,6 +1,6 @@
 use Rattle.std.proofs.Common.{drop, take, ◌+◌, ◌-◌, ◌≡◌, ◌≤◌}
 use Rattle.pop_run.proofs.Findings.{IsPrinting}
-use Rattle.pop_solve.specs.Parts.{parts}
+use Rattle.pop_parts.specs.PhaseParts.{parts}
 use Rattle.pop_parts.specs.Parts.{part_text, parts_asked}
 use Rattle.pop_parts.proofs.show.print_parts_with.Given as goal
 

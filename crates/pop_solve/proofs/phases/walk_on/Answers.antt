@@ -7,7 +7,10 @@ pub loop-frames-init : goal.loop-frames-init
 loop-frames-init g c = (rw c.phase_half_moves-half_moves.ensures c.requires.walking, refl, opened.opens-none _ _ _ _ _, opened.tries-none _ _ _ _ _ _)
 
 pub loop-frames-preserved : goal.loop-frames-preserved
-loop-frames-preserved g c = search (rules, opened.opens-then, opened.tries-then)
+loop-frames-preserved g c =
+    let i = c.loop-frames.invariant in
+    let s = c.step.ensures.steps _ i.0 in
+    (s.walking, i.1 ∙ (rw c.if-step.false at s.come), opened.opens-then _ _ _ _ _ _ _ _ _ i.2 s.opens, opened.tries-then _ _ _ _ _ _ _ _ _ _ i.3 s.tries)
 
 pub returns-then-step : goal.returns-then-step
 returns-then-step g c =

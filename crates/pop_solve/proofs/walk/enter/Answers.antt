@@ -1,4 +1,4 @@
-use Rattle.pop_solve.proofs.Words.{rules}
+use Rattle.pop_solve.proofs.Words.{after_well_formed, arith, is_pseudo_legal-from_legal, rules}
 use Rattle.pop_solve.specs.ties.Walk.{follows, half_moves_on}
 use Rattle.pop_solve.proofs.walk.enter.Goals as goal
 
@@ -9,3 +9,8 @@ returns-then-not-value_after-clause-counts g c = search rules
 pub returns-clause-counts : goal.returns-clause-counts
 unfolding follows half_moves_on
 returns-clause-counts g c = search rules
+
+pub value_after-requires : goal.value_after-requires
+value_after-requires g c =
+    let well = after_well_formed g.R.Rules.rule _ _ c.requires.well_formed (is_pseudo_legal-from_legal _ _ _ c.requires.legal) in
+    (search rules, (search rules, (rw c.play-undo.ensures.after well, (omega (arith, c.requires.room), rw c.play-undo.ensures.after c.requires.mated))))

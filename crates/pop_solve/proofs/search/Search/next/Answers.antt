@@ -20,3 +20,21 @@ invariant_of-self-else-is_some g c = (
   events.given-none g.R.Rules.rule _ _ _ _ _ _ _ (sym c.is_some.ensures ∙ c.if-is_some.false) c.advance-event.ensures.gives c.self.invariant.3,
   opened.opened-on g.R.Rules.rule _ _ _ _ _ _ _ _ _ c.self.invariant.3 c.advance-event.ensures.opens c.self.invariant.4,
 )
+
+pub returns-then-is_some-clause-event : goal.returns-then-is_some-clause-event
+returns-then-is_some-clause-event g c = rw (← c.self.view_is) (events.next-event g.R.Rules.rule _ _ _ _ _ _ c.advance-event.ensures.gives)
+
+pub returns-then-is_some-clause-left : goal.returns-then-is_some-clause-left
+returns-then-is_some-clause-left g c = rw (← c.self.view_is) (events.next-left g.R.Rules.rule _ _ _ _ _ _ c.advance-event.ensures.gives)
+
+pub returns-then-is_some-clause-board : goal.returns-then-is_some-clause-board
+returns-then-is_some-clause-board g c = rw (← c.self.view_is) (events.next-board g.R.Rules.rule _ _ _ _ _ _ c.advance-event.ensures.gives)
+
+pub returns-else-is_some-clause-event : goal.returns-else-is_some-clause-event
+returns-else-is_some-clause-event g c = rw (← c.self.view_is) (events.next-event g.R.Rules.rule _ _ _ _ _ _ c.advance-event.ensures.gives)
+
+pub returns-else-is_some-clause-left : goal.returns-else-is_some-clause-left
+returns-else-is_some-clause-left g c = rw (← c.self.view_is) (events.next-left g.R.Rules.rule _ _ _ _ _ _ c.advance-event.ensures.gives)
+
+pub returns-else-is_some-clause-board : goal.returns-else-is_some-clause-board
+returns-else-is_some-clause-board g c = rw (← c.self.view_is) (events.next-board g.R.Rules.rule _ _ _ _ _ _ c.advance-event.ensures.gives)

@@ -1,0 +1,168 @@
+-- What a search of one part gives at a call, and what it opens.
+use Rattle.pop_solve.proofs.Words.{BareEvent, Bool, Frame, Gives, IsCounted, IsEnded, IsSound, IsWalking, List, Move, Opens, Posed, Position, RuleSet, StandsOn, Walks, [], arith, beginning_count, begins, cond, eqb, event_of, false, half_moves, is_help, is_set, keep, length, length-reverse, nat_tests, path, path_event, phase_half_moves, phase_paths, phase_start, plan_of, refl, reverse, rules, subst, to_open, true, ℕ, ◌+◌, ◌-◌, ◌<◌, ◌||◌, ◌∙◌, ◌∷◌, ◌≡◌, ◌≤◌}
+use Rattle.pop_solve.specs.declared.event.Event.{Event}
+use Rattle.pop_solve.specs.declared.event.Event.TheVariants.{Total}
+use Rattle.pop_solve.specs.declared.event.Phase.{Phase}
+use Rattle.pop_solve.specs.declared.event.Phase.TheVariants.{Play, Set}
+use Rattle.pop_parts.specs.declared.part_search.PartStage.{PartStage}
+use Rattle.pop_parts.specs.declared.part_search.PartStage.TheVariants.{Behind, First, Within}
+use Rattle.pop_parts.specs.ties.PartStages.{IsPartOpened, events_left}
+unfoldable use Rattle.pop_parts.specs.ties.PartStages.{StandsInPart, part_left, part_paths}
+use Rattle.pop_parts.specs.ties.PartsSeen.{is_part_stopped, part_walk}
+use Rattle.pop_solve.proofs.Events.{room-length}
+use Rattle.pop_solve.proofs.Kept.{keep-next, beginning_count-next}
+use Rattle.pop_solve.proofs.Paths.{path-length, path_end-path}
+use Rattle.pop_solve.proofs.Sound.{in_range}
+
+module _ (rule : RuleSet) (problem : Posed) (phase : Phase) where
+  abbrev help : Bool
+  help = is_help problem.stipulation.form
+
+  -- the frames left are listed from the bottom up, as the code holds them
+  abbrev top : List Frame → List Move
+  top frames = path (reverse frames)
+
+  abbrev Walking : List Frame → Position → Type 0
+  Walking frames board = IsWalking rule (phase_half_moves problem phase) (phase_start problem phase) (reverse frames) board
+
+  abbrev Stands : List Move → PartStage → List Frame → Position → Type 0
+  Stands front stage frames board = StandsInPart rule problem phase front stage (reverse frames) board
+
+  abbrev left_at : PartStage → List Frame → List BareEvent
+  left_at stage frames = part_left rule problem phase stage (reverse frames)
+
+  -- how many solutions begin at the top of so many frames, and the same seen from the path
+  abbrev more : ℕ → ℕ
+  more depth = cond (help || eqb depth 2) 1 0
+
+  abbrev here : List Frame → ℕ
+  here frames = cond (begins help (top frames)) 1 0
+
+  few : (frames : List Frame) (board : Position) → IsSound problem → Walking frames board → length frames ≤ 33
+  few frames board s r = omega (arith, room-length _ (reverse frames) r.roomy, at_most phase, length-reverse frames)
+    where
+      at_most : (b : Phase) → cond (is_set b) (half_moves problem.stipulation - 1) (half_moves problem.stipulation) ≤ 32
+      at_most Set = omega (arith, in_range problem s)
+      at_most Play = in_range problem s
+
+  -- a path is given: the events to come lose their first, and the solutions come to as many as before
+  module _ (count : ℕ) (paths rest : List (List Move)) (frames : List Frame) (board : Position) (deep : 2 ≤ length frames)
+      (kept : keep help (problem.max_solutions - count) paths ≡ top frames ∷ keep help (problem.max_solutions - count - here frames) rest)
+      (begun : beginning_count help (problem.max_solutions - count) paths
+      ≡ here frames + beginning_count help (problem.max_solutions - count - here frames) rest)
+      (r : Walking frames board) (next : ℕ) (n : next ≡ count + more (length frames)) where
+    more-here : more (length frames) ≡ here frames
+    more-here = grind (arith, path-length, length-reverse, nat_tests)
+
+    left-is : problem.max_solutions - count - here frames ≡ problem.max_solutions - next
+    left-is = omega (arith, n, more-here)
+
+    counts-next : next + beginning_count help (problem.max_solutions - next) rest ≡ count + beginning_count help (problem.max_solutions - count) paths
+    counts-next = rw (begun, left-is) (omega (arith, n, more-here))
+
+    stands-on : StandsOn rule problem (path_event problem phase (top frames)) board (length frames)
+    stands-on = grind (arith, path_end-path, path-length, length-reverse)
+
+    gives-next : (event : Event) → event ≡ event_of rule problem (path_event problem phase (top frames))
+        → Gives rule problem (events_left problem phase count paths) (events_left problem phase next rest) event board (length frames)
+    gives-next event e = record {
+      bare = path_event problem phase (top frames);
+      left = rw (← counts-next, kept, left-is) refl;
+      event_is = e;
+      stands = stands-on;
+    }
+
+  -- the part's own path; the board stands as it was left
+  module _ (front : List Move) (frames : List Frame) (board : Position) (sound : IsSound problem) (s : Stands front First frames board) where
+    pub first-asks : (2 ≤ length frames) × (length frames ≤ 33) × Walking frames board × IsEnded rule (plan_of problem) (reverse frames) board
+    unfolding StandsInPart
+    first-asks = search (rules, length-reverse, few)
+
+    some : 0 < problem.max_solutions - 0
+    some = omega (arith, sound.some_solution)
+
+    kept-first : keep help (problem.max_solutions - 0) (top frames ∷ phase_paths rule problem phase (reverse frames))
+        ≡ top frames ∷ keep help (problem.max_solutions - 0 - here frames) (phase_paths rule problem phase (reverse frames))
+    kept-first = keep-next help _ _ _ _ refl (λ b. some)
+
+    begun-first : beginning_count help (problem.max_solutions - 0) (top frames ∷ phase_paths rule problem phase (reverse frames))
+        ≡ here frames + beginning_count help (problem.max_solutions - 0 - here frames) (phase_paths rule problem phase (reverse frames))
+    begun-first = beginning_count-next help _ _ _ _ refl (λ b. some)
+
+    module _ (stand : Position) (stays : stand ≡ board) (next : ℕ) (n : next ≡ 0 + more (length frames)) where
+      pub first-stands : Stands front (Within next) frames stand
+      unfolding StandsInPart part_paths
+      first-stands = rw stays (record {
+        walking = first-asks.2;
+        most = grind arith;
+        counts = counts-next 0 _ _ frames board first-asks.0 kept-first begun-first first-asks.2 next n ∙ s.0.counts;
+      })
+
+      pub first-gives : (event : Event) → event ≡ event_of rule problem (path_event problem phase (top frames))
+          → Gives rule problem (left_at First frames) (left_at (Within next) frames) event stand (length frames)
+      unfolding part_left part_paths
+      first-gives event e = rw stays (gives-next 0 _ _ frames board first-asks.0 kept-first begun-first first-asks.2 next n event e)
+
+  module _ (count : ℕ) (own : List Move) (old : List Frame) (from : Position) (in_part : StandsInPart rule problem phase own (Within count) old from) where
+    pub most : count ≤ problem.max_solutions
+    unfolding StandsInPart
+    most = in_part.most
+
+    pub walking : IsWalking rule (phase_half_moves problem phase) (phase_start problem phase) old from
+    unfolding StandsInPart
+    walking = in_part.walking
+
+    abbrev Walked : List Frame → Position → Bool → Type 0
+    Walked frames board given = Walks rule (plan_of problem) (phase_half_moves problem phase) (phase_start problem phase) (problem.max_solutions - count)
+        old frames board given
+
+    -- a path behind it; board and frames stand as they were left
+    module _ (frames : List Frame) (board : Position) (w : Walked (reverse frames) board true) where
+      pub deep-here : 2 ≤ length frames
+      deep-here = omega (arith, w.deep refl, length-reverse frames)
+
+      pub room-here : more (length frames) ≤ problem.max_solutions - count
+      room-here = grind (arith, path-length, length-reverse, deep-here, nat_tests)
+
+      pub few-here : IsSound problem → length frames ≤ 33
+      few-here s = few frames board s w.walking
+
+      module _ (left : List Frame) (stand : Position) (same : left ≡ frames) (stays : stand ≡ board) where
+        pub given-stands : (front : List Move) → StandsInPart rule problem phase front (Within count) old from
+            → (next : ℕ) → next ≡ count + more (length frames) → Stands front (Within next) left stand
+        unfolding StandsInPart part_paths
+        given-stands front s next n = rw (same, stays) (record {
+          walking = w.walking;
+          most = omega (arith, n, room-here, most);
+          counts = counts-next count _ _ frames board deep-here (w.come refl) (w.starts refl) w.walking next n ∙ s.counts;
+        })
+
+        pub given-gives : (next : ℕ) → next ≡ count + more (length frames) → (event : Event)
+            → event ≡ event_of rule problem (path_event problem phase (top frames))
+            → Gives rule problem (part_left rule problem phase (Within count) old) (left_at (Within next) left) event stand (length left)
+        unfolding part_left part_paths
+        given-gives next n event e = rw (same, stays)
+            (gives-next count _ _ frames board deep-here (w.come refl) (w.starts refl) w.walking next n event e)
+
+    -- its end
+    module _ (mid : List Frame) (now : Position) (w : Walked mid now false) where
+      pub ended-gives : (new : List Frame) (board : Position) (depth : ℕ) (event : Event) → event ≡ Total count (eqb count problem.max_solutions)
+          → Gives rule problem (part_left rule problem phase (Within count) old) (left_at Behind new) event board depth
+      unfolding part_left part_paths
+      ended-gives new board depth event e = search rules
+
+      module _ (front : List Move) (s : StandsInPart rule problem phase front (Within count) old from) where
+        stopped : problem.max_solutions - count ≡ 0 → is_part_stopped rule problem phase front ≡ true
+        unfolding StandsInPart part_paths
+        stopped e = search rules
+
+        nothing_open : is_part_stopped rule problem phase front ≡ false → to_open rule (phase_start problem phase) mid ≡ 0
+        unfolding to_open
+        nothing_open none = search (rules, stopped)
+
+        pub ended-opens : (new : List Frame) (before after : ℕ) → new ≡ []
+            → Opens rule (plan_of problem) (phase_start problem phase) old mid before after
+            → IsPartOpened rule problem phase front old before → IsPartOpened rule problem phase front (reverse new) after
+        unfolding to_open
+        ended-opens new before after none x o = λ help still.
+            rw none (subst (IsCounted (part_walk rule problem phase front) after) (nothing_open still) (x.counted help _ (o help still)))

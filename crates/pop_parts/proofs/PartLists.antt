@@ -1,0 +1,226 @@
+-- Lists of moves that begin as a part does: each stands in one part, and the parts joined are all of them.
+use Rattle.pop_solve.proofs.Words.{AllPairs, Bool, Contains, Game, List, Move, Position, Precedes, [], ap, append-nil, arith, cond, eqb, false, filter, filter-append, first_in, flat_map, flat_map-append, from_flat_map, from_map, in_cases, in_flat_map, in_map, inl, inr, later_in, length, lines_to_goal, map, map-append, nat_tests, none_in_nil, pairs_flat_map, pairs_map, pairs_nil, pairs_of, path_end, refl, rules, subst, suc, sym, take, true, zero, ℕ, ◌&&◌, ◌++◌, ◌-◌, ◌<◌, ◌∙◌, ◌∷◌, ◌≡◌, ◌≤◌}
+use Rattle.std.proofs.lemmas.List.Folds.{flat_map-map}
+use Rattle.std.proofs.lemmas.Simd.{map-map}
+use Rattle.chess_core.specs.MoveOrder.{triple_number}
+use Rattle.chess_rules.proofs.listing_moves.Members.{pairs_first, pairs_later}
+use Rattle.pop_solve.proofs.Kept.{map-same}
+use Rattle.pop_solve.proofs.theorems.Lists.{IsPlayable, StandsBefore}
+use Rattle.pop_solve.proofs.Trees.{flat-same}
+use Rattle.pop_parts.specs.PhaseParts.{beginnings, begins_path, begins_so}
+
+-- lists joined
+module _ {A B : Type 0} where
+  pub filter-map : (test : B → Bool) (f : A → B) (xs : List A) → filter test (map f xs) ≡ map f (filter (λ x. test (f x)) xs)
+  filter-map test f [] = refl
+  filter-map test f (x ∷ xs) = search (rules, filter-map test f xs)
+
+  pub filter-flat : (test : B → Bool) (F : A → List B) (xs : List A) → filter test (flat_map F xs) ≡ flat_map (λ x. filter test (F x)) xs
+  filter-flat test F [] = refl
+  filter-flat test F (x ∷ xs) = filter-append test (F x) (flat_map F xs) ∙ ap (λ ys. filter test (F x) ++ ys) (filter-flat test F xs)
+
+  pub flat-in : (F G : A → List B) (xs : List A) → ((x : A) → Contains xs x → F x ≡ G x) → flat_map F xs ≡ flat_map G xs
+  flat-in F G [] same = refl
+  flat-in F G (x ∷ xs) same = rw (same x (first_in x xs), flat-in F G xs (λ y c. same y (later_in x xs y c))) refl
+
+  pub map-flat : {C : Type 0} (f : B → C) (F : A → List B) (xs : List A) → map f (flat_map F xs) ≡ flat_map (λ x. map f (F x)) xs
+  map-flat f F [] = refl
+  map-flat f F (x ∷ xs) = map-append f (F x) (flat_map F xs) ∙ ap (λ ys. map f (F x) ++ ys) (map-flat f F xs)
+
+  pub flat-flat : {C : Type 0} (G : B → List C) (F : A → List B) (xs : List A) → flat_map G (flat_map F xs) ≡ flat_map (λ x. flat_map G (F x)) xs
+  flat-flat G F [] = refl
+  flat-flat G F (x ∷ xs) = flat_map-append G (F x) (flat_map F xs) ∙ ap (λ ys. flat_map G (F x) ++ ys) (flat-flat G F xs)
+
+  pub map-each : (f g : A → B) (xs : List A) → ((x : A) → f x ≡ g x) → map f xs ≡ map g xs
+  map-each f g [] same = refl
+  map-each f g (x ∷ xs) same = rw (same x, map-each f g xs same) refl
+
+-- of what is joined over moves in order, that of one, where that of every other is empty
+module _ {B : Type 0} (F : Move → List B) (m : Move) (apart : (x : Move) → eqb (triple_number m) (triple_number x) ≡ false → F x ≡ []) where
+  behind-none : (ms : List Move) → ((x : Move) → Contains ms x → triple_number m < triple_number x) → flat_map F ms ≡ []
+  behind-none [] less = refl
+  behind-none (x ∷ ms) less =
+      let l = less x (first_in x ms) in
+      let a : F x ≡ [] = apart x (grind (arith, nat_tests)) in
+      rw (a, behind-none ms (λ y c. less y (later_in x ms y c))) refl
+
+  pub one-of : (ms : List Move) → AllPairs Precedes ms → Contains ms m → flat_map F ms ≡ F m
+  one-of [] order c = absurd (none_in_nil m c)
+  one-of (x ∷ ms) order c = elim (in_cases x ms m c) [
+    | inl same ↦
+        rw (behind-none ms (λ y d. subst (λ z. triple_number z < triple_number y) same (pairs_first Precedes x ms order y d)))
+        (append-nil (F x) ∙ ap F same)
+    | inr later ↦
+        let l = pairs_first Precedes x ms order m later in
+        let a : F x ≡ [] = apart x (grind (arith, nat_tests)) in
+        rw a (one-of ms (pairs_later Precedes x ms order) later)
+  ]
+
+-- a line behind a first move begins as a part does where that move is the part's first and the rest begins as the part goes on
+pub fronts-under : (m : Move) (front : List Move) (x : Move) (b : Bool) → eqb (triple_number m) (triple_number x) ≡ b → (lines : List (List Move))
+    → filter (begins_path (m ∷ front)) (map (λ line. x ∷ line) lines) ≡ cond b (map (λ line. x ∷ line) (filter (begins_path front) lines)) []
+unfolding begins_path
+fronts-under m front x true e [] = refl
+fronts-under m front x false e [] = refl
+fronts-under m front x true e (line ∷ lines) = search (rules, fronts-under m front x true e lines)
+fronts-under m front x false e (line ∷ lines) = search (rules, fronts-under m front x false e lines)
+
+pub same-number : (m : Move) → eqb (triple_number m) (triple_number m) ≡ true
+same-number m = grind (arith, nat_tests)
+
+pub front-all : (lines : List (List Move)) → filter (begins_path []) lines ≡ lines
+unfolding begins_path
+front-all [] = refl
+front-all (line ∷ lines) = ap (λ ls. line ∷ ls) (front-all lines)
+
+module _ (game : Game Position Move) where
+  -- the lines that go on behind each of the beginnings
+  pub beginnings-lines : (d h : ℕ) (p : Position) → d ≤ h
+      → flat_map (λ front. map (λ line. front ++ line) (lines_to_goal game (h - length front) (path_end game.after p front))) (beginnings game d p)
+      ≡ lines_to_goal game h p
+  unfolding lines_to_goal beginnings
+  beginnings-lines zero h p most =
+      let e : h - 0 ≡ h = omega arith in rw e (append-nil _ ∙ map-same (lines_to_goal game h p))
+  beginnings-lines (suc d) zero p most = absurd (omega (arith, most))
+  beginnings-lines (suc d) (suc h) p most =
+      let F : List Move → List (List Move) =
+      λ front. map (λ line. front ++ line) (lines_to_goal game (suc h - length front) (path_end game.after p front)) in
+      flat-flat F (λ m. map (λ rest. m ∷ rest) (beginnings game d (game.after p m))) (game.moves p)
+      ∙ flat-same _ _ (game.moves p) (λ m. flat_map-map F (λ rest. m ∷ rest) (beginnings game d (game.after p m))
+      ∙ flat-same _ _ (beginnings game d (game.after p m)) (λ rest. behind m rest)
+      ∙ sym (map-flat (λ line. m ∷ line) (λ front. map (λ line. front ++ line) (lines_to_goal game (h - length front)
+      (path_end game.after (game.after p m) front))) (beginnings game d (game.after p m)))
+      ∙ ap (map (λ line. m ∷ line)) (beginnings-lines d h (game.after p m) (omega (arith, most))))
+    where
+      behind : (m : Move) (rest : List Move)
+          → map (λ line. (m ∷ rest) ++ line) (lines_to_goal game (suc h - length (m ∷ rest)) (path_end game.after p (m ∷ rest)))
+          ≡ map (λ line. m ∷ line) (map (λ line. rest ++ line) (lines_to_goal game (h - length rest) (path_end game.after (game.after p m) rest)))
+      behind m rest =
+          let e : suc h - length (m ∷ rest) ≡ h - length rest = omega arith in
+          rw e (sym (map-map (λ line. m ∷ line) (λ line. rest ++ line) (lines_to_goal game (h - length rest) (path_end game.after (game.after p m) rest))))
+
+  -- each of the beginnings can be played and has so many moves
+  pub beginnings-play : (d : ℕ) (p : Position) (front : List Move) → Contains (beginnings game d p) front
+      → IsPlayable game p front × (length front ≡ d)
+  unfolding beginnings
+  beginnings-play zero p front c = elim (in_cases [] [] front c) [
+    | inl same ↦ subst (λ l. IsPlayable game p l × (length l ≡ 0)) same (tt, refl)
+    | inr none ↦ absurd (none_in_nil front none)
+  ]
+  beginnings-play (suc d) p front c =
+      let w = from_flat_map (λ m. map (λ rest. m ∷ rest) (beginnings game d (game.after p m))) (game.moves p) front c in
+      let r = from_map (λ rest. w.0 ∷ rest) (beginnings game d (game.after p w.0)) front w.2 in
+      let i = beginnings-play d (game.after p w.0) r.0 r.1 in
+      subst (λ l. IsPlayable game p l × (length l ≡ suc d)) r.2 ((w.1, i.0), omega (arith, i.1))
+
+  -- and each such list is one of them
+  pub in-beginnings : (d : ℕ) (p : Position) (front : List Move) → IsPlayable game p front → length front ≡ d → Contains (beginnings game d p) front
+  unfolding beginnings
+  in-beginnings zero p [] are long = first_in [] []
+  in-beginnings zero p (m ∷ front) are long = absurd (omega (arith, long))
+  in-beginnings (suc d) p [] are long = absurd (omega (arith, long))
+  in-beginnings (suc d) p (m ∷ front) are long =
+      in_flat_map (λ m. map (λ rest. m ∷ rest) (beginnings game d (game.after p m))) (game.moves p) m (m ∷ front) are.0
+      (in_map (λ rest. m ∷ rest) (beginnings game d (game.after p m)) front (in-beginnings d (game.after p m) front are.1 (omega (arith, long))))
+
+module _ (game : Game Position Move) (order : (p : Position) → AllPairs Precedes (game.moves p)) where
+  -- the lines of help play that begin with moves that can be played
+  pub front-lines : (h : ℕ) (p : Position) (front : List Move) → IsPlayable game p front → length front ≤ h
+      → filter (begins_path front) (lines_to_goal game h p)
+      ≡ map (λ line. front ++ line) (lines_to_goal game (h - length front) (path_end game.after p front))
+  unfolding lines_to_goal
+  front-lines h p [] are most =
+      let e : h - 0 ≡ h = omega arith in rw e (front-all (lines_to_goal game h p) ∙ sym (map-same (lines_to_goal game h p)))
+  front-lines zero p (m ∷ front) are most = absurd (omega (arith, most))
+  front-lines (suc h) p (m ∷ front) are most =
+      let G : Move → List (List Move) = λ x. map (λ line. x ∷ line) (lines_to_goal game h (game.after p x)) in
+      let e : suc h - length (m ∷ front) ≡ h - length front = omega arith in
+      let rest = front-lines h (game.after p m) front are.1 (omega (arith, most)) in
+      rw e (filter-flat (begins_path (m ∷ front)) G (game.moves p)
+      ∙ one-of (λ x. filter (begins_path (m ∷ front)) (G x)) m (λ x f. fronts-under m front x false f (lines_to_goal game h (game.after p x))) (game.moves p)
+      (order p) are.0
+      ∙ fronts-under m front m true (same-number m) (lines_to_goal game h (game.after p m))
+      ∙ ap (map (λ line. m ∷ line)) rest
+      ∙ map-map (λ line. m ∷ line) (λ line. front ++ line) (lines_to_goal game (h - length front) (path_end game.after (game.after p m) front)))
+
+  -- they stand in the order of the moves
+  pub beginnings-stand : (d : ℕ) (p : Position) → AllPairs (StandsBefore Precedes) (beginnings game d p)
+  unfolding beginnings
+  beginnings-stand zero p = grind (arith, pairs_of, none_in_nil, pairs_nil)
+  beginnings-stand (suc d) p =
+      pairs_flat_map Precedes (StandsBefore Precedes) (λ m. map (λ rest. m ∷ rest) (beginnings game d (game.after p m))) (game.moves p) (order p)
+      (λ m. pairs_map (StandsBefore Precedes) (StandsBefore Precedes) (λ rest. m ∷ rest) (beginnings game d (game.after p m))
+      (λ x y before. inr (refl, before)) (beginnings-stand d (game.after p m)))
+      (λ m n less a b c e. across m n less a b (from_map (λ rest. m ∷ rest) (beginnings game d (game.after p m)) a c)
+      (from_map (λ rest. n ∷ rest) (beginnings game d (game.after p n)) b e))
+    where
+      across : (m n : Move) → Precedes m n → (a b : List Move) → ((x : List Move) × Contains (beginnings game d (game.after p m)) x × (m ∷ x ≡ a))
+          → ((y : List Move) × Contains (beginnings game d (game.after p n)) y × (n ∷ y ≡ b)) → StandsBefore Precedes a b
+      across m n less a b x y = rw (← x.2, ← y.2) (inl less)
+
+  -- of the beginnings a line that can be played begins with one alone
+  pub beginnings-one : (d : ℕ) (p : Position) (line : List Move) → IsPlayable game p line → d ≤ length line
+      → filter (λ front. begins_path front line) (beginnings game d p) ≡ take d line ∷ []
+  unfolding beginnings begins_path
+  beginnings-one zero p line are most = refl
+  beginnings-one (suc d) p [] are most = absurd (omega (arith, most))
+  beginnings-one (suc d) p (x ∷ line) are most =
+      let T : List Move → Bool = λ front. begins_path front (x ∷ line) in
+      let F : Move → List (List Move) = λ m. map (λ rest. m ∷ rest) (beginnings game d (game.after p m)) in
+      filter-flat T F (game.moves p)
+      ∙ one-of (λ m. filter T (F m)) x (λ m e. filter-map T (λ rest. m ∷ rest) (beginnings game d (game.after p m)) ∙ none m (grind (arith, nat_tests))
+      (beginnings game d (game.after p m))) (game.moves p) (order p) are.0
+      ∙ filter-map T (λ rest. x ∷ rest) (beginnings game d (game.after p x))
+      ∙ ap (map (λ rest. x ∷ rest)) (here (beginnings game d (game.after p x)) ∙ beginnings-one d (game.after p x) line are.1 (omega (arith, most)))
+    where
+      none : (m : Move) → eqb (triple_number m) (triple_number x) ≡ false → (rests : List (List Move))
+          → map (λ rest. m ∷ rest) (filter (λ rest. eqb (triple_number m) (triple_number x) && begins_path rest line) rests) ≡ []
+      none m e [] = refl
+      none m e (r ∷ rests) = search (rules, none m e rests)
+
+      here : (rests : List (List Move))
+          → filter (λ rest. eqb (triple_number x) (triple_number x) && begins_path rest line) rests ≡ filter (λ rest. begins_path rest line) rests
+      here rests = rw (same-number x) refl
+
+-- solutions of battle play: those of one move of the root
+pub root-part : (other : Move → Bool) (G : Move → List (List Move)) (m : Move) (ms : List Move) → AllPairs Precedes ms → Contains ms m
+    → filter (begins_so (m ∷ [])) (map (λ x. (x ∷ []) ∷ G x) (filter other ms)) ≡ map (λ x. (x ∷ []) ∷ G x) (filter other (m ∷ []))
+unfolding begins_path
+root-part other G m ms order c =
+    let N : Move → List (List (List Move)) = λ x. cond (other x) (((x ∷ []) ∷ G x) ∷ []) [] in
+    let T : List (List Move) → Bool = begins_so (m ∷ []) in
+    ap (filter T) (joined ms) ∙ filter-flat T N ms
+    ∙ one-of (λ x. filter T (N x)) m (λ x e. apart x (other x) e) ms order c ∙ alone (other m)
+    ∙ sym (append-nil (N m)) ∙ sym (joined (m ∷ []))
+  where
+    joined : (xs : List Move) → map (λ x. (x ∷ []) ∷ G x) (filter other xs) ≡ flat_map (λ x. cond (other x) (((x ∷ []) ∷ G x) ∷ []) []) xs
+    joined [] = refl
+    joined (x ∷ xs) = search (rules, joined xs)
+
+    apart : (x : Move) (b : Bool) → eqb (triple_number m) (triple_number x) ≡ false
+        → filter (begins_so (m ∷ [])) (cond b (((x ∷ []) ∷ G x) ∷ []) []) ≡ []
+    apart x b e = search rules
+
+    alone : (b : Bool) → filter (begins_so (m ∷ [])) (cond b (((m ∷ []) ∷ G m) ∷ []) []) ≡ cond b (((m ∷ []) ∷ G m) ∷ []) []
+    alone b = search (rules, same-number)
+
+-- and these of all moves, one move after another
+pub each-own : {B : Type 0} (other : Move → Bool) (N : Move → B) (ms : List Move)
+    → flat_map (λ x. map N (filter other (x ∷ []))) ms ≡ map N (filter other ms)
+each-own other N [] = refl
+each-own other N (x ∷ ms) = search (rules, each-own other N ms)
+
+-- the first of joined lists are the first of their first
+module _ {A B : Type 0} (F : A → List B) where
+  first-behind : (k n : ℕ) → k ≤ n → (xs ys zs : List B) → ((j : ℕ) → j ≤ k → take j ys ≡ take j zs) → take k (take n xs ++ ys) ≡ take k (xs ++ zs)
+  first-behind k zero most [] ys zs same = same k (omega arith)
+  first-behind k (suc n) most [] ys zs same = same k (omega arith)
+  first-behind zero n most (x ∷ xs) ys zs same = refl
+  first-behind (suc k) zero most (x ∷ xs) ys zs same = absurd (omega (arith, most))
+  first-behind (suc k) (suc n) most (x ∷ xs) ys zs same =
+      ap (λ l. x ∷ l) (first-behind k n (omega (arith, most)) xs ys zs (λ j less. same j (omega (arith, less))))
+
+  pub first-of-firsts : (k n : ℕ) → k ≤ n → (xs : List A) → take k (flat_map (λ x. take n (F x)) xs) ≡ take k (flat_map F xs)
+  first-of-firsts k n most [] = refl
+  first-of-firsts k n most (x ∷ xs) =
+      first-behind k n most (F x) (flat_map (λ x. take n (F x)) xs) (flat_map F xs) (λ j less. first-of-firsts j n (omega (arith, less, most)) xs)

@@ -1,0 +1,169 @@
+-- What the walk shows behind a part's first moves is the part's solutions.
+use Rattle.pop_solve.proofs.Words.{Bool, Contains, IsSound, IsWellFormed, List, Move, Posed, Position, RuleSet, [], after_well_formed, and_parts, ap, append-nil, append_assoc, arith, chess, eqb, false, filter, help_lines, is_help, is_legal, is_pseudo_legal-from_legal, length, length-append, lines_to_goal, map, moves_are_the_legal_moves, moves_in_order, path_end, phase_half_moves, phase_start, plan_of, refl, set_tree, shown_paths, solutions, subst, suc, sym, tree, true, zero, ℕ, ◌++◌, ◌+◌, ◌-◌, ◌∙◌, ◌∷◌, ◌≡◌, ◌≤◌}
+use Rattle.pop_solve.specs.declared.event.Phase.{Phase}
+use Rattle.pop_solve.specs.declared.event.Phase.TheVariants.{Play, Set}
+use Rattle.std.proofs.lemmas.Simd.{map-map}
+use Rattle.chess_rules.specs.Legal.{moves as legal_moves}
+use Rattle.chess_rules.specs.Play.{position_after}
+use Rattle.pop_solve.proofs.Kept.{map-same}
+use Rattle.pop_parts.proofs.PartLists.{front-lines, filter-map, map-each, root-part}
+use Rattle.pop_solve.proofs.Paths.{path_end-append}
+use Rattle.pop_solve.proofs.PhasePaths.{game_of, its_battle, play_paths, set_paths}
+use Rattle.pop_solve.proofs.Solved.{IsCutInto, halves-form, lines-begun, lines-kept, set-cut, set_by, shown_paths-varied, tree-cut, tree_by}
+use Rattle.pop_solve.proofs.Sound.{start_sound}
+use Rattle.pop_solve.proofs.Trees.{shown_paths-moves}
+use Rattle.pop_solve.proofs.theorems.Lists.{IsPlayable}
+use Rattle.pop_parts.specs.PhaseParts.{begins_path, begins_so, part_solutions}
+use Rattle.pop_parts.specs.ties.PartsSeen.{are_legal}
+
+module _ (rule : RuleSet) (problem : Posed) where
+  -- legal moves can be played
+  pub is_legal-playable : (p : Position) → IsWellFormed p → (front : List Move) → are_legal rule p front ≡ true → IsPlayable (game_of rule problem) p front
+  unfolding are_legal
+  is_legal-playable p well [] may = tt
+  is_legal-playable p well (m ∷ ms) may =
+      let w = and_parts (is_legal rule p m) (are_legal rule (position_after rule p m) ms) may in (
+        (moves_are_the_legal_moves rule p m well).1 w.0,
+        is_legal-playable (position_after rule p m) (after_well_formed rule p m well (is_pseudo_legal-from_legal rule p m w.0)) ms w.1,
+      )
+
+  -- help play: the lines that go on behind some moves
+  abbrev pub lines-behind : Phase → List Move → List (List Move)
+  lines-behind phase front = map (λ line. front ++ line) (lines_to_goal (game_of rule problem) (phase_half_moves problem phase - length front)
+      (path_end (position_after rule) (phase_start problem phase) front))
+
+  each-alone : (h : ℕ) (p : Position) (front : List Move) → 1 ≤ h
+      → filter (begins_so front) (map (λ path. path ∷ []) (help_lines (game_of rule problem) h p))
+      ≡ map (λ path. path ∷ []) (filter (begins_path front) (lines_to_goal (game_of rule problem) h p))
+  unfolding help_lines
+  each-alone zero p front some = absurd (omega (arith, some))
+  each-alone (suc h) p front some = filter-map (begins_so front) (λ path. path ∷ []) (lines_to_goal (game_of rule problem) (suc h) p)
+
+  pub help-part : is_help problem.stipulation.form ≡ true → (phase : Phase) (front : List Move)
+      → IsPlayable (game_of rule problem) (phase_start problem phase) front → length front ≤ phase_half_moves problem phase
+      → 1 ≤ phase_half_moves problem phase → part_solutions rule problem phase front ≡ map (λ path. path ∷ []) (lines-behind phase front)
+  unfolding part_solutions solutions
+  help-part help phase front are most some =
+      rw help (each-alone (phase_half_moves problem phase) (phase_start problem phase) front some
+      ∙ ap (map (λ path. path ∷ [])) (front-lines (game_of rule problem) (moves_in_order rule) (phase_half_moves problem phase)
+      (phase_start problem phase) front are most))
+
+  -- battle play, of h + 1 half-moves: the solutions that begin with some moves
+  abbrev pub battle-by : Phase → ℕ → List Move → List (List (List Move))
+  battle-by Set h ms = set_by (its_battle problem) (game_of rule problem) problem.variation problem.stipulation.n h (phase_start problem Set) ms
+  battle-by Play h ms = tree_by (its_battle problem) (game_of rule problem) problem.variation problem.stipulation.n (suc h) (phase_start problem Play) ms
+
+  pub battle-solutions : is_help problem.stipulation.form ≡ false → (phase : Phase) (h : ℕ) → phase_half_moves problem phase ≡ suc h
+      → solutions rule problem phase ≡ battle-by phase h (legal_moves rule (phase_start problem phase))
+  unfolding set_tree
+  battle-solutions battle Set h z = set_paths rule problem battle
+      ∙ ap (λ x. set_tree (its_battle problem) (game_of rule problem) problem.variation problem.stipulation.n x (phase_start problem Set)) z
+  battle-solutions battle Play h z = play_paths rule problem battle
+      ∙ ap (λ x. tree (its_battle problem) (game_of rule problem) problem.variation problem.stipulation.n x (phase_start problem Play)) z
+
+  of-one : (phase : Phase) (h : ℕ) (m : Move) → Contains (legal_moves rule (phase_start problem phase)) m
+      → filter (begins_so (m ∷ [])) (battle-by phase h (legal_moves rule (phase_start problem phase))) ≡ battle-by phase h (m ∷ [])
+  of-one Set h m c = root-part _ _ m (legal_moves rule (phase_start problem Set)) (moves_in_order rule (phase_start problem Set)) c
+  of-one Play h m c = root-part _ _ m (legal_moves rule (phase_start problem Play)) (moves_in_order rule (phase_start problem Play)) c
+
+  pub battle-part : is_help problem.stipulation.form ≡ false → (phase : Phase) (h : ℕ) → phase_half_moves problem phase ≡ suc h
+      → (m : Move) → Contains (legal_moves rule (phase_start problem phase)) m → part_solutions rule problem phase (m ∷ []) ≡ battle-by phase h (m ∷ [])
+  unfolding part_solutions
+  battle-part battle phase h z m c = ap (filter (begins_so (m ∷ []))) (battle-solutions battle phase h z) ∙ of-one phase h m c
+
+  -- what the walk shows behind some moves in help play
+  walked : is_help problem.stipulation.form ≡ true → (start : Bool) (h : ℕ) (p : Position) (front : List Move) (m : Move) → length front + 1 ≤ h
+      → map (λ line. front ++ line) (shown_paths (plan_of problem) (game_of rule problem) start (h - length front) (h - length front)
+      (path_end (position_after rule) p front) (m ∷ []))
+      ≡ map (λ line. (front ++ m ∷ []) ++ line) (lines_to_goal (game_of rule problem) (h - length (front ++ m ∷ []))
+      (path_end (position_after rule) p (front ++ m ∷ [])))
+  walked help start h p front m room =
+      let k : ℕ = h - length (front ++ m ∷ []) in
+      let e : h - length front ≡ suc k = omega (arith, length-append front (m ∷ []), room) in
+      let L : List (List Move) = lines_to_goal (game_of rule problem) k (position_after rule (path_end (position_after rule) p front) m) in
+      rw (e, path_end-append problem.stipulation.goal rule p front m)
+      (ap (map (λ line. front ++ line)) (shown_paths-moves (game_of rule problem) (plan_of problem) help start k (path_end (position_after rule) p front)
+      (m ∷ [])
+      ∙ append-nil (map (λ line. m ∷ line) L))
+      ∙ map-map (λ line. front ++ line) (λ line. m ∷ line) L
+      ∙ map-each _ _ L (λ line. sym (append_assoc front (m ∷ []) line)))
+
+  help-cut : is_help problem.stipulation.form ≡ true → IsSound problem → (phase : Phase) (front : List Move) (m : Move)
+      → length front + 1 ≤ phase_half_moves problem phase → are_legal rule (phase_start problem phase) (front ++ m ∷ []) ≡ true → (start : Bool)
+      → IsCutInto true problem.max_solutions
+      (map (λ line. front ++ line) (shown_paths (plan_of problem) (game_of rule problem) start
+      (phase_half_moves problem phase - length front) (phase_half_moves problem phase - length front)
+      (path_end (position_after rule) (phase_start problem phase) front) (m ∷ [])))
+      (part_solutions rule problem phase (front ++ m ∷ []))
+  help-cut help sound phase front m room may start =
+      let most : length (front ++ m ∷ []) ≤ phase_half_moves problem phase = omega (arith, length-append front (m ∷ []), room) in
+      let part = help-part help phase (front ++ m ∷ []) (is_legal-playable (phase_start problem phase) (start_sound problem sound phase) (front ++ m ∷ []) may)
+      most (omega (arith, room)) in
+      let way = walked help start (phase_half_moves problem phase) (phase_start problem phase) front m room in
+      let n : ℕ = problem.max_solutions in
+      let whole : IsCutInto true n (lines-behind phase (front ++ m ∷ [])) (map (λ path. path ∷ []) (lines-behind phase (front ++ m ∷ []))) =
+      record { kept = lines-kept n (lines-behind phase (front ++ m ∷ [])); begun = lines-begun n (lines-behind phase (front ++ m ∷ [])) } in
+      subst (λ xs. IsCutInto true n xs (part_solutions rule problem phase (front ++ m ∷ []))) (sym way)
+      (subst (λ sols. IsCutInto true n (lines-behind phase (front ++ m ∷ [])) sols) (sym part) whole)
+
+  one-cut : is_help problem.stipulation.form ≡ false → (phase : Phase) (h : ℕ) → phase_half_moves problem phase ≡ suc h → (m : Move)
+      → IsCutInto false problem.max_solutions (shown_paths (plan_of problem) (game_of rule problem) true (suc h) (suc h) (phase_start problem phase) (m ∷ []))
+      (battle-by phase h (m ∷ []))
+  one-cut battle Set h z m =
+      rw (shown_paths-varied problem.variation) at (set-cut (game_of rule problem) (plan_of problem) battle problem.stipulation.n h problem.max_solutions
+      (phase_start problem Set) (m ∷ []) (sym z ∙ ap (λ x. x - 1) (halves-form problem.stipulation.form problem.stipulation.n battle)))
+  one-cut battle Play h z m =
+      rw (shown_paths-varied problem.variation) at (tree-cut (game_of rule problem) (plan_of problem) battle problem.stipulation.n h problem.max_solutions
+      (phase_start problem Play) (m ∷ []) (sym z ∙ halves-form problem.stipulation.form problem.stipulation.n battle))
+
+  with-none : (n h k : ℕ) (p : Position) (ms : List Move) (sols : List (List (List Move))) → h ≡ suc k
+      → IsCutInto false n (shown_paths (plan_of problem) (game_of rule problem) true (suc k) (suc k) p ms) sols
+      → IsCutInto false n (map (λ line. [] ++ line) (shown_paths (plan_of problem) (game_of rule problem) true (h - 0) (h - 0) p ms)) sols
+  with-none n h k p ms sols z c =
+      let e : h - 0 ≡ suc k = omega (arith, z) in
+      rw (e, map-same (shown_paths (plan_of problem) (game_of rule problem) true (suc k) (suc k) p ms)) c
+
+  battle-cut : is_help problem.stipulation.form ≡ false → IsSound problem → (phase : Phase) (m : Move)
+      → 0 + 1 ≤ phase_half_moves problem phase → are_legal rule (phase_start problem phase) (m ∷ []) ≡ true
+      → IsCutInto false problem.max_solutions
+      (map (λ line. [] ++ line) (shown_paths (plan_of problem) (game_of rule problem) true
+      (phase_half_moves problem phase - 0) (phase_half_moves problem phase - 0) (phase_start problem phase) (m ∷ [])))
+      (part_solutions rule problem phase (m ∷ []))
+  battle-cut battle sound phase m room may =
+      let h : ℕ = phase_half_moves problem phase - 1 in
+      let z : phase_half_moves problem phase ≡ suc h = omega (arith, room) in
+      let c = is_legal-playable (phase_start problem phase) (start_sound problem sound phase) (m ∷ []) may in
+      subst (λ sols. IsCutInto false problem.max_solutions
+      (map (λ line. [] ++ line) (shown_paths (plan_of problem) (game_of rule problem) true
+      (phase_half_moves problem phase - 0) (phase_half_moves problem phase - 0) (phase_start problem phase) (m ∷ []))) sols)
+      (sym (battle-part battle phase h z m c.0))
+      (with-none problem.max_solutions (phase_half_moves problem phase) h (phase_start problem phase) (m ∷ []) (battle-by phase h (m ∷ [])) z
+      (one-cut battle phase h z m))
+
+-- behind a part's first moves, the last of which is still to be made, the walk shows the part's solutions
+pub part_cut : (rule : RuleSet) (problem : Posed) (sound : IsSound problem) (phase : Phase) (front : List Move) (m : Move)
+    → length front + 1 ≤ phase_half_moves problem phase → (is_help problem.stipulation.form ≡ false → front ≡ [])
+    → are_legal rule (phase_start problem phase) (front ++ m ∷ []) ≡ true
+    → IsCutInto (is_help problem.stipulation.form) problem.max_solutions
+    (map (λ line. front ++ line) (shown_paths (plan_of problem) (chess problem.stipulation.goal rule) (eqb (length front) 0)
+    (phase_half_moves problem phase - length front) (phase_half_moves problem phase - length front)
+    (path_end (position_after rule) (phase_start problem phase) front) (m ∷ [])))
+    (part_solutions rule problem phase (front ++ m ∷ []))
+part_cut rule problem sound phase front m room alone may = by_form (is_help problem.stipulation.form) refl
+  where
+    by_form : (b : Bool) → is_help problem.stipulation.form ≡ b
+        → IsCutInto b problem.max_solutions
+        (map (λ line. front ++ line) (shown_paths (plan_of problem) (chess problem.stipulation.goal rule) (eqb (length front) 0)
+        (phase_half_moves problem phase - length front) (phase_half_moves problem phase - length front)
+        (path_end (position_after rule) (phase_start problem phase) front) (m ∷ [])))
+        (part_solutions rule problem phase (front ++ m ∷ []))
+    by_form true help = help-cut rule problem help sound phase front m room may (eqb (length front) 0)
+    by_form false battle =
+        let Cut : List Move → Type 0 =
+        λ front. length front + 1 ≤ phase_half_moves problem phase → are_legal rule (phase_start problem phase) (front ++ m ∷ []) ≡ true
+        → IsCutInto false problem.max_solutions
+        (map (λ line. front ++ line) (shown_paths (plan_of problem) (chess problem.stipulation.goal rule) (eqb (length front) 0)
+        (phase_half_moves problem phase - length front) (phase_half_moves problem phase - length front)
+        (path_end (position_after rule) (phase_start problem phase) front) (m ∷ [])))
+        (part_solutions rule problem phase (front ++ m ∷ [])) in
+        subst Cut (sym (alone battle)) (battle-cut rule problem battle sound phase m) room may

@@ -1,0 +1,162 @@
+-- The parts of a phase joined are the phase, and each solution stands in one part.
+use Rattle.pop_solve.proofs.Words.{AllPairs, Bool, Contains, IsSound, List, Move, Posed, Precedes, RuleSet, [], ap, arith, cond, eqb, false, filter, flat_map, flat_map_single, from_filter, from_map, help_lines, is_barred, is_help, length, lines_to_goal, map, min, moves_in_order, nat_tests, none_in_nil, pairs_nil, phase_half_moves, phase_start, refl, set_tree, solutions, subst, suc, sym, true, zero, ℕ, ◌||◌, ◌↔◌, ◌∙◌, ◌∷◌, ◌≡◌, ◌≤◌}
+use Rattle.pop_solve.specs.declared.event.Phase.{Phase}
+use Rattle.pop_solve.specs.declared.event.Phase.TheVariants.{Play, Set}
+use Rattle.std.proofs.lemmas.List.Folds.{flat_map-map}
+use Rattle.chess_rules.specs.Legal.{moves as legal_moves}
+use Rattle.pop_solve.proofs.HelpPlay.{from_lines}
+use Rattle.pop_parts.proofs.PartLists.{beginnings-lines, beginnings-one, beginnings-play, beginnings-stand, each-own, flat-in, in-beginnings, map-flat}
+use Rattle.pop_parts.proofs.Parts.{battle-by, battle-part, battle-solutions, help-part, lines-behind}
+use Rattle.pop_solve.proofs.PhasePaths.{game_of}
+use Rattle.pop_solve.proofs.Sound.{some_way}
+use Rattle.pop_solve.proofs.theorems.Lists.{IsPlayable, StandsBefore}
+use Rattle.pop_parts.specs.PhaseParts.{beginnings, begins_so, part_depth, part_solutions, parts}
+
+module _ (rule : RuleSet) (problem : Posed) (phase : Phase) where
+  -- a phase of no half-moves has no parts and no solutions
+  parts-none : (depth : ℕ) → is_barred rule problem phase ≡ false → phase_half_moves problem phase ≡ 0 → parts rule problem phase depth ≡ []
+  unfolding parts
+  parts-none depth free z = let e : eqb (phase_half_moves problem phase) 0 ≡ true = rw z refl in rw (free, e) refl
+
+  -- the parts of any other
+  parts-some : (depth : ℕ) → is_barred rule problem phase ≡ false → 1 ≤ phase_half_moves problem phase
+      → parts rule problem phase depth ≡ beginnings (game_of rule problem) (part_depth problem phase depth) (phase_start problem phase)
+  unfolding parts
+  parts-some depth free some = let e : eqb (phase_half_moves problem phase) 0 ≡ false = grind (arith, nat_tests) in rw (free, e) refl
+
+  parts-help : (depth : ℕ) → is_barred rule problem phase ≡ false → 1 ≤ phase_half_moves problem phase → is_help problem.stipulation.form ≡ true
+      → parts rule problem phase depth ≡ beginnings (game_of rule problem) (min depth (phase_half_moves problem phase)) (phase_start problem phase)
+  parts-help depth free some help = rw help at (parts-some depth free some)
+
+  parts-battle : (depth : ℕ) → is_barred rule problem phase ≡ false → 1 ≤ phase_half_moves problem phase → is_help problem.stipulation.form ≡ false
+      → parts rule problem phase depth ≡ beginnings (game_of rule problem) 1 (phase_start problem phase)
+  parts-battle depth free some battle = rw battle at (parts-some depth free some)
+
+  pub parts-are : (depth : ℕ) → is_barred rule problem phase ≡ false → (h : ℕ) → phase_half_moves problem phase ≡ h → (front : List Move)
+      → Contains (parts rule problem phase depth) front
+      ↔ ((1 ≤ phase_half_moves problem phase) × IsPlayable (game_of rule problem) (phase_start problem phase) front
+      × (length front ≡ part_depth problem phase depth))
+  parts-are depth free zero z front =
+      (λ c. absurd (none_in_nil front (rw (parts-none depth free z) at c)), λ w. absurd (omega (arith, z, w.0)))
+  parts-are depth free (suc h) z front =
+      let e = parts-some depth free (omega (arith, z)) in
+      let d : ℕ = part_depth problem phase depth in (
+        λ c. let w = beginnings-play (game_of rule problem) d (phase_start problem phase) front (rw e at c) in (omega (arith, z), w.0, w.1),
+        λ w. rw e (in-beginnings (game_of rule problem) d (phase_start problem phase) front w.1 w.2),
+      )
+
+  -- the parts stand in the order of the moves
+  pub parts-stand : (depth : ℕ) → AllPairs (StandsBefore Precedes) (parts rule problem phase depth)
+  unfolding parts
+  parts-stand depth = by_test (is_barred rule problem phase || eqb (phase_half_moves problem phase) 0)
+    where
+      by_test : (b : Bool) → AllPairs (StandsBefore Precedes)
+          (cond b [] (beginnings (game_of rule problem) (part_depth problem phase depth) (phase_start problem phase)))
+      by_test true = pairs_nil (StandsBefore Precedes)
+      by_test false = beginnings-stand (game_of rule problem) (moves_in_order rule) (part_depth problem phase depth) (phase_start problem phase)
+
+  -- help play
+  help-some : (h : ℕ) → 1 ≤ h
+      → help_lines (game_of rule problem) h (phase_start problem phase) ≡ lines_to_goal (game_of rule problem) h (phase_start problem phase)
+  unfolding help_lines
+  help-some zero some = absurd (omega (arith, some))
+  help-some (suc h) some = refl
+
+  help-solutions : is_help problem.stipulation.form ≡ true → 1 ≤ phase_half_moves problem phase
+      → solutions rule problem phase
+      ≡ map (λ path. path ∷ []) (lines_to_goal (game_of rule problem) (phase_half_moves problem phase) (phase_start problem phase))
+  unfolding solutions
+  help-solutions help some = rw help (ap (map (λ path. path ∷ [])) (help-some (phase_half_moves problem phase) some))
+
+  help-joined : is_help problem.stipulation.form ≡ true → 1 ≤ phase_half_moves problem phase → (d : ℕ) → d ≤ phase_half_moves problem phase
+      → flat_map (part_solutions rule problem phase) (beginnings (game_of rule problem) d (phase_start problem phase)) ≡ solutions rule problem phase
+  help-joined help some d most =
+      let fronts = beginnings (game_of rule problem) d (phase_start problem phase) in
+      flat-in (part_solutions rule problem phase) (λ front. map (λ path. path ∷ []) (lines-behind rule problem phase front)) fronts
+      (λ front c. let w = beginnings-play (game_of rule problem) d (phase_start problem phase) front c in
+      help-part rule problem help phase front w.0 (omega (arith, w.1, most)) some)
+      ∙ sym (map-flat (λ path. path ∷ []) (lines-behind rule problem phase) fronts)
+      ∙ ap (map (λ path. path ∷ []))
+      (beginnings-lines (game_of rule problem) d (phase_half_moves problem phase) (phase_start problem phase) most)
+      ∙ sym (help-solutions help some)
+
+  help-once : is_help problem.stipulation.form ≡ true → 1 ≤ phase_half_moves problem phase → (d : ℕ) → d ≤ phase_half_moves problem phase
+      → (s : List (List Move)) → Contains (solutions rule problem phase) s
+      → length (filter (λ front. begins_so front s) (beginnings (game_of rule problem) d (phase_start problem phase))) ≡ 1
+  help-once help some d most s c =
+      let w = from_map (λ path. path ∷ []) (lines_to_goal (game_of rule problem) (phase_half_moves problem phase) (phase_start problem phase)) s
+      (rw (help-solutions help some) at c) in
+      let l = from_lines (game_of rule problem) (phase_half_moves problem phase) (phase_start problem phase) w.0 w.1 in
+      subst (λ s. length (filter (λ front. begins_so front s) (beginnings (game_of rule problem) d (phase_start problem phase))) ≡ 1) w.2
+      (ap length (beginnings-one (game_of rule problem) (moves_in_order rule) d (phase_start problem phase) w.0 l.1 (omega (arith, l.0, most))))
+
+  -- battle play
+  beginnings-each : beginnings (game_of rule problem) 1 (phase_start problem phase) ≡ map (λ m. m ∷ []) (legal_moves rule (phase_start problem phase))
+  unfolding beginnings
+  beginnings-each = flat_map_single (λ m. m ∷ []) (legal_moves rule (phase_start problem phase))
+
+module _ (rule : RuleSet) (problem : Posed) where
+  by-joined : (phase : Phase) (h : ℕ) (ms : List Move) → flat_map (λ m. battle-by rule problem phase h (m ∷ [])) ms ≡ battle-by rule problem phase h ms
+  by-joined Set h ms = each-own _ _ ms
+  by-joined Play h ms = each-own _ _ ms
+
+  by-roots : (phase : Phase) (h : ℕ) (ms : List Move) (s : List (List Move)) → Contains (battle-by rule problem phase h ms) s
+      → (m : Move) × (below : List (List Move)) × Contains ms m × ((m ∷ []) ∷ below ≡ s)
+  by-roots Set h ms s c = let w = from_map _ _ s c in let f = from_filter _ ms w.0 w.1 in (w.0, _, f.0, w.2)
+  by-roots Play h ms s c = let w = from_map _ _ s c in let f = from_filter _ ms w.0 w.1 in (w.0, _, f.0, w.2)
+
+  battle-joined : is_help problem.stipulation.form ≡ false → (phase : Phase) (h : ℕ) → phase_half_moves problem phase ≡ suc h
+      → flat_map (part_solutions rule problem phase) (beginnings (game_of rule problem) 1 (phase_start problem phase)) ≡ solutions rule problem phase
+  battle-joined battle phase h z =
+      let ms = legal_moves rule (phase_start problem phase) in
+      ap (flat_map (part_solutions rule problem phase)) (beginnings-each rule problem phase)
+      ∙ flat_map-map (part_solutions rule problem phase) (λ m. m ∷ []) ms
+      ∙ flat-in (λ m. part_solutions rule problem phase (m ∷ [])) (λ m. battle-by rule problem phase h (m ∷ [])) ms
+      (λ m c. battle-part rule problem battle phase h z m c)
+      ∙ by-joined phase h ms ∙ sym (battle-solutions rule problem battle phase h z)
+
+  battle-once : is_help problem.stipulation.form ≡ false → (phase : Phase) (h : ℕ) → phase_half_moves problem phase ≡ suc h
+      → (s : List (List Move)) → Contains (solutions rule problem phase) s
+      → length (filter (λ front. begins_so front s) (beginnings (game_of rule problem) 1 (phase_start problem phase))) ≡ 1
+  battle-once battle phase h z s c =
+      let w = by-roots phase h (legal_moves rule (phase_start problem phase)) s (rw (battle-solutions rule problem battle phase h z) at c) in
+      subst (λ s. length (filter (λ front. begins_so front s) (beginnings (game_of rule problem) 1 (phase_start problem phase))) ≡ 1) w.3
+      (ap length (beginnings-one (game_of rule problem) (moves_in_order rule) 1 (phase_start problem phase) (w.0 ∷ []) (w.2, tt) (omega arith)))
+
+  none-solved : IsSound problem → (phase : Phase) → phase_half_moves problem phase ≡ 0 → solutions rule problem phase ≡ []
+  unfolding solutions help_lines set_tree
+  none-solved sound Play z = absurd (omega (arith, z, some_way problem sound))
+  none-solved sound Set z = by_form (is_help problem.stipulation.form) refl
+    where
+      by_form : (b : Bool) → is_help problem.stipulation.form ≡ b → solutions rule problem Set ≡ []
+      by_form true help = rw (help, z) refl
+      by_form false battle = rw (battle, z) refl
+
+  module _ (phase : Phase) (depth : ℕ) (free : is_barred rule problem phase ≡ false) (sound : IsSound problem) where
+    all-joined : (h : ℕ) → phase_half_moves problem phase ≡ h → (b : Bool) → is_help problem.stipulation.form ≡ b
+        → flat_map (part_solutions rule problem phase) (parts rule problem phase depth) ≡ solutions rule problem phase
+    all-joined zero z b e = ap (flat_map (part_solutions rule problem phase)) (parts-none rule problem phase depth free z) ∙ sym (none-solved sound phase z)
+    all-joined (suc h) z true help =
+        ap (flat_map (part_solutions rule problem phase)) (parts-help rule problem phase depth free (omega (arith, z)) help)
+        ∙ help-joined rule problem phase help (omega (arith, z)) (min depth (phase_half_moves problem phase)) (omega arith)
+    all-joined (suc h) z false battle =
+        ap (flat_map (part_solutions rule problem phase)) (parts-battle rule problem phase depth free (omega (arith, z)) battle)
+        ∙ battle-joined battle phase h z
+
+    pub joined : flat_map (part_solutions rule problem phase) (parts rule problem phase depth) ≡ solutions rule problem phase
+    joined = all-joined (phase_half_moves problem phase) refl (is_help problem.stipulation.form) refl
+
+    all-once : (h : ℕ) → phase_half_moves problem phase ≡ h → (b : Bool) → is_help problem.stipulation.form ≡ b
+        → (s : List (List Move)) → Contains (solutions rule problem phase) s
+        → length (filter (λ front. begins_so front s) (parts rule problem phase depth)) ≡ 1
+    all-once zero z b e s c = absurd (none_in_nil s (rw (none-solved sound phase z) at c))
+    all-once (suc h) z true help s c =
+        ap (λ fronts. length (filter (λ front. begins_so front s) fronts)) (parts-help rule problem phase depth free (omega (arith, z)) help)
+        ∙ help-once rule problem phase help (omega (arith, z)) (min depth (phase_half_moves problem phase)) (omega arith) s c
+    all-once (suc h) z false battle s c =
+        ap (λ fronts. length (filter (λ front. begins_so front s) fronts)) (parts-battle rule problem phase depth free (omega (arith, z)) battle)
+        ∙ battle-once battle phase h z s c
+
+    pub once : (s : List (List Move)) → Contains (solutions rule problem phase) s
+        → length (filter (λ front. begins_so front s) (parts rule problem phase depth)) ≡ 1
+    once s c = all-once (phase_half_moves problem phase) refl (is_help problem.stipulation.form) refl s c

@@ -1,0 +1,59 @@
+-- The parts of a phase, by the moves with which its solutions begin: joined they are the phase, and no solution stands in two of them.
+use Rattle.pop_solve.proofs.Words.{AllPairs, Contains, IsSound, List, Move, Posed, Precedes, RuleSet, ap, arith, false, flat_map, is_barred, length, length-take, min, pairs_weaker, phase_count, phase_half_moves, phase_start, refl, solutions, sum_by, sym, take, ℕ, ◌↔◌, ◌∙◌, ◌≡◌, ◌≢◌, ◌≤◌}
+use Rattle.pop_solve.specs.declared.event.Phase.{Phase}
+use Rattle.std.proofs.lemmas.List.Concat.{length-flat_map}
+use Rattle.std.proofs.lemmas.List.Sums.{length-filter}
+use Rattle.std.specs.List.{count_by}
+use Rattle.pop_parts.proofs.PartLists.{first-of-firsts}
+use Rattle.pop_parts.proofs.PartsJoined.{joined, once, parts-are, parts-stand}
+use Rattle.pop_solve.proofs.PhasePaths.{never_itself}
+use Rattle.pop_solve.proofs.Sound.{start_sound}
+use Rattle.pop_solve.proofs.theorems.HelpLines.{IsLegalLine, playable_is_legal}
+use Rattle.pop_solve.proofs.theorems.Lists.{StandsBefore, never_before_itself}
+use Rattle.pop_parts.specs.PhaseParts.{begins_so, part_count, part_depth, part_solutions, parts}
+
+module _ (rule : RuleSet) (problem : Posed) (phase : Phase) (depth : ℕ) where
+  -- The parts of a phase stand in lexicographic order of the moves.
+  pub parts_in_order : AllPairs (StandsBefore Precedes) (parts rule problem phase depth)
+  parts_in_order = parts-stand rule problem phase depth
+
+  -- No two of them are alike.
+  pub parts_differ : AllPairs (λ a b. a ≢ b) (parts rule problem phase depth)
+  parts_differ = pairs_weaker (StandsBefore Precedes) (λ a b. a ≢ b) (parts rule problem phase depth)
+      (never_before_itself Precedes never_itself) parts_in_order
+
+-- A sound problem, one of its phases that isn't barred, and any number of moves to tell its parts apart.
+module _ (rule : RuleSet) (problem : Posed) (phase : Phase) (depth : ℕ) (free : is_barred rule problem phase ≡ false) (sound : IsSound problem) where
+  -- The parts are the lists of so many moves, each legal where it is made; where the phase has no half-move there is none.
+  pub parts_are : (front : List Move)
+      → Contains (parts rule problem phase depth) front
+      ↔ ((1 ≤ phase_half_moves problem phase) × IsLegalLine rule (phase_start problem phase) front × (length front ≡ part_depth problem phase depth))
+  parts_are front =
+      let are = parts-are rule problem phase depth free (phase_half_moves problem phase) refl front in
+      let may = playable_is_legal problem.stipulation.goal rule (phase_start problem phase) front (start_sound problem sound phase) in
+      (λ c. let w = are.0 c in (w.0, may.0 w.1, w.2), λ w. are.1 (w.0, may.1 w.1, w.2))
+
+  -- The solutions of the parts, one part after another, are those of the phase, in the same order.
+  pub parts_joined : flat_map (part_solutions rule problem phase) (parts rule problem phase depth) ≡ solutions rule problem phase
+  parts_joined = joined rule problem phase depth free sound
+
+  -- Each solution of the phase begins as exactly one of the parts does.
+  pub in_one_part : (solution : List (List Move)) → Contains (solutions rule problem phase) solution
+      → count_by (λ front. begins_so front solution) (parts rule problem phase depth) ≡ 1
+  in_one_part solution c = sym (length-filter (λ front. begins_so front solution) (parts rule problem phase depth))
+      ∙ once rule problem phase depth free sound solution c
+
+  -- Where each part is searched up to a limit, the first of what they give, up to that limit, are the first solutions of the phase.
+  pub first_of_parts : (n : ℕ)
+      → take n (flat_map (λ front. take n (part_solutions rule problem phase front)) (parts rule problem phase depth))
+      ≡ take n (solutions rule problem phase)
+  first_of_parts n = first-of-firsts (part_solutions rule problem phase) n n (omega arith) (parts rule problem phase depth) ∙ ap (take n) parts_joined
+
+  -- So the phase's number of solutions, up to the problem's limit, is the sum of the parts' numbers, up to that limit.
+  pub counted_by_parts : phase_count rule problem phase
+      ≡ min problem.max_solutions (sum_by (part_count rule problem phase) (parts rule problem phase depth))
+  counted_by_parts =
+      let n : ℕ = problem.max_solutions in
+      let firsts = flat_map (λ front. take n (part_solutions rule problem phase front)) (parts rule problem phase depth) in
+      ap length (sym (first_of_parts n)) ∙ length-take n firsts
+      ∙ ap (min n) (length-flat_map (λ front. take n (part_solutions rule problem phase front)) (parts rule problem phase depth))

@@ -1,0 +1,65 @@
+-- What the frames of a walk over the beginnings of parts stand for: no half-move is left at any of them.
+use Rattle.std.specs.Prelude.{◌≡◌, ℕ, ◌-◌, ◌≤◌, ◌<◌, ◌==◌, Bool, true, List, [], ◌∷◌, ◌++◌, map, length, Option, Some, None, IfSome, slice_get}
+use Rattle.std.specs.Option.{option_map}
+use Rattle.std.specs.List.{flat_map, list_all}
+use Rattle.chess_core.specs.Position.{Position}
+use Rattle.chess_core.specs.declared.man.Move.{Move}
+use Rattle.chess_rules.specs.Legal.{is_legal}
+use Rattle.chess_rules.specs.Play.{position_after}
+use Rattle.chess_rules.specs.RuleSet.{RuleSet}
+use Rattle.chess_rules.specs.ties.Places.{moves_behind}
+use Rattle.pop_input.specs.declared.stipulation.Goal.{Goal}
+use Rattle.pop_solve.specs.Chess.{chess}
+use Rattle.pop_parts.specs.PhaseParts.{beginnings}
+use Rattle.pop_solve.specs.ties.Frames.{Frame, position}
+use Rattle.pop_solve.specs.ties.Walk.{IsWalking, path, turns}
+
+-- nothing is tried from these frames
+unfoldable pub are_idle : List Frame → Bool
+are_idle frames = list_all (λ f. f.left == 0) frames
+
+-- the lists of moves from p that begin with these, k moves behind each
+unfoldable pub beginnings_by : Goal → RuleSet → ℕ → Position → List Move → List (List Move)
+beginnings_by goal rule k p ms =
+    flat_map (λ m. map (λ rest. m ∷ rest) (beginnings (chess goal rule) k
+    (position_after rule p m))) ms
+
+-- the beginnings of d moves still to come from all frames, in order
+unfoldable pub beginnings_to_come : Goal → RuleSet → ℕ → Position → List Frame → List (List Move)
+beginnings_to_come goal rule d p [] = []
+beginnings_to_come goal rule d p (f ∷ below) =
+    map (λ rest. path (f ∷ below) ++ rest)
+    (beginnings_by goal rule (d - length below - 1) (position rule p (f ∷ below))
+    (moves_behind rule (position rule p (f ∷ below)) f.place))
+    ++ beginnings_to_come goal rule d p below
+
+-- the board stands on the top frame of a walk over beginnings of d moves
+pub record IsSeeking (rule : RuleSet) (h d : ℕ) (p : Position) (frames : List Frame)
+    (board : Position) : Type 0 where
+  pub walking : IsWalking rule h p frames board
+  pub idle : are_idle frames ≡ true
+  pub within : length frames ≤ d
+  pub room : d ≤ h
+
+-- the path to the top frame and the move behind it, if there is one
+abbrev pub found_by : List Frame → Option Move → List (List Move)
+found_by frames None = []
+found_by frames (Some m) = (path frames ++ m ∷ []) ∷ []
+
+-- what a step of such a walk leaves, which may have found the last move of the next beginning
+pub record Seeks (rule : RuleSet) (h d : ℕ) (p : Position) (old new : List Frame)
+    (board : Position) (found : Option Move) : Type 0 where
+  pub seeking : IsSeeking rule h d p new board
+  pub come : (goal : Goal) → beginnings_to_come goal rule d p old
+      ≡ found_by new found ++ beginnings_to_come goal rule d p new
+  pub legal : IfSome found (λ m. is_legal rule board m ≡ true)
+  pub full : IfSome found (λ m. length new ≡ d)
+  pub falls : turns rule h p new < turns rule h p old
+
+-- of the beginnings to come the one with a number, counted from 1, was found, or there are fewer
+pub record FindsNumbered (rule : RuleSet) (h d : ℕ) (p : Position) (old new : List Frame)
+    (board : Position) (number : ℕ) (found : Option Move) : Type 0 where
+  pub here : (goal : Goal) → slice_get (beginnings_to_come goal rule d p old) (number - 1)
+      ≡ option_map (λ m. path new ++ m ∷ []) found
+  pub stands : IfSome found (λ m. IsSeeking rule h d p new board × (is_legal rule board m ≡ true)
+      × (length new ≡ d))

@@ -1,0 +1,232 @@
+//! The beginnings of the parts of a phase, one after another in the order of moves. They are walked over on frames at
+//! which no half-move is left, so that nothing more is tried from these once a part begins.
+ghost use Rattle.std.specs.Prelude.{◌≡◌, ◌+◌, ◌-◌, ◌<◌, ◌≤◌, ◌==◌, ◌^◌, ◌||◌, ℕ, min, not, [], ◌∷◌, ◌++◌, length, reverse, slice_get, true, false, MatchOption, None, Some};
+ghost use Rattle.arrayvec.specs.ArrayVec.{array_vec_len};
+ghost use Rattle.chess_core.specs.Position.{Position};
+ghost use Rattle.chess_rules.specs.Legal.{is_legal};
+ghost use Rattle.pop_input.specs.declared.stipulation.Goal.{Goal};
+ghost use Rattle.pop_input.specs.Posed.{IsSound, rule_of};
+ghost use Rattle.pop_input.specs.Stipulations.{half_moves};
+ghost use Rattle.pop_solve.specs.Events.{is_barred, phase_half_moves as half_moves_of_phase, phase_start, play_start};
+ghost use Rattle.pop_solve.specs.Chess.{chess};
+ghost use Rattle.pop_parts.specs.PhaseParts.{beginnings, part_depth as depth_of_parts, part_numbered, parts};
+ghost use Rattle.pop_parts.specs.ties.Beginnings.{beginnings_to_come, FindsNumbered, IsSeeking, Seeks};
+ghost use Rattle.pop_solve.specs.ties.Frames.{opened_frame};
+ghost use Rattle.pop_solve.specs.ties.Walk.{path};
+
+use arrayvec::ArrayVec;
+use chess_core::board::Board;
+use chess_core::man::Move;
+use chess_rules::moves::Moves;
+use chess_rules::play::Undo;
+use chess_rules::rules::Rules;
+use pop_input::problem::Problem;
+use pop_solve::chess::next_move;
+use pop_solve::event::Phase;
+use pop_solve::frame::{Frame, Order, Stretch};
+use pop_solve::phases::{phase_half_moves, set_up};
+use pop_solve::walk::step_back;
+
+/// How many moves tell the parts of a phase apart.
+fn part_depth(problem: &Problem, phase: Phase, depth: usize) -> usize
+    ensures { result ≡ depth_of_parts problem.now phase depth }
+{
+    if problem.stipulation().form.is_help() {
+        depth.min(phase_half_moves(problem, phase))
+    } else {
+        1
+    }
+}
+
+/// The frame of a position that a move has reached, from which nothing is tried.
+fn idle<R: Rules>(by: Move, undo: Undo) -> Frame<R>
+    ensures { result ≡ opened_frame by undo 0 }
+{
+    Frame {
+        place: Moves::start(),
+        by,
+        undo,
+        left: 0,
+        order: Order::unordered(),
+        stretch: Stretch::Others,
+        known: None,
+    }
+}
+
+/// One step of the walk over beginnings of `depth` moves: the next move of the top frame is played or found as the last one
+/// of the next beginning, or the frame is closed.
+fn seek<R: Rules, const N: usize>(
+    depth: usize,
+    board: &mut Board,
+    frames: &mut ArrayVec<Frame<R>, N>,
+) -> Option<Move>
+    requires room { depth < N }
+    requires seeking { (h : ℕ) × (p : Position)
+        × IsSeeking R.rule h depth p (reverse frames.old.items) board.old }
+    requires open { 0 < array_vec_len frames.old }
+    ensures seeks { (h : ℕ) (p : Position)
+        → IsSeeking R.rule h depth p (reverse frames.old.items) board.old
+        → Seeks R.rule h depth p (reverse frames.old.items) (reverse frames.new.items) board.new
+        result }
+{
+    let Some(top) = frames.pop() else {
+        return None;
+    };
+    let below = frames.len();
+    let mut place = top.place;
+    let mut known = top.known;
+    let Some(by) = next_move::<R>(&mut known, &mut place, board) else {
+        step_back::<R>(below, top, board);
+        return None;
+    };
+    frames.push(Frame {
+        place,
+        known,
+        ..top
+    });
+    if frames.len() == depth {
+        return Some(by);
+    }
+    let undo = R::play(board, by);
+    frames.push(idle(by, undo));
+    None
+}
+
+/// Puts a phase's first position on the board and its frame on the others, from which no move has been taken; or finds
+/// that the phase has no part.
+fn set_out<R: Rules, const N: usize>(
+    problem: &Problem,
+    phase: Phase,
+    board: &mut Board,
+    frames: &mut ArrayVec<Frame<R>, N>,
+) -> bool
+    requires board { board.old ≡ play_start problem.now }
+    requires room { 0 < N }
+    requires none { frames.old.items ≡ [] }
+    ensures possible { result ≡ not (is_barred R.rule problem.now phase
+        || (half_moves_of_phase problem.now phase == 0)) }
+    ensures seeking { IsSound problem.now → result ≡ true → (d : ℕ) → 1 ≤ d
+        → d ≤ half_moves_of_phase problem.now phase
+        → IsSeeking R.rule (half_moves_of_phase problem.now phase) d
+        (phase_start problem.now phase) (reverse frames.new.items) board.new }
+    ensures come { result ≡ true → (goal : Goal) (d : ℕ) → 1 ≤ d
+        → beginnings_to_come goal R.rule d (phase_start problem.now phase)
+        (reverse frames.new.items)
+        ≡ beginnings (chess goal R.rule) d (phase_start problem.now phase) }
+{
+    if phase_half_moves(problem, phase) == 0 || !set_up::<R>(problem, phase, board) {
+        return false;
+    }
+    frames.push(Frame {
+        place: Moves::start(),
+        left: 0,
+        known: None,
+        ..Frame::default()
+    });
+    true
+}
+
+/// Goes to the beginning with a number, counted from 1, and answers its last move, which isn't played yet.
+fn seek_numbered<R: Rules, const N: usize>(
+    problem: &Problem,
+    phase: Phase,
+    depth: usize,
+    number: u64,
+    board: &mut Board,
+    frames: &mut ArrayVec<Frame<R>, N>,
+) -> Option<Move>
+    requires room { depth < N }
+    requires number { 1 ≤ number }
+    requires seeking { IsSeeking R.rule (half_moves_of_phase problem.now phase) depth
+        (phase_start problem.now phase) (reverse frames.old.items) board.old }
+    ensures found { FindsNumbered R.rule (half_moves_of_phase problem.now phase) depth
+        (phase_start problem.now phase) (reverse frames.old.items) (reverse frames.new.items)
+        board.new number result }
+{
+    let mut left = number;
+    while !frames.is_empty() {
+        let found = seek::<R, N>(depth, board, frames);
+        if found.is_some() {
+            if left == 1 {
+                return found;
+            }
+            left -= 1;
+        }
+    }
+    None
+}
+
+/// Goes to the part with a number, counted from 1, among those of a phase that `depth` moves tell apart. Answers the last
+/// of its first moves, which isn't played yet; the path to the top frame has those before it.
+pub(crate) fn go_to_part<R: Rules, const N: usize>(
+    problem: &Problem,
+    phase: Phase,
+    depth: usize,
+    number: u64,
+    board: &mut Board,
+    frames: &mut ArrayVec<Frame<R>, N>,
+) -> Option<Move>
+    requires sound { IsSound problem.now }
+    requires room { half_moves problem.now.stipulation < N }
+    requires depth { 1 ≤ depth }
+    requires board { board.old ≡ play_start problem.now }
+    requires none { frames.old.items ≡ [] }
+    ensures found { MatchOption result (part_numbered R.rule problem.now phase depth number ≡ None)
+        (λ m. (part_numbered R.rule problem.now phase depth number
+        ≡ Some (path (reverse frames.new.items) ++ m ∷ []))
+        × IsSeeking R.rule (half_moves_of_phase problem.now phase)
+        (depth_of_parts problem.now phase depth) (phase_start problem.now phase)
+        (reverse frames.new.items) board.new
+        × (is_legal R.rule board.new m ≡ true)
+        × (array_vec_len frames.new ≡ depth_of_parts problem.now phase depth)) }
+{
+    if number == 0 {
+        return None;
+    }
+    if !set_out::<R, N>(problem, phase, board, frames) {
+        return None;
+    }
+    let depth = part_depth(problem, phase, depth);
+    seek_numbered::<R, N>(problem, phase, depth, number, board, frames)
+}
+
+/// How many beginnings of `depth` moves are to come, up to the greatest u64.
+fn count_to_come<R: Rules, const N: usize>(
+    problem: &Problem,
+    phase: Phase,
+    depth: usize,
+    board: &mut Board,
+    frames: &mut ArrayVec<Frame<R>, N>,
+) -> u64
+    requires room { depth < N }
+    requires seeking { IsSeeking R.rule (half_moves_of_phase problem.now phase) depth
+        (phase_start problem.now phase) (reverse frames.old.items) board.old }
+    ensures counts { (goal : Goal) → result ≡ min (length (beginnings_to_come goal R.rule depth
+        (phase_start problem.now phase) (reverse frames.old.items))) (2 ^ 64 - 1) }
+{
+    let mut count: u64 = 0;
+    while !frames.is_empty() {
+        if seek::<R, N>(depth, board, frames).is_some() {
+            count = count.saturating_add(1);
+        }
+    }
+    count
+}
+
+/// How many parts a phase has that `depth` moves tell apart, up to the greatest u64. `N` is at least the half-moves of the
+/// play plus one, and no more than 33, and `R` are the rules of the problem's condition.
+pub fn count_parts<R: Rules, const N: usize>(problem: &Problem, phase: Phase, depth: usize) -> u64
+    requires room { half_moves problem.now.stipulation < N }
+    requires few { N ≤ 33 }
+    requires rule { R.rule ≡ rule_of problem.now.condition }
+    requires depth { 1 ≤ depth }
+    ensures { result ≡ min (length (parts R.rule problem.now phase depth)) (2 ^ 64 - 1) }
+{
+    let mut board = Board::of(&problem.diagram());
+    let mut frames = ArrayVec::<Frame<R>, N>::new();
+    if !set_out::<R, N>(problem, phase, &mut board, &mut frames) {
+        return 0;
+    }
+    let depth = part_depth(problem, phase, depth);
+    count_to_come::<R, N>(problem, phase, depth, &mut board, &mut frames)
+}

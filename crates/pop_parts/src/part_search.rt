@@ -1,0 +1,343 @@
+//! Searches of one part of a phase.
+ghost use Rattle.std.specs.Prelude.{◌≡◌, ◌+◌, ◌-◌, ◌<◌, ◌≤◌, ◌==◌, ◌^◌, ℕ, [], ◌∷◌, ◌++◌, length, reverse, true, false, min};
+ghost use Rattle.arrayvec.specs.ArrayVec.{array_vec_len};
+ghost use Rattle.chess_core.specs.WellFormed.{IsWellFormed};
+ghost use Rattle.chess_core.specs.declared.man.Move.{Move};
+ghost use Rattle.std.specs.Prelude.{List};
+ghost use Rattle.chess_rules.specs.Legal.{is_legal, is_mate};
+ghost use Rattle.chess_rules.specs.Play.{position_after};
+ghost use Rattle.pop_input.specs.Posed.{IsSound};
+ghost use Rattle.pop_input.specs.Stipulations.{half_moves, is_help};
+ghost use Rattle.pop_solve.specs.Events.{event_of, path_event, phase_half_moves as half_moves_of_phase, phase_start, play_start};
+ghost use Rattle.pop_parts.specs.PhaseParts.{part_events};
+ghost use Rattle.pop_parts.specs.ties.Beginnings.{IsSeeking};
+ghost use Rattle.pop_solve.specs.ties.Marks.{is_for_mate};
+ghost use Rattle.pop_parts.specs.ties.PartStages.{IsPartOpened, part_left, StandsInPart};
+ghost use Rattle.pop_solve.specs.ties.Phases.{Gives};
+ghost use Rattle.pop_solve.specs.ties.Walk.{IsMatedAtLast, path, seeks_last};
+ghost use Rattle.pop_parts.specs.declared.part_search.PartStage.TheVariants.{First, Within, Behind};
+
+use crate::beginnings::go_to_part;
+use arrayvec::ArrayVec;
+use chess_core::board::Board;
+use chess_core::man::Move;
+use chess_rules::rules::Rules;
+use pop_input::problem::Problem;
+use pop_solve::chess::{reaches_goal, retract};
+use pop_solve::event::{Event, Phase};
+use pop_solve::frame::Frame;
+use pop_solve::killers::Killers;
+use pop_solve::phases::{
+    count_with, end, event_at, phase_half_moves, still_to_begin, total, walk_on,
+};
+use pop_solve::plan::Plan;
+use pop_solve::walk::{ends_with_mate, enter};
+use std::marker::Model;
+
+/// Where a search of a part stands.
+#[derive(Clone, Copy)]
+pub enum PartStage {
+    /// Before the path of the part's first moves themselves.
+    First,
+    /// Among the paths behind it, of which `count` solutions have begun.
+    Within { count: u32 },
+    /// Behind the total.
+    Behind,
+}
+
+/// Whether a legal move may lead to a path, where `left` half-moves are left behind it: where each path ends with it and mates,
+/// only if it mates.
+#[tactic(auto, using(chess_rules::proofs::listing_moves::Calls::playing))]
+fn may_lead<R: Rules>(plan: Plan, left: usize, by: Move, board: &mut Board) -> bool
+    requires well_formed { IsWellFormed board.old }
+    requires few { left ≤ 32 }
+    requires legal { is_legal R.rule board.old by ≡ true }
+    ensures unchanged { board.new ≡ board.old }
+    ensures mated { result ≡ true → IsMatedAtLast R.rule plan left
+        (position_after R.rule board.old by) }
+    ensures fails { result ≡ false → (is_for_mate plan.goal ≡ true) × (seeks_last plan ≡ true)
+        × (left ≡ 0) × (is_mate R.rule (position_after R.rule board.old by) ≡ false) }
+{
+    if !ends_with_mate(plan, left + 1) {
+        return true;
+    }
+    let undo = R::play(board, by);
+    let mates = reaches_goal::<R>(plan.goal, board);
+    retract::<R>(board, by, undo);
+    mates
+}
+
+/// The moves to the top frame, with one behind them.
+fn front_of<R: Rules, const N: usize>(frames: &ArrayVec<Frame<R>, N>, by: Move) -> ArrayVec<Move, N>
+    requires open { 0 < array_vec_len frames.now }
+    ensures { result.items ≡ path (reverse frames.now.items) ++ by ∷ [] }
+{
+    let mut front = ArrayVec::new();
+    let mut k = 1;
+    while k < frames.len() {
+        let frame = &frames[k];
+        front.push(frame.by);
+        k += 1;
+    }
+    front.push(by);
+    front
+}
+
+/// Begins the part of which `by` is the last of its first moves and the path to the top frame has those before it.
+fn begin<R: Rules, const N: usize>(
+    problem: &Problem,
+    phase: Phase,
+    by: Move,
+    board: &mut Board,
+    frames: &mut ArrayVec<Frame<R>, N>,
+    killers: &mut Killers<R>,
+    opened: &mut u64,
+) -> PartStage
+    requires sound { IsSound problem.now }
+    requires room { half_moves problem.now.stipulation < N }
+    requires open { 0 < array_vec_len frames.old }
+    requires seeking { (d : ℕ) × (IsSeeking R.rule (half_moves_of_phase problem.now phase) d
+        (phase_start problem.now phase) (reverse frames.old.items) board.old)
+        × (array_vec_len frames.old ≡ d) }
+    requires legal { is_legal R.rule board.old by ≡ true }
+    requires battle { is_help problem.now.stipulation.form ≡ false → array_vec_len frames.old ≡ 1 }
+    requires opened { opened.old ≡ 0 }
+    ensures stands { StandsInPart R.rule problem.now phase
+        (path (reverse frames.old.items) ++ by ∷ []) result (reverse frames.new.items) board.new }
+    ensures left { part_left R.rule problem.now phase result (reverse frames.new.items)
+        ≡ part_events R.rule problem.now phase (path (reverse frames.old.items) ++ by ∷ []) }
+    ensures opens { IsPartOpened R.rule problem.now phase
+        (path (reverse frames.old.items) ++ by ∷ []) (reverse frames.new.items) opened.new }
+{
+    let plan = Plan::of(problem);
+    let depth = frames.len();
+    let left = phase_half_moves(problem, phase) - depth;
+    if !may_lead::<R>(plan, left, by, board) {
+        return PartStage::Within { count: 0 };
+    }
+    let root = depth == 1;
+    if enter::<R, N>(plan, root, left, by, board, frames, killers, opened) {
+        return PartStage::First;
+    }
+    PartStage::Within { count: 0 }
+}
+
+/// Gives the path of the part's first moves themselves, and answers its event.
+fn give_first<R: Rules>(
+    problem: &Problem,
+    phase: Phase,
+    frames: &[Frame<R>],
+    stage: &mut PartStage,
+    board: &mut Board,
+) -> Event
+    requires sound { IsSound problem.now }
+    requires stands { (front : List Move) × StandsInPart R.rule problem.now phase front First
+        (reverse frames.now) board.old }
+    ensures stands { (front : List Move) → StandsInPart R.rule problem.now phase front First
+        (reverse frames.now) board.old
+        → StandsInPart R.rule problem.now phase front stage.new (reverse frames.now) board.new }
+    ensures gives { Gives R.rule problem.now
+        (part_left R.rule problem.now phase First (reverse frames.now))
+        (part_left R.rule problem.now phase stage.new (reverse frames.now))
+        result board.new (length frames.now) }
+{
+    *stage = PartStage::Within {
+        count: count_with(problem, frames.len(), 0),
+    };
+    event_at::<R>(problem, phase, frames, board)
+}
+
+/// Goes on within a part, of which `count` solutions have begun.
+fn go_on_in_part<R: Rules, const N: usize>(
+    problem: &Problem,
+    phase: Phase,
+    count: u32,
+    stage: &mut PartStage,
+    board: &mut Board,
+    frames: &mut ArrayVec<Frame<R>, N>,
+    killers: &mut Killers<R>,
+    opened: &mut u64,
+) -> Event
+    requires sound { IsSound problem.now }
+    requires room { half_moves problem.now.stipulation < N }
+    requires stands { (front : List Move) × StandsInPart R.rule problem.now phase front
+        (Within count) (reverse frames.old.items) board.old }
+    ensures stands { (front : List Move) → StandsInPart R.rule problem.now phase front
+        (Within count) (reverse frames.old.items) board.old
+        → StandsInPart R.rule problem.now phase front stage.new (reverse frames.new.items)
+        board.new }
+    ensures gives { Gives R.rule problem.now
+        (part_left R.rule problem.now phase (Within count) (reverse frames.old.items))
+        (part_left R.rule problem.now phase stage.new (reverse frames.new.items))
+        result board.new (array_vec_len frames.new) }
+    ensures opens { (front : List Move) → StandsInPart R.rule problem.now phase front
+        (Within count) (reverse frames.old.items) board.old
+        → IsPartOpened R.rule problem.now phase front (reverse frames.old.items) opened.old
+        → IsPartOpened R.rule problem.now phase front (reverse frames.new.items) opened.new }
+    ensures grows { min opened.old (2 ^ 64 - 1) ≤ opened.new }
+{
+    let limit = still_to_begin(problem, count);
+    if walk_on::<R, N>(problem, phase, limit, board, frames, killers, opened) {
+        let count = count_with(problem, frames.len(), count);
+        *stage = PartStage::Within { count };
+        return event_at::<R>(problem, phase, frames.as_slice(), board);
+    }
+    end::<R, N>(problem, phase, board, frames);
+    *stage = PartStage::Behind;
+    total(problem, count)
+}
+
+/// A search for the solutions of one part of a phase, those that begin with given moves; it gives their events one by one and
+/// goes on from its frames, as `Search` does of all. Contracts see the record `PartSeen`.
+#[derive(Drop)]
+pub struct PartSearch<R: Rules, const N: usize> {
+    problem: Problem,
+    phase: Phase,
+    front: ArrayVec<Move, N>,
+    stage: PartStage,
+    board: Board,
+    frames: ArrayVec<Frame<R>, N>,
+    killers: Killers<R>,
+    opened: u64,
+}
+
+impl<R: Rules, const N: usize> Model for PartSearch<R, N> {
+    ghost use Rattle.std.specs.Prelude.{◌≡◌, ◌<◌, reverse};
+    ghost use Rattle.arrayvec.specs.ArrayVec.{array_vec_len};
+    ghost use Rattle.pop_input.specs.Posed.{IsSound};
+    ghost use Rattle.pop_input.specs.Stipulations.{half_moves};
+    ghost use Rattle.pop_parts.specs.ties.PartsSeen.{PartSeen};
+    ghost use Rattle.pop_parts.specs.ties.PartStages.{IsPartOpened, part_left, StandsInPart};
+
+    ghost Value = { PartSeen };
+
+    ghost view = { λ s. record {
+      problem = s.problem;
+      phase = s.phase;
+      front = s.front.items;
+      left = part_left R.rule s.problem s.phase s.stage (reverse s.frames.items);
+      board = s.board;
+      depth = array_vec_len s.frames;
+      opened = s.opened;
+    } };
+
+    ghost invariant = { λ s. IsSound s.problem
+        × (half_moves s.problem.stipulation < N)
+        × StandsInPart R.rule s.problem s.phase s.front.items s.stage (reverse s.frames.items)
+        s.board
+        × IsPartOpened R.rule s.problem s.phase s.front.items (reverse s.frames.items) s.opened };
+}
+
+impl<R: Rules, const N: usize> PartSearch<R, N> {
+    ghost use Rattle.std.specs.Prelude.{[], false, true, ◌≡◌, ◌-◌, ◌<◌, ◌≤◌, ◌^◌, min, MatchOption, None, Some, slice_get, drop};
+    ghost use Rattle.std.specs.Option.{option_map};
+    ghost use Rattle.pop_input.specs.Posed.{rule_of};
+    ghost use Rattle.pop_input.specs.Stipulations.{half_moves, is_help};
+    ghost use Rattle.pop_solve.specs.Events.{event_of, play_start};
+    ghost use Rattle.pop_parts.specs.PhaseParts.{part_events, part_numbered};
+    ghost use Rattle.pop_parts.specs.ties.PartsSeen.{is_part_stopped, part_walk};
+    ghost use Rattle.pop_solve.specs.ties.Seen.{StandsOn};
+
+    /// A search of the part with a number, counted from 1 in the order of moves, among the parts of a phase that `depth` moves
+    /// tell apart; `None` where the phase has fewer. `N` is at least the half-moves of the play plus one, and no more than
+    /// 33, and `R` are the rules of the problem's condition. The killers cost time alone: those of another part make tests
+    /// quicker.
+    pub fn of(
+        problem: &Problem,
+        phase: Phase,
+        depth: usize,
+        number: u64,
+        mut killers: Killers<R>,
+    ) -> Option<Self>
+        requires room { half_moves problem.now.stipulation < N }
+        requires few { N ≤ 33 }
+        requires rule { R.rule ≡ rule_of problem.now.condition }
+        requires depth { 1 ≤ depth }
+        ensures part { MatchOption result
+            (part_numbered R.rule problem.now phase depth number ≡ None)
+            (λ s. (part_numbered R.rule problem.now phase depth number ≡ Some s.front)
+            × (s.problem ≡ problem.now) × (s.phase ≡ phase)
+            × (s.left ≡ part_events R.rule problem.now phase s.front)) }
+    {
+        let mut board = Board::of(&problem.diagram());
+        let mut frames = ArrayVec::new();
+        let by = go_to_part::<R, N>(problem, phase, depth, number, &mut board, &mut frames)?;
+        let front = front_of::<R, N>(&frames, by);
+        let mut opened = 0;
+        let stage = begin::<R, N>(
+            problem,
+            phase,
+            by,
+            &mut board,
+            &mut frames,
+            &mut killers,
+            &mut opened,
+        );
+        Some(PartSearch {
+            problem: *problem,
+            phase,
+            front,
+            stage,
+            board,
+            frames,
+            killers,
+            opened,
+        })
+    }
+
+    /// The next event; `None` behind the last, and then for good. After a line or node the board stands where its path
+    /// leads; behind the last it stands on the play's first position.
+    pub fn next(&mut self) -> Option<Event>
+        ensures event { result ≡ option_map (event_of R.rule self.old.problem)
+            (slice_get self.old.left 0) }
+        ensures left { self.new.left ≡ drop 1 self.old.left }
+        ensures board { MatchOption (slice_get self.old.left 0)
+            (self.new.board ≡ play_start self.old.problem)
+            (λ bare. StandsOn R.rule self.old.problem bare self.new.board self.new.depth) }
+        ensures problem { self.new.problem ≡ self.old.problem }
+        ensures phase { self.new.phase ≡ self.old.phase }
+        ensures front { self.new.front ≡ self.old.front }
+        ensures opened { self.old.opened ≤ self.new.opened }
+    {
+        match self.stage {
+            PartStage::First => Some(give_first::<R>(
+                &self.problem,
+                self.phase,
+                self.frames.as_slice(),
+                &mut self.stage,
+                &mut self.board,
+            )),
+            PartStage::Within { count } => Some(go_on_in_part::<R, N>(
+                &self.problem,
+                self.phase,
+                count,
+                &mut self.stage,
+                &mut self.board,
+                &mut self.frames,
+                &mut self.killers,
+                &mut self.opened,
+            )),
+            PartStage::Behind => None,
+        }
+    }
+
+    /// The moves that decided its tests last, for the search of another part. Contracts don't see them, since they cost time
+    /// alone.
+    pub fn into_killers(self) -> Killers<R> {
+        let PartSearch { killers, .. } = self;
+        killers
+    }
+
+    /// The frames opened for a half-move so far, the beginnings and the test of mate apart, up to the greatest u64. In help
+    /// play, once nothing is left to give, and if no limit ended the part, these are exactly those of its part.
+    pub fn opened(&self) -> u64
+        ensures opened { result ≡ self.now.opened }
+        ensures all { is_help self.now.problem.stipulation.form ≡ true
+            → is_part_stopped R.rule self.now.problem self.now.phase self.now.front ≡ false
+            → self.now.left ≡ []
+            → result ≡ min (part_walk R.rule self.now.problem self.now.phase self.now.front)
+            (2 ^ 64 - 1) }
+    {
+        self.opened
+    }
+}

@@ -1,5 +1,0 @@
-use Rattle.pop_solve.proofs.PartBegins as part
-use Rattle.pop_solve.proofs.part_search.PartSearch.opened.Goals as goal
-
-pub returns-clause-all : goal.returns-clause-all
-returns-clause-all g c = rw (← c.self.view_is) (part.all-opened g.R.Rules.rule _ _ _ _ _ _ _ c.self.invariant.2 c.self.invariant.3)
