@@ -240,11 +240,11 @@ unfolding is_paralysed
 king_is_able rule men x k here king = search (rules, and_right, and_left)
 
 module _ (rule : RuleSet) (q : Position) (x : Man) (k t : ℕ) (i : IsKingStep rule q x k t) where
-  may_step : is_pseudo_legal rule q (step_to k t) ≡ true
+  pub may_step : is_pseudo_legal rule q (step_to k t) ≡ true
   unfolding is_pseudo_legal
   may_step = grind (arith, open_parts, king_is_no_pawn, king_is_able, and_left, cond-false, or_left, steps_there, and_from)
 
-  simple_step : IsSimple rule q x (step_to k t)
+  pub simple_step : IsSimple rule q x (step_to k t)
   simple_step =
       let way = open_parts rule q.men q.turn k t i.near in
       record {

@@ -1,19 +1,30 @@
 //! Positions in which each legal move mates.
-ghost use Rattle.std.specs.Prelude.{◌≡◌, ◌&&◌, false, not, true};
+ghost use Rattle.std.specs.Prelude.{◌≡◌, ◌<◌, ◌==◌, ◌&&◌, IfSome, Some, false, not, true};
+ghost use Rattle.std.specs.Int.{bit_at};
 ghost use Rattle.std.specs.List.{list_all};
-ghost use Rattle.chess_core.specs.Position.{other};
+ghost use Rattle.chess_core.specs.Position.{man_on, other, same_kind};
+ghost use Rattle.chess_core.specs.declared.man.Kind.TheVariants.{King};
+ghost use Rattle.chess_core.specs.declared.man.Man.{Man};
 ghost use Rattle.chess_core.specs.WellFormed.{IsWellFormed};
 ghost use Rattle.chess_mates.specs.ties.CheckSquares.{AreCheckSquares};
+ghost use Rattle.chess_mates.specs.ties.Flights.{AreOpen, IsUnreached};
 ghost use Rattle.chess_rules.specs.Legal.{is_legal, is_nil, moves};
 ghost use Rattle.chess_mates.specs.ties.Mates.{is_mating};
 ghost use Rattle.chess_rules.specs.ties.Places.{IsPlaceIn, moves_behind};
 
 use crate::checks::{CheckSquares, check_squares, may_check};
 use chess_core::board::Board;
-use chess_core::man::Move;
+use chess_core::man::{Man, Move};
+use chess_core::square::Square;
+use chess_rules::leaps::king_leaps;
 use chess_rules::legal_moves::LegalMoves;
 use chess_rules::moves::is_mate;
+use chess_rules::outward::attackers_seen;
+use chess_rules::play::capture_square;
 use chess_rules::rules::Rules;
+use chess_rules::sight::sight_after;
+use chess_rules::targets::arrivals;
+use chess_rules::words::{contains, next_bit};
 
 /// Whether the side to move has a legal move and each of its legal moves mates: one that can't give check
 /// says no without being played. The board is unchanged.
@@ -24,11 +35,88 @@ pub fn every_move_mates<R: Rules>(board: &mut Board) -> bool
     ensures board { board.new ≡ board.old }
 {
     let squares = check_squares(board, board.turn().other());
+    if steps_quietly::<R>(board, &squares) {
+        return false;
+    }
     let moves = LegalMoves::<R>::of(board);
     if has_quiet_move::<R>(board, &squares, moves) {
         return false;
     }
     has_mates_alone::<R>(board, moves)
+}
+
+// The squares to which the king on `king` may step, attacks apart: in Circe none are told.
+#[inline(always)]
+#[tactic(auto, using(crate::proofs::QuietSteps::open_steps, crate::proofs::QuietSteps::no_steps))]
+fn step_squares<R: Rules>(board: &Board, king: Square) -> u64
+    ensures { (x : Man) → man_on board.now.men king ≡ Some x → same_kind x.kind King ≡ true
+        → AreOpen R.rule board.now.men board.now.turn king result }
+{
+    if R::is_circe() {
+        return 0;
+    }
+    king_leaps(king) & arrivals::<R>(board, king)
+}
+
+// Whether no enemy reaches the king once he has stepped from `from` to `to`.
+fn is_unreached(board: &Board, king: Man, from: Square, to: Square) -> bool
+    ensures { result ≡ true → IsUnreached board.now king from to }
+{
+    let captured = capture_square(
+        board,
+        king,
+        &Move {
+            from,
+            to,
+            promo: None,
+        },
+    );
+    let sight = sight_after(board, from, captured, to);
+    attackers_seen(board, sight, to, board.turn().other()) == 0
+}
+
+// The first of the squares on which no enemy reaches him then.
+fn first_unreached(board: &Board, king: Man, from: Square, squares: u64) -> Option<Square>
+    ensures within { IfSome result (λ t. (t < 64) × ((bit_at squares t == 1) ≡ true)) }
+    ensures unreached { IfSome result (λ t. IsUnreached board.now king from t) }
+{
+    let mut number = 0u8;
+    while let Some(to) = next_bit(squares, number) {
+        if is_unreached(board, king, from, to) {
+            return Some(to);
+        }
+        number = to.index() + 1;
+    }
+    None
+}
+
+// Whether the king has a legal step that gives no check, told without playing it.
+#[tactic(auto, using(crate::proofs::QuietSteps::step_legal))]
+fn steps_quietly<R: Rules>(board: &Board, squares: &CheckSquares) -> bool
+    requires well_formed { IsWellFormed board.now }
+    requires squares { AreCheckSquares board.now.men (other board.now.turn) squares.now }
+    ensures { result ≡ true
+        → list_all (is_mating R.rule board.now) (moves R.rule board.now) ≡ false }
+{
+    let Some(from) = board.king_of(board.turn()) else {
+        return false;
+    };
+    if contains(squares.shields(), from) {
+        return false;
+    }
+    let Some(king) = board.man_at(from) else {
+        return false;
+    };
+    let steps = step_squares::<R>(board, from);
+    let Some(to) = first_unreached(board, king, from, steps) else {
+        return false;
+    };
+    let step = Move {
+        from,
+        to,
+        promo: None,
+    };
+    is_quiet::<R>(board, squares, &step)
 }
 
 // Whether a legal move behind the place can't give check.

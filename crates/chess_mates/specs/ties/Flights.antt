@@ -2,7 +2,7 @@
 use Rattle.std.specs.Prelude.{◌≡◌, ◌<◌, ℕ, Bool, true, false, ◌&&◌, ◌==◌, not, List, Option, Some, None, is_some}
 use Rattle.std.specs.Int.{bit_at, bit_not, w64}
 use Rattle.std.specs.Int.Bits.{bit_and, bit_or}
-use Rattle.chess_core.specs.Position.{Position, king_square, man_on, other, same_kind}
+use Rattle.chess_core.specs.Position.{Position, is_side, king_square, man_on, other, same_kind}
 use Rattle.chess_core.specs.Squares.{is_square, some_square}
 use Rattle.chess_core.specs.WellFormed.{IsWellFormed}
 use Rattle.chess_core.specs.ties.Words.{word}
@@ -12,9 +12,9 @@ use Rattle.chess_core.specs.declared.man.Man.{Man}
 use Rattle.chess_core.specs.declared.man.Move.{Move}
 use Rattle.chess_rules.specs.Legal.{is_arrival_free, is_legal, is_pseudo_legal}
 use Rattle.chess_rules.specs.Play.{capture_square}
-use Rattle.chess_rules.specs.Reaches.{reaches_as}
+use Rattle.chess_rules.specs.Reaches.{reaches, reaches_as}
 use Rattle.chess_rules.specs.RuleSet.{RuleSet, is_circe}
-use Rattle.chess_rules.specs.ties.Sight.{is_simple, sight_after}
+use Rattle.chess_rules.specs.ties.Sight.{AreSeen, is_simple, sight_after}
 use Rattle.chess_rules.specs.declared.sight.Sight.{Sight}
 
 -- the king on this square, if there is one, may go to t
@@ -64,3 +64,10 @@ sight_with v t = record {
   occupied = bit_or v.occupied (word (is_square (Some t)));
   standing = bit_and v.standing (bit_not w64 (word (is_square (Some t))));
 }
+
+-- no enemy of the side to move reaches this king, one of its men, once he has stepped from k to t
+pub record IsUnreached (p : Position) (x : Man) (k t : ℕ) : Type 0 where
+  pub none : (men : List (Option Man))
+      → AreSeen p.men men (other p.turn) (sight_after p.men k
+      (capture_square p x (record { from = k; to = t; promo = None })) t)
+      → 0 ≡ word (λ s. is_side (man_on men s) (other p.turn) && reaches men s t)

@@ -8,3 +8,6 @@ returns-then-has_quiet_move-clause-answer g c = search (rules, moves_behind-star
 
 pub returns-clause-answer : goal.returns-clause-answer
 returns-clause-answer g c = search (rules, moves_behind-start)
+
+pub returns-then-steps_quietly-clause-answer : goal.returns-then-steps_quietly-clause-answer
+returns-then-steps_quietly-clause-answer g c = search (rules, none-all)

@@ -1,0 +1,7 @@
+use Rattle.chess_rules.proofs.Basics.{bit_at, rules, sym, ◌==◌, ◌∙◌}
+use Rattle.chess_mates.proofs.Chess.{find_first}
+use Rattle.chess_mates.proofs.every_move.first_unreached.Goals as goal
+
+pub returns-then-is_unreached-clause-within : goal.returns-then-is_unreached-clause-within
+returns-then-is_unreached-clause-within c =
+    let first = find_first (λ s. bit_at c.args.squares s == 1) _ _ _ (sym c.next_bit.ensures.value ∙ c.in-Some.is) in (search rules, first.here)

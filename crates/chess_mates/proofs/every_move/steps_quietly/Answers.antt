@@ -1,0 +1,9 @@
+use Rattle.chess_rules.proofs.Basics.{rules}
+use Rattle.chess_mates.proofs.Fleeing.{step_to}
+use Rattle.chess_mates.proofs.QuietSteps.{one_fails, step_legal}
+use Rattle.chess_mates.proofs.every_move.steps_quietly.Goals as goal
+
+pub returns : goal.returns
+returns g c = λ h.
+    one_fails g.R.Rules.rule c.args.board.now (step_to c.in-Some.from c.in-Some-first_unreached.to) c.requires.well_formed (search (rules, step_legal))
+    (c.is_quiet.ensures h)
