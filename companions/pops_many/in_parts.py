@@ -13,6 +13,7 @@ from pops_many.parts import (
     Part,
     Phase,
     count_in,
+    lines_without_total,
     solutions_in,
     solutions_of,
     without_totals,
@@ -159,14 +160,17 @@ class ProblemInParts:
             else:
                 yield from self._known(phase, read, begun, seen.get(phase.name, b""))
 
-    def _solutions(self, phase: Phase, read: Reader) -> List[bytes]:
+    def _solutions(self, phase: Phase, read: Reader) -> Iterator[bytes]:
         """The solutions of a phase that is done, and their number."""
-        solutions: List[bytes] = []
-        for number in self._of[phase.name].with_solutions:
-            solutions += solutions_of(read(self._part(phase, number)))
-        solutions = self._up_to_limit(solutions)
-        stopped = b", stopped" if len(solutions) == self._limit else b""
-        return solutions + [b"solutions: %d%s\n" % (len(solutions), stopped)]
+        of_phase = self._of[phase.name]
+        reports = (read(self._part(phase, number)) for number in of_phase.with_solutions)
+        if of_phase.found < self._limit:
+            yield from map(lines_without_total, reports)
+            yield b"solutions: %d\n" % of_phase.found
+            return
+        solutions = [solution for report in reports for solution in solutions_of(report)]
+        yield from self._up_to_limit(solutions)
+        yield b"solutions: %d, stopped\n" % self._limit
 
     def _known(
         self, phase: Phase, read: Reader, begun: Dict[Key, bytes], first: bytes

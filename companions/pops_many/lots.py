@@ -1,52 +1,88 @@
-"""Lots: parts of a phase that stand one behind another, which one run of pops-part goes through."""
+"""Lots: parts of a phase that stand one behind another, which one run of pops-part goes through.
 
+A run that is free takes over half of what is left of the longest lot. So each run goes through many
+parts, which costs few processes, and in battle play each part's search goes on with the moves that
+decided the tests of the part before it; and all runs end together.
+"""
+
+import threading
 from collections import deque
-from typing import Callable, Deque, List, Sequence
+from typing import Callable, Deque, List, Optional, Sequence
 
 from pops_many.parts import Part
 
-# A run gets such a share of the parts that are left, by the number of runs at a time: all have much
-# to do at first, and little at last, so that they end together.
-LOTS_OF_A_RUN = 4
-# In battle play a part's search uses the moves that decided the tests of the part before it.
-LOTS_IN_BATTLE_PLAY = 1.5
 
-Lot = Sequence[Part]
+class Lot:
+    """The parts that a run still goes through; those behind the first may be taken from it."""
+
+    def __init__(self, parts: Sequence[Part]):
+        self._left: Deque[Part] = deque(parts)
+        self._lock = threading.Lock()
+
+    def __len__(self) -> int:
+        return len(self._left)
+
+    @property
+    def first(self) -> Part:
+        """The part at work."""
+        return self._left[0]
+
+    @property
+    def left(self) -> List[Part]:
+        """All of them, in their order."""
+        with self._lock:
+            return list(self._left)
+
+    def pass_first(self) -> Part:
+        """Takes off the first, with which the run is done."""
+        with self._lock:
+            return self._left.popleft()
+
+    def half(self) -> List[Part]:
+        """Takes off the last half, without the first, for another run."""
+        with self._lock:
+            return [self._left.pop() for _ in range(len(self._left) // 2)][::-1]
 
 
-def numbers_of(lot: Lot) -> str:
-    """The numbers of a lot's parts, as pops-part takes them."""
-    first, last = lot[0].number, lot[-1].number
+def numbers_of(parts: Sequence[Part]) -> str:
+    """The numbers of parts that stand one behind another, as pops-part takes them."""
+    first, last = parts[0].number, parts[-1].number
     return str(first) if first == last else f"{first}..{last}"
 
 
 class Lots:
-    """Parts that are handed out in lots, for so many runs at a time."""
+    """Parts that are handed out in lots."""
 
-    def __init__(self, parts: Sequence[Part], jobs: int, is_alone: Callable[[Part], bool]):
+    def __init__(self, parts: Sequence[Part], is_alone: Callable[[Part], bool]):
         """Some parts are lots of their own."""
-        self._left: Deque[Part] = deque(parts)
-        self._jobs = jobs
-        self._is_alone = is_alone
-
-    def next(self, is_needless: Callable[[Part], bool]) -> Lot:
-        """The next lot of parts that matter still; an empty one where none is left."""
-        self._left = deque(part for part in self._left if not is_needless(part))
+        self._waiting: Deque[Lot] = deque()
+        self._running: List[Lot] = []
         lot: List[Part] = []
-        most = self._most()
-        while self._left and len(lot) < most and self._goes_on(lot, self._left[0]):
-            lot.append(self._left.popleft())
-        return lot
+        for part in parts:
+            if lot and (is_alone(part) or not _is_behind(lot[-1], part)):
+                self._waiting.append(Lot(lot))
+                lot = []
+            lot.append(part)
+        if lot:
+            self._waiting.append(Lot(lot))
 
-    def _most(self) -> int:
-        """How many parts the next lot has at most."""
-        is_help = not self._left or self._left[0].is_of_help_play
-        shares = self._jobs * (LOTS_OF_A_RUN if is_help else LOTS_IN_BATTLE_PLAY)
-        return max(1, int(len(self._left) / shares))
+    def next(self, is_needless: Callable[[Part], bool]) -> Optional[Lot]:
+        """The next lot that matters still, or half of one that runs; None where there is none."""
+        while self._waiting:
+            lot = self._waiting.popleft()
+            if not is_needless(lot.first):
+                self._running.append(lot)
+                return lot
+        half = max(self._running, key=len).half() if self._running else []
+        if not half:
+            return None
+        self._running.append(Lot(half))
+        return self._running[-1]
 
-    def _goes_on(self, lot: Lot, part: Part) -> bool:
-        """Whether a part belongs to a lot that has been begun."""
-        if not lot:
-            return True
-        before = lot[-1].key
-        return not self._is_alone(part) and part.key == before._replace(number=before.number + 1)
+    def end(self, lot: Lot) -> None:
+        """Takes note that the run of a lot ended."""
+        self._running.remove(lot)
+
+
+def _is_behind(before: Part, part: Part) -> bool:
+    return part.key == before.key._replace(number=before.number + 1)

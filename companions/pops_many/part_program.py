@@ -8,14 +8,14 @@ from typing import Dict, Generator, Iterator, List, Sequence, Set, Tuple
 
 from pops_many.leash import Leashed
 from pops_many.lots import Lot, numbers_of
-from pops_many.parts import Key, Part, PartsError, Phase, count_in, is_total, phases_listed
+from pops_many.parts import Key, Part, PartsError, Phase, count_in, phases_listed, up_to_totals
 from pops_many.program import SOUND, RunError, Runs
 from pops_many.tasks import whole_lines
 
 
-def _whole(lines: Sequence[bytes]) -> bytes:
+def _whole(texts: Sequence[bytes]) -> bytes:
     """The report of a part. RunError where its number of solutions lacks or is another one."""
-    report = b"".join(lines)
+    report = b"".join(texts)
     if count_in(report) is None:
         raise RunError("the lines of a part don't end with their number")
     return report
@@ -47,36 +47,38 @@ class PartProgram(Runs):
 
     def report(self, part: Part) -> bytes:
         """The report of a part. RunError where it didn't come to its end."""
-        return next(self.reports([part]))
+        return next(self.reports(Lot([part])))[1]
 
-    def reports(self, lot: Lot) -> Iterator[bytes]:
-        """The report of each part of a lot as it comes, all from one run.
+    def reports(self, lot: Lot) -> Iterator[Tuple[Part, bytes]]:
+        """The parts that are left of a lot, each with its report as it comes, all from one run.
 
         RunError at the first part that didn't come to its end.
         """
-        first, left = lot[0], list(lot)
-        words = ["--item", "1", "--phase", first.phase, "--part", numbers_of(lot)]
-        words += ["--depth", str(first.depth)]
+        asked = lot.left
+        words = ["--item", "1", "--phase", asked[0].phase, "--part", numbers_of(asked)]
+        words += ["--depth", str(asked[0].depth)]
         written: List[bytes] = []
         try:
-            with closing(self._lines(words, first)) as lines:
-                for line in lines:
-                    written.append(line)
-                    # (the last part is whole once the run has ended well)
-                    if len(left) > 1 and is_total(line):
-                        yield _whole(written)
-                        del left[0]
-                        written = []
-            if len(left) > 1:
+            with closing(self._pieces(words, asked[0])) as pieces:
+                for text, is_total in up_to_totals(pieces):
+                    written.append(text)
+                    # (the last part asked for is whole once the run has ended well)
+                    if is_total and lot.first is not asked[-1]:
+                        report, written = _whole(written), []
+                        yield lot.pass_first(), report
+                        if not lot:
+                            return
+            if lot.first is not asked[-1]:
                 raise RunError(self._reason(SOUND, b""))
-            yield _whole(written)
+            report = _whole(written)
+            yield lot.pass_first(), report
         except RunError:
             if written:
-                self.begun[left[0].key] = whole_lines(b"".join(written))
+                self.begun[lot.first.key] = whole_lines(b"".join(written))
             raise
 
-    def _lines(self, words: Sequence[str], first: Part) -> Generator[bytes, None, None]:
-        """The lines of a run on a lot as they come; it may be dropped meanwhile.
+    def _pieces(self, words: Sequence[str], first: Part) -> Generator[bytes, None, None]:
+        """What a run on a lot writes, piece by piece as it comes; it may be dropped meanwhile.
 
         RunError where it doesn't end well.
         """

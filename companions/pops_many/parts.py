@@ -6,7 +6,7 @@ and solves each; in their order they make the phase.
 
 import re
 from dataclasses import dataclass
-from typing import List, NamedTuple, Optional, Pattern
+from typing import Iterable, Iterator, List, NamedTuple, Optional, Pattern, Tuple
 
 from pops_many.cutting import BLANKS, TEXT_LINES, short_forms
 from pops_many.tasks import Task
@@ -17,9 +17,9 @@ MOST_PARTS = 100_000
 _SOUND = b"sound\n\n"
 _LIST = re.compile(rb"1: (?:set (?:(?P<set>\d+)|(?P<barred>not possible)), )?play (?P<play>\d+)\n")
 _TOTAL = re.compile(rb"solutions: (\d+)(?:, stopped)?\n")
+_TOTALS = re.compile(rb"^" + _TOTAL.pattern, re.MULTILINE)
 _TEXT_LINE = re.compile(rb"(?<![^" + BLANKS + rb"])" + TEXT_LINES, re.IGNORECASE)
 _LIMIT = re.compile(short_forms("maxsolutions"), re.IGNORECASE)
-_STIPULATION = re.compile(short_forms("stipulation"), re.IGNORECASE)
 
 
 class PartsError(Exception):
@@ -60,11 +60,6 @@ class Part:
     def text(self) -> bytes:
         """The problem as an input of its own."""
         return self.task.text_without_line_ends
-
-    @property
-    def is_of_help_play(self) -> bool:
-        """Whether the problem's stipulation, where it has one, is that of help play."""
-        return any(after[:1].lower() == b"h" for after in _behind(_STIPULATION, self.text))
 
     @property
     def shown(self) -> str:
@@ -132,6 +127,26 @@ def without_totals(lines: bytes) -> List[bytes]:
 def is_total(line: bytes) -> bool:
     """Whether a line tells how many solutions there are."""
     return _TOTAL.fullmatch(line) is not None
+
+
+def up_to_totals(pieces: Iterable[bytes]) -> Iterator[Tuple[bytes, bool]]:
+    """The same text in pieces of its own, with whether each ends with a total; none has another."""
+    rest = b""
+    for piece in pieces:
+        lines, end, rest = (rest + piece).rpartition(b"\n")
+        lines, begin = lines + end, 0
+        for total in _TOTALS.finditer(lines):
+            yield lines[begin : total.end()], True
+            begin = total.end()
+        if begin < len(lines):
+            yield lines[begin:], False
+    if rest:
+        yield rest, False
+
+
+def lines_without_total(report: bytes) -> bytes:
+    """The lines of a whole part's report but the last, which is its total."""
+    return report[: report.rfind(b"\n", 0, -1) + 1]
 
 
 def solutions_of(report: bytes) -> List[bytes]:

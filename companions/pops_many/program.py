@@ -1,6 +1,7 @@
 """Programs on this machine: where they are, and runs of them."""
 
 import os
+import select
 import shutil
 import signal
 import subprocess
@@ -13,6 +14,11 @@ from pops_many.tasks import UNFINISHED, Result, Task, is_whole, whole_lines
 
 # A run of pops ends with one of these where every byte of its report was written.
 SOUND, FAULTY = 0, 1
+
+# What a run writes is read after such pauses, in milliseconds, unless it ends sooner or writes much:
+# it writes each line by itself, and to be woken by each would cost more than the search.
+_PAUSE = 10
+_PIECE = 1 << 16
 
 LOOKED_FOR = (
     "the built program (default: $POPS, the one built in this repository, the one installed with"
@@ -138,16 +144,26 @@ class Runs:
             leashed.let_go()
 
     def _written(self, leashed: Leashed, text: bytes) -> Generator[bytes, None, None]:
-        """The lines that a run writes, each as it comes. It is stopped where they aren't read on."""
+        """What a run writes, piece by piece as it comes. It is stopped where it isn't read on."""
         run, is_read = leashed.run, False
         assert run.stdin is not None and run.stdout is not None
+        output = run.stdout.fileno()
+        # (without an event of its own it tells of the end alone)
+        end = select.poll()
+        end.register(output, 0)
         try:
             try:
                 with run.stdin:
                     run.stdin.write(text)
             except BrokenPipeError:
                 pass
-            yield from run.stdout
+            while True:
+                piece = os.read(output, _PIECE)
+                if not piece:
+                    break
+                yield piece
+                if len(piece) < _PIECE // 2:
+                    end.poll(_PAUSE)
             is_read = True
         finally:
             if not is_read:

@@ -148,7 +148,7 @@ class Splitting:
         self._finish(Result(task, SOUND, report))
 
     def _run_here(self, parts: Sequence[Part], jobs: int) -> None:
-        lots = Lots(parts, jobs, lambda part: self._problems[part.task.place].is_limited)
+        lots = Lots(parts, lambda part: self._problems[part.task.place].is_limited)
         came: "SimpleQueue[Union[Came, Future[None]]]" = SimpleQueue()
         try:
             with ThreadPoolExecutor(jobs) as pool:
@@ -176,7 +176,7 @@ class Splitting:
         while True:
             while len(running) < jobs:
                 lot = lots.next(self._is_needless)
-                if not lot:
+                if lot is None:
                     break
                 future = pool.submit(self._go_through, lot, came.put)
                 running[future] = lot
@@ -185,12 +185,13 @@ class Splitting:
                 return
             last = came.get()
             if not isinstance(last, Came):
-                del running[last]
+                lots.end(running.pop(last))
                 last.result()
             elif self._take(last):
                 for lot in running.values():
-                    if all(map(self._is_needless, lot)):
-                        self._program.drop(lot[0])
+                    left = lot.left
+                    if left and all(map(self._is_needless, left)):
+                        self._program.drop(left[0])
 
     def _take(self, came: "Came") -> bool:
         """Takes what came of a part. Whether others matter no more by it."""
@@ -204,19 +205,19 @@ class Splitting:
 
         One that came to no end is tried once more with those behind it, and then passed over.
         """
-        left, tried = list(lot), 0
-        while left:
+        tried = 0
+        while lot:
             try:
-                for report in self._program.reports(tuple(left)):
-                    hand_on(Came(left.pop(0), report, ""))
+                for part, report in self._program.reports(lot):
+                    hand_on(Came(part, report, ""))
                     tried = 0
             except RunError as error:
                 tried += 1
-                is_over = self._program.is_over(left[0])
+                is_over = self._program.is_over(lot.first)
                 if tried < _TRIES and not is_over:
-                    self._progress.say(f"{left[0].shown}: {error}; tried once more")
+                    self._progress.say(f"{lot.first.shown}: {error}; tried once more")
                     continue
-                hand_on(Came(left.pop(0), None, str(error)))
+                hand_on(Came(lot.pass_first(), None, str(error)))
                 tried = 0
                 if is_over:
                     return

@@ -15,7 +15,7 @@ import problems_in_parts
 import support
 
 from pops_many.in_parts import ProblemInParts
-from pops_many.lots import Lots, numbers_of
+from pops_many.lots import Lot, Lots, numbers_of
 from pops_many.part_program import PartProgram
 from pops_many.parts import (
     Part,
@@ -23,8 +23,10 @@ from pops_many.parts import (
     Phase,
     count_in,
     limit_of,
+    lines_without_total,
     phases_listed,
     solutions_in,
+    up_to_totals,
 )
 from pops_many.program import Program
 from pops_many.progress import Progress
@@ -55,8 +57,9 @@ class Told(PartProgram):
     def _answer(self, words: Sequence[str], text: bytes) -> Tuple[int, bytes, bytes]:
         return 0, parts_told.answer(words, text), b""
 
-    def _lines(self, words: Sequence[str], first: Part) -> Generator[bytes, None, None]:
-        yield from parts_told.answer(words, first.text).splitlines(keepends=True)
+    def _pieces(self, words: Sequence[str], first: Part) -> Generator[bytes, None, None]:
+        text = parts_told.answer(words, first.text)
+        yield from (text[begin : begin + 100] for begin in range(0, len(text), 100))
 
 
 def split(path: Path, *words: str) -> Tuple[int, bytes]:
@@ -183,6 +186,21 @@ class Texts(unittest.TestCase):
             with self.subTest(report):
                 self.assertEqual(count_in(report), count)
 
+    def test_pieces_up_to_totals(self) -> None:
+        text = b"1.a\nsolutions: 1\nsolutions: 0, stopped\n1.b solutions: 2\nsolutions: x\n1.c"
+        wanted = [(b"1.a\nsolutions: 1\n", True), (b"solutions: 0, stopped\n", True)]
+        wanted += [(b"1.b solutions: 2\nsolutions: x\n", False), (b"1.c", False)]
+        self.assertEqual(list(up_to_totals([text])), wanted)
+        for size in range(1, len(text)):
+            pieces = [text[begin : begin + size] for begin in range(0, len(text), size)]
+            found = list(up_to_totals(pieces))
+            with self.subTest(size):
+                self.assertEqual(b"".join(piece for piece, _ in found), text)
+                ends = [piece for piece, is_total in found if is_total]
+                self.assertEqual([piece[-2:] for piece in ends], [b"1\n", b"d\n"])
+        self.assertEqual(lines_without_total(b"solutions: 0\n"), b"")
+        self.assertEqual(lines_without_total(b"1.a\n1.b\nsolutions: 2\n"), b"1.a\n1.b\n")
+
     def test_progress(self) -> None:
         progress = Progress("pops-many")
         progress.begin_parts(40)
@@ -201,58 +219,84 @@ class Texts(unittest.TestCase):
 class Handed(unittest.TestCase):
     """How parts are handed out."""
 
-    def lots(self, parts: List[Part], jobs: int, alone: Sequence[int] = ()) -> List[str]:
-        """The numbers of all lots, where every seventh part is needless."""
-        lots = Lots(parts, jobs, lambda part: part.number in alone)
-        found = []
-        while True:
-            lot = lots.next(lambda part: part.number % 7 == 0)
-            if not lot:
-                return found
-            self.assertEqual({part.phase for part in lot}, {lot[0].phase})
-            found.append(numbers_of(lot))
-
-    def parts(
-        self, phase: str, numbers: Sequence[int], stipulation: bytes = b"h#3"
-    ) -> List[Part]:
-        text = b"BeginProblem Title Stipulation s#2\nStip " + stipulation + b" EndProblem"
-        task = tasks_of([Source(None, text)])[0]
+    def parts(self, phase: str, numbers: Sequence[int]) -> List[Part]:
+        task = tasks_of([Source(None, b"")])[0]
         return [Part(task, phase, number, 1) for number in numbers]
 
-    def test_lots_grow_smaller(self) -> None:
-        lots = Lots(self.parts("play", range(1, 2001)), 4, lambda part: False)
-        sizes, next_one = [], 1
-        while True:
-            lot = lots.next(lambda part: False)
-            if not lot:
-                break
-            numbers = list(range(next_one, next_one + len(lot)))
-            self.assertEqual([part.number for part in lot], numbers)
-            next_one += len(lot)
-            sizes.append(len(lot))
-        self.assertEqual(sum(sizes), 2000)
-        self.assertEqual(sizes, sorted(sizes, reverse=True))
-        self.assertEqual((sizes[0], sizes[-1]), (125, 1))
-        self.assertLess(len(sizes), 120)
+    def lots(self, parts: List[Part], alone: Sequence[int] = ()) -> Lots:
+        return Lots(parts, lambda part: part.number in alone)
 
-    def test_lots_of_battle_play_are_larger(self) -> None:
-        for stipulation, wanted in ((b"#5", 8), (b"s=4", 8), (b"h=5", 3), (b"H#2.5", 3)):
-            with self.subTest(stipulation=stipulation):
-                lots = Lots(self.parts("play", range(1, 50), stipulation), 4, lambda part: False)
-                self.assertEqual(len(lots.next(lambda part: False)), wanted)
+    def next(self, lots: Lots) -> Lot:
+        """The next lot, where every seventh part is needless."""
+        lot = lots.next(lambda part: part.number % 7 == 0)
+        assert lot is not None
+        return lot
 
     def test_lots_stand_one_behind_another(self) -> None:
-        parts = self.parts("set", [1, 2, 3, 5, 6, 8]) + self.parts("play", range(9, 14))
-        self.assertEqual(self.lots(parts, 100), "1 2 3 5 6 8 9 10 11 12 13".split())
-        with mock.patch("pops_many.lots.LOTS_OF_A_RUN", 1):
-            for jobs, alone, wanted in (
-                (1, [], "1..3 5..6 8 9..13"),
-                (2, [], "1..3 5..6 8 9..10 11 12 13"),
-                (1, [2, 11], "1 2..3 5..6 8 9..10 11..13"),
-            ):
-                self.assertEqual(self.lots(parts, jobs, alone), wanted.split())
-            self.assertEqual(self.lots(self.parts("play", range(5, 10)), 1), ["5..6", "8..9"])
-        self.assertEqual(self.lots([], 1), [])
+        parts = self.parts("set", [1, 2, 3, 5, 6, 7]) + self.parts("play", range(8, 14))
+        for alone, wanted in (
+            ([], "1..3 5..7 8..13"),
+            ([2, 11], "1 2..3 5..7 8..10 11..13"),
+            (range(20), "1 2 3 5 6 8 9 10 11 12 13"),
+        ):
+            lots = self.lots(parts, alone)
+            found = [self.next(lots) for _ in wanted.split()]
+            self.assertEqual([numbers_of(lot.left) for lot in found], wanted.split())
+            for lot in found:
+                self.assertEqual({part.phase for part in lot.left}, {lot.first.phase})
+
+    def test_a_free_run_takes_half_of_the_longest_lot(self) -> None:
+        lots = self.lots(self.parts("play", range(1, 14)))
+        first = self.next(lots)
+        steps = [
+            ("8..13", "1..7"),
+            ("5..7", "1..4"),
+            ("11..13", "1..4"),
+            ("3..4", "1..2"),
+            ("10", "1..2"),
+            ("7", "1..2"),
+            ("13", "1..2"),
+        ]
+        for given, left in steps:
+            taken = self.next(lots)
+            self.assertEqual([numbers_of(lot.left) for lot in (taken, first)], [given, left])
+        first.pass_first()
+        self.assertEqual(numbers_of(first.left), "2")
+
+    def test_the_part_at_work_stays(self) -> None:
+        lots = self.lots(self.parts("play", range(1, 6)))
+        first = self.next(lots)
+        for _ in range(3):
+            first.pass_first()
+        self.assertEqual(numbers_of(self.next(lots).left), "5")
+        self.assertIsNone(lots.next(lambda part: False))
+        first.pass_first()
+        self.assertEqual(len(first), 0)
+        lots.end(first)
+        self.assertIsNone(lots.next(lambda part: False))
+        self.assertIsNone(self.lots([]).next(lambda part: False))
+
+    def test_a_run_ends_where_its_parts_were_taken(self) -> None:
+        """The rest of what it was asked for isn't read."""
+        lot = Lot(self.parts("play", range(1, 7)))
+        program = PartProgram(NAMED, 1)
+        closed = []
+
+        def pieces(words: Sequence[str], first: Part) -> Generator[bytes, None, None]:
+            try:
+                for _ in range(6):
+                    yield b"solutions: 0\n"
+            finally:
+                closed.append(words[-3])
+
+        with mock.patch.object(program, "_pieces", pieces):
+            found = []
+            for part, report in program.reports(lot):
+                found.append((part.number, report))
+                if part.number == 2:
+                    self.assertEqual(numbers_of(lot.half()), "5..6")
+        self.assertEqual(found, [(number, b"solutions: 0\n") for number in range(1, 5)])
+        self.assertEqual(closed, ["1..6"])
 
     def test_cut_soon_where_processors_have_nothing_to_do(self) -> None:
         for words, problems, moment in (

@@ -6,6 +6,7 @@ import re
 import signal
 import subprocess
 import sys
+import time
 import unittest
 from typing import List, Tuple
 
@@ -16,26 +17,34 @@ from split_room import SplitRoom
 
 
 class Runs(SplitRoom):
-    def test_all_parts_once(self) -> None:
+    def test_all_parts(self) -> None:
         self.assertEqual(self.split(self.pops_part(), "--jobs", "3"), (0, b"", ""))
         self.assertEqual(self.report.read_bytes(), self.wanted)
-        asked = self.parts()
-        self.assertEqual(len(asked), len(set(asked)))
-        self.assertGreater(len(asked), 20)
+        self.assertGreater(len(set(self.parts())), 20)
         self.assertEqual(self.files(), ["six.report"])
+
+    def test_a_free_run_takes_parts_of_another(self) -> None:
+        """Each part lasts longer than one run takes to see what another has done."""
+        program = self.pops_part("problem-*", "sleep 0.2")
+        self.assertEqual(self.split(program, "--jobs", "4"), (0, b"", ""))
+        self.assertEqual(self.report.read_bytes(), self.wanted)
+        runs, asked = self.runs_on_parts(), self.parts()
+        self.assertGreater(len(runs), 4)
+        self.assertEqual(len(set(asked)), 26)
+        # A run that is stopped behind its last part may have begun the next one.
+        self.assertLess(len(asked), 26 + len(runs))
 
     def test_a_run_goes_through_several_parts(self) -> None:
         self.assertEqual(self.split(self.pops_part(), "--jobs", "1"), (0, b"", ""))
         self.assertEqual(self.report.read_bytes(), self.wanted)
         runs = self.runs_on_parts()
-        self.assertEqual(runs[:3], ["set-1..6", "set-7..11", "set-12..14"])
-        self.assertEqual(runs[-7:], [f"play-{number}" for number in range(1, 8)])
-        self.assertLess(len(runs), len(self.parts()))
+        self.assertEqual(runs, ["set-1..19", "play-1..7"])
+        self.assertEqual(len(self.parts()), 26)
 
     def test_a_run_goes_on_behind_a_part_that_fails(self) -> None:
         outcome = self.split(self.pops_part("problem-set-3", "exit 4"), "--jobs", "1")
         self.assertEqual(outcome.status, 6)
-        self.assertEqual(self.runs_on_parts()[:3], ["set-1..6", "set-3..6", "set-4..6"])
+        self.assertEqual(self.runs_on_parts()[:3], ["set-1..19", "set-3..19", "set-4..19"])
         self.assertIn("unfinished: stopped with 25 of 26 parts done", self.rest.read_text())
 
     def test_parts_that_came_are_kept_when_the_rest_of_a_run_is_cut_off(self) -> None:
@@ -88,7 +97,7 @@ class Runs(SplitRoom):
         self.assertEqual(outcome.status, 6)
         where = f"problem 1 ({self.input}, line 1)"
         ended = "pops-part was ended by signal 9"
-        number = len(self.parts()) - 1
+        number = len(set(self.parts()))
         self.assertEqual(
             outcome.error,
             f"pops-many: part 2 of the play of {where}: {ended}; tried once more\n"
@@ -158,6 +167,8 @@ class Ends(SplitRoom):
         program = self.pops_part("problem-play-5", "echo 1.Kh8-g8; exec sleep 60")
         run = self.started(*self.words_of_split(program, "--jobs", "1", *more))
         wait_for(lambda: "play-5" in self.parts())
+        # What the parts before it wrote is read after a pause.
+        time.sleep(0.3)
         run.send_signal(sign)
         error = run.communicate(timeout=30)[1].decode()
         return run.returncode, error
