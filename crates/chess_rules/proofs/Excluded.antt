@@ -240,11 +240,11 @@ captures_and_shuts_meet_a_check w are = (
   met_there w a4 (omega arith) (λ s lt. agree_below_at (unmet a4) (λ _. false) 64 s refl lt) are,
 )
 
--- a rook on a8 attacks a1, which is no flight then
-pub attacked_square_is_no_flight : word (λ s. is_side (man_on (set_up (on Black Rook a8 ∷ [])) s) Black && reaches (set_up (on Black Rook a8 ∷ [])) s a1)
-    ≡ 2 ^ 56
-unfolding word word_of squares reaches reaches_as rides hops leaps is_clear along
-attacked_square_is_no_flight = refl
+-- a rook on a8 alone attacks a1, which is no flight then
+pub attacked_square_is_no_flight : (word (λ s. is_side (man_on (set_up (on Black Rook a8 ∷ [])) s) Black && reaches (set_up (on Black Rook a8 ∷ [])) s a1)
+    ≡ 2 ^ 56) × (is_reached (set_up (on Black Rook a8 ∷ [])) a1 Black ≡ true)
+unfolding word word_of squares some_square is_reached reaches reaches_as rides hops leaps is_clear along
+attacked_square_is_no_flight = (refl, refl)
 
 -- after a capture en passant from e5 to d6 neither e5 nor d5 shuts a line, and d6 does; the captured pawn attacks nothing, and a man on b3 may
 pub captured_man_is_gone : (bit_at (sight_after opening_capture.men e5 (Some d5) d6).occupied e5 ≡ 0)
@@ -253,11 +253,12 @@ pub captured_man_is_gone : (bit_at (sight_after opening_capture.men e5 (Some d5)
 unfolding word word_of squares
 captured_man_is_gone = (refl, refl, refl, refl, refl)
 
--- rooks on a1 and h1 paralyse each other: in Madrasi neither attacks d1
+-- rooks on a1 and h1 paralyse each other: in Madrasi neither attacks d1, though it reaches it
 pub paralysed_man_attacks_nothing : (is_attacked orthodox (set_up (on White Rook a1 ∷ on Black Rook h1 ∷ [])) d1 Black ≡ true)
     × (is_attacked madrasi (set_up (on White Rook a1 ∷ on Black Rook h1 ∷ [])) d1 Black ≡ false)
-unfolding check_after_a_move
-paralysed_man_attacks_nothing = (refl, refl)
+    × (is_reached (set_up (on White Rook a1 ∷ on Black Rook h1 ∷ [])) d1 Black ≡ true)
+unfolding is_reached check_after_a_move
+paralysed_man_attacks_nothing = (refl, refl, refl)
 
 -- Madrasi, White Kh1 Rd1, Black Kb8 Rh3, which gives check: on d3 White's rook paralyses it, and only an orthodox rook checks on
 abbrev rook_faces_rook : Position

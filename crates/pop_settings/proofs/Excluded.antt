@@ -1,14 +1,18 @@
 -- What the clauses of the settings exclude: settings that others' words choose, flags that weren't given, and a refusal of words that are right.
 use Rattle.pop_settings.proofs.Basics.{List, None, Some, Text, [], codes, false, inl, inr, matches_of, one_of, refl, sym, takes, true, ◌∙◌, ◌≡◌}
-use Rattle.std.specs.Prelude.{is_some}
+use Rattle.std.specs.Prelude.{is_some, ◌∷◌}
+use Rattle.clap.specs.Walk.{Row}
+use Rattle.clap.specs.declared.builder.value_parser.Reading.TheVariants.{AsWritten}
 use Rattle.pop_settings.specs.pops.CommandLine as pops
 use Rattle.pop_settings.specs.pops_part.CommandLine as part
+unfoldable use Rattle.pop_settings.specs.pops_part.CommandLine.{wanted_by}
 unfoldable use Rattle.pop_settings.specs.pops_part.Numbers.{depth_in, number_in, phase_in, range_in}
 use Rattle.pop_settings.specs.declared.arg_fault.ArgFault.TheVariants.{Usage}
 use Rattle.pop_settings.specs.declared.pops.settings.Settings.{Settings as PopsSettings}
-use Rattle.pop_settings.specs.declared.pops_part.settings.PhaseName.TheVariants.{Set}
+use Rattle.pop_settings.specs.declared.pops_part.settings.PhaseName.TheVariants.{Set, Play}
 use Rattle.pop_settings.specs.declared.pops_part.settings.Settings.{Settings as PartSettings}
 use Rattle.pop_settings.specs.declared.pops_part.settings.Wanted.{Wanted}
+use Rattle.pop_settings.specs.declared.pops_part.settings.Wanted.TheVariants.{List as ListOf, Parts}
 
 -- `pops`: a flag is set exactly where it was given
 pub no_other_flag : (words : List Text) (s : PopsSettings) → one_of (codes "check") (matches_of pops.command words) ≡ None
@@ -23,18 +27,40 @@ taken_words_are_right words right told = let wrong = told right in cc
 pub refused_words_are_wrong : (words : List Text) → pops.refusals words ≡ [] → pops.IsUsageIfRefused words Usage → ⊥
 refused_words_are_wrong words none told = absurd (told refl none)
 
--- `pops-part`: words want one thing alone
-pub nothing_else_wanted : (words : List Text) (s t : PartSettings) → part.IsSettings words s → part.IsSettings words t → s.wanted ≡ t.wanted
-nothing_else_wanted words s t one other = let same : Some s.wanted ≡ Some t.wanted = sym one.wanted ∙ other.wanted in cc
+-- `pops-part`: words want what clap's matches of them choose, and nothing else
+pub nothing_else_wanted : (words : List Text) (s : PartSettings) (wanted : Wanted) → part.wanted_by (matches_of part.command words) ≡ Some wanted
+    → part.IsSettings words s → s.wanted ≡ wanted
+nothing_else_wanted words s wanted chosen is = let same : Some s.wanted ≡ Some wanted = sym is.wanted ∙ chosen in cc
+
+-- clap's match of an option
+abbrev given : Text → Text → Row
+given name text = record { id = name; values = text ∷ []; count = None; source = None; reading = AsWritten }
+
+-- they choose the parts that are named, told apart by one move where nothing is said
+parts_wanted : (wanted_by (given (codes "item") (codes "2") ∷ given (codes "phase") (codes "set") ∷ given (codes "part") (codes "3..5") ∷ [])
+    ≡ Some (Parts (record { item = 2; phase = Set; first = 3; last = 5; depth = 1 })))
+    × (wanted_by
+    (given (codes "item") (codes "2") ∷ given (codes "phase") (codes "play") ∷ given (codes "part") (codes "3") ∷ given (codes "depth") (codes "4") ∷ [])
+    ≡ Some (Parts (record { item = 2; phase = Play; first = 3; last = 3; depth = 4 })))
+unfolding wanted_by depth_in number_in phase_in range_in
+parts_wanted = (refl, refl)
+
+-- or a list, beside which no parts are named
+list_wanted : (wanted_by (given (codes "list") (codes "true") ∷ []) ≡ Some (ListOf 1))
+    × (wanted_by (given (codes "list") (codes "true") ∷ given (codes "depth") (codes "2") ∷ []) ≡ Some (ListOf 2))
+    × (wanted_by (given (codes "list") (codes "true") ∷ given (codes "part") (codes "1") ∷ []) ≡ None)
+    × (wanted_by (given (codes "list") (codes "false") ∷ []) ≡ None)
+unfolding wanted_by depth_in number_in phase_in range_in
+list_wanted = (refl, refl, refl, refl)
 
 -- words of one of the forms that the command takes aren't told as wrong
-pub words_of_a_form_are_right : (words : List Text) → takes part.command words ≡ true → is_some (part.wanted_by (matches_of part.command words)) ≡ true
+pub words_of_a_form_are_right : (words : List Text) → takes part.command words ≡ true → is_some (wanted_by (matches_of part.command words)) ≡ true
     → part.IsMemoryIfTaken words Usage → ⊥
 words_of_a_form_are_right words right meant told = let wrong = told right meant in cc
 
 -- nor are any words without a cause
 pub words_of_no_form_are_wrong : (words : List Text) (wanted : Wanted) → part.refusals words ≡ []
-    → part.wanted_by (matches_of part.command words) ≡ Some wanted → part.IsUsageIfRefused words Usage → ⊥
+    → wanted_by (matches_of part.command words) ≡ Some wanted → part.IsUsageIfRefused words Usage → ⊥
 words_of_no_form_are_wrong words wanted none meant told = elim (told refl) [
   | inl some ↦ absurd (some none)
   | inr neither ↦ absurd (let wrong : Some wanted ≡ None = sym meant ∙ neither in cc)
@@ -63,6 +89,6 @@ depths : (depth_in (codes "1") ≡ Some 1) × (depth_in (codes "4") ≡ Some 4) 
 unfolding depth_in
 depths = (refl, refl, refl, refl, refl)
 
-phases : (phase_in (codes "set") ≡ Some Set) × (phase_in (codes "Set") ≡ None)
+phases : (phase_in (codes "set") ≡ Some Set) × (phase_in (codes "play") ≡ Some Play) × (phase_in (codes "Set") ≡ None)
 unfolding phase_in
-phases = (refl, refl)
+phases = (refl, refl, refl)
