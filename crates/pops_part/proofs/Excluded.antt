@@ -1,5 +1,5 @@
 -- What the clauses of the program exclude: other parts than those named, and ends told alike.
-use Rattle.std.proofs.Common.{[], refl, ◌≡◌, ◌≢◌}
+use Rattle.std.proofs.Common.{codes, refl, ◌≡◌}
 use Rattle.pop_solve.specs.declared.event.Phase.TheVariants.{Set, Play}
 use Rattle.pop_parts.specs.declared.asked.Outcome.{Outcome}
 use Rattle.pop_settings.specs.declared.pops_part.settings.PhaseName.TheVariants.{Set as SetName, Play as PlayName}
@@ -18,6 +18,6 @@ pub statuses : (outcome : Outcome) → (status_of Done ≡ 0) × (status_of Faul
     × (status_of OutputFailed ≡ 3)
 statuses outcome = (refl, refl, refl, refl, refl)
 
--- something is told of an output that failed
-pub failed_output_told : message_of OutputFailed ≢ []
-failed_output_told e = cc
+-- what is told of an output that failed
+pub failed_output_told : message_of OutputFailed ≡ codes "pops-part: output failed\n"
+failed_output_told = refl
