@@ -11,7 +11,7 @@ unfoldable use Rattle.pop_run.specs.Report.{status_of}
 use Rattle.pop_run.specs.declared.status.Status.{Status}
 use Rattle.pop_run.specs.declared.status.Status.TheVariants.{OutputFailed as ListCut}
 use Rattle.pop_solve.proofs.Words.{Move, Posed, RuleSet, ap, eqb, slice_get, ◌∷◌}
-use Rattle.pop_solve.specs.declared.event.Phase.{Phase}
+use Rattle.pop_events.specs.declared.event.Phase.{Phase}
 use Rattle.chess_core.specs.MoveOrder.{triple_number}
 use Rattle.pop_parts.specs.PhaseParts.{begins_path, begins_so, part_numbered, parts}
 use Rattle.pop_parts.specs.Parts.{entry_numbered, outcome_at, outcome_of, text_at, text_of}

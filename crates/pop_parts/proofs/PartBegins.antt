@@ -1,6 +1,6 @@
 -- How a part begins: behind its first moves stand its solutions.
 use Rattle.pop_solve.proofs.Words.{AreKnown, BareEvent, Bool, Counts, Frame, Game, GoesTo, IsCounted, IsLinked, IsRoomy, IsSound, IsWalking, List, Mate, Move, Posed, Position, RuleSet, [], after_well_formed, ap, append-nil, arith, eqb, false, follows, get_or, gives, half_moves_on, inl, inr, is_for_mate, is_help, is_legal, is_mate, is_pseudo_legal-from_legal, length, length-append, length-reverse, map, min, moves_behind, nat_tests, path, path_end, phase_half_moves, phase_paths, phase_start, plan_of, position, refl, reverse, rules, seeks_last, shown_paths, suc, sym, take, to_come, to_open, true, undo_of, walk_count, ℕ, ◌++◌, ◌+◌, ◌-◌, ◌<◌, ◌^◌, ◌∙◌, ◌∷◌, ◌≡◌, ◌≤◌}
-use Rattle.pop_solve.specs.declared.event.Phase.{Phase}
+use Rattle.pop_events.specs.declared.event.Phase.{Phase}
 use Rattle.pop_solve.specs.declared.plan.Plan.{Plan}
 use Rattle.chess_rules.specs.Legal.{moves as legal_moves}
 use Rattle.chess_rules.specs.Play.{position_after}

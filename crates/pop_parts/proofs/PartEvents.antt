@@ -1,9 +1,9 @@
 -- What a search of one part gives at a call, and what it opens.
 use Rattle.pop_solve.proofs.Words.{BareEvent, Bool, Frame, Gives, IsCounted, IsEnded, IsSound, IsWalking, List, Move, Opens, Posed, Position, RuleSet, StandsOn, Walks, [], arith, beginning_count, begins, cond, eqb, event_of, false, half_moves, is_help, is_set, keep, length, length-reverse, nat_tests, path, path_event, phase_half_moves, phase_paths, phase_start, plan_of, refl, reverse, rules, subst, to_open, true, ℕ, ◌+◌, ◌-◌, ◌<◌, ◌||◌, ◌∙◌, ◌∷◌, ◌≡◌, ◌≤◌}
-use Rattle.pop_solve.specs.declared.event.Event.{Event}
-use Rattle.pop_solve.specs.declared.event.Event.TheVariants.{Total}
-use Rattle.pop_solve.specs.declared.event.Phase.{Phase}
-use Rattle.pop_solve.specs.declared.event.Phase.TheVariants.{Play, Set}
+use Rattle.pop_events.specs.declared.event.Event.{Event}
+use Rattle.pop_events.specs.declared.event.Event.TheVariants.{Total}
+use Rattle.pop_events.specs.declared.event.Phase.{Phase}
+use Rattle.pop_events.specs.declared.event.Phase.TheVariants.{Play, Set}
 use Rattle.pop_parts.specs.declared.part_search.PartStage.{PartStage}
 use Rattle.pop_parts.specs.declared.part_search.PartStage.TheVariants.{Behind, First, Within}
 use Rattle.pop_parts.specs.ties.PartStages.{IsPartOpened, events_left}

@@ -1,7 +1,7 @@
 -- The parts of a phase by their numbers, and how many there are.
 use Rattle.pop_solve.proofs.Words.{Bool, Frame, List, MatchOption, Move, None, Option, Posed, Position, RuleSet, Some, [], arith, chess, cond, eqb, false, half_moves, is_barred, is_help, is_legal, length, length-reverse, min, not, path, phase_half_moves, phase_start, refl, reverse, slice_get, subst, true, ℕ, ◌++◌, ◌-◌, ◌||◌, ◌∙◌, ◌∷◌, ◌≡◌, ◌≤◌}
-use Rattle.pop_solve.specs.declared.event.Phase.{Phase}
-use Rattle.pop_solve.specs.declared.event.Phase.TheVariants.{Play, Set}
+use Rattle.pop_events.specs.declared.event.Phase.{Phase}
+use Rattle.pop_events.specs.declared.event.Phase.TheVariants.{Play, Set}
 use Rattle.pop_input.specs.declared.stipulation.Goal.{Goal}
 use Rattle.pop_parts.specs.PhaseParts.{beginnings, part_depth, part_numbered, parts}
 use Rattle.pop_parts.specs.ties.Beginnings.{FindsNumbered, IsSeeking, beginnings_to_come}

@@ -1,7 +1,7 @@
 -- What the walk shows behind a part's first moves is the part's solutions.
 use Rattle.pop_solve.proofs.Words.{Bool, Contains, IsSound, IsWellFormed, List, Move, Posed, Position, RuleSet, [], after_well_formed, and_parts, ap, append-nil, append_assoc, arith, chess, eqb, false, filter, help_lines, is_help, is_legal, is_pseudo_legal-from_legal, length, length-append, lines_to_goal, map, moves_are_the_legal_moves, moves_in_order, path_end, phase_half_moves, phase_start, plan_of, refl, set_tree, shown_paths, solutions, subst, suc, sym, tree, true, zero, ℕ, ◌++◌, ◌+◌, ◌-◌, ◌∙◌, ◌∷◌, ◌≡◌, ◌≤◌}
-use Rattle.pop_solve.specs.declared.event.Phase.{Phase}
-use Rattle.pop_solve.specs.declared.event.Phase.TheVariants.{Play, Set}
+use Rattle.pop_events.specs.declared.event.Phase.{Phase}
+use Rattle.pop_events.specs.declared.event.Phase.TheVariants.{Play, Set}
 use Rattle.std.proofs.lemmas.Simd.{map-map}
 use Rattle.chess_rules.specs.Legal.{moves as legal_moves}
 use Rattle.chess_rules.specs.Play.{position_after}

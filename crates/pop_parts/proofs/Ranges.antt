@@ -8,7 +8,7 @@ use Rattle.pop_text.specs.Bytes.{Appends, Begins}
 use Rattle.pop_input.specs.Posed.{Posed}
 use Rattle.pop_run.proofs.Findings.{IsPrinting, printing_breaks_off, printing_goes_on, printing_starts}
 use Rattle.pop_parts.specs.PhaseParts.{part_numbered, parts}
-use Rattle.pop_solve.specs.declared.event.Phase.{Phase}
+use Rattle.pop_events.specs.declared.event.Phase.{Phase}
 use Rattle.pop_parts.specs.Parts.{part_text}
 use Rattle.pop_parts.specs.ties.Items.{text_if}
 

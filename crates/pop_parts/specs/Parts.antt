@@ -7,8 +7,8 @@ use Rattle.pop_input.specs.Blocks.{Entry, Sound, Faulty}
 use Rattle.pop_input.specs.Posed.{Posed, rule_of}
 use Rattle.pop_solve.specs.Events.{Path, event_of, is_barred}
 use Rattle.pop_parts.specs.PhaseParts.{parts, part_events}
-use Rattle.pop_solve.specs.declared.event.Phase.{Phase}
-use Rattle.pop_solve.specs.declared.event.Phase.TheVariants.{Set, Play}
+use Rattle.pop_events.specs.declared.event.Phase.{Phase}
+use Rattle.pop_events.specs.declared.event.Phase.TheVariants.{Set, Play}
 use Rattle.pop_print.specs.Events.{event_text}
 use Rattle.pop_run.specs.Report.{entries_in, tells_failure}
 use Rattle.pop_parts.specs.declared.asked.Asked.{Asked}

@@ -9,7 +9,7 @@ use Rattle.pop_input.specs.Stipulations.{is_help}
 use Rattle.pop_solve.specs.Chess.{chess}
 use Rattle.pop_solve.specs.Events.{BareEvent, Path, Solution, is_barred, path_event, phase_half_moves, phase_start, solutions, total}
 use Rattle.pop_solve.specs.Game.{Game}
-use Rattle.pop_solve.specs.declared.event.Phase.{Phase}
+use Rattle.pop_events.specs.declared.event.Phase.{Phase}
 
 module _ {P M : Type 0} where
   -- all lists of d moves from p, each legal where it stands, in the order of moves

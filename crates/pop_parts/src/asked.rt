@@ -1,8 +1,8 @@
 //! What is asked of the parts of a phase, and what comes of it.
-use pop_solve::event::Phase;
+use pop_events::event::Phase;
 
 /// Parts of a phase of an item: those with the numbers from `first` to `last`. Items and parts are counted from 1.
-#[derive(Clone, Copy, PartialEq, Eq)]
+#[derive(Clone, Copy)]
 pub struct Asked {
     pub item: u64,
     pub phase: Phase,
@@ -13,7 +13,7 @@ pub struct Asked {
 }
 
 /// What comes of it.
-#[derive(Clone, Copy, Debug, PartialEq, Eq)]
+#[derive(Clone, Copy)]
 pub enum Outcome {
     /// The parts were printed.
     Shown,

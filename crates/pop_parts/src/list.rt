@@ -15,13 +15,13 @@ use crate::searching::parts_in;
 use chess_core::board::Board;
 use chess_rules::rules::in_check;
 use chess_rules::{Circe, Madrasi, Orthodox, Rules};
+use pop_events::event::Phase;
 use pop_input::condition::Condition;
 use pop_input::item::Item;
 use pop_input::problem::Problem;
 use pop_input::reader::Reader;
 use pop_print::line::LineBuffer;
 use pop_run::status::Status;
-use pop_solve::event::Phase;
 use pop_text::sink::{Sink, SinkFault};
 use pop_text::source::Source;
 

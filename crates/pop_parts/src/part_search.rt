@@ -22,9 +22,9 @@ use arrayvec::ArrayVec;
 use chess_core::board::Board;
 use chess_core::man::Move;
 use chess_rules::rules::Rules;
+use pop_events::event::{Event, Phase};
 use pop_input::problem::Problem;
 use pop_solve::chess::{reaches_goal, retract};
-use pop_solve::event::{Event, Phase};
 use pop_solve::frame::Frame;
 use pop_solve::killers::Killers;
 use pop_solve::phases::{

@@ -6,8 +6,8 @@ ghost use Rattle.pop_parts.specs.PhaseParts.{part_events, part_numbered, parts};
 use crate::beginnings::count_parts;
 use crate::part_search::PartSearch;
 use chess_rules::rules::Rules;
+use pop_events::event::Phase;
 use pop_input::problem::Problem;
-use pop_solve::event::Phase;
 use pop_solve::killers::Killers;
 
 /// How many parts a phase has, up to the greatest u64.

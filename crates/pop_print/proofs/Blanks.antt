@@ -5,7 +5,7 @@ use Rattle.pop_text.specs.Bytes.{Appends, Begins}
 use Rattle.pop_text.proofs.Appending.{begins_longer, begins_later}
 use Rattle.pop_print.specs.Moves.{move_text}
 use Rattle.pop_print.specs.Events.{node_text, prefix_text}
-use Rattle.pop_solve.specs.Shown.{Shown}
+use Rattle.pop_events.specs.Shown.{Shown}
 
 -- a row of blanks in two parts
 blanks_cut : (part whole : ℕ) → part ≤ whole → replicate {A = ℕ} whole 32 ≡ replicate part 32 ++ replicate (whole - part) 32

@@ -1,10 +1,10 @@
 -- How the events of a solution are written (own layout).
 use Rattle.std.specs.Prelude.{ℕ, ◌+◌, ◌*◌, ◌/◌, ◌%◌, ◌==◌, List, [], ◌∷◌, ◌++◌, Bool, true, false, if◌then◌else◌, codes, decimal, replicate}
-use Rattle.pop_solve.specs.Shown.{Shown}
-use Rattle.pop_solve.specs.declared.event.Phase.{Phase as PhaseOf}
-use Rattle.pop_solve.specs.declared.event.Phase.TheVariants.{Set, Play}
-use Rattle.pop_solve.specs.declared.event.Event.{Event}
-use Rattle.pop_solve.specs.declared.event.Event.TheVariants.{Phase, Line, Node, Impossible, Total}
+use Rattle.pop_events.specs.Shown.{Shown}
+use Rattle.pop_events.specs.declared.event.Phase.{Phase as PhaseOf}
+use Rattle.pop_events.specs.declared.event.Phase.TheVariants.{Set, Play}
+use Rattle.pop_events.specs.declared.event.Event.{Event}
+use Rattle.pop_events.specs.declared.event.Event.TheVariants.{Phase, Line, Node, Impossible, Total}
 use Rattle.pop_print.specs.Moves.{move_text}
 use Rattle.pop_print.specs.Notation.{blank}
 

@@ -2,11 +2,11 @@
 use Rattle.std.specs.Prelude.{ℕ, List, [], ◌∷◌, ◌++◌, Bool, true, false, Option, Some, None, codes}
 use Rattle.chess_core.specs.declared.man.Man.{Man}
 use Rattle.chess_core.specs.declared.man.Kind.{Kind}
-use Rattle.pop_solve.specs.declared.shown.Side.{Side}
-use Rattle.pop_solve.specs.declared.shown.Side.TheVariants.{A, H}
-use Rattle.pop_solve.specs.declared.shown.Mark.{Mark}
-use Rattle.pop_solve.specs.declared.shown.Mark.TheVariants.{Plain, Check, Mate, Stalemate}
-use Rattle.pop_solve.specs.Shown.{Shown}
+use Rattle.pop_events.specs.declared.shown.Side.{Side}
+use Rattle.pop_events.specs.declared.shown.Side.TheVariants.{A, H}
+use Rattle.pop_events.specs.declared.shown.Mark.{Mark}
+use Rattle.pop_events.specs.declared.shown.Mark.TheVariants.{Plain, Check, Mate, Stalemate}
+use Rattle.pop_events.specs.Shown.{Shown}
 use Rattle.pop_print.specs.Notation.{colour_letter, letter_of, man_text, square_text}
 
 -- castling to the h side or to the a side

@@ -7,8 +7,8 @@ ghost use Rattle.pop_print.specs.Notation.{blank};
 ghost use Rattle.pop_print.specs.Events.{event_text, lead_text, line_text, moves_text, node_text, prefix_text, stopped_text as text_of_stopped, total_text};
 
 use crate::line::LineBuffer;
-use pop_solve::event::{Event, Phase};
-use pop_solve::shown::Shown;
+use pop_events::event::{Event, Phase};
+use pop_events::shown::Shown;
 use pop_text::sink::{Sink, SinkFault, put_all};
 
 /// Writes an event: one line, in one write.

@@ -7,7 +7,7 @@ use crate::line::LineBuffer;
 use crate::notation::{colour_letter, letter_of};
 use chess_core::man::{Kind, Man};
 use chess_core::square::Square;
-use pop_solve::shown::{Mark, Shown, Side};
+use pop_events::shown::{Mark, Shown, Side};
 
 fn castling_text(side: Side) -> &'static [u8]
     ensures text { result.now ≡ text_of_castling side }

@@ -1,7 +1,7 @@
 //! What a run is told.
 
 /// What is printed of an input.
-#[derive(Clone, Copy, Debug, PartialEq, Eq)]
+#[derive(Clone, Copy)]
 pub struct Settings {
     /// Problems are read and tested, and none is solved.
     pub check: bool,

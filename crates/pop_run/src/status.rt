@@ -1,7 +1,7 @@
 //! What a run comes to.
 
 /// How a run ends.
-#[derive(Clone, Copy, Debug, PartialEq, Eq)]
+#[derive(Clone, Copy, PartialEq, Eq)]
 pub enum Status {
     /// Every problem is sound.
     Sound,
@@ -14,7 +14,7 @@ pub enum Status {
 }
 
 /// What a step of a session did.
-#[derive(Clone, Copy, Debug, PartialEq, Eq)]
+#[derive(Clone, Copy, PartialEq, Eq)]
 pub enum StepOutcome {
     /// One item was read and reported; a sound one was solved, or tested alone.
     Problem { sound: bool },

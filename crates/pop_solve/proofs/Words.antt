@@ -36,20 +36,20 @@ pub use Rattle.pop_input.specs.declared.stipulation.Goal.{Goal}
 pub use Rattle.pop_input.specs.declared.stipulation.Goal.TheVariants.{Mate}
 pub use Rattle.pop_solve.specs.Aims.{battle_of}
 pub use Rattle.pop_solve.specs.Chess.{chess, is_goal_reached, set_start}
-unfoldable pub use Rattle.pop_solve.specs.Chess.{shown_move}
+unfoldable pub use Rattle.pop_events.specs.Shown.{shown_move}
 pub use Rattle.pop_solve.specs.Events.{BareEvent, event_of, events, events_from, first_phase, impossible, is_barred, is_set, line, opening, path_event, phase_count, phase_half, phase_half_moves, phase_start, play_start, shown_along, shown_last, total, tree_node}
 unfoldable pub use Rattle.pop_solve.specs.Events.{phase_events, solutions}
 pub use Rattle.pop_solve.specs.Game.{Game, can_move, every_move, path_end, some_move}
 unfoldable pub use Rattle.pop_solve.specs.Game.{help_lines, is_lost, is_self_lost, lines_to_goal, self_wins, wins}
-pub use Rattle.pop_solve.specs.Shown.{Shown}
+pub use Rattle.pop_events.specs.Shown.{Shown}
 pub use Rattle.pop_solve.specs.Tree.{best_moves, keeps, least_moves, node, set_shows, tree, wins_in}
 unfoldable pub use Rattle.pop_solve.specs.Tree.{answers, nodes_below, set_tree}
 pub use Rattle.pop_solve.specs.declared.aim.Battle.{Battle}
 pub use Rattle.pop_solve.specs.declared.aim.Battle.TheVariants.{Selfmate}
-pub use Rattle.pop_solve.specs.declared.event.Event.{Event}
-pub use Rattle.pop_solve.specs.declared.event.Event.TheVariants.{Line, Node, Total}
-pub use Rattle.pop_solve.specs.declared.event.Phase.{Phase}
-pub use Rattle.pop_solve.specs.declared.event.Phase.TheVariants.{Play, Set}
+pub use Rattle.pop_events.specs.declared.event.Event.{Event}
+pub use Rattle.pop_events.specs.declared.event.Event.TheVariants.{Line, Node, Total}
+pub use Rattle.pop_events.specs.declared.event.Phase.{Phase}
+pub use Rattle.pop_events.specs.declared.event.Phase.TheVariants.{Play, Set}
 pub use Rattle.pop_solve.specs.declared.frame.Stretch.TheVariants.{Earlier, Killer, Others}
 pub use Rattle.pop_solve.specs.declared.phases.Stage.{Stage}
 pub use Rattle.pop_solve.specs.declared.phases.Stage.TheVariants.{Barred, Before, Behind, Within}

@@ -13,12 +13,12 @@ use Rattle.pop_solve.specs.Game.{help_lines}
 use Rattle.pop_solve.specs.Tree.{tree, set_tree}
 use Rattle.pop_input.specs.Posed.{Posed, rule_of}
 use Rattle.pop_input.specs.Stipulations.{is_help, first_half, half_moves}
-use Rattle.pop_solve.specs.Chess.{chess, is_impossible, nothing_shown, set_start, shown_move}
-use Rattle.pop_solve.specs.Shown.{Shown}
-use Rattle.pop_solve.specs.declared.event.Event.{Event}
-use Rattle.pop_solve.specs.declared.event.Event.TheVariants.{Phase as PhaseEvent, Line, Node, Impossible, Total}
-use Rattle.pop_solve.specs.declared.event.Phase.{Phase}
-use Rattle.pop_solve.specs.declared.event.Phase.TheVariants.{Set, Play}
+use Rattle.pop_solve.specs.Chess.{chess, is_impossible, set_start}
+use Rattle.pop_events.specs.Shown.{Shown, nothing_shown, shown_move}
+use Rattle.pop_events.specs.declared.event.Event.{Event}
+use Rattle.pop_events.specs.declared.event.Event.TheVariants.{Phase as PhaseEvent, Line, Node, Impossible, Total}
+use Rattle.pop_events.specs.declared.event.Phase.{Phase}
+use Rattle.pop_events.specs.declared.event.Phase.TheVariants.{Set, Play}
 
 -- moves one after another: a line, or those that lead to a node of a tree
 abbrev pub Path : Type 0

@@ -1,7 +1,6 @@
 pub mod Aims
 pub mod Game
 pub mod Tree
-pub mod Shown
 pub mod Chess
 pub mod Events
 pub mod ties

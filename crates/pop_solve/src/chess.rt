@@ -10,13 +10,13 @@ ghost use Rattle.chess_mates.specs.ties.Mates.{IsNextMate, mates_behind};
 ghost use Rattle.pop_input.specs.declared.stipulation.Goal.{Goal};
 ghost use Rattle.pop_input.specs.declared.stipulation.Goal.TheVariants.{Mate};
 ghost use Rattle.pop_solve.specs.ties.Calls.{Finds, IsOnMate};
-ghost use Rattle.pop_solve.specs.Chess.{castling_side, chess, is_impossible, mark_of, reborn_man, set_start, shown_of};
+ghost use Rattle.pop_solve.specs.Chess.{chess, is_impossible, set_start};
+ghost use Rattle.pop_events.specs.Shown.{castling_side, mark_of, reborn_man, shown_of};
 ghost use Rattle.pop_solve.specs.ties.Marks.{is_for_mate};
 ghost use Rattle.pop_solve.specs.declared.chess.Reached.TheVariants.{Surely};
 ghost use Rattle.pop_solve.specs.ties.Frames.{CameBy};
 ghost use Rattle.pop_solve.specs.Game.{can_move as has_move, every_move, some_move};
 
-use crate::shown::{Mark, Shown, Side};
 use chess_core::board::Board;
 use chess_core::diagram::Diagram;
 use chess_core::man::{Man, Move};
@@ -27,6 +27,7 @@ use chess_rules::legal_moves::LegalMoves;
 use chess_rules::moves::{Moves, has_legal_move, is_mate, is_stalemate};
 use chess_rules::play::{Undo, is_castling};
 use chess_rules::rules::{Rules, in_check};
+use pop_events::shown::{Mark, Shown, Side};
 use pop_input::stipulation::Goal;
 
 /// The place among the moves of the board's position, of which something may be known already.
@@ -170,7 +171,7 @@ pub fn retract<R: Rules>(board: &mut Board, by: Move, undo: Undo)
 }
 
 /// What a move has done to the side that is to move now.
-#[tactic(auto, unfolding(crate::specs::Chess::mark_of, chess_rules::specs::Legal::is_mate, chess_rules::specs::Legal::is_stalemate))]
+#[tactic(auto, unfolding(pop_events::specs::Shown::mark_of, chess_rules::specs::Legal::is_mate, chess_rules::specs::Legal::is_stalemate))]
 pub(crate) fn mark_of<R: Rules>(goal: Goal, board: &mut Board) -> Mark
     requires well_formed { IsWellFormed board.old }
     ensures unchanged { board.new ≡ board.old }
@@ -198,7 +199,7 @@ pub(crate) enum Reached {
 }
 
 /// The same where it may be known already that the goal is reached.
-#[tactic(auto, unfolding(crate::specs::Chess::mark_of, chess_rules::specs::Legal::is_mate, chess_rules::specs::Legal::is_stalemate))]
+#[tactic(auto, unfolding(pop_events::specs::Shown::mark_of, chess_rules::specs::Legal::is_mate, chess_rules::specs::Legal::is_stalemate))]
 pub(crate) fn mark_after<R: Rules>(goal: Goal, reached: Reached, board: &mut Board) -> Mark
     requires well_formed { IsWellFormed board.old }
     requires reached { reached ≡ Surely → (chess goal R.rule).goal board.old ≡ true }
@@ -264,7 +265,7 @@ fn reborn_man(man: Option<Man>, square: Option<Square>) -> Option<(Man, Square)>
 }
 
 /// The move of the man as it is shown, once it is played: `there` stood on the arrival before.
-#[tactic(auto, unfolding(crate::specs::Chess::shown_of))]
+#[tactic(auto, unfolding(pop_events::specs::Shown::shown_of))]
 pub(crate) fn shown_of(
     man: Option<Man>,
     there: Option<Man>,

@@ -3,19 +3,15 @@
 
 mod aim;
 pub mod chess;
-pub mod event;
 pub mod frame;
 pub mod killers;
 pub mod phases;
 pub mod plan;
 pub mod search;
 mod showing;
-pub mod shown;
 mod value;
 pub mod walk;
 
-pub use event::{Event, Phase};
 pub use frame::{Early, Frame, Order, Stretch};
 pub use killers::Killers;
 pub use search::Search;
-pub use shown::{Mark, Shown, Side};

@@ -8,12 +8,11 @@ ghost use Rattle.pop_solve.specs.Events.{first_phase, play_start, phase_half_mov
 ghost use Rattle.pop_solve.specs.ties.Walk.{IsEnded, IsWalking, Opens, Tries, path};
 ghost use Rattle.pop_solve.specs.ties.Plans.{plan_of};
 ghost use Rattle.pop_solve.specs.ties.Phases.{left_of, IsStanding, Walks, Gives, OpensOn};
-ghost use Rattle.pop_solve.specs.declared.event.Event.TheVariants.{Total};
-ghost use Rattle.pop_solve.specs.declared.event.Phase.TheVariants.{Play};
+ghost use Rattle.pop_events.specs.declared.event.Event.TheVariants.{Total};
+ghost use Rattle.pop_events.specs.declared.event.Phase.TheVariants.{Play};
 ghost use Rattle.pop_solve.specs.declared.phases.Stage.TheVariants.{Before, Within, Behind};
 
 use crate::chess::{is_impossible, turn_back, turn_over};
-use crate::event::{Event, Phase};
 use crate::frame::Frame;
 use crate::killers::Killers;
 use crate::plan::Plan;
@@ -23,6 +22,7 @@ use arrayvec::ArrayVec;
 use chess_core::board::Board;
 use chess_rules::moves::Moves;
 use chess_rules::rules::Rules;
+use pop_events::event::{Event, Phase};
 use pop_input::problem::Problem;
 
 /// Where a search stands among its phases; a phase is set play or the play.

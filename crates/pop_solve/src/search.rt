@@ -1,11 +1,11 @@
 //! Searches.
-use crate::event::Event;
 use crate::frame::Frame;
 use crate::killers::Killers;
 use crate::phases::{Stage, advance, first_phase};
 use arrayvec::ArrayVec;
 use chess_core::board::Board;
 use chess_rules::rules::Rules;
+use pop_events::event::Event;
 use pop_input::problem::Problem;
 use std::marker::Model;
 

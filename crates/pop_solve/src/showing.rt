@@ -4,7 +4,8 @@ ghost use Rattle.chess_core.specs.Position.{Position};
 ghost use Rattle.chess_core.specs.WellFormed.{IsWellFormed};
 ghost use Rattle.chess_rules.specs.Legal.{is_legal};
 ghost use Rattle.chess_rules.specs.Play.{position_after};
-ghost use Rattle.pop_solve.specs.Chess.{chess, shown_move};
+ghost use Rattle.pop_solve.specs.Chess.{chess};
+ghost use Rattle.pop_events.specs.Shown.{shown_move};
 ghost use Rattle.pop_solve.specs.Events.{shown_along, shown_last};
 ghost use Rattle.pop_solve.specs.ties.Frames.{CameFrom, CameFromAt};
 ghost use Rattle.pop_solve.specs.ties.Walk.{ends_variation, IsEnded, IsWalking, path};
@@ -15,11 +16,11 @@ use crate::aim::Battle;
 use crate::chess::{Reached, mark_after, retract, shown_of};
 use crate::frame::Frame;
 use crate::plan::Plan;
-use crate::shown::Shown;
 use crate::value::seeking;
 use arrayvec::ArrayVec;
 use chess_core::board::Board;
 use chess_rules::rules::Rules;
+use pop_events::shown::Shown;
 use pop_input::stipulation::Goal;
 
 /// Takes back the move of a frame.
@@ -46,7 +47,7 @@ fn reached_at<R: Rules>(plan: Plan, frame: &Frame<R>) -> Reached
 }
 
 /// Plays the move of a frame again, and answers it as it is shown. It may be known that it reaches the goal.
-#[tactic(auto, using(chess_rules::proofs::listing_moves::Calls::playing), unfolding(crate::specs::Chess::shown_move))]
+#[tactic(auto, using(chess_rules::proofs::listing_moves::Calls::playing), unfolding(pop_events::specs::Shown::shown_move))]
 fn play_shown<R: Rules>(goal: Goal, reached: Reached, frame: &Frame<R>, board: &mut Board) -> Shown
     requires well_formed { IsWellFormed board.old }
     requires legal { is_legal R.rule board.old frame.now.by ≡ true }

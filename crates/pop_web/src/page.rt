@@ -4,13 +4,13 @@ ghost use Rattle.pop_web.specs.Page.{Lists, Shows, ShowsParts, depth_of as depth
 
 use crate::kept_sink::KeptSink;
 use crate::text_source::TextSource;
+use pop_events::event::Phase;
 use pop_parts::asked::{Asked, Outcome};
 use pop_parts::list::list_parts;
 use pop_parts::show::show_parts;
 use pop_run::run::run;
 use pop_run::settings::Settings;
 use pop_run::status::Status;
-use pop_solve::event::Phase;
 
 /// The bytes that a page has room for.
 const ROOM: usize = 1 << 22;

@@ -1,6 +1,6 @@
 -- What the clauses of the program exclude: other parts than those named, and ends told alike.
 use Rattle.std.proofs.Common.{codes, refl, ◌≡◌}
-use Rattle.pop_solve.specs.declared.event.Phase.TheVariants.{Set, Play}
+use Rattle.pop_events.specs.declared.event.Phase.TheVariants.{Set, Play}
 use Rattle.pop_parts.specs.declared.asked.Outcome.{Outcome}
 use Rattle.pop_settings.specs.declared.pops_part.settings.PhaseName.TheVariants.{Set as SetName, Play as PlayName}
 use Rattle.pops_part.specs.ExitStatus.{message_of, status_of}

@@ -7,8 +7,8 @@ use Rattle.pop_parts.specs.Parts.{list_text, outcome_of, text_of}
 use Rattle.pops_part.specs.ExitStatus.{ending_of_list, ending_of_parts}
 use Rattle.pops_part.specs.declared.program.Ending.{Ending}
 use Rattle.pops_part.specs.declared.program.Ending.TheVariants.{OutputFailed}
-use Rattle.pop_solve.specs.declared.event.Phase.{Phase}
-use Rattle.pop_solve.specs.declared.event.Phase.TheVariants.{Set, Play}
+use Rattle.pop_events.specs.declared.event.Phase.{Phase}
+use Rattle.pop_events.specs.declared.event.Phase.TheVariants.{Set, Play}
 use Rattle.pop_parts.specs.declared.asked.Asked.{Asked}
 use Rattle.pop_settings.specs.declared.pops_part.settings.NamedParts.{NamedParts}
 use Rattle.pop_settings.specs.declared.pops_part.settings.PhaseName.{PhaseName}

@@ -6,6 +6,7 @@ ghost use Rattle.pop_settings.specs.pops_part.CommandLine.{IsDeep};
 ghost use Rattle.pops_part.specs.ExitStatus.{ending_flushed, ending_of_list, ending_of_parts, message_of, status_of};
 ghost use Rattle.pops_part.specs.Runs.{Answers, asked_for, phase_named};
 
+use pop_events::event::Phase;
 use pop_parts::asked::{Asked, Outcome};
 use pop_parts::list::list_parts;
 use pop_parts::show::show_parts;
@@ -13,7 +14,6 @@ use pop_run::status::Status;
 use pop_settings::arg_fault::ArgFault;
 use pop_settings::pops_part::command_line::settings;
 use pop_settings::pops_part::settings::{NamedParts, PhaseName, Settings, Wanted};
-use pop_solve::event::Phase;
 use pop_text::read_source::ReadSource;
 use pop_text::sink::Sink;
 use pop_text::source::Source;
@@ -23,7 +23,7 @@ use std::io::{Read, Write};
 use std::rt::Files;
 
 /// How a run ends.
-#[derive(Clone, Copy, PartialEq, Eq)]
+#[derive(Clone, Copy)]
 pub enum Ending {
     /// All was written, and every item is sound or shown.
     Done,

@@ -1,6 +1,6 @@
 -- The parts of a phase, by the moves with which its solutions begin: joined they are the phase, and no solution stands in two of them.
 use Rattle.pop_solve.proofs.Words.{AllPairs, Contains, IsSound, List, Move, Posed, Precedes, RuleSet, ap, arith, false, flat_map, is_barred, length, length-take, min, pairs_weaker, phase_count, phase_half_moves, phase_start, refl, solutions, sum_by, sym, take, ℕ, ◌↔◌, ◌∙◌, ◌≡◌, ◌≢◌, ◌≤◌}
-use Rattle.pop_solve.specs.declared.event.Phase.{Phase}
+use Rattle.pop_events.specs.declared.event.Phase.{Phase}
 use Rattle.std.proofs.lemmas.List.Concat.{length-flat_map}
 use Rattle.std.proofs.lemmas.List.Sums.{length-filter}
 use Rattle.std.specs.List.{count_by}

@@ -6,7 +6,7 @@ use Rattle.pop_input.specs.declared.item.Item.TheVariants.{Sound, Faulty, End}
 use Rattle.chess_rules.specs.RuleSet.{RuleSet}
 use Rattle.pop_input.specs.Posed.{Posed}
 use Rattle.pop_solve.specs.Events.{Path}
-use Rattle.pop_solve.specs.declared.event.Phase.{Phase}
+use Rattle.pop_events.specs.declared.event.Phase.{Phase}
 use Rattle.pop_run.specs.Report.{is_faulty, tells_failure}
 use Rattle.pop_run.specs.declared.status.Status.{Status}
 use Rattle.pop_run.specs.ties.Sessions.{status_with}

@@ -7,7 +7,7 @@ use Rattle.pop_input.specs.Posed.{Posed}
 use Rattle.pop_input.specs.Stipulations.{is_help}
 use Rattle.pop_solve.specs.Events.{BareEvent, path_event, phase_half_moves, phase_start, play_start, total}
 use Rattle.pop_parts.specs.PhaseParts.{part_count}
-use Rattle.pop_solve.specs.declared.event.Phase.{Phase}
+use Rattle.pop_events.specs.declared.event.Phase.{Phase}
 use Rattle.pop_parts.specs.declared.part_search.PartStage.{PartStage}
 use Rattle.pop_parts.specs.declared.part_search.PartStage.TheVariants.{First, Within, Behind}
 use Rattle.pop_solve.specs.ties.Frames.{Frame, to_open}

@@ -9,7 +9,7 @@ use Rattle.pop_input.specs.Posed.{Posed}
 use Rattle.pop_solve.specs.Events.{BareEvent, phase_half_moves, phase_start}
 use Rattle.pop_solve.specs.Game.{path_end}
 use Rattle.pop_parts.specs.PhaseParts.{part_count}
-use Rattle.pop_solve.specs.declared.event.Phase.{Phase}
+use Rattle.pop_events.specs.declared.event.Phase.{Phase}
 use Rattle.pop_solve.specs.ties.Counts.{walk_count}
 
 -- what a contract sees of a search of a part: the problem, the phase, the part's first moves, the events still to come, the

@@ -16,11 +16,10 @@ use Rattle.chess_rules.proofs.listing_moves.Calls.{is_pseudo_legal-from_legal}
 use Rattle.chess_rules.proofs.making_moves.Pseudo.{IsMade, king_is_no_pawn, made}
 use Rattle.chess_core.proofs.Kept.{same_colour-refl}
 use Rattle.pop_input.specs.declared.stipulation.Goal.{Goal}
-use Rattle.pop_solve.specs.Chess.{castling_side, shown_move, shown_of}
-use Rattle.pop_solve.specs.declared.shown.Side.{Side}
-use Rattle.pop_solve.specs.declared.shown.Side.TheVariants.{A, H}
-use Rattle.pop_solve.specs.declared.shown.Mark.{Mark}
-use Rattle.pop_solve.specs.Shown.{Shown}
+use Rattle.pop_events.specs.declared.shown.Side.{Side}
+use Rattle.pop_events.specs.declared.shown.Side.TheVariants.{A, H}
+use Rattle.pop_events.specs.declared.shown.Mark.{Mark}
+use Rattle.pop_events.specs.Shown.{Shown, castling_side, shown_move, shown_of}
 use Rattle.pop_print.specs.Moves.{castling_text, en_passant_text, mark_text, move_text, promotion_text, rebirth_text, step_text, unmarked_text}
 use Rattle.pop_print.specs.Notation.{letter_of, man_text, square_text}
 

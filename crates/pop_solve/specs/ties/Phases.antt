@@ -10,9 +10,9 @@ use Rattle.pop_solve.specs.ties.Frames.{Frame, to_open}
 use Rattle.pop_solve.specs.ties.Walk.{fewest_left, path, to_come, IsEnded, IsWalking, IsCounted, IsWhites}
 use Rattle.pop_solve.specs.Events.{BareEvent, impossible, is_set, total, play_start, events_from, path_event, phase_start, phase_half_moves, event_of, events}
 use Rattle.pop_solve.specs.ties.Seen.{fewest_from, fewest_tried, is_never_stopped, is_unstopped, is_walked_once, walk_from, whole_walk, StandsOn}
-use Rattle.pop_solve.specs.declared.event.Event.{Event}
-use Rattle.pop_solve.specs.declared.event.Phase.{Phase}
-use Rattle.pop_solve.specs.declared.event.Phase.TheVariants.{Play}
+use Rattle.pop_events.specs.declared.event.Event.{Event}
+use Rattle.pop_events.specs.declared.event.Phase.{Phase}
+use Rattle.pop_events.specs.declared.event.Phase.TheVariants.{Play}
 use Rattle.pop_solve.specs.declared.phases.Stage.{Stage}
 use Rattle.pop_solve.specs.declared.phases.Stage.TheVariants.{Before, Barred, Within, Behind}
 use Rattle.pop_solve.specs.declared.plan.Plan.{Plan}

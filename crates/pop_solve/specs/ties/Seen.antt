@@ -11,8 +11,8 @@ use Rattle.pop_solve.specs.ties.Counts.{walk_count}
 use Rattle.pop_solve.specs.ties.Walk.{fewest_walked}
 use Rattle.pop_input.specs.Posed.{Posed}
 use Rattle.pop_input.specs.Stipulations.{is_help}
-use Rattle.pop_solve.specs.declared.event.Phase.{Phase}
-use Rattle.pop_solve.specs.declared.event.Phase.TheVariants.{Set, Play}
+use Rattle.pop_events.specs.declared.event.Phase.{Phase}
+use Rattle.pop_events.specs.declared.event.Phase.TheVariants.{Set, Play}
 use Rattle.pop_solve.specs.Events.{BareEvent, events, first_phase, impossible, is_barred, is_set, line, opening, phase_half_moves, phase_start, total, tree_node}
 use Rattle.pop_solve.specs.ties.Plans.{plan_of}
 

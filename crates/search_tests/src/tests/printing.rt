@@ -2,9 +2,9 @@
 use arrayvec::ArrayVec;
 use chess_core::man::{Colour, Kind, Man};
 use chess_core::square::Square;
+use pop_events::event::Event;
+use pop_events::shown::{Mark, Shown, Side};
 use pop_print::print_event;
-use pop_solve::event::Event;
-use pop_solve::shown::{Mark, Shown, Side};
 use pop_text::trial_sink::TrialSink;
 
 // A move of a man between two squares, numbered from a1, 0, to h8, 63.

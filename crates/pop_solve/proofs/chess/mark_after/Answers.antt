@@ -1,5 +1,5 @@
 use Rattle.pop_solve.proofs.Words.{rules}
-use Rattle.pop_solve.specs.Chess.{mark_of}
+use Rattle.pop_events.specs.Shown.{mark_of}
 use Rattle.chess_rules.specs.Legal.{is_mate, is_stalemate}
 use Rattle.pop_solve.proofs.chess.mark_after.Goals as goal
 

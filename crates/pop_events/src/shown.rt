@@ -48,7 +48,7 @@ pub struct Shown {
 }
 
 impl Model for Shown {
-    ghost use Rattle.pop_solve.specs.Shown.{Shown};
+    ghost use Rattle.pop_events.specs.Shown.{Shown};
 
     ghost Value = { Shown };
 
@@ -79,7 +79,7 @@ impl Model for Shown {
 
 impl Default for Shown {
     ghost use Rattle.std.specs.Prelude.{◌≡◌};
-    ghost use Rattle.pop_solve.specs.Chess.{nothing_shown};
+    ghost use Rattle.pop_events.specs.Shown.{nothing_shown};
 
     ghost is_default = { λ s. s ≡ nothing_shown };
 
