@@ -209,7 +209,7 @@ impl<R: Rules, const N: usize> Model for PartSearch<R, N> {
     ghost use Rattle.pop_parts.specs.ties.PartsSeen.{PartSeen};
     ghost use Rattle.pop_parts.specs.ties.PartStages.{IsPartOpened, part_left, StandsInPart};
 
-    ghost Value = { PartSeen };
+    ghost Value = { PartSeen R };
 
     ghost view = { λ s. record {
       problem = s.problem;
@@ -219,6 +219,7 @@ impl<R: Rules, const N: usize> Model for PartSearch<R, N> {
       board = s.board;
       depth = array_vec_len s.frames;
       opened = s.opened;
+      killers = s.killers;
     } };
 
     ghost invariant = { λ s. IsSound s.problem
@@ -321,9 +322,10 @@ impl<R: Rules, const N: usize> PartSearch<R, N> {
         }
     }
 
-    /// The moves that decided its tests last, for the search of another part. Contracts don't see them, since they cost time
-    /// alone.
-    pub fn into_killers(self) -> Killers<R> {
+    /// The moves that decided its tests last, for the search of another part.
+    pub fn into_killers(self) -> Killers<R>
+        ensures { result ≡ self.killers }
+    {
         let PartSearch { killers, .. } = self;
         killers
     }

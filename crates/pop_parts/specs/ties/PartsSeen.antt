@@ -10,11 +10,12 @@ use Rattle.pop_solve.specs.Events.{BareEvent, phase_half_moves, phase_start}
 use Rattle.pop_solve.specs.Game.{path_end}
 use Rattle.pop_parts.specs.PhaseParts.{part_count}
 use Rattle.pop_events.specs.declared.event.Phase.{Phase}
+use Rattle.pop_solve.specs.declared.killers.Killers.{Killers}
 use Rattle.pop_solve.specs.ties.Counts.{walk_count}
 
 -- what a contract sees of a search of a part: the problem, the phase, the part's first moves, the events still to come, the
--- position on the board, the frames in use and those opened so far, up to the greatest u64
-pub record PartSeen : Type 0 where
+-- position on the board, the frames in use, those opened so far, up to the greatest u64, and the moves that decided its tests last
+pub record PartSeen (R : Type 0) : Type 0 where
   pub problem : Posed
   pub phase : Phase
   pub front : List Move
@@ -22,6 +23,7 @@ pub record PartSeen : Type 0 where
   pub board : Position
   pub depth : ℕ
   pub opened : ℕ
+  pub killers : Killers R
 
 -- how many lists of fewer moves than are left behind a part's first moves there are there, each legal where it stands
 abbrev pub part_walk : RuleSet → Posed → Phase → List Move → ℕ
