@@ -5,6 +5,7 @@ mod aim;
 pub mod chess;
 pub mod event;
 pub mod frame;
+pub mod guess;
 pub mod killers;
 pub mod phases;
 pub mod plan;
