@@ -15,17 +15,13 @@ use chess_core::man::Move;
 use chess_rules::moves::Moves;
 use chess_rules::rules::Rules;
 
-/// Whether the killer of a test is to be guessed that has `left` half-moves: it has none yet, and Black is to move in a
-/// direct mate. For set play and selfmates no killer stands.
-fn wants_guess<R: Rules>(plan: Plan, left: usize, killers: &Killers<R>) -> bool {
-    let battle = Battle::of(plan.form);
-    !plan.form.is_help()
-        && battle == Battle::Direct
-        && left % 2 == 0
-        && killers.of(battle, left).is(Moves::start())
+/// Whether killers are guessed for a test with `left` half-moves: in a direct mate, with Black to move. In selfmates none
+/// stand, and help play has no tests.
+fn wants_guess(plan: Plan, left: usize) -> bool {
+    !plan.form.is_help() && Battle::of(plan.form) == Battle::Direct && left % 2 == 0
 }
 
-/// How many frames a test opens. On a board of its own: nothing else comes of it but killers.
+/// Whether White wins with `left` half-moves, and how many frames that test opens, on a board of its own.
 fn cost_of_test<R: Rules>(
     aim: Aim,
     left: usize,
@@ -58,11 +54,7 @@ fn cost_of_defence<R: Rules>(
     let mut stand = *board;
     let _undo = R::play(&mut stand, by);
     let (wins, opened) = cost_of_test::<R>(aim, left, &stand, killers);
-    if wins {
-        None
-    } else {
-        Some(opened)
-    }
+    if wins { None } else { Some(opened) }
 }
 
 /// The place on the defence that is found to hold at the least cost, if one holds.
@@ -91,7 +83,8 @@ fn cheapest_defence<R: Rules>(
     best
 }
 
-/// Tests a position with `left` half-moves; then, if told so, the cheapest defence is its killer.
+/// Tests a position with `left` half-moves, and takes the killers as those of two half-moves more. If told so, the cheapest
+/// defence is the position's killer.
 fn try_shorter<R: Rules>(
     aim: Aim,
     left: usize,
@@ -111,8 +104,9 @@ fn try_shorter<R: Rules>(
     killers.lengthen();
 }
 
-/// Guesses the killers of a direct mate's test of a move, with `left` half-moves left behind it, where none are there yet:
-/// by tests of rising length, in the last but one of which each defence is tried.
+/// Guesses the killers for the test of a direct mate's move, with `left` half-moves left behind it, by tests of rising
+/// length. Of all but the longest the cheapest defence becomes the killer: the first that is found may take long to be seen
+/// to hold, also where more half-moves are left.
 #[tactic(auto, using(chess_rules::proofs::listing_moves::Calls::playing))]
 pub fn guess_killers<R: Rules>(
     plan: Plan,
@@ -125,13 +119,13 @@ pub fn guess_killers<R: Rules>(
     requires legal { is_legal R.rule board.now by ≡ true }
     requires few { left ≤ 32 }
 {
-    if !wants_guess::<R>(plan, left, killers) {
+    if !wants_guess(plan, left) {
         return;
     }
     let mut stand = *board;
     let _undo = R::play(&mut stand, by);
     for half in 1..left / 2 {
         let tried = 2 * half;
-        try_shorter::<R>(plan.aim(), tried, tried + 4 == left, &stand, killers);
+        try_shorter::<R>(plan.aim(), tried, tried + 4 <= left, &stand, killers);
     }
 }
