@@ -31,7 +31,8 @@ class Progress:
         self._parts_before = self._parts_left = 0
         self._is_of_parts = False
         self._began = self._next = 0.0
-        self._shown = sys.stderr.isatty()
+        # Whether anybody sees it: on a terminal.
+        self.is_shown = sys.stderr.isatty()
         self._width = 0
 
     def begin(self, done: int, total: int) -> None:
@@ -88,7 +89,7 @@ class Progress:
     def _tell(self, line: Callable[[float], str], is_last: bool) -> None:
         """Writes a line, but where the one before is new."""
         now = time.monotonic()
-        if self._shown and (now >= self._next or is_last):
+        if self.is_shown and (now >= self._next or is_last):
             self._next = now + _SECONDS_BETWEEN
             text = line(now - self._began)
             _tell("\r" + text.ljust(self._width))

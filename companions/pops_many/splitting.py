@@ -129,7 +129,8 @@ class Splitting:
         problem = self._problems[part.task.place]
         self._journal.keep_part(part, report)
         fewer = problem.keep(part, report)
-        self._progress.part(*self._how_far(problem))
+        if self._progress.is_shown:
+            self._progress.part(*self._how_far(problem))
         self._join(problem)
         return fewer
 

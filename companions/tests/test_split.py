@@ -6,7 +6,7 @@ import re
 import tempfile
 import unittest
 from pathlib import Path
-from typing import Generator, List, Optional, Sequence, Tuple
+from typing import Generator, Iterator, List, Mapping, Optional, Sequence, Tuple
 from unittest import mock
 
 import made_inputs
@@ -14,7 +14,7 @@ import parts_told
 import problems_in_parts
 import support
 
-from pops_many.in_parts import ProblemInParts
+from pops_many.in_parts import ProblemInParts, Reader
 from pops_many.lots import Lot, Lots, numbers_of
 from pops_many.part_program import PartProgram
 from pops_many.parts import (
@@ -74,11 +74,8 @@ def split(path: Path, *words: str) -> Tuple[int, bytes]:
     return status, target.getvalue()
 
 
-class AsPops(unittest.TestCase):
-    @classmethod
-    def setUpClass(cls) -> None:
-        if parts_told.program() is None:
-            print("pops-part: not built, so a stand-in told the parts")
+class BesidePops(unittest.TestCase):
+    """A room in which pops-many and pops solve one input each."""
 
     def setUp(self) -> None:
         room = tempfile.TemporaryDirectory()
@@ -94,6 +91,13 @@ class AsPops(unittest.TestCase):
         before = Slow.cut
         self.assertEqual(split(path, *words), (wanted.status, wanted.output))
         return Slow.cut - before
+
+
+class AsPops(BesidePops):
+    @classmethod
+    def setUpClass(cls) -> None:
+        if parts_told.program() is None:
+            print("pops-part: not built, so a stand-in told the parts")
 
     def test_all_forms(self) -> None:
         cut = 0
@@ -134,6 +138,49 @@ class AsPops(unittest.TestCase):
                 text = made_inputs.made_input(chance)
                 cut += self.is_as_pops(text, "--split-depth", str(1 + number % 3))
         self.assertGreater(cut, 60)
+
+
+class WrongJoiners(BesidePops):
+    """Joiners that take the limit of MaxSolutions for one of each part: they don't write as pops."""
+
+    # Cut by one move, the set play has parts of 7, 7, 6, 5 and 7 solutions, the play of 28, 28 and
+    # more.
+    TEXTS = [
+        b"BeginProblem Pieces White Kg6 Ra1 Black Kh8 Pa7b7c7 Stipulation h#2"
+        b" Option SetPlay MaxSolutions %d EndProblem" % limit
+        for limit in (10, 40)
+    ]
+
+    def are_refused(self, wrong: Mapping[str, object]) -> None:
+        """None of the texts is solved as pops does with that in place of the joiner's own."""
+        for text in self.TEXTS:
+            with self.subTest(text):
+                self.assertEqual(self.is_as_pops(text, "--split-depth", "1"), 1)
+                with mock.patch.multiple(ProblemInParts, **wrong):
+                    with self.assertRaises(AssertionError):
+                        self.is_as_pops(text, "--split-depth", "1")
+
+    def test_each_part_up_to_the_limit(self) -> None:
+        """All that the parts show, each of which has no more than the limit."""
+
+        def solutions(of: ProblemInParts, phase: Phase, read: Reader) -> Iterator[bytes]:
+            numbers = range(1, (phase.parts or 0) + 1)
+            parts = [Part(of.task, phase.name, number, 1) for number in numbers]
+            reports = [read(part) for part in parts]
+            yield from map(lines_without_total, reports)
+            yield b"solutions: %d\n" % sum(count_in(report) or 0 for report in reports)
+
+        never = mock.Mock(return_value=False)
+        with mock.patch("pops_many.in_parts._PhaseInParts._end_at_limit", never):
+            self.are_refused({"_solutions": solutions})
+
+    def test_the_last_part_whole(self) -> None:
+        """All solutions of the parts up to the one in which the limit is reached."""
+
+        def all_of_them(of: ProblemInParts, solutions: List[bytes]) -> List[bytes]:
+            return solutions
+
+        self.are_refused({"_up_to_limit": all_of_them})
 
 
 class Texts(unittest.TestCase):
@@ -300,7 +347,7 @@ class Handed(unittest.TestCase):
 
     def test_cut_soon_where_processors_have_nothing_to_do(self) -> None:
         for words, problems, moment in (
-            ([], 3, 0.2),
+            ([], 3, 0.05),
             ([], 4, 2),
             (["--split-after", "7"], 3, 7),
             (["--split-after", "0.1"], 5, 0.1),

@@ -1,20 +1,18 @@
 -- What the clauses of a list and of parts exclude: text of parts that are refused, a failed sink told as another end or another end as a failed sink,
 -- parts that are numbered from 0, and solutions in a part with whose moves they don't begin.
-use Rattle.std.proofs.Common.{Bool, List, None, Option, Some, [], arith, false, refl, rules, sym, true, ℕ, ◌∙◌, ◌≡◌, ◌≢◌}
+use Rattle.std.proofs.Common.{Bool, List, None, Option, Some, [], arith, false, refl, true, ℕ, ◌≡◌, ◌≢◌}
 use Rattle.pop_text.specs.Bytes.{Appends}
 use Rattle.pop_text.specs.Words.{Input}
 use Rattle.pop_input.specs.Blocks.{Entry, Faulty, Sound}
-use Rattle.pop_input.specs.FaultKinds.{number_of}
 use Rattle.std.specs.List.{list_any}
 use Rattle.pop_run.specs.Report.{entries_in, tells_failure}
 unfoldable use Rattle.pop_run.specs.Report.{status_of}
-use Rattle.pop_run.specs.declared.status.Status.{Status}
 use Rattle.pop_run.specs.declared.status.Status.TheVariants.{OutputFailed as ListCut}
 use Rattle.pop_solve.proofs.Words.{Move, Posed, RuleSet, ap, eqb, slice_get, ◌∷◌}
 use Rattle.pop_events.specs.declared.event.Phase.{Phase}
 use Rattle.chess_core.specs.MoveOrder.{triple_number}
 use Rattle.pop_parts.specs.PhaseParts.{begins_path, begins_so, part_numbered, parts}
-use Rattle.pop_parts.specs.Parts.{entry_numbered, outcome_at, outcome_of, text_at, text_of}
+use Rattle.pop_parts.specs.Parts.{entry_numbered, outcome_at, text_at}
 unfoldable use Rattle.pop_parts.specs.Parts.{text_in}
 use Rattle.pop_parts.specs.Runs.{Lists, Shows}
 use Rattle.pop_parts.specs.declared.asked.Asked.{Asked}

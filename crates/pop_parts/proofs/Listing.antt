@@ -1,19 +1,16 @@
 -- The list of an input, line by line.
-use Rattle.std.proofs.Common.{Bool, IfSome, List, None, Option, Some, [], ap, append_assoc, arith, false, length, length-append, not, refl, rules, sym, true, ℕ, ◌++◌, ◌+◌, ◌-◌, ◌<◌, ◌||◌, ◌∙◌, ◌∷◌, ◌≡◌, ◌≤◌}
+use Rattle.std.proofs.Common.{IfSome, List, None, Option, Some, [], ap, append_assoc, arith, false, length, length-append, not, refl, sym, true, ℕ, ◌++◌, ◌+◌, ◌∙◌, ◌∷◌, ◌≡◌}
 use Rattle.std.proofs.lemmas.List.{append-nil}
-use Rattle.std.specs.List.{list_any}
 use Rattle.std.specs.Prelude.{is_some}
 use Rattle.pop_text.proofs.Appending.{appends_none, appends_then, begins_later, begins_longer}
-use Rattle.pop_text.proofs.Using.{consumes_then}
 use Rattle.pop_text.specs.Bytes.{Appends, Begins}
 use Rattle.pop_text.specs.declared.scanner.End.TheVariants.{Open}
 use Rattle.pop_text.specs.ties.Reading.{IsSeen, failures_after}
 use Rattle.pop_input.specs.Blocks.{Entry}
 use Rattle.pop_input.specs.declared.item.Item.{Item}
 use Rattle.pop_input.specs.ties.Standing.{NextItem, Reads, Standing, first_standing, is_item}
-use Rattle.pop_run.proofs.Meeting.{is_broken}
 use Rattle.pop_run.proofs.Running.{grew_broken, reads_then, status_more}
-use Rattle.pop_run.specs.Report.{is_faulty, status, tells_failure}
+use Rattle.pop_run.specs.Report.{is_faulty, tells_failure}
 unfoldable use Rattle.pop_run.specs.Report.{status_of}
 use Rattle.pop_run.specs.Run.{grew, input_met}
 use Rattle.pop_run.specs.declared.status.Status.{Status}

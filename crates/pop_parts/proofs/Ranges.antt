@@ -1,12 +1,12 @@
 -- Parts one after another.
-use Rattle.std.proofs.Common.{List, None, Option, Some, [], ap, arith, drop, if◌then◌else◌, length, refl, rules, sym, take, true, ℕ, ◌++◌, ◌+◌, ◌-◌, ◌<◌, ◌∙◌, ◌∷◌, ◌≡◌, ◌≤◌}
+use Rattle.std.proofs.Common.{List, None, Option, Some, [], ap, arith, drop, if◌then◌else◌, length, refl, take, ℕ, ◌+◌, ◌-◌, ◌<◌, ◌∙◌, ◌∷◌, ◌≡◌, ◌≤◌}
 use Rattle.std.specs.List.{flat_map}
 use Rattle.std.specs.Prelude.{◌==◌, slice_get, suc, zero}
 use Rattle.chess_rules.specs.RuleSet.{RuleSet}
 use Rattle.chess_core.specs.declared.man.Move.{Move}
 use Rattle.pop_text.specs.Bytes.{Appends, Begins}
 use Rattle.pop_input.specs.Posed.{Posed}
-use Rattle.pop_run.proofs.Findings.{IsPrinting, printing_breaks_off, printing_goes_on, printing_starts}
+use Rattle.pop_run.proofs.Findings.{IsPrinting, printing_breaks_off, printing_goes_on}
 use Rattle.pop_parts.specs.PhaseParts.{part_numbered, parts}
 use Rattle.pop_events.specs.declared.event.Phase.{Phase}
 use Rattle.pop_parts.specs.Parts.{part_text}

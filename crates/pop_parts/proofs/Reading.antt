@@ -1,14 +1,10 @@
 -- What was read of an input, item by item.
-use Rattle.std.proofs.Common.{Bool, IfSome, List, None, Option, Some, [], ap, append_assoc, arith, false, length, length-append, not, refl, rules, sym, true, ℕ, ◌++◌, ◌+◌, ◌-◌, ◌<◌, ◌∙◌, ◌∷◌, ◌≡◌, ◌≢◌, ◌≤◌}
-use Rattle.std.proofs.lemmas.Bool.{lt-ltb}
+use Rattle.std.proofs.Common.{List, None, Option, Some, [], ap, arith, false, refl, sym, true, ℕ, ◌++◌, ◌+◌, ◌∙◌, ◌∷◌, ◌≡◌}
 use Rattle.std.proofs.lemmas.List.{append-nil}
-use Rattle.std.specs.Prelude.{is_some}
-use Rattle.pop_text.specs.Words.{Input, words_from}
+use Rattle.pop_text.specs.Words.{Input}
 unfoldable use Rattle.pop_text.specs.Words.{limit}
-use Rattle.pop_text.specs.declared.scanner.End.{End}
-use Rattle.pop_text.specs.declared.scanner.End.TheVariants.{Broken, Ended, Open}
-use Rattle.pop_text.specs.ties.Reading.{IsSeen, failures_after}
-use Rattle.pop_input.specs.Blocks.{Entry, entries_of, Sound as SoundEntry, Faulty as FaultyEntry}
+use Rattle.pop_text.specs.ties.Reading.{IsSeen}
+use Rattle.pop_input.specs.Blocks.{Entry, Sound as SoundEntry, Faulty as FaultyEntry}
 use Rattle.pop_input.specs.declared.item.Item.{Item}
 use Rattle.pop_input.specs.declared.item.Item.TheVariants.{Sound, Faulty, End as NoItem}
 use Rattle.pop_input.specs.declared.reader.Next.TheVariants.{Nothing}

@@ -1,8 +1,8 @@
 -- The parts that are asked for, in the input that was met.
-use Rattle.std.proofs.Common.{Bool, IfSome, List, None, Option, Result, Some, [], ap, append_assoc, arith, false, length, length-append, refl, rules, sym, true, ℕ, ◌++◌, ◌+◌, ◌-◌, ◌<◌, ◌||◌, ◌∙◌, ◌∷◌, ◌≡◌, ◌≢◌, ◌≤◌}
+use Rattle.std.proofs.Common.{Bool, IfSome, List, None, Option, Some, [], ap, arith, false, length, length-append, refl, sym, ℕ, ◌++◌, ◌+◌, ◌-◌, ◌<◌, ◌||◌, ◌∙◌, ◌∷◌, ◌≡◌, ◌≢◌, ◌≤◌}
 use Rattle.std.proofs.lemmas.Option.{slice_get_past}
 use Rattle.std.specs.List.{list_any}
-use Rattle.std.specs.Prelude.{slice_get, ◌==◌}
+use Rattle.std.specs.Prelude.{slice_get}
 use Rattle.pop_text.specs.Bytes.{Appends, Begins}
 use Rattle.pop_text.proofs.Appending.{appends_none}
 use Rattle.pop_text.specs.declared.scanner.End.TheVariants.{Open}
@@ -15,7 +15,7 @@ use Rattle.pop_run.proofs.Running.{any_more, grew_broken, reads_then}
 use Rattle.pop_run.specs.Report.{entries_in, tells_failure}
 use Rattle.pop_run.specs.Run.{grew, input_met}
 use Rattle.pop_parts.proofs.Reading.{all_met, failure_is_told, item_read, items_met, kept_is_told}
-use Rattle.pop_parts.specs.Parts.{entry_numbered, outcome_at, outcome_of, text_at, text_of}
+use Rattle.pop_parts.specs.Parts.{entry_numbered, outcome_at, text_at}
 use Rattle.pop_parts.specs.Runs.{Shows}
 use Rattle.pop_parts.specs.declared.asked.Asked.{Asked}
 use Rattle.pop_parts.specs.declared.asked.Outcome.{Outcome}

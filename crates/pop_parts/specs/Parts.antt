@@ -1,5 +1,5 @@
 -- The list of an input's parts, and the text of the parts that are asked for (own layout).
-use Rattle.std.specs.Prelude.{ℕ, ◌+◌, ◌-◌, ◌^◌, ◌==◌, nat_le, min, Bool, true, false, not, ◌&&◌, if◌then◌else◌, List, [], ◌∷◌, ◌++◌, map, take, drop, length, slice_get, codes, decimal, Option, Some, None}
+use Rattle.std.specs.Prelude.{ℕ, ◌+◌, ◌-◌, ◌^◌, ◌==◌, nat_le, min, Bool, true, not, ◌&&◌, if◌then◌else◌, List, [], ◌∷◌, ◌++◌, map, take, drop, length, slice_get, codes, decimal, Option, Some, None}
 use Rattle.std.specs.List.{flat_map, list_any}
 use Rattle.chess_rules.specs.RuleSet.{RuleSet}
 use Rattle.pop_text.specs.Words.{Input}

@@ -26,6 +26,7 @@ use pop_events::event::{Event, Phase};
 use pop_input::problem::Problem;
 use pop_solve::chess::{reaches_goal, retract};
 use pop_solve::frame::Frame;
+use pop_solve::guess::guess_killers;
 use pop_solve::killers::Killers;
 use pop_solve::phases::{
     count_with, end, event_at, phase_half_moves, still_to_begin, total, walk_on,
@@ -116,6 +117,7 @@ fn begin<R: Rules, const N: usize>(
         return PartStage::Within { count: 0 };
     }
     let root = depth == 1;
+    guess_killers::<R>(plan, left, by, board, killers);
     if enter::<R, N>(plan, root, left, by, board, frames, killers, opened) {
         return PartStage::First;
     }

@@ -64,4 +64,14 @@ impl<R: Rules> Killers<R> {
             self.places[left] = place;
         }
     }
+
+    /// Takes the killers of so many half-moves as those of two more.
+    pub fn lengthen(&mut self) {
+        let places = self.places;
+        let earlier = self.earlier;
+        for left in 0..30 {
+            self.places[left + 2] = places[left];
+            self.earlier[left + 2] = earlier[left];
+        }
+    }
 }

@@ -4,6 +4,7 @@
 mod aim;
 pub mod chess;
 pub mod frame;
+pub mod guess;
 pub mod killers;
 pub mod phases;
 pub mod plan;

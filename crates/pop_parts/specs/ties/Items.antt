@@ -1,5 +1,5 @@
 -- Items as entries.
-use Rattle.std.specs.Prelude.{ℕ, List, [], Bool, true, false, Option, Some, None}
+use Rattle.std.specs.Prelude.{ℕ, List, [], Bool, false, Option, Some, None}
 use Rattle.pop_input.specs.Blocks.{Entry, Sound as SoundEntry, Faulty as FaultyEntry}
 use Rattle.pop_input.specs.declared.item.Item.{Item}
 use Rattle.pop_input.specs.declared.item.Item.TheVariants.{Sound, Faulty, End}

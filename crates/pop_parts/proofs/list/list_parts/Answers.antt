@@ -1,4 +1,4 @@
-use Rattle.std.proofs.Common.{None, arith, inl, refl, rules, sym, ◌∙◌, ◌≡◌}
+use Rattle.std.proofs.Common.{None, arith, inl, refl, sym, ◌∙◌, ◌≡◌}
 unfoldable use Rattle.pop_text.specs.Words.{limit}
 use Rattle.pop_text.proofs.Using.{failures_then}
 use Rattle.pop_parts.proofs.Listing.{entry_there, item_there, list_cut, list_ends, listed_start, listed_step, none_there}

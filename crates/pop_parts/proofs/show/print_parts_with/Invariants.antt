@@ -1,4 +1,4 @@
-use Rattle.std.proofs.Common.{drop, take, ◌+◌, ◌-◌, ◌≡◌, ◌≤◌}
+use Rattle.std.proofs.Common.{drop, take, ◌-◌, ◌≡◌, ◌≤◌}
 use Rattle.pop_run.proofs.Findings.{IsPrinting}
 use Rattle.pop_parts.specs.PhaseParts.{parts}
 use Rattle.pop_parts.specs.Parts.{part_text, parts_asked}

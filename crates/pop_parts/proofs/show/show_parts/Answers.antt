@@ -1,4 +1,4 @@
-use Rattle.std.proofs.Common.{None, ap, arith, inl, refl, rules, sym, ◌+◌, ◌∙◌, ◌≡◌, ◌≢◌}
+use Rattle.std.proofs.Common.{None, ap, arith, inl, refl, sym, ◌+◌, ◌∙◌, ◌≡◌, ◌≢◌}
 unfoldable use Rattle.pop_text.specs.Words.{limit}
 use Rattle.std.specs.Prelude.{is_some, true}
 use Rattle.pop_text.proofs.Using.{failures_then}

@@ -1,4 +1,4 @@
-use Rattle.pop_solve.proofs.Words.{arith, length, length-reverse, nat_tests, refl, rules, sym, ◌<◌, ◌∙◌, ◌≡◌}
+use Rattle.pop_solve.proofs.Words.{arith, length, length-reverse, nat_tests, refl, sym, ◌<◌, ◌∙◌, ◌≡◌}
 use Rattle.pop_solve.proofs.Kept as kept
 use Rattle.pop_solve.proofs.Opened as opened
 use Rattle.pop_solve.proofs.phases.walk_on.Goals as goal

@@ -1,0 +1,131 @@
+//! Guesses at the moves that decide a test, from tests with fewer half-moves. They cost time alone: contracts don't see them.
+ghost use Rattle.std.specs.Prelude.{◌≡◌, ◌≤◌, true};
+ghost use Rattle.chess_core.specs.WellFormed.{IsWellFormed};
+ghost use Rattle.chess_rules.specs.Legal.{is_legal};
+
+use crate::aim::{Aim, Battle};
+use crate::chess::next_move;
+use crate::frame::Frame;
+use crate::killers::Killers;
+use crate::plan::Plan;
+use crate::value::value_of;
+use arrayvec::ArrayVec;
+use chess_core::board::Board;
+use chess_core::man::Move;
+use chess_rules::moves::Moves;
+use chess_rules::rules::Rules;
+
+/// Whether killers are guessed for a test with `left` half-moves: in a direct mate, with Black to move. In selfmates none
+/// stand, and help play has no tests.
+fn wants_guess(plan: Plan, left: usize) -> bool {
+    !plan.form.is_help() && Battle::of(plan.form) == Battle::Direct && left % 2 == 0
+}
+
+/// Whether White wins with `left` half-moves, and how many frames that test opens, on a board of its own.
+fn cost_of_test<R: Rules>(
+    aim: Aim,
+    left: usize,
+    board: &Board,
+    killers: &mut Killers<R>,
+) -> (bool, u64)
+    requires well_formed { IsWellFormed board.now }
+    requires few { left ≤ 32 }
+{
+    let mut stand = *board;
+    let mut frames = ArrayVec::<Frame<R>, 33>::new();
+    let mut opened = 0;
+    let wins = value_of::<R, 33>(aim, left, &mut stand, &mut frames, killers, &mut opened);
+    (wins, opened)
+}
+
+/// How many frames it takes to find that a defence holds, with `left` half-moves left behind it; none where it fails.
+#[tactic(auto, using(chess_rules::proofs::listing_moves::Calls::playing))]
+fn cost_of_defence<R: Rules>(
+    aim: Aim,
+    left: usize,
+    by: Move,
+    board: &Board,
+    killers: &mut Killers<R>,
+) -> Option<u64>
+    requires well_formed { IsWellFormed board.now }
+    requires legal { is_legal R.rule board.now by ≡ true }
+    requires few { left ≤ 32 }
+{
+    let mut stand = *board;
+    let _undo = R::play(&mut stand, by);
+    let (wins, opened) = cost_of_test::<R>(aim, left, &stand, killers);
+    if wins { None } else { Some(opened) }
+}
+
+/// The place on the defence that is found to hold at the least cost, if one holds.
+fn cheapest_defence<R: Rules>(
+    aim: Aim,
+    left: usize,
+    board: &Board,
+    killers: &mut Killers<R>,
+) -> Option<Moves<R>>
+    requires well_formed { IsWellFormed board.now }
+    requires few { left ≤ 32 }
+{
+    let mut stand = *board;
+    let mut known = None;
+    let mut place = Moves::<R>::start();
+    let mut best = None;
+    let mut least = u64::MAX;
+    'moves: while let Some(by) = next_move::<R>(&mut known, &mut place, &mut stand) {
+        if let Some(cost) = cost_of_defence::<R>(aim, left, by, &stand, killers) {
+            if cost < least {
+                least = cost;
+                best = Some(place);
+            }
+        }
+    }
+    best
+}
+
+/// Tests a position with `left` half-moves, and takes the killers as those of two half-moves more. If told so, the cheapest
+/// defence is the position's killer.
+fn try_shorter<R: Rules>(
+    aim: Aim,
+    left: usize,
+    chooses: bool,
+    board: &Board,
+    killers: &mut Killers<R>,
+)
+    requires well_formed { IsWellFormed board.now }
+    requires few { left ≤ 32 }
+{
+    let _cost = cost_of_test::<R>(aim, left, board, killers);
+    if chooses {
+        if let Some(place) = cheapest_defence::<R>(aim, left.saturating_sub(1), board, killers) {
+            killers.put(left, place);
+        }
+    }
+    killers.lengthen();
+}
+
+/// Guesses the killers for the test of a direct mate's move, with `left` half-moves left behind it, by tests of rising
+/// length. Of all but the longest the cheapest defence becomes the killer: the first that is found may take long to be seen
+/// to hold, also where more half-moves are left.
+#[tactic(auto, using(chess_rules::proofs::listing_moves::Calls::playing))]
+pub fn guess_killers<R: Rules>(
+    plan: Plan,
+    left: usize,
+    by: Move,
+    board: &Board,
+    killers: &mut Killers<R>,
+)
+    requires well_formed { IsWellFormed board.now }
+    requires legal { is_legal R.rule board.now by ≡ true }
+    requires few { left ≤ 32 }
+{
+    if !wants_guess(plan, left) {
+        return;
+    }
+    let mut stand = *board;
+    let _undo = R::play(&mut stand, by);
+    for half in 1..left / 2 {
+        let tried = 2 * half;
+        try_shorter::<R>(plan.aim(), tried, tried + 4 <= left, &stand, killers);
+    }
+}
