@@ -211,6 +211,8 @@ class Ends(SplitRoom):
         words[place : place + 2] = ["--journal", str(self.journal)]
         run = self.started(*words)
         wait_for(lambda: "play-5" in self.parts())
+        # What the parts before it wrote is read after a pause.
+        time.sleep(0.3)
         run.send_signal(signal.SIGTERM)
         error = run.communicate(timeout=30)[1].decode()
         rest = self.room / "six.report.journal.unfinished"

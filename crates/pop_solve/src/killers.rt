@@ -50,6 +50,16 @@ impl<R: Rules> Killers<R> {
         }
     }
 
+    /// Takes the killers of so many half-moves as those of two more.
+    pub fn lengthen(&mut self) {
+        let places = self.places;
+        let earlier = self.earlier;
+        for left in 0..30 {
+            self.places[left + 2] = places[left];
+            self.earlier[left + 2] = earlier[left];
+        }
+    }
+
     /// Remembers another; the one so far is the earlier one then.
     pub fn put(&mut self, left: usize, place: Moves<R>)
         ensures last { left < 32 → self.new.places ≡ slice_set self.old.places left place }
@@ -62,16 +72,6 @@ impl<R: Rules> Killers<R> {
                 self.earlier[left] = self.places[left];
             }
             self.places[left] = place;
-        }
-    }
-
-    /// Takes the killers of so many half-moves as those of two more.
-    pub fn lengthen(&mut self) {
-        let places = self.places;
-        let earlier = self.earlier;
-        for left in 0..30 {
-            self.places[left + 2] = places[left];
-            self.earlier[left + 2] = earlier[left];
         }
     }
 }
