@@ -1,7 +1,10 @@
 //! Guesses at the moves that decide a test, from tests with fewer half-moves. They cost time alone: contracts don't see them.
-ghost use Rattle.std.specs.Prelude.{◌≡◌, ◌≤◌, true};
+ghost use Rattle.std.specs.Prelude.{◌≡◌, ◌≤◌, is_some, not, true};
 ghost use Rattle.chess_core.specs.WellFormed.{IsWellFormed};
 ghost use Rattle.chess_rules.specs.Legal.{is_legal};
+ghost use Rattle.chess_rules.specs.Play.{position_after};
+ghost use Rattle.pop_solve.specs.Chess.{chess};
+ghost use Rattle.pop_solve.specs.ties.Values.{value};
 
 use crate::aim::{Aim, Battle};
 use crate::chess::next_move;
@@ -30,6 +33,7 @@ fn cost_of_test<R: Rules>(
 ) -> (bool, u64)
     requires well_formed { IsWellFormed board.now }
     requires few { left ≤ 32 }
+    ensures value { result.0 ≡ value aim.battle (chess aim.goal R.rule) left board.now }
 {
     let mut stand = *board;
     let mut frames = ArrayVec::<Frame<R>, 33>::new();
@@ -50,6 +54,8 @@ fn cost_of_defence<R: Rules>(
     requires well_formed { IsWellFormed board.now }
     requires legal { is_legal R.rule board.now by ≡ true }
     requires few { left ≤ 32 }
+    ensures holds { is_some result ≡ not (value aim.battle (chess aim.goal R.rule) left
+        (position_after R.rule board.now by)) }
 {
     let mut stand = *board;
     let _undo = R::play(&mut stand, by);
