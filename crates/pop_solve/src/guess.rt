@@ -1,9 +1,12 @@
 //! Guesses at the moves that decide a test, from tests with fewer half-moves. They cost time alone: contracts don't see them.
-ghost use Rattle.std.specs.Prelude.{◌≡◌, ◌≤◌, is_some, not, true};
+ghost use Rattle.std.specs.Prelude.{◌≡◌, ◌≤◌, is_some, not, false, true};
 ghost use Rattle.chess_core.specs.WellFormed.{IsWellFormed};
 ghost use Rattle.chess_rules.specs.Legal.{is_legal};
 ghost use Rattle.chess_rules.specs.Play.{position_after};
+ghost use Rattle.pop_input.specs.Stipulations.{is_help};
+ghost use Rattle.pop_solve.specs.Aims.{battle_of};
 ghost use Rattle.pop_solve.specs.Chess.{chess};
+ghost use Rattle.pop_solve.specs.declared.aim.Battle.TheVariants.{Selfmate};
 ghost use Rattle.pop_solve.specs.ties.Values.{value};
 
 use crate::aim::{Aim, Battle};
@@ -20,7 +23,10 @@ use chess_rules::rules::Rules;
 
 /// Whether killers are guessed for a test with `left` half-moves: in a direct mate, with Black to move. In selfmates none
 /// stand, and help play has no tests.
-fn wants_guess(plan: Plan, left: usize) -> bool {
+fn wants_guess(plan: Plan, left: usize) -> bool
+    ensures help { is_help plan.form ≡ true → result ≡ false }
+    ensures selfmate { battle_of plan.form ≡ Selfmate → result ≡ false }
+{
     !plan.form.is_help() && Battle::of(plan.form) == Battle::Direct && left % 2 == 0
 }
 
@@ -89,30 +95,19 @@ fn cheapest_defence<R: Rules>(
     best
 }
 
-/// Tests a position with `left` half-moves, and takes the killers as those of two half-moves more. If told so, the cheapest
-/// defence is the position's killer.
-fn try_shorter<R: Rules>(
-    aim: Aim,
-    left: usize,
-    chooses: bool,
-    board: &Board,
-    killers: &mut Killers<R>,
-)
+/// The cheapest defence becomes the killer of a test of the position with `left` half-moves.
+fn choose_killer<R: Rules>(aim: Aim, left: usize, board: &Board, killers: &mut Killers<R>)
     requires well_formed { IsWellFormed board.now }
     requires few { left ≤ 32 }
 {
-    let _cost = cost_of_test::<R>(aim, left, board, killers);
-    if chooses {
-        if let Some(place) = cheapest_defence::<R>(aim, left.saturating_sub(1), board, killers) {
-            killers.put(left, place);
-        }
+    if let Some(place) = cheapest_defence::<R>(aim, left.saturating_sub(1), board, killers) {
+        killers.put(left, place);
     }
-    killers.lengthen();
 }
 
 /// Guesses the killers for the test of a direct mate's move, with `left` half-moves left behind it, by tests of rising
 /// length. Of all but the longest the cheapest defence becomes the killer: the first that is found may take long to be seen
-/// to hold, also where more half-moves are left.
+/// to hold, also where more half-moves are left. In help play and selfmates the killers stay.
 #[tactic(auto, using(chess_rules::proofs::listing_moves::Calls::playing))]
 pub fn guess_killers<R: Rules>(
     plan: Plan,
@@ -124,6 +119,8 @@ pub fn guess_killers<R: Rules>(
     requires well_formed { IsWellFormed board.now }
     requires legal { is_legal R.rule board.now by ≡ true }
     requires few { left ≤ 32 }
+    ensures help { is_help plan.form ≡ true → killers.new ≡ killers.old }
+    ensures selfmate { battle_of plan.form ≡ Selfmate → killers.new ≡ killers.old }
 {
     if !wants_guess(plan, left) {
         return;
@@ -132,6 +129,10 @@ pub fn guess_killers<R: Rules>(
     let _undo = R::play(&mut stand, by);
     for half in 1..left / 2 {
         let tried = 2 * half;
-        try_shorter::<R>(plan.aim(), tried, tried + 4 <= left, &stand, killers);
+        let _cost = cost_of_test::<R>(plan.aim(), tried, &stand, killers);
+        if tried + 4 <= left {
+            choose_killer::<R>(plan.aim(), tried, &stand, killers);
+        }
+        killers.lengthen();
     }
 }

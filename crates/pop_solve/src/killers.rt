@@ -1,6 +1,6 @@
 //! The moves that decided tests.
 ghost use Rattle.std.specs.Prelude.{◌≡◌, ◌==◌, ◌<◌, ◌∷◌, [], if◌then◌else◌, slice_index_or, slice_set};
-ghost use Rattle.std.specs.List.{repeat};
+ghost use Rattle.std.specs.List.{copy_within, repeat};
 ghost use Rattle.pop_solve.specs.declared.aim.Battle.TheVariants.{Direct};
 
 use crate::aim::Battle;
@@ -51,13 +51,12 @@ impl<R: Rules> Killers<R> {
     }
 
     /// Takes the killers of so many half-moves as those of two more.
-    pub fn lengthen(&mut self) {
-        let places = self.places;
-        let earlier = self.earlier;
-        for left in 0..30 {
-            self.places[left + 2] = places[left];
-            self.earlier[left + 2] = earlier[left];
-        }
+    pub(crate) fn lengthen(&mut self)
+        ensures last { self.new.places ≡ copy_within self.old.places 0 30 2 }
+        ensures earlier { self.new.earlier ≡ copy_within self.old.earlier 0 30 2 }
+    {
+        self.places.copy_within(0..30, 2);
+        self.earlier.copy_within(0..30, 2);
     }
 
     /// Remembers another; the one so far is the earlier one then.
