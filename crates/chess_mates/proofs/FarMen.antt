@@ -31,7 +31,7 @@ unset : (n : ℕ) → n < 2 → (n == 1) ≡ false → n ≡ 0
 unset n lt h = grind (arith, false≢true)
 
 -- a square of one of two words
-on_either : (a b i : ℕ) → (bit_at (bit_or a b) i == 1) ≡ true → (bit_at a i == 1) ≡ false → (bit_at b i == 1) ≡ true
+pub on_either : (a b i : ℕ) → (bit_at (bit_or a b) i == 1) ≡ true → (bit_at a i == 1) ≡ false → (bit_at b i == 1) ≡ true
 on_either a b i h off = grind (arith, eqb-true, bit_at_or, unset, bit_at-lt, eq-eqb)
 
 -- a square of the first of two words, and not of the second

@@ -15,4 +15,8 @@ pub mod CastlingChecks
 pub mod CheckTargets
 pub mod FarMen
 pub mod LastingFlights
+pub mod HoldBelow
+pub mod Hurdles
+pub mod Risks
+pub mod Sparing
 pub mod Excluded

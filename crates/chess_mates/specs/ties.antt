@@ -3,4 +3,5 @@ pub mod CheckSquares
 pub mod Flights
 pub mod Idle
 pub mod LastingFlights
+pub mod Threats
 pub mod Mates

@@ -10,6 +10,7 @@ mod checks;
 pub mod every_move;
 mod flights;
 pub mod lasting_flights;
+pub mod threats;
 pub mod mating_moves;
 mod open_board;
 mod origins;

@@ -1,9 +1,16 @@
-//! The moves that decided tests.
-ghost use Rattle.std.specs.Prelude.{◌≡◌, ◌==◌, ◌<◌, ◌∷◌, [], if◌then◌else◌, slice_index_or, slice_set};
+//! The moves that decided tests, and the threats of the last position that was asked for them.
+ghost use Rattle.std.specs.Prelude.{◌≡◌, ◌==◌, ◌<◌, ◌∷◌, [], true, if◌then◌else◌, slice_index_or, slice_set};
 ghost use Rattle.std.specs.List.{copy_within, repeat};
+ghost use Rattle.chess_core.specs.WellFormed.{IsWellFormed};
+ghost use Rattle.chess_mates.specs.ties.Mates.{mates_behind};
+ghost use Rattle.chess_rules.specs.Legal.{is_legal};
+ghost use Rattle.chess_rules.specs.Play.{position_after};
 ghost use Rattle.pop_solve.specs.declared.aim.Battle.TheVariants.{Direct};
 
 use crate::aim::Battle;
+use chess_core::board::Board;
+use chess_core::man::Move;
+use chess_mates::threats::Threats;
 use chess_rules::moves::Moves;
 use chess_rules::rules::Rules;
 
@@ -14,6 +21,7 @@ use chess_rules::rules::Rules;
 pub struct Killers<R: Rules> {
     places: [Moves<R>; 32],
     earlier: [Moves<R>; 32],
+    threats: Option<Threats>,
 }
 
 impl<R: Rules> Killers<R> {
@@ -25,6 +33,7 @@ impl<R: Rules> Killers<R> {
         Killers {
             places: [Moves::start(); 32],
             earlier: [Moves::start(); 32],
+            threats: None,
         }
     }
 
@@ -72,5 +81,30 @@ impl<R: Rules> Killers<R> {
             }
             self.places[left] = place;
         }
+    }
+
+    /// Whether the threats in the board's position, which are kept for its other moves, tell that no reply to this move
+    /// mates. `false` says nothing.
+    pub fn rule_out_mate(&mut self, board: &Board, m: &Move) -> bool
+        requires well_formed { IsWellFormed board.now }
+        requires legal { is_legal R.rule board.now m.now ≡ true }
+        ensures { result ≡ true
+            → mates_behind R.rule (position_after R.rule board.now m.now) 0 ≡ [] }
+    {
+        if !Threats::are_told::<R>(board) {
+            return false;
+        }
+        if let Some(threats) = &self.threats {
+            if let Some(ruled_out) = threats.rule_out_mate::<R>(board, m) {
+                return ruled_out;
+            }
+        }
+        let Some(king) = board.king_of(board.turn()) else {
+            return false;
+        };
+        let threats = Threats::of(board, king);
+        let ruled_out = threats.rule_out_mate::<R>(board, m);
+        self.threats = Some(threats);
+        ruled_out == Some(true)
     }
 }

@@ -27,7 +27,6 @@ use crate::value::{seeking, value_of};
 use arrayvec::ArrayVec;
 use chess_core::board::Board;
 use chess_core::man::Move;
-use chess_mates::lasting_flights::keeps_flight;
 use chess_rules::legal_moves::LegalMoves;
 use chess_rules::moves::Moves;
 use chess_rules::rules::Rules;
@@ -291,12 +290,21 @@ pub fn step_back<R: Rules>(depth: usize, top: Frame<R>, board: &mut Board)
 
 /// Whether the move, the last of help play but one, is known to be followed by no mate, so that it needs no board.
 #[tactic(auto, using(crate::proofs::Boards::for_mate))]
-fn is_settled<R: Rules>(plan: Plan, left: usize, by: &Move, board: &Board) -> bool
+fn is_settled<R: Rules>(
+    plan: Plan,
+    left: usize,
+    by: &Move,
+    board: &Board,
+    killers: &mut Killers<R>,
+) -> bool
     requires well_formed { IsWellFormed board.now }
     requires legal { is_legal R.rule board.now by.now ≡ true }
     ensures { result ≡ true → IsSettled R.rule plan left board.now by.now }
 {
-    left == 2 && plan.form.is_help() && is_for_mate(plan.goal) && keeps_flight::<R>(board, by)
+    left == 2
+        && plan.form.is_help()
+        && is_for_mate(plan.goal)
+        && killers.rule_out_mate(board, by)
 }
 
 /// One step of the walk: the next move of the top frame is played, or the frame is closed. Answers whether the path
@@ -335,7 +343,7 @@ pub(crate) fn step<R: Rules, const N: usize>(
         known,
         ..top
     });
-    if is_settled::<R>(plan, top.left, &by, board) {
+    if is_settled::<R>(plan, top.left, &by, board, killers) {
         *opened = opened_by(*opened, 1, false);
         return false;
     }

@@ -1,0 +1,285 @@
+-- What men reach over hurdles, the squares of a word, and later on the board.
+use Rattle.chess_rules.proofs.Basics.{Bool, List, None, Option, Some, [], ◌∷◌, and_from, and_left, and_parts, and_right, ap, arith, bit_and, bit_at, bit_at-lt, bit_at_and, bit_not, bit_or, cases_Bool, cases_eq, cases_lt, cond-true, cond-false, eq-eqb, eqb-true, false, false_from_ne_true, false≢true, find, if◌then◌else◌, get_or-map-range_with_len, inl, inr, is_some, length, length-map-range_with_len, list_all, list_any, list_any-append, map, not, not-true, or_cases, or_left, or_lt, or_parts, or_right, range_with_len, refl, rules, subst, suc, sym, true, true_from_ne_false, w64, zero, ℕ, ◌&&◌, ◌+◌, ◌-◌, ◌<◌, ◌≤◌, ◌==◌, ◌^◌, ◌||◌, ◌∙◌, ◌≡◌, ◌≢◌, ◌⊎◌}
+use Rattle.chess_mates.proofs.Chess.{Bishop, Colour, Grasshopper, HaveNone, IsWellFormed, Kind, King, Knight, Man, Move, Nightrider, Pawn, Position, Queen, Rook, RuleSet, Step, White, all_at, along, any_range_cases, any_range_false, arrives, arriving_man, capture_square, corner, diagonal_steps, find_first, halfway, in_check, is_absent, is_arrival_free, is_attacked, is_attacked_at, is_castling, is_circe, is_clear, is_diagonal, is_fairy, is_legal, is_man, is_on_some, is_pseudo_legal, is_side, is_square, is_vacant, king_after, king_square, knight_steps, leaps, man_on, mates, mates_behind, may_castle, may_check_from, may_check_from_on, may_go, occupied_squares, other, pawn_captures, position_after, queen_steps}
+use Rattle.chess_mates.proofs.Chess.{after_by, castles, reaches, reaches_as, reaches_of, reborn_square, rides, same_colour, same_colour-true, same_kind, side_of, some_square_false, some_square_true, squares, squares_of, squares_same, straight_steps, strikes, triple_at, word}
+use Rattle.chess_core.proofs.Ranges.{all_range_true, any_range_true}
+use Rattle.chess_core.proofs.Words.{square_word}
+use Rattle.chess_core.specs.ties.Words.{bit_of}
+use Rattle.chess_core.proofs.Castlings.{has_unmoved-parts}
+use Rattle.chess_core.specs.Castling.{has_unmoved, without_unmoved}
+use Rattle.chess_rules.specs.Legal.{goes, is_promotion_right}
+use Rattle.chess_rules.specs.Play.{unmoved_after}
+use Rattle.chess_rules.specs.Play.{is_double_step, unmoved_without_at, unmoved_with_rook}
+use Rattle.chess_mates.specs.declared.threats.Attackers.{Attackers}
+use Rattle.chess_mates.specs.declared.threats.Field.{Field}
+use Rattle.chess_mates.specs.declared.threats.Guards.{Guards}
+use Rattle.chess_mates.specs.declared.threats.Risk.{Risk}
+use Rattle.chess_mates.specs.declared.threats.Siege.{Siege}
+use Rattle.chess_mates.specs.ties.Flights.{has_flight, is_flight, is_open}
+use Rattle.chess_mates.specs.ties.Flights.{is_flight_from}
+use Rattle.chess_mates.specs.ties.Threats.{AreArrivals, AreAttackers, AreGuardsWithout, AreReached, AreThreats, AreWeak, CannotCastle, HasNoFairy, IsArrival, IsAttacker, IsCheckWord, IsField, IsFlight, IsHarmless, IsLeft, IsMet, IsMild, IsNoCheck, IsOff, IsOpenReach, IsPlainMove, IsQuiet, IsReached, IsRiskAt, IsRiskBehind, IsShut, IsSiege, IsSiegeOf, IsTold, IsUnguarded, IsWeak, IsWeakAt, LeavesOne, is_leaper, is_rider, men_on, squares_for}
+use Rattle.chess_mates.specs.ties.Threats.{reached_over}
+use Rattle.chess_rules.proofs.Bits.{off_left, off_right, on_left, on_right, word_has}
+use Rattle.chess_rules.proofs.Tests.{find_no, some_is}
+use Rattle.chess_rules.proofs.rays.Flips.{diagonal-back, king-back, knight-back, nightrider-back, pawn-back, queen_rides-back, straight-back}
+use Rattle.chess_rules.proofs.attacks.Exposing.{king_is_after}
+use Rattle.chess_rules.proofs.attacks.Seeing.{kept_now, king_stands, left_now, there_now}
+use Rattle.chess_rules.proofs.attacks.Shielding.{arriving_colour, king_is, man_there, other_differs, other_twice, simple_after}
+use Rattle.chess_rules.proofs.attacks.StayingInCheck.{king_there}
+use Rattle.chess_rules.proofs.listing_moves.Arrivals.{may_go_aimed}
+use Rattle.chess_rules.proofs.listing_moves.Targeting.{arrival_needed, every_square_on, false_by}
+use Rattle.chess_rules.proofs.listing_moves.Calls.{is_pseudo_legal-from_legal}
+use Rattle.chess_rules.proofs.rays.Ends.{square_is}
+use Rattle.chess_rules.proofs.making_moves.Fits.{arrived, arrived_other, capture_of_piece, castle_of, kind_is_king, king_no_step, taken}
+use Rattle.chess_rules.proofs.making_moves.Pseudo.{IsCastle, IsMade, king_is_no_pawn, made, on_board}
+use Rattle.chess_rules.proofs.making_moves.Stays.{after_well_formed, maker}
+use Rattle.chess_mates.proofs.CheckTargets.{last_rank_on}
+use Rattle.chess_mates.proofs.FarMen.{off_denied}
+use Rattle.chess_mates.proofs.KingsApart.{kings_apart}
+use Rattle.chess_rules.proofs.listing_moves.Walks.{off_zero, on_first}
+use Rattle.chess_mates.proofs.Fleeing.{IsKingOn, IsKingStep, king_on, no_king_free, no_mate_with_flight, no_strike, step_is_legal, step_to, unseen_bit}
+use Rattle.chess_mates.proofs.Mating.{mates_behind-end, mates_behind-none, no_mate_quietly, not_mating, turn_after}
+use Rattle.chess_mates.proofs.OpenBoard.{rides_on}
+
+-- what a man reaches, he would reach on an empty board
+module _ (x : Man) (s : ℕ) where
+  pub rook_reach : (l : ℕ) → x.kind ≡ Rook → l ≡ word (is_on_some straight_steps s) → IsOpenReach x s l
+  unfolding reaches_as
+  rook_reach l kind lines = record {
+    inside = λ men t small h. word_has (is_on_some straight_steps s) l t lines small ∙ rides_on men s t straight_steps (rw kind at h);
+  }
+
+  pub bishop_reach : (l : ℕ) → x.kind ≡ Bishop → l ≡ word (is_on_some diagonal_steps s) → IsOpenReach x s l
+  unfolding reaches_as
+  bishop_reach l kind lines = record {
+    inside = λ men t small h. word_has (is_on_some diagonal_steps s) l t lines small ∙ rides_on men s t diagonal_steps (rw kind at h);
+  }
+
+  queen_on : (men : List (Option Man)) (t l d : ℕ) → l ≡ word (is_on_some straight_steps s) → d ≡ word (is_on_some diagonal_steps s) → t < 64
+      → list_any (rides men s t) queen_steps ≡ true → (bit_at (bit_or l d) t == 1) ≡ true
+  queen_on men t l d lines slants small h = elim (or_cases _ _ (sym (list_any-append (rides men s t) straight_steps diagonal_steps) ∙ h)) [
+    | inl y ↦ on_left l d t (word_has (is_on_some straight_steps s) l t lines small ∙ rides_on men s t straight_steps y)
+    | inr y ↦ on_right l d t (word_has (is_on_some diagonal_steps s) d t slants small ∙ rides_on men s t diagonal_steps y)
+  ]
+
+  pub queen_reach : (l d : ℕ) → x.kind ≡ Queen → l ≡ word (is_on_some straight_steps s) → d ≡ word (is_on_some diagonal_steps s) → IsOpenReach x s (bit_or l d)
+  unfolding reaches_as
+  queen_reach l d kind lines slants = record { inside = λ men t small h. queen_on men t l d lines slants small (rw kind at h) }
+
+  pub knight_reach : (l : ℕ) → x.kind ≡ Knight → l ≡ word (λ q. list_any (leaps s q) knight_steps) → IsOpenReach x s l
+  unfolding reaches_as
+  knight_reach l kind squares = record { inside = λ men t small h. word_has (λ q. list_any (leaps s q) knight_steps) l t squares small ∙ (rw kind at h) }
+
+  pub king_reach : (l : ℕ) → x.kind ≡ King → l ≡ word (λ q. list_any (leaps s q) queen_steps) → IsOpenReach x s l
+  unfolding reaches_as
+  king_reach l kind squares = record { inside = λ men t small h. word_has (λ q. list_any (leaps s q) queen_steps) l t squares small ∙ (rw kind at h) }
+
+  pub pawn_reach : (l : ℕ) → x.kind ≡ Pawn → l ≡ word (λ q. list_any (leaps s q) (pawn_captures x.colour)) → IsOpenReach x s l
+  unfolding reaches_as
+  pawn_reach l kind squares = record {
+    inside = λ men t small h. word_has (λ q. list_any (leaps s q) (pawn_captures x.colour)) l t squares small ∙ (rw kind at h);
+  }
+
+  pub any_reach : IsOpenReach x s (bit_not w64 0)
+  any_reach = record { inside = λ men t small h. every_square_on t small }
+
+pub reached_left : (d : ℕ) (x : Man) (s a b : ℕ) → IsReached d x s a → IsReached d x s (bit_or a b)
+reached_left d x s a b h = record { inside = λ t small r. on_left a b t (h.inside t small r) }
+
+pub reached_right : (d : ℕ) (x : Man) (s a b : ℕ) → IsReached d x s b → IsReached d x s (bit_or a b)
+reached_right d x s a b h = record { inside = λ t small r. on_right a b t (h.inside t small r) }
+
+-- men on the squares of a word
+bit_small : (d s : ℕ) → bit_at d s ≡ bit_of (bit_at d s == 1)
+bit_small d s = grind (arith, bit_at-lt d s)
+
+abbrev one_if : Bool → Option Man
+one_if b = if b then Some (record { colour = White; kind = Pawn }) else None
+
+abbrev placed : ℕ → ℕ → Option Man
+placed d s = one_if (bit_at d s == 1)
+
+on_word : (d s : ℕ) → s < 64 → man_on (men_on d) s ≡ placed d s
+unfolding squares
+on_word d s small = get_or-map-range_with_len (placed d) 0 64 s s None small (omega arith)
+
+is_one : (b : Bool) → is_some (one_if b) ≡ b
+is_one b = grind arith
+
+one_on : (d s : ℕ) → s < 64 → is_some (man_on (men_on d) s) ≡ (bit_at d s == 1)
+one_on d s small = ap (λ (o : Option Man). is_some o) (on_word d s small) ∙ is_one (bit_at d s == 1)
+
+pub occupied_on : (d : ℕ) → d < 2 ^ 64 → d ≡ occupied_squares (men_on d)
+occupied_on d fits = square_word (λ s. is_some (man_on (men_on d) s)) d fits (λ s small. bit_small d s ∙ ap bit_of (sym (one_on d s small)))
+
+size_on : (d : ℕ) → length (men_on d) ≡ 64
+unfolding squares
+size_on d = length-map-range_with_len (placed d) 0 64
+
+pub reached_is : (d : ℕ) (x : Man) (s r : ℕ) → d < 2 ^ 64 → ((men : List (Option Man)) → d ≡ occupied_squares men → r ≡ word (reaches_as men x.colour x.kind s))
+    → IsReached d x s r
+unfolding reached_over
+reached_is d x s r fits h = record {
+  inside = λ t small reached. word_has (reaches_as (men_on d) x.colour x.kind s) r t (h (men_on d) (occupied_on d fits)) small ∙ reached;
+}
+
+-- a man by his colour and his kind
+pub man_is : (x : Man) (c : Colour) (k : Kind) → x.colour ≡ c → x.kind ≡ k → record { colour = c; kind = k } ≡ x
+man_is x c k colour kind = rw (← colour, ← kind) refl
+
+-- those that the attackers reach, kind by kind
+module _ (d : ℕ) (a : Attackers) where
+  abbrev ReachAs : Kind → ℕ → Type 0
+  ReachAs k w = (s : ℕ) → s < 64 → (bit_at (squares_for a k) s == 1) ≡ true → IsReached d (record { colour = a.colour; kind = k }) s w
+
+  by_kind : (k : Kind) (w s : ℕ) (x : Man) → ReachAs k w → IsAttacker a x s → x.kind ≡ k → IsReached d x s w
+  by_kind k w s x h i kind = subst (λ (y : Man). IsReached d y s w) (man_is x a.colour k i.mine kind)
+      (h s i.small (ap (λ (j : Kind). bit_at (squares_for a j) s == 1) (sym kind) ∙ i.on))
+
+  pub riders_reach : (q r b : ℕ) → ReachAs Queen q → ReachAs Rook r → ReachAs Bishop b → AreReached d a is_rider (bit_or (bit_or q r) b)
+  riders_reach q r b queens rooks bishops = record {
+    reach = λ s x i rider. by s x i x.kind refl (rider);
+  } where
+    by : (s : ℕ) (x : Man) → IsAttacker a x s → (k : Kind) → x.kind ≡ k → is_rider k ≡ true → IsReached d x s (bit_or (bit_or q r) b)
+    by s x i Queen kind e = reached_left d x s (bit_or q r) b (reached_left d x s q r (by_kind Queen q s x queens i kind))
+    by s x i Rook kind e = reached_left d x s (bit_or q r) b (reached_right d x s q r (by_kind Rook r s x rooks i kind))
+    by s x i Bishop kind e = reached_right d x s (bit_or q r) b (by_kind Bishop b s x bishops i kind)
+    by s x i King kind e = absurd (false≢true e)
+    by s x i Knight kind e = absurd (false≢true e)
+    by s x i Pawn kind e = absurd (false≢true e)
+    by s x i Grasshopper kind e = absurd (false≢true e)
+    by s x i Nightrider kind e = absurd (false≢true e)
+
+  pub leapers_reach : (n p k : ℕ) → ReachAs Knight n → ReachAs Pawn p → ReachAs King k → AreReached d a is_leaper (bit_or (bit_or n p) k)
+  leapers_reach n p k knights pawns kings = record {
+    reach = λ s x i leaper. by s x i x.kind refl leaper;
+  } where
+    by : (s : ℕ) (x : Man) → IsAttacker a x s → (j : Kind) → x.kind ≡ j → is_leaper j ≡ true → IsReached d x s (bit_or (bit_or n p) k)
+    by s x i Knight kind e = reached_left d x s (bit_or n p) k (reached_left d x s n p (by_kind Knight n s x knights i kind))
+    by s x i Pawn kind e = reached_left d x s (bit_or n p) k (reached_right d x s n p (by_kind Pawn p s x pawns i kind))
+    by s x i King kind e = reached_right d x s (bit_or n p) k (by_kind King k s x kings i kind)
+    by s x i Queen kind e = absurd (false≢true e)
+    by s x i Rook kind e = absurd (false≢true e)
+    by s x i Bishop kind e = absurd (false≢true e)
+    by s x i Grasshopper kind e = absurd (false≢true e)
+    by s x i Nightrider kind e = absurd (false≢true e)
+
+  -- a fairy man is none of them
+  rides_or_leaps : (s : ℕ) (x : Man) → IsAttacker a x s → (is_rider x.kind ≡ true) ⊎ (is_leaper x.kind ≡ true)
+  rides_or_leaps s x i = by x.kind refl where
+    by : (k : Kind) → x.kind ≡ k → (is_rider k ≡ true) ⊎ (is_leaper k ≡ true)
+    by Queen e = inl refl
+    by Rook e = inl refl
+    by Bishop e = inl refl
+    by King e = inr refl
+    by Knight e = inr refl
+    by Pawn e = inr refl
+    by Grasshopper e = absurd (false≢true (sym (off_zero s) ∙ ap (λ (j : Kind). bit_at (squares_for a j) s == 1) (sym e) ∙ i.on))
+    by Nightrider e = absurd (false≢true (sym (off_zero s) ∙ ap (λ (j : Kind). bit_at (squares_for a j) s == 1) (sym e) ∙ i.on))
+
+  pub all_reach : (r l : ℕ) → AreReached d a is_rider r → AreReached d a is_leaper l → AreReached d a (λ k. true) (bit_or r l)
+  all_reach r l rides leaps = record {
+    reach = λ s x i all. elim (rides_or_leaps s x i) [
+      | inl e ↦ reached_left d x s r l (rides.reach s x i e)
+      | inr e ↦ reached_right d x s r l (leaps.reach s x i e)
+    ];
+  }
+
+-- on a board where each hurdle that a man reaches over the hurdles still stands, he reaches no more than over them
+module _ (d : ℕ) (men : List (Option Man)) where
+  empty_on : (q : ℕ) → ((bit_at d q == 1) ≡ true → q < 64 → ⊥) → is_vacant (men_on d) (Some q) ≡ true
+  empty_on q none = by (man_on (men_on d) q) refl where
+    by : (o : Option Man) → man_on (men_on d) q ≡ o → not (is_some o) ≡ true
+    by None e = refl
+    by (Some z) e =
+        let small = on_board (men_on d) q z (size_on d) e in
+        absurd (none (sym (one_on d q small) ∙ ap (λ (o : Option Man). is_some o) e) small)
+
+  -- the hurdles that a step from s leads to still stand
+  abbrev Stand : ℕ → Step → Type 0
+  Stand s st = (b : ℕ) → b < 64 → (bit_at d b == 1) ≡ true → rides (men_on d) s b st ≡ true → is_some (man_on men b) ≡ true
+
+  vacant_over : (st : Step) (s n : ℕ) (o : Option ℕ) → along s st (n + 1) ≡ o → n ≤ 6 → Stand s st
+      → is_clear (men_on d) s st n ≡ true → is_vacant men o ≡ true → is_vacant (men_on d) o ≡ true
+  unfolding rides
+  vacant_over st s n None at le stand clear vacant = absurd (false≢true vacant)
+  vacant_over st s n (Some q) at le stand clear vacant = empty_on q (λ on small. false≢true (sym (not-true _ vacant) ∙ stand q small on
+      (any_range_true (λ k. is_square (along s st k) q && is_clear (men_on d) s st (k - 1)) 1 7 (n + 1)
+      (omega arith) (omega arith) (and_from _ _ (ap (λ (o : Option ℕ). is_square o q) at ∙ eq-eqb q q refl)
+      (let same : n ≡ n + 1 - 1 = omega arith in subst (λ (j : ℕ). is_clear (men_on d) s st j ≡ true) same clear)))))
+
+  clear_over : (st : Step) (s n : ℕ) → n ≤ 6 → Stand s st → is_clear men s st n ≡ true → is_clear (men_on d) s st n ≡ true
+  unfolding is_clear
+  clear_over st s zero le stand clear = refl
+  clear_over st s (suc n) le stand clear =
+      let at = all_at (λ i. is_vacant men (along s st i)) 1 (suc n) in
+      let before : is_clear (men_on d) s st n ≡ true = clear_over st s n (omega (arith, le)) stand
+      (all_range_true (λ i. is_vacant men (along s st i)) 1 n (λ i lo hi. at i clear lo (omega (arith, hi)))) in
+      all_range_true (λ i. is_vacant (men_on d) (along s st i)) 1 (suc n) (λ i lo hi. elim (cases_lt i (n + 1)) [
+        | inl lt ↦ all_at (λ i. is_vacant (men_on d) (along s st i)) 1 n i before lo (omega (arith, lt))
+        | inr ge ↦
+            let last : i ≡ n + 1 = omega (arith, ge, hi) in
+            rw last (vacant_over st s n (along s st (n + 1)) refl (omega (arith, le)) stand before (at (n + 1) clear (omega arith) (omega arith)))
+      ])
+
+  rides_over : (st : Step) (s t : ℕ) → Stand s st → rides men s t st ≡ true → rides (men_on d) s t st ≡ true
+  unfolding rides
+  rides_over st s t stand h = elim (any_range_cases (λ k. is_square (along s st k) t && is_clear men s st (k - 1)) 1 7) [
+    | inl w ↦
+        let both = and_parts _ _ w.3 in
+        any_range_true (λ k. is_square (along s st k) t && is_clear (men_on d) s st (k - 1)) 1 7 w.0 w.1 w.2
+        (and_from _ _ both.0 (clear_over st s (w.0 - 1) (omega (arith, w.2)) stand both.1))
+    | inr none ↦ absurd (false≢true (sym (any_range_false (λ k. is_square (along s st k) t && is_clear men s st (k - 1)) 1 7 none) ∙ h))
+  ]
+
+  some_over : (s t : ℕ) (ds : List Step)
+      → ((b : ℕ) → b < 64 → (bit_at d b == 1) ≡ true → list_any (rides (men_on d) s b) ds ≡ true → is_some (man_on men b) ≡ true)
+      → list_any (rides men s t) ds ≡ true → list_any (rides (men_on d) s t) ds ≡ true
+  some_over s t [] stand h = h
+  some_over s t (st ∷ ds) stand h = elim (or_cases _ _ h) [
+    | inl y ↦
+        ap (λ (b : Bool). b || list_any (rides (men_on d) s t) ds)
+        (rides_over st s t (λ b small on r. stand b small on (ap (λ (a : Bool). a || list_any (rides (men_on d) s b) ds) r)) y)
+    | inr y ↦ or_right _ _ (some_over s t ds (λ b small on r. stand b small on (or_right _ _ r)) y)
+  ]
+
+  -- a man who is no fairy man
+  pub later : (c : Colour) (k : Kind) (s t : ℕ) → is_fairy k ≡ false
+      → (is_rider k ≡ true → (b : ℕ) → b < 64 → (bit_at d b == 1) ≡ true → reaches_as (men_on d) c k s b ≡ true → is_some (man_on men b) ≡ true)
+      → reaches_as men c k s t ≡ true → reaches_as (men_on d) c k s t ≡ true
+  unfolding reaches_as
+  later c King s t plain stand h = h
+  later c Queen s t plain stand h = some_over s t queen_steps (stand refl) h
+  later c Rook s t plain stand h = some_over s t straight_steps (stand refl) h
+  later c Bishop s t plain stand h = some_over s t diagonal_steps (stand refl) h
+  later c Knight s t plain stand h = h
+  later c Pawn s t plain stand h = h
+  later c Grasshopper s t plain stand h = absurd (false≢true (sym plain))
+  later c Nightrider s t plain stand h = absurd (false≢true (sym plain))
+
+-- a queen reaches what a rider does
+pub queen_more : (d : ℕ) (c : Colour) (k : Kind) (s t : ℕ) → is_rider k ≡ true → reaches_as (men_on d) c k s t ≡ true
+    → reaches_as (men_on d) c Queen s t ≡ true
+unfolding reaches_as
+queen_more d c Queen s t rider h = h
+queen_more d c Rook s t rider h = list_any-append (rides (men_on d) s t) straight_steps diagonal_steps ∙ or_left _ _ h
+queen_more d c Bishop s t rider h = list_any-append (rides (men_on d) s t) straight_steps diagonal_steps ∙ or_right _ _ h
+queen_more d c King s t rider h = absurd (false≢true rider)
+queen_more d c Knight s t rider h = absurd (false≢true rider)
+queen_more d c Pawn s t rider h = absurd (false≢true rider)
+queen_more d c Grasshopper s t rider h = absurd (false≢true rider)
+queen_more d c Nightrider s t rider h = absurd (false≢true rider)
+
+-- who reaches a square is reached from it by one of the other colour
+pub reaches_back : (men : List (Option Man)) (c : Colour) (k : Kind) (s t : ℕ) → s < 64 → t < 64 → same_kind k Grasshopper ≡ false
+    → reaches_as men c k s t ≡ reaches_as men (other c) k t s
+unfolding reaches_as
+reaches_back men c King s t p q piece = king-back s t p q
+reaches_back men c Queen s t p q piece = queen_rides-back men s t p q
+reaches_back men c Rook s t p q piece = straight-back men s t p q
+reaches_back men c Bishop s t p q piece = diagonal-back men s t p q
+reaches_back men c Knight s t p q piece = knight-back s t p q
+reaches_back men c Pawn s t p q piece = pawn-back c s t p q
+reaches_back men c Nightrider s t p q piece = nightrider-back men s t p q
+reaches_back men c Grasshopper s t p q piece = absurd (false≢true (sym piece))
+

@@ -1,0 +1,627 @@
+-- No reply mates after a defender's move without risk.
+use Rattle.chess_rules.proofs.Basics.{Bool, List, None, Option, Some, [], ◌∷◌, and_from, and_left, and_parts, and_right, ap, arith, bit_and, bit_at, bit_at-lt, bit_at_and, bit_not, bit_or, cases_Bool, cases_eq, cases_lt, cond-true, cond-false, eq-eqb, eqb-true, false, false_from_ne_true, false≢true, find, if◌then◌else◌, get_or-map-range_with_len, inl, inr, is_some, length, length-map-range_with_len, list_all, list_any, list_any-append, map, not, not-true, or_cases, or_left, or_lt, or_parts, or_right, range_with_len, refl, rules, subst, suc, sym, true, true_from_ne_false, w64, zero, ℕ, ◌&&◌, ◌+◌, ◌-◌, ◌<◌, ◌≤◌, ◌==◌, ◌^◌, ◌||◌, ◌∙◌, ◌≡◌, ◌≢◌, ◌⊎◌}
+use Rattle.chess_mates.proofs.Chess.{Bishop, Colour, Grasshopper, HaveNone, IsWellFormed, Kind, King, Knight, Man, Move, Nightrider, Pawn, Position, Queen, Rook, RuleSet, Step, White, all_at, along, any_range_cases, any_range_false, arrives, arriving_man, capture_square, corner, diagonal_steps, find_first, halfway, in_check, is_absent, is_arrival_free, is_attacked, is_attacked_at, is_castling, is_circe, is_clear, is_diagonal, is_fairy, is_legal, is_man, is_on_some, is_pseudo_legal, is_side, is_square, is_vacant, king_after, king_square, knight_steps, leaps, man_on, mates, mates_behind, may_castle, may_check_from, may_check_from_on, may_go, occupied_squares, other, pawn_captures, position_after, queen_steps}
+use Rattle.chess_mates.proofs.Chess.{after_by, castles, reaches, reaches_as, reaches_of, reborn_square, rides, same_colour, same_colour-true, same_kind, side_of, some_square_false, some_square_true, squares, squares_of, squares_same, straight_steps, strikes, triple_at, word}
+use Rattle.chess_core.proofs.Ranges.{all_range_true, any_range_true}
+use Rattle.chess_core.proofs.Words.{square_word}
+use Rattle.chess_core.specs.ties.Words.{bit_of}
+use Rattle.chess_core.proofs.Castlings.{has_unmoved-parts}
+use Rattle.chess_core.specs.Castling.{has_unmoved, without_unmoved}
+use Rattle.chess_rules.specs.Legal.{goes, is_promotion_right}
+use Rattle.chess_rules.specs.Play.{unmoved_after}
+use Rattle.chess_rules.specs.Play.{is_double_step, unmoved_without_at, unmoved_with_rook}
+use Rattle.chess_mates.specs.declared.threats.Attackers.{Attackers}
+use Rattle.chess_mates.specs.declared.threats.Field.{Field}
+use Rattle.chess_mates.specs.declared.threats.Guards.{Guards}
+use Rattle.chess_mates.specs.declared.threats.Risk.{Risk}
+use Rattle.chess_mates.specs.declared.threats.Siege.{Siege}
+use Rattle.chess_mates.specs.ties.Flights.{has_flight, is_flight, is_open}
+use Rattle.chess_mates.specs.ties.Flights.{is_flight_from}
+use Rattle.chess_mates.specs.ties.Threats.{AreArrivals, AreAttackers, AreGuardsWithout, AreReached, AreThreats, AreWeak, CannotCastle, HasNoFairy, IsArrival, IsAttacker, IsCheckWord, IsField, IsFlight, IsHarmless, IsLeft, IsMet, IsMild, IsNoCheck, IsOff, IsOpenReach, IsPlainMove, IsQuiet, IsReached, IsRiskAt, IsRiskBehind, IsShut, IsSiege, IsSiegeOf, IsTold, IsUnguarded, IsWeak, IsWeakAt, LeavesOne, is_leaper, is_rider, men_on, squares_for}
+use Rattle.chess_mates.specs.ties.Threats.{reached_over}
+use Rattle.chess_rules.proofs.Bits.{off_left, off_right, on_left, on_right, word_has}
+use Rattle.chess_rules.proofs.Tests.{find_no, some_is}
+use Rattle.chess_rules.proofs.rays.Flips.{diagonal-back, king-back, knight-back, nightrider-back, pawn-back, queen_rides-back, straight-back}
+use Rattle.chess_rules.proofs.attacks.Exposing.{king_is_after}
+use Rattle.chess_rules.proofs.attacks.Seeing.{kept_now, king_stands, left_now, there_now}
+use Rattle.chess_rules.proofs.attacks.Shielding.{arriving_colour, king_is, man_there, other_differs, other_twice, simple_after}
+use Rattle.chess_rules.proofs.attacks.StayingInCheck.{king_there}
+use Rattle.chess_rules.proofs.listing_moves.Arrivals.{may_go_aimed}
+use Rattle.chess_rules.proofs.listing_moves.Targeting.{arrival_needed, every_square_on, false_by}
+use Rattle.chess_rules.proofs.listing_moves.Calls.{is_pseudo_legal-from_legal}
+use Rattle.chess_rules.proofs.rays.Ends.{square_is}
+use Rattle.chess_rules.proofs.making_moves.Fits.{arrived, arrived_other, capture_of_piece, castle_of, kind_is_king, king_no_step, taken}
+use Rattle.chess_rules.proofs.making_moves.Pseudo.{IsCastle, IsMade, king_is_no_pawn, made, on_board}
+use Rattle.chess_rules.proofs.making_moves.Stays.{after_well_formed, maker}
+use Rattle.chess_mates.proofs.Hurdles.{all_reach, later, man_is, queen_more, reached_is, reaches_back}
+use Rattle.chess_rules.proofs.listing_moves.Walks.{off_second}
+use Rattle.std.proofs.lemmas.Nat.Bits.{bit_at_not}
+use Rattle.chess_mates.proofs.CheckTargets.{last_rank_on}
+use Rattle.chess_mates.proofs.FarMen.{off_denied, on_either}
+use Rattle.chess_mates.proofs.KingsApart.{kings_apart}
+use Rattle.chess_rules.proofs.listing_moves.Walks.{off_zero, on_first}
+use Rattle.chess_mates.proofs.Fleeing.{IsKingOn, IsKingStep, king_on, no_king_free, no_mate_with_flight, no_strike, step_is_legal, step_to, unseen_bit}
+use Rattle.chess_mates.proofs.Mating.{mates_behind-end, mates_behind-none, no_mate_quietly, not_mating, turn_after}
+use Rattle.chess_mates.proofs.OpenBoard.{rides_on}
+
+-- who stands on a square once a move is made: the man that came, or who stood there
+stood : (p : Position) (x : Man) (m : Move) (t : ℕ) (z : Man) → m.to < length p.men → man_on (arrived p x m) t ≡ Some z
+    → ((t ≡ m.to) × (z ≡ arriving_man x m.promo)) ⊎ ((t ≢ m.to) × ((t ≢ m.from) × (man_on p.men t ≡ Some z)))
+stood p x m t z size there = elim (cases_eq t m.to) [
+  | inl e ↦
+      let came : man_on (arrived p x m) t ≡ Some (arriving_man x m.promo) = ap (man_on (arrived p x m)) e ∙ there_now p.men m.from (capture_square p x m) m.to
+      (arriving_man x m.promo) size in
+      let same : Some z ≡ Some (arriving_man x m.promo) = sym there ∙ came in
+      inl (e, cc)
+  | inr ne ↦ elim (cases_Bool (is_square (Some m.from) t || is_square (capture_square p x m) t)) [
+    | inl gone ↦ absurd (let none = left_now p.men m.from (capture_square p x m) m.to (arriving_man x m.promo) t ne gone in cc)
+    | inr kept ↦
+        inr (
+          ne,
+          (
+            (λ e. false≢true (sym (or_parts _ _ kept).0 ∙ eq-eqb m.from t (sym e))),
+            sym (kept_now p.men m.from (capture_square p x m) m.to (arriving_man x m.promo) t ne kept) ∙ there,
+          ),
+        )
+  ]
+]
+
+apart : (c : Colour) → same_colour (other c) c ≡ false
+apart c = grind arith
+
+self : (c : Colour) → same_colour c c ≡ true
+self c = grind arith
+
+not_mine : (x : Man) (c : Colour) → x.colour ≡ other c → same_colour x.colour c ≡ false
+not_mine x c e = ap (λ (d : Colour). same_colour d c) e ∙ apart c
+
+free_man : (c : Colour) (o : Option Man) → is_side o c ≡ false → is_man o (other c) King ≡ false → is_arrival_free c o ≡ true
+free_man c o side king = grind (arith, false≢true)
+
+unfree : (c : Colour) (o : Option Man) → is_arrival_free c o ≡ true → is_side o c ≡ true → ⊥
+unfree c o free side = grind (arith, and_parts, not-true, false≢true)
+
+unnamed : (p : Position) (x : Man) (m : Move) (o : Option Kind) → arrives x m.to ≡ false → is_promotion_right p x m o ≡ true → o ≡ None
+unnamed p x m o off right = grind (arith, and_parts)
+
+arrival_small : (i : ℕ) → (triple_at i).to < 64
+unfolding triple_at
+arrival_small i = omega arith
+
+-- nobody is captured but where the man arrives
+captured_there : (p : Position) (x : Man) (m : Move) (s : ℕ) → is_square p.crossed m.to ≡ false → capture_square p x m ≡ Some s → s ≡ m.to
+unfolding capture_square
+captured_there p x m s off h = grind (arith, and_right, cond-false, cond-true)
+
+-- who stands elsewhere than where the man leaves and arrives stays
+stays_there : (p : Position) (x : Man) (m : Move) (b : ℕ) → is_square p.crossed m.to ≡ false → b ≢ m.from → b ≢ m.to
+    → man_on (arrived p x m) b ≡ man_on p.men b
+stays_there p x m b off from to = arrived_other p x m b from (λ s cap e. to (e ∙ captured_there p x m s off cap)) to
+
+-- who stands elsewhere than where the man leaves stays or is captured by him
+some_stays : (p : Position) (x : Man) (m : Move) (b : ℕ) → is_square p.crossed m.to ≡ false → m.to < length p.men → b ≢ m.from
+    → is_some (man_on p.men b) ≡ true → is_some (man_on (arrived p x m) b) ≡ true
+some_stays p x m b off size from some = elim (cases_eq b m.to) [
+  | inl e ↦ ap (λ (o : Option Man). is_some o) (ap (man_on (arrived p x m)) e ∙ there_now p.men m.from (capture_square p x m) m.to (arriving_man x m.promo) size)
+  | inr ne ↦ ap (λ (o : Option Man). is_some o) (stays_there p x m b off from ne) ∙ some
+]
+
+some_side : (o : Option Man) (c : Colour) → is_side o c ≡ true → is_some o ≡ true
+some_side o c h = grind (arith, false≢true)
+
+-- a square that isn't unmoved isn't after a move without rebirth
+no_rebirth : (rule : RuleSet) (p : Position) (x : Man) (m : Move) → is_circe rule ≡ false → reborn_square rule p x m ≡ None
+unfolding reborn_square
+no_rebirth rule p x m circe = grind arith
+
+unmoved_before : (p : Position) (x : Man) (m : Move) (t : ℕ)
+    → has_unmoved (unmoved_without_at (without_unmoved (without_unmoved p.unmoved m.from) m.to) (capture_square p x m)) t ≡ true
+    → has_unmoved p.unmoved t ≡ true
+unmoved_before p x m t h = search (rules, has_unmoved-parts)
+
+moved_stays : (rule : RuleSet) (p : Position) (x : Man) (m : Move) (s : ℕ) → is_circe rule ≡ false → is_castling x m ≡ false
+    → man_on p.men m.from ≡ Some x → has_unmoved p.unmoved s ≡ false → has_unmoved (position_after rule p m).unmoved s ≡ false
+unfolding position_after after_by unmoved_after
+moved_stays rule p x m s circe plain here moved =
+    false_by _ (λ h. false≢true (sym moved ∙ unmoved_before p x m s (rw (here, plain, no_rebirth rule p x m circe) at h)))
+
+no_hopper : (k : Kind) → is_fairy k ≡ false → same_kind k Grasshopper ≡ false
+no_hopper k plain = grind (arith, false≢true)
+
+not_mine_enemy : (x : Man) (c : Colour) → x.colour ≡ c → same_colour x.colour (other c) ≡ false
+not_mine_enemy x c e = ap (λ (d : Colour). same_colour d (other c)) e ∙ other_differs c
+
+and_left_king : (z : Man) → same_kind z.kind King ≡ true → same_kind z.kind Pawn ≡ false
+and_left_king z king = king_is_no_pawn z.kind king
+
+-- a king castles from a square where he is unmoved, and the rook too
+castle_unmoved : (rule : RuleSet) (p : Position) (x : Man) (m : Move) → IsWellFormed p → IsMade rule p x m → is_castling x m ≡ true
+    → (has_unmoved p.unmoved m.from ≡ true) × (has_unmoved p.unmoved (corner m) ≡ true)
+unfolding castles may_castle
+castle_unmoved rule p x m well made castling =
+    let king = (and_parts _ _ (and_parts _ _ castling).0).0 in
+    let goes = sym (cond-false (same_kind x.kind Pawn) _ _ (king_is_no_pawn x.kind king)) ∙ made.goes in
+    elim (or_cases _ _ goes) [
+      | inl steps ↦ absurd (king_no_step p x m well made.here castling king steps)
+      | inr way ↦
+          let a = (and_parts _ _ (and_parts _ _ (and_parts _ _ (and_parts _ _ way).0).0).0).0 in
+          ((and_parts _ _ (and_parts _ _ a).0).1, (and_parts _ _ a).1)
+    ]
+
+-- a piece that doesn't castle reaches where it goes
+piece_reaches : (rule : RuleSet) (p : Position) (x : Man) (m : Move) → IsMade rule p x m → same_kind x.kind Pawn ≡ false → is_castling x m ≡ false
+    → reaches_as p.men x.colour x.kind m.from m.to ≡ true
+unfolding castles may_castle reaches
+piece_reaches rule p x m made piece plain =
+    let goes = sym (cond-false (same_kind x.kind Pawn) _ _ piece) ∙ made.goes in
+    elim (or_cases _ _ goes) [
+      | inl steps ↦ sym (ap (λ (o : Option Man). reaches_of p.men o m.from m.to) made.here) ∙ steps
+      | inr way ↦
+          let a = (and_parts _ _ (and_parts _ _ (and_parts _ _ (and_parts _ _ way).0).0).0).0 in
+          absurd (false≢true (sym plain ∙ (and_parts _ _ (and_parts _ _ a).0).0))
+    ]
+
+-- a king reaches what he does whoever stands on the board
+king_reaches : (men others : List (Option Man)) (c : Colour) (k : Kind) (s t : ℕ) → k ≡ King → reaches_as men c k s t ≡ reaches_as others c k s t
+unfolding reaches_as
+king_reaches men others c k s t e = rw e refl
+
+-- where nobody of the other side reaches a square, it isn't attacked
+reach_none : (men : List (Option Man)) (t : ℕ) (c : Colour)
+    → ((s : ℕ) (z : Man) → s < 64 → man_on men s ≡ Some z → z.colour ≡ other c → reaches_as men z.colour z.kind s t ≡ false)
+    → (s : ℕ) → s < 64 → (is_side (man_on men s) (other c) && reaches men s t) ≡ false
+unfolding reaches
+reach_none men t c none s inside = by (man_on men s) refl where
+  by : (o : Option Man) → man_on men s ≡ o → (is_side o (other c) && reaches_of men o s t) ≡ false
+  by None e = refl
+  by (Some z) e = elim (cases_Bool (same_colour z.colour (other c))) [
+    | inl enemy ↦ and_right (same_colour z.colour (other c)) _ (none s z inside e (same_colour-true _ _ enemy))
+    | inr off ↦ and_left _ (reaches_of men (Some z) s t) off
+  ]
+
+nobody_strikes : (rule : RuleSet) (men : List (Option Man)) (t : ℕ) (c : Colour)
+    → ((s : ℕ) (z : Man) → s < 64 → man_on men s ≡ Some z → z.colour ≡ other c → reaches_as men z.colour z.kind s t ≡ false)
+    → is_attacked rule men t (other c) ≡ false
+unfolding is_attacked strikes
+nobody_strikes rule men t c none = search (rules, no_strike, reach_none men t c none, some_square_false)
+
+-- the move m of the defender, plain, without risk
+pub record IsSpared (p : Position) (m : Move) (x : Man) (v : Siege) (k : ℕ) (r : Risk) : Type 0 where
+  pub plain : IsPlainMove p x m
+  pub siege : IsSiege v
+  pub fits : IsSiegeOf p v
+  pub fairies : HasNoFairy p.men (other p.turn)
+  pub castling : CannotCastle p (other p.turn)
+  pub at : IsRiskAt v k r
+  pub off : IsOff v.hurdles r m.from m.to
+  pub off_king : (e : ℕ) → e < 64 → (bit_at v.hurdles e == 1) ≡ true → e ≢ k
+
+module _ (rule : RuleSet) (p : Position) (m : Move) (x : Man) (v : Siege) (k : ℕ) (risk : Risk) (well : IsWellFormed p)
+    (may : is_pseudo_legal rule p m ≡ true) (here : man_on p.men m.from ≡ Some x) (circe : is_circe rule ≡ false) (small : m.to < 64) (from : m.from < 64)
+    (king : king_after p x m ≡ Some k) (i : IsSpared p m x v k risk) where
+  abbrev g : Field
+  g = i.at.field
+
+  is : IsMade rule p x m
+  is = made rule p m x may here
+
+  abbrev q : Position
+  q = position_after rule p m
+
+  men_q : q.men ≡ arrived p x m
+  men_q = simple_after rule p x m here i.plain.castling (λ c. absurd (false≢true (sym circe ∙ c)))
+
+  turn_q : q.turn ≡ other p.turn
+  turn_q = turn_after rule p m may
+
+  well_q : IsWellFormed q
+  well_q = after_well_formed rule p m well may
+
+  king_q : king_square q.men p.turn ≡ Some k
+  king_q = ap (λ (l : List (Option Man)). king_square l p.turn) men_q ∙ king_is_after rule p x m well is small i.plain.castling ∙ king
+
+  crossed_q : q.crossed ≡ None
+  unfolding position_after after_by
+  crossed_q = rw (here, i.plain.double) refl
+
+  stood_q : (s : ℕ) (z : Man) → man_on q.men s ≡ Some z
+      → ((s ≡ m.to) × (z ≡ arriving_man x m.promo)) ⊎ ((s ≢ m.to) × ((s ≢ m.from) × (man_on p.men s ≡ Some z)))
+  stood_q s z there = stood p x m s z (omega (arith, small, well.size)) (sym (ap (λ (l : List (Option Man)). man_on l s) men_q) ∙ there)
+
+  -- an enemy stood there before
+  enemy_stood : (s : ℕ) (z : Man) → man_on q.men s ≡ Some z → z.colour ≡ other p.turn → man_on p.men s ≡ Some z
+  enemy_stood s z there enemy = elim (stood_q s z there) [
+    | inl came ↦
+        absurd (false≢true (sym (not_mine z p.turn enemy) ∙ ap (λ (u : Man). same_colour u.colour p.turn) came.1
+        ∙ ap (λ (c : Colour). same_colour c p.turn) (arriving_colour x m.promo ∙ is.mine) ∙ self p.turn))
+    | inr kept ↦ kept.1.1
+  ]
+
+  attacker : (s : ℕ) (z : Man) → s < 64 → man_on p.men s ≡ Some z → z.colour ≡ other p.turn → IsAttacker v.men z s
+  attacker s z inside there enemy = i.fits.men.stand s z inside there (enemy ∙ sym i.fits.colour) (i.fairies.none s z inside there enemy)
+
+  -- a hurdle is somebody's square, and stays occupied
+  some_p : (e : ℕ) → e < 64 → (bit_at v.hurdles e == 1) ≡ true → is_some (man_on p.men e) ≡ true
+  unfolding side_of
+  some_p e inside on = elim (i.siege.hurdles e inside on).0 [
+    | inl own ↦ some_side _ p.turn (sym (word_has (λ s. is_side (man_on p.men s) p.turn) v.own e i.fits.own inside) ∙ own)
+    | inr enemy ↦ some_side _ (other p.turn) (sym (word_has (λ s. is_side (man_on p.men s) (other p.turn)) v.enemies e i.fits.enemies inside) ∙ enemy)
+  ]
+
+  stays_q : (e : ℕ) → e < 64 → (bit_at v.hurdles e == 1) ≡ true → e ≢ m.from → is_some (man_on q.men e) ≡ true
+  stays_q e inside on left =
+      ap (λ (l : List (Option Man)). is_some (man_on l e)) men_q
+      ∙ some_stays p x m e i.plain.crossed (omega (arith, small, well.size)) left (some_p e inside on)
+
+  at_k : k < 64
+  at_k = (king_there q.men p.turn k king_q).0
+
+  weak_at : (s : ℕ) (z : Man) → IsAttacker v.men z s → IsWeakAt v g z s m.from m.to
+  weak_at s z a = (i.at.weak s z a).weak m.from m.to from small i.off
+
+  -- who reaches the square that the defender leaves, along a line from the king
+  lined : (c : Colour) (j : Kind) (t : ℕ) → t < 64 → is_rider j ≡ true → reaches_as (men_on v.hurdles) c j k t ≡ true → (bit_at g.lines t == 1) ≡ true
+  unfolding reached_over
+  lined c j t inside rider h =
+      (rw i.at.king at (i.at.is.lines c)).inside t inside (queen_more v.hurdles c j k t rider h)
+
+  -- the word of squares from which a man checks the king
+  word_at : (z : Man) (c : ℕ) → IsCheckWord v.hurdles g.king z c → IsCheckWord v.hurdles k z c
+  word_at z c word = subst (λ (j : ℕ). IsCheckWord v.hurdles j z c) i.at.king word
+
+  shut_lines : (bit_at v.hurdles m.from == 1) ≡ true → (bit_at g.lines m.from == 1) ≡ false
+  shut_lines on = i.at.lines m.from (i.off.lines on)
+
+  module _ (n : Move) (to : n.to < 64) (can : is_pseudo_legal rule q n ≡ true) where
+    abbrev y : Man
+    y = (maker rule q n can).0
+
+    here_y : man_on q.men n.from ≡ Some y
+    here_y = (maker rule q n can).1
+
+    is_n : IsMade rule q y n
+    is_n = made rule q n y can here_y
+
+    enemy_y : y.colour ≡ other p.turn
+    enemy_y = is_n.mine ∙ turn_q
+
+    from_small : n.from < 64
+    from_small = on_board q.men n.from y well_q.size here_y
+
+    stood_y : man_on p.men n.from ≡ Some y
+    stood_y = enemy_stood n.from y here_y enemy_y
+
+    plain_y : is_fairy y.kind ≡ false
+    plain_y = i.fairies.none n.from y from_small stood_y enemy_y
+
+    is_y : IsAttacker v.men y n.from
+    is_y = attacker n.from y from_small stood_y enemy_y
+
+    w : IsWeakAt v g y n.from m.from m.to
+    w = weak_at n.from y is_y
+
+    uncrossed : is_square q.crossed n.to ≡ false
+    uncrossed = ap (λ (o : Option ℕ). is_square o n.to) crossed_q
+
+    shuts : (corner next : ℕ) → IsShut p (other p.turn) corner next → has_unmoved q.unmoved corner ≡ true → man_on q.men next ≡ None → ⊥
+    shuts corner next (inl moved) unmoved none = false≢true (sym (moved_stays rule p x m corner circe i.plain.castling here moved) ∙ unmoved)
+    shuts corner next (inr stands) unmoved none =
+        let off : next ≢ m.from = λ e. false≢true (sym (not_mine_enemy x p.turn is.mine) ∙ sym (ap (λ (o : Option Man). is_side o (other p.turn)) (ap (man_on p.men) e ∙ here)) ∙ stands) in
+        false≢true (sym (ap (λ (o : Option Man). is_some o) none) ∙ ap (λ (l : List (Option Man)). is_some (man_on l next)) men_q
+        ∙ some_stays p x m next i.plain.crossed (omega (arith, small, well.size)) off (some_side _ (other p.turn) stands))
+
+    plain_n : is_castling y n ≡ false
+    plain_n = false_by (is_castling y n) (λ castling.
+        let castle = (castle_of rule q y n well_q is_n castling).1 in
+        let unmoved = castle_unmoved rule q y n well_q is_n castling in
+        let stands : is_man (man_on p.men n.from) (other p.turn) King ≡ true =
+            ap (λ (o : Option Man). is_man o (other p.turn) King) stood_y
+            ∙ and_from _ _ (ap (λ (c : Colour). same_colour c (other p.turn)) enemy_y ∙ self (other p.turn)) (and_parts _ _ (and_parts _ _ castling).0).0 in
+        elim (i.castling.stuck n.from from_small stands) [
+          | inl moved ↦ absurd (false≢true (sym (moved_stays rule p x m n.from circe i.plain.castling here moved) ∙ unmoved.0))
+          | inr sides ↦ elim castle.far [
+            | inl f ↦ absurd (shuts (corner n) (halfway n) (rw (f.1.0, f.1.1) sides.0) unmoved.1 castle.between)
+            | inr f ↦
+                let at : corner n ≡ n.from - 4 = omega (arith, f.1.0) in
+                let mid : halfway n ≡ n.from - 1 = omega (arith, f.1.1) in
+                absurd (shuts (corner n) (halfway n) (rw (at, mid) sides.1) unmoved.1 castle.between)
+          ]
+        ])
+
+    goes_y : may_go q y n.from n.to ≡ true
+    goes_y = may_go_aimed rule q y n here_y (arrival_needed rule q n to can)
+
+    abbrev r : Position
+    r = position_after rule q n
+
+    men_r : r.men ≡ arrived q y n
+    men_r = simple_after rule q y n here_y plain_n (λ c. absurd (false≢true (sym circe ∙ c)))
+
+    turn_r : r.turn ≡ p.turn
+    turn_r = turn_after rule q n can ∙ ap other turn_q ∙ other_twice p.turn
+
+    well_r : IsWellFormed r
+    well_r = after_well_formed rule q n well_q can
+
+    king_r : king_square r.men p.turn ≡ Some k
+    king_r =
+        ap (λ (l : List (Option Man)). king_square l p.turn) men_r
+        ∙ king_stands q.men n.from (capture_square q y n) n.to (arriving_man y n.promo) p.turn (record {
+          small = omega (arith, to, well_q.size);
+          here = ap (λ (o : Option Man). is_man o p.turn King) here_y ∙ and_left (same_colour y.colour p.turn) _ (not_mine y p.turn enemy_y);
+          comes = and_left (same_colour (arriving_man y n.promo).colour p.turn) _
+              (ap (λ (c : Colour). same_colour c p.turn) (arriving_colour y n.promo) ∙ not_mine y p.turn enemy_y);
+          arrival = no_king_free q.turn p.turn (man_on q.men n.to) is_n.arrival;
+          captured = λ s at.
+              let t = taken rule q y n s well_q is_n (square_is (capture_square q y n) s at) in
+              ap (λ (o : Option Man). is_man o p.turn King) t.there ∙ and_right (same_colour t.man.colour p.turn) _ t.mortal;
+        })
+        ∙ king_q
+
+    stood_r : (s : ℕ) (z : Man) → man_on r.men s ≡ Some z
+        → ((s ≡ n.to) × (z ≡ arriving_man y n.promo)) ⊎ ((s ≢ n.to) × ((s ≢ n.from) × (man_on q.men s ≡ Some z)))
+    stood_r s z there = stood q y n s z (omega (arith, to, well_q.size)) (sym (ap (λ (l : List (Option Man)). man_on l s) men_r) ∙ there)
+
+    -- he comes over the hurdles, to another attacker's square only if that one has been captured
+    comes_over : reaches_as q.men y.colour y.kind n.from n.to ≡ true → reached_over v.hurdles y n.from n.to ≡ true
+    unfolding reached_over
+    comes_over h = later v.hurdles q.men y.colour y.kind n.from n.to plain_y (λ rider e inside on h. elim (cases_eq e m.from) [
+      | inl same ↦ absurd (false≢true (sym (w.mild.shut rider (rw same at on)) ∙ (rw same at h)))
+      | inr left ↦ stays_q e inside on left
+    ]) h
+
+    arrival : IsArrival v.hurdles y n.from n.to
+    arrival = record { small = to; position = q; goes = goes_y; reaches = λ piece. comes_over (piece_reaches rule q y n is_n piece plain_n) }
+
+    recaptures : (bit_at v.enemies n.to == 1) ≡ true → m.to ≡ n.to
+    unfolding side_of
+    recaptures on = elim (cases_eq m.to n.to) [
+      | inl e ↦ e
+      | inr ne ↦
+          let enemy : is_side (man_on p.men n.to) (other p.turn) ≡ true =
+              sym (word_has (λ s. is_side (man_on p.men s) (other p.turn)) v.enemies n.to i.fits.enemies to) ∙ on in
+          let left : n.to ≢ m.from = λ e. false≢true (sym (not_mine_enemy x p.turn is.mine)
+              ∙ sym (ap (λ (o : Option Man). is_side o (other p.turn)) (ap (man_on p.men) e ∙ here)) ∙ enemy) in
+          let kept : man_on q.men n.to ≡ man_on p.men n.to =
+              ap (λ (l : List (Option Man)). man_on l n.to) men_q ∙ stays_there p x m n.to i.plain.crossed left (λ e. ne (sym e)) in
+          absurd (unfree (other p.turn) (man_on q.men n.to) (ap (λ (c : Colour). is_arrival_free c (man_on q.men n.to)) (sym turn_q) ∙ is_n.arrival)
+          (ap (λ (o : Option Man). is_side o (other p.turn)) kept ∙ enemy))
+    ]
+
+    -- hurdles stay, or the man who captures stands there
+    stays_r : (e : ℕ) → e < 64 → (bit_at v.hurdles e == 1) ≡ true → e ≢ m.from → e ≢ n.from → is_some (man_on r.men e) ≡ true
+    stays_r e inside on left off =
+        ap (λ (l : List (Option Man)). is_some (man_on l e)) men_r
+        ∙ some_stays q y n e uncrossed (omega (arith, to, well_q.size)) off (stays_q e inside on left)
+
+    -- on a board where they stay
+    module _ (men : List (Option Man)) (stays : (e : ℕ) → e < 64 → (bit_at v.hurdles e == 1) ≡ true → e ≢ m.from → e ≢ n.from → is_some (man_on men e) ≡ true)
+      where
+      -- another attacker reaches no square that is unguarded once y has gone
+      unguarded_off : (s t : ℕ) (z : Man) → t < 64 → IsAttacker v.men z s → s ≢ n.from → is_fairy z.kind ≡ false → IsUnguarded v n.from m.from t
+          → reaches_as men z.colour z.kind s t ≡ false
+      unfolding reached_over
+      unguarded_off s t z inside a ne plain u = false_from_ne_true _ (λ h.
+          false≢true (sym u.off ∙ (u.are.guards s z a (λ e. ne (sym e))).inside t inside (later u.are.hurdles men z.colour z.kind s t plain (λ rider e low on reach.
+              let kept = u.are.kept e low on in
+              elim (cases_eq e m.from) [
+                | inl same ↦
+                    absurd (false≢true (sym (u.shut (rw same at kept.0)) ∙ (u.are.rides s z a (λ e. ne (sym e)) rider).inside m.from from (rw same at reach)))
+                | inr left ↦ stays e low kept.0 left (λ same. kept.1 (sym same))
+              ]) h)))
+
+      -- nor the king, unless y stood on one of his lines
+      hidden_off : (s : ℕ) (z : Man) → s < 64 → IsAttacker v.men z s → is_fairy z.kind ≡ false → (bit_at g.lines n.from == 1) ≡ false
+          → reaches_as men z.colour z.kind s k ≡ false
+      unfolding reached_over
+      hidden_off s z inside a plain hidden = false_from_ne_true _ (λ h.
+          let weak = weak_at s z a in
+          false≢true (sym weak.off ∙ (word_at z weak.checks weak.word).inside s inside (later v.hurdles men (other z.colour) z.kind k s plain (λ rider e low on reach.
+              elim (cases_eq e m.from) [
+                | inl same ↦ absurd (false≢true (sym (shut_lines (rw same at on)) ∙ lined (other z.colour) z.kind m.from from rider (rw same at reach)))
+                | inr left ↦ elim (cases_eq e n.from) [
+                  | inl same ↦ absurd (false≢true (sym hidden ∙ lined (other z.colour) z.kind n.from from_small rider (rw same at reach)))
+                  | inr off ↦ stays e low on left off
+                ]
+              ]) (sym (reaches_back men z.colour z.kind s k inside at_k (no_hopper z.kind plain)) ∙ h))))
+
+      -- nor y, from a square from which he doesn't check
+      quiet_off : (bit_at w.checks n.to == 1) ≡ false → reaches_as men y.colour y.kind n.to k ≡ false
+      unfolding reached_over
+      quiet_off quiet = false_from_ne_true _ (λ h.
+          false≢true (sym quiet ∙ (word_at y w.checks w.word).inside n.to to (later v.hurdles men (other y.colour) y.kind k n.to plain_y (λ rider e low on reach.
+              elim (cases_eq e m.from) [
+                | inl same ↦ absurd (false≢true (sym (shut_lines (rw same at on)) ∙ lined (other y.colour) y.kind m.from from rider (rw same at reach)))
+                | inr left ↦ elim (cases_eq e n.from) [
+                  | inl same ↦ absurd (false≢true (sym w.off ∙ (word_at y w.checks w.word).inside n.from from_small (rw same at reach)))
+                  | inr off ↦ stays e low on left off
+                ]
+              ]) (sym (reaches_back men y.colour y.kind n.to k to at_k (no_hopper y.kind plain_y)) ∙ h))))
+
+    -- where he gives no check
+    module _ (quiet : IsQuiet v g w.checks y n.from m.from n.to) (lawful : is_legal rule q n ≡ true) where
+      comes : reaches_as r.men y.colour y.kind n.to k ≡ false
+      unfolding may_check_from reaches_as
+      comes = elim (cases_Bool (same_kind y.kind King)) [
+        | inr mortal ↦ quiet_off r.men stays_r (quiet.check.off mortal)
+        | inl king ↦
+            let kind : y.kind ≡ King = kind_is_king y.kind king in
+            let square : king_square q.men (other q.turn) ≡ Some k = ap (λ (c : Colour). king_square q.men c) (ap other turn_q ∙ other_twice p.turn) ∙ king_q in
+            let apart = rw square at (kings_apart rule q y n well_q here_y to lawful king) in
+            king_reaches r.men q.men y.colour y.kind n.to k kind ∙ (or_parts (is_absent q.men y) _ apart).1
+      ]
+
+      unseen : (s : ℕ) (z : Man) → s < 64 → man_on r.men s ≡ Some z → z.colour ≡ other p.turn → reaches_as r.men z.colour z.kind s k ≡ false
+      unseen s z inside there enemy = elim (stood_r s z there) [
+        | inl came ↦
+            let same : z ≡ y = came.1 ∙ ap (arriving_man y) (unnamed q y n n.promo quiet.check.plain is_n.promotion) in
+            rw (same, came.0) comes
+        | inr kept ↦
+            let before = enemy_stood s z kept.1.1 enemy in
+            let a = attacker s z inside before enemy in
+            let plain = i.fairies.none s z inside before enemy in
+            elim quiet.covered [
+              | inl hidden ↦ hidden_off r.men stays_r s z inside a plain hidden
+              | inr u ↦ unguarded_off r.men stays_r s k z at_k a kept.1.0 plain (rw i.at.king at u)
+            ]
+      ]
+
+      no_check : in_check rule r.men p.turn ≡ false
+      unfolding in_check is_attacked strikes
+      no_check = ap (λ (o : Option ℕ). is_attacked_at rule r.men o (other p.turn)) king_r ∙ nobody_strikes rule r.men k p.turn unseen
+
+    -- a flight that is left
+    module _ (flight : IsFlight v g y n.from m.from m.to n.to) where
+      abbrev f : ℕ
+      f = flight.square
+
+      in_f : f < 64
+      in_f = flight.left.small
+
+      on_f : (bit_at g.near f == 1) ≡ true
+      on_f = flight.left.on
+
+      own_f : is_side (man_on p.men f) p.turn ≡ false
+      unfolding side_of
+      own_f = sym (word_has (λ s. is_side (man_on p.men s) p.turn) v.own f i.fits.own in_f) ∙ i.at.is.own f in_f on_f
+
+      no_king_f : is_man (man_on p.men f) (other p.turn) King ≡ false
+      no_king_f = false_by _ (λ king. false≢true (sym (i.at.is.kings f in_f on_f) ∙ i.fits.kings f in_f king))
+
+      free_f : is_arrival_free p.turn (man_on r.men f) ≡ true
+      free_f = by (man_on r.men f) refl where
+        by : (o : Option Man) → man_on r.men f ≡ o → is_arrival_free p.turn o ≡ true
+        by None e = refl
+        by (Some z) e = elim (stood_r f z e) [
+          | inl came ↦ absurd (flight.left.off came.0)
+          | inr kept ↦ elim (stood_q f z kept.1.1) [
+            | inl came ↦ absurd (flight.elsewhere came.0)
+            | inr stays ↦
+                free_man p.turn (Some z) (ap (λ (o : Option Man). is_side o p.turn) (sym stays.1.1) ∙ own_f)
+                (ap (λ (o : Option Man). is_man o (other p.turn) King) (sym stays.1.1) ∙ no_king_f)
+          ]
+        ]
+
+      -- nobody attacks the king who has gone there
+      module _ (z : Man) (stands : IsKingOn r.men p.turn k z) where
+        abbrev fled : List (Option Man)
+        fled = arrived r z (step_to k f)
+
+        stays_then : (e : ℕ) → e < 64 → (bit_at v.hurdles e == 1) ≡ true → e ≢ m.from → e ≢ n.from → is_some (man_on fled e) ≡ true
+        stays_then e inside on left off = elim (cases_eq e f) [
+          | inl same ↦
+              ap (λ (o : Option Man). is_some o) (ap (man_on fled) same ∙ there_now r.men k (capture_square r z (step_to k f)) f z (omega (arith, in_f, well_r.size)))
+          | inr ne ↦
+              ap (λ (o : Option Man). is_some o) (arrived_other r z (step_to k f) e (i.off_king e inside on)
+              (λ s cap e. ne (e ∙ capture_of_piece r z (step_to k f) s (and_left_king z stands.king) cap)) ne) ∙ stays_r e inside on left off
+        ]
+
+        unreached : (s : ℕ) (u : Man) → s < 64 → man_on fled s ≡ Some u → u.colour ≡ other p.turn → reaches_as fled u.colour u.kind s f ≡ false
+        unreached s u inside there enemy = elim (stood r z (step_to k f) s u (omega (arith, in_f, well_r.size)) there) [
+          | inl came ↦
+              absurd (false≢true (sym (not_mine u p.turn enemy) ∙ ap (λ (u : Man). same_colour u.colour p.turn) came.1 ∙ stands.mine))
+          | inr kept ↦ elim (stood_r s u kept.1.1) [
+            | inl came ↦
+                let same : u ≡ y = came.1 ∙ ap (arriving_man y) (unnamed q y n n.promo flight.plain is_n.promotion) in
+                rw (same, came.0) (flight.left.unreached fled)
+            | inr stays ↦
+                let before = enemy_stood s u stays.1.1 enemy in
+                unguarded_off fled stays_then s f u in_f (attacker s u inside before enemy) stays.1.0 (i.fairies.none s u inside before enemy) flight.unguarded
+          ]
+        ]
+
+        king_step : IsKingStep rule r z k f
+        unfolding is_open reaches_as
+        king_step = record {
+          well_formed = well_r;
+          here = stands.here;
+          mine = ap (same_colour z.colour) turn_r ∙ stands.mine;
+          king = stands.king;
+          small = in_f;
+          near = and_from _ _ (and_from _ _ (ap (λ (c : ℕ). list_any (leaps c f) queen_steps) (sym i.at.king) ∙ i.at.is.next f in_f on_f)
+              (ap (λ (c : Colour). is_arrival_free c (man_on r.men f)) turn_r ∙ free_f)) (ap not (and_left (is_circe rule) _ circe));
+        }
+
+        flees : has_flight rule r ≡ true
+        unfolding has_flight is_flight
+        flees =
+            some_square_true (is_flight rule r) f in_f (ap (λ (o : Option ℕ). is_flight_from rule r o f) (ap (king_square r.men) turn_r ∙ king_r)
+            ∙ step_is_legal rule r z k f king_step (ap (is_attacked rule fled f) (ap other turn_r) ∙ nobody_strikes rule fled f p.turn unreached))
+
+      has_one : has_flight rule r ≡ true
+      has_one = let z = king_on r.men p.turn k king_r in flees z.0 z.1
+
+    unmated : mates rule q n ≡ false
+    unmated = elim (w.mild.each n.to arrival recaptures) [
+      | inr flight ↦ sym (no_mate_with_flight rule q n (has_one flight))
+      | inl quiet ↦ sym (no_mate_quietly rule q n (λ lawful. ap (in_check rule r.men) (ap other turn_q ∙ other_twice p.turn) ∙ no_check quiet lawful))
+    ]
+
+  none_mates : (j : ℕ) → mates rule q (triple_at j) ≡ false
+  none_mates j = elim (cases_Bool (is_pseudo_legal rule q (triple_at j))) [
+    | inl can ↦ unmated (triple_at j) (arrival_small j) can
+    | inr not ↦ not_mating rule q (triple_at j) not
+  ]
+
+  pub no_mate_behind : mates_behind rule q 0 ≡ []
+  no_mate_behind =
+      mates_behind-none rule q 0 28672 (λ lt. omega arith) (omega arith) (record { fails = λ j lo hi. none_mates j })
+      ∙ mates_behind-end rule q 28672 (omega arith)
+
+-- the same for the ways of a defender: his king goes, or another man
+module _ (rule : RuleSet) (p : Position) (m : Move) (x : Man) (v : Siege) (risk : Risk) (well : IsWellFormed p)
+    (may : is_pseudo_legal rule p m ≡ true) (here : man_on p.men m.from ≡ Some x) (told : IsTold rule p) (small : m.to < 64) (from : m.from < 64)
+    (plain : IsPlainMove p x m) (fits : IsSiegeOf p v) (threats : AreThreats v risk) where
+  pub king_spared : (r : Risk) → same_kind x.kind King ≡ true → IsRiskAt v m.to r → (bit_at (bit_or v.hurdles r.critical) m.to == 1) ≡ false
+      → mates_behind rule (position_after rule p m) 0 ≡ []
+  king_spared r king at off =
+      let mine : x.colour ≡ p.turn = (made rule p m x may here).mine in
+      let stands : is_man (man_on p.men m.from) p.turn King ≡ true =
+          ap (λ (o : Option Man). is_man o p.turn King) here ∙ and_from _ _ (ap (λ (c : Colour). same_colour c p.turn) mine ∙ self p.turn) king in
+      let same : v.king ≡ m.from = some_is v.king m.from (fits.king ∙ king_is p.men p.turn m.from well.kings from stands) in
+      no_mate_behind rule p m x v m.to r well may here told.circe small from (cond-true (same_kind x.kind King) _ _ king) (record {
+        plain = plain;
+        siege = threats.siege;
+        fits = fits;
+        fairies = told.fairies;
+        castling = told.castling;
+        at = at;
+        off = record {
+          lines = λ on. absurd ((threats.siege.hurdles m.from from on).1 same);
+          critical = off_right v.hurdles r.critical m.to off;
+        };
+        off_king = λ e inside on same. false≢true (sym (off_left v.hurdles r.critical m.to off) ∙ (rw same at on));
+      })
+
+  module _ (mortal : same_kind x.kind King ≡ false) where
+    -- by a siege of the same men
+    spared_by : (w : Siege) (r : Risk) → IsSiege w → w.king ≡ v.king → w.own ≡ v.own → w.enemies ≡ v.enemies → w.men ≡ v.men → IsRiskAt w v.king r
+        → IsOff w.hurdles r m.from m.to → mates_behind rule (position_after rule p m) 0 ≡ []
+    spared_by w r siege king own enemies men at off =
+        no_mate_behind rule p m x w v.king r well may here told.circe small from (cond-false (same_kind x.kind King) _ _ mortal ∙ sym fits.king) (record {
+          plain = plain;
+          siege = siege;
+          fits = record {
+            colour = ap (λ (a : Attackers). a.colour) men ∙ fits.colour;
+            men = subst (λ (a : Attackers). AreAttackers p.men a) (sym men) fits.men;
+            own = own ∙ fits.own;
+            enemies = enemies ∙ fits.enemies;
+            king = ap (λ (k : ℕ). Some k) king ∙ fits.king;
+            kings = λ s inside stands. ap (λ (a : Attackers). bit_at a.kings s == 1) men ∙ fits.kings s inside stands;
+          };
+          fairies = told.fairies;
+          castling = told.castling;
+          at = at;
+          off = off;
+          off_king = λ e inside on same. (siege.hurdles e inside on).1 (king ∙ sym same);
+        })
+
+    pub man_spared : (bit_at risk.lines m.from == 1) ≡ false → (bit_at risk.critical m.to == 1) ≡ false
+        → mates_behind rule (position_after rule p m) 0 ≡ []
+    man_spared lines off = spared_by v risk threats.siege refl refl refl refl threats.risk (record { lines = λ on. lines; critical = off })
+
+    pub line_spared : (r : Risk) → IsRiskBehind v m.from r → (bit_at r.critical m.to == 1) ≡ false → mates_behind rule (position_after rule p m) 0 ≡ []
+    line_spared r i off = spared_by i.lifted r i.siege i.king i.own i.enemies i.men i.risk (record {
+      lines = λ on. absurd (false≢true (sym i.off ∙ on));
+      critical = off;
+    })

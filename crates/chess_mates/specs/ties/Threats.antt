@@ -1,0 +1,260 @@
+-- Threats of mate, told before the defender's move, over hurdles: the squares of all men but his king (own).
+use Rattle.std.specs.Prelude.{◌≡◌, ◌≢◌, ◌<◌, ◌==◌, ◌||◌, ◌⊎◌, ◌+◌, ◌-◌, ℕ, Bool, true, false, List, Option, Some, None, map, if◌then◌else◌}
+use Rattle.std.specs.Int.{bit_at}
+use Rattle.std.specs.List.{list_any}
+use Rattle.chess_core.specs.Castling.{has_unmoved}
+use Rattle.chess_core.specs.Position.{Position, is_man, is_side, king_square, man_on, other, same_kind}
+use Rattle.chess_core.specs.Squares.{is_square, squares}
+use Rattle.chess_core.specs.Steps.{queen_steps}
+use Rattle.chess_core.specs.declared.man.Colour.{Colour}
+use Rattle.chess_core.specs.declared.man.Colour.TheVariants.{White}
+use Rattle.chess_core.specs.declared.man.Kind.{Kind}
+use Rattle.chess_core.specs.declared.man.Kind.TheVariants.{King, Queen, Rook, Bishop, Knight, Pawn, Grasshopper, Nightrider}
+use Rattle.chess_core.specs.declared.man.Man.{Man}
+use Rattle.chess_core.specs.declared.man.Move.{Move}
+use Rattle.chess_core.specs.ties.Words.{side_of}
+use Rattle.chess_mates.specs.declared.threats.Attackers.{Attackers}
+use Rattle.chess_mates.specs.declared.threats.Field.{Field}
+use Rattle.chess_mates.specs.declared.threats.Guards.{Guards}
+use Rattle.chess_mates.specs.declared.threats.Risk.{Risk}
+use Rattle.chess_mates.specs.declared.threats.Siege.{Siege}
+use Rattle.chess_rules.specs.Play.{is_castling, is_double_step}
+use Rattle.chess_rules.specs.Reaches.{leaps, reaches_as}
+use Rattle.chess_rules.specs.RuleSet.{RuleSet, is_circe}
+use Rattle.chess_rules.specs.ties.Shields.{is_fairy}
+use Rattle.chess_rules.specs.ties.Targets.{arrives, may_go}
+
+-- a man on each square of the word, and on no other
+abbrev pub men_on : ℕ → List (Option Man)
+men_on d =
+    map (λ s. if bit_at d s == 1 then Some (record { colour = White; kind = Pawn }) else None)
+    squares
+
+-- x on s reaches t over such men
+unfoldable pub reached_over : ℕ → Man → ℕ → ℕ → Bool
+reached_over d x s t = reaches_as (men_on d) x.colour x.kind s t
+
+-- the word has each square that x on s reaches so
+pub record IsReached (d : ℕ) (x : Man) (s w : ℕ) : Type 0 where
+  pub inside : (t : ℕ) → t < 64 → reached_over d x s t ≡ true → (bit_at w t == 1) ≡ true
+
+-- the squares of a kind's men; of fairy men none
+abbrev pub squares_for : Attackers → Kind → ℕ
+squares_for a King = a.kings
+squares_for a Queen = a.queens
+squares_for a Rook = a.rooks
+squares_for a Bishop = a.bishops
+squares_for a Knight = a.knights
+squares_for a Pawn = a.pawns
+squares_for a _ = 0
+
+-- x may be one of these men, on s
+pub record IsAttacker (a : Attackers) (x : Man) (s : ℕ) : Type 0 where
+  pub small : s < 64
+  pub mine : x.colour ≡ a.colour
+  pub on : (bit_at (squares_for a x.kind) s == 1) ≡ true
+
+-- each man of their colour is, fairy men apart
+pub record AreAttackers (men : List (Option Man)) (a : Attackers) : Type 0 where
+  pub stand : (s : ℕ) (x : Man) → s < 64 → man_on men s ≡ Some x → x.colour ≡ a.colour
+      → is_fairy x.kind ≡ false → IsAttacker a x s
+
+-- rides along a queen's lines
+abbrev pub is_rider : Kind → Bool
+is_rider Queen = true
+is_rider Rook = true
+is_rider Bishop = true
+is_rider _ = false
+
+-- goes a step or a leap
+abbrev pub is_leaper : Kind → Bool
+is_leaper King = true
+is_leaper Knight = true
+is_leaper Pawn = true
+is_leaper _ = false
+
+-- the word has each square that one of the attackers of these kinds reaches over the hurdles
+pub record AreReached (d : ℕ) (a : Attackers) (kinds : Kind → Bool) (w : ℕ) : Type 0 where
+  pub reach : (s : ℕ) (x : Man) → IsAttacker a x s → kinds x.kind ≡ true → IsReached d x s w
+
+-- the hurdles of a siege are men of both sides, and not the king
+pub record IsSiege (v : Siege) : Type 0 where
+  pub hurdles : (e : ℕ) → e < 64 → (bit_at v.hurdles e == 1) ≡ true
+      → (((bit_at v.own e == 1) ≡ true) ⊎ ((bit_at v.enemies e == 1) ≡ true)) × (v.king ≢ e)
+
+-- its men are those of the position, the defender to move
+pub record IsSiegeOf (p : Position) (v : Siege) : Type 0 where
+  pub colour : v.men.colour ≡ other p.turn
+  pub men : AreAttackers p.men v.men
+  pub own : v.own ≡ side_of p.men p.turn
+  pub enemies : v.enemies ≡ side_of p.men (other p.turn)
+  pub king : Some v.king ≡ king_square p.men p.turn
+  pub kings : (s : ℕ) → s < 64 → is_man (man_on p.men s) (other p.turn) King ≡ true
+      → (bit_at v.men.kings s == 1) ≡ true
+
+-- the word has each square that x on s reaches, whoever else stands on the board
+pub record IsOpenReach (x : Man) (s w : ℕ) : Type 0 where
+  pub inside : (men : List (Option Man)) (t : ℕ) → t < 64 → reaches_as men x.colour x.kind s t ≡ true
+      → (bit_at w t == 1) ≡ true
+
+-- once x has come to t, f is left of the word: he stands on another square, and doesn't reach f, whoever else
+-- stands on the board
+pub record IsLeft (w : ℕ) (x : Man) (t f : ℕ) : Type 0 where
+  pub small : f < 64
+  pub on : (bit_at w f == 1) ≡ true
+  pub off : f ≢ t
+  pub unreached : (men : List (Option Man)) → reaches_as men x.colour x.kind t f ≡ false
+
+-- wherever the defender comes, critical squares apart, another square of the word is left; where an enemy stands, x
+-- comes only after a capture there
+pub record LeavesOne (w enemies critical : ℕ) (x : Man) (t : ℕ) : Type 0 where
+  pub left : (b : ℕ) → b < 64 → (bit_at critical b == 1) ≡ false
+      → ((bit_at enemies t == 1) ≡ true → b ≡ t)
+      → (f : ℕ) × IsLeft w x t f × (f ≢ b)
+
+-- x may go from s to t, a piece over the hurdles
+pub record IsArrival (d : ℕ) (x : Man) (s t : ℕ) : Type 0 where
+  pub small : t < 64
+  pub position : Position
+  pub goes : may_go position x s t ≡ true
+  pub reaches : same_kind x.kind Pawn ≡ false → reached_over d x s t ≡ true
+
+-- the word has each such square, and each that a rider reaches over the hurdles
+pub record AreArrivals (d : ℕ) (x : Man) (s w : ℕ) : Type 0 where
+  pub inside : (t : ℕ) → IsArrival d x s t → (bit_at w t == 1) ≡ true
+  pub rides : is_rider x.kind ≡ true → IsReached d x s w
+
+-- x neither checks from t, unless he is a king, nor promotes there
+pub record IsNoCheck (checks : ℕ) (x : Man) (t : ℕ) : Type 0 where
+  pub off : same_kind x.kind King ≡ false → (bit_at checks t == 1) ≡ false
+  pub plain : arrives x t ≡ false
+
+-- the word has each square from which x checks the king on k over the hurdles
+pub record IsCheckWord (d k : ℕ) (x : Man) (w : ℕ) : Type 0 where
+  pub inside : (t : ℕ) → t < 64
+      → reached_over d (record { colour = other x.colour; kind = x.kind }) k t ≡ true
+      → (bit_at w t == 1) ≡ true
+
+-- the defender leaves a, which is a hurdle on none of the lines, and comes to b, which isn't critical
+pub record IsOff (d : ℕ) (r : Risk) (a b : ℕ) : Type 0 where
+  pub lines : (bit_at d a == 1) ≡ true → (bit_at r.lines a == 1) ≡ false
+  pub critical : (bit_at r.critical b == 1) ≡ false
+
+-- what the attackers reach once the one on s has gone
+pub record AreGuardsWithout (v : Siege) (s : ℕ) (g : Guards) : Type 0 where
+  pub hurdles : ℕ
+  pub kept : (e : ℕ) → e < 64 → (bit_at hurdles e == 1) ≡ true
+      → ((bit_at v.hurdles e == 1) ≡ true) × (s ≢ e)
+  pub rides : (q : ℕ) (z : Man) → IsAttacker v.men z q → s ≢ q → is_rider z.kind ≡ true
+      → IsReached hurdles z q g.ridden
+  pub guards : (q : ℕ) (z : Man) → IsAttacker v.men z q → s ≢ q → IsReached hurdles z q g.guarded
+
+-- they don't reach t then, and the defender who leaves a opens no line
+pub record IsUnguarded (v : Siege) (s a t : ℕ) : Type 0 where
+  pub guards : Guards
+  pub are : AreGuardsWithout v s guards
+  pub shut : (bit_at v.hurdles a == 1) ≡ true → (bit_at guards.ridden a == 1) ≡ false
+  pub off : (bit_at guards.guarded t == 1) ≡ false
+
+-- after x goes from s to t, and the defender from a to b, a square of the field is left
+pub record IsFlight (v : Siege) (g : Field) (x : Man) (s a b t : ℕ) : Type 0 where
+  pub plain : arrives x t ≡ false
+  pub square : ℕ
+  pub left : IsLeft g.near x t square
+  pub unguarded : IsUnguarded v s a square
+  pub elsewhere : square ≢ b
+
+-- so it is unless t is none of the targets and no other attacker checks then
+abbrev pub IsMet : Siege → Field → Man → ℕ → ℕ → ℕ → ℕ → ℕ → Type 0
+IsMet v g x s targets a b t =
+    ((bit_at v.enemies t == 1) ≡ true → b ≡ t)
+    → (((bit_at targets t == 1) ≡ false) × IsUnguarded v s a g.king) ⊎ IsFlight v g x s a b t
+
+-- x doesn't check from t, nor does he uncover a check
+pub record IsQuiet (v : Siege) (g : Field) (checks : ℕ) (x : Man) (s a t : ℕ) : Type 0 where
+  pub check : IsNoCheck checks x t
+  pub covered : ((bit_at g.lines s == 1) ≡ false) ⊎ IsUnguarded v s a g.king
+
+-- wherever x goes from s, he gives no check or leaves a flight, and a defender who leaves a opens him no line
+pub record IsMild (v : Siege) (g : Field) (checks : ℕ) (x : Man) (s a b : ℕ) : Type 0 where
+  pub shut : is_rider x.kind ≡ true → (bit_at v.hurdles a == 1) ≡ true
+      → reached_over v.hurdles x s a ≡ false
+  pub each : (t : ℕ) → IsArrival v.hurdles x s t → ((bit_at v.enemies t == 1) ≡ true → b ≡ t)
+      → IsQuiet v g checks x s a t ⊎ IsFlight v g x s a b t
+
+-- so it is after each move without this risk
+pub record IsHarmless (v : Siege) (g : Field) (checks : ℕ) (r : Risk) (x : Man) (s : ℕ) : Type
+    0 where
+  pub mild : (a b : ℕ) → a < 64 → b < 64 → IsOff v.hurdles r a b → IsMild v g checks x s a b
+
+-- and x on s, who may check from these squares, doesn't check now
+pub record IsWeakAt (v : Siege) (g : Field) (x : Man) (s a b : ℕ) : Type 0 where
+  pub checks : ℕ
+  pub word : IsCheckWord v.hurdles g.king x checks
+  pub off : (bit_at checks s == 1) ≡ false
+  pub mild : IsMild v g checks x s a b
+
+pub record IsWeak (v : Siege) (g : Field) (r : Risk) (x : Man) (s : ℕ) : Type 0 where
+  pub weak : (a b : ℕ) → a < 64 → b < 64 → IsOff v.hurdles r a b → IsWeakAt v g x s a b
+
+-- so is each attacker
+pub record AreWeak (v : Siege) (g : Field) (r : Risk) : Type 0 where
+  pub weak : (s : ℕ) (x : Man) → IsAttacker v.men x s → IsWeak v g r x s
+
+-- the field of the king: squares next to him on which no man of his stands, nor the enemy's king; his lines
+pub record IsField (v : Siege) (g : Field) : Type 0 where
+  pub next : (f : ℕ) → f < 64 → (bit_at g.near f == 1) ≡ true
+      → list_any (leaps g.king f) queen_steps ≡ true
+  pub own : (f : ℕ) → f < 64 → (bit_at g.near f == 1) ≡ true → (bit_at v.own f == 1) ≡ false
+  pub kings : (f : ℕ) → f < 64 → (bit_at g.near f == 1) ≡ true → (bit_at v.men.kings f == 1) ≡ false
+  pub lines : (c : Colour) → IsReached v.hurdles (record { colour = c; kind = Queen }) g.king g.lines
+
+-- the risk of a defender whose king is on k: after each move without it no reply mates
+pub record IsRiskAt (v : Siege) (k : ℕ) (r : Risk) : Type 0 where
+  pub field : Field
+  pub king : field.king ≡ k
+  pub is : IsField v field
+  pub lines : (a : ℕ) → (bit_at r.lines a == 1) ≡ false → (bit_at field.lines a == 1) ≡ false
+  pub weak : (s : ℕ) (x : Man) → IsAttacker v.men x s → IsWeak v field r x s
+
+-- the same of the siege's king, told without a hurdle on this square
+pub record IsRiskBehind (v : Siege) (from : ℕ) (r : Risk) : Type 0 where
+  pub lifted : Siege
+  pub siege : IsSiege lifted
+  pub king : lifted.king ≡ v.king
+  pub own : lifted.own ≡ v.own
+  pub enemies : lifted.enemies ≡ v.enemies
+  pub men : lifted.men ≡ v.men
+  pub off : (bit_at lifted.hurdles from == 1) ≡ false
+  pub risk : IsRiskAt lifted v.king r
+
+-- the same of the siege's king
+pub record AreThreats (v : Siege) (r : Risk) : Type 0 where
+  pub siege : IsSiege v
+  pub risk : IsRiskAt v v.king r
+
+-- no man of the colour is a fairy man
+pub record HasNoFairy (men : List (Option Man)) (c : Colour) : Type 0 where
+  pub none : (s : ℕ) (x : Man) → s < 64 → man_on men s ≡ Some x → x.colour ≡ c
+      → is_fairy x.kind ≡ false
+
+-- the rook in the corner has moved, or a man of the colour stands on the square beside the king
+abbrev pub IsShut : Position → Colour → ℕ → ℕ → Type 0
+IsShut p c corner next = (has_unmoved p.unmoved corner ≡ false) ⊎ (is_side (man_on p.men next) c ≡ true)
+
+-- the colour's king has moved, or castling is shut on both sides
+pub record CannotCastle (p : Position) (c : Colour) : Type 0 where
+  pub stuck : (s : ℕ) → s < 64 → is_man (man_on p.men s) c King ≡ true
+      → (has_unmoved p.unmoved s ≡ false) ⊎ (IsShut p c (s + 3) (s + 1) × IsShut p c (s - 4) (s - 1))
+
+-- x neither castles nor goes two squares as a pawn nor comes to the crossed square
+pub record IsPlainMove (p : Position) (x : Man) (m : Move) : Type 0 where
+  pub castling : is_castling x m ≡ false
+  pub double : is_double_step x m ≡ false
+  pub crossed : is_square p.crossed m.to ≡ false
+
+-- threats are told: without Circe, against a side that has no fairy man and can't castle
+pub record IsTold (rule : RuleSet) (p : Position) : Type 0 where
+  pub circe : is_circe rule ≡ false
+  pub fairies : HasNoFairy p.men (other p.turn)
+  pub castling : CannotCastle p (other p.turn)
