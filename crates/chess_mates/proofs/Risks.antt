@@ -17,7 +17,7 @@ use Rattle.chess_mates.specs.declared.threats.Risk.{Risk}
 use Rattle.chess_mates.specs.declared.threats.Siege.{Siege}
 use Rattle.chess_mates.specs.ties.Flights.{has_flight, is_flight, is_open}
 use Rattle.chess_mates.specs.ties.Flights.{is_flight_from}
-use Rattle.chess_mates.specs.ties.Threats.{AreArrivals, AreAttackers, AreGuardsWithout, AreReached, AreThreats, AreWeak, CannotCastle, HasNoFairy, IsArrival, IsAttacker, IsCheckWord, IsField, IsFlight, IsHarmless, IsLeft, IsMet, IsMild, IsNoCheck, IsOff, IsOpenReach, IsPlainMove, IsQuiet, IsReached, IsRiskAt, IsRiskBehind, IsShut, IsSiege, IsSiegeOf, IsTold, IsUnguarded, IsWeak, IsWeakAt, LeavesOne, is_leaper, is_rider, men_on, squares_for}
+use Rattle.chess_mates.specs.ties.Threats.{AreArrivals, AreAttackers, AreCastlingSquares, AreGuardsWithout, AreHurdles, AreReached, AreThreats, AreWeak, HasNoFairy, IsArrival, IsAttacker, IsCastlingHarmless, IsCheckWord, IsField, IsFlight, IsHarmless, IsLeft, IsLifted, IsMet, IsMild, IsNoCheck, IsOff, IsOpenReach, IsPlainMove, IsQuiet, IsReached, IsRiskAt, IsRiskBehind, IsShut, IsSiege, IsSiegeOf, IsTold, IsUnguarded, IsWeak, IsWeakAt, LeavesOne, is_leaper, is_rider, men_on, squares_for}
 use Rattle.chess_mates.specs.ties.Threats.{reached_over}
 use Rattle.chess_rules.proofs.Bits.{off_left, off_right, on_left, on_right, word_has}
 use Rattle.chess_rules.proofs.Tests.{find_no, some_is}
@@ -356,13 +356,41 @@ field_is v k n r near hurdles own kings lines = record {
   };
 }
 
-pub risk_is : (v : Siege) (k : ℕ) (g : Field) (r : Risk) → g.king ≡ k → IsField v g → AreWeak v g r
-    → IsRiskAt v k (record { critical = r.critical; lines = bit_or r.lines g.lines })
-risk_is v k g r king field all = record {
+pub harmless_castling : (v : Siege) (g : Field) (l : ℕ) → l ≡ word (is_on_some straight_steps g.king)
+    → (v.castled == 0 || (bit_and l v.castled == 0 && bit_and g.lines v.men.kings == 0)) ≡ true → IsCastlingHarmless v g
+harmless_castling v g l lines h = elim (or_cases _ _ h) [
+  | inl none ↦ record {
+    rooks = λ q small on. absurd (none_on v.castled q none on);
+    kings = λ q s small on king. absurd (none_on v.castled q none on);
+  }
+  | inr both ↦ record {
+    rooks = λ q small on. false_by _ (λ y. none_on (bit_and l v.castled) q (and_parts _ _ both).0
+        (on_both l v.castled q (word_has (is_on_some straight_steps g.king) l q lines small ∙ y) on));
+    kings = λ q s small on king. false_by _ (λ y. none_on (bit_and g.lines v.men.kings) s (and_parts _ _ both).1 (on_both g.lines v.men.kings s y king));
+  }
+]
+
+-- the risk of all
+pub risk_never : (v : Siege) (k : ℕ) (g : Field) → g.king ≡ k → IsField v g → IsRiskAt v k (record { critical = bit_not w64 0; lines = 0 })
+risk_never v k g king field = record {
   field = g;
   king = king;
   is = field;
-  lines = λ a off. off_right r.lines g.lines a off;
+  castling = λ b small off. absurd (nowhere b small off);
+  lines = λ a b small off on. absurd (nowhere b small off);
+  weak = λ s x i. weak_never v g 0 x s;
+} where
+  nowhere : (b : ℕ) → b < 64 → (bit_at (bit_not w64 0) b == 1) ≡ false → ⊥
+  nowhere b small off = false≢true (sym off ∙ every_square_on b small)
+
+pub risk_is : (v : Siege) (k : ℕ) (g : Field) (r : Risk) → g.king ≡ k → IsField v g → IsCastlingHarmless v g → AreWeak v g r
+    → IsRiskAt v k (record { critical = r.critical; lines = bit_or r.lines g.lines })
+risk_is v k g r king field castling all = record {
+  field = g;
+  king = king;
+  is = field;
+  castling = λ b small off. castling;
+  lines = λ a b small critical off. off_right r.lines g.lines a off;
   weak = λ s x i. record {
     weak = λ a b small inside off. (all.weak s x i).weak a b small inside
         (record { lines = λ on. off_left r.lines g.lines a (off.lines on); critical = off.critical });
@@ -370,26 +398,13 @@ risk_is v k g r king field all = record {
 }
 
 -- the men of the siege
-pub siege_is : (v : Siege) (o w : ℕ) → o ≡ word (λ t. is_square (Some v.king) t) → o < 2 ^ 64
-    → v.hurdles ≡ bit_and (bit_and (bit_or v.own v.enemies) (bit_not w64 o)) (bit_not w64 w) → IsSiege v
-siege_is v o w only fits hurdles = record {
-  hurdles = λ b small on.
-      let there = on_first (bit_and (bit_or v.own v.enemies) (bit_not w64 o)) (bit_not w64 w) b (rw hurdles at on) in
-      (on_one v.own v.enemies b (on_first (bit_or v.own v.enemies) _ b there),
-      λ e. false≢true (sym (off_word (bit_or v.own v.enemies) o b fits small there) ∙ word_has (λ t. is_square (Some v.king) t) o b only small ∙ eq-eqb v.king b e));
-}
-
-pub behind_is : (v w : Siege) (from : ℕ) (r : Risk) → IsSiege w → w.king ≡ v.king → w.own ≡ v.own → w.enemies ≡ v.enemies → w.men ≡ v.men
-    → (bit_at w.hurdles from == 1) ≡ false → IsRiskAt w v.king r → IsRiskBehind v from r
-behind_is v w from r siege king own enemies men off risk = record {
-  lifted = w;
-  siege = siege;
-  king = king;
-  own = own;
-  enemies = enemies;
-  men = men;
-  off = off;
-  risk = risk;
+pub hurdles_are : (own enemies k o w : ℕ) → o ≡ word (λ t. is_square (Some k) t) → o < 2 ^ 64
+    → AreHurdles own enemies k (bit_and (bit_and (bit_or own enemies) (bit_not w64 o)) (bit_not w64 w))
+hurdles_are own enemies k o w only fits = record {
+  men = λ e small on.
+      let there = on_first (bit_and (bit_or own enemies) (bit_not w64 o)) (bit_not w64 w) e on in
+      (on_one own enemies e (on_first (bit_or own enemies) _ e there),
+      λ same. false≢true (sym (off_word (bit_or own enemies) o e fits small there) ∙ word_has (λ t. is_square (Some k) t) o e only small ∙ eq-eqb k e same));
 }
 
 pub lifted_off : (a w s : ℕ) (o : Option ℕ) → w ≡ word (λ t. is_square o t) → w < 2 ^ 64 → s < 64 → o ≡ Some s
@@ -444,30 +459,52 @@ no_fairies men c g n hoppers riders none = record { none = λ s x small here min
   by s x small here mine Knight e = rw e refl
   by s x small here mine Pawn e = rw e refl
 
-pub shut_on : (p : Position) (c : Colour) (own corner next a b : ℕ) → own ≡ side_of p.men c → next < 64
-    → (has_unmoved p.unmoved corner ≡ false) ⊎ ((bit_at own next == 1) ≡ true) → corner ≡ a → next ≡ b → IsShut p c a b
+pub shut_on : (p : Position) (c : Colour) (own w corner next a b : ℕ) → own ≡ side_of p.men c → next < 64
+    → (has_unmoved p.unmoved corner ≡ false) ⊎ ((bit_at own next == 1) ≡ true) ⊎ ((bit_at w next == 1) ≡ true) → corner ≡ a → next ≡ b → IsShut p c w a b
 unfolding side_of
-shut_on p c own corner next a b side small (inl moved) e f = inl (rw (← e) moved)
-shut_on p c own corner next a b side small (inr on) e f = inr (rw (← f) (sym (word_has (λ q. is_side (man_on p.men q) c) own next side small) ∙ on))
+shut_on p c own w corner next a b side small (inl moved) e f = inl (rw (← e) moved)
+shut_on p c own w corner next a b side small (inr (inl on)) e f = inr (inl (rw (← f) (sym (word_has (λ q. is_side (man_on p.men q) c) own next side small) ∙ on)))
+shut_on p c own w corner next a b side small (inr (inr on)) e f = inr (inr (λ low. rw (← f) on))
 
-pub no_king_castles : (p : Position) (c : Colour) → king_square p.men c ≡ None → CannotCastle p c
+shut_in : (p : Position) (c : Colour) (v w a b : ℕ) → ((q : ℕ) → (bit_at v q == 1) ≡ true → (bit_at w q == 1) ≡ true) → IsShut p c v a b → IsShut p c w a b
+shut_in p c v w a b more (inl moved) = inl moved
+shut_in p c v w a b more (inr (inl on)) = inr (inl on)
+shut_in p c v w a b more (inr (inr on)) = inr (inr (λ low. more b (on low)))
+
+pub no_king_castles : (p : Position) (c : Colour) (w : ℕ) → king_square p.men c ≡ None → AreCastlingSquares p c w
 unfolding king_square squares
-no_king_castles p c none = record {
-  stuck = λ s small is. absurd (false≢true (sym (find_no (λ q. is_man (man_on p.men q) c King) 0 64 s none (omega arith) (omega arith)) ∙ is));
+no_king_castles p c w none = record {
+  sides = λ s small is. absurd (false≢true (sym (find_no (λ q. is_man (man_on p.men q) c King) 0 64 s none (omega arith) (omega arith)) ∙ is));
 }
 
-pub king_stuck : (p : Position) (c : Colour) (k : ℕ) → IsWellFormed p → king_square p.men c ≡ Some k
-    → (has_unmoved p.unmoved k ≡ false) ⊎ (IsShut p c (k + 3) (k + 1) × IsShut p c (k - 4) (k - 1)) → CannotCastle p c
-king_stuck p c k well king stuck = record {
-  stuck = λ s small is. rw (well.kings.same c s k is (king_there p.men c k king).1) stuck;
+king_castles : (p : Position) (c : Colour) (w k : ℕ) → IsWellFormed p → king_square p.men c ≡ Some k
+    → (has_unmoved p.unmoved k ≡ false) ⊎ (IsShut p c w (k + 3) (k + 1) × IsShut p c w (k - 4) (k - 1)) → AreCastlingSquares p c w
+king_castles p c w k well king sides = record {
+  sides = λ s small is. rw (well.kings.same c s k is (king_there p.men c k king).1) sides;
 }
+
+pub moved_king_castles : (p : Position) (c : Colour) (w k : ℕ) → king_square p.men c ≡ Some k → has_unmoved p.unmoved k ≡ false → IsWellFormed p
+    → AreCastlingSquares p c w
+moved_king_castles p c w k king moved well = king_castles p c w k well king (inl moved)
+
+pub king_castles_anywhere : (p : Position) (c : Colour) (k : ℕ) → king_square p.men c ≡ Some k → IsWellFormed p → AreCastlingSquares p c (bit_not w64 0)
+king_castles_anywhere p c k king well =
+    king_castles p c (bit_not w64 0) k well king (inr (inr (inr (λ low. every_square_on (k + 1) low)), inr (inr (λ low. every_square_on (k - 1) low))))
+
+pub king_castles_to : (p : Position) (c : Colour) (k long short : ℕ) → king_square p.men c ≡ Some k → IsShut p c long (k - 4) (k - 1)
+    → IsShut p c short (k + 3) (k + 1) → IsWellFormed p → AreCastlingSquares p c (bit_or long short)
+king_castles_to p c k long short king far near well = king_castles p c (bit_or long short) k well king (inr (
+  shut_in p c short (bit_or long short) (k + 3) (k + 1) (λ q on. on_right long short q on) near,
+  shut_in p c long (bit_or long short) (k - 4) (k - 1) (λ q on. on_left long short q on) far,
+))
 
 pub siege_fits : (p : Position) (v : Siege) → IsWellFormed p → v.men.colour ≡ other p.turn → king_square p.men p.turn ≡ Some v.king
     → v.own ≡ side_of p.men p.turn → v.enemies ≡ side_of p.men v.men.colour → v.men.kings ≡ squares_of p.men v.men.colour King → v.men.queens ≡ squares_of p.men v.men.colour Queen
     → v.men.rooks ≡ squares_of p.men v.men.colour Rook → v.men.bishops ≡ squares_of p.men v.men.colour Bishop
-    → v.men.knights ≡ squares_of p.men v.men.colour Knight → v.men.pawns ≡ squares_of p.men v.men.colour Pawn → IsSiegeOf p v
+    → v.men.knights ≡ squares_of p.men v.men.colour Knight → v.men.pawns ≡ squares_of p.men v.men.colour Pawn
+    → AreCastlingSquares p v.men.colour v.castled → IsSiegeOf p v
 unfolding squares_of
-siege_fits p v well colour king own enemies kings queens rooks bishops knights pawns = record {
+siege_fits p v well colour king own enemies kings queens rooks bishops knights pawns castled = record {
   colour = colour;
   men = attackers_are p.men v.men kings queens rooks bishops knights pawns;
   own = own;
@@ -475,5 +512,6 @@ siege_fits p v well colour king own enemies kings queens rooks bishops knights p
   king = sym king;
   kings = λ s small is. word_has (λ q. is_man (man_on p.men q) v.men.colour King) v.men.kings s kings small
       ∙ ap (λ (c : Colour). is_man (man_on p.men s) c King) colour ∙ is;
+  castled = subst (λ (c : Colour). AreCastlingSquares p c v.castled) colour castled;
 }
 

@@ -13,11 +13,12 @@ use Rattle.chess_rules.specs.Play.{is_double_step, unmoved_without_at, unmoved_w
 use Rattle.chess_mates.specs.declared.threats.Attackers.{Attackers}
 use Rattle.chess_mates.specs.declared.threats.Field.{Field}
 use Rattle.chess_mates.specs.declared.threats.Guards.{Guards}
+use Rattle.chess_mates.specs.declared.threats.Leaving.{Leaving}
 use Rattle.chess_mates.specs.declared.threats.Risk.{Risk}
 use Rattle.chess_mates.specs.declared.threats.Siege.{Siege}
 use Rattle.chess_mates.specs.ties.Flights.{has_flight, is_flight, is_open}
 use Rattle.chess_mates.specs.ties.Flights.{is_flight_from}
-use Rattle.chess_mates.specs.ties.Threats.{AreArrivals, AreAttackers, AreGuardsWithout, AreReached, AreThreats, AreWeak, CannotCastle, HasNoFairy, IsArrival, IsAttacker, IsCheckWord, IsField, IsFlight, IsHarmless, IsLeft, IsMet, IsMild, IsNoCheck, IsOff, IsOpenReach, IsPlainMove, IsQuiet, IsReached, IsRiskAt, IsRiskBehind, IsShut, IsSiege, IsSiegeOf, IsTold, IsUnguarded, IsWeak, IsWeakAt, LeavesOne, is_leaper, is_rider, men_on, squares_for}
+use Rattle.chess_mates.specs.ties.Threats.{AreArrivals, AreAttackers, AreCastlingSquares, AreGuardsWithout, AreHurdles, AreReached, AreThreats, AreWeak, HasNoFairy, IsArrival, IsAttacker, IsCastlingHarmless, IsCheckWord, IsField, IsFlight, IsHarmless, IsLeft, IsLifted, IsMet, IsMild, IsNoCheck, IsOff, IsOpenReach, IsPlainMove, IsQuiet, IsReached, IsRiskAt, IsRiskBehind, IsShut, IsSiege, IsSiegeOf, IsTold, IsUnguarded, IsWeak, IsWeakAt, LeavesOne, is_leaper, is_rider, men_on, squares_for}
 use Rattle.chess_mates.specs.ties.Threats.{reached_over}
 use Rattle.chess_rules.proofs.Bits.{off_left, off_right, on_left, on_right, word_has}
 use Rattle.chess_rules.proofs.Tests.{find_no, some_is}
@@ -43,6 +44,11 @@ use Rattle.chess_rules.proofs.listing_moves.Walks.{off_zero, on_first}
 use Rattle.chess_mates.proofs.Fleeing.{IsKingOn, IsKingStep, king_on, no_king_free, no_mate_with_flight, no_strike, step_is_legal, step_to, unseen_bit}
 use Rattle.chess_mates.proofs.Mating.{mates_behind-end, mates_behind-none, no_mate_quietly, not_mating, turn_after}
 use Rattle.chess_mates.proofs.OpenBoard.{rides_on}
+use Rattle.chess_mates.proofs.CastlingChecks.{castling_gives_no_check}
+use Rattle.chess_rules.proofs.attacks.Shielding.{man_there}
+use Rattle.chess_mates.proofs.Chess.{halfway, is_ahead, is_on_fairy_line, is_on_fairy_line_to, may_expose, may_expose_on, may_stand_between, same_kind-is}
+use Rattle.chess_rules.proofs.Chess.{is_lined, is_reached, is_shut}
+use Rattle.chess_rules.proofs.Basics.{or_from}
 
 -- who stands on a square once a move is made: the man that came, or who stood there
 stood : (p : Position) (x : Man) (m : Move) (t : ℕ) (z : Man) → m.to < length p.men → man_on (arrived p x m) t ≡ Some z
@@ -185,13 +191,17 @@ nobody_strikes : (rule : RuleSet) (men : List (Option Man)) (t : ℕ) (c : Colou
 unfolding is_attacked strikes
 nobody_strikes rule men t c none = search (rules, no_strike, reach_none men t c none, some_square_false)
 
+-- where no step of the list passes the test
+any_false : (f : Step → Bool) (ds : List Step) → ((d : Step) → f d ≡ false) → list_any f ds ≡ false
+any_false f [] none = refl
+any_false f (d ∷ ds) none = or_from _ _ (none d) (any_false f ds none)
+
 -- the move m of the defender, plain, without risk
 pub record IsSpared (p : Position) (m : Move) (x : Man) (v : Siege) (k : ℕ) (r : Risk) : Type 0 where
   pub plain : IsPlainMove p x m
   pub siege : IsSiege v
   pub fits : IsSiegeOf p v
   pub fairies : HasNoFairy p.men (other p.turn)
-  pub castling : CannotCastle p (other p.turn)
   pub at : IsRiskAt v k r
   pub off : IsOff v.hurdles r m.from m.to
   pub off_king : (e : ℕ) → e < 64 → (bit_at v.hurdles e == 1) ≡ true → e ≢ k
@@ -243,7 +253,7 @@ module _ (rule : RuleSet) (p : Position) (m : Move) (x : Man) (v : Siege) (k : �
   -- a hurdle is somebody's square, and stays occupied
   some_p : (e : ℕ) → e < 64 → (bit_at v.hurdles e == 1) ≡ true → is_some (man_on p.men e) ≡ true
   unfolding side_of
-  some_p e inside on = elim (i.siege.hurdles e inside on).0 [
+  some_p e inside on = elim (i.siege.hurdles.men e inside on).0 [
     | inl own ↦ some_side _ p.turn (sym (word_has (λ s. is_side (man_on p.men s) p.turn) v.own e i.fits.own inside) ∙ own)
     | inr enemy ↦ some_side _ (other p.turn) (sym (word_has (λ s. is_side (man_on p.men s) (other p.turn)) v.enemies e i.fits.enemies inside) ∙ enemy)
   ]
@@ -270,7 +280,44 @@ module _ (rule : RuleSet) (p : Position) (m : Move) (x : Man) (v : Siege) (k : �
   word_at z c word = subst (λ (j : ℕ). IsCheckWord v.hurdles j z c) i.at.king word
 
   shut_lines : (bit_at v.hurdles m.from == 1) ≡ true → (bit_at g.lines m.from == 1) ≡ false
-  shut_lines on = i.at.lines m.from (i.off.lines on)
+  shut_lines on = i.at.lines m.from m.to small i.off.critical (i.off.lines on)
+
+  -- a hurdle on a line from the king stays, once the defender has moved
+  stays_lined : (c : Colour) (j : Kind) (e : ℕ) → e < 64 → (bit_at v.hurdles e == 1) ≡ true → is_rider j ≡ true → reaches_as (men_on v.hurdles) c j k e ≡ true
+      → is_some (man_on q.men e) ≡ true
+  stays_lined c j e low on rider reach = elim (cases_eq e m.from) [
+    | inl same ↦ absurd (false≢true (sym (shut_lines (rw same at on)) ∙ lined c j m.from from rider (rw same at reach)))
+    | inr left ↦ stays_q e low on left
+  ]
+
+  -- no enemy reaches the king then
+  calm : (s : ℕ) (z : Man) → s < 64 → man_on q.men s ≡ Some z → z.colour ≡ other p.turn → reaches_as q.men z.colour z.kind s k ≡ false
+  unfolding reached_over
+  calm s z inside there enemy =
+      let before = enemy_stood s z there enemy in
+      let plain = i.fairies.none s z inside before enemy in
+      let weak = weak_at s z (attacker s z inside before enemy) in
+      false_from_ne_true _ (λ h.
+          false≢true (sym weak.off ∙ (word_at z weak.checks weak.word).inside s inside (later v.hurdles q.men (other z.colour) z.kind k s plain
+              (λ rider e low on reach. stays_lined (other z.colour) z.kind e low on rider reach)
+              (sym (reaches_back q.men z.colour z.kind s k inside at_k (no_hopper z.kind plain)) ∙ h))))
+
+  -- and none stands on a line of fairy men
+  no_fairy : (j : Kind) → is_fairy j ≡ true → (s : ℕ) → s < 64 → is_man (man_on q.men s) (other p.turn) j ≡ false
+  no_fairy j fairy s inside = false_by _ (λ h.
+      let z = man_there (man_on q.men s) (other p.turn) j h in
+      let is_one : is_man (Some z.0) (other p.turn) j ≡ true = rw z.1 at h in
+      let enemy : z.0.colour ≡ other p.turn = same_colour-true _ _ (and_parts _ _ is_one).0 in
+      let kind : z.0.kind ≡ j = same_kind-is z.0.kind j (and_parts _ _ is_one).1 in
+      false≢true (sym (i.fairies.none s z.0 inside (enemy_stood s z.0 z.1 enemy) enemy) ∙ ap is_fairy kind ∙ fairy))
+
+  no_lined : (j : Kind) → is_fairy j ≡ true → (t : ℕ) (d : Step) → is_lined q.men (other p.turn) j k t d ≡ false
+  no_lined j fairy t d = and_right (is_ahead k d t) _ (some_square_false _ 64 (omega arith)
+      (record { fails = λ s inside. and_left (is_man (man_on q.men s) (other p.turn) j) _ (no_fairy j fairy s inside) }))
+
+  unlined : (t : ℕ) → is_on_fairy_line q.men (other p.turn) k t ≡ false
+  unfolding is_on_fairy_line
+  unlined t = or_from _ _ (any_false _ queen_steps (λ d. no_lined Grasshopper refl t d)) (any_false _ knight_steps (λ d. no_lined Nightrider refl t d))
 
   module _ (n : Move) (to : n.to < 64) (can : is_pseudo_legal rule q n ≡ true) where
     abbrev y : Man
@@ -303,258 +350,323 @@ module _ (rule : RuleSet) (p : Position) (m : Move) (x : Man) (v : Siege) (k : �
     uncrossed : is_square q.crossed n.to ≡ false
     uncrossed = ap (λ (o : Option ℕ). is_square o n.to) crossed_q
 
-    shuts : (corner next : ℕ) → IsShut p (other p.turn) corner next → has_unmoved q.unmoved corner ≡ true → man_on q.men next ≡ None → ⊥
-    shuts corner next (inl moved) unmoved none = false≢true (sym (moved_stays rule p x m corner circe i.plain.castling here moved) ∙ unmoved)
-    shuts corner next (inr stands) unmoved none =
+    shuts : (corner next : ℕ) → IsShut p (other p.turn) v.castled corner next → has_unmoved q.unmoved corner ≡ true → man_on q.men next ≡ None → next < 64
+        → (bit_at v.castled next == 1) ≡ true
+    shuts corner next (inl moved) unmoved none low =
+        absurd (false≢true (sym (moved_stays rule p x m corner circe i.plain.castling here moved) ∙ unmoved))
+    shuts corner next (inr (inl stands)) unmoved none low =
         let off : next ≢ m.from = λ e. false≢true (sym (not_mine_enemy x p.turn is.mine) ∙ sym (ap (λ (o : Option Man). is_side o (other p.turn)) (ap (man_on p.men) e ∙ here)) ∙ stands) in
-        false≢true (sym (ap (λ (o : Option Man). is_some o) none) ∙ ap (λ (l : List (Option Man)). is_some (man_on l next)) men_q
-        ∙ some_stays p x m next i.plain.crossed (omega (arith, small, well.size)) off (some_side _ (other p.turn) stands))
+        absurd (false≢true (sym (ap (λ (o : Option Man). is_some o) none) ∙ ap (λ (l : List (Option Man)). is_some (man_on l next)) men_q
+        ∙ some_stays p x m next i.plain.crossed (omega (arith, small, well.size)) off (some_side _ (other p.turn) stands)))
+    shuts corner next (inr (inr on)) unmoved none low = on low
 
-    plain_n : is_castling y n ≡ false
-    plain_n = false_by (is_castling y n) (λ castling.
-        let castle = (castle_of rule q y n well_q is_n castling).1 in
-        let unmoved = castle_unmoved rule q y n well_q is_n castling in
-        let stands : is_man (man_on p.men n.from) (other p.turn) King ≡ true =
-            ap (λ (o : Option Man). is_man o (other p.turn) King) stood_y
-            ∙ and_from _ _ (ap (λ (c : Colour). same_colour c (other p.turn)) enemy_y ∙ self (other p.turn)) (and_parts _ _ (and_parts _ _ castling).0).0 in
-        elim (i.castling.stuck n.from from_small stands) [
-          | inl moved ↦ absurd (false≢true (sym (moved_stays rule p x m n.from circe i.plain.castling here moved) ∙ unmoved.0))
-          | inr sides ↦ elim castle.far [
-            | inl f ↦ absurd (shuts (corner n) (halfway n) (rw (f.1.0, f.1.1) sides.0) unmoved.1 castle.between)
-            | inr f ↦
-                let at : corner n ≡ n.from - 4 = omega (arith, f.1.0) in
-                let mid : halfway n ≡ n.from - 1 = omega (arith, f.1.1) in
-                absurd (shuts (corner n) (halfway n) (rw (at, mid) sides.1) unmoved.1 castle.between)
+    -- castling gives no check
+    module _ (castling : is_castling y n ≡ true) where
+      king_y : same_kind y.kind King ≡ true
+      king_y = (and_parts _ _ (and_parts _ _ castling).0).0
+
+      castle : IsCastle q n
+      castle = (castle_of rule q y n well_q is_n castling).1
+
+      half : halfway n < 64
+      half = omega (arith, from_small, to)
+
+      stands_y : is_man (man_on p.men n.from) (other p.turn) King ≡ true
+      stands_y =
+          ap (λ (o : Option Man). is_man o (other p.turn) King) stood_y
+          ∙ and_from _ _ (ap (λ (c : Colour). same_colour c (other p.turn)) enemy_y ∙ self (other p.turn)) king_y
+
+      half_on : (bit_at v.castled (halfway n) == 1) ≡ true
+      half_on =
+          let unmoved = castle_unmoved rule q y n well_q is_n castling in
+          elim (i.fits.castled.sides n.from from_small stands_y) [
+            | inl moved ↦ absurd (false≢true (sym (moved_stays rule p x m n.from circe i.plain.castling here moved) ∙ unmoved.0))
+            | inr sides ↦ elim castle.far [
+              | inl f ↦ shuts (corner n) (halfway n) (rw (f.1.0, f.1.1) sides.0) unmoved.1 castle.between half
+              | inr f ↦
+                  let at : corner n ≡ n.from - 4 = omega (arith, f.1.0) in
+                  let mid : halfway n ≡ n.from - 1 = omega (arith, f.1.1) in
+                  shuts (corner n) (halfway n) (rw (at, mid) sides.1) unmoved.1 castle.between half
+            ]
           ]
-        ])
+
+      harmless : IsCastlingHarmless v g
+      harmless = i.at.castling m.to small i.off.critical
+
+      -- the king is on no line of the field
+      off_lines : (bit_at g.lines n.from == 1) ≡ false
+      off_lines = harmless.kings (halfway n) n.from from_small half_on
+          (ap (λ (j : Kind). bit_at (squares_for v.men j) n.from == 1) (sym (kind_is_king y.kind king_y)) ∙ is_y.on)
+
+      unseen_from : (j : Kind) → is_fairy j ≡ false → is_rider j ≡ true → reaches_as q.men p.turn j k n.from ≡ false
+      unseen_from j plain rider = false_by _ (λ h. false≢true (sym off_lines
+          ∙ lined p.turn j n.from from_small rider (later v.hurdles q.men p.turn j k n.from plain (λ r e low on reach. stays_lined p.turn j e low on r reach) h)))
+
+      rook_off : may_check_from q.men p.turn (record { colour = other p.turn; kind = Rook }) (halfway n) ≡ false
+      unfolding may_check_from reaches_as
+      rook_off =
+          ap (λ (o : Option ℕ). may_check_from_on q.men o (record { colour = other p.turn; kind = Rook }) (halfway n)) king_q
+          ∙ false_by _ (λ h. false≢true (sym (harmless.rooks (halfway n) half half_on) ∙ ap (λ (j : ℕ). is_on_some straight_steps j (halfway n)) i.at.king
+          ∙ rides_on q.men k (halfway n) straight_steps (sym (straight-back q.men (halfway n) k half at_k) ∙ h)))
+
+      apart_k : (k == n.from) ≡ false
+      apart_k = false_by _ (λ e.
+          let same : k ≡ n.from = eqb-true k n.from e in
+          let mine : is_man (man_on q.men n.from) p.turn King ≡ true = ap (λ (s : ℕ). is_man (man_on q.men s) p.turn King) (sym same) ∙ (king_there q.men p.turn k king_q).1 in
+          false≢true (sym (and_left (same_colour y.colour p.turn) (same_kind y.kind King) (not_mine y p.turn enemy_y))
+              ∙ sym (ap (λ (o : Option Man). is_man o p.turn King) here_y) ∙ mine))
+
+      covered : may_expose q.men p.turn n.from ≡ false
+      unfolding may_expose is_shut is_reached reaches_as
+      covered =
+          ap (λ (o : Option ℕ). may_expose_on q.men o p.turn n.from) king_q
+          ∙ or_from _ _ (or_from _ _ (or_from _ _ (or_from _ _ (some_square_false _ 64 (omega arith)
+          (record { fails = λ s inside. reach_none q.men k p.turn calm s inside })) apart_k)
+          (and_left _ _ (unseen_from Rook refl refl))) (and_left _ _ (unseen_from Bishop refl refl))) (unlined n.from)
+
+      aside : may_stand_between q.men p.turn n.to ≡ false
+      unfolding may_stand_between
+      aside = ap (λ (o : Option ℕ). is_on_fairy_line_to q.men o p.turn n.to) king_q ∙ unlined n.to
+
+      castled : is_legal rule q n ≡ true → in_check rule (position_after rule q n).men p.turn ≡ false
+      castled lawful =
+          castling_gives_no_check rule q y n well_q is_n castling p.turn (not_mine y p.turn enemy_y) covered aside
+          (ap (λ (c : Colour). may_check_from q.men c y n.to) (sym (ap other turn_q ∙ other_twice p.turn)) ∙ kings_apart rule q y n well_q here_y to lawful king_y) rook_off
 
     goes_y : may_go q y n.from n.to ≡ true
     goes_y = may_go_aimed rule q y n here_y (arrival_needed rule q n to can)
 
-    abbrev r : Position
-    r = position_after rule q n
+    module _ (plain_n : is_castling y n ≡ false) where
+      abbrev r : Position
+      r = position_after rule q n
 
-    men_r : r.men ≡ arrived q y n
-    men_r = simple_after rule q y n here_y plain_n (λ c. absurd (false≢true (sym circe ∙ c)))
+      men_r : r.men ≡ arrived q y n
+      men_r = simple_after rule q y n here_y plain_n (λ c. absurd (false≢true (sym circe ∙ c)))
 
-    turn_r : r.turn ≡ p.turn
-    turn_r = turn_after rule q n can ∙ ap other turn_q ∙ other_twice p.turn
+      turn_r : r.turn ≡ p.turn
+      turn_r = turn_after rule q n can ∙ ap other turn_q ∙ other_twice p.turn
 
-    well_r : IsWellFormed r
-    well_r = after_well_formed rule q n well_q can
+      well_r : IsWellFormed r
+      well_r = after_well_formed rule q n well_q can
 
-    king_r : king_square r.men p.turn ≡ Some k
-    king_r =
-        ap (λ (l : List (Option Man)). king_square l p.turn) men_r
-        ∙ king_stands q.men n.from (capture_square q y n) n.to (arriving_man y n.promo) p.turn (record {
-          small = omega (arith, to, well_q.size);
-          here = ap (λ (o : Option Man). is_man o p.turn King) here_y ∙ and_left (same_colour y.colour p.turn) _ (not_mine y p.turn enemy_y);
-          comes = and_left (same_colour (arriving_man y n.promo).colour p.turn) _
-              (ap (λ (c : Colour). same_colour c p.turn) (arriving_colour y n.promo) ∙ not_mine y p.turn enemy_y);
-          arrival = no_king_free q.turn p.turn (man_on q.men n.to) is_n.arrival;
-          captured = λ s at.
-              let t = taken rule q y n s well_q is_n (square_is (capture_square q y n) s at) in
-              ap (λ (o : Option Man). is_man o p.turn King) t.there ∙ and_right (same_colour t.man.colour p.turn) _ t.mortal;
-        })
-        ∙ king_q
+      king_r : king_square r.men p.turn ≡ Some k
+      king_r =
+          ap (λ (l : List (Option Man)). king_square l p.turn) men_r
+          ∙ king_stands q.men n.from (capture_square q y n) n.to (arriving_man y n.promo) p.turn (record {
+            small = omega (arith, to, well_q.size);
+            here = ap (λ (o : Option Man). is_man o p.turn King) here_y ∙ and_left (same_colour y.colour p.turn) _ (not_mine y p.turn enemy_y);
+            comes = and_left (same_colour (arriving_man y n.promo).colour p.turn) _
+                (ap (λ (c : Colour). same_colour c p.turn) (arriving_colour y n.promo) ∙ not_mine y p.turn enemy_y);
+            arrival = no_king_free q.turn p.turn (man_on q.men n.to) is_n.arrival;
+            captured = λ s at.
+                let t = taken rule q y n s well_q is_n (square_is (capture_square q y n) s at) in
+                ap (λ (o : Option Man). is_man o p.turn King) t.there ∙ and_right (same_colour t.man.colour p.turn) _ t.mortal;
+          })
+          ∙ king_q
 
-    stood_r : (s : ℕ) (z : Man) → man_on r.men s ≡ Some z
-        → ((s ≡ n.to) × (z ≡ arriving_man y n.promo)) ⊎ ((s ≢ n.to) × ((s ≢ n.from) × (man_on q.men s ≡ Some z)))
-    stood_r s z there = stood q y n s z (omega (arith, to, well_q.size)) (sym (ap (λ (l : List (Option Man)). man_on l s) men_r) ∙ there)
+      stood_r : (s : ℕ) (z : Man) → man_on r.men s ≡ Some z
+          → ((s ≡ n.to) × (z ≡ arriving_man y n.promo)) ⊎ ((s ≢ n.to) × ((s ≢ n.from) × (man_on q.men s ≡ Some z)))
+      stood_r s z there = stood q y n s z (omega (arith, to, well_q.size)) (sym (ap (λ (l : List (Option Man)). man_on l s) men_r) ∙ there)
 
-    -- he comes over the hurdles, to another attacker's square only if that one has been captured
-    comes_over : reaches_as q.men y.colour y.kind n.from n.to ≡ true → reached_over v.hurdles y n.from n.to ≡ true
-    unfolding reached_over
-    comes_over h = later v.hurdles q.men y.colour y.kind n.from n.to plain_y (λ rider e inside on h. elim (cases_eq e m.from) [
-      | inl same ↦ absurd (false≢true (sym (w.mild.shut rider (rw same at on)) ∙ (rw same at h)))
-      | inr left ↦ stays_q e inside on left
-    ]) h
-
-    arrival : IsArrival v.hurdles y n.from n.to
-    arrival = record { small = to; position = q; goes = goes_y; reaches = λ piece. comes_over (piece_reaches rule q y n is_n piece plain_n) }
-
-    recaptures : (bit_at v.enemies n.to == 1) ≡ true → m.to ≡ n.to
-    unfolding side_of
-    recaptures on = elim (cases_eq m.to n.to) [
-      | inl e ↦ e
-      | inr ne ↦
-          let enemy : is_side (man_on p.men n.to) (other p.turn) ≡ true =
-              sym (word_has (λ s. is_side (man_on p.men s) (other p.turn)) v.enemies n.to i.fits.enemies to) ∙ on in
-          let left : n.to ≢ m.from = λ e. false≢true (sym (not_mine_enemy x p.turn is.mine)
-              ∙ sym (ap (λ (o : Option Man). is_side o (other p.turn)) (ap (man_on p.men) e ∙ here)) ∙ enemy) in
-          let kept : man_on q.men n.to ≡ man_on p.men n.to =
-              ap (λ (l : List (Option Man)). man_on l n.to) men_q ∙ stays_there p x m n.to i.plain.crossed left (λ e. ne (sym e)) in
-          absurd (unfree (other p.turn) (man_on q.men n.to) (ap (λ (c : Colour). is_arrival_free c (man_on q.men n.to)) (sym turn_q) ∙ is_n.arrival)
-          (ap (λ (o : Option Man). is_side o (other p.turn)) kept ∙ enemy))
-    ]
-
-    -- hurdles stay, or the man who captures stands there
-    stays_r : (e : ℕ) → e < 64 → (bit_at v.hurdles e == 1) ≡ true → e ≢ m.from → e ≢ n.from → is_some (man_on r.men e) ≡ true
-    stays_r e inside on left off =
-        ap (λ (l : List (Option Man)). is_some (man_on l e)) men_r
-        ∙ some_stays q y n e uncrossed (omega (arith, to, well_q.size)) off (stays_q e inside on left)
-
-    -- on a board where they stay
-    module _ (men : List (Option Man)) (stays : (e : ℕ) → e < 64 → (bit_at v.hurdles e == 1) ≡ true → e ≢ m.from → e ≢ n.from → is_some (man_on men e) ≡ true)
-      where
-      -- another attacker reaches no square that is unguarded once y has gone
-      unguarded_off : (s t : ℕ) (z : Man) → t < 64 → IsAttacker v.men z s → s ≢ n.from → is_fairy z.kind ≡ false → IsUnguarded v n.from m.from t
-          → reaches_as men z.colour z.kind s t ≡ false
+      -- he comes over the hurdles, to another attacker's square only if that one has been captured
+      comes_over : reaches_as q.men y.colour y.kind n.from n.to ≡ true → reached_over v.hurdles y n.from n.to ≡ true
       unfolding reached_over
-      unguarded_off s t z inside a ne plain u = false_from_ne_true _ (λ h.
-          false≢true (sym u.off ∙ (u.are.guards s z a (λ e. ne (sym e))).inside t inside (later u.are.hurdles men z.colour z.kind s t plain (λ rider e low on reach.
-              let kept = u.are.kept e low on in
-              elim (cases_eq e m.from) [
-                | inl same ↦
-                    absurd (false≢true (sym (u.shut (rw same at kept.0)) ∙ (u.are.rides s z a (λ e. ne (sym e)) rider).inside m.from from (rw same at reach)))
-                | inr left ↦ stays e low kept.0 left (λ same. kept.1 (sym same))
-              ]) h)))
+      comes_over h = later v.hurdles q.men y.colour y.kind n.from n.to plain_y (λ rider e inside on h. elim (cases_eq e m.from) [
+        | inl same ↦ absurd (false≢true (sym (w.mild.shut rider (rw same at on)) ∙ (rw same at h)))
+        | inr left ↦ stays_q e inside on left
+      ]) h
 
-      -- nor the king, unless y stood on one of his lines
-      hidden_off : (s : ℕ) (z : Man) → s < 64 → IsAttacker v.men z s → is_fairy z.kind ≡ false → (bit_at g.lines n.from == 1) ≡ false
-          → reaches_as men z.colour z.kind s k ≡ false
-      unfolding reached_over
-      hidden_off s z inside a plain hidden = false_from_ne_true _ (λ h.
-          let weak = weak_at s z a in
-          false≢true (sym weak.off ∙ (word_at z weak.checks weak.word).inside s inside (later v.hurdles men (other z.colour) z.kind k s plain (λ rider e low on reach.
-              elim (cases_eq e m.from) [
-                | inl same ↦ absurd (false≢true (sym (shut_lines (rw same at on)) ∙ lined (other z.colour) z.kind m.from from rider (rw same at reach)))
-                | inr left ↦ elim (cases_eq e n.from) [
-                  | inl same ↦ absurd (false≢true (sym hidden ∙ lined (other z.colour) z.kind n.from from_small rider (rw same at reach)))
-                  | inr off ↦ stays e low on left off
-                ]
-              ]) (sym (reaches_back men z.colour z.kind s k inside at_k (no_hopper z.kind plain)) ∙ h))))
+      arrival : IsArrival v.hurdles y n.from n.to
+      arrival = record { small = to; position = q; goes = goes_y; reaches = λ piece. comes_over (piece_reaches rule q y n is_n piece plain_n) }
 
-      -- nor y, from a square from which he doesn't check
-      quiet_off : (bit_at w.checks n.to == 1) ≡ false → reaches_as men y.colour y.kind n.to k ≡ false
-      unfolding reached_over
-      quiet_off quiet = false_from_ne_true _ (λ h.
-          false≢true (sym quiet ∙ (word_at y w.checks w.word).inside n.to to (later v.hurdles men (other y.colour) y.kind k n.to plain_y (λ rider e low on reach.
-              elim (cases_eq e m.from) [
-                | inl same ↦ absurd (false≢true (sym (shut_lines (rw same at on)) ∙ lined (other y.colour) y.kind m.from from rider (rw same at reach)))
-                | inr left ↦ elim (cases_eq e n.from) [
-                  | inl same ↦ absurd (false≢true (sym w.off ∙ (word_at y w.checks w.word).inside n.from from_small (rw same at reach)))
-                  | inr off ↦ stays e low on left off
-                ]
-              ]) (sym (reaches_back men y.colour y.kind n.to k to at_k (no_hopper y.kind plain_y)) ∙ h))))
-
-    -- where he gives no check
-    module _ (quiet : IsQuiet v g w.checks y n.from m.from n.to) (lawful : is_legal rule q n ≡ true) where
-      comes : reaches_as r.men y.colour y.kind n.to k ≡ false
-      unfolding may_check_from reaches_as
-      comes = elim (cases_Bool (same_kind y.kind King)) [
-        | inr mortal ↦ quiet_off r.men stays_r (quiet.check.off mortal)
-        | inl king ↦
-            let kind : y.kind ≡ King = kind_is_king y.kind king in
-            let square : king_square q.men (other q.turn) ≡ Some k = ap (λ (c : Colour). king_square q.men c) (ap other turn_q ∙ other_twice p.turn) ∙ king_q in
-            let apart = rw square at (kings_apart rule q y n well_q here_y to lawful king) in
-            king_reaches r.men q.men y.colour y.kind n.to k kind ∙ (or_parts (is_absent q.men y) _ apart).1
-      ]
-
-      unseen : (s : ℕ) (z : Man) → s < 64 → man_on r.men s ≡ Some z → z.colour ≡ other p.turn → reaches_as r.men z.colour z.kind s k ≡ false
-      unseen s z inside there enemy = elim (stood_r s z there) [
-        | inl came ↦
-            let same : z ≡ y = came.1 ∙ ap (arriving_man y) (unnamed q y n n.promo quiet.check.plain is_n.promotion) in
-            rw (same, came.0) comes
-        | inr kept ↦
-            let before = enemy_stood s z kept.1.1 enemy in
-            let a = attacker s z inside before enemy in
-            let plain = i.fairies.none s z inside before enemy in
-            elim quiet.covered [
-              | inl hidden ↦ hidden_off r.men stays_r s z inside a plain hidden
-              | inr u ↦ unguarded_off r.men stays_r s k z at_k a kept.1.0 plain (rw i.at.king at u)
-            ]
-      ]
-
-      no_check : in_check rule r.men p.turn ≡ false
-      unfolding in_check is_attacked strikes
-      no_check = ap (λ (o : Option ℕ). is_attacked_at rule r.men o (other p.turn)) king_r ∙ nobody_strikes rule r.men k p.turn unseen
-
-    -- a flight that is left
-    module _ (flight : IsFlight v g y n.from m.from m.to n.to) where
-      abbrev f : ℕ
-      f = flight.square
-
-      in_f : f < 64
-      in_f = flight.left.small
-
-      on_f : (bit_at g.near f == 1) ≡ true
-      on_f = flight.left.on
-
-      own_f : is_side (man_on p.men f) p.turn ≡ false
+      recaptures : (bit_at v.enemies n.to == 1) ≡ true → m.to ≡ n.to
       unfolding side_of
-      own_f = sym (word_has (λ s. is_side (man_on p.men s) p.turn) v.own f i.fits.own in_f) ∙ i.at.is.own f in_f on_f
+      recaptures on = elim (cases_eq m.to n.to) [
+        | inl e ↦ e
+        | inr ne ↦
+            let enemy : is_side (man_on p.men n.to) (other p.turn) ≡ true =
+                sym (word_has (λ s. is_side (man_on p.men s) (other p.turn)) v.enemies n.to i.fits.enemies to) ∙ on in
+            let left : n.to ≢ m.from = λ e. false≢true (sym (not_mine_enemy x p.turn is.mine)
+                ∙ sym (ap (λ (o : Option Man). is_side o (other p.turn)) (ap (man_on p.men) e ∙ here)) ∙ enemy) in
+            let kept : man_on q.men n.to ≡ man_on p.men n.to =
+                ap (λ (l : List (Option Man)). man_on l n.to) men_q ∙ stays_there p x m n.to i.plain.crossed left (λ e. ne (sym e)) in
+            absurd (unfree (other p.turn) (man_on q.men n.to) (ap (λ (c : Colour). is_arrival_free c (man_on q.men n.to)) (sym turn_q) ∙ is_n.arrival)
+            (ap (λ (o : Option Man). is_side o (other p.turn)) kept ∙ enemy))
+      ]
 
-      no_king_f : is_man (man_on p.men f) (other p.turn) King ≡ false
-      no_king_f = false_by _ (λ king. false≢true (sym (i.at.is.kings f in_f on_f) ∙ i.fits.kings f in_f king))
+      -- hurdles stay, or the man who captures stands there
+      stays_r : (e : ℕ) → e < 64 → (bit_at v.hurdles e == 1) ≡ true → e ≢ m.from → e ≢ n.from → is_some (man_on r.men e) ≡ true
+      stays_r e inside on left off =
+          ap (λ (l : List (Option Man)). is_some (man_on l e)) men_r
+          ∙ some_stays q y n e uncrossed (omega (arith, to, well_q.size)) off (stays_q e inside on left)
 
-      free_f : is_arrival_free p.turn (man_on r.men f) ≡ true
-      free_f = by (man_on r.men f) refl where
-        by : (o : Option Man) → man_on r.men f ≡ o → is_arrival_free p.turn o ≡ true
-        by None e = refl
-        by (Some z) e = elim (stood_r f z e) [
-          | inl came ↦ absurd (flight.left.off came.0)
-          | inr kept ↦ elim (stood_q f z kept.1.1) [
-            | inl came ↦ absurd (flight.elsewhere came.0)
-            | inr stays ↦
-                free_man p.turn (Some z) (ap (λ (o : Option Man). is_side o p.turn) (sym stays.1.1) ∙ own_f)
-                (ap (λ (o : Option Man). is_man o (other p.turn) King) (sym stays.1.1) ∙ no_king_f)
-          ]
+      -- on a board where they stay
+      module _ (men : List (Option Man)) (stays : (e : ℕ) → e < 64 → (bit_at v.hurdles e == 1) ≡ true → e ≢ m.from → e ≢ n.from → is_some (man_on men e) ≡ true)
+        where
+        -- another attacker reaches no square that is unguarded once y has gone
+        unguarded_off : (s t : ℕ) (z : Man) → t < 64 → IsAttacker v.men z s → s ≢ n.from → is_fairy z.kind ≡ false → IsUnguarded v n.from m.from t
+            → reaches_as men z.colour z.kind s t ≡ false
+        unfolding reached_over
+        unguarded_off s t z inside a ne plain u = false_from_ne_true _ (λ h.
+            false≢true (sym u.off ∙ (u.are.guards s z a (λ e. ne (sym e))).inside t inside (later u.are.hurdles men z.colour z.kind s t plain (λ rider e low on reach.
+                let kept = u.are.kept e low on in
+                elim (cases_eq e m.from) [
+                  | inl same ↦
+                      absurd (false≢true (sym (u.shut (rw same at kept.0)) ∙ (u.are.rides s z a (λ e. ne (sym e)) rider).inside m.from from (rw same at reach)))
+                  | inr left ↦ stays e low kept.0 left (λ same. kept.1 (sym same))
+                ]) h)))
+
+        -- nor the king, unless y stood on one of his lines
+        hidden_off : (s : ℕ) (z : Man) → s < 64 → IsAttacker v.men z s → is_fairy z.kind ≡ false → (bit_at g.lines n.from == 1) ≡ false
+            → reaches_as men z.colour z.kind s k ≡ false
+        unfolding reached_over
+        hidden_off s z inside a plain hidden = false_from_ne_true _ (λ h.
+            let weak = weak_at s z a in
+            false≢true (sym weak.off ∙ (word_at z weak.checks weak.word).inside s inside (later v.hurdles men (other z.colour) z.kind k s plain (λ rider e low on reach.
+                elim (cases_eq e m.from) [
+                  | inl same ↦ absurd (false≢true (sym (shut_lines (rw same at on)) ∙ lined (other z.colour) z.kind m.from from rider (rw same at reach)))
+                  | inr left ↦ elim (cases_eq e n.from) [
+                    | inl same ↦ absurd (false≢true (sym hidden ∙ lined (other z.colour) z.kind n.from from_small rider (rw same at reach)))
+                    | inr off ↦ stays e low on left off
+                  ]
+                ]) (sym (reaches_back men z.colour z.kind s k inside at_k (no_hopper z.kind plain)) ∙ h))))
+
+        -- nor y, from a square from which he doesn't check
+        quiet_off : (bit_at w.checks n.to == 1) ≡ false → reaches_as men y.colour y.kind n.to k ≡ false
+        unfolding reached_over
+        quiet_off quiet = false_from_ne_true _ (λ h.
+            false≢true (sym quiet ∙ (word_at y w.checks w.word).inside n.to to (later v.hurdles men (other y.colour) y.kind k n.to plain_y (λ rider e low on reach.
+                elim (cases_eq e m.from) [
+                  | inl same ↦ absurd (false≢true (sym (shut_lines (rw same at on)) ∙ lined (other y.colour) y.kind m.from from rider (rw same at reach)))
+                  | inr left ↦ elim (cases_eq e n.from) [
+                    | inl same ↦ absurd (false≢true (sym w.off ∙ (word_at y w.checks w.word).inside n.from from_small (rw same at reach)))
+                    | inr off ↦ stays e low on left off
+                  ]
+                ]) (sym (reaches_back men y.colour y.kind n.to k to at_k (no_hopper y.kind plain_y)) ∙ h))))
+
+      -- where he gives no check
+      module _ (quiet : IsQuiet v g w.checks y n.from m.from n.to) (lawful : is_legal rule q n ≡ true) where
+        comes : reaches_as r.men y.colour y.kind n.to k ≡ false
+        unfolding may_check_from reaches_as
+        comes = elim (cases_Bool (same_kind y.kind King)) [
+          | inr mortal ↦ quiet_off r.men stays_r (quiet.check.off mortal)
+          | inl king ↦
+              let kind : y.kind ≡ King = kind_is_king y.kind king in
+              let square : king_square q.men (other q.turn) ≡ Some k = ap (λ (c : Colour). king_square q.men c) (ap other turn_q ∙ other_twice p.turn) ∙ king_q in
+              let apart = rw square at (kings_apart rule q y n well_q here_y to lawful king) in
+              king_reaches r.men q.men y.colour y.kind n.to k kind ∙ (or_parts (is_absent q.men y) _ apart).1
         ]
 
-      -- nobody attacks the king who has gone there
-      module _ (z : Man) (stands : IsKingOn r.men p.turn k z) where
-        abbrev fled : List (Option Man)
-        fled = arrived r z (step_to k f)
-
-        stays_then : (e : ℕ) → e < 64 → (bit_at v.hurdles e == 1) ≡ true → e ≢ m.from → e ≢ n.from → is_some (man_on fled e) ≡ true
-        stays_then e inside on left off = elim (cases_eq e f) [
-          | inl same ↦
-              ap (λ (o : Option Man). is_some o) (ap (man_on fled) same ∙ there_now r.men k (capture_square r z (step_to k f)) f z (omega (arith, in_f, well_r.size)))
-          | inr ne ↦
-              ap (λ (o : Option Man). is_some o) (arrived_other r z (step_to k f) e (i.off_king e inside on)
-              (λ s cap e. ne (e ∙ capture_of_piece r z (step_to k f) s (and_left_king z stands.king) cap)) ne) ∙ stays_r e inside on left off
-        ]
-
-        unreached : (s : ℕ) (u : Man) → s < 64 → man_on fled s ≡ Some u → u.colour ≡ other p.turn → reaches_as fled u.colour u.kind s f ≡ false
-        unreached s u inside there enemy = elim (stood r z (step_to k f) s u (omega (arith, in_f, well_r.size)) there) [
+        unseen : (s : ℕ) (z : Man) → s < 64 → man_on r.men s ≡ Some z → z.colour ≡ other p.turn → reaches_as r.men z.colour z.kind s k ≡ false
+        unseen s z inside there enemy = elim (stood_r s z there) [
           | inl came ↦
-              absurd (false≢true (sym (not_mine u p.turn enemy) ∙ ap (λ (u : Man). same_colour u.colour p.turn) came.1 ∙ stands.mine))
-          | inr kept ↦ elim (stood_r s u kept.1.1) [
-            | inl came ↦
-                let same : u ≡ y = came.1 ∙ ap (arriving_man y) (unnamed q y n n.promo flight.plain is_n.promotion) in
-                rw (same, came.0) (flight.left.unreached fled)
-            | inr stays ↦
-                let before = enemy_stood s u stays.1.1 enemy in
-                unguarded_off fled stays_then s f u in_f (attacker s u inside before enemy) stays.1.0 (i.fairies.none s u inside before enemy) flight.unguarded
-          ]
+              let same : z ≡ y = came.1 ∙ ap (arriving_man y) (unnamed q y n n.promo quiet.check.plain is_n.promotion) in
+              rw (same, came.0) comes
+          | inr kept ↦
+              let before = enemy_stood s z kept.1.1 enemy in
+              let a = attacker s z inside before enemy in
+              let plain = i.fairies.none s z inside before enemy in
+              elim quiet.covered [
+                | inl hidden ↦ hidden_off r.men stays_r s z inside a plain hidden
+                | inr u ↦ unguarded_off r.men stays_r s k z at_k a kept.1.0 plain (rw i.at.king at u)
+              ]
         ]
 
-        king_step : IsKingStep rule r z k f
-        unfolding is_open reaches_as
-        king_step = record {
-          well_formed = well_r;
-          here = stands.here;
-          mine = ap (same_colour z.colour) turn_r ∙ stands.mine;
-          king = stands.king;
-          small = in_f;
-          near = and_from _ _ (and_from _ _ (ap (λ (c : ℕ). list_any (leaps c f) queen_steps) (sym i.at.king) ∙ i.at.is.next f in_f on_f)
-              (ap (λ (c : Colour). is_arrival_free c (man_on r.men f)) turn_r ∙ free_f)) (ap not (and_left (is_circe rule) _ circe));
-        }
+        no_check : in_check rule r.men p.turn ≡ false
+        unfolding in_check is_attacked strikes
+        no_check = ap (λ (o : Option ℕ). is_attacked_at rule r.men o (other p.turn)) king_r ∙ nobody_strikes rule r.men k p.turn unseen
 
-        flees : has_flight rule r ≡ true
-        unfolding has_flight is_flight
-        flees =
-            some_square_true (is_flight rule r) f in_f (ap (λ (o : Option ℕ). is_flight_from rule r o f) (ap (king_square r.men) turn_r ∙ king_r)
-            ∙ step_is_legal rule r z k f king_step (ap (is_attacked rule fled f) (ap other turn_r) ∙ nobody_strikes rule fled f p.turn unreached))
+      -- a flight that is left
+      module _ (flight : IsFlight v g y n.from m.from m.to n.to) where
+        abbrev f : ℕ
+        f = flight.square
 
-      has_one : has_flight rule r ≡ true
-      has_one = let z = king_on r.men p.turn k king_r in flees z.0 z.1
+        in_f : f < 64
+        in_f = flight.left.small
+
+        on_f : (bit_at g.near f == 1) ≡ true
+        on_f = flight.left.on
+
+        own_f : is_side (man_on p.men f) p.turn ≡ false
+        unfolding side_of
+        own_f = sym (word_has (λ s. is_side (man_on p.men s) p.turn) v.own f i.fits.own in_f) ∙ i.at.is.own f in_f on_f
+
+        no_king_f : is_man (man_on p.men f) (other p.turn) King ≡ false
+        no_king_f = false_by _ (λ king. false≢true (sym (i.at.is.kings f in_f on_f) ∙ i.fits.kings f in_f king))
+
+        free_f : is_arrival_free p.turn (man_on r.men f) ≡ true
+        free_f = by (man_on r.men f) refl where
+          by : (o : Option Man) → man_on r.men f ≡ o → is_arrival_free p.turn o ≡ true
+          by None e = refl
+          by (Some z) e = elim (stood_r f z e) [
+            | inl came ↦ absurd (flight.left.off came.0)
+            | inr kept ↦ elim (stood_q f z kept.1.1) [
+              | inl came ↦ absurd (flight.elsewhere came.0)
+              | inr stays ↦
+                  free_man p.turn (Some z) (ap (λ (o : Option Man). is_side o p.turn) (sym stays.1.1) ∙ own_f)
+                  (ap (λ (o : Option Man). is_man o (other p.turn) King) (sym stays.1.1) ∙ no_king_f)
+            ]
+          ]
+
+        -- nobody attacks the king who has gone there
+        module _ (z : Man) (stands : IsKingOn r.men p.turn k z) where
+          abbrev fled : List (Option Man)
+          fled = arrived r z (step_to k f)
+
+          stays_then : (e : ℕ) → e < 64 → (bit_at v.hurdles e == 1) ≡ true → e ≢ m.from → e ≢ n.from → is_some (man_on fled e) ≡ true
+          stays_then e inside on left off = elim (cases_eq e f) [
+            | inl same ↦
+                ap (λ (o : Option Man). is_some o) (ap (man_on fled) same ∙ there_now r.men k (capture_square r z (step_to k f)) f z (omega (arith, in_f, well_r.size)))
+            | inr ne ↦
+                ap (λ (o : Option Man). is_some o) (arrived_other r z (step_to k f) e (i.off_king e inside on)
+                (λ s cap e. ne (e ∙ capture_of_piece r z (step_to k f) s (and_left_king z stands.king) cap)) ne) ∙ stays_r e inside on left off
+          ]
+
+          unreached : (s : ℕ) (u : Man) → s < 64 → man_on fled s ≡ Some u → u.colour ≡ other p.turn → reaches_as fled u.colour u.kind s f ≡ false
+          unreached s u inside there enemy = elim (stood r z (step_to k f) s u (omega (arith, in_f, well_r.size)) there) [
+            | inl came ↦
+                absurd (false≢true (sym (not_mine u p.turn enemy) ∙ ap (λ (u : Man). same_colour u.colour p.turn) came.1 ∙ stands.mine))
+            | inr kept ↦ elim (stood_r s u kept.1.1) [
+              | inl came ↦
+                  let same : u ≡ y = came.1 ∙ ap (arriving_man y) (unnamed q y n n.promo flight.plain is_n.promotion) in
+                  rw (same, came.0) (flight.left.unreached fled)
+              | inr stays ↦
+                  let before = enemy_stood s u stays.1.1 enemy in
+                  unguarded_off fled stays_then s f u in_f (attacker s u inside before enemy) stays.1.0 (i.fairies.none s u inside before enemy) flight.unguarded
+            ]
+          ]
+
+          king_step : IsKingStep rule r z k f
+          unfolding is_open reaches_as
+          king_step = record {
+            well_formed = well_r;
+            here = stands.here;
+            mine = ap (same_colour z.colour) turn_r ∙ stands.mine;
+            king = stands.king;
+            small = in_f;
+            near = and_from _ _ (and_from _ _ (ap (λ (c : ℕ). list_any (leaps c f) queen_steps) (sym i.at.king) ∙ i.at.is.next f in_f on_f)
+                (ap (λ (c : Colour). is_arrival_free c (man_on r.men f)) turn_r ∙ free_f)) (ap not (and_left (is_circe rule) _ circe));
+          }
+
+          flees : has_flight rule r ≡ true
+          unfolding has_flight is_flight
+          flees =
+              some_square_true (is_flight rule r) f in_f (ap (λ (o : Option ℕ). is_flight_from rule r o f) (ap (king_square r.men) turn_r ∙ king_r)
+              ∙ step_is_legal rule r z k f king_step (ap (is_attacked rule fled f) (ap other turn_r) ∙ nobody_strikes rule fled f p.turn unreached))
+
+        has_one : has_flight rule r ≡ true
+        has_one = let z = king_on r.men p.turn k king_r in flees z.0 z.1
+
+      unmated_plainly : mates rule q n ≡ false
+      unmated_plainly = elim (w.mild.each n.to arrival recaptures) [
+        | inr flight ↦ sym (no_mate_with_flight rule q n (has_one flight))
+        | inl quiet ↦ sym (no_mate_quietly rule q n (λ lawful. ap (in_check rule r.men) (ap other turn_q ∙ other_twice p.turn) ∙ no_check quiet lawful))
+      ]
 
     unmated : mates rule q n ≡ false
-    unmated = elim (w.mild.each n.to arrival recaptures) [
-      | inr flight ↦ sym (no_mate_with_flight rule q n (has_one flight))
-      | inl quiet ↦ sym (no_mate_quietly rule q n (λ lawful. ap (in_check rule r.men) (ap other turn_q ∙ other_twice p.turn) ∙ no_check quiet lawful))
+    unmated = elim (cases_Bool (is_castling y n)) [
+      | inl castling ↦ sym (no_mate_quietly rule q n (λ lawful. ap (in_check rule (position_after rule q n).men) (ap other turn_q ∙ other_twice p.turn) ∙ castled castling lawful))
+      | inr plain ↦ unmated_plainly plain
     ]
 
   none_mates : (j : ℕ) → mates rule q (triple_at j) ≡ false
@@ -571,7 +683,7 @@ module _ (rule : RuleSet) (p : Position) (m : Move) (x : Man) (v : Siege) (k : �
 -- the same for the ways of a defender: his king goes, or another man
 module _ (rule : RuleSet) (p : Position) (m : Move) (x : Man) (v : Siege) (risk : Risk) (well : IsWellFormed p)
     (may : is_pseudo_legal rule p m ≡ true) (here : man_on p.men m.from ≡ Some x) (told : IsTold rule p) (small : m.to < 64) (from : m.from < 64)
-    (plain : IsPlainMove p x m) (fits : IsSiegeOf p v) (threats : AreThreats v risk) where
+    (plain : IsPlainMove p x m) (fits : IsSiegeOf p v) (o : Option Leaving) (threats : AreThreats v risk o) where
   pub king_spared : (r : Risk) → same_kind x.kind King ≡ true → IsRiskAt v m.to r → (bit_at (bit_or v.hurdles r.critical) m.to == 1) ≡ false
       → mates_behind rule (position_after rule p m) 0 ≡ []
   king_spared r king at off =
@@ -584,10 +696,9 @@ module _ (rule : RuleSet) (p : Position) (m : Move) (x : Man) (v : Siege) (risk 
         siege = threats.siege;
         fits = fits;
         fairies = told.fairies;
-        castling = told.castling;
         at = at;
         off = record {
-          lines = λ on. absurd ((threats.siege.hurdles m.from from on).1 same);
+          lines = λ on. absurd ((threats.siege.hurdles.men m.from from on).1 same);
           critical = off_right v.hurdles r.critical m.to off;
         };
         off_king = λ e inside on same. false≢true (sym (off_left v.hurdles r.critical m.to off) ∙ (rw same at on));
@@ -595,9 +706,9 @@ module _ (rule : RuleSet) (p : Position) (m : Move) (x : Man) (v : Siege) (risk 
 
   module _ (mortal : same_kind x.kind King ≡ false) where
     -- by a siege of the same men
-    spared_by : (w : Siege) (r : Risk) → IsSiege w → w.king ≡ v.king → w.own ≡ v.own → w.enemies ≡ v.enemies → w.men ≡ v.men → IsRiskAt w v.king r
+    spared_by : (w : Siege) (r : Risk) → IsSiege w → w.king ≡ v.king → w.own ≡ v.own → w.enemies ≡ v.enemies → w.men ≡ v.men → w.castled ≡ v.castled → IsRiskAt w v.king r
         → IsOff w.hurdles r m.from m.to → mates_behind rule (position_after rule p m) 0 ≡ []
-    spared_by w r siege king own enemies men at off =
+    spared_by w r siege king own enemies men castled at off =
         no_mate_behind rule p m x w v.king r well may here told.circe small from (cond-false (same_kind x.kind King) _ _ mortal ∙ sym fits.king) (record {
           plain = plain;
           siege = siege;
@@ -608,20 +719,20 @@ module _ (rule : RuleSet) (p : Position) (m : Move) (x : Man) (v : Siege) (risk 
             enemies = enemies ∙ fits.enemies;
             king = ap (λ (k : ℕ). Some k) king ∙ fits.king;
             kings = λ s inside stands. ap (λ (a : Attackers). bit_at a.kings s == 1) men ∙ fits.kings s inside stands;
+            castled = subst (λ (c : ℕ). AreCastlingSquares p (other p.turn) c) (sym castled) fits.castled;
           };
           fairies = told.fairies;
-          castling = told.castling;
-          at = at;
+            at = at;
           off = off;
-          off_king = λ e inside on same. (siege.hurdles e inside on).1 (king ∙ sym same);
+          off_king = λ e inside on same. (siege.hurdles.men e inside on).1 (king ∙ sym same);
         })
 
     pub man_spared : (bit_at risk.lines m.from == 1) ≡ false → (bit_at risk.critical m.to == 1) ≡ false
         → mates_behind rule (position_after rule p m) 0 ≡ []
-    man_spared lines off = spared_by v risk threats.siege refl refl refl refl threats.risk (record { lines = λ on. lines; critical = off })
+    man_spared lines off = spared_by v risk threats.siege refl refl refl refl refl threats.risk (record { lines = λ on. lines; critical = off })
 
     pub line_spared : (r : Risk) → IsRiskBehind v m.from r → (bit_at r.critical m.to == 1) ≡ false → mates_behind rule (position_after rule p m) 0 ≡ []
-    line_spared r i off = spared_by i.lifted r i.siege i.king i.own i.enemies i.men i.risk (record {
-      lines = λ on. absurd (false≢true (sym i.off ∙ on));
+    line_spared r i off = let l = i.lifted in spared_by i.siege r l.siege l.king l.own l.enemies l.men l.castled i.risk (record {
+      lines = λ on. absurd (false≢true (sym l.off ∙ on));
       critical = off;
     })

@@ -1,6 +1,6 @@
 //! Replies that mate, ruled out before the defender's move. All men but his king are hurdles: each square on which one
 //! stands stays occupied, be it that he is captured, but for the squares that the defender and the attacker leave.
-ghost use Rattle.std.specs.Prelude.{◌≡◌, ◌≢◌, ◌<◌, ◌==◌, ◌⊎◌, [], ℕ, Some, true, false};
+ghost use Rattle.std.specs.Prelude.{◌≡◌, ◌≢◌, ◌<◌, ◌==◌, ◌⊎◌, [], ℕ, IfSome, Some, true, false};
 ghost use Rattle.std.specs.Int.{bit_at};
 ghost use Rattle.std.specs.Int.Bits.{bit_or};
 ghost use Rattle.chess_core.specs.Castling.{has_unmoved};
@@ -8,7 +8,7 @@ ghost use Rattle.chess_core.specs.Position.{other};
 ghost use Rattle.chess_core.specs.WellFormed.{IsWellFormed};
 ghost use Rattle.chess_core.specs.declared.man.Man.{Man};
 ghost use Rattle.chess_mates.specs.ties.Mates.{mates_behind};
-ghost use Rattle.chess_mates.specs.ties.Threats.{AreArrivals, AreGuardsWithout, AreReached, AreThreats, AreWeak, CannotCastle, HasNoFairy, IsAttacker, IsCheckWord, IsField, IsHarmless, IsLeft, IsMet, IsNoCheck, IsOff, IsOpenReach, IsPlainMove, IsReached, IsRiskAt, IsRiskBehind, IsSiege, IsSiegeOf, IsTold, IsWeak, LeavesOne, is_leaper, is_rider};
+ghost use Rattle.chess_mates.specs.ties.Threats.{AreArrivals, AreCastlingSquares, AreGuardsWithout, AreHurdles, AreReached, AreThreats, AreWeak, HasNoFairy, IsAttacker, IsCastlingHarmless, IsCheckWord, IsField, IsHarmless, IsLeft, IsLifted, IsMet, IsNoCheck, IsOff, IsOpenReach, IsPlainMove, IsReached, IsRiskAt, IsRiskBehind, IsSiege, IsSiegeOf, IsTold, IsWeak, LeavesOne, is_leaper, is_rider};
 ghost use Rattle.chess_rules.specs.Legal.{is_legal};
 ghost use Rattle.chess_rules.specs.Play.{is_castling, is_double_step, position_after};
 ghost use Rattle.chess_rules.specs.RuleSet.{is_circe};
@@ -39,7 +39,7 @@ pub(crate) struct Attackers {
 }
 
 // The men around the defender's king, who stands on `king`: the squares of the defender's men, of the attackers, and of
-// the hurdles.
+// the hurdles; those to which a rook of theirs may castle.
 #[derive(Clone, Copy)]
 pub(crate) struct Siege {
     king: Square,
@@ -47,6 +47,7 @@ pub(crate) struct Siege {
     enemies: u64,
     hurdles: u64,
     men: Attackers,
+    castled: u64,
 }
 
 // A king's square, the squares next to it to which he might go, attacks apart, and those of the lines from there.
@@ -405,11 +406,26 @@ fn field_of(siege: &Siege, king: Square) -> Field
     }
 }
 
+// Whether no castling of the attackers checks: no rook from his new square, nor another man once their king has gone.
+fn castling_is_harmless(siege: &Siege, field: &Field) -> bool
+    ensures { result ≡ true → IsCastlingHarmless siege.now field.now }
+{
+    let rooks = straight_lines(field.king) & siege.castled;
+    let kings = field.lines & siege.men.kings;
+    (siege.castled == 0) | ((rooks == 0) & (kings == 0))
+}
+
 // The risk of a defender whose king is on the square.
 fn risk_at(siege: &Siege, king: Square) -> Risk
     ensures { IsRiskAt siege.now king result }
 {
     let field = field_of(siege, king);
+    if !castling_is_harmless(siege, &field) {
+        return Risk {
+            critical: !0,
+            lines: 0,
+        };
+    }
     let risk = risk_of_all(siege, &field);
     Risk {
         critical: risk.critical,
@@ -430,19 +446,41 @@ fn attackers_on(board: &Board, colour: Colour) -> Attackers {
     }
 }
 
-// The siege by these men of the king, perhaps without one of his.
-fn siege_by(own: u64, enemies: u64, king: Square, lifted: Option<Square>, men: Attackers) -> Siege
-    ensures siege { IsSiege result }
-    ensures given { (result.king ≡ king) × (result.own ≡ own) × (result.enemies ≡ enemies)
-        × (result.men ≡ men) }
-    ensures lifted { (s : ℕ) → s < 64 → lifted ≡ Some s → (bit_at result.hurdles s == 1) ≡ false }
+// All men but the king, and perhaps without one of his.
+fn hurdles_of(own: u64, enemies: u64, king: Square, lifted: Option<Square>) -> u64
+    ensures are { AreHurdles own enemies king result }
+    ensures lifted { (s : ℕ) → s < 64 → lifted ≡ Some s → (bit_at result s == 1) ≡ false }
 {
+    (own | enemies) & !only(Some(king)) & !only(lifted)
+}
+
+// The siege by the board's men of the king of the side to move, who stands on the square.
+fn siege_of(board: &Board, king: Square) -> Siege
+    ensures siege { IsSiege result }
+    ensures king { result.king ≡ king }
+{
+    let enemy = board.turn().other();
+    let own = board.side(board.turn());
+    let enemies = board.side(enemy);
     Siege {
         king,
         own,
         enemies,
-        hurdles: (own | enemies) & !only(Some(king)) & !only(lifted),
-        men,
+        hurdles: hurdles_of(own, enemies, king, None),
+        men: attackers_on(board, enemy),
+        castled: castling_squares(board, enemy),
+    }
+}
+
+// The same without the man on the square.
+fn lifted_from(siege: &Siege, from: Square) -> Siege
+    ensures { IsLifted siege.now from result }
+{
+    // For the proof: a square's number is below 64.
+    let _small = from.index();
+    Siege {
+        hurdles: hurdles_of(siege.own, siege.enemies, siege.king, Some(from)),
+        ..*siege
     }
 }
 
@@ -464,6 +502,7 @@ fn is_of(siege: &Siege, board: &Board) -> bool
         & (men.bishops == board.squares(colour, Kind::Bishop))
         & (men.knights == board.squares(colour, Kind::Knight))
         & (men.pawns == board.squares(colour, Kind::Pawn))
+        & (siege.castled == castling_squares(board, colour))
 }
 
 // Whether the colour has no fairy man.
@@ -473,35 +512,41 @@ fn has_no_fairy(board: &Board, colour: Colour) -> bool
     board.squares(colour, Kind::Grasshopper) | board.squares(colour, Kind::Nightrider) == 0
 }
 
-// Whether the side doesn't castle with the rook in the corner: it has moved, or a man of its own stands on `next`,
-// beside the king.
-fn is_shut(board: &Board, own: u64, corner: Square, next: Square) -> bool
-    ensures { result ≡ true → (has_unmoved board.now.unmoved corner ≡ false)
-        ⊎ ((bit_at own next == 1) ≡ true) }
+// The square `next`, beside the king, if the side may castle with the rook in the corner: he is unmoved, and no man of
+// its own stands there.
+fn castling_square(board: &Board, own: u64, corner: Square, next: Square) -> u64
+    ensures { (has_unmoved board.now.unmoved corner ≡ false)
+        ⊎ ((bit_at own next == 1) ≡ true) ⊎ ((bit_at result next == 1) ≡ true) }
 {
-    !board.unmoved().has(corner) || contains(own, next)
+    // For the proof: a square's number is below 64.
+    let _small = next.index();
+    if !board.unmoved().has(corner) {
+        return 0;
+    }
+    if contains(own, next) {
+        return 0;
+    }
+    only(Some(next))
 }
 
-// Whether the colour can't castle, whatever the other side plays before.
-fn cannot_castle(board: &Board, colour: Colour) -> bool
-    requires { IsWellFormed board.now }
-    ensures { result ≡ true → CannotCastle board.now colour }
+// The squares to which a rook of the colour may castle, whatever the other side plays before, and perhaps more.
+fn castling_squares(board: &Board, colour: Colour) -> u64
+    ensures { IsWellFormed board.now → AreCastlingSquares board.now colour result }
 {
     let Some(king) = board.king_of(colour) else {
-        return true;
+        return 0;
     };
     if !board.unmoved().has(king) {
-        return true;
+        return 0;
     }
     let at = king.index();
     if at < 4 || at > 60 {
-        return false;
+        return !0;
     }
     let own = board.side(colour);
-    if !is_shut(board, own, Square::numbered(at + 3), Square::numbered(at + 1)) {
-        return false;
-    }
-    is_shut(board, own, Square::numbered(at - 4), Square::numbered(at - 1))
+    let long = castling_square(board, own, Square::numbered(at - 4), Square::numbered(at - 1));
+    let short = castling_square(board, own, Square::numbered(at + 3), Square::numbered(at + 1));
+    long | short
 }
 
 // Whether it is a double step when this man makes the move.
@@ -524,20 +569,47 @@ fn goes_plainly(board: &Board, man: Man, m: &Move) -> bool
 fn risk_behind(siege: &Siege, from: Square) -> Risk
     ensures { IsRiskBehind siege.now from result }
 {
-    // For the proof: a square's number is below 64.
-    let _small = from.index();
-    let lifted = siege_by(siege.own, siege.enemies, siege.king, Some(from), siege.men);
+    let lifted = lifted_from(siege, from);
     risk_at(&lifted, siege.king)
 }
 
-// Whether no reply to this move mates, told by the risk. Where the king moves, or a man who is a hurdle on one of the
-// lines, that is looked for anew; a king who captures isn't told.
-fn no_mate_follows<R: Rules>(siege: &Siege, risk: &Risk, board: &Board, m: &Move) -> bool
+// The risk of the man on `from`, once he leaves his line.
+#[derive(Clone, Copy)]
+pub(crate) struct Leaving {
+    from: Square,
+    risk: Risk,
+}
+
+// The same, told anew unless it is known.
+fn leaving_from(siege: &Siege, known: &Option<Leaving>, from: Square) -> Leaving
+    ensures { IfSome known.now (λ l. IsRiskBehind siege.now l.from l.risk)
+        → IsRiskBehind siege.now result.from result.risk }
+{
+    if let Some(leaving) = known {
+        if leaving.from == from {
+            return *leaving;
+        }
+    }
+    Leaving {
+        from,
+        risk: risk_behind(siege, from),
+    }
+}
+
+// Whether no reply to this move mates, told by the risk. Where the king moves, that is looked for anew; if he captures
+// it isn't told.
+fn no_mate_follows<R: Rules>(
+    siege: &Siege,
+    risk: &Risk,
+    leaving: &Option<Leaving>,
+    board: &Board,
+    m: &Move,
+) -> bool
     requires well_formed { IsWellFormed board.now }
     requires legal { is_legal R.rule board.now m.now ≡ true }
     requires told { IsTold R.rule board.now }
     requires fits { IsSiegeOf board.now siege.now }
-    requires threats { AreThreats siege.now risk.now }
+    requires threats { AreThreats siege.now risk.now leaving.now }
     ensures { result ≡ true → mates_behind R.rule (position_after R.rule board.now m.now) 0 ≡ [] }
 {
     let Some(man) = board.man_at(m.from) else {
@@ -551,18 +623,22 @@ fn no_mate_follows<R: Rules>(siege: &Siege, risk: &Risk, board: &Board, m: &Move
     if man.kind.is(Kind::King) {
         return !contains(siege.hurdles | risk_at(siege, m.to).critical, m.to);
     }
-    if contains(risk.lines, m.from) {
-        return !contains(risk_behind(siege, m.from).critical, m.to);
+    if !contains(risk.lines, m.from) {
+        return !contains(risk.critical, m.to);
     }
-    !contains(risk.critical, m.to)
+    match leaving {
+        Some(leaving) if leaving.from == m.from => !contains(leaving.risk.critical, m.to),
+        _ => false,
+    }
 }
 
 /// What the side that isn't to move threatens: the squares that the defender mustn't come to lest a reply may mate. It
-/// holds of each position with the same men and the same side to move.
+/// holds of each position with the same men and castlings and the same side to move.
 #[derive(Drop)]
 pub struct Threats {
     siege: Siege,
     risk: Risk,
+    leaving: Option<Leaving>,
 }
 
 impl Model for Threats {
@@ -572,34 +648,31 @@ impl Model for Threats {
 
     ghost view = { λ t. tt };
 
-    ghost invariant = { λ t. AreThreats t.siege t.risk };
+    ghost invariant = { λ t. AreThreats t.siege t.risk t.leaving };
 }
 
 impl Threats {
     /// The threats to the king of the side to move, who stands on the square.
     pub fn of(board: &Board, king: Square) -> Threats {
-        let enemy = board.turn().other();
-        let men = attackers_on(board, enemy);
-        let siege = siege_by(board.side(board.turn()), board.side(enemy), king, None, men);
+        let siege = siege_of(board, king);
         Threats {
             risk: risk_at(&siege, king),
             siege,
+            leaving: None,
         }
     }
 
     /// Whether they are told at all: not in Circe, nor where the side that isn't to move has a grasshopper or a
-    /// nightrider, or may castle.
+    /// nightrider.
     pub fn are_told<R: Rules>(board: &Board) -> bool
-        requires { IsWellFormed board.now }
         ensures { result ≡ true → IsTold R.rule board.now }
     {
-        let enemy = board.turn().other();
-        !R::is_circe() && has_no_fairy(board, enemy) && cannot_castle(board, enemy)
+        !R::is_circe() && has_no_fairy(board, board.turn().other())
     }
 
     /// Whether no reply to this move mates. `Some(false)` says nothing: so it answers where kings castle or capture, and
     /// after double steps and captures en passant. `None`: these are the threats of another position.
-    pub fn rule_out_mate<R: Rules>(&self, board: &Board, m: &Move) -> Option<bool>
+    pub fn rule_out_mate<R: Rules>(&mut self, board: &Board, m: &Move) -> Option<bool>
         requires well_formed { IsWellFormed board.now }
         requires legal { is_legal R.rule board.now m.now ≡ true }
         requires told { IsTold R.rule board.now }
@@ -609,6 +682,15 @@ impl Threats {
         if !is_of(&self.siege, board) {
             return None;
         }
-        Some(no_mate_follows::<R>(&self.siege, &self.risk, board, m))
+        if contains(self.risk.lines, m.from) && m.from != self.siege.king {
+            self.leaving = Some(leaving_from(&self.siege, &self.leaving, m.from));
+        }
+        Some(no_mate_follows::<R>(
+            &self.siege,
+            &self.risk,
+            &self.leaving,
+            board,
+            m,
+        ))
     }
 }

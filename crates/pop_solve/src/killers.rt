@@ -94,7 +94,7 @@ impl<R: Rules> Killers<R> {
         if !Threats::are_told::<R>(board) {
             return false;
         }
-        if let Some(threats) = &self.threats {
+        if let Some(threats) = &mut self.threats {
             if let Some(ruled_out) = threats.rule_out_mate::<R>(board, m) {
                 return ruled_out;
             }
@@ -102,7 +102,7 @@ impl<R: Rules> Killers<R> {
         let Some(king) = board.king_of(board.turn()) else {
             return false;
         };
-        let threats = Threats::of(board, king);
+        let mut threats = Threats::of(board, king);
         let ruled_out = threats.rule_out_mate::<R>(board, m);
         self.threats = Some(threats);
         ruled_out == Some(true)

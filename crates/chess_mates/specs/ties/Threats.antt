@@ -1,11 +1,11 @@
 -- Threats of mate, told before the defender's move, over hurdles: the squares of all men but his king (own).
-use Rattle.std.specs.Prelude.{◌≡◌, ◌≢◌, ◌<◌, ◌==◌, ◌||◌, ◌⊎◌, ◌+◌, ◌-◌, ℕ, Bool, true, false, List, Option, Some, None, map, if◌then◌else◌}
+use Rattle.std.specs.Prelude.{◌≡◌, ◌≢◌, ◌<◌, ◌==◌, ◌||◌, ◌⊎◌, ◌+◌, ◌-◌, ℕ, Bool, true, false, List, IfSome, Option, Some, None, map, if◌then◌else◌}
 use Rattle.std.specs.Int.{bit_at}
 use Rattle.std.specs.List.{list_any}
 use Rattle.chess_core.specs.Castling.{has_unmoved}
 use Rattle.chess_core.specs.Position.{Position, is_man, is_side, king_square, man_on, other, same_kind}
 use Rattle.chess_core.specs.Squares.{is_square, squares}
-use Rattle.chess_core.specs.Steps.{queen_steps}
+use Rattle.chess_core.specs.Steps.{queen_steps, straight_steps}
 use Rattle.chess_core.specs.declared.man.Colour.{Colour}
 use Rattle.chess_core.specs.declared.man.Colour.TheVariants.{White}
 use Rattle.chess_core.specs.declared.man.Kind.{Kind}
@@ -16,11 +16,13 @@ use Rattle.chess_core.specs.ties.Words.{side_of}
 use Rattle.chess_mates.specs.declared.threats.Attackers.{Attackers}
 use Rattle.chess_mates.specs.declared.threats.Field.{Field}
 use Rattle.chess_mates.specs.declared.threats.Guards.{Guards}
+use Rattle.chess_mates.specs.declared.threats.Leaving.{Leaving}
 use Rattle.chess_mates.specs.declared.threats.Risk.{Risk}
 use Rattle.chess_mates.specs.declared.threats.Siege.{Siege}
 use Rattle.chess_rules.specs.Play.{is_castling, is_double_step}
 use Rattle.chess_rules.specs.Reaches.{leaps, reaches_as}
 use Rattle.chess_rules.specs.RuleSet.{RuleSet, is_circe}
+use Rattle.chess_rules.specs.ties.Lines.{is_on_some}
 use Rattle.chess_rules.specs.ties.Shields.{is_fairy}
 use Rattle.chess_rules.specs.ties.Targets.{arrives, may_go}
 
@@ -77,10 +79,25 @@ is_leaper _ = false
 pub record AreReached (d : ℕ) (a : Attackers) (kinds : Kind → Bool) (w : ℕ) : Type 0 where
   pub reach : (s : ℕ) (x : Man) → IsAttacker a x s → kinds x.kind ≡ true → IsReached d x s w
 
--- the hurdles of a siege are men of both sides, and not the king
+-- the hurdles are men of both sides, and not the king on k
+pub record AreHurdles (own enemies k d : ℕ) : Type 0 where
+  pub men : (e : ℕ) → e < 64 → (bit_at d e == 1) ≡ true
+      → (((bit_at own e == 1) ≡ true) ⊎ ((bit_at enemies e == 1) ≡ true)) × (k ≢ e)
+
+-- so are those of a siege
 pub record IsSiege (v : Siege) : Type 0 where
-  pub hurdles : (e : ℕ) → e < 64 → (bit_at v.hurdles e == 1) ≡ true
-      → (((bit_at v.own e == 1) ≡ true) ⊎ ((bit_at v.enemies e == 1) ≡ true)) × (v.king ≢ e)
+  pub hurdles : AreHurdles v.own v.enemies v.king v.hurdles
+
+-- the rook in the corner has moved, or a man of the colour stands on the square beside the king, or the word has it
+abbrev pub IsShut : Position → Colour → ℕ → ℕ → ℕ → Type 0
+IsShut p c w corner next =
+    (has_unmoved p.unmoved corner ≡ false)
+    ⊎ (is_side (man_on p.men next) c ≡ true) ⊎ (next < 64 → (bit_at w next == 1) ≡ true)
+
+-- the colour's king has moved, or the word has the squares to which a rook may castle
+pub record AreCastlingSquares (p : Position) (c : Colour) (w : ℕ) : Type 0 where
+  pub sides : (s : ℕ) → s < 64 → is_man (man_on p.men s) c King ≡ true
+      → (has_unmoved p.unmoved s ≡ false) ⊎ (IsShut p c w (s + 3) (s + 1) × IsShut p c w (s - 4) (s - 1))
 
 -- its men are those of the position, the defender to move
 pub record IsSiegeOf (p : Position) (v : Siege) : Type 0 where
@@ -91,6 +108,7 @@ pub record IsSiegeOf (p : Position) (v : Siege) : Type 0 where
   pub king : Some v.king ≡ king_square p.men p.turn
   pub kings : (s : ℕ) → s < 64 → is_man (man_on p.men s) (other p.turn) King ≡ true
       → (bit_at v.men.kings s == 1) ≡ true
+  pub castled : AreCastlingSquares p (other p.turn) v.castled
 
 -- the word has each square that x on s reaches, whoever else stands on the board
 pub record IsOpenReach (x : Man) (s w : ℕ) : Type 0 where
@@ -209,43 +227,49 @@ pub record IsField (v : Siege) (g : Field) : Type 0 where
   pub kings : (f : ℕ) → f < 64 → (bit_at g.near f == 1) ≡ true → (bit_at v.men.kings f == 1) ≡ false
   pub lines : (c : Colour) → IsReached v.hurdles (record { colour = c; kind = Queen }) g.king g.lines
 
+-- no rook checks from a square to which he may castle, and no king leaves a line of the field
+pub record IsCastlingHarmless (v : Siege) (g : Field) : Type 0 where
+  pub rooks : (h : ℕ) → h < 64 → (bit_at v.castled h == 1) ≡ true
+      → is_on_some straight_steps g.king h ≡ false
+  pub kings : (h s : ℕ) → s < 64 → (bit_at v.castled h == 1) ≡ true
+      → (bit_at v.men.kings s == 1) ≡ true → (bit_at g.lines s == 1) ≡ false
+
 -- the risk of a defender whose king is on k: after each move without it no reply mates
 pub record IsRiskAt (v : Siege) (k : ℕ) (r : Risk) : Type 0 where
   pub field : Field
   pub king : field.king ≡ k
   pub is : IsField v field
-  pub lines : (a : ℕ) → (bit_at r.lines a == 1) ≡ false → (bit_at field.lines a == 1) ≡ false
+  pub castling : (b : ℕ) → b < 64 → (bit_at r.critical b == 1) ≡ false → IsCastlingHarmless v field
+  pub lines : (a b : ℕ) → b < 64 → (bit_at r.critical b == 1) ≡ false
+      → (bit_at r.lines a == 1) ≡ false → (bit_at field.lines a == 1) ≡ false
   pub weak : (s : ℕ) (x : Man) → IsAttacker v.men x s → IsWeak v field r x s
 
--- the same of the siege's king, told without a hurdle on this square
-pub record IsRiskBehind (v : Siege) (from : ℕ) (r : Risk) : Type 0 where
-  pub lifted : Siege
-  pub siege : IsSiege lifted
-  pub king : lifted.king ≡ v.king
-  pub own : lifted.own ≡ v.own
-  pub enemies : lifted.enemies ≡ v.enemies
-  pub men : lifted.men ≡ v.men
-  pub off : (bit_at lifted.hurdles from == 1) ≡ false
-  pub risk : IsRiskAt lifted v.king r
+-- the same siege, without a hurdle on this square
+pub record IsLifted (v : Siege) (from : ℕ) (w : Siege) : Type 0 where
+  pub siege : IsSiege w
+  pub king : w.king ≡ v.king
+  pub own : w.own ≡ v.own
+  pub enemies : w.enemies ≡ v.enemies
+  pub men : w.men ≡ v.men
+  pub castled : w.castled ≡ v.castled
+  pub off : (bit_at w.hurdles from == 1) ≡ false
 
--- the same of the siege's king
-pub record AreThreats (v : Siege) (r : Risk) : Type 0 where
+-- the risk of the siege's king, told without a hurdle on this square
+pub record IsRiskBehind (v : Siege) (from : ℕ) (r : Risk) : Type 0 where
+  pub siege : Siege
+  pub lifted : IsLifted v from siege
+  pub risk : IsRiskAt siege v.king r
+
+-- the same of the siege's king, and of the man who leaves his line
+pub record AreThreats (v : Siege) (r : Risk) (o : Option Leaving) : Type 0 where
   pub siege : IsSiege v
   pub risk : IsRiskAt v v.king r
+  pub leaving : IfSome o (λ l. IsRiskBehind v l.from l.risk)
 
 -- no man of the colour is a fairy man
 pub record HasNoFairy (men : List (Option Man)) (c : Colour) : Type 0 where
   pub none : (s : ℕ) (x : Man) → s < 64 → man_on men s ≡ Some x → x.colour ≡ c
       → is_fairy x.kind ≡ false
-
--- the rook in the corner has moved, or a man of the colour stands on the square beside the king
-abbrev pub IsShut : Position → Colour → ℕ → ℕ → Type 0
-IsShut p c corner next = (has_unmoved p.unmoved corner ≡ false) ⊎ (is_side (man_on p.men next) c ≡ true)
-
--- the colour's king has moved, or castling is shut on both sides
-pub record CannotCastle (p : Position) (c : Colour) : Type 0 where
-  pub stuck : (s : ℕ) → s < 64 → is_man (man_on p.men s) c King ≡ true
-      → (has_unmoved p.unmoved s ≡ false) ⊎ (IsShut p c (s + 3) (s + 1) × IsShut p c (s - 4) (s - 1))
 
 -- x neither castles nor goes two squares as a pawn nor comes to the crossed square
 pub record IsPlainMove (p : Position) (x : Man) (m : Move) : Type 0 where
@@ -253,8 +277,7 @@ pub record IsPlainMove (p : Position) (x : Man) (m : Move) : Type 0 where
   pub double : is_double_step x m ≡ false
   pub crossed : is_square p.crossed m.to ≡ false
 
--- threats are told: without Circe, against a side that has no fairy man and can't castle
+-- threats are told: without Circe, against a side that has no fairy man
 pub record IsTold (rule : RuleSet) (p : Position) : Type 0 where
   pub circe : is_circe rule ≡ false
   pub fairies : HasNoFairy p.men (other p.turn)
-  pub castling : CannotCastle p (other p.turn)

@@ -5,7 +5,8 @@ use Rattle.chess_mates.proofs.threats.is_of.Goals as goal
 
 pub returns : goal.returns
 returns c = λ yes.
-    let knights = and_parts _ _ yes in
+    let castled = and_parts _ _ yes in
+    let knights = and_parts _ _ castled.0 in
     let bishops = and_parts _ _ knights.0 in
     let rooks = and_parts _ _ bishops.0 in
     let queens = and_parts _ _ rooks.0 in
@@ -20,3 +21,4 @@ returns c = λ yes.
     (eqb-true _ _ kings.1 ∙ c.squares-2.ensures.word) (eqb-true _ _ queens.1 ∙ c.squares-3.ensures.word)
     (eqb-true _ _ rooks.1 ∙ c.squares-4.ensures.word) (eqb-true _ _ bishops.1 ∙ c.squares-5.ensures.word)
     (eqb-true _ _ knights.1 ∙ c.squares-6.ensures.word)
+    (rw (← eqb-true _ _ castled.1) at (c.castling_squares.ensures c.requires))

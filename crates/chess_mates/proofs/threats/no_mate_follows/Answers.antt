@@ -1,4 +1,4 @@
-use Rattle.chess_rules.proofs.Basics.{Some, ap, arith, not-true, sym, ◌<◌, ◌∙◌, ◌≡◌}
+use Rattle.chess_rules.proofs.Basics.{Some, ap, arith, not-true, rules, sym, ◌<◌, ◌∙◌, ◌≡◌}
 use Rattle.chess_rules.proofs.listing_moves.Calls.{is_pseudo_legal-from_legal}
 use Rattle.chess_mates.proofs.Chess.{Move, man_on}
 use Rattle.chess_mates.proofs.Sparing.{king_spared, line_spared, man_spared}
@@ -16,11 +16,11 @@ returns-then-is g c = λ yes.
     let here : man_on p.men m.from ≡ Some c.in-Some.man = ap (man_on p.men) (sym from) ∙ sym c.man_at.ensures ∙ c.in-Some.is in
     king_spared rule p m c.in-Some.man c.args.siege.now c.args.risk.now c.requires.well_formed
     (is_pseudo_legal-from_legal rule p m c.requires.legal) here c.requires.told small from_small (c.goes_plainly.ensures c.if-not-goes_plainly.false)
-    c.requires.fits c.requires.threats c.risk_at.result (sym c.is.ensures ∙ c.if-is.true) (rw to at c.risk_at.ensures)
+    c.requires.fits c.args.leaving.now c.requires.threats c.risk_at.result (sym c.is.ensures ∙ c.if-is.true) (rw to at c.risk_at.ensures)
     (rw to at (sym c.contains.ensures ∙ not-true _ yes))
 
-pub returns-then-contains : goal.returns-then-contains
-returns-then-contains g c = λ yes.
+pub returns-in-Some-leaving : goal.returns-in-Some-leaving
+returns-in-Some-leaving g c = λ yes.
     let rule = g.R.Rules.rule in
     let p = c.args.board.now in
     let m = c.args.m.now in
@@ -31,11 +31,11 @@ returns-then-contains g c = λ yes.
     let here : man_on p.men m.from ≡ Some c.in-Some.man = ap (man_on p.men) (sym from) ∙ sym c.man_at.ensures ∙ c.in-Some.is in
     line_spared rule p m c.in-Some.man c.args.siege.now c.args.risk.now c.requires.well_formed
     (is_pseudo_legal-from_legal rule p m c.requires.legal) here c.requires.told small from_small (c.goes_plainly.ensures c.if-not-goes_plainly.false)
-    c.requires.fits c.requires.threats (sym c.is.ensures ∙ c.if-is.false) c.risk_behind.result (rw from at c.risk_behind.ensures)
-    (rw to at (sym c.contains-then-contains.ensures ∙ not-true _ yes))
+    c.requires.fits c.args.leaving.now c.requires.threats (sym c.is.ensures ∙ c.if-is.false) c.in-Some-leaving.leaving.risk (search (rules, c.requires.threats.leaving, c.in-Some-leaving.is, c.if-eq.true, c.eq.ensures, from))
+    (rw to at (sym c.contains-in-Some-leaving.ensures ∙ not-true _ yes))
 
-pub returns : goal.returns
-returns g c = λ yes.
+pub returns-then-not-contains : goal.returns-then-not-contains
+returns-then-not-contains g c = λ yes.
     let rule = g.R.Rules.rule in
     let p = c.args.board.now in
     let m = c.args.m.now in
@@ -46,5 +46,5 @@ returns g c = λ yes.
     let here : man_on p.men m.from ≡ Some c.in-Some.man = ap (man_on p.men) (sym from) ∙ sym c.man_at.ensures ∙ c.in-Some.is in
     man_spared rule p m c.in-Some.man c.args.siege.now c.args.risk.now c.requires.well_formed
     (is_pseudo_legal-from_legal rule p m c.requires.legal) here c.requires.told small from_small (c.goes_plainly.ensures c.if-not-goes_plainly.false)
-    c.requires.fits c.requires.threats (sym c.is.ensures ∙ c.if-is.false) (rw from at (sym c.contains-2.ensures ∙ c.if-contains.false))
-    (rw to at (sym c.contains-3.ensures ∙ not-true _ yes))
+    c.requires.fits c.args.leaving.now c.requires.threats (sym c.is.ensures ∙ c.if-is.false) (rw from at (sym c.contains-2.ensures ∙ c.if-not-contains.true))
+    (rw to at (sym c.contains-then-not-contains.ensures ∙ not-true _ yes))
