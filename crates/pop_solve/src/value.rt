@@ -28,7 +28,6 @@ use arrayvec::ArrayVec;
 use chess_core::board::Board;
 use chess_core::man::Move;
 use chess_mates::aims::aims_at_king;
-use chess_mates::lasting_flights::keeps_flight;
 use chess_rules::legal_moves::LegalMoves;
 use chess_rules::moves::Moves;
 use chess_rules::rules::Rules;
@@ -310,7 +309,13 @@ fn close<R: Rules>(
 /// Whether White's last move of a selfmate, with `left` half-moves left behind it, is known to be followed by no mate, so
 /// that it needs no board. In a direct mate that isn't asked: there it costs as much as it saves.
 #[tactic(auto, using(crate::proofs::Boards::for_mate, crate::proofs::Boards::value_without_mates))]
-fn rules_out_mate<R: Rules>(aim: Aim, left: usize, by: &Move, board: &Board) -> bool
+fn rules_out_mate<R: Rules>(
+    aim: Aim,
+    left: usize,
+    by: &Move,
+    board: &Board,
+    killers: &mut Killers<R>,
+) -> bool
     requires well_formed { IsWellFormed board.now }
     requires legal { is_legal R.rule board.now by.now ≡ true }
     ensures last { result ≡ true → left ≡ 1 }
@@ -320,7 +325,7 @@ fn rules_out_mate<R: Rules>(aim: Aim, left: usize, by: &Move, board: &Board) -> 
     left == 1
         && aim.battle == Battle::Selfmate
         && is_for_mate(aim.goal)
-        && keeps_flight::<R>(board, by)
+        && killers.rule_out_mate(board, by)
 }
 
 /// Plays a move of the top frame, which `top` is once its place has moved on. A frame is opened where the
@@ -365,7 +370,7 @@ fn descend<R: Rules, const N: usize>(
 {
     frames.push(top);
     let left = top.left - 1;
-    if rules_out_mate::<R>(aim, left, &by, board) {
+    if rules_out_mate::<R>(aim, left, &by, board, killers) {
         *answer = Some(false);
         *opened = opened.saturating_add(1);
         return;
