@@ -17,7 +17,7 @@ use Rattle.chess_mates.specs.declared.threats.Risk.{Risk}
 use Rattle.chess_mates.specs.declared.threats.Siege.{Siege}
 use Rattle.chess_mates.specs.ties.Flights.{has_flight, is_flight, is_open}
 use Rattle.chess_mates.specs.ties.Flights.{is_flight_from}
-use Rattle.chess_mates.specs.ties.Threats.{AreArrivals, AreAttackers, AreCastlingSquares, AreGuardsWithout, AreHurdles, AreReached, AreThreats, AreWeak, HasNoFairy, IsArrival, IsAttacker, IsCastlingHarmless, IsCheckWord, IsField, IsFlight, IsHarmless, IsLeft, IsLifted, IsMet, IsMild, IsNoCheck, IsOff, IsOpenReach, IsPlainMove, IsQuiet, IsReached, IsRiskAt, IsRiskBehind, IsShut, IsSiege, IsSiegeOf, IsTold, IsUnguarded, IsWeak, IsWeakAt, LeavesOne, is_leaper, is_rider, men_on, squares_for}
+use Rattle.chess_mates.specs.ties.Threats.{AreArrivals, AreAttackers, AreCastlingSquares, AreGuardsWithout, AreHurdles, AreReached, AreThreats, AreWeak, HasNoFairy, IsArrival, IsAttacker, IsCastlingHarmless, IsCheckWord, IsField, IsFlight, IsHarmless, IsLeft, IsLifted, IsMet, IsMild, IsNoCheck, IsOff, IsOpenReach, IsPassing, IsPlainMove, IsQuiet, IsReached, IsRiskAt, IsRiskBehind, IsShut, IsSiege, IsSiegeOf, IsTold, IsUnguarded, IsWeak, IsWeakAt, LeavesOne, is_leaper, is_rider, men_on, squares_for}
 use Rattle.chess_mates.specs.ties.Threats.{reached_over}
 use Rattle.chess_rules.proofs.Bits.{off_left, off_right, on_left, on_right, word_has}
 use Rattle.chess_rules.proofs.Tests.{find_no, some_is}
@@ -36,6 +36,7 @@ use Rattle.chess_rules.proofs.making_moves.Stays.{after_well_formed, maker}
 use Rattle.chess_mates.proofs.Hurdles.{all_reach, later, man_is, queen_more, reached_is, reaches_back}
 use Rattle.chess_rules.proofs.listing_moves.Walks.{off_second}
 use Rattle.std.proofs.lemmas.Nat.Bits.{bit_at_not}
+use Rattle.chess_mates.proofs.Chess.{AreApproaches, halfway, same_kind-is}
 use Rattle.chess_mates.proofs.CheckTargets.{last_rank_on}
 use Rattle.chess_mates.proofs.FarMen.{off_denied, on_either}
 use Rattle.chess_mates.proofs.KingsApart.{kings_apart}
@@ -515,3 +516,24 @@ siege_fits p v well colour king own enemies kings queens rooks bishops knights p
   castled = subst (λ (c : Colour). AreCastlingSquares p c v.castled) colour castled;
 }
 
+
+-- a pawn that passes
+same_self : (c : Colour) → same_colour c c ≡ true
+same_self c = grind arith
+
+pub passing_none : (p : Position) (x : Man) (m : Move) → is_double_step x m ≡ false → IsPassing p x m
+passing_none p x m single = record { freely = λ double. absurd (false≢true (sym single ∙ double)) }
+
+pub passing_freely : (p : Position) (x : Man) (m : Move) (h o w l : ℕ) → h ≡ halfway m → o ≡ word (λ t. is_square (Some h) t)
+    → AreApproaches (record { colour = other p.turn; kind = Pawn }) o w → l ≡ squares_of p.men (other p.turn) Pawn → bit_and w l ≡ 0 → IsPassing p x m
+unfolding squares_of
+passing_freely p x m h o w l same only near pawns none = record {
+  freely = λ double q s z small low here enemy pawn. false_by _ (λ goes.
+      let kind : z.kind ≡ Pawn = same_kind-is z.kind Pawn pawn in
+      let there : (bit_at o (halfway m) == 1) ≡ true = word_has (λ t. is_square (Some h) t) o (halfway m) only low ∙ eq-eqb h (halfway m) same in
+      let from : (bit_at w s == 1) ≡ true = near.approach q s (halfway m) small low (rw (← man_is z (other p.turn) Pawn enemy kind) at goes) there in
+      let stands : (bit_at l s == 1) ≡ true = word_has (λ t. is_man (man_on p.men t) (other p.turn) Pawn) l s pawns small
+          ∙ ap (λ (o : Option Man). is_man o (other p.turn) Pawn) here
+          ∙ and_from _ _ (ap (λ (c : Colour). same_colour c (other p.turn)) enemy ∙ same_self (other p.turn)) pawn in
+      none_at (bit_and w l) s none (on_both w l s from stands));
+}

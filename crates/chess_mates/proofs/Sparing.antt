@@ -100,16 +100,16 @@ unfolding capture_square
 captured_there p x m s off h = grind (arith, and_right, cond-false, cond-true)
 
 -- who stands elsewhere than where the man leaves and arrives stays
-stays_there : (p : Position) (x : Man) (m : Move) (b : ℕ) → is_square p.crossed m.to ≡ false → b ≢ m.from → b ≢ m.to
+stays_there : (p : Position) (x : Man) (m : Move) (b : ℕ) → ((s : ℕ) → capture_square p x m ≡ Some s → s ≡ m.to) → b ≢ m.from → b ≢ m.to
     → man_on (arrived p x m) b ≡ man_on p.men b
-stays_there p x m b off from to = arrived_other p x m b from (λ s cap e. to (e ∙ captured_there p x m s off cap)) to
+stays_there p x m b here from to = arrived_other p x m b from (λ s cap e. to (e ∙ here s cap)) to
 
 -- who stands elsewhere than where the man leaves stays or is captured by him
-some_stays : (p : Position) (x : Man) (m : Move) (b : ℕ) → is_square p.crossed m.to ≡ false → m.to < length p.men → b ≢ m.from
+some_stays : (p : Position) (x : Man) (m : Move) (b : ℕ) → ((s : ℕ) → capture_square p x m ≡ Some s → s ≡ m.to) → m.to < length p.men → b ≢ m.from
     → is_some (man_on p.men b) ≡ true → is_some (man_on (arrived p x m) b) ≡ true
-some_stays p x m b off size from some = elim (cases_eq b m.to) [
+some_stays p x m b here size from some = elim (cases_eq b m.to) [
   | inl e ↦ ap (λ (o : Option Man). is_some o) (ap (man_on (arrived p x m)) e ∙ there_now p.men m.from (capture_square p x m) m.to (arriving_man x m.promo) size)
-  | inr ne ↦ ap (λ (o : Option Man). is_some o) (stays_there p x m b off from ne) ∙ some
+  | inr ne ↦ ap (λ (o : Option Man). is_some o) (stays_there p x m b here from ne) ∙ some
 ]
 
 some_side : (o : Option Man) (c : Colour) → is_side o c ≡ true → is_some o ≡ true
@@ -230,9 +230,12 @@ module _ (rule : RuleSet) (p : Position) (m : Move) (x : Man) (v : Siege) (k : �
   king_q : king_square q.men p.turn ≡ Some k
   king_q = ap (λ (l : List (Option Man)). king_square l p.turn) men_q ∙ king_is_after rule p x m well is small i.plain.castling ∙ king
 
-  crossed_q : q.crossed ≡ None
+  crossed_q : q.crossed ≡ (if is_double_step x m then Some (halfway m) else None)
   unfolding position_after after_by
-  crossed_q = rw (here, i.plain.double) refl
+  crossed_q = rw here refl
+
+  captures_p : (s : ℕ) → capture_square p x m ≡ Some s → s ≡ m.to
+  captures_p s cap = captured_there p x m s i.plain.crossed cap
 
   stood_q : (s : ℕ) (z : Man) → man_on q.men s ≡ Some z
       → ((s ≡ m.to) × (z ≡ arriving_man x m.promo)) ⊎ ((s ≢ m.to) × ((s ≢ m.from) × (man_on p.men s ≡ Some z)))
@@ -261,7 +264,7 @@ module _ (rule : RuleSet) (p : Position) (m : Move) (x : Man) (v : Siege) (k : �
   stays_q : (e : ℕ) → e < 64 → (bit_at v.hurdles e == 1) ≡ true → e ≢ m.from → is_some (man_on q.men e) ≡ true
   stays_q e inside on left =
       ap (λ (l : List (Option Man)). is_some (man_on l e)) men_q
-      ∙ some_stays p x m e i.plain.crossed (omega (arith, small, well.size)) left (some_p e inside on)
+      ∙ some_stays p x m e captures_p (omega (arith, small, well.size)) left (some_p e inside on)
 
   at_k : k < 64
   at_k = (king_there q.men p.turn k king_q).0
@@ -347,9 +350,6 @@ module _ (rule : RuleSet) (p : Position) (m : Move) (x : Man) (v : Siege) (k : �
     w : IsWeakAt v g y n.from m.from m.to
     w = weak_at n.from y is_y
 
-    uncrossed : is_square q.crossed n.to ≡ false
-    uncrossed = ap (λ (o : Option ℕ). is_square o n.to) crossed_q
-
     shuts : (corner next : ℕ) → IsShut p (other p.turn) v.castled corner next → has_unmoved q.unmoved corner ≡ true → man_on q.men next ≡ None → next < 64
         → (bit_at v.castled next == 1) ≡ true
     shuts corner next (inl moved) unmoved none low =
@@ -357,7 +357,7 @@ module _ (rule : RuleSet) (p : Position) (m : Move) (x : Man) (v : Siege) (k : �
     shuts corner next (inr (inl stands)) unmoved none low =
         let off : next ≢ m.from = λ e. false≢true (sym (not_mine_enemy x p.turn is.mine) ∙ sym (ap (λ (o : Option Man). is_side o (other p.turn)) (ap (man_on p.men) e ∙ here)) ∙ stands) in
         absurd (false≢true (sym (ap (λ (o : Option Man). is_some o) none) ∙ ap (λ (l : List (Option Man)). is_some (man_on l next)) men_q
-        ∙ some_stays p x m next i.plain.crossed (omega (arith, small, well.size)) off (some_side _ (other p.turn) stands)))
+        ∙ some_stays p x m next captures_p (omega (arith, small, well.size)) off (some_side _ (other p.turn) stands)))
     shuts corner next (inr (inr on)) unmoved none low = on low
 
     -- castling gives no check
@@ -436,6 +436,22 @@ module _ (rule : RuleSet) (p : Position) (m : Move) (x : Man) (v : Siege) (k : �
     goes_y : may_go q y n.from n.to ≡ true
     goes_y = may_go_aimed rule q y n here_y (arrival_needed rule q n to can)
 
+    -- nobody is captured en passant
+    uncrossed : same_kind y.kind Pawn ≡ true → is_square q.crossed n.to ≡ false
+    uncrossed pawn = ap (λ (o : Option ℕ). is_square o n.to) crossed_q ∙ elim (cases_Bool (is_double_step x m)) [
+      | inr single ↦ ap (λ (b : Bool). is_square (if b then Some (halfway m) else None) n.to) single
+      | inl double ↦ ap (λ (b : Bool). is_square (if b then Some (halfway m) else None) n.to) double ∙ false_by _ (λ h.
+          let at : halfway m ≡ n.to = eqb-true (halfway m) n.to h in
+          let low : halfway m < 64 = omega (arith, at, to) in
+          false≢true (sym (i.plain.passing.freely double q n.from y from_small low stood_y enemy_y pawn) ∙ ap (λ (t : ℕ). may_go q y n.from t) at ∙ goes_y))
+    ]
+
+    captures_q : (s : ℕ) → capture_square q y n ≡ Some s → s ≡ n.to
+    captures_q s cap = elim (cases_Bool (same_kind y.kind Pawn)) [
+      | inl pawn ↦ captured_there q y n s (uncrossed pawn) cap
+      | inr piece ↦ capture_of_piece q y n s piece cap
+    ]
+
     module _ (plain_n : is_castling y n ≡ false) where
       abbrev r : Position
       r = position_after rule q n
@@ -489,7 +505,7 @@ module _ (rule : RuleSet) (p : Position) (m : Move) (x : Man) (v : Siege) (k : �
             let left : n.to ≢ m.from = λ e. false≢true (sym (not_mine_enemy x p.turn is.mine)
                 ∙ sym (ap (λ (o : Option Man). is_side o (other p.turn)) (ap (man_on p.men) e ∙ here)) ∙ enemy) in
             let kept : man_on q.men n.to ≡ man_on p.men n.to =
-                ap (λ (l : List (Option Man)). man_on l n.to) men_q ∙ stays_there p x m n.to i.plain.crossed left (λ e. ne (sym e)) in
+                ap (λ (l : List (Option Man)). man_on l n.to) men_q ∙ stays_there p x m n.to captures_p left (λ e. ne (sym e)) in
             absurd (unfree (other p.turn) (man_on q.men n.to) (ap (λ (c : Colour). is_arrival_free c (man_on q.men n.to)) (sym turn_q) ∙ is_n.arrival)
             (ap (λ (o : Option Man). is_side o (other p.turn)) kept ∙ enemy))
       ]
@@ -498,7 +514,7 @@ module _ (rule : RuleSet) (p : Position) (m : Move) (x : Man) (v : Siege) (k : �
       stays_r : (e : ℕ) → e < 64 → (bit_at v.hurdles e == 1) ≡ true → e ≢ m.from → e ≢ n.from → is_some (man_on r.men e) ≡ true
       stays_r e inside on left off =
           ap (λ (l : List (Option Man)). is_some (man_on l e)) men_r
-          ∙ some_stays q y n e uncrossed (omega (arith, to, well_q.size)) off (stays_q e inside on left)
+          ∙ some_stays q y n e captures_q (omega (arith, to, well_q.size)) off (stays_q e inside on left)
 
       -- on a board where they stay
       module _ (men : List (Option Man)) (stays : (e : ℕ) → e < 64 → (bit_at v.hurdles e == 1) ≡ true → e ≢ m.from → e ≢ n.from → is_some (man_on men e) ≡ true)

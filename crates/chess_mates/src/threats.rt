@@ -8,13 +8,13 @@ ghost use Rattle.chess_core.specs.Position.{other};
 ghost use Rattle.chess_core.specs.WellFormed.{IsWellFormed};
 ghost use Rattle.chess_core.specs.declared.man.Man.{Man};
 ghost use Rattle.chess_mates.specs.ties.Mates.{mates_behind};
-ghost use Rattle.chess_mates.specs.ties.Threats.{AreArrivals, AreCastlingSquares, AreGuardsWithout, AreHurdles, AreReached, AreThreats, AreWeak, HasNoFairy, IsAttacker, IsCastlingHarmless, IsCheckWord, IsField, IsHarmless, IsLeft, IsLifted, IsMet, IsNoCheck, IsOff, IsOpenReach, IsPlainMove, IsReached, IsRiskAt, IsRiskBehind, IsSiege, IsSiegeOf, IsTold, IsWeak, LeavesOne, is_leaper, is_rider};
+ghost use Rattle.chess_mates.specs.ties.Threats.{AreArrivals, AreCastlingSquares, AreGuardsWithout, AreHurdles, AreReached, AreThreats, AreWeak, HasNoFairy, IsAttacker, IsCastlingHarmless, IsCheckWord, IsField, IsHarmless, IsLeft, IsLifted, IsMet, IsNoCheck, IsOff, IsOpenReach, IsPassing, IsPlainMove, IsReached, IsRiskAt, IsRiskBehind, IsSiege, IsSiegeOf, IsTold, IsWeak, LeavesOne, is_leaper, is_rider};
 ghost use Rattle.chess_rules.specs.Legal.{is_legal};
 ghost use Rattle.chess_rules.specs.Play.{is_castling, is_double_step, position_after};
 ghost use Rattle.chess_rules.specs.RuleSet.{is_circe};
 ghost use Rattle.chess_rules.specs.ties.Targets.{arrives};
 
-use crate::open_board::open_targets;
+use crate::open_board::{open_targets, pawns_before};
 use chess_core::board::Board;
 use chess_core::man::{Colour, Kind, Man, Move};
 use chess_core::square::Square;
@@ -558,11 +558,23 @@ fn is_double_step(man: Man, m: &Move) -> bool
         && (m.from.rank() + 2 == m.to.rank() || m.to.rank() + 2 == m.from.rank())
 }
 
-// Whether the man neither castles nor goes two squares as a pawn nor captures en passant.
+// Whether the move passes no square to which an enemy pawn might come then: it is no double step, or none is near.
+fn passes_freely(board: &Board, man: Man, m: &Move) -> bool
+    ensures { result ≡ true → IsPassing board.now man m.now }
+{
+    if !is_double_step(man, m) {
+        return true;
+    }
+    let enemy = board.turn().other();
+    let halfway = Square::numbered((m.from.index() + m.to.index()) / 2);
+    pawns_before(enemy, only(Some(halfway))) & board.squares(enemy, Kind::Pawn) == 0
+}
+
+// Whether the man neither castles nor captures en passant, nor may be captured so.
 fn goes_plainly(board: &Board, man: Man, m: &Move) -> bool
     ensures { result ≡ true → IsPlainMove board.now man m.now }
 {
-    !is_castling(man, m) && !is_double_step(man, m) && board.crossed() != Some(m.to)
+    !is_castling(man, m) && board.crossed() != Some(m.to) && passes_freely(board, man, m)
 }
 
 // The risk of a defender who leaves a line on which he is a hurdle.
@@ -632,6 +644,9 @@ fn no_mate_follows<R: Rules>(
     }
 }
 
+// Against so many men or fewer threats aren't told.
+const FEW_MEN: u32 = 7;
+
 /// What the side that isn't to move threatens: the squares that the defender mustn't come to lest a reply may mate. It
 /// holds of each position with the same men and castlings and the same side to move.
 #[derive(Drop)]
@@ -662,16 +677,17 @@ impl Threats {
         }
     }
 
-    /// Whether they are told at all: not in Circe, nor where the side that isn't to move has a grasshopper or a
-    /// nightrider.
+    /// Whether they are told at all: not in Circe, nor where the side that isn't to move has a grasshopper or a nightrider,
+    /// or few men: there `keeps_flight` takes less time.
     pub fn are_told<R: Rules>(board: &Board) -> bool
         ensures { result ≡ true → IsTold R.rule board.now }
     {
-        !R::is_circe() && has_no_fairy(board, board.turn().other())
+        let enemy = board.turn().other();
+        !R::is_circe() && board.side(enemy).count_ones() > FEW_MEN && has_no_fairy(board, enemy)
     }
 
     /// Whether no reply to this move mates. `Some(false)` says nothing: so it answers where kings castle or capture, and
-    /// after double steps and captures en passant. `None`: these are the threats of another position.
+    /// where a pawn captures en passant or may be captured so. `None`: these are the threats of another position.
     pub fn rule_out_mate<R: Rules>(&mut self, board: &Board, m: &Move) -> Option<bool>
         requires well_formed { IsWellFormed board.now }
         requires legal { is_legal R.rule board.now m.now ≡ true }

@@ -10,6 +10,7 @@ ghost use Rattle.pop_solve.specs.declared.aim.Battle.TheVariants.{Direct};
 use crate::aim::Battle;
 use chess_core::board::Board;
 use chess_core::man::Move;
+use chess_mates::lasting_flights::keeps_flight;
 use chess_mates::threats::Threats;
 use chess_rules::moves::Moves;
 use chess_rules::rules::Rules;
@@ -83,8 +84,8 @@ impl<R: Rules> Killers<R> {
         }
     }
 
-    /// Whether the threats in the board's position, which are kept for its other moves, tell that no reply to this move
-    /// mates. `false` says nothing.
+    /// Whether no reply to this move mates, told by the threats in the board's position, which are kept for its other moves,
+    /// or by `keeps_flight`. `false` says nothing.
     pub fn rule_out_mate(&mut self, board: &Board, m: &Move) -> bool
         requires well_formed { IsWellFormed board.now }
         requires legal { is_legal R.rule board.now m.now ≡ true }
@@ -92,7 +93,7 @@ impl<R: Rules> Killers<R> {
             → mates_behind R.rule (position_after R.rule board.now m.now) 0 ≡ [] }
     {
         if !Threats::are_told::<R>(board) {
-            return false;
+            return keeps_flight::<R>(board, m);
         }
         if let Some(threats) = &mut self.threats {
             if let Some(ruled_out) = threats.rule_out_mate::<R>(board, m) {

@@ -19,7 +19,7 @@ use Rattle.chess_mates.specs.declared.threats.Guards.{Guards}
 use Rattle.chess_mates.specs.declared.threats.Leaving.{Leaving}
 use Rattle.chess_mates.specs.declared.threats.Risk.{Risk}
 use Rattle.chess_mates.specs.declared.threats.Siege.{Siege}
-use Rattle.chess_rules.specs.Play.{is_castling, is_double_step}
+use Rattle.chess_rules.specs.Play.{halfway, is_castling, is_double_step}
 use Rattle.chess_rules.specs.Reaches.{leaps, reaches_as}
 use Rattle.chess_rules.specs.RuleSet.{RuleSet, is_circe}
 use Rattle.chess_rules.specs.ties.Lines.{is_on_some}
@@ -271,11 +271,17 @@ pub record HasNoFairy (men : List (Option Man)) (c : Colour) : Type 0 where
   pub none : (s : ℕ) (x : Man) → s < 64 → man_on men s ≡ Some x → x.colour ≡ c
       → is_fairy x.kind ≡ false
 
--- x neither castles nor goes two squares as a pawn nor comes to the crossed square
+-- if x goes two squares as a pawn, no enemy pawn might come to the square between
+pub record IsPassing (p : Position) (x : Man) (m : Move) : Type 0 where
+  pub freely : is_double_step x m ≡ true → (q : Position) (s : ℕ) (z : Man) → s < 64
+      → halfway m < 64 → man_on p.men s ≡ Some z → z.colour ≡ other p.turn
+      → same_kind z.kind Pawn ≡ true → may_go q z s (halfway m) ≡ false
+
+-- x neither castles nor comes to the crossed square, and passes freely
 pub record IsPlainMove (p : Position) (x : Man) (m : Move) : Type 0 where
   pub castling : is_castling x m ≡ false
-  pub double : is_double_step x m ≡ false
   pub crossed : is_square p.crossed m.to ≡ false
+  pub passing : IsPassing p x m
 
 -- threats are told: without Circe, against a side that has no fairy man
 pub record IsTold (rule : RuleSet) (p : Position) : Type 0 where
