@@ -18,5 +18,9 @@ pub mod LastingFlights
 pub mod HoldBelow
 pub mod Hurdles
 pub mod Risks
+pub mod Sieges
+pub mod Standing
+pub mod QuietCastling
 pub mod Sparing
+pub mod Ways
 pub mod Excluded

@@ -1,200 +1,35 @@
 -- No reply mates after a defender's move without risk.
-use Rattle.chess_rules.proofs.Basics.{Bool, List, None, Option, Some, [], ◌∷◌, and_from, and_left, and_parts, and_right, ap, arith, bit_and, bit_at, bit_at-lt, bit_at_and, bit_not, bit_or, cases_Bool, cases_eq, cases_lt, cond-true, cond-false, eq-eqb, eqb-true, false, false_from_ne_true, false≢true, find, if◌then◌else◌, get_or-map-range_with_len, inl, inr, is_some, length, length-map-range_with_len, list_all, list_any, list_any-append, map, not, not-true, or_cases, or_left, or_lt, or_parts, or_right, range_with_len, refl, rules, subst, suc, sym, true, true_from_ne_false, w64, zero, ℕ, ◌&&◌, ◌+◌, ◌-◌, ◌<◌, ◌≤◌, ◌==◌, ◌^◌, ◌||◌, ◌∙◌, ◌≡◌, ◌≢◌, ◌⊎◌}
-use Rattle.chess_mates.proofs.Chess.{Bishop, Colour, Grasshopper, HaveNone, IsWellFormed, Kind, King, Knight, Man, Move, Nightrider, Pawn, Position, Queen, Rook, RuleSet, Step, White, all_at, along, any_range_cases, any_range_false, arrives, arriving_man, capture_square, corner, diagonal_steps, find_first, halfway, in_check, is_absent, is_arrival_free, is_attacked, is_attacked_at, is_castling, is_circe, is_clear, is_diagonal, is_fairy, is_legal, is_man, is_on_some, is_pseudo_legal, is_side, is_square, is_vacant, king_after, king_square, knight_steps, leaps, man_on, mates, mates_behind, may_castle, may_check_from, may_check_from_on, may_go, occupied_squares, other, pawn_captures, position_after, queen_steps}
-use Rattle.chess_mates.proofs.Chess.{after_by, castles, reaches, reaches_as, reaches_of, reborn_square, rides, same_colour, same_colour-true, same_kind, side_of, some_square_false, some_square_true, squares, squares_of, squares_same, straight_steps, strikes, triple_at, word}
-use Rattle.chess_core.proofs.Ranges.{all_range_true, any_range_true}
-use Rattle.chess_core.proofs.Words.{square_word}
-use Rattle.chess_core.specs.ties.Words.{bit_of}
-use Rattle.chess_core.proofs.Castlings.{has_unmoved-parts}
-use Rattle.chess_core.specs.Castling.{has_unmoved, without_unmoved}
-use Rattle.chess_rules.specs.Legal.{goes, is_promotion_right}
-use Rattle.chess_rules.specs.Play.{unmoved_after}
-use Rattle.chess_rules.specs.Play.{is_double_step, unmoved_without_at, unmoved_with_rook}
-use Rattle.chess_mates.specs.declared.threats.Attackers.{Attackers}
+use Rattle.chess_rules.proofs.Basics.{Bool, List, None, Option, Some, [], and_from, and_left, and_parts, and_right, ap, arith, bit_at, cases_Bool, cases_eq, eqb-true, false, false_from_ne_true, false≢true, if◌then◌else◌, inl, inr, is_some, list_any, not, or_parts, refl, subst, sym, true, ℕ, ◌-◌, ◌<◌, ◌==◌, ◌∙◌, ◌≡◌, ◌≢◌, ◌⊎◌}
+use Rattle.chess_mates.proofs.Chess.{Colour, IsWellFormed, Kind, King, Man, Move, Pawn, Position, RuleSet, arriving_man, capture_square, corner, halfway, in_check, is_absent, is_arrival_free, is_attacked, is_attacked_at, is_castling, is_circe, is_fairy, is_legal, is_man, is_on_some, is_pseudo_legal, is_side, is_square, king_after, king_square, leaps, man_on, mates, mates_behind, may_check_from, may_go, other, position_after, queen_steps}
+use Rattle.chess_mates.proofs.Chess.{after_by, reaches_as, same_colour, same_colour-true, same_kind, side_of, some_square_true, straight_steps, strikes, triple_at, word}
+use Rattle.chess_core.specs.Castling.{has_unmoved}
+use Rattle.chess_rules.specs.Play.{is_double_step}
 use Rattle.chess_mates.specs.declared.threats.Field.{Field}
-use Rattle.chess_mates.specs.declared.threats.Guards.{Guards}
-use Rattle.chess_mates.specs.declared.threats.Leaving.{Leaving}
 use Rattle.chess_mates.specs.declared.threats.Risk.{Risk}
 use Rattle.chess_mates.specs.declared.threats.Siege.{Siege}
 use Rattle.chess_mates.specs.ties.Flights.{has_flight, is_flight, is_open}
 use Rattle.chess_mates.specs.ties.Flights.{is_flight_from}
-use Rattle.chess_mates.specs.ties.Threats.{AreArrivals, AreAttackers, AreCastlingSquares, AreGuardsWithout, AreHurdles, AreReached, AreThreats, AreWeak, HasNoFairy, IsArrival, IsAttacker, IsCastlingHarmless, IsCheckWord, IsField, IsFlight, IsHarmless, IsLeft, IsLifted, IsMet, IsMild, IsNoCheck, IsOff, IsOpenReach, IsPlainMove, IsQuiet, IsReached, IsRiskAt, IsRiskBehind, IsShut, IsSiege, IsSiegeOf, IsTold, IsUnguarded, IsWeak, IsWeakAt, LeavesOne, is_leaper, is_rider, men_on, squares_for}
+use Rattle.chess_mates.specs.ties.Threats.{HasNoFairy, IsArrival, IsAttacker, IsCastlingHarmless, IsCheckWord, IsFlight, IsOff, IsPlainMove, IsQuiet, IsRiskAt, IsShut, IsSiege, IsSiegeOf, IsUnguarded, IsWeakAt, is_rider, men_on, squares_for}
 use Rattle.chess_mates.specs.ties.Threats.{reached_over}
-use Rattle.chess_rules.proofs.Bits.{off_left, off_right, on_left, on_right, word_has}
-use Rattle.chess_rules.proofs.Tests.{find_no, some_is}
-use Rattle.chess_rules.proofs.rays.Flips.{diagonal-back, king-back, knight-back, nightrider-back, pawn-back, queen_rides-back, straight-back}
+use Rattle.chess_rules.proofs.Bits.{word_has}
 use Rattle.chess_rules.proofs.attacks.Exposing.{king_is_after}
-use Rattle.chess_rules.proofs.attacks.Seeing.{kept_now, king_stands, left_now, there_now}
-use Rattle.chess_rules.proofs.attacks.Shielding.{arriving_colour, king_is, man_there, other_differs, other_twice, simple_after}
+use Rattle.chess_rules.proofs.attacks.Seeing.{king_stands, there_now}
+use Rattle.chess_rules.proofs.attacks.Shielding.{arriving_colour, man_there, other_twice, simple_after}
 use Rattle.chess_rules.proofs.attacks.StayingInCheck.{king_there}
 use Rattle.chess_rules.proofs.listing_moves.Arrivals.{may_go_aimed}
-use Rattle.chess_rules.proofs.listing_moves.Targeting.{arrival_needed, every_square_on, false_by}
-use Rattle.chess_rules.proofs.listing_moves.Calls.{is_pseudo_legal-from_legal}
+use Rattle.chess_rules.proofs.listing_moves.Targeting.{arrival_needed, false_by}
 use Rattle.chess_rules.proofs.rays.Ends.{square_is}
-use Rattle.chess_rules.proofs.making_moves.Fits.{arrived, arrived_other, capture_of_piece, castle_of, kind_is_king, king_no_step, taken}
-use Rattle.chess_rules.proofs.making_moves.Pseudo.{IsCastle, IsMade, king_is_no_pawn, made, on_board}
+use Rattle.chess_rules.proofs.making_moves.Fits.{arrived, arrived_other, capture_of_piece, castle_of, kind_is_king, taken}
+use Rattle.chess_rules.proofs.making_moves.Pseudo.{IsCastle, IsMade, made, on_board}
 use Rattle.chess_rules.proofs.making_moves.Stays.{after_well_formed, maker}
-use Rattle.chess_mates.proofs.Hurdles.{all_reach, later, man_is, queen_more, reached_is, reaches_back}
-use Rattle.chess_rules.proofs.listing_moves.Walks.{off_second}
-use Rattle.std.proofs.lemmas.Nat.Bits.{bit_at_not}
-use Rattle.chess_mates.proofs.CheckTargets.{last_rank_on}
-use Rattle.chess_mates.proofs.FarMen.{off_denied, on_either}
+use Rattle.chess_mates.proofs.Hurdles.{later, queen_more, reaches_back}
 use Rattle.chess_mates.proofs.KingsApart.{kings_apart}
-use Rattle.chess_rules.proofs.listing_moves.Walks.{off_zero, on_first}
-use Rattle.chess_mates.proofs.Fleeing.{IsKingOn, IsKingStep, king_on, no_king_free, no_mate_with_flight, no_strike, step_is_legal, step_to, unseen_bit}
+use Rattle.chess_mates.proofs.Fleeing.{IsKingOn, IsKingStep, king_on, no_king_free, no_mate_with_flight, step_is_legal, step_to}
 use Rattle.chess_mates.proofs.Mating.{mates_behind-end, mates_behind-none, no_mate_quietly, not_mating, turn_after}
-use Rattle.chess_mates.proofs.OpenBoard.{rides_on}
-use Rattle.chess_mates.proofs.CastlingChecks.{castling_gives_no_check}
 use Rattle.chess_rules.proofs.attacks.Shielding.{man_there}
-use Rattle.chess_mates.proofs.Chess.{halfway, is_ahead, is_on_fairy_line, is_on_fairy_line_to, may_expose, may_expose_on, may_stand_between, same_kind-is}
-use Rattle.chess_rules.proofs.Chess.{is_lined, is_reached, is_shut}
-use Rattle.chess_rules.proofs.Basics.{or_from}
-
--- who stands on a square once a move is made: the man that came, or who stood there
-stood : (p : Position) (x : Man) (m : Move) (t : ℕ) (z : Man) → m.to < length p.men → man_on (arrived p x m) t ≡ Some z
-    → ((t ≡ m.to) × (z ≡ arriving_man x m.promo)) ⊎ ((t ≢ m.to) × ((t ≢ m.from) × (man_on p.men t ≡ Some z)))
-stood p x m t z size there = elim (cases_eq t m.to) [
-  | inl e ↦
-      let came : man_on (arrived p x m) t ≡ Some (arriving_man x m.promo) = ap (man_on (arrived p x m)) e ∙ there_now p.men m.from (capture_square p x m) m.to
-      (arriving_man x m.promo) size in
-      let same : Some z ≡ Some (arriving_man x m.promo) = sym there ∙ came in
-      inl (e, cc)
-  | inr ne ↦ elim (cases_Bool (is_square (Some m.from) t || is_square (capture_square p x m) t)) [
-    | inl gone ↦ absurd (let none = left_now p.men m.from (capture_square p x m) m.to (arriving_man x m.promo) t ne gone in cc)
-    | inr kept ↦
-        inr (
-          ne,
-          (
-            (λ e. false≢true (sym (or_parts _ _ kept).0 ∙ eq-eqb m.from t (sym e))),
-            sym (kept_now p.men m.from (capture_square p x m) m.to (arriving_man x m.promo) t ne kept) ∙ there,
-          ),
-        )
-  ]
-]
-
-apart : (c : Colour) → same_colour (other c) c ≡ false
-apart c = grind arith
-
-self : (c : Colour) → same_colour c c ≡ true
-self c = grind arith
-
-not_mine : (x : Man) (c : Colour) → x.colour ≡ other c → same_colour x.colour c ≡ false
-not_mine x c e = ap (λ (d : Colour). same_colour d c) e ∙ apart c
-
-free_man : (c : Colour) (o : Option Man) → is_side o c ≡ false → is_man o (other c) King ≡ false → is_arrival_free c o ≡ true
-free_man c o side king = grind (arith, false≢true)
-
-unfree : (c : Colour) (o : Option Man) → is_arrival_free c o ≡ true → is_side o c ≡ true → ⊥
-unfree c o free side = grind (arith, and_parts, not-true, false≢true)
-
-unnamed : (p : Position) (x : Man) (m : Move) (o : Option Kind) → arrives x m.to ≡ false → is_promotion_right p x m o ≡ true → o ≡ None
-unnamed p x m o off right = grind (arith, and_parts)
-
-arrival_small : (i : ℕ) → (triple_at i).to < 64
-unfolding triple_at
-arrival_small i = omega arith
-
--- nobody is captured but where the man arrives
-captured_there : (p : Position) (x : Man) (m : Move) (s : ℕ) → is_square p.crossed m.to ≡ false → capture_square p x m ≡ Some s → s ≡ m.to
-unfolding capture_square
-captured_there p x m s off h = grind (arith, and_right, cond-false, cond-true)
-
--- who stands elsewhere than where the man leaves and arrives stays
-stays_there : (p : Position) (x : Man) (m : Move) (b : ℕ) → ((s : ℕ) → capture_square p x m ≡ Some s → s ≡ m.to) → b ≢ m.from → b ≢ m.to
-    → man_on (arrived p x m) b ≡ man_on p.men b
-stays_there p x m b here from to = arrived_other p x m b from (λ s cap e. to (e ∙ here s cap)) to
-
--- who stands elsewhere than where the man leaves stays or is captured by him
-some_stays : (p : Position) (x : Man) (m : Move) (b : ℕ) → ((s : ℕ) → capture_square p x m ≡ Some s → s ≡ m.to) → m.to < length p.men → b ≢ m.from
-    → is_some (man_on p.men b) ≡ true → is_some (man_on (arrived p x m) b) ≡ true
-some_stays p x m b here size from some = elim (cases_eq b m.to) [
-  | inl e ↦ ap (λ (o : Option Man). is_some o) (ap (man_on (arrived p x m)) e ∙ there_now p.men m.from (capture_square p x m) m.to (arriving_man x m.promo) size)
-  | inr ne ↦ ap (λ (o : Option Man). is_some o) (stays_there p x m b here from ne) ∙ some
-]
-
-some_side : (o : Option Man) (c : Colour) → is_side o c ≡ true → is_some o ≡ true
-some_side o c h = grind (arith, false≢true)
-
--- a square that isn't unmoved isn't after a move without rebirth
-no_rebirth : (rule : RuleSet) (p : Position) (x : Man) (m : Move) → is_circe rule ≡ false → reborn_square rule p x m ≡ None
-unfolding reborn_square
-no_rebirth rule p x m circe = grind arith
-
-unmoved_before : (p : Position) (x : Man) (m : Move) (t : ℕ)
-    → has_unmoved (unmoved_without_at (without_unmoved (without_unmoved p.unmoved m.from) m.to) (capture_square p x m)) t ≡ true
-    → has_unmoved p.unmoved t ≡ true
-unmoved_before p x m t h = search (rules, has_unmoved-parts)
-
-moved_stays : (rule : RuleSet) (p : Position) (x : Man) (m : Move) (s : ℕ) → is_circe rule ≡ false → is_castling x m ≡ false
-    → man_on p.men m.from ≡ Some x → has_unmoved p.unmoved s ≡ false → has_unmoved (position_after rule p m).unmoved s ≡ false
-unfolding position_after after_by unmoved_after
-moved_stays rule p x m s circe plain here moved =
-    false_by _ (λ h. false≢true (sym moved ∙ unmoved_before p x m s (rw (here, plain, no_rebirth rule p x m circe) at h)))
-
-no_hopper : (k : Kind) → is_fairy k ≡ false → same_kind k Grasshopper ≡ false
-no_hopper k plain = grind (arith, false≢true)
-
-not_mine_enemy : (x : Man) (c : Colour) → x.colour ≡ c → same_colour x.colour (other c) ≡ false
-not_mine_enemy x c e = ap (λ (d : Colour). same_colour d (other c)) e ∙ other_differs c
-
-and_left_king : (z : Man) → same_kind z.kind King ≡ true → same_kind z.kind Pawn ≡ false
-and_left_king z king = king_is_no_pawn z.kind king
-
--- a king castles from a square where he is unmoved, and the rook too
-castle_unmoved : (rule : RuleSet) (p : Position) (x : Man) (m : Move) → IsWellFormed p → IsMade rule p x m → is_castling x m ≡ true
-    → (has_unmoved p.unmoved m.from ≡ true) × (has_unmoved p.unmoved (corner m) ≡ true)
-unfolding castles may_castle
-castle_unmoved rule p x m well made castling =
-    let king = (and_parts _ _ (and_parts _ _ castling).0).0 in
-    let goes = sym (cond-false (same_kind x.kind Pawn) _ _ (king_is_no_pawn x.kind king)) ∙ made.goes in
-    elim (or_cases _ _ goes) [
-      | inl steps ↦ absurd (king_no_step p x m well made.here castling king steps)
-      | inr way ↦
-          let a = (and_parts _ _ (and_parts _ _ (and_parts _ _ (and_parts _ _ way).0).0).0).0 in
-          ((and_parts _ _ (and_parts _ _ a).0).1, (and_parts _ _ a).1)
-    ]
-
--- a piece that doesn't castle reaches where it goes
-piece_reaches : (rule : RuleSet) (p : Position) (x : Man) (m : Move) → IsMade rule p x m → same_kind x.kind Pawn ≡ false → is_castling x m ≡ false
-    → reaches_as p.men x.colour x.kind m.from m.to ≡ true
-unfolding castles may_castle reaches
-piece_reaches rule p x m made piece plain =
-    let goes = sym (cond-false (same_kind x.kind Pawn) _ _ piece) ∙ made.goes in
-    elim (or_cases _ _ goes) [
-      | inl steps ↦ sym (ap (λ (o : Option Man). reaches_of p.men o m.from m.to) made.here) ∙ steps
-      | inr way ↦
-          let a = (and_parts _ _ (and_parts _ _ (and_parts _ _ (and_parts _ _ way).0).0).0).0 in
-          absurd (false≢true (sym plain ∙ (and_parts _ _ (and_parts _ _ a).0).0))
-    ]
-
--- a king reaches what he does whoever stands on the board
-king_reaches : (men others : List (Option Man)) (c : Colour) (k : Kind) (s t : ℕ) → k ≡ King → reaches_as men c k s t ≡ reaches_as others c k s t
-unfolding reaches_as
-king_reaches men others c k s t e = rw e refl
-
--- where nobody of the other side reaches a square, it isn't attacked
-reach_none : (men : List (Option Man)) (t : ℕ) (c : Colour)
-    → ((s : ℕ) (z : Man) → s < 64 → man_on men s ≡ Some z → z.colour ≡ other c → reaches_as men z.colour z.kind s t ≡ false)
-    → (s : ℕ) → s < 64 → (is_side (man_on men s) (other c) && reaches men s t) ≡ false
-unfolding reaches
-reach_none men t c none s inside = by (man_on men s) refl where
-  by : (o : Option Man) → man_on men s ≡ o → (is_side o (other c) && reaches_of men o s t) ≡ false
-  by None e = refl
-  by (Some z) e = elim (cases_Bool (same_colour z.colour (other c))) [
-    | inl enemy ↦ and_right (same_colour z.colour (other c)) _ (none s z inside e (same_colour-true _ _ enemy))
-    | inr off ↦ and_left _ (reaches_of men (Some z) s t) off
-  ]
-
-nobody_strikes : (rule : RuleSet) (men : List (Option Man)) (t : ℕ) (c : Colour)
-    → ((s : ℕ) (z : Man) → s < 64 → man_on men s ≡ Some z → z.colour ≡ other c → reaches_as men z.colour z.kind s t ≡ false)
-    → is_attacked rule men t (other c) ≡ false
-unfolding is_attacked strikes
-nobody_strikes rule men t c none = search (rules, no_strike, reach_none men t c none, some_square_false)
-
--- where no step of the list passes the test
-any_false : (f : Step → Bool) (ds : List Step) → ((d : Step) → f d ≡ false) → list_any f ds ≡ false
-any_false f [] none = refl
-any_false f (d ∷ ds) none = or_from _ _ (none d) (any_false f ds none)
+use Rattle.chess_mates.proofs.Chess.{halfway, same_kind-is}
+use Rattle.chess_mates.proofs.Standing.{stood, self, not_mine, free_man, unfree, unnamed, arrival_small, captured_there, stays_there, some_stays, some_side, moved_stays, no_hopper, not_mine_enemy, and_left_king, castle_unmoved, piece_reaches, king_reaches, nobody_strikes}
+use Rattle.chess_mates.proofs.QuietCastling.{castles_quietly}
 
 -- the move m of the defender, plain, without risk
 pub record IsSpared (p : Position) (m : Move) (x : Man) (v : Siege) (k : ℕ) (r : Risk) : Type 0 where
@@ -301,9 +136,9 @@ module _ (rule : RuleSet) (p : Position) (m : Move) (x : Man) (v : Siege) (k : �
       let plain = i.fairies.none s z inside before enemy in
       let weak = weak_at s z (attacker s z inside before enemy) in
       false_from_ne_true _ (λ h.
-          false≢true (sym weak.off ∙ (word_at z weak.checks weak.word).inside s inside (later v.hurdles q.men (other z.colour) z.kind k s plain
-              (λ rider e low on reach. stays_lined (other z.colour) z.kind e low on rider reach)
-              (sym (reaches_back q.men z.colour z.kind s k inside at_k (no_hopper z.kind plain)) ∙ h))))
+      false≢true (sym weak.off ∙ (word_at z weak.checks weak.word).inside s inside (later v.hurdles q.men (other z.colour) z.kind k s plain
+      (λ rider e low on reach. stays_lined (other z.colour) z.kind e low on rider reach)
+      (sym (reaches_back q.men z.colour z.kind s k inside at_k (no_hopper z.kind plain)) ∙ h))))
 
   -- and none stands on a line of fairy men
   no_fairy : (j : Kind) → is_fairy j ≡ true → (s : ℕ) → s < 64 → is_man (man_on q.men s) (other p.turn) j ≡ false
@@ -313,14 +148,6 @@ module _ (rule : RuleSet) (p : Position) (m : Move) (x : Man) (v : Siege) (k : �
       let enemy : z.0.colour ≡ other p.turn = same_colour-true _ _ (and_parts _ _ is_one).0 in
       let kind : z.0.kind ≡ j = same_kind-is z.0.kind j (and_parts _ _ is_one).1 in
       false≢true (sym (i.fairies.none s z.0 inside (enemy_stood s z.0 z.1 enemy) enemy) ∙ ap is_fairy kind ∙ fairy))
-
-  no_lined : (j : Kind) → is_fairy j ≡ true → (t : ℕ) (d : Step) → is_lined q.men (other p.turn) j k t d ≡ false
-  no_lined j fairy t d = and_right (is_ahead k d t) _ (some_square_false _ 64 (omega arith)
-      (record { fails = λ s inside. and_left (is_man (man_on q.men s) (other p.turn) j) _ (no_fairy j fairy s inside) }))
-
-  unlined : (t : ℕ) → is_on_fairy_line q.men (other p.turn) k t ≡ false
-  unfolding is_on_fairy_line
-  unlined t = or_from _ _ (any_false _ queen_steps (λ d. no_lined Grasshopper refl t d)) (any_false _ knight_steps (λ d. no_lined Nightrider refl t d))
 
   module _ (n : Move) (to : n.to < 64) (can : is_pseudo_legal rule q n ≡ true) where
     abbrev y : Man
@@ -355,7 +182,8 @@ module _ (rule : RuleSet) (p : Position) (m : Move) (x : Man) (v : Siege) (k : �
     shuts corner next (inl moved) unmoved none low =
         absurd (false≢true (sym (moved_stays rule p x m corner circe i.plain.castling here moved) ∙ unmoved))
     shuts corner next (inr (inl stands)) unmoved none low =
-        let off : next ≢ m.from = λ e. false≢true (sym (not_mine_enemy x p.turn is.mine) ∙ sym (ap (λ (o : Option Man). is_side o (other p.turn)) (ap (man_on p.men) e ∙ here)) ∙ stands) in
+        let off : next ≢ m.from = λ e. false≢true (sym (not_mine_enemy x p.turn is.mine)
+        ∙ sym (ap (λ (o : Option Man). is_side o (other p.turn)) (ap (man_on p.men) e ∙ here)) ∙ stands) in
         absurd (false≢true (sym (ap (λ (o : Option Man). is_some o) none) ∙ ap (λ (l : List (Option Man)). is_some (man_on l next)) men_q
         ∙ some_stays p x m next captures_p (omega (arith, small, well.size)) off (some_side _ (other p.turn) stands)))
     shuts corner next (inr (inr on)) unmoved none low = on low
@@ -400,38 +228,15 @@ module _ (rule : RuleSet) (p : Position) (m : Move) (x : Man) (v : Siege) (k : �
 
       unseen_from : (j : Kind) → is_fairy j ≡ false → is_rider j ≡ true → reaches_as q.men p.turn j k n.from ≡ false
       unseen_from j plain rider = false_by _ (λ h. false≢true (sym off_lines
-          ∙ lined p.turn j n.from from_small rider (later v.hurdles q.men p.turn j k n.from plain (λ r e low on reach. stays_lined p.turn j e low on r reach) h)))
-
-      rook_off : may_check_from q.men p.turn (record { colour = other p.turn; kind = Rook }) (halfway n) ≡ false
-      unfolding may_check_from reaches_as
-      rook_off =
-          ap (λ (o : Option ℕ). may_check_from_on q.men o (record { colour = other p.turn; kind = Rook }) (halfway n)) king_q
-          ∙ false_by _ (λ h. false≢true (sym (harmless.rooks (halfway n) half half_on) ∙ ap (λ (j : ℕ). is_on_some straight_steps j (halfway n)) i.at.king
-          ∙ rides_on q.men k (halfway n) straight_steps (sym (straight-back q.men (halfway n) k half at_k) ∙ h)))
-
-      apart_k : (k == n.from) ≡ false
-      apart_k = false_by _ (λ e.
-          let same : k ≡ n.from = eqb-true k n.from e in
-          let mine : is_man (man_on q.men n.from) p.turn King ≡ true = ap (λ (s : ℕ). is_man (man_on q.men s) p.turn King) (sym same) ∙ (king_there q.men p.turn k king_q).1 in
-          false≢true (sym (and_left (same_colour y.colour p.turn) (same_kind y.kind King) (not_mine y p.turn enemy_y))
-              ∙ sym (ap (λ (o : Option Man). is_man o p.turn King) here_y) ∙ mine))
-
-      covered : may_expose q.men p.turn n.from ≡ false
-      unfolding may_expose is_shut is_reached reaches_as
-      covered =
-          ap (λ (o : Option ℕ). may_expose_on q.men o p.turn n.from) king_q
-          ∙ or_from _ _ (or_from _ _ (or_from _ _ (or_from _ _ (some_square_false _ 64 (omega arith)
-          (record { fails = λ s inside. reach_none q.men k p.turn calm s inside })) apart_k)
-          (and_left _ _ (unseen_from Rook refl refl))) (and_left _ _ (unseen_from Bishop refl refl))) (unlined n.from)
-
-      aside : may_stand_between q.men p.turn n.to ≡ false
-      unfolding may_stand_between
-      aside = ap (λ (o : Option ℕ). is_on_fairy_line_to q.men o p.turn n.to) king_q ∙ unlined n.to
+          ∙ lined p.turn j n.from from_small rider (later v.hurdles q.men p.turn j k n.from plain
+          (λ r e low on reach. stays_lined p.turn j e low on r reach) h)))
 
       castled : is_legal rule q n ≡ true → in_check rule (position_after rule q n).men p.turn ≡ false
       castled lawful =
-          castling_gives_no_check rule q y n well_q is_n castling p.turn (not_mine y p.turn enemy_y) covered aside
-          (ap (λ (c : Colour). may_check_from q.men c y n.to) (sym (ap other turn_q ∙ other_twice p.turn)) ∙ kings_apart rule q y n well_q here_y to lawful king_y) rook_off
+          castles_quietly rule q y n p.turn k well_q is_n castling at_k king_q enemy_y calm unseen_from no_fairy half
+          (ap (λ (j : ℕ). is_on_some straight_steps j (halfway n)) (sym i.at.king) ∙ harmless.rooks (halfway n) half half_on)
+          (ap (λ (c : Colour). may_check_from q.men c y n.to) (sym (ap other turn_q ∙ other_twice p.turn))
+          ∙ kings_apart rule q y n well_q here_y to lawful king_y)
 
     goes_y : may_go q y n.from n.to ≡ true
     goes_y = may_go_aimed rule q y n here_y (arrival_needed rule q n to can)
@@ -501,11 +306,11 @@ module _ (rule : RuleSet) (p : Position) (m : Move) (x : Man) (v : Siege) (k : �
         | inl e ↦ e
         | inr ne ↦
             let enemy : is_side (man_on p.men n.to) (other p.turn) ≡ true =
-                sym (word_has (λ s. is_side (man_on p.men s) (other p.turn)) v.enemies n.to i.fits.enemies to) ∙ on in
+            sym (word_has (λ s. is_side (man_on p.men s) (other p.turn)) v.enemies n.to i.fits.enemies to) ∙ on in
             let left : n.to ≢ m.from = λ e. false≢true (sym (not_mine_enemy x p.turn is.mine)
-                ∙ sym (ap (λ (o : Option Man). is_side o (other p.turn)) (ap (man_on p.men) e ∙ here)) ∙ enemy) in
+            ∙ sym (ap (λ (o : Option Man). is_side o (other p.turn)) (ap (man_on p.men) e ∙ here)) ∙ enemy) in
             let kept : man_on q.men n.to ≡ man_on p.men n.to =
-                ap (λ (l : List (Option Man)). man_on l n.to) men_q ∙ stays_there p x m n.to captures_p left (λ e. ne (sym e)) in
+            ap (λ (l : List (Option Man)). man_on l n.to) men_q ∙ stays_there p x m n.to captures_p left (λ e. ne (sym e)) in
             absurd (unfree (other p.turn) (man_on q.men n.to) (ap (λ (c : Colour). is_arrival_free c (man_on q.men n.to)) (sym turn_q) ∙ is_n.arrival)
             (ap (λ (o : Option Man). is_side o (other p.turn)) kept ∙ enemy))
       ]
@@ -519,46 +324,49 @@ module _ (rule : RuleSet) (p : Position) (m : Move) (x : Man) (v : Siege) (k : �
       -- on a board where they stay
       module _ (men : List (Option Man)) (stays : (e : ℕ) → e < 64 → (bit_at v.hurdles e == 1) ≡ true → e ≢ m.from → e ≢ n.from → is_some (man_on men e) ≡ true)
         where
-        -- another attacker reaches no square that is unguarded once y has gone
-        unguarded_off : (s t : ℕ) (z : Man) → t < 64 → IsAttacker v.men z s → s ≢ n.from → is_fairy z.kind ≡ false → IsUnguarded v n.from m.from t
-            → reaches_as men z.colour z.kind s t ≡ false
-        unfolding reached_over
-        unguarded_off s t z inside a ne plain u = false_from_ne_true _ (λ h.
-            false≢true (sym u.off ∙ (u.are.guards s z a (λ e. ne (sym e))).inside t inside (later u.are.hurdles men z.colour z.kind s t plain (λ rider e low on reach.
-                let kept = u.are.kept e low on in
-                elim (cases_eq e m.from) [
-                  | inl same ↦
-                      absurd (false≢true (sym (u.shut (rw same at kept.0)) ∙ (u.are.rides s z a (λ e. ne (sym e)) rider).inside m.from from (rw same at reach)))
-                  | inr left ↦ stays e low kept.0 left (λ same. kept.1 (sym same))
-                ]) h)))
+          -- another attacker reaches no square that is unguarded once y has gone
+          unguarded_off : (s t : ℕ) (z : Man) → t < 64 → IsAttacker v.men z s → s ≢ n.from → is_fairy z.kind ≡ false → IsUnguarded v n.from m.from t
+              → reaches_as men z.colour z.kind s t ≡ false
+          unfolding reached_over
+          unguarded_off s t z inside a ne plain u = false_from_ne_true _ (λ h.
+              false≢true (sym u.off ∙ (u.are.guards s z a (λ e. ne (sym e))).inside t inside
+              (later u.are.hurdles men z.colour z.kind s t plain (λ rider e low on reach.
+              let kept = u.are.kept e low on in
+              elim (cases_eq e m.from) [
+                | inl same ↦
+                    absurd (false≢true (sym (u.shut (rw same at kept.0)) ∙ (u.are.rides s z a (λ e. ne (sym e)) rider).inside m.from from (rw same at reach)))
+                | inr left ↦ stays e low kept.0 left (λ same. kept.1 (sym same))
+              ]) h)))
 
-        -- nor the king, unless y stood on one of his lines
-        hidden_off : (s : ℕ) (z : Man) → s < 64 → IsAttacker v.men z s → is_fairy z.kind ≡ false → (bit_at g.lines n.from == 1) ≡ false
-            → reaches_as men z.colour z.kind s k ≡ false
-        unfolding reached_over
-        hidden_off s z inside a plain hidden = false_from_ne_true _ (λ h.
-            let weak = weak_at s z a in
-            false≢true (sym weak.off ∙ (word_at z weak.checks weak.word).inside s inside (later v.hurdles men (other z.colour) z.kind k s plain (λ rider e low on reach.
-                elim (cases_eq e m.from) [
-                  | inl same ↦ absurd (false≢true (sym (shut_lines (rw same at on)) ∙ lined (other z.colour) z.kind m.from from rider (rw same at reach)))
-                  | inr left ↦ elim (cases_eq e n.from) [
-                    | inl same ↦ absurd (false≢true (sym hidden ∙ lined (other z.colour) z.kind n.from from_small rider (rw same at reach)))
-                    | inr off ↦ stays e low on left off
-                  ]
-                ]) (sym (reaches_back men z.colour z.kind s k inside at_k (no_hopper z.kind plain)) ∙ h))))
+          -- nor the king, unless y stood on one of his lines
+          hidden_off : (s : ℕ) (z : Man) → s < 64 → IsAttacker v.men z s → is_fairy z.kind ≡ false → (bit_at g.lines n.from == 1) ≡ false
+              → reaches_as men z.colour z.kind s k ≡ false
+          unfolding reached_over
+          hidden_off s z inside a plain hidden = false_from_ne_true _ (λ h.
+              let weak = weak_at s z a in
+              false≢true (sym weak.off ∙ (word_at z weak.checks weak.word).inside s inside
+              (later v.hurdles men (other z.colour) z.kind k s plain (λ rider e low on reach.
+              elim (cases_eq e m.from) [
+                | inl same ↦ absurd (false≢true (sym (shut_lines (rw same at on)) ∙ lined (other z.colour) z.kind m.from from rider (rw same at reach)))
+                | inr left ↦ elim (cases_eq e n.from) [
+                  | inl same ↦ absurd (false≢true (sym hidden ∙ lined (other z.colour) z.kind n.from from_small rider (rw same at reach)))
+                  | inr off ↦ stays e low on left off
+                ]
+              ]) (sym (reaches_back men z.colour z.kind s k inside at_k (no_hopper z.kind plain)) ∙ h))))
 
-        -- nor y, from a square from which he doesn't check
-        quiet_off : (bit_at w.checks n.to == 1) ≡ false → reaches_as men y.colour y.kind n.to k ≡ false
-        unfolding reached_over
-        quiet_off quiet = false_from_ne_true _ (λ h.
-            false≢true (sym quiet ∙ (word_at y w.checks w.word).inside n.to to (later v.hurdles men (other y.colour) y.kind k n.to plain_y (λ rider e low on reach.
-                elim (cases_eq e m.from) [
-                  | inl same ↦ absurd (false≢true (sym (shut_lines (rw same at on)) ∙ lined (other y.colour) y.kind m.from from rider (rw same at reach)))
-                  | inr left ↦ elim (cases_eq e n.from) [
-                    | inl same ↦ absurd (false≢true (sym w.off ∙ (word_at y w.checks w.word).inside n.from from_small (rw same at reach)))
-                    | inr off ↦ stays e low on left off
-                  ]
-                ]) (sym (reaches_back men y.colour y.kind n.to k to at_k (no_hopper y.kind plain_y)) ∙ h))))
+          -- nor y, from a square from which he doesn't check
+          quiet_off : (bit_at w.checks n.to == 1) ≡ false → reaches_as men y.colour y.kind n.to k ≡ false
+          unfolding reached_over
+          quiet_off quiet = false_from_ne_true _ (λ h.
+              false≢true (sym quiet ∙ (word_at y w.checks w.word).inside n.to to
+              (later v.hurdles men (other y.colour) y.kind k n.to plain_y (λ rider e low on reach.
+              elim (cases_eq e m.from) [
+                | inl same ↦ absurd (false≢true (sym (shut_lines (rw same at on)) ∙ lined (other y.colour) y.kind m.from from rider (rw same at reach)))
+                | inr left ↦ elim (cases_eq e n.from) [
+                  | inl same ↦ absurd (false≢true (sym w.off ∙ (word_at y w.checks w.word).inside n.from from_small (rw same at reach)))
+                  | inr off ↦ stays e low on left off
+                ]
+              ]) (sym (reaches_back men y.colour y.kind n.to k to at_k (no_hopper y.kind plain_y)) ∙ h))))
 
       -- where he gives no check
       module _ (quiet : IsQuiet v g w.checks y n.from m.from n.to) (lawful : is_legal rule q n ≡ true) where
@@ -568,7 +376,8 @@ module _ (rule : RuleSet) (p : Position) (m : Move) (x : Man) (v : Siege) (k : �
           | inr mortal ↦ quiet_off r.men stays_r (quiet.check.off mortal)
           | inl king ↦
               let kind : y.kind ≡ King = kind_is_king y.kind king in
-              let square : king_square q.men (other q.turn) ≡ Some k = ap (λ (c : Colour). king_square q.men c) (ap other turn_q ∙ other_twice p.turn) ∙ king_q in
+              let square : king_square q.men (other q.turn) ≡ Some k =
+              ap (λ (c : Colour). king_square q.men c) (ap other turn_q ∙ other_twice p.turn) ∙ king_q in
               let apart = rw square at (kings_apart rule q y n well_q here_y to lawful king) in
               king_reaches r.men q.men y.colour y.kind n.to k kind ∙ (or_parts (is_absent q.men y) _ apart).1
         ]
@@ -632,7 +441,8 @@ module _ (rule : RuleSet) (p : Position) (m : Move) (x : Man) (v : Siege) (k : �
           stays_then : (e : ℕ) → e < 64 → (bit_at v.hurdles e == 1) ≡ true → e ≢ m.from → e ≢ n.from → is_some (man_on fled e) ≡ true
           stays_then e inside on left off = elim (cases_eq e f) [
             | inl same ↦
-                ap (λ (o : Option Man). is_some o) (ap (man_on fled) same ∙ there_now r.men k (capture_square r z (step_to k f)) f z (omega (arith, in_f, well_r.size)))
+                ap (λ (o : Option Man). is_some o)
+                (ap (man_on fled) same ∙ there_now r.men k (capture_square r z (step_to k f)) f z (omega (arith, in_f, well_r.size)))
             | inr ne ↦
                 ap (λ (o : Option Man). is_some o) (arrived_other r z (step_to k f) e (i.off_king e inside on)
                 (λ s cap e. ne (e ∙ capture_of_piece r z (step_to k f) s (and_left_king z stands.king) cap)) ne) ∙ stays_r e inside on left off
@@ -648,7 +458,8 @@ module _ (rule : RuleSet) (p : Position) (m : Move) (x : Man) (v : Siege) (k : �
                   rw (same, came.0) (flight.left.unreached fled)
               | inr stays ↦
                   let before = enemy_stood s u stays.1.1 enemy in
-                  unguarded_off fled stays_then s f u in_f (attacker s u inside before enemy) stays.1.0 (i.fairies.none s u inside before enemy) flight.unguarded
+                  unguarded_off fled stays_then s f u in_f (attacker s u inside before enemy) stays.1.0
+                  (i.fairies.none s u inside before enemy) flight.unguarded
             ]
           ]
 
@@ -681,7 +492,8 @@ module _ (rule : RuleSet) (p : Position) (m : Move) (x : Man) (v : Siege) (k : �
 
     unmated : mates rule q n ≡ false
     unmated = elim (cases_Bool (is_castling y n)) [
-      | inl castling ↦ sym (no_mate_quietly rule q n (λ lawful. ap (in_check rule (position_after rule q n).men) (ap other turn_q ∙ other_twice p.turn) ∙ castled castling lawful))
+      | inl castling ↦ sym (no_mate_quietly rule q n (λ lawful.
+          ap (in_check rule (position_after rule q n).men) (ap other turn_q ∙ other_twice p.turn) ∙ castled castling lawful))
       | inr plain ↦ unmated_plainly plain
     ]
 
@@ -695,60 +507,3 @@ module _ (rule : RuleSet) (p : Position) (m : Move) (x : Man) (v : Siege) (k : �
   no_mate_behind =
       mates_behind-none rule q 0 28672 (λ lt. omega arith) (omega arith) (record { fails = λ j lo hi. none_mates j })
       ∙ mates_behind-end rule q 28672 (omega arith)
-
--- the same for the ways of a defender: his king goes, or another man
-module _ (rule : RuleSet) (p : Position) (m : Move) (x : Man) (v : Siege) (risk : Risk) (well : IsWellFormed p)
-    (may : is_pseudo_legal rule p m ≡ true) (here : man_on p.men m.from ≡ Some x) (told : IsTold rule p) (small : m.to < 64) (from : m.from < 64)
-    (plain : IsPlainMove p x m) (fits : IsSiegeOf p v) (o : Option Leaving) (threats : AreThreats v risk o) where
-  pub king_spared : (r : Risk) → same_kind x.kind King ≡ true → IsRiskAt v m.to r → (bit_at (bit_or v.hurdles r.critical) m.to == 1) ≡ false
-      → mates_behind rule (position_after rule p m) 0 ≡ []
-  king_spared r king at off =
-      let mine : x.colour ≡ p.turn = (made rule p m x may here).mine in
-      let stands : is_man (man_on p.men m.from) p.turn King ≡ true =
-          ap (λ (o : Option Man). is_man o p.turn King) here ∙ and_from _ _ (ap (λ (c : Colour). same_colour c p.turn) mine ∙ self p.turn) king in
-      let same : v.king ≡ m.from = some_is v.king m.from (fits.king ∙ king_is p.men p.turn m.from well.kings from stands) in
-      no_mate_behind rule p m x v m.to r well may here told.circe small from (cond-true (same_kind x.kind King) _ _ king) (record {
-        plain = plain;
-        siege = threats.siege;
-        fits = fits;
-        fairies = told.fairies;
-        at = at;
-        off = record {
-          lines = λ on. absurd ((threats.siege.hurdles.men m.from from on).1 same);
-          critical = off_right v.hurdles r.critical m.to off;
-        };
-        off_king = λ e inside on same. false≢true (sym (off_left v.hurdles r.critical m.to off) ∙ (rw same at on));
-      })
-
-  module _ (mortal : same_kind x.kind King ≡ false) where
-    -- by a siege of the same men
-    spared_by : (w : Siege) (r : Risk) → IsSiege w → w.king ≡ v.king → w.own ≡ v.own → w.enemies ≡ v.enemies → w.men ≡ v.men → w.castled ≡ v.castled → IsRiskAt w v.king r
-        → IsOff w.hurdles r m.from m.to → mates_behind rule (position_after rule p m) 0 ≡ []
-    spared_by w r siege king own enemies men castled at off =
-        no_mate_behind rule p m x w v.king r well may here told.circe small from (cond-false (same_kind x.kind King) _ _ mortal ∙ sym fits.king) (record {
-          plain = plain;
-          siege = siege;
-          fits = record {
-            colour = ap (λ (a : Attackers). a.colour) men ∙ fits.colour;
-            men = subst (λ (a : Attackers). AreAttackers p.men a) (sym men) fits.men;
-            own = own ∙ fits.own;
-            enemies = enemies ∙ fits.enemies;
-            king = ap (λ (k : ℕ). Some k) king ∙ fits.king;
-            kings = λ s inside stands. ap (λ (a : Attackers). bit_at a.kings s == 1) men ∙ fits.kings s inside stands;
-            castled = subst (λ (c : ℕ). AreCastlingSquares p (other p.turn) c) (sym castled) fits.castled;
-          };
-          fairies = told.fairies;
-            at = at;
-          off = off;
-          off_king = λ e inside on same. (siege.hurdles.men e inside on).1 (king ∙ sym same);
-        })
-
-    pub man_spared : (bit_at risk.lines m.from == 1) ≡ false → (bit_at risk.critical m.to == 1) ≡ false
-        → mates_behind rule (position_after rule p m) 0 ≡ []
-    man_spared lines off = spared_by v risk threats.siege refl refl refl refl refl threats.risk (record { lines = λ on. lines; critical = off })
-
-    pub line_spared : (r : Risk) → IsRiskBehind v m.from r → (bit_at r.critical m.to == 1) ≡ false → mates_behind rule (position_after rule p m) 0 ≡ []
-    line_spared r i off = let l = i.lifted in spared_by i.siege r l.siege l.king l.own l.enemies l.men l.castled i.risk (record {
-      lines = λ on. absurd (false≢true (sym l.off ∙ on));
-      critical = off;
-    })

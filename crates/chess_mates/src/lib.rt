@@ -10,10 +10,10 @@ mod checks;
 pub mod every_move;
 mod flights;
 pub mod lasting_flights;
-pub mod threats;
 pub mod mating_moves;
 mod open_board;
 mod origins;
+pub mod threats;
 
 pub use crate::aims::aims_at_king;
 pub use crate::every_move::every_move_mates;

@@ -394,7 +394,7 @@ fn risk_of_all(siege: &Siege, field: &Field) -> Risk
 }
 
 // The field of a king of the defender on this square.
-#[tactic(auto, using(crate::proofs::Risks::field_is))]
+#[tactic(auto, using(crate::proofs::Sieges::field_is))]
 fn field_of(siege: &Siege, king: Square) -> Field
     ensures king { result.king ≡ king }
     ensures field { IsField siege.now result }
@@ -544,8 +544,18 @@ fn castling_squares(board: &Board, colour: Colour) -> u64
         return !0;
     }
     let own = board.side(colour);
-    let long = castling_square(board, own, Square::numbered(at - 4), Square::numbered(at - 1));
-    let short = castling_square(board, own, Square::numbered(at + 3), Square::numbered(at + 1));
+    let long = castling_square(
+        board,
+        own,
+        Square::numbered(at - 4),
+        Square::numbered(at - 1),
+    );
+    let short = castling_square(
+        board,
+        own,
+        Square::numbered(at + 3),
+        Square::numbered(at + 1),
+    );
     long | short
 }
 
@@ -701,12 +711,6 @@ impl Threats {
         if contains(self.risk.lines, m.from) && m.from != self.siege.king {
             self.leaving = Some(leaving_from(&self.siege, &self.leaving, m.from));
         }
-        Some(no_mate_follows::<R>(
-            &self.siege,
-            &self.risk,
-            &self.leaving,
-            board,
-            m,
-        ))
+        Some(no_mate_follows::<R>(&self.siege, &self.risk, &self.leaving, board, m))
     }
 }

@@ -301,10 +301,7 @@ fn is_settled<R: Rules>(
     requires legal { is_legal R.rule board.now by.now ≡ true }
     ensures { result ≡ true → IsSettled R.rule plan left board.now by.now }
 {
-    left == 2
-        && plan.form.is_help()
-        && is_for_mate(plan.goal)
-        && killers.rule_out_mate(board, by)
+    left == 2 && plan.form.is_help() && is_for_mate(plan.goal) && killers.rule_out_mate(board, by)
 }
 
 /// One step of the walk: the next move of the top frame is played, or the frame is closed. Answers whether the path

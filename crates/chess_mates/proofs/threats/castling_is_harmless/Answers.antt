@@ -1,4 +1,4 @@
-use Rattle.chess_mates.proofs.Risks.{harmless_castling}
+use Rattle.chess_mates.proofs.Sieges.{harmless_castling}
 use Rattle.chess_mates.proofs.threats.castling_is_harmless.Goals as goal
 
 pub returns : goal.returns

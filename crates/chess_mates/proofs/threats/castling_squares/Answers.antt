@@ -1,5 +1,5 @@
 use Rattle.chess_rules.proofs.Basics.{arith, rules, sym, ◌∙◌}
-use Rattle.chess_mates.proofs.Risks.{king_castles_anywhere, king_castles_to, moved_king_castles, no_king_castles, shut_on}
+use Rattle.chess_mates.proofs.Sieges.{king_castles_anywhere, king_castles_to, moved_king_castles, no_king_castles, shut_on}
 use Rattle.chess_mates.proofs.threats.castling_squares.Goals as goal
 
 pub returns-in_default : goal.returns-in_default

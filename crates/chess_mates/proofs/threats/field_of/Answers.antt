@@ -1,5 +1,5 @@
 use Rattle.chess_rules.proofs.Basics.{arith}
-use Rattle.chess_mates.proofs.Risks.{field_is}
+use Rattle.chess_mates.proofs.Sieges.{field_is}
 use Rattle.chess_mates.proofs.threats.field_of.Goals as goal
 
 pub returns-clause-field : goal.returns-clause-field

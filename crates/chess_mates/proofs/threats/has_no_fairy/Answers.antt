@@ -1,4 +1,4 @@
-use Rattle.chess_mates.proofs.Risks.{no_fairies}
+use Rattle.chess_mates.proofs.Sieges.{no_fairies}
 use Rattle.chess_mates.proofs.threats.has_no_fairy.Goals as goal
 
 pub returns : goal.returns

@@ -1,5 +1,5 @@
 use Rattle.chess_rules.proofs.Basics.{arith}
-use Rattle.chess_mates.proofs.Risks.{hurdles_are, lifted_off}
+use Rattle.chess_mates.proofs.Sieges.{hurdles_are, lifted_off}
 use Rattle.chess_mates.proofs.threats.hurdles_of.Goals as goal
 
 pub returns-clause-are : goal.returns-clause-are

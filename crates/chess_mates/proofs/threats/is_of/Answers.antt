@@ -1,6 +1,6 @@
 use Rattle.chess_rules.proofs.Basics.{and_parts, ap, eqb-true, rules, sym, ◌∙◌}
 use Rattle.chess_mates.proofs.Chess.{other, same_colour-true, side_of}
-use Rattle.chess_mates.proofs.Risks.{siege_fits}
+use Rattle.chess_mates.proofs.Sieges.{siege_fits}
 use Rattle.chess_mates.proofs.threats.is_of.Goals as goal
 
 pub returns : goal.returns

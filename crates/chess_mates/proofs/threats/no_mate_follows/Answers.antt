@@ -1,7 +1,7 @@
 use Rattle.chess_rules.proofs.Basics.{Some, ap, arith, not-true, rules, sym, ◌<◌, ◌∙◌, ◌≡◌}
 use Rattle.chess_rules.proofs.listing_moves.Calls.{is_pseudo_legal-from_legal}
 use Rattle.chess_mates.proofs.Chess.{Move, man_on}
-use Rattle.chess_mates.proofs.Sparing.{king_spared, line_spared, man_spared}
+use Rattle.chess_mates.proofs.Ways.{king_spared, line_spared, man_spared}
 use Rattle.chess_mates.proofs.threats.no_mate_follows.Goals as goal
 
 pub returns-then-is : goal.returns-then-is
@@ -31,7 +31,8 @@ returns-in-Some-leaving g c = λ yes.
     let here : man_on p.men m.from ≡ Some c.in-Some.man = ap (man_on p.men) (sym from) ∙ sym c.man_at.ensures ∙ c.in-Some.is in
     line_spared rule p m c.in-Some.man c.args.siege.now c.args.risk.now c.requires.well_formed
     (is_pseudo_legal-from_legal rule p m c.requires.legal) here c.requires.told small from_small (c.goes_plainly.ensures c.if-not-goes_plainly.false)
-    c.requires.fits c.args.leaving.now c.requires.threats (sym c.is.ensures ∙ c.if-is.false) c.in-Some-leaving.leaving.risk (search (rules, c.requires.threats.leaving, c.in-Some-leaving.is, c.if-eq.true, c.eq.ensures, from))
+    c.requires.fits c.args.leaving.now c.requires.threats (sym c.is.ensures ∙ c.if-is.false) c.in-Some-leaving.leaving.risk
+    (search (rules, c.requires.threats.leaving, c.in-Some-leaving.is, c.if-eq.true, c.eq.ensures, from))
     (rw to at (sym c.contains-in-Some-leaving.ensures ∙ not-true _ yes))
 
 pub returns-then-not-contains : goal.returns-then-not-contains

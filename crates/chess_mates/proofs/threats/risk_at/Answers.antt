@@ -1,8 +1,9 @@
-use Rattle.chess_mates.proofs.Risks.{risk_is, risk_never}
+use Rattle.chess_mates.proofs.Sieges.{risk_is, risk_never}
 use Rattle.chess_mates.proofs.threats.risk_at.Goals as goal
 
 pub returns-then-not-castling_is_harmless : goal.returns-then-not-castling_is_harmless
-returns-then-not-castling_is_harmless c = risk_never c.args.siege.now c.args.king c.field_of-field.result c.field_of-field.ensures.king c.field_of-field.ensures.field
+returns-then-not-castling_is_harmless c =
+    risk_never c.args.siege.now c.args.king c.field_of-field.result c.field_of-field.ensures.king c.field_of-field.ensures.field
 
 pub returns : goal.returns
 returns c =

@@ -1,0 +1,220 @@
+-- The men of a siege, its castlings and the king's field.
+use Rattle.chess_rules.proofs.Basics.{List, None, Option, Some, and_from, and_parts, ap, arith, bit_and, bit_at, bit_not, bit_or, eq-eqb, false, false≢true, inl, inr, list_any, or_cases, refl, subst, sym, true, w64, ℕ, ◌&&◌, ◌+◌, ◌-◌, ◌<◌, ◌==◌, ◌^◌, ◌||◌, ◌∙◌, ◌≡◌, ◌⊎◌}
+use Rattle.chess_mates.proofs.Chess.{Bishop, Colour, Grasshopper, IsWellFormed, Kind, King, Knight, Man, Move, Nightrider, Pawn, Position, Queen, Rook, White, corner, halfway, is_fairy, is_man, is_on_some, is_side, is_square, king_square, leaps, man_on, occupied_squares, other, queen_steps}
+use Rattle.chess_mates.proofs.Chess.{reaches_as, same_colour, same_kind, side_of, squares, squares_of, straight_steps, word}
+use Rattle.chess_core.specs.Castling.{has_unmoved}
+use Rattle.chess_rules.specs.Play.{is_double_step}
+use Rattle.chess_mates.specs.declared.threats.Attackers.{Attackers}
+use Rattle.chess_mates.specs.declared.threats.Field.{Field}
+use Rattle.chess_mates.specs.declared.threats.Risk.{Risk}
+use Rattle.chess_mates.specs.declared.threats.Siege.{Siege}
+use Rattle.chess_mates.specs.ties.Threats.{AreAttackers, AreCastlingSquares, AreHurdles, AreWeak, HasNoFairy, IsCastlingHarmless, IsField, IsPassing, IsRiskAt, IsShut, IsSiegeOf, squares_for}
+use Rattle.chess_mates.specs.ties.Threats.{reached_over}
+use Rattle.chess_rules.proofs.Bits.{off_left, off_right, on_left, on_right, word_has}
+use Rattle.chess_rules.proofs.Tests.{find_no}
+use Rattle.chess_rules.proofs.attacks.StayingInCheck.{king_there}
+use Rattle.chess_rules.proofs.listing_moves.Targeting.{every_square_on, false_by}
+use Rattle.chess_mates.proofs.Hurdles.{man_is, reached_is}
+use Rattle.chess_mates.proofs.Chess.{AreApproaches, halfway, same_kind-is}
+use Rattle.chess_rules.proofs.listing_moves.Walks.{on_first}
+use Rattle.chess_mates.proofs.Risks.{on_both, on_one, off_word, none_at, none_on, weak_never}
+
+-- the king's field
+pub field_is : (v : Siege) (k n r : ℕ) → n ≡ word (λ t. list_any (leaps k t) queen_steps) → v.hurdles < 2 ^ 64 → v.own < 2 ^ 64 → v.men.kings < 2 ^ 64
+    → ((men : List (Option Man)) → v.hurdles ≡ occupied_squares men → r ≡ word (reaches_as men White Queen k))
+    → IsField v (record { king = k; near = bit_and (bit_and n (bit_not w64 v.own)) (bit_not w64 v.men.kings); lines = r })
+unfolding reached_over reaches_as
+field_is v k n r near hurdles own kings lines = record {
+  next = λ f small on. sym (word_has (λ t. list_any (leaps k t) queen_steps) n f near small) ∙ on_first n _ f (on_first _ _ f on);
+  own = λ f small on. off_word n v.own f own small (on_first _ _ f on);
+  kings = λ f small on. off_word _ v.men.kings f kings small on;
+  lines = λ c. record {
+    inside = λ t small reached. (reached_is v.hurdles (record { colour = White; kind = Queen }) k r hurdles lines).inside t small reached;
+  };
+}
+
+pub harmless_castling : (v : Siege) (g : Field) (l : ℕ) → l ≡ word (is_on_some straight_steps g.king)
+    → (v.castled == 0 || (bit_and l v.castled == 0 && bit_and g.lines v.men.kings == 0)) ≡ true → IsCastlingHarmless v g
+harmless_castling v g l lines h = elim (or_cases _ _ h) [
+  | inl none ↦ record {
+    rooks = λ q small on. absurd (none_on v.castled q none on);
+    kings = λ q s small on king. absurd (none_on v.castled q none on);
+  }
+  | inr both ↦ record {
+    rooks = λ q small on. false_by _ (λ y. none_on (bit_and l v.castled) q (and_parts _ _ both).0
+        (on_both l v.castled q (word_has (is_on_some straight_steps g.king) l q lines small ∙ y) on));
+    kings = λ q s small on king. false_by _ (λ y. none_on (bit_and g.lines v.men.kings) s (and_parts _ _ both).1 (on_both g.lines v.men.kings s y king));
+  }
+]
+
+-- the risk of all
+pub risk_never : (v : Siege) (k : ℕ) (g : Field) → g.king ≡ k → IsField v g → IsRiskAt v k (record { critical = bit_not w64 0; lines = 0 })
+risk_never v k g king field = record {
+  field = g;
+  king = king;
+  is = field;
+  castling = λ b small off. absurd (nowhere b small off);
+  lines = λ a b small off on. absurd (nowhere b small off);
+  weak = λ s x i. weak_never v g 0 x s;
+} where
+  nowhere : (b : ℕ) → b < 64 → (bit_at (bit_not w64 0) b == 1) ≡ false → ⊥
+  nowhere b small off = false≢true (sym off ∙ every_square_on b small)
+
+pub risk_is : (v : Siege) (k : ℕ) (g : Field) (r : Risk) → g.king ≡ k → IsField v g → IsCastlingHarmless v g → AreWeak v g r
+    → IsRiskAt v k (record { critical = r.critical; lines = bit_or r.lines g.lines })
+risk_is v k g r king field castling all = record {
+  field = g;
+  king = king;
+  is = field;
+  castling = λ b small off. castling;
+  lines = λ a b small critical off. off_right r.lines g.lines a off;
+  weak = λ s x i. record {
+    weak = λ a b small inside off. (all.weak s x i).weak a b small inside
+        (record { lines = λ on. off_left r.lines g.lines a (off.lines on); critical = off.critical });
+  };
+}
+
+-- the men of the siege
+pub hurdles_are : (own enemies k o w : ℕ) → o ≡ word (λ t. is_square (Some k) t) → o < 2 ^ 64
+    → AreHurdles own enemies k (bit_and (bit_and (bit_or own enemies) (bit_not w64 o)) (bit_not w64 w))
+hurdles_are own enemies k o w only fits = record {
+  men = λ e small on.
+      let there = on_first (bit_and (bit_or own enemies) (bit_not w64 o)) (bit_not w64 w) e on in (
+        on_one own enemies e (on_first (bit_or own enemies) _ e there),
+        λ same. false≢true (sym (off_word (bit_or own enemies) o e fits small there) ∙ word_has (λ t. is_square (Some k) t) o e only small ∙ eq-eqb k e same),
+      );
+}
+
+pub lifted_off : (a w s : ℕ) (o : Option ℕ) → w ≡ word (λ t. is_square o t) → w < 2 ^ 64 → s < 64 → o ≡ Some s
+    → (bit_at (bit_and a (bit_not w64 w)) s == 1) ≡ false
+lifted_off a w s o only fits small e = false_by _ (λ on. false≢true (sym (off_word a w s fits small on) ∙ word_has (λ t. is_square o t) w s only small
+    ∙ ap (λ (u : Option ℕ). is_square u s) e ∙ eq-eqb s s refl))
+
+-- the men of the board
+pub attackers_are : (men : List (Option Man)) (a : Attackers) → a.kings ≡ squares_of men a.colour King → a.queens ≡ squares_of men a.colour Queen
+    → a.rooks ≡ squares_of men a.colour Rook → a.bishops ≡ squares_of men a.colour Bishop → a.knights ≡ squares_of men a.colour Knight
+    → a.pawns ≡ squares_of men a.colour Pawn → AreAttackers men a
+unfolding squares_of
+attackers_are men a kings queens rooks bishops knights pawns = record {
+  stand = λ s x small here mine plain. record { small = small; mine = mine; on = by s x small here mine plain x.kind refl };
+} where
+  self : (c : Colour) (k : Kind) → (same_colour c c && same_kind k k) ≡ true
+  self c k = grind (arith, eq-eqb)
+
+  there : (s : ℕ) (x : Man) → s < 64 → man_on men s ≡ Some x → x.colour ≡ a.colour → (k : Kind) → x.kind ≡ k → (w : ℕ)
+      → w ≡ word (λ s. is_man (man_on men s) a.colour k)
+      → (bit_at w s == 1) ≡ true
+  there s x small here mine k kind w e =
+      word_has (λ s. is_man (man_on men s) a.colour k) w s e small ∙ ap (λ (o : Option Man). is_man o a.colour k) here
+      ∙ rw (mine, kind) (self a.colour k)
+
+  by : (s : ℕ) (x : Man) → s < 64 → man_on men s ≡ Some x → x.colour ≡ a.colour → is_fairy x.kind ≡ false → (k : Kind) → x.kind ≡ k
+      → (bit_at (squares_for a x.kind) s == 1) ≡ true
+  by s x small here mine plain King e = rw e (there s x small here mine King e a.kings kings)
+  by s x small here mine plain Queen e = rw e (there s x small here mine Queen e a.queens queens)
+  by s x small here mine plain Rook e = rw e (there s x small here mine Rook e a.rooks rooks)
+  by s x small here mine plain Bishop e = rw e (there s x small here mine Bishop e a.bishops bishops)
+  by s x small here mine plain Knight e = rw e (there s x small here mine Knight e a.knights knights)
+  by s x small here mine plain Pawn e = rw e (there s x small here mine Pawn e a.pawns pawns)
+  by s x small here mine plain Grasshopper e = absurd (false≢true (sym plain ∙ ap is_fairy e))
+  by s x small here mine plain Nightrider e = absurd (false≢true (sym plain ∙ ap is_fairy e))
+
+pub no_fairies : (men : List (Option Man)) (c : Colour) (g n : ℕ) → g ≡ squares_of men c Grasshopper → n ≡ squares_of men c Nightrider
+    → (bit_or g n == 0) ≡ true → HasNoFairy men c
+unfolding squares_of
+no_fairies men c g n hoppers riders none = record { none = λ s x small here mine. by s x small here mine x.kind refl } where
+  there : (s : ℕ) (x : Man) → man_on men s ≡ Some x → x.colour ≡ c → (k : Kind) → x.kind ≡ k → is_man (man_on men s) c k ≡ true
+  there s x here mine k kind = ap (λ (o : Option Man). is_man o c k) here ∙ rw (mine, kind) (both c k) where
+    both : (c : Colour) (k : Kind) → (same_colour c c && same_kind k k) ≡ true
+    both c k = grind (arith, eq-eqb)
+
+  by : (s : ℕ) (x : Man) → s < 64 → man_on men s ≡ Some x → x.colour ≡ c → (k : Kind) → x.kind ≡ k → is_fairy x.kind ≡ false
+  by s x small here mine Grasshopper e = absurd (none_on (bit_or g n) s none (on_left g n s
+      (word_has (λ q. is_man (man_on men q) c Grasshopper) g s hoppers small ∙ there s x here mine Grasshopper e)))
+  by s x small here mine Nightrider e = absurd (none_on (bit_or g n) s none (on_right g n s (word_has (λ q. is_man (man_on men q) c Nightrider) n s riders small
+      ∙ there s x here mine Nightrider e)))
+  by s x small here mine King e = rw e refl
+  by s x small here mine Queen e = rw e refl
+  by s x small here mine Rook e = rw e refl
+  by s x small here mine Bishop e = rw e refl
+  by s x small here mine Knight e = rw e refl
+  by s x small here mine Pawn e = rw e refl
+
+pub shut_on : (p : Position) (c : Colour) (own w corner next a b : ℕ) → own ≡ side_of p.men c → next < 64
+    → (has_unmoved p.unmoved corner ≡ false) ⊎ ((bit_at own next == 1) ≡ true) ⊎ ((bit_at w next == 1) ≡ true) → corner ≡ a → next ≡ b → IsShut p c w a b
+unfolding side_of
+shut_on p c own w corner next a b side small (inl moved) e f = inl (rw (← e) moved)
+shut_on p c own w corner next a b side small (inr (inl on)) e f =
+    inr (inl (rw (← f) (sym (word_has (λ q. is_side (man_on p.men q) c) own next side small) ∙ on)))
+shut_on p c own w corner next a b side small (inr (inr on)) e f = inr (inr (λ low. rw (← f) on))
+
+shut_in : (p : Position) (c : Colour) (v w a b : ℕ) → ((q : ℕ) → (bit_at v q == 1) ≡ true → (bit_at w q == 1) ≡ true) → IsShut p c v a b → IsShut p c w a b
+shut_in p c v w a b more (inl moved) = inl moved
+shut_in p c v w a b more (inr (inl on)) = inr (inl on)
+shut_in p c v w a b more (inr (inr on)) = inr (inr (λ low. more b (on low)))
+
+pub no_king_castles : (p : Position) (c : Colour) (w : ℕ) → king_square p.men c ≡ None → AreCastlingSquares p c w
+unfolding king_square squares
+no_king_castles p c w none = record {
+  sides = λ s small is. absurd (false≢true (sym (find_no (λ q. is_man (man_on p.men q) c King) 0 64 s none (omega arith) (omega arith)) ∙ is));
+}
+
+king_castles : (p : Position) (c : Colour) (w k : ℕ) → IsWellFormed p → king_square p.men c ≡ Some k
+    → (has_unmoved p.unmoved k ≡ false) ⊎ (IsShut p c w (k + 3) (k + 1) × IsShut p c w (k - 4) (k - 1)) → AreCastlingSquares p c w
+king_castles p c w k well king sides = record {
+  sides = λ s small is. rw (well.kings.same c s k is (king_there p.men c k king).1) sides;
+}
+
+pub moved_king_castles : (p : Position) (c : Colour) (w k : ℕ) → king_square p.men c ≡ Some k → has_unmoved p.unmoved k ≡ false → IsWellFormed p
+    → AreCastlingSquares p c w
+moved_king_castles p c w k king moved well = king_castles p c w k well king (inl moved)
+
+pub king_castles_anywhere : (p : Position) (c : Colour) (k : ℕ) → king_square p.men c ≡ Some k → IsWellFormed p → AreCastlingSquares p c (bit_not w64 0)
+king_castles_anywhere p c k king well =
+    king_castles p c (bit_not w64 0) k well king (inr (inr (inr (λ low. every_square_on (k + 1) low)), inr (inr (λ low. every_square_on (k - 1) low))))
+
+pub king_castles_to : (p : Position) (c : Colour) (k long short : ℕ) → king_square p.men c ≡ Some k → IsShut p c long (k - 4) (k - 1)
+    → IsShut p c short (k + 3) (k + 1) → IsWellFormed p → AreCastlingSquares p c (bit_or long short)
+king_castles_to p c k long short king far near well = king_castles p c (bit_or long short) k well king (inr (
+  shut_in p c short (bit_or long short) (k + 3) (k + 1) (λ q on. on_right long short q on) near,
+  shut_in p c long (bit_or long short) (k - 4) (k - 1) (λ q on. on_left long short q on) far,
+))
+
+pub siege_fits : (p : Position) (v : Siege) → IsWellFormed p → v.men.colour ≡ other p.turn → king_square p.men p.turn ≡ Some v.king
+    → v.own ≡ side_of p.men p.turn → v.enemies ≡ side_of p.men v.men.colour
+    → v.men.kings ≡ squares_of p.men v.men.colour King → v.men.queens ≡ squares_of p.men v.men.colour Queen
+    → v.men.rooks ≡ squares_of p.men v.men.colour Rook → v.men.bishops ≡ squares_of p.men v.men.colour Bishop
+    → v.men.knights ≡ squares_of p.men v.men.colour Knight → v.men.pawns ≡ squares_of p.men v.men.colour Pawn
+    → AreCastlingSquares p v.men.colour v.castled → IsSiegeOf p v
+unfolding squares_of
+siege_fits p v well colour king own enemies kings queens rooks bishops knights pawns castled = record {
+  colour = colour;
+  men = attackers_are p.men v.men kings queens rooks bishops knights pawns;
+  own = own;
+  enemies = enemies ∙ ap (side_of p.men) colour;
+  king = sym king;
+  kings = λ s small is. word_has (λ q. is_man (man_on p.men q) v.men.colour King) v.men.kings s kings small
+      ∙ ap (λ (c : Colour). is_man (man_on p.men s) c King) colour ∙ is;
+  castled = subst (λ (c : Colour). AreCastlingSquares p c v.castled) colour castled;
+}
+
+-- a pawn that passes
+same_self : (c : Colour) → same_colour c c ≡ true
+same_self c = grind arith
+
+pub passing_none : (p : Position) (x : Man) (m : Move) → is_double_step x m ≡ false → IsPassing p x m
+passing_none p x m single = record { freely = λ double. absurd (false≢true (sym single ∙ double)) }
+
+pub passing_freely : (p : Position) (x : Man) (m : Move) (h o w l : ℕ) → h ≡ halfway m → o ≡ word (λ t. is_square (Some h) t)
+    → AreApproaches (record { colour = other p.turn; kind = Pawn }) o w → l ≡ squares_of p.men (other p.turn) Pawn → bit_and w l ≡ 0 → IsPassing p x m
+unfolding squares_of
+passing_freely p x m h o w l same only near pawns none = record {
+  freely = λ double q s z small low here enemy pawn. false_by _ (λ goes.
+      let kind : z.kind ≡ Pawn = same_kind-is z.kind Pawn pawn in
+      let there : (bit_at o (halfway m) == 1) ≡ true = word_has (λ t. is_square (Some h) t) o (halfway m) only low ∙ eq-eqb h (halfway m) same in
+      let from : (bit_at w s == 1) ≡ true = near.approach q s (halfway m) small low (rw (← man_is z (other p.turn) Pawn enemy kind) at goes) there in
+      let stands : (bit_at l s == 1) ≡ true = word_has (λ t. is_man (man_on p.men t) (other p.turn) Pawn) l s pawns small
+      ∙ ap (λ (o : Option Man). is_man o (other p.turn) Pawn) here
+      ∙ and_from _ _ (ap (λ (c : Colour). same_colour c (other p.turn)) enemy ∙ same_self (other p.turn)) pawn in
+      none_at (bit_and w l) s none (on_both w l s from stands));
+}

@@ -1,0 +1,158 @@
+-- Who stands where after a move.
+use Rattle.chess_rules.proofs.Basics.{List, None, Option, Some, and_left, and_parts, and_right, ap, arith, cases_Bool, cases_eq, cond-true, cond-false, eq-eqb, false, false≢true, inl, inr, is_some, length, not-true, or_cases, or_parts, refl, rules, sym, true, ℕ, ◌&&◌, ◌<◌, ◌||◌, ◌∙◌, ◌≡◌, ◌≢◌, ◌⊎◌}
+use Rattle.chess_mates.proofs.Chess.{Colour, Grasshopper, IsWellFormed, Kind, King, Man, Move, Pawn, Position, RuleSet, arrives, arriving_man, capture_square, corner, is_arrival_free, is_attacked, is_castling, is_circe, is_fairy, is_man, is_side, is_square, man_on, may_castle, other, position_after}
+use Rattle.chess_mates.proofs.Chess.{after_by, castles, reaches, reaches_as, reaches_of, reborn_square, same_colour, same_colour-true, same_kind, some_square_false, strikes, triple_at}
+use Rattle.chess_core.proofs.Castlings.{has_unmoved-parts}
+use Rattle.chess_core.specs.Castling.{has_unmoved, without_unmoved}
+use Rattle.chess_rules.specs.Legal.{is_promotion_right}
+use Rattle.chess_rules.specs.Play.{unmoved_after}
+use Rattle.chess_rules.specs.Play.{unmoved_without_at}
+use Rattle.chess_rules.proofs.attacks.Seeing.{kept_now, left_now, there_now}
+use Rattle.chess_rules.proofs.attacks.Shielding.{other_differs}
+use Rattle.chess_rules.proofs.listing_moves.Targeting.{false_by}
+use Rattle.chess_rules.proofs.making_moves.Fits.{arrived, arrived_other, king_no_step}
+use Rattle.chess_rules.proofs.making_moves.Pseudo.{IsMade, king_is_no_pawn, made}
+use Rattle.chess_mates.proofs.Fleeing.{no_strike}
+
+-- who stands on a square once a move is made: the man that came, or who stood there
+pub stood : (p : Position) (x : Man) (m : Move) (t : ℕ) (z : Man) → m.to < length p.men → man_on (arrived p x m) t ≡ Some z
+    → ((t ≡ m.to) × (z ≡ arriving_man x m.promo)) ⊎ ((t ≢ m.to) × ((t ≢ m.from) × (man_on p.men t ≡ Some z)))
+stood p x m t z size there = elim (cases_eq t m.to) [
+  | inl e ↦
+      let came : man_on (arrived p x m) t ≡ Some (arriving_man x m.promo) = ap (man_on (arrived p x m)) e ∙ there_now p.men m.from (capture_square p x m) m.to
+      (arriving_man x m.promo) size in
+      let same : Some z ≡ Some (arriving_man x m.promo) = sym there ∙ came in
+      inl (e, cc)
+  | inr ne ↦ elim (cases_Bool (is_square (Some m.from) t || is_square (capture_square p x m) t)) [
+    | inl gone ↦ absurd (let none = left_now p.men m.from (capture_square p x m) m.to (arriving_man x m.promo) t ne gone in cc)
+    | inr kept ↦
+        inr (
+          ne,
+          (
+            (λ e. false≢true (sym (or_parts _ _ kept).0 ∙ eq-eqb m.from t (sym e))),
+            sym (kept_now p.men m.from (capture_square p x m) m.to (arriving_man x m.promo) t ne kept) ∙ there,
+          ),
+        )
+  ]
+]
+
+pub apart : (c : Colour) → same_colour (other c) c ≡ false
+apart c = grind arith
+
+pub self : (c : Colour) → same_colour c c ≡ true
+self c = grind arith
+
+pub not_mine : (x : Man) (c : Colour) → x.colour ≡ other c → same_colour x.colour c ≡ false
+not_mine x c e = ap (λ (d : Colour). same_colour d c) e ∙ apart c
+
+pub free_man : (c : Colour) (o : Option Man) → is_side o c ≡ false → is_man o (other c) King ≡ false → is_arrival_free c o ≡ true
+free_man c o side king = grind (arith, false≢true)
+
+pub unfree : (c : Colour) (o : Option Man) → is_arrival_free c o ≡ true → is_side o c ≡ true → ⊥
+unfree c o free side = grind (arith, and_parts, not-true, false≢true)
+
+pub unnamed : (p : Position) (x : Man) (m : Move) (o : Option Kind) → arrives x m.to ≡ false → is_promotion_right p x m o ≡ true → o ≡ None
+unnamed p x m o off right = grind (arith, and_parts)
+
+pub arrival_small : (i : ℕ) → (triple_at i).to < 64
+unfolding triple_at
+arrival_small i = omega arith
+
+-- nobody is captured but where the man arrives
+pub captured_there : (p : Position) (x : Man) (m : Move) (s : ℕ) → is_square p.crossed m.to ≡ false → capture_square p x m ≡ Some s → s ≡ m.to
+unfolding capture_square
+captured_there p x m s off h = grind (arith, and_right, cond-false, cond-true)
+
+-- who stands elsewhere than where the man leaves and arrives stays
+pub stays_there : (p : Position) (x : Man) (m : Move) (b : ℕ) → ((s : ℕ) → capture_square p x m ≡ Some s → s ≡ m.to) → b ≢ m.from → b ≢ m.to
+    → man_on (arrived p x m) b ≡ man_on p.men b
+stays_there p x m b here from to = arrived_other p x m b from (λ s cap e. to (e ∙ here s cap)) to
+
+-- who stands elsewhere than where the man leaves stays or is captured by him
+pub some_stays : (p : Position) (x : Man) (m : Move) (b : ℕ) → ((s : ℕ) → capture_square p x m ≡ Some s → s ≡ m.to) → m.to < length p.men → b ≢ m.from
+    → is_some (man_on p.men b) ≡ true → is_some (man_on (arrived p x m) b) ≡ true
+some_stays p x m b here size from some = elim (cases_eq b m.to) [
+  | inl e ↦
+      ap (λ (o : Option Man). is_some o)
+      (ap (man_on (arrived p x m)) e ∙ there_now p.men m.from (capture_square p x m) m.to (arriving_man x m.promo) size)
+  | inr ne ↦ ap (λ (o : Option Man). is_some o) (stays_there p x m b here from ne) ∙ some
+]
+
+pub some_side : (o : Option Man) (c : Colour) → is_side o c ≡ true → is_some o ≡ true
+some_side o c h = grind (arith, false≢true)
+
+-- a square that isn't unmoved isn't after a move without rebirth
+pub no_rebirth : (rule : RuleSet) (p : Position) (x : Man) (m : Move) → is_circe rule ≡ false → reborn_square rule p x m ≡ None
+unfolding reborn_square
+no_rebirth rule p x m circe = grind arith
+
+pub unmoved_before : (p : Position) (x : Man) (m : Move) (t : ℕ)
+    → has_unmoved (unmoved_without_at (without_unmoved (without_unmoved p.unmoved m.from) m.to) (capture_square p x m)) t ≡ true
+    → has_unmoved p.unmoved t ≡ true
+unmoved_before p x m t h = search (rules, has_unmoved-parts)
+
+pub moved_stays : (rule : RuleSet) (p : Position) (x : Man) (m : Move) (s : ℕ) → is_circe rule ≡ false → is_castling x m ≡ false
+    → man_on p.men m.from ≡ Some x → has_unmoved p.unmoved s ≡ false → has_unmoved (position_after rule p m).unmoved s ≡ false
+unfolding position_after after_by unmoved_after
+moved_stays rule p x m s circe plain here moved =
+    false_by _ (λ h. false≢true (sym moved ∙ unmoved_before p x m s (rw (here, plain, no_rebirth rule p x m circe) at h)))
+
+pub no_hopper : (k : Kind) → is_fairy k ≡ false → same_kind k Grasshopper ≡ false
+no_hopper k plain = grind (arith, false≢true)
+
+pub not_mine_enemy : (x : Man) (c : Colour) → x.colour ≡ c → same_colour x.colour (other c) ≡ false
+not_mine_enemy x c e = ap (λ (d : Colour). same_colour d (other c)) e ∙ other_differs c
+
+pub and_left_king : (z : Man) → same_kind z.kind King ≡ true → same_kind z.kind Pawn ≡ false
+and_left_king z king = king_is_no_pawn z.kind king
+
+-- a king castles from a square where he is unmoved, and the rook too
+pub castle_unmoved : (rule : RuleSet) (p : Position) (x : Man) (m : Move) → IsWellFormed p → IsMade rule p x m → is_castling x m ≡ true
+    → (has_unmoved p.unmoved m.from ≡ true) × (has_unmoved p.unmoved (corner m) ≡ true)
+unfolding castles may_castle
+castle_unmoved rule p x m well made castling =
+    let king = (and_parts _ _ (and_parts _ _ castling).0).0 in
+    let goes = sym (cond-false (same_kind x.kind Pawn) _ _ (king_is_no_pawn x.kind king)) ∙ made.goes in
+    elim (or_cases _ _ goes) [
+      | inl steps ↦ absurd (king_no_step p x m well made.here castling king steps)
+      | inr way ↦
+          let a = (and_parts _ _ (and_parts _ _ (and_parts _ _ (and_parts _ _ way).0).0).0).0 in
+          ((and_parts _ _ (and_parts _ _ a).0).1, (and_parts _ _ a).1)
+    ]
+
+-- a piece that doesn't castle reaches where it goes
+pub piece_reaches : (rule : RuleSet) (p : Position) (x : Man) (m : Move) → IsMade rule p x m → same_kind x.kind Pawn ≡ false → is_castling x m ≡ false
+    → reaches_as p.men x.colour x.kind m.from m.to ≡ true
+unfolding castles may_castle reaches
+piece_reaches rule p x m made piece plain =
+    let goes = sym (cond-false (same_kind x.kind Pawn) _ _ piece) ∙ made.goes in
+    elim (or_cases _ _ goes) [
+      | inl steps ↦ sym (ap (λ (o : Option Man). reaches_of p.men o m.from m.to) made.here) ∙ steps
+      | inr way ↦
+          let a = (and_parts _ _ (and_parts _ _ (and_parts _ _ (and_parts _ _ way).0).0).0).0 in
+          absurd (false≢true (sym plain ∙ (and_parts _ _ (and_parts _ _ a).0).0))
+    ]
+
+-- a king reaches what he does whoever stands on the board
+pub king_reaches : (men others : List (Option Man)) (c : Colour) (k : Kind) (s t : ℕ) → k ≡ King → reaches_as men c k s t ≡ reaches_as others c k s t
+unfolding reaches_as
+king_reaches men others c k s t e = rw e refl
+
+-- where nobody of the other side reaches a square, it isn't attacked
+pub reach_none : (men : List (Option Man)) (t : ℕ) (c : Colour)
+    → ((s : ℕ) (z : Man) → s < 64 → man_on men s ≡ Some z → z.colour ≡ other c → reaches_as men z.colour z.kind s t ≡ false)
+    → (s : ℕ) → s < 64 → (is_side (man_on men s) (other c) && reaches men s t) ≡ false
+unfolding reaches
+reach_none men t c none s inside = by (man_on men s) refl where
+  by : (o : Option Man) → man_on men s ≡ o → (is_side o (other c) && reaches_of men o s t) ≡ false
+  by None e = refl
+  by (Some z) e = elim (cases_Bool (same_colour z.colour (other c))) [
+    | inl enemy ↦ and_right (same_colour z.colour (other c)) _ (none s z inside e (same_colour-true _ _ enemy))
+    | inr off ↦ and_left _ (reaches_of men (Some z) s t) off
+  ]
+
+pub nobody_strikes : (rule : RuleSet) (men : List (Option Man)) (t : ℕ) (c : Colour)
+    → ((s : ℕ) (z : Man) → s < 64 → man_on men s ≡ Some z → z.colour ≡ other c → reaches_as men z.colour z.kind s t ≡ false)
+    → is_attacked rule men t (other c) ≡ false
+unfolding is_attacked strikes
+nobody_strikes rule men t c none = search (rules, no_strike, reach_none men t c none, some_square_false)
