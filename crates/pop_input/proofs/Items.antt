@@ -3,7 +3,7 @@ use Rattle.pop_input.proofs.Words.{Block, Bool, Command, IsNew, List, None, Opti
 use Rattle.pop_text.specs.Words.{Token}
 use Rattle.pop_input.specs.declared.names.TextWord.TheVariants.{Title, Author}
 use Rattle.pop_input.proofs.Taking.{takes_then}
-use Rattle.pop_input.proofs.Blocks.{said, block_more, block_line, begun_word, begun_line, inside_more, inside_none, inside_first, words_more, words_line, text_more, text_line}
+use Rattle.pop_input.proofs.Blocks.{said, block_more, block_line, begun_word, begun_line, inside_more, inside_none, inside_first, said_more, words_line, text_more, text_line}
 
 -- what a block says of its tokens
 pub record Tells (first : Bool) (block : Block) (done : List Token) : Type 0 where
@@ -79,7 +79,7 @@ module _ (first : Bool) (old mid new : Reading) (had met left : Option (List ℕ
       (r : next.fault ≡ None → ReadsWord block next line text) where
     -- a word, the closing one too
     pub word_read : (next.fault ≡ block_fault first (b.done ++ Word line text ∷ [])) × (next.fault ≡ None → Tells first next (b.done ++ Word line text ∷ []))
-    word_read = grind (arith, block_more, or_first, begun_word, text_more, inside_more, inside_none, inside_first, words_more)
+    word_read = grind (arith, block_more, or_first, begun_word, text_more, inside_more, inside_none, inside_first, said_more)
 
     -- a word that does not close the block
     pub open_read : TakesPart mid new met left (Word line text) → closes (command_of text) ≡ false → BlockSoFar first old new had left next

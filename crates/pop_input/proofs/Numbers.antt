@@ -1,5 +1,5 @@
 -- The numbers of faults.
-use Rattle.pop_input.proofs.Words.{Block, Bool, Closes, Colour, Command, CutsOff, Fault, FaultKind, IsNumbered, Item, Kind, List, Man, None, Option, ReadFault, Reading, Some, State, Stipulation, TextLine, Token, Word, [], arith, block_fault, condition_fault, control_fault, end_fault_in, ended_item, false, fault_of, first_fault, if◌then◌else◌, letter_fault, man_fault, men_fault, number_of, or_else, pieces_fault, put_fault, role_fault, state_of, stipulation_fault, told_of_cut, true, with_man, ℕ, ◌∷◌, ◌≤◌}
+use Rattle.pop_input.proofs.Words.{Block, Bool, Colour, Command, CutsOff, Fault, FaultKind, IsNumbered, Kind, List, Man, None, Option, ReadFault, Reading, Some, State, Stipulation, TextLine, Token, Word, [], arith, block_fault, condition_fault, control_fault, ended_item, false, fault_of, first_fault, if◌then◌else◌, item_of, judged_entry, letter_fault, man_fault, men_fault, nothing_said, number_of, or_else, pieces_fault, posed_entry, put_fault, role_fault, state_after, stipulation_fault, told_of_cut, true, with_man, ℕ, ◌∷◌, ◌≤◌}
 use Rattle.pop_input.specs.declared.condition.Condition.{Condition}
 use Rattle.pop_input.specs.declared.item.Item.TheVariants.{Faulty}
 use Rattle.pop_input.specs.declared.item.Last.{Last}
@@ -44,10 +44,6 @@ role_small state role text = grind (arith, small_if, control_small, pieces_small
 word_small : (begun : Bool) (state : State) (text : List ℕ) → IsSmall (fault_of begun state text)
 word_small begun state text = grind (arith, small_if, role_small)
 
-end_small : (state : State) → IsSmall (end_fault_in state)
-unfolding end_fault_in
-end_small state = grind arith
-
 -- Faults.
 
 -- the same of a fault with its line
@@ -58,14 +54,14 @@ SmallFault (Some fault) = (1 ≤ fault.number) × (fault.number ≤ 19)
 fault_else : (a b : Option Fault) → SmallFault a → SmallFault b → SmallFault (or_else a b)
 fault_else a b p q = grind arith
 
-first_small : (before : List (List ℕ)) (tokens : List Token) → SmallFault (first_fault before tokens)
-first_small before [] = tt
-first_small before (Word line text ∷ tokens) = grind (arith, fault_else, word_small true (state_of before) text, first_small (text ∷ before) tokens)
-first_small before (TextLine line keyword text ∷ tokens) = first_small before tokens
+first_small : (state : State) (tokens : List Token) → SmallFault (first_fault state tokens)
+first_small state [] = tt
+first_small state (Word line text ∷ tokens) = grind (arith, fault_else, word_small true state text, first_small (state_after state text) tokens)
+first_small state (TextLine line keyword text ∷ tokens) = first_small state tokens
 
 -- a block's words have no fault, or one numbered from 1 to 19
 pub block_small : (first : Bool) (tokens : List Token) → SmallFault (block_fault first tokens)
-block_small false tokens = first_small [] tokens
+block_small false tokens = first_small nothing_said tokens
 block_small true [] = tt
 block_small true (Word line text ∷ tokens) = grind (arith, fault_else, word_small, first_small)
 block_small true (TextLine line keyword text ∷ tokens) = block_small true tokens
@@ -77,9 +73,10 @@ small_item : (place : Reading) (fault : Fault) (last : Last) → SmallFault (Som
 small_item place fault last p = grind arith
 
 -- so has the item that a word closes
-pub closed_numbered : (place : Reading) (block : Block) (line : ℕ) (last : Last) (item : Item) → Closes block line last item → SmallFault block.fault
-    → IsNumbered place item
-closed_numbered place block line last item c p = grind (arith, small_item, fault_else, end_small)
+pub closed_numbered : (place : Reading) (f : Option Fault) (state : State) (title author : List ℕ) (line : ℕ) (last : Last) → SmallFault f
+    → IsNumbered place (item_of (judged_entry f state title author line) last)
+unfolding posed_entry
+closed_numbered place f state title author line last p = grind (arith, small_item)
 
 -- so has one in which the input ends
 pub ended_numbered : (place : Reading) (block : Block) (line : ℕ) → SmallFault block.fault → IsNumbered place (ended_item block line)

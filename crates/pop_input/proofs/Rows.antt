@@ -1,6 +1,6 @@
 -- Inputs, and the items that they hold, computed from the definitions.
 use Rattle.pop_input.proofs.Words.{BadLimit, BadStipulation, BeginProblemMissing, Clean, Colour, ColourMissing, DeviceFailed, EnPassantImpossible, EndProblemMissing, Ending, Entry, Failed, FaultKind, Kind, King, KingMissing, List, Man, NoMen, None, NoneCastlesThere, Option, PawnOnOuterRank, Rook, SecondCondition, SecondKing, SecondStipulation, Some, Sound, SquareMissing, SquareTaken, StipulationMissing, WaitingSideInCheck, WordMisplaced, WordTooLong, [], awaited_of, codes, is_attacked}
-use Rattle.pop_input.proofs.Words.{colour_of, command_of, condition_of, end_fault_in, entries_of, faces, faces_its_like, false, fault_at, has_unmoved, in_check, is_crossed_right, is_home, is_paralysed, is_taken, is_there, kind_of, king_square, limit, limit_of, mark_unmoved, no_men, none_unmoved, option_of, refl, replicate, section_of, squares_of, stands, stipulation_of, strikes, text_word_of, true, unmoved_of, with_man, words_of, ℕ, ◌++◌, ◌∷◌, ◌≡◌}
+use Rattle.pop_input.proofs.Words.{colour_of, command_of, condition_of, entries_of, faces, faces_its_like, false, fault_at, has_unmoved, in_check, is_crossed_right, is_home, is_paralysed, is_taken, is_there, kind_of, king_square, limit, limit_of, mark_unmoved, no_men, none_unmoved, option_of, posed_entry, refl, replicate, section_of, squares_of, stands, stipulation_of, strikes, text_word_of, true, unmoved_of, with_man, words_of, ℕ, ◌++◌, ◌∷◌, ◌≡◌}
 use Rattle.chess_core.specs.Squares.{some_square, squares}
 use Rattle.chess_core.specs.Steps.{along}
 use Rattle.chess_core.specs.declared.man.Colour.TheVariants.{White, Black}
@@ -93,7 +93,7 @@ ends : (items (codes "BeginProblem\nEndProblem\n") ≡ only_fault StipulationMis
     ≡ only_fault EnPassantImpossible 5) × (items (codes "BeginProblem\nPieces White Kg6 Ra1\nStipulation #1\nEndProblem\n") ≡ only_fault KingMissing 4)
     × (items (codes "BeginProblem\nPieces White Kg6 Rh1 Black Kh8\nStipulation #1\nEndProblem\n") ≡ only_fault WaitingSideInCheck 4)
 unfolding limit awaited_of colour_of command_of condition_of kind_of option_of section_of text_word_of limit_of squares_of stipulation_of is_there stands
-    some_square squares end_fault_in is_taken unmoved_of has_unmoved mark_unmoved none_unmoved is_home is_crossed_right king_square is_attacked faces
+    some_square squares posed_entry is_taken unmoved_of has_unmoved mark_unmoved none_unmoved is_home is_crossed_right king_square is_attacked faces
     faces_its_like in_check is_paralysed strikes hops is_clear leaps reaches reaches_as rides along
 ends = (refl, refl, refl, refl, refl)
 
@@ -119,7 +119,7 @@ sound_problem : items
       author = codes "A. B.";
     }) ∷ []
 unfolding limit awaited_of colour_of command_of condition_of kind_of option_of section_of text_word_of limit_of squares_of stipulation_of is_there stands
-    some_square squares end_fault_in is_taken unmoved_of has_unmoved mark_unmoved none_unmoved is_home is_crossed_right king_square is_attacked faces
+    some_square squares posed_entry is_taken unmoved_of has_unmoved mark_unmoved none_unmoved is_home is_crossed_right king_square is_attacked faces
     faces_its_like in_check is_paralysed strikes hops is_clear leaps reaches reaches_as rides along
 sound_problem = refl
 
@@ -137,6 +137,6 @@ sound_options : items (codes "beg\nopt set max 5 max 007 noc h1a1\nsti H=12\ncon
       author = [];
     }) ∷ only_fault EndProblemMissing 9
 unfolding limit awaited_of colour_of command_of condition_of kind_of option_of section_of text_word_of limit_of squares_of stipulation_of is_there stands
-    some_square squares end_fault_in is_taken unmoved_of has_unmoved mark_unmoved none_unmoved is_home is_crossed_right king_square is_attacked faces
+    some_square squares posed_entry is_taken unmoved_of has_unmoved mark_unmoved none_unmoved is_home is_crossed_right king_square is_attacked faces
     faces_its_like in_check is_paralysed strikes hops is_clear leaps reaches reaches_as rides along
 sound_options = refl

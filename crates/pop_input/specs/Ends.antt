@@ -1,7 +1,7 @@
 -- The problem that the words of a block pose (Codex, Popeye manual), and the tests at its end (own).
 use Rattle.pop_input.specs.declared.fault_kind.FaultKind.{FaultKind}
-use Rattle.pop_input.specs.declared.fault_kind.FaultKind.TheVariants.{StipulationMissing, NoMen, EnPassantImpossible, KingMissing, WaitingSideInCheck}
-use Rattle.std.specs.Prelude.{◌≡◌, ℕ, List, length, fold, not, ◌&&◌, Bool, true, if◌then◌else◌, Option, Some, None, unwrap_or}
+use Rattle.pop_input.specs.declared.fault_kind.FaultKind.TheVariants.{NoMen, EnPassantImpossible, KingMissing, WaitingSideInCheck}
+use Rattle.std.specs.Prelude.{◌≡◌, ℕ, List, length, fold, not, ◌&&◌, Bool, true, if◌then◌else◌, Option, Some, None}
 use Rattle.chess_core.specs.Castling.{castling_squares, has_unmoved, mark_unmoved, none_unmoved}
 use Rattle.chess_core.specs.Diagrams.{Diagram, has_men}
 use Rattle.chess_core.specs.Position.{AtMostOneKing, man_on, other}
@@ -13,8 +13,6 @@ use Rattle.pop_input.specs.Posed.{Posed, rule_of}
 use Rattle.pop_input.specs.State.{State}
 use Rattle.pop_input.specs.Stipulations.{starting_side, has_king_to_mate, is_in_range}
 use Rattle.pop_input.specs.declared.stipulation.Form.{Form}
-use Rattle.pop_input.specs.declared.stipulation.Form.TheVariants.{Direct}
-use Rattle.pop_input.specs.declared.stipulation.Goal.TheVariants.{Mate}
 use Rattle.pop_input.specs.declared.stipulation.Stipulation.{Stipulation}
 
 -- The diagram.
@@ -39,13 +37,9 @@ diagram_of state form = record {
   crossed = state.crossed;
 }
 
--- that of a block without one, whose fault it is: no item shows it
-abbrev pub no_stipulation : Stipulation
-no_stipulation = record { form = Direct; goal = Mate; n = 1 }
-
--- the problem that words pose with this stipulation
-abbrev pub posed_by : State → Stipulation → List ℕ → List ℕ → Posed
-posed_by state stipulation title author = record {
+-- the problem that words pose with this stipulation, a title and an author
+abbrev pub posed_of : State → Stipulation → List ℕ → List ℕ → Posed
+posed_of state stipulation title author = record {
   diagram = diagram_of state stipulation.form;
   stipulation = stipulation;
   condition = state.condition;
@@ -56,11 +50,6 @@ posed_by state stipulation title author = record {
   title = title;
   author = author;
 }
-
--- the problem that words pose, with a title and an author
-abbrev pub posed_of : State → List ℕ → List ℕ → Posed
-posed_of state title author = posed_by state (unwrap_or state.stipulation no_stipulation) title
-    author
 
 -- The tests, in their order.
 
@@ -77,16 +66,6 @@ diagram_fault state stipulation diagram =
     then Some EnPassantImpossible
     else position_fault (has_king_to_mate stipulation diagram.men)
     (in_check (rule_of state.condition) diagram.men (other diagram.turn)))
-
--- no stipulation, or a fault of the diagram
-abbrev pub stated_fault : State → Option Stipulation → Option FaultKind
-stated_fault state None = Some StipulationMissing
-stated_fault state (Some stipulation) = diagram_fault state stipulation
-    (diagram_of state stipulation.form)
-
--- the fault at the end of a block whose words have none
-unfoldable pub end_fault_in : State → Option FaultKind
-end_fault_in state = stated_fault state state.stipulation
 
 -- What words without a fault keep.
 

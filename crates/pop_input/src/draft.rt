@@ -1,6 +1,6 @@
 //! A problem as far as its words are read. Its modules say what words of each section do, and what its end tests.
 ghost use Rattle.std.specs.Prelude.{◌≡◌, [], None, Some};
-ghost use Rattle.pop_input.specs.State.{state_after, state_by, state_of};
+ghost use Rattle.pop_input.specs.State.{nothing_said, state_after, state_by};
 ghost use Rattle.pop_input.specs.WordFaults.{control_fault, fault_in, role_fault};
 ghost use Rattle.pop_input.specs.declared.place.Role.TheVariants.{Control, Within};
 
@@ -65,7 +65,7 @@ impl Model for Draft {
 impl Draft {
     /// Nothing is said yet.
     pub(crate) fn new() -> Draft
-        ensures { result ≡ state_of [] }
+        ensures { result ≡ nothing_said }
     {
         Draft {
             place: Place {

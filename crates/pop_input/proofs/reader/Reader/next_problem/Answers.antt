@@ -57,16 +57,16 @@ pub returns-in-Some-clause-item : goal.returns-in-Some-clause-item
 returns-in-Some-clause-item g c =
     let i = c.words.invariant in
     let new : Standing = record { next = c.next_behind-self-inside.result; at = c.next_token.new.scanner } in
-    word_closes _ _ new _ _ i.starts _ _ _ _ i.block _ _ c.in-Word.ensures.token.0 c.read_word.ensures.read c.closed.result c.in-Some.last _
-    c.closed.ensures refl (sym c.read_word.ensures.closes ∙ c.in-Some.is) c.next_behind-self-inside.ensures
+    rw c.closed.ensures (word_closes _ _ new _ _ i.starts _ _ _ _ i.block _ _ c.in-Word.ensures.token.0 c.read_word.ensures.read c.in-Some.last _
+    refl (sym c.read_word.ensures.closes ∙ c.in-Some.is) c.next_behind-self-inside.ensures)
 
 pub returns-in-Some-clause-used : goal.returns-in-Some-clause-used
 returns-in-Some-clause-used g c =
     let i = c.words.invariant in
     let behind : Standing = record { next = c.next_behind-self-inside.result; at = c.next_token.new.scanner } in
-    closed_item _ _ behind _ _ (g.S.Source.remaining c.next_token.new.source) c.read_word.new.block _ _ _ c.closed.ensures
+    rw c.closed.ensures (closed_item _ _ behind _ _ (g.S.Source.remaining c.next_token.new.source) _ _
     (word_used _ _ behind _ _ _ _ _ i.block i.used _ _ c.in-Some.last c.in-Word.ensures.token.0 c.in-Word.ensures.used
-    (sym c.read_word.ensures.closes ∙ c.in-Some.is) c.next_behind-self-inside.ensures) (search rules) (search rules)
+    (sym c.read_word.ensures.closes ∙ c.in-Some.is) c.next_behind-self-inside.ensures) (search rules) (search rules))
 
 pub returns-in-Ended-clause-used : goal.returns-in-Ended-clause-used
 returns-in-Ended-clause-used g c =
@@ -98,8 +98,7 @@ returns-in-Cut-clause-item g c =
 
 pub returns-in-Some-clause-numbered : goal.returns-in-Some-clause-numbered
 returns-in-Some-clause-numbered g c =
-    word_numbered _ _ _ _ _ _ _ _ _ c.words.invariant.block _ _ c.in-Word.ensures.token.0 c.read_word.ensures.read c.closed.result c.in-Some.last
-    c.closed.ensures
+    rw c.closed.ensures (word_numbered _ _ _ _ _ _ _ _ _ c.words.invariant.block _ _ c.in-Word.ensures.token.0 c.read_word.ensures.read c.in-Some.last)
 
 pub returns-in-Ended-clause-numbered : goal.returns-in-Ended-clause-numbered
 returns-in-Ended-clause-numbered g c =
