@@ -1,7 +1,7 @@
 -- The words of chess, and the lemmas on squares and tests, that most proofs name.
 pub use Rattle.chess_core.proofs.Boards.{IsAt, along-is, square_at-is}
 pub use Rattle.chess_core.proofs.Castlings.{has_unmoved-mark_other, has_unmoved-parts, is_home-none, is_home-square}
-pub use Rattle.chess_core.proofs.Kept.{same_kind-is}
+pub use Rattle.chess_core.proofs.Kept.{same_kind-true}
 pub use Rattle.chess_core.proofs.Men.{AtMostOneKing-without, is_man-without, man_on-with_other, man_on-with_same, man_on-without_none, man_on-without_other, man_on-without_same, same_colour-true}
 pub use Rattle.chess_core.proofs.Ranges.{NoneBelow, all_range_false, all_range_true, any_range_false, any_range_true, find_range_none, find_range_some, some_square_false, some_square_true}
 pub use Rattle.chess_core.proofs.Words.{square_bit, square_word, square_word_small, squares_both, squares_either, squares_none, squares_not, squares_same, squares_some}

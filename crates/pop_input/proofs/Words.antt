@@ -9,7 +9,7 @@ pub use Rattle.std.specs.Prelude.{MatchResult, codes, nat_eq, option_map}
 pub use Rattle.chess_core.specs.Castling.{castling_squares, is_castling_square, with_unmoved}
 unfoldable pub use Rattle.chess_core.specs.Castling.{has_unmoved, mark_unmoved, none_unmoved}
 pub use Rattle.chess_core.specs.Diagrams.{Diagram, has_men}
-unfoldable pub use Rattle.chess_core.specs.Diagrams.{is_taken, is_there, position_of, stands}
+unfoldable pub use Rattle.chess_core.specs.Diagrams.{is_taken, is_man_on, position_of, has_man}
 pub use Rattle.chess_core.specs.Position.{HasNoKing, is_man, man_on, other, same_kind, with_man}
 unfoldable pub use Rattle.chess_core.specs.Position.{king_square}
 pub use Rattle.chess_core.specs.WellFormed.{IsWellFormed, is_pawn_inside}

@@ -5,7 +5,7 @@ use Rattle.std.specs.Prelude.{ℕ, List, [], ◌∷◌, length, nat_le, nat_lt, 
 use Rattle.std.specs.Prelude.{◌==◌}
 use Rattle.std.specs.List.{list_any, list_all}
 use Rattle.chess_core.specs.Castling.{is_castling_square}
-use Rattle.chess_core.specs.Diagrams.{stands}
+use Rattle.chess_core.specs.Diagrams.{has_man}
 use Rattle.chess_core.specs.Position.{man_on, same_kind, with_man}
 use Rattle.chess_core.specs.WellFormed.{is_pawn_inside}
 use Rattle.chess_core.specs.declared.man.Colour.{Colour}
@@ -46,7 +46,7 @@ abbrev pub man_fault : List (Option Man) → Man → ℕ → Option FaultKind
 man_fault men man square =
     if is_some (man_on men square) then Some SquareTaken
     else (if not (is_pawn_inside (Some man) square) then Some PawnOnOuterRank
-    else fault_if (same_kind man.kind King && stands men man.colour King) SecondKing)
+    else fault_if (same_kind man.kind King && has_man men man.colour King) SecondKing)
 
 -- the fault of squares on which a man is put in turn
 abbrev pub men_fault : List (Option Man) → Man → List ℕ → Option FaultKind

@@ -1,21 +1,18 @@
 -- The position before a move, found again.
 use Rattle.chess_rules.proofs.Basics.{IsSome, List, None, Option, Some, and_parts, ap, arith, cases_Bool, inl, inr, length, length-set, refl, rules, sym, true, ℕ, ◌<◌, ◌∙◌, ◌≡◌}
-use Rattle.chess_rules.proofs.Chess.{CanCastle, CanReturn, IsWellFormed, Kind, Man, Move, Position, RuleSet, after_by, arriving_man, before_by, capture_square, corner, halfway, is_castling, is_crossed_right, is_promotion_right, is_pseudo_legal, is_square, leaving_man, man_on, man_on-with_same, man_on-without_other, man_on-without_same, man_on_at, moved_men, position_after, put_at, reborn_square, returned_men, returns_to, uncastled_men, undo_by, undo_of, without_at, without_man}
+use Rattle.chess_rules.proofs.Chess.{same_kind-true, CanCastle, CanReturn, IsWellFormed, Kind, Man, Move, Position, RuleSet, after_by, arriving_man, before_by, capture_square, corner, halfway, is_castling, is_crossed_right, is_promotion_right, is_pseudo_legal, is_square, leaving_man, man_on, man_on-with_same, man_on-without_other, man_on-without_same, man_on_at, moved_men, position_after, put_at, reborn_square, returned_men, returns_to, uncastled_men, undo_by, undo_of, without_at, without_man}
 use Rattle.chess_rules.specs.Undo.{Undo}
 use Rattle.chess_rules.proofs.making_moves.Pseudo.{made}
 use Rattle.chess_rules.proofs.making_moves.Back.{lift_after_place, place_after_lift, unborn, uncastled}
 use Rattle.chess_rules.proofs.making_moves.Castles.{no_king_left, same_colour_self}
 use Rattle.chess_rules.proofs.making_moves.Fits.{IsTaken, arrived, can_move, castle_of, corner_stays, taken}
-use Rattle.chess_rules.proofs.making_moves.Plays.{capture_clears}
-use Rattle.chess_rules.proofs.making_moves.Pseudo.{IsCastle, IsMade, kind_is_pawn}
+use Rattle.chess_rules.proofs.making_moves.Plays.{capture_clears, length-without_at}
+use Rattle.chess_rules.proofs.making_moves.Pseudo.{IsCastle, IsMade}
 use Rattle.chess_rules.proofs.making_moves.Stays.{captured_mortal, move_man_other, moved_sound, reborn_is, rebirth_small, maker}
 
 -- the men once origin and square of capture are cleared
 abbrev cleared : Position → Man → Move → List (Option Man)
 cleared p x m = without_at (without_man p.men m.from) (capture_square p x m)
-
-length-without_at : (men : List (Option Man)) (o : Option ℕ) → length (without_at men o) ≡ length men
-length-without_at men o = grind (arith, length-set)
 
 arrived_there : (p : Position) (x : Man) (m : Move) → length p.men ≡ 64 → m.to < 64 → man_on (arrived p x m) m.to ≡ Some (arriving_man x m.promo)
 arrived_there p x m size small = search rules
@@ -35,7 +32,7 @@ moved_arrival rule p x m well made small = elim (cases_Bool (is_castling x m)) [
 
 -- a promoted man was a pawn
 leaving_arriving : (p : Position) (x : Man) (m : Move) (r : Option Kind) → is_promotion_right p x m r ≡ true → leaving_man (arriving_man x r) r ≡ x
-leaving_arriving p x m r h = grind (arith, and_parts, kind_is_pawn)
+leaving_arriving p x m r h = grind (arith, and_parts, same_kind-true)
 
 -- the rook that castles
 rook_stands : (p : Position) (m : Move) → IsCastle p m → (z : Man) × (man_on p.men (corner m) ≡ Some z)

@@ -2,12 +2,12 @@
 use Rattle.chess_rules.proofs.Basics.{Bool, List, None, Option, Some, and_from, and_parts, ap, arith, cases_Bool, cases_eq, cases_lt, cond-false, cond-true, eq-eqb, eqb, eqb-true, false, if◌then◌else◌, inl, inr, length, length-set, ne_eqb, not-true, or_cases, refl, rules, set_past, sym, true, ℕ, ◌&&◌, ◌+◌, ◌<◌, ◌||◌, ◌∙◌, ◌≡◌, ◌≢◌, ◌≤◌, ◌⊎◌}
 use Rattle.chess_rules.proofs.Chess.{AtMostOneKing, AtMostOneKing-without, CanCastle, Colour, HasNoKing, IsAt, IsWellFormed, Kind, King, Man, Move, Pawn, Position, Rook, RuleSet, after_by, arriving_man, by_shade, capture_square, corner, file_of, halfway, has_unmoved, has_unmoved-mark_other, has_unmoved-parts, position_after}
 use Rattle.chess_rules.proofs.Chess.{if_empty, is_castling, is_circe, is_crossed_right, is_double_step, is_home, is_home-none, is_man, is_pawn_inside, is_promotion_right, is_vacant_at, last_rank, man_on, man_on-with_other, man_on-with_same, man_on-without_none, man_on-without_other, man_on-without_same, man_on_at, may_promote, move_man}
-use Rattle.chess_rules.proofs.Chess.{is_pseudo_legal, moved_men, other, put_at, rank_of, rebirth, reborn_at, reborn_square, same_colour, same_kind, second_rank, square_at, square_at-is, unmoved_after, unmoved_with_rook, unmoved_without_at, was_passed, with_man, without_at, without_man, without_unmoved}
+use Rattle.chess_rules.proofs.Chess.{is_pseudo_legal, moved_men, other, put_at, rank_of, rebirth, reborn_at, reborn_square, same_colour, same_kind, same_kind-true, second_rank, square_at, square_at-is, unmoved_after, unmoved_with_rook, unmoved_without_at, was_passed, with_man, without_at, without_man, without_unmoved}
 use Rattle.chess_core.specs.declared.man.Unmoved.{Unmoved}
 use Rattle.chess_core.proofs.Kept.{same_colour-refl}
 use Rattle.chess_rules.proofs.making_moves.Fits.{arrived, arrived_other, can_move, castle_of, corner_stays, no_capture, pawn_is_no_king, taken}
 use Rattle.chess_rules.proofs.making_moves.Plays.{none_from_is_some}
-use Rattle.chess_rules.proofs.making_moves.Pseudo.{Advances, IsMade, kind_is_pawn, made, pawn_goes, pawn_reaches, ways}
+use Rattle.chess_rules.proofs.making_moves.Pseudo.{Advances, IsMade, made, pawn_goes, pawn_reaches, ways}
 
 -- the men of a well-formed position
 pub record IsSound (men : List (Option Man)) : Type 0 where
@@ -109,19 +109,16 @@ unfolding rebirth
 pawn_reborn c s r h = grind (arith, square_at-is, eq-eqb)
 
 reborn_inside : (y : Man) (s r : ℕ) → rebirth y.colour y.kind s ≡ Some r → is_pawn_inside (Some y) r ≡ true
-reborn_inside y s r h = search (rules, kind_is_pawn, other_inside, pawn_inside, pawn_reborn)
+reborn_inside y s r h = search (rules, same_kind-true, other_inside, pawn_inside, pawn_reborn)
 
 -- a rook is reborn on a corner of its side
 rook_reborn : (y : Man) (c : Colour) (s r : ℕ) → is_man (Some y) c Rook ≡ true → rebirth c Rook s ≡ Some r → is_home (Some y) r ≡ true
 unfolding rebirth is_home
 rook_reborn y c s r is h = grind (arith, cases_Bool)
 
-kind_is_rook : (k : Kind) → same_kind k Rook ≡ true → k ≡ Rook
-kind_is_rook k h = grind arith
-
 reborn_rook_home : (y : Man) (s r : ℕ) → same_kind y.kind Rook ≡ true → rebirth y.colour y.kind s ≡ Some r → is_home (Some y) r ≡ true
 reborn_rook_home y s r rook h =
-    let k : y.kind ≡ Rook = kind_is_rook y.kind rook in
+    let k : y.kind ≡ Rook = same_kind-true y.kind Rook rook in
     rook_reborn y y.colour s r (and_from _ _ (same_colour-refl y.colour) rook) (rw k at h)
 
 -- the men once a man is reborn
