@@ -1,26 +1,26 @@
 -- Blocks token by token.
-use Rattle.pop_input.proofs.Words.{Bool, Command, List, None, Some, State, Tail, TextLine, TextWord, Token, Word, Words, [], append-nil, ap, append_assoc, arith, at_line, before_blocks, block_entries, block_fault, blocks_of, closed_entry, closes, closes_none, closing_line, closing_of, command_of, entries_by, entries_of, false, fault_of, first_fault, fold, has_begun, last_text, line_of, list_all, no_words, or_else, put_before, refl, state_after, state_of, text_after, text_word_of, tokens_inside, true, words_in, ℕ, ◌++◌, ◌∷◌, ◌≡◌}
+use Rattle.pop_input.proofs.Words.{Bool, Command, List, None, Some, Draft, Tail, TextLine, TextWord, Token, Word, Words, [], append-nil, ap, append_assoc, arith, at_line, before_blocks, block_entries, block_fault, blocks_of, closed_entry, closes, closes_none, closing_line, closing_of, command_of, entries_by, entries_of, false, fault_of, first_fault, fold, has_begun, last_text, line_of, list_all, no_words, or_else, put_before, refl, draft_after, draft_of, text_after, text_word_of, tokens_inside, true, words_in, ℕ, ◌++◌, ◌∷◌, ◌≡◌}
 use Rattle.pop_input.specs.declared.names.Command.TheVariants.{Next, Last}
 
 -- One more token.
 
 -- the first fault behind one more word: an earlier one, or that of the word
-fault_more : (state : State) (done : List Token) (line : ℕ) (text : List ℕ)
-    → first_fault state (done ++ Word line text ∷ [])
-    ≡ or_else (first_fault state done) (at_line line (fault_of true (fold state_after state (words_in done)) text))
-fault_more state [] line text = grind arith
-fault_more state (Word l t ∷ done) line text = grind (arith, fault_more (state_after state t) done line text)
-fault_more state (TextLine l k t ∷ done) line text = fault_more state done line text
+fault_more : (draft : Draft) (done : List Token) (line : ℕ) (text : List ℕ)
+    → first_fault draft (done ++ Word line text ∷ [])
+    ≡ or_else (first_fault draft done) (at_line line (fault_of true (fold draft_after draft (words_in done)) text))
+fault_more draft [] line text = grind arith
+fault_more draft (Word l t ∷ done) line text = grind (arith, fault_more (draft_after draft t) done line text)
+fault_more draft (TextLine l k t ∷ done) line text = fault_more draft done line text
 
-fault_line : (state : State) (done : List Token) (line : ℕ) (keyword text : List ℕ)
-    → first_fault state (done ++ TextLine line keyword text ∷ []) ≡ first_fault state done
-fault_line state [] line keyword text = refl
-fault_line state (Word l t ∷ done) line keyword text = grind (arith, fault_line (state_after state t) done line keyword text)
-fault_line state (TextLine l k t ∷ done) line keyword text = fault_line state done line keyword text
+fault_line : (draft : Draft) (done : List Token) (line : ℕ) (keyword text : List ℕ)
+    → first_fault draft (done ++ TextLine line keyword text ∷ []) ≡ first_fault draft done
+fault_line draft [] line keyword text = refl
+fault_line draft (Word l t ∷ done) line keyword text = grind (arith, fault_line (draft_after draft t) done line keyword text)
+fault_line draft (TextLine l k t ∷ done) line keyword text = fault_line draft done line keyword text
 
 -- what the tokens of a block say
-abbrev pub said : Bool → List Token → State
-said first done = state_of (words_in (tokens_inside first done))
+abbrev pub said : Bool → List Token → Draft
+said first done = draft_of (words_in (tokens_inside first done))
 
 -- one more word of a block
 pub block_more : (first : Bool) (done : List Token) (line : ℕ) (text : List ℕ)
@@ -62,11 +62,11 @@ inside_first first [] token h = grind arith
 inside_first first (other ∷ done) token h = grind (arith, inside_first first done token)
 
 -- one more word is said last
-pub said_more : (state : State) (done : List Token) (line : ℕ) (text : List ℕ)
-    → fold state_after state (words_in (done ++ Word line text ∷ [])) ≡ state_after (fold state_after state (words_in done)) text
-said_more state [] line text = refl
-said_more state (Word l t ∷ done) line text = said_more (state_after state t) done line text
-said_more state (TextLine l k t ∷ done) line text = said_more state done line text
+pub said_more : (draft : Draft) (done : List Token) (line : ℕ) (text : List ℕ)
+    → fold draft_after draft (words_in (done ++ Word line text ∷ [])) ≡ draft_after (fold draft_after draft (words_in done)) text
+said_more draft [] line text = refl
+said_more draft (Word l t ∷ done) line text = said_more (draft_after draft t) done line text
+said_more draft (TextLine l k t ∷ done) line text = said_more draft done line text
 
 -- a text line adds no word
 pub words_line : (done : List Token) (line : ℕ) (keyword text : List ℕ) → words_in (done ++ TextLine line keyword text ∷ []) ≡ words_in done

@@ -1,5 +1,5 @@
 -- A block as far as it is read, and the item at its end.
-use Rattle.pop_input.proofs.Words.{Block, Bool, Command, IsNew, List, None, Option, Reading, ReadsWord, Some, State, Takes, TakesLine, TakesPart, TextLine, TextWord, Word, WordTooLong, [], among, ap, arith, at_line, block_fault, closes, closes_none, command_of, false, fault_at, fault_of, has_begun, inr, last_of, last_text, length, list_all, list_all-append, lt-ltb, no_short_form, noted_text, or_else, refl, section_of, sym, takes_none, text_of_line, text_word_of, tokens_inside, true, ℕ, ◌++◌, ◌<◌, ◌∙◌, ◌∷◌, ◌≡◌, ◌≤◌, ◌⊎◌}
+use Rattle.pop_input.proofs.Words.{Block, Bool, Command, IsNew, List, None, Option, Reading, ReadsWord, Some, Draft, Takes, TakesLine, TakesPart, TextLine, TextWord, Word, WordTooLong, [], among, ap, arith, at_line, block_fault, closes, closes_none, command_of, false, fault_at, fault_of, has_begun, inr, last_of, last_text, length, list_all, list_all-append, lt-ltb, no_short_form, noted_text, or_else, refl, section_of, sym, takes_none, text_of_line, text_word_of, tokens_inside, true, ℕ, ◌++◌, ◌<◌, ◌∙◌, ◌∷◌, ◌≡◌, ◌≤◌, ◌⊎◌}
 use Rattle.pop_text.specs.Words.{Token}
 use Rattle.pop_input.specs.declared.names.TextWord.TheVariants.{Title, Author}
 use Rattle.pop_input.proofs.Taking.{takes_then}
@@ -35,8 +35,8 @@ long_no_command : (text : List ℕ) → 160 < length text → command_of text �
 unfolding command_of section_of
 long_no_command text long = grind (arith, no_short_form)
 
-long_fault : (begun : Bool) (state : State) (text : List ℕ) → 160 < length text → fault_of begun state text ≡ Some WordTooLong
-long_fault begun state text long = rw (lt-ltb 160 (length text) long) refl
+long_fault : (begun : Bool) (draft : Draft) (text : List ℕ) → 160 < length text → fault_of begun draft text ≡ Some WordTooLong
+long_fault begun draft text long = rw (lt-ltb 160 (length text) long) refl
 
 -- Texts behind one more token.
 

@@ -39,7 +39,7 @@ unfoldable pub use Rattle.pop_input.specs.FaultKinds.{kind_numbered}
 pub use Rattle.pop_input.specs.Names.{closes, or_else}
 unfoldable pub use Rattle.pop_input.specs.Names.{awaited_of, colour_of, command_of, condition_of, kind_of, option_of, section_of, text_word_of}
 pub use Rattle.pop_input.specs.Posed.{rule_of}
-pub use Rattle.pop_input.specs.State.{State, no_men, nothing_said, put_men, state_after, state_of}
+pub use Rattle.pop_input.specs.Drafts.{Draft, no_men, nothing_said, put_men, draft_after, draft_of}
 pub use Rattle.pop_input.specs.Stipulations.{has_king_to_mate, starting_side}
 pub use Rattle.pop_input.specs.Values.{before_squares, is_digit, most_solutions, square_by, squares_from, stipulation_in_small_letters, value_of}
 unfoldable pub use Rattle.pop_input.specs.Values.{limit_of, squares_of, stipulation_of}

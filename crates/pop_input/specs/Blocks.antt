@@ -6,7 +6,7 @@ use Rattle.std.specs.Prelude.{ℕ, List, [], ◌∷◌, ◌++◌, Bool, true, fa
 use Rattle.std.specs.List.{onto_first}
 use Rattle.pop_text.specs.Words.{Words, Token, Word, TextLine, Tail, End, Long, Broken, text_of_line}
 use Rattle.pop_input.specs.Names.{command_of, text_word_of, closes, or_else}
-use Rattle.pop_input.specs.State.{State, nothing_said, state_after, state_of}
+use Rattle.pop_input.specs.Drafts.{Draft, nothing_said, draft_after, draft_of}
 use Rattle.pop_input.specs.WordFaults.{fault_of}
 use Rattle.pop_input.specs.Ends.{diagram_fault, diagram_of, posed_of}
 use Rattle.pop_input.specs.Posed.{Posed}
@@ -42,11 +42,11 @@ tokens_inside true ((TextLine line keyword text) ∷ tokens) = tokens_inside tru
 -- The first fault of the words of a problem, and of those of a block.
 
 -- the first fault of tokens, where the words before them say this
-abbrev pub first_fault : State → List Token → Option Fault
-first_fault state [] = None
-first_fault state ((Word line text) ∷ tokens) = or_else
-    (at_line line (fault_of true state text)) (first_fault (state_after state text) tokens)
-first_fault state ((TextLine line keyword text) ∷ tokens) = first_fault state tokens
+abbrev pub first_fault : Draft → List Token → Option Fault
+first_fault draft [] = None
+first_fault draft ((Word line text) ∷ tokens) = or_else
+    (at_line line (fault_of true draft text)) (first_fault (draft_after draft text) tokens)
+first_fault draft ((TextLine line keyword text) ∷ tokens) = first_fault draft tokens
 
 -- the first fault of the tokens of a block, which is the first of the input or a later one
 abbrev pub block_fault : Bool → List Token → Option Fault
@@ -122,24 +122,24 @@ entry_of None problem = Sound problem
 entry_of (Some fault) problem = Faulty fault
 
 -- what words without a fault pose by their stipulation, if they give one
-abbrev pub stated_entry : State → Option Stipulation → List ℕ → List ℕ → ℕ → Entry
-stated_entry state None title author line = Faulty (fault_at StipulationMissing line)
-stated_entry state (Some stipulation) title author line = entry_of
-    (at_line line (diagram_fault state stipulation (diagram_of state stipulation.form)))
-    (posed_of state stipulation title author)
+abbrev pub stated_entry : Draft → Option Stipulation → List ℕ → List ℕ → ℕ → Entry
+stated_entry draft None title author line = Faulty (fault_at StipulationMissing line)
+stated_entry draft (Some stipulation) title author line = entry_of
+    (at_line line (diagram_fault draft stipulation (diagram_of draft stipulation.form)))
+    (posed_of draft stipulation title author)
 
 -- the problem that words without a fault pose, or the fault at their end, in this line
-unfoldable pub posed_entry : State → List ℕ → List ℕ → ℕ → Entry
-posed_entry state title author line = stated_entry state state.stipulation title author line
+unfoldable pub posed_entry : Draft → List ℕ → List ℕ → ℕ → Entry
+posed_entry draft title author line = stated_entry draft draft.stipulation title author line
 
 -- the first fault of the words, if they have one, else what they pose
-abbrev pub judged_entry : Option Fault → State → List ℕ → List ℕ → ℕ → Entry
-judged_entry (Some fault) state title author line = Faulty fault
-judged_entry None state title author line = posed_entry state title author line
+abbrev pub judged_entry : Option Fault → Draft → List ℕ → List ℕ → ℕ → Entry
+judged_entry (Some fault) draft title author line = Faulty fault
+judged_entry None draft title author line = posed_entry draft title author line
 
 -- the entry of tokens that a word in this line closes
 abbrev pub closed_entry : Option Fault → ℕ → List Token → Entry
-closed_entry fault line tokens = judged_entry fault (state_of (words_in tokens))
+closed_entry fault line tokens = judged_entry fault (draft_of (words_in tokens))
     (last_text Title [] tokens) (last_text Author [] tokens) line
 
 -- the fault of a tail

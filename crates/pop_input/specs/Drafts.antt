@@ -144,7 +144,7 @@ barred_after _ text old = old
 -- the place behind them; the last colour since the last command; the men put so far, square by square;
 -- the first stipulation and the first condition; the options that hold; the limit of the last
 -- MaxSolutions; the square of the last EnPassant; the castling squares that NoCastling names
-pub record State : Type 0 where
+pub record Draft : Type 0 where
   pub place : Place
   pub colour : Option Colour
   pub men : List (Option Man)
@@ -156,7 +156,7 @@ pub record State : Type 0 where
   pub barred : Unmoved
 
 -- what no words say: an empty board, and the greatest limit of solutions
-abbrev pub nothing_said : State
+abbrev pub nothing_said : Draft
 nothing_said = record {
   place = record { section = None; awaited = None };
   colour = None;
@@ -170,23 +170,23 @@ nothing_said = record {
 }
 
 -- what is said with one more word, which has this role
-abbrev pub state_by : Role → State → List ℕ → State
-state_by role state text = record {
-  place = place_after role state.place text;
-  colour = colour_after role text state.colour;
-  men = men_after role state.colour text state.men;
-  stipulation = stipulation_after role text state.stipulation;
-  condition = condition_after role text state.condition;
-  switches = switches_after role text state.switches;
-  limit = limit_after role text state.limit;
-  crossed = crossed_after role text state.crossed;
-  barred = barred_after role text state.barred;
+abbrev pub draft_by : Role → Draft → List ℕ → Draft
+draft_by role draft text = record {
+  place = place_after role draft.place text;
+  colour = colour_after role text draft.colour;
+  men = men_after role draft.colour text draft.men;
+  stipulation = stipulation_after role text draft.stipulation;
+  condition = condition_after role text draft.condition;
+  switches = switches_after role text draft.switches;
+  limit = limit_after role text draft.limit;
+  crossed = crossed_after role text draft.crossed;
+  barred = barred_after role text draft.barred;
 }
 
 -- what is said with one more word
-abbrev pub state_after : State → List ℕ → State
-state_after state text = state_by (role_of state.place text) state text
+abbrev pub draft_after : Draft → List ℕ → Draft
+draft_after draft text = draft_by (role_of draft.place text) draft text
 
 -- what words in order say
-abbrev pub state_of : List (List ℕ) → State
-state_of words = fold state_after nothing_said words
+abbrev pub draft_of : List (List ℕ) → Draft
+draft_of words = fold draft_after nothing_said words

@@ -10,7 +10,7 @@ use Rattle.chess_core.specs.declared.man.Man.{Man}
 use Rattle.chess_core.specs.declared.man.Unmoved.{Unmoved}
 use Rattle.chess_rules.specs.Attacks.{in_check}
 use Rattle.pop_input.specs.Posed.{Posed, rule_of}
-use Rattle.pop_input.specs.State.{State}
+use Rattle.pop_input.specs.Drafts.{Draft}
 use Rattle.pop_input.specs.Stipulations.{starting_side, has_king_to_mate, is_in_range}
 use Rattle.pop_input.specs.declared.stipulation.Form.{Form}
 use Rattle.pop_input.specs.declared.stipulation.Stipulation.{Stipulation}
@@ -29,24 +29,24 @@ unmoved_of men barred =
     none_unmoved castling_squares
 
 -- the diagram that words pose: who starts is said by the form
-abbrev pub diagram_of : State → Form → Diagram
-diagram_of state form = record {
-  men = state.men;
+abbrev pub diagram_of : Draft → Form → Diagram
+diagram_of draft form = record {
+  men = draft.men;
   turn = starting_side form;
-  unmoved = unmoved_of state.men state.barred;
-  crossed = state.crossed;
+  unmoved = unmoved_of draft.men draft.barred;
+  crossed = draft.crossed;
 }
 
 -- the problem that words pose with this stipulation, a title and an author
-abbrev pub posed_of : State → Stipulation → List ℕ → List ℕ → Posed
-posed_of state stipulation title author = record {
-  diagram = diagram_of state stipulation.form;
+abbrev pub posed_of : Draft → Stipulation → List ℕ → List ℕ → Posed
+posed_of draft stipulation title author = record {
+  diagram = diagram_of draft stipulation.form;
   stipulation = stipulation;
-  condition = state.condition;
-  set_play = state.switches.set_play;
-  variation = state.switches.variation;
-  no_board = state.switches.no_board;
-  max_solutions = state.limit;
+  condition = draft.condition;
+  set_play = draft.switches.set_play;
+  variation = draft.switches.variation;
+  no_board = draft.switches.no_board;
+  max_solutions = draft.limit;
   title = title;
   author = author;
 }
@@ -59,13 +59,13 @@ position_fault has_king in_check = if not has_king then Some KingMissing
     else (if in_check then Some WaitingSideInCheck else None)
 
 -- no men, en passant not possible, and the faults of the position
-abbrev pub diagram_fault : State → Stipulation → Diagram → Option FaultKind
-diagram_fault state stipulation diagram =
+abbrev pub diagram_fault : Draft → Stipulation → Diagram → Option FaultKind
+diagram_fault draft stipulation diagram =
     if not (has_men diagram.men) then Some NoMen
     else (if not (is_crossed_right diagram.men diagram.turn diagram.crossed)
     then Some EnPassantImpossible
     else position_fault (has_king_to_mate stipulation diagram.men)
-    (in_check (rule_of state.condition) diagram.men (other diagram.turn)))
+    (in_check (rule_of draft.condition) diagram.men (other diagram.turn)))
 
 -- What words without a fault keep.
 

@@ -8,7 +8,7 @@ use Rattle.pop_text.specs.declared.read_fault.ReadFault.TheVariants.{TooLong, In
 use Rattle.pop_input.specs.Names.{or_else}
 use Rattle.pop_input.specs.Blocks.{Entry, Sound as SoundEntry, Faulty as FaultyEntry, judged_entry, tail_fault}
 use Rattle.pop_input.specs.WordFaults.{fault_of}
-use Rattle.pop_input.specs.State.{State, nothing_said, state_after}
+use Rattle.pop_input.specs.Drafts.{Draft, nothing_said, draft_after}
 use Rattle.pop_input.specs.declared.block.Block.{Block}
 use Rattle.pop_input.specs.declared.item.Fault.{Fault}
 use Rattle.pop_input.specs.declared.item.Item.{Item}
@@ -22,9 +22,9 @@ use Rattle.pop_input.specs.declared.names.TextWord.TheVariants.{Title, Author}
 use Rattle.std.specs.Prelude.{List, [], not}
 
 -- what is said with one more word: the first one of the input says nothing
-abbrev pub said_after : Bool → State → List ℕ → State
-said_after true state text = state_after state text
-said_after false state text = state
+abbrev pub said_after : Bool → Draft → List ℕ → Draft
+said_after true draft text = draft_after draft text
+said_after false draft text = draft
 
 -- the text behind a text word, after one more text line
 abbrev pub text_with : TextWord → List ℕ → TextWord → List ℕ → List ℕ

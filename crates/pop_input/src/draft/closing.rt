@@ -100,7 +100,7 @@ impl Draft {
     {
         let mut set = Unmoved::none();
         let castling = Square::castling();
-        'squares: for &square in &castling {
+        for &square in &castling {
             set = self.with_counted(set, square);
         }
         set
