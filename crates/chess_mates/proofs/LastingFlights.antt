@@ -1,7 +1,7 @@
 -- Flights that one move can't take.
 use Rattle.chess_core.proofs.Kept.{same_colour-refl}
-use Rattle.chess_rules.proofs.Basics.{Bool, List, None, Option, Some, [], and_from, and_left, and_parts, and_right, ap, arith, bit_and, bit_at, bit_at_and, bit_not, bit_or, cases_Bool, cases_eq, cases_lt, eq-eqb, eqb-true, false, false_from_ne_true, false≢true, find, inl, inr, is_some, length, list_any, list_any-append, not, or_cases, or_lt, or_parts, range_with_len, refl, rules, subst, sym, true, w64, ℕ, ◌&&◌, ◌+◌, ◌-◌, ◌<◌, ◌==◌, ◌^◌, ◌||◌, ◌∙◌, ◌≡◌, ◌≢◌, ◌⊎◌}
-use Rattle.chess_mates.proofs.Chess.{Bishop, Colour, Grasshopper, HaveNone, IsWellFormed, Kind, King, Knight, Man, Move, Nightrider, Pawn, Position, Queen, Rook, RuleSet, arrives, arriving_man, capture_square, diagonal_steps, find_first, is_arrival_free, is_attacked, is_castling, is_circe, is_man, is_on_some, is_pseudo_legal, is_side, is_square, king_after, king_square, knight_steps, leaps, man_on, mates, mates_behind, may_go, other, pawn_captures, position_after, queen_steps}
+use Rattle.chess_rules.proofs.Basics.{List, None, Option, Some, [], and_from, and_left, and_parts, and_right, ap, arith, bit_and, bit_at, bit_at_and, bit_not, bit_or, cases_Bool, cases_eq, cases_lt, eq-eqb, eqb-true, false, false_from_ne_true, false≢true, find, inl, inr, length, list_any, list_any-append, not, or_cases, or_lt, or_parts, range_with_len, refl, rules, subst, sym, true, w64, ℕ, ◌&&◌, ◌+◌, ◌-◌, ◌<◌, ◌==◌, ◌^◌, ◌||◌, ◌∙◌, ◌≡◌, ◌≢◌, ◌⊎◌}
+use Rattle.chess_mates.proofs.Chess.{Bishop, Colour, Grasshopper, IsWellFormed, Kind, King, Knight, Man, Move, Nightrider, Pawn, Position, Queen, Rook, RuleSet, arrives, arriving_man, capture_square, diagonal_steps, find_first, is_arrival_free, is_attacked, is_castling, is_circe, is_man, is_on_some, is_pseudo_legal, is_side, is_square, king_after, king_square, knight_steps, leaps, man_on, mates, mates_behind, may_go, other, pawn_captures, position_after, queen_steps}
 use Rattle.chess_mates.proofs.Chess.{reaches, reaches_as, reaches_of, rides, same_colour, same_colour-true, same_kind, side_of, some_square_false, some_square_true, squares_of, straight_steps, strikes, triple_at, word}
 use Rattle.chess_rules.specs.Legal.{is_promotion_right}
 use Rattle.chess_mates.specs.ties.Flights.{has_flight, is_flight, is_flight_from, is_open}

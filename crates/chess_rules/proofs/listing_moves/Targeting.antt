@@ -1,7 +1,7 @@
 -- Where a man may go, and no move is missed by going from one such square to the next.
 use Rattle.chess_core.proofs.Kept.{same_colour-refl}
 use Rattle.chess_rules.proofs.Basics.{Bool, List, None, Option, Some, agree_below_at, and_from, and_parts, ap, arith, bit_at, bit_not, cases_Bool, cases_eq, cond-false, cond-true, false, find, inl, inr, is_some, or_left, or_right, range_with_len, refl, rules, sym, true, w64, ℕ, ◌%◌, ◌*◌, ◌+◌, ◌-◌, ◌/◌, ◌<◌, ◌==◌, ◌∙◌, ◌≡◌, ◌≤◌}
-use Rattle.chess_rules.proofs.Chess.{Black, Colour, IsBarrenFrom, IsFirst, IsNamed, Kind, King, Man, Move, Pawn, Position, RuleSet, White, along, arrives, castles, file_of, find_first, find_no, goes, is_advance, is_arrival, is_aside, is_castling, is_promotion_right, is_pseudo_legal, is_pseudo_legal_of, is_side, is_square, man_on, may_castle, may_go, promotion_at, rank_of, reaches, reaches_as, same_colour, same_kind, square_at, squares_same, steps_to, word}
+use Rattle.chess_rules.proofs.Chess.{IsBarrenFrom, IsFirst, IsNamed, Kind, King, Man, Move, Pawn, Position, RuleSet, along, arrives, castles, file_of, find_first, find_no, goes, is_advance, is_arrival, is_aside, is_castling, is_promotion_right, is_pseudo_legal, is_pseudo_legal_of, is_side, is_square, man_on, may_castle, may_go, promotion_at, rank_of, reaches, reaches_as, same_colour, same_kind, square_at, squares_same, steps_to, word}
 use Rattle.chess_rules.proofs.Bits.{word_empty}
 use Rattle.chess_rules.proofs.making_moves.Pseudo.{made}
 
@@ -145,7 +145,7 @@ from-none p s start at w past none =
     from-join p s w start at 448 past (from-missed p s at 448 w (λ q lo hi. find_no (λ q. bit_at w q == 1) (at / 7) (64 - at / 7) q none lo (omega arith)))
 
 -- another man than a pawn never arrives as one
-no_pawn_arrives : (x : Man) (t : ℕ) → same_kind x.kind Pawn ≡ false → arrives x t ≡ false
+pub no_pawn_arrives : (x : Man) (t : ℕ) → same_kind x.kind Pawn ≡ false → arrives x t ≡ false
 no_pawn_arrives x t h = rw h refl
 
 -- a man that is no pawn has no other triple to a square than that without a promotion
