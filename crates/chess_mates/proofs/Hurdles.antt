@@ -1,61 +1,17 @@
 -- What men reach over hurdles, the squares of a word, and later on the board.
-use Rattle.chess_rules.proofs.Basics.{Bool, List, None, Option, Some, [], ◌∷◌, and_from, and_parts, ap, arith, bit_at, bit_at-lt, bit_not, bit_or, cases_lt, eq-eqb, false, false≢true, if◌then◌else◌, get_or-map-range_with_len, inl, inr, is_some, length, length-map-range_with_len, list_any, list_any-append, not, not-true, or_cases, or_left, or_right, refl, subst, suc, sym, true, w64, zero, ℕ, ◌&&◌, ◌+◌, ◌-◌, ◌<◌, ◌≤◌, ◌==◌, ◌^◌, ◌||◌, ◌∙◌, ◌≡◌, ◌⊎◌}
-use Rattle.chess_mates.proofs.Chess.{Bishop, Colour, Grasshopper, Kind, King, Knight, Man, Nightrider, Pawn, Queen, Rook, Step, White, all_at, along, any_range_cases, any_range_false, diagonal_steps, is_clear, is_fairy, is_on_some, is_square, is_vacant, knight_steps, leaps, man_on, occupied_squares, other, pawn_captures, queen_steps}
+use Rattle.chess_rules.proofs.Basics.{Bool, List, None, Option, Some, [], ◌∷◌, and_from, and_parts, ap, arith, bit_at, bit_at-lt, bit_or, cases_lt, eq-eqb, false, false≢true, if◌then◌else◌, get_or-map-range_with_len, inl, inr, is_some, length, length-map-range_with_len, list_any, list_any-append, not, not-true, or_cases, or_left, or_right, refl, subst, suc, sym, true, zero, ℕ, ◌&&◌, ◌+◌, ◌-◌, ◌<◌, ◌≤◌, ◌==◌, ◌^◌, ◌||◌, ◌∙◌, ◌≡◌, ◌⊎◌}
+use Rattle.chess_mates.proofs.Chess.{Bishop, Colour, Grasshopper, Kind, King, Knight, Man, Nightrider, Pawn, Queen, Rook, Step, White, all_at, along, any_range_cases, any_range_false, diagonal_steps, is_clear, is_fairy, is_square, is_vacant, leaps, man_on, occupied_squares, other, queen_steps}
 use Rattle.chess_mates.proofs.Chess.{reaches_as, rides, same_kind, squares, straight_steps, word}
 use Rattle.chess_core.proofs.Ranges.{all_range_true, any_range_true}
 use Rattle.chess_core.proofs.Words.{square_word}
 use Rattle.chess_core.specs.ties.Words.{bit_of}
 use Rattle.chess_mates.specs.declared.threats.Attackers.{Attackers}
-use Rattle.chess_mates.specs.ties.Threats.{AreReached, IsAttacker, IsOpenReach, IsReached, is_leaper, is_rider, men_on, squares_for}
+use Rattle.chess_mates.specs.ties.Threats.{AreReached, IsAttacker, IsReached, is_leaper, is_rider, men_on, squares_for}
 use Rattle.chess_mates.specs.ties.Threats.{reached_over}
 use Rattle.chess_rules.proofs.Bits.{on_left, on_right, word_has}
 use Rattle.chess_rules.proofs.rays.Flips.{diagonal-back, king-back, knight-back, nightrider-back, pawn-back, queen_rides-back, straight-back}
-use Rattle.chess_rules.proofs.listing_moves.Targeting.{every_square_on}
 use Rattle.chess_rules.proofs.making_moves.Pseudo.{on_board}
 use Rattle.chess_rules.proofs.listing_moves.Walks.{off_zero}
-use Rattle.chess_mates.proofs.OpenBoard.{rides_on}
-
--- what a man reaches, he would reach on an empty board
-module _ (x : Man) (s : ℕ) where
-  pub rook_reach : (l : ℕ) → x.kind ≡ Rook → l ≡ word (is_on_some straight_steps s) → IsOpenReach x s l
-  unfolding reaches_as
-  rook_reach l kind lines = record {
-    inside = λ men t small h. word_has (is_on_some straight_steps s) l t lines small ∙ rides_on men s t straight_steps (rw kind at h);
-  }
-
-  pub bishop_reach : (l : ℕ) → x.kind ≡ Bishop → l ≡ word (is_on_some diagonal_steps s) → IsOpenReach x s l
-  unfolding reaches_as
-  bishop_reach l kind lines = record {
-    inside = λ men t small h. word_has (is_on_some diagonal_steps s) l t lines small ∙ rides_on men s t diagonal_steps (rw kind at h);
-  }
-
-  queen_on : (men : List (Option Man)) (t l d : ℕ) → l ≡ word (is_on_some straight_steps s) → d ≡ word (is_on_some diagonal_steps s) → t < 64
-      → list_any (rides men s t) queen_steps ≡ true → (bit_at (bit_or l d) t == 1) ≡ true
-  queen_on men t l d lines slants small h = elim (or_cases _ _ (sym (list_any-append (rides men s t) straight_steps diagonal_steps) ∙ h)) [
-    | inl y ↦ on_left l d t (word_has (is_on_some straight_steps s) l t lines small ∙ rides_on men s t straight_steps y)
-    | inr y ↦ on_right l d t (word_has (is_on_some diagonal_steps s) d t slants small ∙ rides_on men s t diagonal_steps y)
-  ]
-
-  pub queen_reach : (l d : ℕ) → x.kind ≡ Queen → l ≡ word (is_on_some straight_steps s) → d ≡ word (is_on_some diagonal_steps s) → IsOpenReach x s (bit_or l d)
-  unfolding reaches_as
-  queen_reach l d kind lines slants = record { inside = λ men t small h. queen_on men t l d lines slants small (rw kind at h) }
-
-  pub knight_reach : (l : ℕ) → x.kind ≡ Knight → l ≡ word (λ q. list_any (leaps s q) knight_steps) → IsOpenReach x s l
-  unfolding reaches_as
-  knight_reach l kind squares = record { inside = λ men t small h. word_has (λ q. list_any (leaps s q) knight_steps) l t squares small ∙ (rw kind at h) }
-
-  pub king_reach : (l : ℕ) → x.kind ≡ King → l ≡ word (λ q. list_any (leaps s q) queen_steps) → IsOpenReach x s l
-  unfolding reaches_as
-  king_reach l kind squares = record { inside = λ men t small h. word_has (λ q. list_any (leaps s q) queen_steps) l t squares small ∙ (rw kind at h) }
-
-  pub pawn_reach : (l : ℕ) → x.kind ≡ Pawn → l ≡ word (λ q. list_any (leaps s q) (pawn_captures x.colour)) → IsOpenReach x s l
-  unfolding reaches_as
-  pawn_reach l kind squares = record {
-    inside = λ men t small h. word_has (λ q. list_any (leaps s q) (pawn_captures x.colour)) l t squares small ∙ (rw kind at h);
-  }
-
-  pub any_reach : IsOpenReach x s (bit_not w64 0)
-  any_reach = record { inside = λ men t small h. every_square_on t small }
 
 pub reached_left : (d : ℕ) (x : Man) (s a b : ℕ) → IsReached d x s a → IsReached d x s (bit_or a b)
 reached_left d x s a b h = record { inside = λ t small r. on_left a b t (h.inside t small r) }

@@ -1,18 +1,15 @@
 -- Flights that one move can't take.
 use Rattle.chess_core.proofs.Kept.{same_colour-refl}
-use Rattle.chess_rules.proofs.Basics.{List, None, Option, Some, [], and_from, and_left, and_parts, and_right, ap, arith, bit_and, bit_at, bit_at_and, bit_not, bit_or, cases_Bool, cases_eq, cases_lt, eq-eqb, eqb-true, false, false_from_ne_true, false≢true, find, inl, inr, length, list_any, list_any-append, not, or_cases, or_lt, or_parts, range_with_len, refl, rules, subst, sym, true, w64, ℕ, ◌&&◌, ◌+◌, ◌-◌, ◌<◌, ◌==◌, ◌^◌, ◌||◌, ◌∙◌, ◌≡◌, ◌≢◌, ◌⊎◌}
-use Rattle.chess_mates.proofs.Chess.{Bishop, Colour, Grasshopper, IsWellFormed, Kind, King, Knight, Man, Move, Nightrider, Pawn, Position, Queen, Rook, RuleSet, arrives, arriving_man, capture_square, diagonal_steps, find_first, is_arrival_free, is_attacked, is_castling, is_circe, is_man, is_on_some, is_pseudo_legal, is_side, is_square, king_after, king_square, knight_steps, leaps, man_on, mates, mates_behind, may_go, other, pawn_captures, position_after, queen_steps}
+use Rattle.chess_rules.proofs.Basics.{List, None, Option, Some, [], and_from, and_left, and_parts, and_right, ap, arith, bit_and, bit_at, bit_at_and, bit_not, bit_or, cases_Bool, eq-eqb, eqb-true, false, false_from_ne_true, false≢true, find, inl, inr, list_any, list_any-append, not, or_cases, or_lt, range_with_len, refl, rules, sym, true, w64, ℕ, ◌&&◌, ◌<◌, ◌==◌, ◌^◌, ◌∙◌, ◌≡◌, ◌≢◌, ◌⊎◌}
+use Rattle.chess_mates.proofs.Chess.{Bishop, Colour, Grasshopper, IsWellFormed, King, Knight, Man, Move, Pawn, Position, Queen, Rook, RuleSet, arrives, arriving_man, capture_square, diagonal_steps, find_first, is_arrival_free, is_attacked, is_castling, is_circe, is_man, is_on_some, is_pseudo_legal, is_side, is_square, king_after, king_square, knight_steps, leaps, man_on, mates, mates_behind, may_go, other, pawn_captures, position_after, queen_steps}
 use Rattle.chess_mates.proofs.Chess.{reaches, reaches_as, reaches_of, rides, same_colour, same_colour-true, same_kind, side_of, some_square_false, some_square_true, squares_of, straight_steps, strikes, triple_at, word}
-use Rattle.chess_rules.specs.Legal.{is_promotion_right}
 use Rattle.chess_mates.specs.ties.Flights.{has_flight, is_flight, is_flight_from, is_open}
 use Rattle.std.proofs.Common.{IfSome}
 use Rattle.chess_mates.specs.ties.LastingFlights.{AreApproached, AreGuarded, AreNear, AreReached, IsLeft, KeepsOne, LeaveOne, LeavesOne}
 use Rattle.chess_rules.proofs.Bits.{off_left, off_right, on_left, on_right, word_has}
-use Rattle.chess_rules.proofs.Tests.{find_no}
-use Rattle.chess_rules.proofs.rays.Flips.{diagonal-back, king-back, knight-back, nightrider-back, pawn-back, queen_rides-back, straight-back}
 use Rattle.chess_rules.proofs.rays.Ends.{square_is}
 use Rattle.chess_rules.proofs.attacks.Exposing.{king_is_after}
-use Rattle.chess_rules.proofs.attacks.Seeing.{kept_now, king_stands, left_now, there_now}
+use Rattle.chess_rules.proofs.attacks.Seeing.{king_stands}
 use Rattle.chess_rules.proofs.attacks.Shielding.{arriving_colour, other_differs, other_twice, simple_after}
 use Rattle.chess_rules.proofs.listing_moves.Arrivals.{may_go_aimed}
 use Rattle.chess_rules.proofs.listing_moves.Targeting.{arrival_needed, every_square_on, false_by}
@@ -25,41 +22,8 @@ use Rattle.chess_rules.proofs.listing_moves.Walks.{off_second, off_zero, on_firs
 use Rattle.chess_mates.proofs.Fleeing.{IsKingOn, IsKingStep, king_on, no_king_free, no_mate_with_flight, no_strike, step_is_legal, step_to, unseen_bit}
 use Rattle.chess_mates.proofs.Mating.{mates_behind-end, mates_behind-none, not_mating, turn_after}
 use Rattle.chess_mates.proofs.OpenBoard.{rides_on}
-
--- what holds of each square of a word below a number
-pub record HoldBelow (w : ℕ) (P : ℕ → Type 0) (n : ℕ) : Type 0 where
-  pub holds : (s : ℕ) → s < n → (bit_at w s == 1) ≡ true → P s
-
-pub hold_none : (w : ℕ) (P : ℕ → Type 0) → HoldBelow w P 0
-hold_none w P = record { holds = λ s lt on. absurd (omega arith) }
-
-pub hold_next : (w : ℕ) (P : ℕ → Type 0) (n k : ℕ) → HoldBelow w P n → find (λ s. bit_at w s == 1) (range_with_len n (64 - n)) ≡ Some k → P k
-    → HoldBelow w P (k + 1)
-hold_next w P n k h found here =
-    let first = find_first (λ s. bit_at w s == 1) n (64 - n) k found in
-    record {
-      holds = λ s lt on. elim (cases_lt s n) [
-        | inl below ↦ h.holds s below on
-        | inr ge ↦ elim (cases_eq s k) [
-          | inl e ↦ subst P (sym e) here
-          | inr ne ↦ absurd (false≢true (sym (first.before s ge (omega arith)) ∙ on))
-        ]
-      ];
-    }
-
-pub hold_all : (w : ℕ) (P : ℕ → Type 0) (n : ℕ) → HoldBelow w P n → find (λ s. bit_at w s == 1) (range_with_len n (64 - n)) ≡ None → (s : ℕ) → s < 64
-    → (bit_at w s == 1) ≡ true → P s
-hold_all w P n h none s small on = elim (cases_lt s n) [
-  | inl below ↦ h.holds s below on
-  | inr ge ↦ absurd (false≢true (sym (find_no (λ s. bit_at w s == 1) n (64 - n) s none ge (omega arith)) ∙ on))
-]
-
-pub hold_map : (w : ℕ) (P Q : ℕ → Type 0) (n : ℕ) → ((s : ℕ) → P s → Q s) → HoldBelow w P n → HoldBelow w Q n
-hold_map w P Q n f h = record { holds = λ s lt on. f s (h.holds s lt on) }
-
--- the square that was found is one of the word's
-pub found_small : (w n k : ℕ) → find (λ s. bit_at w s == 1) (range_with_len n (64 - n)) ≡ Some k → n < 64 → k < 64
-found_small w n k found lt = let first = find_first (λ s. bit_at w s == 1) n (64 - n) k found in omega (arith, first.high)
+use Rattle.chess_mates.proofs.Hurdles.{reaches_back}
+use Rattle.chess_mates.proofs.Standing.{arrival_small, free_man, not_mine, stood, unnamed}
 
 -- what a man reaches, he would reach on an empty board
 module _ (x : Man) (s : ℕ) where
@@ -123,7 +87,7 @@ on_own men c w s x own small here mine =
     word_has (λ q. is_side (man_on men q) c) w s own small ∙ ap (λ (o : Option Man). is_side o c) here ∙ ap (λ (d : Colour). same_colour d c) mine ∙ same_colour-refl c
 
 -- neither on a last rank nor on a king's home
-on_both : (a b t : ℕ) → (bit_at a t == 1) ≡ true → (bit_at b t == 1) ≡ true → (bit_at (bit_and a b) t == 1) ≡ true
+pub on_both : (a b t : ℕ) → (bit_at a t == 1) ≡ true → (bit_at b t == 1) ≡ true → (bit_at (bit_and a b) t == 1) ≡ true
 on_both a b t on too = grind (arith, eqb-true, bit_at_and, eq-eqb)
 
 pub no_last_rank : (x : Man) (w t : ℕ) → (bit_and w 18374686479671623935 == 0) ≡ true → t < 64 → (bit_at w t == 1) ≡ true → arrives x t ≡ false
@@ -137,37 +101,28 @@ pub off_homes : (s : ℕ) → not (bit_at 1152921504606846992 s == 1) ≡ true �
 off_homes s off = ((λ e. false≢true (rw e at off)), (λ e. false≢true (rw e at off)))
 
 -- a square that is left
+pub left_on : (squares r o t f : ℕ) (x : Man) → AreReached x t r → r < 2 ^ 64 → o < 2 ^ 64 → o ≡ word (λ q. is_square (Some t) q) → f < 64
+    → (bit_at (bit_and squares (bit_not w64 (bit_or r o))) f == 1) ≡ true → IsLeft squares x t f
+left_on squares r o t f x are rfits ofits only small here =
+    let off = off_denied squares (bit_or r o) f (or_lt 64 r o rfits ofits) small here in
+    record {
+      small = small;
+      on = on_first squares _ f here;
+      off = λ e. false≢true (sym (off_right r o f off) ∙ word_has (λ q. is_square (Some t) q) o f only small ∙ eq-eqb t f (sym e));
+      unreached = λ men. false_from_ne_true _ (λ h. false≢true (sym (off_left r o f off) ∙ are.inside men f small h));
+    }
+
 pub left_there : (squares r o t f : ℕ) (x : Man) → AreReached x t r → r < 2 ^ 64 → o < 2 ^ 64 → o ≡ word (λ q. is_square (Some t) q)
     → find (λ s. bit_at (bit_and squares (bit_not w64 (bit_or r o))) s == 1) (range_with_len 0 64) ≡ Some f → IsLeft squares x t f
 left_there squares r o t f x are rfits ofits only found =
     let first = find_first (λ s. bit_at (bit_and squares (bit_not w64 (bit_or r o))) s == 1) 0 64 f found in
-    let small : f < 64 = omega (arith, first.high) in
-    let off = off_denied squares (bit_or r o) f (or_lt 64 r o rfits ofits) small first.here in
-    record {
-      small = small;
-      on = on_first squares _ f first.here;
-      off = λ e. false≢true (sym (off_right r o f off) ∙ word_has (λ q. is_square (Some t) q) o f only small ∙ eq-eqb t f (sym e));
-      unreached = λ men. false_from_ne_true _ (λ h. false≢true (sym (off_left r o f off) ∙ are.inside men f small h));
-    }
+    left_on squares r o t f x are rfits ofits only (omega (arith, first.high)) first.here
 
 pub left_first : (squares r o t : ℕ) (x : Man) → AreReached x t r → r < 2 ^ 64 → o < 2 ^ 64 → o ≡ word (λ q. is_square (Some t) q)
     → (found : Option ℕ) → found ≡ find (λ s. bit_at (bit_and squares (bit_not w64 (bit_or r o))) s == 1) (range_with_len 0 64)
     → IfSome found (λ f. IsLeft squares x t f)
 left_first squares r o t x are rfits ofits only None e = search rules
 left_first squares r o t x are rfits ofits only (Some f) e = left_there squares r o t f x are rfits ofits only (sym e)
-
--- who reaches a square is reached from it by one of the other colour
-reaches_back : (men : List (Option Man)) (c : Colour) (k : Kind) (s t : ℕ) → s < 64 → t < 64 → same_kind k Grasshopper ≡ false
-    → reaches_as men c k s t ≡ reaches_as men (other c) k t s
-unfolding reaches_as
-reaches_back men c King s t p q piece = king-back s t p q
-reaches_back men c Queen s t p q piece = queen_rides-back men s t p q
-reaches_back men c Rook s t p q piece = straight-back men s t p q
-reaches_back men c Bishop s t p q piece = diagonal-back men s t p q
-reaches_back men c Knight s t p q piece = knight-back s t p q
-reaches_back men c Pawn s t p q piece = pawn-back c s t p q
-reaches_back men c Nightrider s t p q piece = nightrider-back men s t p q
-reaches_back men c Grasshopper s t p q piece = absurd (false≢true (sym piece))
 
 pub come_back : (x : Man) (t w : ℕ) → t < 64 → same_kind x.kind Grasshopper ≡ false → AreReached (record { colour = other x.colour; kind = x.kind }) t w
     → AreApproached x t w
@@ -214,46 +169,8 @@ keeps_one p w g fits guards leave = record {
   within = λ f small on. (on_first w _ f on, off_denied w g f fits small on);
 }
 
--- who stands on a square once a move is made: the man that came, or who stood there
-stood : (p : Position) (x : Man) (m : Move) (t : ℕ) (z : Man) → m.to < length p.men → man_on (arrived p x m) t ≡ Some z
-    → ((t ≡ m.to) × (z ≡ arriving_man x m.promo)) ⊎ ((t ≢ m.to) × ((t ≢ m.from) × (man_on p.men t ≡ Some z)))
-stood p x m t z size there = elim (cases_eq t m.to) [
-  | inl e ↦
-      let came : man_on (arrived p x m) t ≡ Some (arriving_man x m.promo) = ap (man_on (arrived p x m)) e ∙ there_now p.men m.from (capture_square p x m) m.to
-      (arriving_man x m.promo) size in
-      let same : Some z ≡ Some (arriving_man x m.promo) = sym there ∙ came in
-      inl (e, cc)
-  | inr ne ↦ elim (cases_Bool (is_square (Some m.from) t || is_square (capture_square p x m) t)) [
-    | inl gone ↦ absurd (let none = left_now p.men m.from (capture_square p x m) m.to (arriving_man x m.promo) t ne gone in cc)
-    | inr kept ↦
-        inr (
-          ne,
-          (
-            (λ e. false≢true (sym (or_parts _ _ kept).0 ∙ eq-eqb m.from t (sym e))),
-            sym (kept_now p.men m.from (capture_square p x m) m.to (arriving_man x m.promo) t ne kept) ∙ there,
-          ),
-        )
-  ]
-]
-
-apart : (c : Colour) → same_colour (other c) c ≡ false
-apart c = grind arith
-
-not_mine : (x : Man) (c : Colour) → x.colour ≡ other c → same_colour x.colour c ≡ false
-not_mine x c e = ap (λ (d : Colour). same_colour d c) e ∙ apart c
-
 mine_is : (x : Man) (c : Colour) → x.colour ≡ c → same_colour x.colour (other c) ≡ false
 mine_is x c e = ap (λ (d : Colour). same_colour d (other c)) e ∙ other_differs c
-
-free_man : (c : Colour) (o : Option Man) → is_side o c ≡ false → is_man o (other c) King ≡ false → is_arrival_free c o ≡ true
-free_man c o side king = grind (arith, false≢true)
-
-unnamed : (p : Position) (x : Man) (m : Move) (o : Option Kind) → arrives x m.to ≡ false → is_promotion_right p x m o ≡ true → o ≡ None
-unnamed p x m o off right = grind (arith, and_parts)
-
-arrival_small : (i : ℕ) → (triple_at i).to < 64
-unfolding triple_at
-arrival_small i = omega arith
 
 -- the king's move keeps a flight behind each move of the enemy
 module _ (rule : RuleSet) (p : Position) (m : Move) (x : Man) (k w : ℕ) (well : IsWellFormed p) (may : is_pseudo_legal rule p m ≡ true)

@@ -1,5 +1,5 @@
 -- The words of risks: what a defender must avoid lest a reply may mate.
-use Rattle.chess_rules.proofs.Basics.{List, Option, Some, and_left, and_parts, ap, arith, bit_and, bit_at, bit_at-lt, bit_at_and, bit_not, bit_or, cases_Bool, cases_eq, eq-eqb, eqb-true, false, false_from_ne_true, false≢true, find, inl, inr, not, or_lt, range_with_len, refl, subst, sym, true, true_from_ne_false, w64, ℕ, ◌+◌, ◌-◌, ◌<◌, ◌==◌, ◌^◌, ◌∙◌, ◌≡◌, ◌≢◌, ◌⊎◌}
+use Rattle.chess_rules.proofs.Basics.{List, Option, Some, and_left, and_parts, ap, arith, bit_and, bit_at, bit_at-lt, bit_not, bit_or, cases_Bool, cases_eq, eq-eqb, eqb-true, false, false≢true, find, inl, inr, not, range_with_len, refl, subst, sym, true, true_from_ne_false, w64, ℕ, ◌+◌, ◌-◌, ◌<◌, ◌==◌, ◌^◌, ◌∙◌, ◌≡◌, ◌≢◌, ◌⊎◌}
 use Rattle.chess_mates.proofs.Chess.{Bishop, Grasshopper, Kind, King, Knight, Man, Nightrider, Pawn, Position, Queen, Rook, arrives, find_first, is_square, leaps, may_go, occupied_squares, other}
 use Rattle.chess_mates.proofs.Chess.{reaches_as, rides, same_kind, squares, word}
 use Rattle.chess_mates.specs.declared.threats.Attackers.{Attackers}
@@ -7,7 +7,7 @@ use Rattle.chess_mates.specs.declared.threats.Field.{Field}
 use Rattle.chess_mates.specs.declared.threats.Guards.{Guards}
 use Rattle.chess_mates.specs.declared.threats.Risk.{Risk}
 use Rattle.chess_mates.specs.declared.threats.Siege.{Siege}
-use Rattle.chess_mates.specs.ties.Threats.{AreArrivals, AreGuardsWithout, AreReached, AreWeak, IsAttacker, IsCheckWord, IsHarmless, IsLeft, IsMet, IsNoCheck, IsOff, IsOpenReach, IsReached, IsWeak, LeavesOne, is_leaper, is_rider, squares_for}
+use Rattle.chess_mates.specs.ties.Threats.{AreArrivals, AreGuardsWithout, AreReached, AreWeak, IsAttacker, IsCheckWord, IsHarmless, IsMet, IsNoCheck, IsOff, IsReached, IsWeak, LeavesOne, is_leaper, is_rider, squares_for}
 use Rattle.chess_mates.specs.ties.Threats.{reached_over}
 use Rattle.chess_rules.proofs.Bits.{off_left, off_right, word_has}
 use Rattle.chess_rules.proofs.listing_moves.Targeting.{every_square_on, false_by}
@@ -18,18 +18,10 @@ use Rattle.std.proofs.lemmas.Nat.Bits.{bit_at_not}
 use Rattle.chess_mates.proofs.CheckTargets.{last_rank_on}
 use Rattle.chess_mates.proofs.FarMen.{off_denied, on_either}
 use Rattle.chess_rules.proofs.listing_moves.Walks.{off_zero, on_first}
+use Rattle.chess_mates.proofs.LastingFlights.{no_last_rank, on_both}
+use Rattle.chess_mates.specs.ties.LastingFlights.{IsLeft}
 
 -- squares off the last ranks
-pub on_both : (a b t : ℕ) → (bit_at a t == 1) ≡ true → (bit_at b t == 1) ≡ true → (bit_at (bit_and a b) t == 1) ≡ true
-on_both a b t on too = grind (arith, eqb-true, bit_at_and, eq-eqb)
-
-pub no_last_rank : (x : Man) (w t : ℕ) → (bit_and w 18374686479671623935 == 0) ≡ true → t < 64 → (bit_at w t == 1) ≡ true → arrives x t ≡ false
-no_last_rank x w t none small on = false_by (arrives x t) (λ last.
-    let both = on_both w 18374686479671623935 t on (last_rank_on x.colour t small (and_parts _ _ last).1) in
-    let zero : bit_and w 18374686479671623935 ≡ 0 = eqb-true _ _ none in
-    let never = off_zero t in
-    false≢true (sym never ∙ ap (λ n. bit_at n t == 1) (sym zero) ∙ both))
-
 pub no_last_rank_on : (x : Man) (w t : ℕ) → not (bit_and w 18374686479671623935 == 0) ≡ false → t < 64 → (bit_at w t == 1) ≡ true → arrives x t ≡ false
 no_last_rank_on x w t none small on = no_last_rank x w t (true_from_ne_false _ (λ e. false≢true (sym none ∙ ap not e))) small on
 
@@ -50,17 +42,6 @@ on_one a b i h = elim (cases_Bool (bit_at a i == 1)) [
 ]
 
 -- squares that are left
-pub left_there : (near r o t f : ℕ) (x : Man) → IsOpenReach x t r → r < 2 ^ 64 → o < 2 ^ 64 → o ≡ word (λ q. is_square (Some t) q) → f < 64
-    → (bit_at (bit_and near (bit_not w64 (bit_or r o))) f == 1) ≡ true → IsLeft near x t f
-left_there near r o t f x are rfits ofits only small here =
-    let off = off_denied near (bit_or r o) f (or_lt 64 r o rfits ofits) small here in
-    record {
-      small = small;
-      on = on_first near _ f here;
-      off = λ e. false≢true (sym (off_right r o f off) ∙ word_has (λ q. is_square (Some t) q) o f only small ∙ eq-eqb t f (sym e));
-      unreached = λ men. false_from_ne_true _ (λ h. false≢true (sym (off_left r o f off) ∙ are.inside men f small h));
-    }
-
 module _ (near enemies w : ℕ) (x : Man) (t : ℕ) (all : (f : ℕ) → f < 64 → (bit_at w f == 1) ≡ true → IsLeft near x t f) where
   pub leaves_second : (f g : ℕ) → find (λ s. bit_at w s == 1) (range_with_len 0 64) ≡ Some f
       → find (λ s. bit_at w s == 1) (range_with_len (f + 1) (64 - (f + 1))) ≡ Some g → LeavesOne near enemies 0 x t

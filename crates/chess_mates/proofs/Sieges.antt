@@ -15,9 +15,11 @@ use Rattle.chess_rules.proofs.Tests.{find_no}
 use Rattle.chess_rules.proofs.attacks.StayingInCheck.{king_there}
 use Rattle.chess_rules.proofs.listing_moves.Targeting.{every_square_on, false_by}
 use Rattle.chess_mates.proofs.Hurdles.{man_is, reached_is}
-use Rattle.chess_mates.proofs.Chess.{AreApproaches, halfway, same_kind-is}
+use Rattle.chess_mates.proofs.Chess.{AreApproaches, halfway, same_kind-true}
 use Rattle.chess_rules.proofs.listing_moves.Walks.{on_first}
-use Rattle.chess_mates.proofs.Risks.{on_both, on_one, off_word, none_at, none_on, weak_never}
+use Rattle.chess_mates.proofs.Risks.{on_one, off_word, none_at, none_on, weak_never}
+use Rattle.chess_mates.proofs.LastingFlights.{on_both}
+use Rattle.chess_core.proofs.Kept.{same_colour-refl}
 
 -- the king's field
 pub field_is : (v : Siege) (k n r : ℕ) → n ≡ word (λ t. list_any (leaps k t) queen_steps) → v.hurdles < 2 ^ 64 → v.own < 2 ^ 64 → v.men.kings < 2 ^ 64
@@ -199,9 +201,6 @@ siege_fits p v well colour king own enemies kings queens rooks bishops knights p
 }
 
 -- a pawn that passes
-same_self : (c : Colour) → same_colour c c ≡ true
-same_self c = grind arith
-
 pub passing_none : (p : Position) (x : Man) (m : Move) → is_double_step x m ≡ false → IsPassing p x m
 passing_none p x m single = record { freely = λ double. absurd (false≢true (sym single ∙ double)) }
 
@@ -210,11 +209,11 @@ pub passing_freely : (p : Position) (x : Man) (m : Move) (h o w l : ℕ) → h �
 unfolding squares_of
 passing_freely p x m h o w l same only near pawns none = record {
   freely = λ double q s z small low here enemy pawn. false_by _ (λ goes.
-      let kind : z.kind ≡ Pawn = same_kind-is z.kind Pawn pawn in
+      let kind : z.kind ≡ Pawn = same_kind-true z.kind Pawn pawn in
       let there : (bit_at o (halfway m) == 1) ≡ true = word_has (λ t. is_square (Some h) t) o (halfway m) only low ∙ eq-eqb h (halfway m) same in
       let from : (bit_at w s == 1) ≡ true = near.approach q s (halfway m) small low (rw (← man_is z (other p.turn) Pawn enemy kind) at goes) there in
       let stands : (bit_at l s == 1) ≡ true = word_has (λ t. is_man (man_on p.men t) (other p.turn) Pawn) l s pawns small
       ∙ ap (λ (o : Option Man). is_man o (other p.turn) Pawn) here
-      ∙ and_from _ _ (ap (λ (c : Colour). same_colour c (other p.turn)) enemy ∙ same_self (other p.turn)) pawn in
+      ∙ and_from _ _ (ap (λ (c : Colour). same_colour c (other p.turn)) enemy ∙ same_colour-refl (other p.turn)) pawn in
       none_at (bit_and w l) s none (on_both w l s from stands));
 }

@@ -19,7 +19,7 @@ use Rattle.chess_rules.proofs.attacks.StayingInCheck.{king_there}
 use Rattle.chess_rules.proofs.listing_moves.Arrivals.{may_go_aimed}
 use Rattle.chess_rules.proofs.listing_moves.Targeting.{arrival_needed, false_by}
 use Rattle.chess_rules.proofs.rays.Ends.{square_is}
-use Rattle.chess_rules.proofs.making_moves.Fits.{arrived, arrived_other, capture_of_piece, castle_of, kind_is_king, taken}
+use Rattle.chess_rules.proofs.making_moves.Fits.{arrived, arrived_other, capture_of_piece, castle_of, taken}
 use Rattle.chess_rules.proofs.making_moves.Pseudo.{IsCastle, IsMade, made, on_board}
 use Rattle.chess_rules.proofs.making_moves.Stays.{after_well_formed, maker}
 use Rattle.chess_mates.proofs.Hurdles.{later, queen_more, reaches_back}
@@ -27,9 +27,10 @@ use Rattle.chess_mates.proofs.KingsApart.{kings_apart}
 use Rattle.chess_mates.proofs.Fleeing.{IsKingOn, IsKingStep, king_on, no_king_free, no_mate_with_flight, step_is_legal, step_to}
 use Rattle.chess_mates.proofs.Mating.{mates_behind-end, mates_behind-none, no_mate_quietly, not_mating, turn_after}
 use Rattle.chess_rules.proofs.attacks.Shielding.{man_there}
-use Rattle.chess_mates.proofs.Chess.{halfway, same_kind-is}
-use Rattle.chess_mates.proofs.Standing.{stood, self, not_mine, free_man, unfree, unnamed, arrival_small, captured_there, stays_there, some_stays, some_side, moved_stays, no_hopper, not_mine_enemy, and_left_king, castle_unmoved, piece_reaches, king_reaches, nobody_strikes}
+use Rattle.chess_mates.proofs.Chess.{halfway, same_kind-true}
+use Rattle.chess_mates.proofs.Standing.{stood, not_mine, free_man, unfree, unnamed, arrival_small, captured_there, stays_there, some_stays, some_side, moved_stays, no_hopper, not_mine_enemy, and_left_king, castle_unmoved, piece_reaches, king_reaches, nobody_strikes}
 use Rattle.chess_mates.proofs.QuietCastling.{castles_quietly}
+use Rattle.chess_core.proofs.Kept.{same_colour-refl}
 
 -- the move m of the defender, plain, without risk
 pub record IsSpared (p : Position) (m : Move) (x : Man) (v : Siege) (k : ℕ) (r : Risk) : Type 0 where
@@ -81,7 +82,7 @@ module _ (rule : RuleSet) (p : Position) (m : Move) (x : Man) (v : Siege) (k : �
   enemy_stood s z there enemy = elim (stood_q s z there) [
     | inl came ↦
         absurd (false≢true (sym (not_mine z p.turn enemy) ∙ ap (λ (u : Man). same_colour u.colour p.turn) came.1
-        ∙ ap (λ (c : Colour). same_colour c p.turn) (arriving_colour x m.promo ∙ is.mine) ∙ self p.turn))
+        ∙ ap (λ (c : Colour). same_colour c p.turn) (arriving_colour x m.promo ∙ is.mine) ∙ same_colour-refl p.turn))
     | inr kept ↦ kept.1.1
   ]
 
@@ -146,7 +147,7 @@ module _ (rule : RuleSet) (p : Position) (m : Move) (x : Man) (v : Siege) (k : �
       let z = man_there (man_on q.men s) (other p.turn) j h in
       let is_one : is_man (Some z.0) (other p.turn) j ≡ true = rw z.1 at h in
       let enemy : z.0.colour ≡ other p.turn = same_colour-true _ _ (and_parts _ _ is_one).0 in
-      let kind : z.0.kind ≡ j = same_kind-is z.0.kind j (and_parts _ _ is_one).1 in
+      let kind : z.0.kind ≡ j = same_kind-true z.0.kind j (and_parts _ _ is_one).1 in
       false≢true (sym (i.fairies.none s z.0 inside (enemy_stood s z.0 z.1 enemy) enemy) ∙ ap is_fairy kind ∙ fairy))
 
   module _ (n : Move) (to : n.to < 64) (can : is_pseudo_legal rule q n ≡ true) where
@@ -202,7 +203,7 @@ module _ (rule : RuleSet) (p : Position) (m : Move) (x : Man) (v : Siege) (k : �
       stands_y : is_man (man_on p.men n.from) (other p.turn) King ≡ true
       stands_y =
           ap (λ (o : Option Man). is_man o (other p.turn) King) stood_y
-          ∙ and_from _ _ (ap (λ (c : Colour). same_colour c (other p.turn)) enemy_y ∙ self (other p.turn)) king_y
+          ∙ and_from _ _ (ap (λ (c : Colour). same_colour c (other p.turn)) enemy_y ∙ same_colour-refl (other p.turn)) king_y
 
       half_on : (bit_at v.castled (halfway n) == 1) ≡ true
       half_on =
@@ -224,7 +225,7 @@ module _ (rule : RuleSet) (p : Position) (m : Move) (x : Man) (v : Siege) (k : �
       -- the king is on no line of the field
       off_lines : (bit_at g.lines n.from == 1) ≡ false
       off_lines = harmless.kings (halfway n) n.from from_small half_on
-          (ap (λ (j : Kind). bit_at (squares_for v.men j) n.from == 1) (sym (kind_is_king y.kind king_y)) ∙ is_y.on)
+          (ap (λ (j : Kind). bit_at (squares_for v.men j) n.from == 1) (sym (same_kind-true y.kind King king_y)) ∙ is_y.on)
 
       unseen_from : (j : Kind) → is_fairy j ≡ false → is_rider j ≡ true → reaches_as q.men p.turn j k n.from ≡ false
       unseen_from j plain rider = false_by _ (λ h. false≢true (sym off_lines
@@ -375,7 +376,7 @@ module _ (rule : RuleSet) (p : Position) (m : Move) (x : Man) (v : Siege) (k : �
         comes = elim (cases_Bool (same_kind y.kind King)) [
           | inr mortal ↦ quiet_off r.men stays_r (quiet.check.off mortal)
           | inl king ↦
-              let kind : y.kind ≡ King = kind_is_king y.kind king in
+              let kind : y.kind ≡ King = same_kind-true y.kind King king in
               let square : king_square q.men (other q.turn) ≡ Some k =
               ap (λ (c : Colour). king_square q.men c) (ap other turn_q ∙ other_twice p.turn) ∙ king_q in
               let apart = rw square at (kings_apart rule q y n well_q here_y to lawful king) in

@@ -39,9 +39,6 @@ stood p x m t z size there = elim (cases_eq t m.to) [
 pub apart : (c : Colour) → same_colour (other c) c ≡ false
 apart c = grind arith
 
-pub self : (c : Colour) → same_colour c c ≡ true
-self c = grind arith
-
 pub not_mine : (x : Man) (c : Colour) → x.colour ≡ other c → same_colour x.colour c ≡ false
 not_mine x c e = ap (λ (d : Colour). same_colour d c) e ∙ apart c
 

@@ -11,8 +11,8 @@ use Rattle.chess_rules.proofs.Bits.{off_left, off_right}
 use Rattle.chess_rules.proofs.Tests.{some_is}
 use Rattle.chess_rules.proofs.attacks.Shielding.{king_is}
 use Rattle.chess_rules.proofs.making_moves.Pseudo.{made}
-use Rattle.chess_mates.proofs.Standing.{self}
 use Rattle.chess_mates.proofs.Sparing.{no_mate_behind}
+use Rattle.chess_core.proofs.Kept.{same_colour-refl}
 
 -- the same for the ways of a defender: his king goes, or another man
 module _ (rule : RuleSet) (p : Position) (m : Move) (x : Man) (v : Siege) (risk : Risk) (well : IsWellFormed p)
@@ -23,7 +23,7 @@ module _ (rule : RuleSet) (p : Position) (m : Move) (x : Man) (v : Siege) (risk 
   king_spared r king at off =
       let mine : x.colour ≡ p.turn = (made rule p m x may here).mine in
       let stands : is_man (man_on p.men m.from) p.turn King ≡ true =
-      ap (λ (o : Option Man). is_man o p.turn King) here ∙ and_from _ _ (ap (λ (c : Colour). same_colour c p.turn) mine ∙ self p.turn) king in
+      ap (λ (o : Option Man). is_man o p.turn King) here ∙ and_from _ _ (ap (λ (c : Colour). same_colour c p.turn) mine ∙ same_colour-refl p.turn) king in
       let same : v.king ≡ m.from = some_is v.king m.from (fits.king ∙ king_is p.men p.turn m.from well.kings from stands) in
       no_mate_behind rule p m x v m.to r well may here told.circe small from (cond-true (same_kind x.kind King) _ _ king) (record {
         plain = plain;

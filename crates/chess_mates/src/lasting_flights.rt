@@ -27,7 +27,7 @@ use chess_rules::words::{contains, next_bit, only};
 
 // The squares that the man on `from` reaches, were the others gone: of a fairy man all.
 #[tactic(auto, using(crate::proofs::LastingFlights::any_reach, crate::proofs::LastingFlights::bishop_reach, crate::proofs::LastingFlights::king_reach, crate::proofs::LastingFlights::knight_reach, crate::proofs::LastingFlights::pawn_reach, crate::proofs::LastingFlights::queen_reach, crate::proofs::LastingFlights::rook_reach))]
-fn open_reach(man: Man, from: Square) -> u64
+pub(crate) fn open_reach(man: Man, from: Square) -> u64
     ensures { AreReached man from result }
 {
     match man.kind {

@@ -7,19 +7,21 @@ ghost use Rattle.chess_core.specs.Castling.{has_unmoved};
 ghost use Rattle.chess_core.specs.Position.{other};
 ghost use Rattle.chess_core.specs.WellFormed.{IsWellFormed};
 ghost use Rattle.chess_core.specs.declared.man.Man.{Man};
+ghost use Rattle.chess_mates.specs.ties.LastingFlights.{IsLeft};
 ghost use Rattle.chess_mates.specs.ties.Mates.{mates_behind};
-ghost use Rattle.chess_mates.specs.ties.Threats.{AreArrivals, AreCastlingSquares, AreGuardsWithout, AreHurdles, AreReached, AreThreats, AreWeak, HasNoFairy, IsAttacker, IsCastlingHarmless, IsCheckWord, IsField, IsHarmless, IsLeft, IsLifted, IsMet, IsNoCheck, IsOff, IsOpenReach, IsPassing, IsPlainMove, IsReached, IsRiskAt, IsRiskBehind, IsSiege, IsSiegeOf, IsTold, IsWeak, LeavesOne, is_leaper, is_rider};
+ghost use Rattle.chess_mates.specs.ties.Threats.{AreArrivals, AreCastlingSquares, AreGuardsWithout, AreHurdles, AreReached, AreThreats, AreWeak, HasNoFairy, IsAttacker, IsCastlingHarmless, IsCheckWord, IsField, IsHarmless, IsLifted, IsMet, IsNoCheck, IsOff, IsPassing, IsPlainMove, IsReached, IsRiskAt, IsRiskBehind, IsSiege, IsSiegeOf, IsTold, IsWeak, LeavesOne, is_leaper, is_rider};
 ghost use Rattle.chess_rules.specs.Legal.{is_legal};
 ghost use Rattle.chess_rules.specs.Play.{is_castling, is_double_step, position_after};
 ghost use Rattle.chess_rules.specs.RuleSet.{is_circe};
 ghost use Rattle.chess_rules.specs.ties.Targets.{arrives};
 
+use crate::lasting_flights::open_reach;
 use crate::open_board::{open_targets, pawns_before};
 use chess_core::board::Board;
 use chess_core::man::{Colour, Kind, Man, Move};
 use chess_core::square::Square;
-use chess_rules::leaps::{king_leaps, knight_leaps, pawn_leaps};
-use chess_rules::lines::{diagonal_lines, straight_lines};
+use chess_rules::leaps::king_leaps;
+use chess_rules::lines::straight_lines;
 use chess_rules::play::is_castling;
 use chess_rules::reach::reach_over;
 use chess_rules::rules::Rules;
@@ -122,22 +124,6 @@ fn leapt_squares(hurdles: u64, men: &Attackers) -> u64
     knights | pawns | kings
 }
 
-// The squares that the man on `from` reaches, were the others gone: of a fairy man all.
-#[tactic(auto, using(crate::proofs::Hurdles::any_reach, crate::proofs::Hurdles::bishop_reach, crate::proofs::Hurdles::king_reach, crate::proofs::Hurdles::knight_reach, crate::proofs::Hurdles::pawn_reach, crate::proofs::Hurdles::queen_reach, crate::proofs::Hurdles::rook_reach))]
-fn open_reach(man: Man, from: Square) -> u64
-    ensures { IsOpenReach man from result }
-{
-    match man.kind {
-        Kind::Queen => straight_lines(from) | diagonal_lines(from),
-        Kind::Rook => straight_lines(from),
-        Kind::Bishop => diagonal_lines(from),
-        Kind::Knight => knight_leaps(from),
-        Kind::Pawn => pawn_leaps(man.colour, from),
-        Kind::King => king_leaps(from),
-        Kind::Grasshopper | Kind::Nightrider => !0,
-    }
-}
-
 // The squares of a word that are left to the king once the man has come to `to`.
 fn left_squares(near: u64, man: Man, to: Square) -> u64
     ensures { (f : ℕ) → f < 64 → (bit_at result f == 1) ≡ true → IsLeft near man to f }
@@ -183,7 +169,7 @@ fn critical_after(near: u64, enemies: u64, man: Man, targets: u64) -> u64
 const LAST_RANKS: u64 = 0xff00_0000_0000_00ff;
 
 // Whether the man may promote on one of the squares.
-#[tactic(auto, using(crate::proofs::Risks::no_last_rank, crate::proofs::Risks::no_pawn_arrives))]
+#[tactic(auto, using(crate::proofs::LastingFlights::no_last_rank, crate::proofs::Risks::no_pawn_arrives))]
 fn may_promote_on(man: Man, targets: u64) -> bool
     ensures { result ≡ false → (t : ℕ) → t < 64 → (bit_at targets t == 1) ≡ true
         → arrives man t ≡ false }

@@ -92,8 +92,11 @@ impl<R: Rules> Killers<R> {
         ensures { result ≡ true
             → mates_behind R.rule (position_after R.rule board.now m.now) 0 ≡ [] }
     {
+        if keeps_flight::<R>(board, m) {
+            return true;
+        }
         if !Threats::are_told::<R>(board) {
-            return keeps_flight::<R>(board, m);
+            return false;
         }
         if let Some(threats) = &mut self.threats {
             if let Some(ruled_out) = threats.rule_out_mate::<R>(board, m) {

@@ -19,6 +19,7 @@ use Rattle.chess_mates.specs.declared.threats.Guards.{Guards}
 use Rattle.chess_mates.specs.declared.threats.Leaving.{Leaving}
 use Rattle.chess_mates.specs.declared.threats.Risk.{Risk}
 use Rattle.chess_mates.specs.declared.threats.Siege.{Siege}
+use Rattle.chess_mates.specs.ties.LastingFlights.{IsLeft}
 use Rattle.chess_rules.specs.Play.{halfway, is_castling, is_double_step}
 use Rattle.chess_rules.specs.Reaches.{leaps, reaches_as}
 use Rattle.chess_rules.specs.RuleSet.{RuleSet, is_circe}
@@ -109,19 +110,6 @@ pub record IsSiegeOf (p : Position) (v : Siege) : Type 0 where
   pub kings : (s : ℕ) → s < 64 → is_man (man_on p.men s) (other p.turn) King ≡ true
       → (bit_at v.men.kings s == 1) ≡ true
   pub castled : AreCastlingSquares p (other p.turn) v.castled
-
--- the word has each square that x on s reaches, whoever else stands on the board
-pub record IsOpenReach (x : Man) (s w : ℕ) : Type 0 where
-  pub inside : (men : List (Option Man)) (t : ℕ) → t < 64 → reaches_as men x.colour x.kind s t ≡ true
-      → (bit_at w t == 1) ≡ true
-
--- once x has come to t, f is left of the word: he stands on another square, and doesn't reach f, whoever else
--- stands on the board
-pub record IsLeft (w : ℕ) (x : Man) (t f : ℕ) : Type 0 where
-  pub small : f < 64
-  pub on : (bit_at w f == 1) ≡ true
-  pub off : f ≢ t
-  pub unreached : (men : List (Option Man)) → reaches_as men x.colour x.kind t f ≡ false
 
 -- wherever the defender comes, critical squares apart, another square of the word is left; where an enemy stands, x
 -- comes only after a capture there

@@ -1,6 +1,6 @@
 use Rattle.chess_rules.proofs.Basics.{Some, sym, ◌∙◌, ◌≡◌}
 use Rattle.chess_mates.proofs.Chess.{Man, man_on}
-use Rattle.chess_mates.proofs.LastingFlights.{hold_all, hold_next, hold_none}
+use Rattle.chess_mates.proofs.HoldBelow.{hold_all, hold_next, hold_none}
 use Rattle.chess_mates.specs.ties.LastingFlights.{LeavesOne}
 use Rattle.chess_mates.proofs.lasting_flights.leave_one_each.Goals as goal
 

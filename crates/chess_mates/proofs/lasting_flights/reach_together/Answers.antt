@@ -1,6 +1,7 @@
 use Rattle.chess_rules.proofs.Basics.{Some, sym, ◌∙◌, ◌≡◌, ℕ}
 use Rattle.chess_mates.proofs.Chess.{Man, man_on}
-use Rattle.chess_mates.proofs.LastingFlights.{hold_all, hold_map, hold_next, hold_none, reached_left, reached_right}
+use Rattle.chess_mates.proofs.HoldBelow.{hold_all, hold_map, hold_next, hold_none}
+use Rattle.chess_mates.proofs.LastingFlights.{reached_left, reached_right}
 use Rattle.chess_mates.specs.ties.LastingFlights.{AreReached}
 use Rattle.chess_mates.proofs.lasting_flights.reach_together.Goals as goal
 

@@ -1,6 +1,6 @@
 use Rattle.chess_rules.proofs.Basics.{Some, ◌-◌, ◌≡◌}
 use Rattle.chess_mates.proofs.Chess.{Man, man_on}
-use Rattle.chess_mates.proofs.LastingFlights.{HoldBelow}
+use Rattle.chess_mates.proofs.HoldBelow.{HoldBelow}
 use Rattle.chess_mates.specs.ties.LastingFlights.{AreReached}
 use Rattle.chess_mates.proofs.lasting_flights.reach_together.Given as goal
 
