@@ -12,7 +12,7 @@ use Rattle.pop_parts.specs.ties.PartsSeen.{is_part_stopped, part_walk}
 use Rattle.pop_solve.proofs.Events.{room-length}
 use Rattle.pop_solve.proofs.Kept.{keep-next, beginning_count-next}
 use Rattle.pop_solve.proofs.Paths.{path-length, path_end-path}
-use Rattle.pop_solve.proofs.Sound.{in_range}
+use Rattle.pop_solve.proofs.Sound.{help-play, in_range}
 
 module _ (rule : RuleSet) (problem : Posed) (phase : Phase) where
   abbrev help : Bool
@@ -113,7 +113,7 @@ module _ (rule : RuleSet) (problem : Posed) (phase : Phase) where
     walking = in_part.walking
 
     abbrev Walked : List Frame → Position → Bool → Type 0
-    Walked frames board given = Walks rule (plan_of problem) (phase_half_moves problem phase) (phase_start problem phase) (problem.max_solutions - count)
+    Walked frames board given = Walks rule (plan_of problem) help (phase_half_moves problem phase) (phase_start problem phase) (problem.max_solutions - count)
         old frames board given
 
     -- a path behind it; board and frames stand as they were left
@@ -165,4 +165,4 @@ module _ (rule : RuleSet) (problem : Posed) (phase : Phase) where
             → IsPartOpened rule problem phase front old before → IsPartOpened rule problem phase front (reverse new) after
         unfolding to_open
         ended-opens new before after none x o = λ help still.
-            rw none (subst (IsCounted (part_walk rule problem phase front) after) (nothing_open still) (x.counted help _ (o help still)))
+            rw none (subst (IsCounted (part_walk rule problem phase front) after) (nothing_open still) (x.counted (help-play problem.stipulation.form help) _ (o help still)))

@@ -30,7 +30,7 @@ module _ (rule : RuleSet) (problem : Posed) (phase : Phase) (h : ℕ) (frames : 
 
 -- a path is given: the events to come lose their first
 module _ (rule : RuleSet) (problem : Posed) (phase : Phase) (count : ℕ) (old new : List Frame) (board : Position) (most : count ≤ problem.max_solutions)
-    (w : Walks rule (plan_of problem) (phase_half_moves problem phase) (phase_start problem phase) (problem.max_solutions - count) old new board true) where
+    (w : Walks rule (plan_of problem) (is_help problem.stipulation.form) (phase_half_moves problem phase) (phase_start problem phase) (problem.max_solutions - count) old new board true) where
   abbrev more : ℕ
   more = cond (begins (is_help problem.stipulation.form) (path new)) 1 0
 
@@ -41,7 +41,7 @@ module _ (rule : RuleSet) (problem : Posed) (phase : Phase) (count : ℕ) (old n
 
 -- none is given: the total is left
 pub left-ended : (rule : RuleSet) (problem : Posed) (phase : Phase) (count : ℕ) (old new : List Frame) (board : Position)
-    → Walks rule (plan_of problem) (phase_half_moves problem phase) (phase_start problem phase) (problem.max_solutions - count) old new board false
+    → Walks rule (plan_of problem) (is_help problem.stipulation.form) (phase_half_moves problem phase) (phase_start problem phase) (problem.max_solutions - count) old new board false
     → left_of rule problem (Within phase count) old ≡ total count (eqb count problem.max_solutions) ∷ cond (is_set phase) (events_from rule problem Play) []
 unfolding left_of
 left-ended rule problem phase count old new board w = search rules
@@ -53,7 +53,7 @@ within-limit rule problem phase count frames board s = s.1
 
 module _ (rule : RuleSet) (problem : Posed) (phase : Phase) (count : ℕ) (old : List Frame) (frames : List Frame) (board : Position)
     (most : count ≤ problem.max_solutions)
-    (w : Walks rule (plan_of problem) (phase_half_moves problem phase) (phase_start problem phase) (problem.max_solutions - count) old
+    (w : Walks rule (plan_of problem) (is_help problem.stipulation.form) (phase_half_moves problem phase) (phase_start problem phase) (problem.max_solutions - count) old
     (reverse frames) board true) where
   pub deep-given : 2 ≤ length frames
   deep-given = omega (arith, w.deep refl, length-reverse frames)
@@ -104,7 +104,7 @@ behind-standing rule problem phase board e = search rules
 module _ (rule : RuleSet) (problem : Posed) (phase : Phase) (stage : Stage) (new : List Frame) (board : Position)
     (at : stage ≡ cond (is_set phase) (Before Play) Behind) (none : new ≡ []) where
   pub gives-ended : (count depth : ℕ) (old mid : List Frame) (now : Position)
-      → Walks rule (plan_of problem) (phase_half_moves problem phase) (phase_start problem phase) (problem.max_solutions - count) old mid now false
+      → Walks rule (plan_of problem) (is_help problem.stipulation.form) (phase_half_moves problem phase) (phase_start problem phase) (problem.max_solutions - count) old mid now false
       → Gives rule problem (left_of rule problem (Within phase count) old) (left_of rule problem stage (reverse new))
       (Total count (eqb count problem.max_solutions)) board depth
   gives-ended count depth old mid now w = search (rules, left-ended, behind-left)

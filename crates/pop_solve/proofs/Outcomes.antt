@@ -1,5 +1,5 @@
 -- The outcomes of a step, for frames listed from the top down.
-use Rattle.pop_solve.proofs.Words.{AreKnown, Battle, Bool, CameFrom, CameFromAt, Counts, Frame, GoesTo, IfSome, IsCounted, IsLinked, IsPlaceIn, IsRoomy, IsWalking, IsWhites, LegalPlace, List, Move, Option, Plan, Position, RuleSet, Steps, Undo, [], after_well_formed, ap, arith, chess, eqb, false, fewest_left, follows, gives, half_moves_on, inl, inr, is_help, is_legal, is_pseudo_legal-from_legal, length, min, moves_behind, opened_frame, path, position, refl, rules, seeks, suc, to_come, to_open, true, turns, undo_of, walk_behind, ℕ, ◌+◌, ◌-◌, ◌<◌, ◌^◌, ◌∷◌, ◌≡◌, ◌≤◌, ◌⊎◌, ◌∙◌}
+use Rattle.pop_solve.proofs.Words.{AreKnown, Battle, Bool, CameFrom, CameFromAt, Counts, Frame, GoesTo, HelpPlay, IfSome, IsCounted, IsLinked, IsPlaceIn, IsRoomy, IsWalking, IsWhites, LegalPlace, List, Move, Option, Plan, Position, RuleSet, Steps, Undo, [], after_well_formed, ap, arith, chess, eqb, false, fewest_left, follows, gives, half_moves_on, inl, inr, is_legal, is_pseudo_legal-from_legal, length, min, moves_behind, opened_frame, path, position, refl, rules, seeks, suc, to_come, to_open, true, turns, undo_of, varies, walk_behind, ℕ, ◌+◌, ◌-◌, ◌<◌, ◌^◌, ◌∷◌, ◌≡◌, ◌≤◌, ◌⊎◌, ◌∙◌}
 use Rattle.chess_rules.specs.Play.{position_after}
 use Rattle.pop_solve.proofs.Tests.{learned, moved}
 use Rattle.pop_solve.proofs.GoingOn.{no_zero, half_moves_on-help, follows-help, half_moves_on-keys, half_moves_on-most, ended-reached}
@@ -115,7 +115,7 @@ module _ (rule : RuleSet) (plan : Plan) (h : ℕ) (p : Position) (f : Frame) (be
     fuel : h - length below ≡ suc (h - length below - 1)
     fuel = omega (arith, top_room rule h p f below board r, left)
 
-    pub steps-pass : (after : Position) (opened opened2 : ℕ) → follows plan (chess plan.goal rule) (eqb (length below) 0) t (position_after rule board m)
+    pub steps-pass : (after : Position) (opened opened2 : ℕ) → follows plan.play (chess plan.goal rule) (eqb (length below) 0) t (position_after rule board m)
         ≡ false
         → after ≡ board → Counts rule plan (eqb (length below) 0) t (position_after rule board m) opened opened2
         → Steps rule plan h p (f ∷ below) (moved f next ∷ below) after opened opened2 false
@@ -132,32 +132,32 @@ module _ (rule : RuleSet) (plan : Plan) (h : ℕ) (p : Position) (f : Frame) (be
         }
 
     pub steps-enter : (after : Position) (opened opened2 : ℕ) → is_legal rule board m ≡ true
-        → follows plan (chess plan.goal rule) (eqb (length below) 0) t (position_after rule board m) ≡ true → after ≡ position_after rule board m
+        → follows plan.play (chess plan.goal rule) (eqb (length below) 0) t (position_after rule board m) ≡ true → after ≡ position_after rule board m
         → Counts rule plan (eqb (length below) 0) t (position_after rule board m) opened opened2
         → Steps rule plan h p (f ∷ below) (opened_frame m (undo_of rule board m)
-        (half_moves_on plan (chess plan.goal rule) t (position_after rule board m)) ∷ (moved f next ∷
-        below)) after opened opened2 (gives plan (chess plan.goal rule) t (position_after rule board m))
+        (half_moves_on plan.play (varies plan) (chess plan.goal rule) t (position_after rule board m)) ∷ (moved f next ∷
+        below)) after opened opened2 (gives plan.play (chess plan.goal rule) t (position_after rule board m))
     steps-enter after opened opened2 lawful b at x =
         let o = open-next rule plan h p f next m below _ t fuel left here in
         let u = undo_of rule board m in
         let q = position_after rule (position rule p (f ∷ below)) m in
-        let tried = half_moves_on plan (chess plan.goal rule) t (position_after rule board m) in
+        let tried = half_moves_on plan.play (varies plan) (chess plan.goal rule) t (position_after rule board m) in
         let n = open-enter rule plan h p f next m below _ t fuel left here u tried in
-        let helped : is_help plan.form ≡ true
+        let helped : plan.play ≡ HelpPlay
         → to_open rule p (f ∷ below) ≡ one rule plan t + to_open rule p (opened_frame m u tried ∷ (moved f next ∷ below)) = λ a.
         let w : walk_behind rule tried q 0 ≡ walk_behind rule t q 0 = ap (λ x. walk_behind rule x q 0) (half_moves_on-help plan (chess plan.goal rule) t _ a) in
         omega (arith, o, n, w, walk_count-start rule plan t q) in
         record {
           walking = walking-enter rule h p plan f next m tried below board after r
-              (omega (arith, left, half_moves_on-most (chess plan.goal rule) plan t (position_after rule board m))) lawful at;
+              (omega (arith, left, half_moves_on-most (chess plan.goal rule) plan.play (varies plan) t (position_after rule board m))) lawful at;
           come = rw after_here (come-enter rule plan h p f next m below _ t fuel left here u (rw (← after_here) b));
           deep = λ g. omega arith;
-          ended = λ g e. rw at (ended-reached (chess plan.goal rule) plan (eqb (length below) 0) t (position_after rule board m) b e);
+          ended = λ g e. rw at (ended-reached (chess plan.goal rule) plan.play (varies plan) (eqb (length below) 0) t (position_after rule board m) b e);
           falls = turns-enter rule plan h p f next m below _ t fuel left here u tried;
           opens = grind (arith, whites-none, half_moves_on-keys, whites-top, whites-moved, walk_behind-none, after_here, counted_by);
           tries = record {
             grows = omega (arith, x.tries);
-            fewest = λ a. rw after_here
+            fewest = λ battle fought. rw after_here
                 (omega (arith, rw after_here at x.tries, tries-enter rule plan h p f next m below _ t fuel left here u (rw (← after_here) b)));
           };
         }
@@ -191,14 +191,15 @@ steps-then rule plan h p old mid new there board before between after a b = reco
   ended = λ g. absurd cc;
   falls = omega (arith, a.falls, b.falls);
   opens = record {
-    whites = λ battle keys w. b.opens.whites battle keys (a.opens.whites battle keys w);
-    most = λ battle keys w. omega (arith, a.opens.most battle keys w, b.opens.most battle keys (a.opens.whites battle keys w));
+    whites = λ battle fought keys w. b.opens.whites battle fought keys (a.opens.whites battle fought keys w);
+    most = λ battle fought keys w. omega
+        (arith, a.opens.most battle fought keys w, b.opens.most battle fought keys (a.opens.whites battle fought keys w));
     helped = λ help. omega (arith, a.opens.helped help, b.opens.helped help);
     counted = λ help walk c. b.opens.counted help walk (a.opens.counted help walk c);
   };
   tries = record {
     grows = omega (arith, a.tries.grows, b.tries.grows);
-    fewest = λ battle. omega (arith, a.tries.fewest battle, b.tries.fewest battle);
+    fewest = λ battle fought. omega (arith, a.tries.fewest battle fought, b.tries.fewest battle fought);
   };
 }
 

@@ -1,5 +1,5 @@
 -- The path to the top frame, and what is shown of it.
-use Rattle.pop_solve.proofs.Words.{CameFrom, CameFromAt, Frame, Goal, IsEnded, IsLinked, IsWalking, List, Move, Plan, Position, RuleSet, [], ap, arith, chess, cond, drop, ends_variation, get_or, is_legal, length, length-append, length-reverse, length-take, path, path_end, position, refl, reverse, reverse-append, rules, shown_along, shown_last, shown_move, subst, sym, take, take-append-drop, take_all, take_more, true, ℕ, ◌++◌, ◌+◌, ◌-◌, ◌<◌, ◌∙◌, ◌∷◌, ◌≡◌, ◌≤◌}
+use Rattle.pop_solve.proofs.Words.{CameFrom, CameFromAt, Frame, Goal, IsEnded, IsLinked, IsWalking, List, Move, Plan, Position, RuleSet, [], ap, arith, chess, cond, drop, ends_variation, get_or, is_legal, length, length-append, length-reverse, length-take, path, path_end, position, refl, reverse, reverse-append, rules, shown_along, shown_last, shown_move, subst, sym, take, take-append-drop, take_all, take_more, true, varies, ℕ, ◌++◌, ◌+◌, ◌-◌, ◌<◌, ◌∙◌, ◌∷◌, ◌≡◌, ◌≤◌}
 use Rattle.chess_rules.specs.Play.{position_after}
 use Rattle.pop_solve.proofs.Outcomes.{CameFrom-deep, walking-close}
 use Rattle.pop_solve.specs.declared.chess.Reached.{Reached}
@@ -98,7 +98,7 @@ module _ (rule : RuleSet) where
 
     pub forth-ended : (plan : Plan) (h : ℕ) (p board after : Position) → IsWalking rule h p (reverse upper) board
         → IsWalking rule h p (reverse lower) after → IsEnded rule plan (reverse upper) board → (b : Reached)
-        → b ≡ cond (ends_variation plan f.left) Surely Perhaps → b ≡ Surely → (chess plan.goal rule).goal (position_after rule after f.by) ≡ true
+        → b ≡ cond (ends_variation plan.play (varies plan) f.left) Surely Perhaps → b ≡ Surely → (chess plan.goal rule).goal (position_after rule after f.by) ≡ true
     forth-ended plan h p board after r s ended b e here = search (rules, forth-again, stacked)
 
     pub forth-along : (goal : Goal) (p : Position)

@@ -1,7 +1,7 @@
 //! The search for the solutions of a chess problem: help play, direct mate and selfmate over one board and explicit frames.
 #![tactic(auto)]
 
-mod aim;
+pub mod aim;
 pub mod chess;
 pub mod frame;
 pub mod guess;

@@ -6,12 +6,13 @@ ghost use Rattle.pop_input.specs.Posed.{IsSound};
 ghost use Rattle.pop_input.specs.Stipulations.{half_moves, is_help};
 ghost use Rattle.pop_solve.specs.Events.{first_phase, play_start, phase_half_moves as half_moves_of_phase, phase_start, phase_half as half_of_phase, event_of, is_barred, path_event, is_set, opening};
 ghost use Rattle.pop_solve.specs.ties.Walk.{IsEnded, IsWalking, Opens, Tries, path};
-ghost use Rattle.pop_solve.specs.ties.Plans.{plan_of};
+ghost use Rattle.pop_solve.specs.ties.Plans.{helps, plan_of};
 ghost use Rattle.pop_solve.specs.ties.Phases.{left_of, IsStanding, Walks, Gives, OpensOn};
 ghost use Rattle.pop_events.specs.declared.event.Event.TheVariants.{Total};
 ghost use Rattle.pop_events.specs.declared.event.Phase.TheVariants.{Play};
 ghost use Rattle.pop_solve.specs.declared.phases.Stage.TheVariants.{Before, Within, Behind};
 
+use crate::aim;
 use crate::chess::{is_impossible, turn_back, turn_over};
 use crate::frame::Frame;
 use crate::killers::Killers;
@@ -73,9 +74,9 @@ fn phase_half(problem: &Problem, phase: Phase) -> u32
 
 /// Whether a phase ends before another solution begins: so many have begun, and none is on the way.
 fn is_full(plan: Plan, depth: usize, limit: u32) -> bool
-    ensures { result ≡ ((limit == 0) && (is_help plan.form || (depth == 1))) }
+    ensures { result ≡ ((limit == 0) && (helps plan.play || (depth == 1))) }
 {
-    limit == 0 && (plan.form.is_help() || depth == 1)
+    limit == 0 && (plan.play == aim::Play::Help || depth == 1)
 }
 
 /// Walks on to the next path that is given, in a phase in which `limit` solutions are still to begin. Answers whether
@@ -94,8 +95,8 @@ pub fn walk_on<R: Rules, const N: usize>(
     requires walking { IsWalking R.rule (half_moves_of_phase problem.now phase)
         (phase_start problem.now phase)
         (reverse frames.old.items) board.old }
-    ensures walks { Walks R.rule (plan_of problem.now) (half_moves_of_phase problem.now phase)
-        (phase_start problem.now phase) limit (reverse frames.old.items) (reverse frames.new.items)
+    ensures walks { Walks R.rule (plan_of problem.now) (is_help problem.now.stipulation.form)
+        (half_moves_of_phase problem.now phase) (phase_start problem.now phase) limit (reverse frames.old.items) (reverse frames.new.items)
         board.new result }
     ensures opens { Opens R.rule (plan_of problem.now) (phase_start problem.now phase)
         (reverse frames.old.items)
@@ -149,7 +150,7 @@ pub fn event_at<R: Rules>(
 {
     let half = phase_half(problem, phase);
     let plan = Plan::of(problem);
-    if plan.form.is_help() {
+    if problem.stipulation().form.is_help() {
         return Event::Line {
             half,
             moves: line::<R>(plan.goal, frames, board),

@@ -1,4 +1,5 @@
 use Rattle.pop_solve.proofs.Words.{refl, rules}
+use Rattle.pop_solve.proofs.Sound.{help-play}
 use Rattle.pop_parts.proofs.PartEvents as events
 use Rattle.pop_parts.specs.ties.PartStages.{StandsInPart}
 use Rattle.pop_parts.proofs.part_search.go_on_in_part.Goals as goal
@@ -40,6 +41,9 @@ pub returns-then-walk_on-clause-gives : goal.returns-then-walk_on-clause-gives
 returns-then-walk_on-clause-gives g c =
     let w = rw c.still_to_begin-limit.ensures at c.if-walk_on.ensures.walks in
     events.given-gives _ _ _ _ _ _ _ c.requires.stands.1 _ _ w _ _ refl c.event_at.ensures.unchanged _ (search rules) _ (search rules)
+
+pub returns-then-walk_on-clause-opens : goal.returns-then-walk_on-clause-opens
+returns-then-walk_on-clause-opens g c = search (rules, help-play)
 
 pub returns-clause-stands : goal.returns-clause-stands
 unfolding StandsInPart
