@@ -1,6 +1,6 @@
 -- The outcomes of a step for frames listed from the bottom up, as the code holds them, and what its calls hand on.
 use Rattle.pop_solve.specs.declared.aim.Aim.{Aim}
-use Rattle.pop_solve.proofs.Words.{AreKnown, Battle, BattlePlay, Bool, CameFrom, CameFromAt, Counts, Frame, GoesTo, HasCounted, HelpPlay, IfSome, IsNextMate, IsPlaceIn, IsWalking, LegalPlace, List, MatchOption, Mate, Option, Plan, Position, RuleSet, Steps, [], ap, append-nil, arith, chess, eqb, false, follows, gives, half_moves_on, inl, inr, is_for_mate, is_mate, is_legal, length, length-reverse, mates_behind, moves_behind, moves_behind-end, position, refl, reverse, reverse-append, rules, seeks_last, smallest_tree, subst, suc, sym, true, undo_of, value, varies, ℕ, ◌++◌, ◌+◌, ◌-◌, ◌<◌, ◌∙◌, ◌∷◌, ◌≡◌, ◌≤◌, ◌⊎◌, IsSettled, fewest_for, min, None, false≢true, ◌^◌, Move}
+use Rattle.pop_solve.proofs.Words.{AreKnown, Battle, BattlePlay, Bool, CameFrom, CameFromAt, Counts, Frame, GoesTo, HasCounted, HelpPlay, IfSome, IsNextMate, IsPlaceIn, IsWalking, LegalPlace, List, MatchOption, Mate, Option, Plan, Position, RuleSet, Steps, [], ap, append-nil, arith, chess, eqb, false, follows, gives, half_moves_on, inl, inr, is_for_mate, is_mate, is_legal, length, length-reverse, mates_behind, nat_tests, moves_behind, moves_behind-end, position, refl, reverse, reverse-append, rules, seeks_last, smallest_tree, subst, suc, sym, true, undo_of, value, varies, ℕ, ◌++◌, ◌+◌, ◌-◌, ◌<◌, ◌∙◌, ◌∷◌, ◌≡◌, ◌≤◌, ◌⊎◌, IsSettled, fewest_for, min, None, false≢true, ◌^◌, Move}
 use Rattle.chess_rules.specs.Play.{position_after}
 use Rattle.pop_solve.proofs.Boards.{for_mate}
 use Rattle.pop_solve.specs.ties.Frames.{opened_frame}
@@ -15,6 +15,10 @@ reverse-push xs x = reverse-append xs (x ∷ [])
 
 pub popped : (old new : List Frame) (x : Frame) → old ≡ new ++ x ∷ [] → reverse old ≡ x ∷ reverse new
 popped old new x e = ap reverse e ∙ reverse-push new x
+
+-- the frames of the first position's moves
+pub at_root : (n depth : ℕ) → n ≡ depth + 1 → eqb n 1 ≡ eqb depth 0
+at_root n depth e = grind (arith, nat_tests)
 
 -- the same outcomes, for frames listed from the bottom up, as the code holds them
 module _ (rule : RuleSet) (plan : Plan) (h : ℕ) (top : Frame) (old new : List Frame) (taken : old ≡ new ++ top ∷ []) where

@@ -11,6 +11,7 @@ ghost use Rattle.pop_solve.specs.ties.Values.{value};
 use crate::aim::{Aim, Battle, Play};
 use crate::chess::next_move;
 use crate::frame::Frame;
+use crate::history::History;
 use crate::killers::Killers;
 use crate::plan::Plan;
 use crate::value::value_of;
@@ -19,6 +20,7 @@ use chess_core::board::Board;
 use chess_core::man::Move;
 use chess_rules::moves::Moves;
 use chess_rules::rules::Rules;
+use std::mem;
 
 /// Whether killers are guessed for a test with `left` half-moves: in a direct mate, with Black to move. In selfmates none
 /// stand, and help play has no tests.
@@ -42,8 +44,13 @@ fn cost_of_test<R: Rules>(
 {
     let mut stand = *board;
     let mut frames = ArrayVec::<Frame<R>, 33>::new();
-    let mut opened = 0;
-    let wins = value_of::<R, 33>(aim, left, &mut stand, &mut frames, killers, &mut opened);
+    let mut history = History::with(mem::replace(killers, Killers::none()));
+    let wins = value_of::<R, 33>(aim, left, &mut stand, &mut frames, &mut history);
+    let History {
+        killers: found,
+        opened,
+    } = history;
+    *killers = found;
     (wins, opened)
 }
 

@@ -5,6 +5,7 @@ pub mod aim;
 pub mod chess;
 pub mod frame;
 pub mod guess;
+pub mod history;
 pub mod killers;
 pub mod phases;
 pub mod plan;
@@ -14,5 +15,6 @@ mod value;
 pub mod walk;
 
 pub use frame::{Early, Frame, Order, Stretch};
+pub use history::History;
 pub use killers::Killers;
 pub use search::Search;

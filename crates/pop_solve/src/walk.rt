@@ -21,7 +21,7 @@ ghost use Rattle.pop_solve.specs.ties.Walk.{fewest as fewest_of, first_from, ope
 use crate::aim::{Aim, Battle, Play};
 use crate::chess::{is_for_mate, next_mate, next_move, reaches_goal, retract};
 use crate::frame::{Frame, Order, Stretch};
-use crate::killers::Killers;
+use crate::history::History;
 use crate::plan::Plan;
 use crate::value::{seeking, value_of};
 use arrayvec::ArrayVec;
@@ -49,19 +49,18 @@ fn least_length<R: Rules, const N: usize>(
     left: usize,
     board: &mut Board,
     frames: &mut ArrayVec<Frame<R>, N>,
-    killers: &mut Killers<R>,
-    opened: &mut u64,
+    history: &mut History<R>,
 ) -> usize
     requires well_formed { IsWellFormed board.old }
     requires room { array_vec_len frames.old + left ≤ N }
     ensures least { result ≡ first_from aim.battle (chess aim.goal R.rule) board.old
         ((left - fewest_of aim.battle) / 2) (fewest_of aim.battle) }
-    ensures rest { Restores board.old board.new frames.old.items frames.new.items opened.old
-        opened.new }
+    ensures rest { Restores board.old board.new frames.old.items frames.new.items history.old.opened
+        history.new.opened }
 {
     let mut tried = fewest(aim.battle);
     while left >= 2 && tried <= left - 2 {
-        if value_of::<R, N>(aim, tried, board, frames, killers, opened) {
+        if value_of::<R, N>(aim, tried, board, frames, history) {
             return tried;
         }
         tried += 2;
@@ -76,14 +75,13 @@ fn length_shown<R: Rules, const N: usize>(
     left: usize,
     board: &mut Board,
     frames: &mut ArrayVec<Frame<R>, N>,
-    killers: &mut Killers<R>,
-    opened: &mut u64,
+    history: &mut History<R>,
 ) -> usize
     requires well_formed { IsWellFormed board.old }
     requires room { array_vec_len frames.old + left ≤ N }
     ensures length { result ≡ open_length aim.battle (chess aim.goal R.rule) left board.old }
-    ensures rest { Restores board.old board.new frames.old.items frames.new.items opened.old
-        opened.new }
+    ensures rest { Restores board.old board.new frames.old.items frames.new.items history.old.opened
+        history.new.opened }
 {
     if left == 0 || reaches_goal::<R>(aim.goal, board) {
         return 0;
@@ -91,7 +89,7 @@ fn length_shown<R: Rules, const N: usize>(
     if !seeking(aim.battle, left) {
         return left;
     }
-    least_length::<R, N>(aim, left, board, frames, killers, opened)
+    least_length::<R, N>(aim, left, board, frames, history)
 }
 
 /// With how many half-moves the walk goes on from the board's position, where `left` are left.
@@ -101,18 +99,17 @@ fn length_below<R: Rules, const N: usize>(
     left: usize,
     board: &mut Board,
     frames: &mut ArrayVec<Frame<R>, N>,
-    killers: &mut Killers<R>,
-    opened: &mut u64,
+    history: &mut History<R>,
 ) -> usize
     requires well_formed { IsWellFormed board.old }
     requires room { array_vec_len frames.old + left ≤ N }
     ensures length { result ≡ half_moves_on plan.play (varies plan) (chess plan.goal R.rule) left
         board.old }
-    ensures rest { Restores board.old board.new frames.old.items frames.new.items opened.old
-        opened.new }
-    ensures opened { plan.play ≡ HelpPlay → opened.new ≡ opened.old }
+    ensures rest { Restores board.old board.new frames.old.items frames.new.items history.old.opened
+        history.new.opened }
+    ensures opened { plan.play ≡ HelpPlay → history.new.opened ≡ history.old.opened }
     ensures keys_alone { (battle : Battle) → plan.play ≡ BattlePlay battle
-        → IsTrue (not (varies plan) && seeks battle (left + 1)) → opened.new ≡ opened.old }
+        → IsTrue (not (varies plan) && seeks battle (left + 1)) → history.new.opened ≡ history.old.opened }
 {
     let Play::Battle(battle) = plan.play else {
         return left;
@@ -124,7 +121,7 @@ fn length_below<R: Rules, const N: usize>(
         battle,
         goal: plan.goal,
     };
-    length_shown::<R, N>(aim, left, board, frames, killers, opened)
+    length_shown::<R, N>(aim, left, board, frames, history)
 }
 
 /// The battle in which a move is tested before it is followed, where `left` half-moves are left with it: the moves of White
@@ -166,20 +163,19 @@ fn value_after<R: Rules, const N: usize>(
     left: usize,
     board: &mut Board,
     frames: &mut ArrayVec<Frame<R>, N>,
-    killers: &mut Killers<R>,
-    opened: &mut u64,
+    history: &mut History<R>,
 ) -> bool
     requires well_formed { IsWellFormed board.old }
     requires room { array_vec_len frames.old + left ≤ N }
     requires mated { is_for_mate aim.goal ≡ true → seeks aim.battle 1 ≡ true → left ≡ 0
         → is_mate R.rule board.old ≡ true }
     ensures { Evaluates R.rule aim left board.old board.new frames.old.items
-        frames.new.items opened.old opened.new result }
+        frames.new.items history.old.opened history.new.opened result }
 {
     if left == 0 && is_for_mate(aim.goal) && seeking(aim.battle, 1) {
         return true;
     }
-    value_of::<R, N>(aim, left, board, frames, killers, opened)
+    value_of::<R, N>(aim, left, board, frames, history)
 }
 
 /// Whether the path to the board's position is given, with `left` half-moves left there. The last half-move of help play
@@ -218,22 +214,20 @@ pub(crate) fn opened_by(opened: u64, tried: usize, tested: bool) -> u64
 #[inline(always)]
 pub fn enter<R: Rules, const N: usize>(
     plan: Plan,
-    root: bool,
     left: usize,
     by: Move,
     board: &mut Board,
     frames: &mut ArrayVec<Frame<R>, N>,
-    killers: &mut Killers<R>,
-    opened: &mut u64,
+    history: &mut History<R>,
 ) -> bool
     requires well_formed { IsWellFormed board.old }
     requires room { array_vec_len frames.old + left < N }
     requires legal { is_legal R.rule board.old by ≡ true }
     requires mated { IsMatedAtLast R.rule plan left (position_after R.rule board.old by) }
-    ensures passes { is_followed plan.play (chess plan.goal R.rule) root left
+    ensures passes { is_followed plan.play (chess plan.goal R.rule) (array_vec_len frames.old == 1) left
         (position_after R.rule board.old by) ≡ false
         → (result ≡ false) × (board.new ≡ board.old) × (frames.new.items ≡ frames.old.items) }
-    ensures enters { is_followed plan.play (chess plan.goal R.rule) root left
+    ensures enters { is_followed plan.play (chess plan.goal R.rule) (array_vec_len frames.old == 1) left
         (position_after R.rule board.old by) ≡ true
         → (result ≡ is_given plan.play (chess plan.goal R.rule) left
         (position_after R.rule board.old by))
@@ -242,9 +236,10 @@ pub fn enter<R: Rules, const N: usize>(
         (half_moves_on plan.play (varies plan) (chess plan.goal R.rule) left
         (position_after R.rule board.old by))
         ∷ []) }
-    ensures counts { Counts R.rule plan root left (position_after R.rule board.old by) opened.old
-        opened.new }
+    ensures counts { Counts R.rule plan (array_vec_len frames.old == 1) left
+        (position_after R.rule board.old by) history.old.opened history.new.opened }
 {
+    let root = frames.len() == 1;
     let undo = R::play(board, by);
     let tested = tested_in(plan.play, root, left + 1);
     if let Some(battle) = tested {
@@ -252,12 +247,12 @@ pub fn enter<R: Rules, const N: usize>(
             battle,
             goal: plan.goal,
         };
-        if !value_after::<R, N>(aim, left, board, frames, killers, opened) {
+        if !value_after::<R, N>(aim, left, board, frames, history) {
             retract::<R>(board, by, undo);
             return false;
         }
     }
-    let tried = length_below::<R, N>(plan, left, board, frames, killers, opened);
+    let tried = length_below::<R, N>(plan, left, board, frames, history);
     frames.push(Frame {
         place: Moves::start(),
         by,
@@ -267,7 +262,7 @@ pub fn enter<R: Rules, const N: usize>(
         stretch: Stretch::Others,
         known: None,
     });
-    *opened = opened_by(*opened, tried, tested.is_some());
+    history.opened = opened_by(history.opened, tried, tested.is_some());
     gives::<R>(plan, left, board)
 }
 
@@ -330,8 +325,7 @@ pub(crate) fn step<R: Rules, const N: usize>(
     half_moves: usize,
     board: &mut Board,
     frames: &mut ArrayVec<Frame<R>, N>,
-    killers: &mut Killers<R>,
-    opened: &mut u64,
+    history: &mut History<R>,
 ) -> bool
     requires well_formed { IsWellFormed board.old }
     requires room { half_moves < N }
@@ -341,7 +335,7 @@ pub(crate) fn step<R: Rules, const N: usize>(
     ensures steps { (p : Position) → IsWalking R.rule half_moves p (reverse frames.old.items)
         board.old
         → Steps R.rule plan half_moves p (reverse frames.old.items) (reverse frames.new.items)
-        board.new opened.old opened.new result }
+        board.new history.old.opened history.new.opened result }
 {
     let Some(top) = frames.pop() else {
         return false;
@@ -359,17 +353,8 @@ pub(crate) fn step<R: Rules, const N: usize>(
         ..top
     });
     if is_settled::<R>(plan, top.left, &by, board) {
-        *opened = opened_by(*opened, 1, false);
+        history.opened = opened_by(history.opened, 1, false);
         return false;
     }
-    enter::<R, N>(
-        plan,
-        depth == 0,
-        top.left - 1,
-        by,
-        board,
-        frames,
-        killers,
-        opened,
-    )
+    enter::<R, N>(plan, top.left - 1, by, board, frames, history)
 }
