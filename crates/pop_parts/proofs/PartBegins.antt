@@ -28,6 +28,7 @@ unfolding path
 front-none [] = refl
 front-none (f ∷ frames) = refl
 
+-- one more frame is one more move
 pub front-more : (frames : List Frame) (k : ℕ) (f : Frame) → f ≡ get_or frames k f → 0 < k → k < length frames
     → path (reverse (take (k + 1) frames)) ≡ path (reverse (take k frames)) ++ f.by ∷ []
 front-more frames k f at some less = ap path (popped _ _ f (cut-at frames (k + 1) k f refl at less)) ∙ path-more f (reverse (take k frames))
@@ -74,6 +75,7 @@ some-event : (xs : List BareEvent) (y : BareEvent) (ys : List BareEvent) → (xs
 some-event [] y ys e = cc
 some-event (x ∷ xs) y ys e = cc
 
+-- behind its total a part of help play has opened all its positions
 pub all-opened : (rule : RuleSet) (problem : Posed) (phase : Phase) (front : List Move) (stage : PartStage) (frames : List Frame) (board : Position)
     (opened : ℕ) → StandsInPart rule problem phase front stage frames board → IsPartOpened rule problem phase front frames opened
     → is_help problem.stipulation.form ≡ true → is_part_stopped rule problem phase front ≡ false → part_left rule problem phase stage frames ≡ []
@@ -200,6 +202,7 @@ module _ (rule : RuleSet) (problem : Posed) (sound : IsSound problem) (phase : P
       (ap (map (λ line. path old ++ line))
       (skipped rule plan h board (opened_frame m (undo_of rule board m) 1) [] _ g root 1 last (for_mate _ for) m [] misses))
 
+  -- a part whose last first move doesn't mate where it has to has no solution
   pub begun-fails : (opened : ℕ) (after : Position) → opened ≡ 0 → after ≡ board → is_for_mate problem.stipulation.goal ≡ true → seeks_last plan.play ≡ true
       → left ≡ 0 → is_mate rule q ≡ false → HasBegun rule problem phase front (Within 0) old after opened
   unfolding walk_count
@@ -230,7 +233,8 @@ module _ (rule : RuleSet) (problem : Posed) (sound : IsSound problem) (phase : P
         ← s.walking.board_at,
         behind_start rule q,
       )
-      (sym (append-nil _) ∙ turn (gives plan.play game left q) (path old) m (shown_paths plan game false left (half_moves_on plan.play (varies plan) game left q) q
+      (sym (append-nil _) ∙ turn (gives plan.play game left q) (path old) m (shown_paths plan game false left (half_moves_on plan.play
+      (varies plan) game left q) q
       (legal_moves rule q)) [] [])
 
   walking-entered : IsWalking rule h p entered q

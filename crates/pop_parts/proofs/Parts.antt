@@ -21,7 +21,7 @@ use Rattle.pop_parts.specs.ties.PartsSeen.{are_legal}
 
 module _ (rule : RuleSet) (problem : Posed) where
   -- legal moves can be played
-  pub is_legal-playable : (p : Position) → IsWellFormed p → (front : List Move) → are_legal rule p front ≡ true → IsPlayable (game_of rule problem) p front
+  is_legal-playable : (p : Position) → IsWellFormed p → (front : List Move) → are_legal rule p front ≡ true → IsPlayable (game_of rule problem) p front
   unfolding are_legal
   is_legal-playable p well [] may = tt
   is_legal-playable p well (m ∷ ms) may =
@@ -42,6 +42,7 @@ module _ (rule : RuleSet) (problem : Posed) where
   each-alone zero p front some = absurd (omega (arith, some))
   each-alone (suc h) p front some = filter-map (begins_so front) (λ path. path ∷ []) (lines_to_goal (game_of rule problem) (suc h) p)
 
+  -- the solutions of a part of help play are these lines
   pub help-part : play_of problem.stipulation.form ≡ HelpPlay → (phase : Phase) (front : List Move)
       → IsPlayable (game_of rule problem) (phase_start problem phase) front → length front ≤ phase_half_moves problem phase
       → 1 ≤ phase_half_moves problem phase → part_solutions rule problem phase front ≡ map (λ path. path ∷ []) (lines-behind phase front)
@@ -56,7 +57,9 @@ module _ (rule : RuleSet) (problem : Posed) where
   battle-by battle Set h ms = set_by battle (game_of rule problem) problem.variation problem.stipulation.n h (phase_start problem Set) ms
   battle-by battle Play h ms = tree_by battle (game_of rule problem) problem.variation problem.stipulation.n (suc h) (phase_start problem Play) ms
 
-  pub battle-solutions : (battle : Battle) → play_of problem.stipulation.form ≡ BattlePlay battle → (phase : Phase) (h : ℕ) → phase_half_moves problem phase ≡ suc h
+  -- the solutions of a phase are those that begin with any of its moves
+  pub battle-solutions : (battle : Battle) → play_of problem.stipulation.form ≡ BattlePlay battle → (phase : Phase) (h : ℕ)
+      → phase_half_moves problem phase ≡ suc h
       → solutions rule problem phase ≡ battle-by battle phase h (legal_moves rule (phase_start problem phase))
   unfolding set_tree
   battle-solutions battle fought Set h z = set_paths rule problem battle fought
@@ -69,6 +72,7 @@ module _ (rule : RuleSet) (problem : Posed) where
   of-one battle Set h m c = root-part _ _ m (legal_moves rule (phase_start problem Set)) (moves_in_order rule (phase_start problem Set)) c
   of-one battle Play h m c = root-part _ _ m (legal_moves rule (phase_start problem Play)) (moves_in_order rule (phase_start problem Play)) c
 
+  -- those of a part are those that begin with its move
   pub battle-part : (battle : Battle) → play_of problem.stipulation.form ≡ BattlePlay battle → (phase : Phase) (h : ℕ) → phase_half_moves problem phase ≡ suc h
       → (m : Move) → Contains (legal_moves rule (phase_start problem phase)) m → part_solutions rule problem phase (m ∷ []) ≡ battle-by battle phase h (m ∷ [])
   unfolding part_solutions
@@ -109,14 +113,16 @@ module _ (rule : RuleSet) (problem : Posed) where
       subst (λ xs. IsCutInto true n xs (part_solutions rule problem phase (front ++ m ∷ []))) (sym way)
       (subst (λ sols. IsCutInto true n (lines-behind phase (front ++ m ∷ [])) sols) (sym part) whole)
 
-  one-cut : (battle : Battle) → play_of problem.stipulation.form ≡ BattlePlay battle → (phase : Phase) (h : ℕ) → phase_half_moves problem phase ≡ suc h → (m : Move)
+  one-cut : (battle : Battle) → play_of problem.stipulation.form ≡ BattlePlay battle → (phase : Phase) (h : ℕ) → phase_half_moves problem phase ≡ suc h
+      → (m : Move)
       → IsCutInto false problem.max_solutions (shown_paths (plan_of problem) (game_of rule problem) true (suc h) (suc h) (phase_start problem phase) (m ∷ []))
       (battle-by battle phase h (m ∷ []))
   one-cut battle fought Set h z m =
       rw (shown_paths-varied problem.variation) at (set-cut (game_of rule problem) (plan_of problem) battle fought problem.stipulation.n h problem.max_solutions
       (phase_start problem Set) (m ∷ []) (sym z ∙ ap (λ x. x - 1) (halves-form problem.stipulation.form problem.stipulation.n battle fought)))
   one-cut battle fought Play h z m =
-      rw (shown_paths-varied problem.variation) at (tree-cut (game_of rule problem) (plan_of problem) battle fought problem.stipulation.n h problem.max_solutions
+      rw (shown_paths-varied problem.variation) at (tree-cut (game_of rule problem)
+      (plan_of problem) battle fought problem.stipulation.n h problem.max_solutions
       (phase_start problem Play) (m ∷ []) (sym z ∙ halves-form problem.stipulation.form problem.stipulation.n battle fought))
 
   with-none : (n h k : ℕ) (p : Position) (ms : List Move) (sols : List (List (List Move))) → h ≡ suc k

@@ -34,6 +34,7 @@ module _ (rule : RuleSet) (problem : Posed) (phase : Phase) where
       → parts rule problem phase depth ≡ beginnings (game_of rule problem) 1 (phase_start problem phase)
   parts-battle depth free some battle = rw battle at (parts-some depth free some)
 
+  -- the parts are the lists of so many legal moves
   pub parts-are : (depth : ℕ) → is_barred rule problem phase ≡ false → (h : ℕ) → phase_half_moves problem phase ≡ h → (front : List Move)
       → Contains (parts rule problem phase depth) front
       ↔ ((1 ≤ phase_half_moves problem phase) × IsPlayable (game_of rule problem) (phase_start problem phase) front
@@ -148,6 +149,7 @@ module _ (rule : RuleSet) (problem : Posed) where
         (parts-battle rule problem phase depth free (omega (arith, z)) (battle-form problem.stipulation.form battle fought))
         ∙ battle-joined battle fought phase h z
 
+    -- the solutions of all parts, joined, are the phase's
     pub joined : flat_map (part_solutions rule problem phase) (parts rule problem phase depth) ≡ solutions rule problem phase
     joined = all-joined (phase_half_moves problem phase) refl (play_of problem.stipulation.form) refl
 
@@ -164,6 +166,7 @@ module _ (rule : RuleSet) (problem : Posed) where
         (battle-form problem.stipulation.form battle fought))
         ∙ battle-once battle fought phase h z s c
 
+    -- each solution begins as one part alone
     pub once : (s : List (List Move)) → Contains (solutions rule problem phase) s
         → length (filter (λ front. begins_so front s) (parts rule problem phase depth)) ≡ 1
     once s c = all-once (phase_half_moves problem phase) refl (play_of problem.stipulation.form) refl s c

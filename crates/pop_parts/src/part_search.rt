@@ -171,7 +171,8 @@ fn go_on_in_part<R: Rules, const N: usize>(
     ensures opens { (front : List Move) → StandsInPart R.rule problem.now phase front
         (Within count) (reverse frames.old.items) board.old
         → IsPartOpened R.rule problem.now phase front (reverse frames.old.items) history.old.opened
-        → IsPartOpened R.rule problem.now phase front (reverse frames.new.items) history.new.opened }
+        → IsPartOpened R.rule problem.now phase front
+        (reverse frames.new.items) history.new.opened }
     ensures grows { min history.old.opened (2 ^ 64 - 1) ≤ history.new.opened }
 {
     let limit = still_to_begin(problem, count);
@@ -222,7 +223,8 @@ impl<R: Rules, const N: usize> Model for PartSearch<R, N> {
         × (half_moves s.problem.stipulation < N)
         × StandsInPart R.rule s.problem s.phase s.front.items s.stage (reverse s.frames.items)
         s.board
-        × IsPartOpened R.rule s.problem s.phase s.front.items (reverse s.frames.items) s.history.opened };
+        × IsPartOpened R.rule s.problem s.phase s.front.items
+        (reverse s.frames.items) s.history.opened };
 }
 
 impl<R: Rules, const N: usize> PartSearch<R, N> {

@@ -1,6 +1,7 @@
 -- How many half-moves a line goes on below a move, and what is reached where it ends.
 use Rattle.pop_solve.proofs.Words.{Battle, BattlePlay, Bool, Game, HelpPlay, Plan, PlayOfSides, arith, cond, ends_variation, eqb, false, fewest, first_from, follows, half_moves_on, inl, inr, nat_tests, open_length, refl, rules, seeks, suc, true, value, varies, zero, ℕ, ◌*◌, ◌+◌, ◌-◌, ◌/◌, ◌<◌, ◌||◌, ◌≡◌, ◌≤◌, ◌⊎◌}
 
+-- a test by its two answers
 pub cases : (b : Bool) → (b ≡ false) ⊎ (b ≡ true)
 cases b = search rules
 
@@ -9,6 +10,7 @@ pub ways : (play : PlayOfSides) → (play ≡ HelpPlay) ⊎ ((battle : Battle) �
 ways HelpPlay = inl refl
 ways (BattlePlay battle) = inr (battle, refl)
 
+-- a successor is not zero, as code tests it
 pub no_zero : (k : ℕ) → eqb (suc k) 0 ≡ false
 no_zero k = grind (arith, nat_tests)
 
@@ -19,6 +21,7 @@ module _ {P M : Type 0} (game : Game P M) where
   first_from-most battle q zero a t h = omega (arith, h)
   first_from-most battle q (suc n) a t h = search (rules, first_from-most battle q n)
 
+  -- the length that is shown is at most what is left
   pub length_most : (battle : Battle) (t : ℕ) (q : P) (z s goal : Bool) → eqb t 0 ≡ z → seeks battle t ≡ s
       → cond (z || goal) 0 (cond s (first_from battle game q ((t - fewest battle) / 2) (fewest battle)) t) ≤ t
   length_most battle t q z s goal e u = search (rules, first_from-most, nat_tests)
@@ -27,6 +30,7 @@ module _ {P M : Type 0} (game : Game P M) where
   unfolding open_length
   open_length-most battle t q = length_most battle t q (eqb t 0) (seeks battle t) (game.goal q) refl refl
 
+  -- so is that with which the walk goes on
   pub half_moves_on-most : (play : PlayOfSides) (variation : Bool) (t : ℕ) (q : P) → half_moves_on play variation game t q ≤ t
   unfolding half_moves_on
   half_moves_on-most HelpPlay variation t q = omega arith
@@ -59,6 +63,7 @@ pub half_moves_on-help : {P M : Type 0} (plan : Plan) (game : Game P M) (t : ℕ
 unfolding half_moves_on
 half_moves_on-help plan game t q help = rw help refl
 
+-- it follows each move of help play
 pub follows-help : {P M : Type 0} (plan : Plan) (game : Game P M) (root : Bool) (t : ℕ) (q : P) → plan.play ≡ HelpPlay
     → follows plan.play game root t q ≡ true
 unfolding follows

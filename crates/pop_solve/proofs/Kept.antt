@@ -2,46 +2,51 @@
 use Rattle.pop_solve.proofs.Words.{Battle, BattlePlay, Bool, Frame, Game, HelpPlay, IsWalking, List, Plan, PlayOfSides, Position, RuleSet, Steps, Walks, [], ap, append-nil, arith, beginning_count, begins, chess, cond, eqb, false, gives, helps, keep, length, map, moves_behind, nat_tests, path, position, refl, rules, shown_paths, suc, to_come, true, zero, ℕ, ◌&&◌, ◌++◌, ◌+◌, ◌-◌, ◌<◌, ◌||◌, ◌∙◌, ◌∷◌, ◌≡◌}
 use Rattle.pop_solve.proofs.Paths.{path-length}
 
+-- where no path is to come no solution begins
 pub beginning_count-nil : (M : Type 0) (help : Bool) (n : ℕ) → beginning_count {M = M} help n [] ≡ 0
 unfolding beginning_count
 beginning_count-nil M help n = search rules
 
 module _ {M : Type 0} where
+  -- nor is one kept
   pub keep-nil : (help : Bool) (n : ℕ) → keep {M = M} help n [] ≡ []
   unfolding keep
   keep-nil help n = search rules
 
+  -- the next path is kept, and of the others those of the solutions that may still begin
   pub keep-next : (help : Bool) (n : ℕ) (x : List M) (xs : List (List M)) (b : Bool) → begins help x ≡ b → (b ≡ true → 0 < n)
       → keep help n (x ∷ xs) ≡ x ∷ keep help (n - cond b 1 0) xs
   unfolding keep
   keep-next help n x xs b e some = search rules
 
+  -- the solutions that begin with it and behind it
   pub beginning_count-next : (help : Bool) (n : ℕ) (x : List M) (xs : List (List M)) (b : Bool) → begins help x ≡ b → (b ≡ true → 0 < n)
       → beginning_count help n (x ∷ xs) ≡ cond b 1 0 + beginning_count help (n - cond b 1 0) xs
   unfolding beginning_count
   beginning_count-next help n x xs b e some = search rules
 
   -- where every path begins a solution, none is kept with none to begin
-  pub keep-help : (xs : List (List M)) → keep true 0 xs ≡ []
+  keep-help : (xs : List (List M)) → keep true 0 xs ≡ []
   unfolding keep
   keep-help [] = refl
   keep-help (x ∷ xs) = refl
 
-  pub beginning_count-help : (xs : List (List M)) → beginning_count true 0 xs ≡ 0
+  beginning_count-help : (xs : List (List M)) → beginning_count true 0 xs ≡ 0
   unfolding beginning_count
   beginning_count-help [] = refl
   beginning_count-help (x ∷ xs) = refl
 
+  -- lines behind no move
   pub map-same : (xs : List (List M)) → map (λ line. [] ++ line) xs ≡ xs
   map-same [] = refl
   map-same (x ∷ xs) = ap (λ ys. x ∷ ys) (map-same xs)
 
-  pub root-same : (xs : List (List M)) → map (λ line. [] ++ line) xs ++ [] ≡ xs
+  root-same : (xs : List (List M)) → map (λ line. [] ++ line) xs ++ [] ≡ xs
   root-same xs = append-nil (map (λ line. [] ++ line) xs) ∙ map-same xs
 
 -- the first path by the moves of a root in battle play begins a solution
 module _ {P M : Type 0} (plan : Plan) (game : Game P M) (battle : Battle) (fought : plan.play ≡ BattlePlay battle) where
-  pub gives-battle : (t : ℕ) (q : P) → gives plan.play game t q ≡ true
+  gives-battle : (t : ℕ) (q : P) → gives plan.play game t q ≡ true
   unfolding gives
   gives-battle t q = rw fought refl
 
@@ -69,6 +74,7 @@ no_frame [] e = refl
 no_frame (f ∷ below) e = absurd (omega (arith, e))
 
 module _ (rule : RuleSet) (plan : Plan) (h : ℕ) (p : Position) where
+  -- the paths to come from the root alone
   pub to_come-root : (f : Frame) → to_come rule plan h p (f ∷ []) ≡ shown_paths plan (chess plan.goal rule) true (h - 0) f.left p (moves_behind rule p f.place)
   unfolding to_come path position
   to_come-root f = root-same _
@@ -89,19 +95,25 @@ module _ (rule : RuleSet) (plan : Plan) (h : ℕ) (p : Position) where
   none (f ∷ below) e = absurd (omega (arith, e))
 
   module _ (old mid : List Frame) (same : to_come rule plan h p old ≡ to_come rule plan h p mid) where
-    pub walks_none : (limit : ℕ) (board : Position) → IsWalking rule h p mid board → length mid ≡ 0 → Walks rule plan (helps plan.play) h p limit old mid board false
+    -- the walk ends once no frame is left
+    pub walks_none : (limit : ℕ) (board : Position) → IsWalking rule h p mid board → length mid ≡ 0
+        → Walks rule plan (helps plan.play) h p limit old mid board false
     walks_none limit board r e = search (rules, none, keep-nil, no_frame, beginning_count-nil)
 
     both_true : (a b : Bool) → (a && b) ≡ true → (a ≡ true) × (b ≡ true)
     both_true a b e = search rules
 
+    -- it ends where the limit is reached and no solution is on the way
     pub walks_full : (limit : ℕ) (board : Position) → IsWalking rule h p mid board → (eqb limit 0 && (helps plan.play || eqb (length mid) 1)) ≡ true
         → Walks rule plan (helps plan.play) h p limit old mid board false
-    walks_full limit board r e = let x = both_true (eqb limit 0) (helps plan.play || eqb (length mid) 1) e in grind (arith, nat_tests, full plan.play refl mid x.1, none)
+    walks_full limit board r e = let x = both_true (eqb limit 0) (helps plan.play || eqb (length mid) 1) e in grind
+        (arith, nat_tests, full plan.play refl mid x.1, none)
 
     room : (n : ℕ) (b : Bool) → (eqb n 0 && b) ≡ false → b ≡ true → 0 < n
     room n b e t = search rules
 
+    -- a step that gives a path ends it too
     pub walks_given : (limit : ℕ) (new : List Frame) (board : Position) (before after : ℕ) (given : Bool) → Steps rule plan h p mid new board before after given
-        → given ≡ true → 0 < length mid → (eqb limit 0 && (helps plan.play || eqb (length mid) 1)) ≡ false → Walks rule plan (helps plan.play) h p limit old new board true
+        → given ≡ true → 0 < length mid → (eqb limit 0 && (helps plan.play || eqb (length mid) 1)) ≡ false
+        → Walks rule plan (helps plan.play) h p limit old new board true
     walks_given limit new board before after given made is some e = grind (arith, path-length, room, keep-next, beginning_count-next, none)

@@ -8,23 +8,22 @@ use Rattle.pop_solve.proofs.Outcomes.{counted_by, opened-most}
 
 -- one part of a walk after another
 module _ (rule : RuleSet) (plan : Plan) (p : Position) where
+  -- no step opens nothing
   pub opens-none : (frames : List Frame) (count : ℕ) → Opens rule plan p frames frames count count
   opens-none frames count = record { whites = λ battle a b w. w; most = λ battle a b w. omega arith; helped = λ a. omega arith; counted = λ a walk c. c }
 
+  -- what two parts open comes together
   pub opens-then : (old mid new : List Frame) (a b c : ℕ) → Opens rule plan p old mid a b → Opens rule plan p mid new b c → Opens rule plan p old new a c
   opens-then old mid new a b c x y = search rules
 
+  -- no step tries nothing
   pub tries-none : (h : ℕ) (frames : List Frame) (count : ℕ) → Tries rule plan h p frames frames count count
   tries-none h frames count = record { grows = omega arith; fewest = λ battle a. omega arith }
 
+  -- what two parts try comes together
   pub tries-then : (h : ℕ) (old mid new : List Frame) (a b c : ℕ) → Tries rule plan h p old mid a b → Tries rule plan h p mid new b c
       → Tries rule plan h p old new a c
   tries-then h old mid new a b c x y = search rules
-
--- the root of a phase counts where half-moves are tried from it
-root-counted : (n count count2 : ℕ) → (0 < n → count2 ≡ min (count + 1) (2 ^ 64 - 1)) → (n ≡ 0 → count2 ≡ count)
-    → min (count + cond (eqb n 0) 0 1) (2 ^ 64 - 1) ≤ count2
-root-counted n count count2 more same = search rules
 
 -- what is opened in a later phase, counted apart
 counted-apart : (walk later opened rest : ℕ) → IsCounted walk opened (rest + later) → IsCounted (walk - later) opened rest
@@ -83,6 +82,7 @@ module _ (rule : RuleSet) (problem : Posed) where
     narrow-begun (inl help) = inl help
     narrow-begun (inr keys) = inr (keys, search (rules, whites-root, white-starts, some_way))
 
+    -- the root of a phase is counted
     pub opens-begun : (old : List Frame) (count count2 : ℕ) (left : List BareEvent) → (0 < f.left → count2 ≡ min (count + 1) (2 ^ 64 - 1))
         → (f.left ≡ 0 → count2 ≡ count) → OpensOn rule problem (Before phase) (Within phase 0) old (f ∷ []) count count2 left
     unfolding rest_open rest_fewest IsNarrow
@@ -92,7 +92,8 @@ module _ (rule : RuleSet) (problem : Posed) where
   module _ (phase : Phase) (count : ℕ) (old new : List Frame) (before after : ℕ)
       (x : Opens rule (plan_of problem) (phase_start problem phase) old new before after)
       (y : Tries rule (plan_of problem) (phase_half_moves problem phase) (phase_start problem phase) old new before after) where
-    walked-counted : play_of problem.stipulation.form ≡ HelpPlay → (walk : ℕ) → IsCounted walk before (to_open rule (phase_start problem phase) old + later phase)
+    walked-counted : play_of problem.stipulation.form ≡ HelpPlay → (walk : ℕ) → IsCounted walk before (to_open rule
+        (phase_start problem phase) old + later phase)
         → IsCounted walk after (to_open rule (phase_start problem phase) new + later phase)
     walked-counted h walk c = search (rules, counted-along, counted-apart)
 
@@ -110,6 +111,7 @@ module _ (rule : RuleSet) (problem : Posed) where
     opened (inl help) = x.helped help
     opened (inr w) = x.most w.0.battle w.0.fought (keys_alone w.0) w.1
 
+    -- what a call opens that gives a path
     pub opens-given : (next : ℕ) (left : List BareEvent) (last : List Frame) → last ≡ new
         → OpensOn rule problem (Within phase count) (Within phase next) old last before after left
     unfolding rest_open rest_fewest IsNarrow
@@ -133,6 +135,7 @@ module _ (rule : RuleSet) (problem : Posed) where
     unfolding fewest_left
     nothing_fewest left u most e = search rules
 
+    -- what it opens that ends the phase
     pub opens-ended : (stage : Stage) (last : List Frame) (left : List BareEvent) → stage ≡ cond (is_set phase) (Before Play) Behind
         → count ≤ problem.max_solutions → (new ≡ []) ⊎ (problem.max_solutions - count ≡ 0)
         → OpensOn rule problem (Within phase count) stage old last before after (total count (eqb count problem.max_solutions) ∷ left)
@@ -185,6 +188,7 @@ module _ (rule : RuleSet) (problem : Posed) where
       second true b e = e
       second false b e = absurd cc
 
+  -- the counts hold on after a call
   pub opened-on : (old new : Stage) (frames last : List Frame) (before after given : ℕ) (left : List BareEvent) → IsGiven rule problem left given
       → OpensOn rule problem old new frames last before after left → IsOpened rule problem old frames before → IsOpened rule problem new last after
   opened-on old new frames last before after given left g x o = search (rules, all-drop)
@@ -202,6 +206,7 @@ module _ (rule : RuleSet) (problem : Posed) where
       some (x ∷ xs) y ys e = cc
   rest-none Behind frames e = refl
 
+  -- nor is anything to be tried
   pub fewest-none : (stage : Stage) (frames : List Frame) → left_of rule problem stage frames ≡ [] → rest_fewest rule problem stage frames ≡ 0
   unfolding left_of rest_fewest phase_events
   fewest-none (Before Set) frames e = absurd cc

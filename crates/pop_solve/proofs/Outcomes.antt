@@ -22,15 +22,18 @@ module _ (rule : RuleSet) (h : ℕ) (p : Position) where
   unfolding IsLinked position
   CameFrom-top f g below board r = search rules
 
+  -- a frame above the lowest came from a position
   pub CameFrom-deep : (f : Frame) (below : List Frame) (board : Position) → IsWalking rule h p (f ∷ below) board → 0 < length below → CameFrom rule f board
   CameFrom-deep f [] board r deep = absurd (omega (arith, deep))
   CameFrom-deep f (g ∷ below) board r deep = (position rule p (g ∷ below), CameFrom-top f g below board r)
 
+  -- the walk goes on once the top frame is closed
   pub walking-close : (f : Frame) (below : List Frame) (board after : Position) → IsWalking rule h p (f ∷ below) board → (length below ≡ 0 → after ≡ board)
       → ((q : Position) → 0 < length below → CameFromAt rule f board q → after ≡ q) → IsWalking rule h p below after
   unfolding IsLinked IsRoomy AreKnown position
   walking-close f below board after r lowest before = search (rules, CameFrom-top)
 
+  -- the top frame has room for its half-moves
   pub top_room : (f : Frame) (below : List Frame) (board : Position) → IsWalking rule h p (f ∷ below) board → f.left + length below ≤ h
   unfolding IsRoomy
   top_room f below board r = r.roomy.0
@@ -45,6 +48,7 @@ module _ (rule : RuleSet) (h : ℕ) (p : Position) where
   unfolding IsLinked IsRoomy AreKnown position
   walking-learned f known below board r w = search rules
 
+  -- or once its place has moved on
   pub walking-moved : (f : Frame) (next : ℕ) (below : List Frame) (board after : Position) → IsWalking rule h p (f ∷ below) board → after ≡ board
       → IsWalking rule h p (moved f next ∷ below) after
   unfolding IsRoomy
@@ -76,10 +80,12 @@ whites-none : (battle : Battle) (m : Move) (undo : Undo) (tried : ℕ) (below : 
 unfolding IsWhites
 whites-none battle m undo tried below z e = rw z e
 
+-- the count stays exact where one frame is opened
 pub counted_by : (rule : RuleSet) (plan : Plan) (t walk opened opened2 before after : ℕ) → before ≡ one rule plan t + after
     → (0 < t → opened2 ≡ min (opened + 1) (2 ^ 64 - 1)) → (t ≡ 0 → opened2 ≡ opened) → IsCounted walk opened before → IsCounted walk opened2 after
 counted_by rule plan t walk opened opened2 before after e more same c = search rules
 
+-- one frame at most is opened
 pub opened-most : (rule : RuleSet) (plan : Plan) (t opened opened2 : ℕ) → (0 < t → opened2 ≡ min (opened + 1) (2 ^ 64 - 1)) → (t ≡ 0 → opened2 ≡ opened)
     → opened2 ≤ opened + one rule plan t
 opened-most rule plan t opened opened2 more same = search rules
@@ -87,7 +93,7 @@ opened-most rule plan t opened opened2 more same = search rules
 -- the outcomes of a step, for frames listed from the top down
 module _ (rule : RuleSet) (plan : Plan) (h : ℕ) (p : Position) (f : Frame) (below : List Frame) (board : Position)
     (r : IsWalking rule h p (f ∷ below) board) where
-  pub steps-shut : (after : Position) (count : ℕ) → (f.left ≡ 0) ⊎ (moves_behind rule board f.place ≡ []) → IsWalking rule h p below after
+  steps-shut : (after : Position) (count : ℕ) → (f.left ≡ 0) ⊎ (moves_behind rule board f.place ≡ []) → IsWalking rule h p below after
       → Steps rule plan h p (f ∷ below) below after count count false
   steps-shut after count e walking =
       let here : (f.left ≡ 0) ⊎ (moves_behind rule (position rule p (f ∷ below)) f.place ≡ []) = rw (← r.board_at) e in
@@ -101,7 +107,7 @@ module _ (rule : RuleSet) (plan : Plan) (h : ℕ) (p : Position) (f : Frame) (be
         tries-close rule plan h p f below here,
       )
 
-  pub steps-close : (after : Position) (count : ℕ) → (f.left ≡ 0) ⊎ (moves_behind rule board f.place ≡ []) → (length below ≡ 0 → after ≡ board)
+  steps-close : (after : Position) (count : ℕ) → (f.left ≡ 0) ⊎ (moves_behind rule board f.place ≡ []) → (length below ≡ 0 → after ≡ board)
       → ((q : Position) → 0 < length below → CameFromAt rule f board q → after ≡ q) → Steps rule plan h p (f ∷ below) below after count count false
   steps-close after count e lowest before = steps-shut after count e (walking-close rule h p f below board after r lowest before)
 
@@ -115,6 +121,7 @@ module _ (rule : RuleSet) (plan : Plan) (h : ℕ) (p : Position) (f : Frame) (be
     fuel : h - length below ≡ suc (h - length below - 1)
     fuel = omega (arith, top_room rule h p f below board r, left)
 
+    -- its next move is passed over
     pub steps-pass : (after : Position) (opened opened2 : ℕ) → follows plan.play (chess plan.goal rule) (eqb (length below) 0) t (position_after rule board m)
         ≡ false
         → after ≡ board → Counts rule plan (eqb (length below) 0) t (position_after rule board m) opened opened2
@@ -131,6 +138,7 @@ module _ (rule : RuleSet) (plan : Plan) (h : ℕ) (p : Position) (f : Frame) (be
           tries = record { grows = omega (arith, x.tries); fewest = search (rules, x.tries, tries-pass rule plan h p f next m below _ t fuel left here) };
         }
 
+    -- its next move is followed
     pub steps-enter : (after : Position) (opened opened2 : ℕ) → is_legal rule board m ≡ true
         → follows plan.play (chess plan.goal rule) (eqb (length below) 0) t (position_after rule board m) ≡ true → after ≡ position_after rule board m
         → Counts rule plan (eqb (length below) 0) t (position_after rule board m) opened opened2
@@ -165,6 +173,7 @@ module _ (rule : RuleSet) (plan : Plan) (h : ℕ) (p : Position) (f : Frame) (be
 -- a frame is closed once moves that don't count have been passed over
 module _ (rule : RuleSet) (plan : Plan) (h : ℕ) (p : Position) (f : Frame) (below : List Frame) (board : Position)
     (r : IsWalking rule h p (f ∷ below) board) where
+  -- it is closed once moves that don't count were passed over
   pub skips-close : (after : Position) (count : ℕ) → (f.left ≡ 0) ⊎ GoesTo rule plan f.left (position rule p (f ∷ below)) f.place []
       → (length below ≡ 0 → after ≡ board) → ((q : Position) → 0 < length below → CameFromAt rule f board q → after ≡ q)
       → Steps rule plan h p (f ∷ below) below after count count false

@@ -13,21 +13,25 @@ pub first_joined : {X : Type 0} (R : X → X → Type 0) (n : ℕ) (xss : List (
 first_joined R n xss pairs = pairs_front R (flat_map (λ s. s) (take n xss)) (flat_map (λ s. s) (drop n xss))
     (rw (← flat_map-append (λ s. s) (take n xss) (drop n xss), take-append-drop n xss) pairs)
 
+-- no move comes before itself
 pub never_itself : (m : Move) → triple_number m < triple_number m → ⊥
 never_itself m less = omega (arith, less)
 
 module _ (rule : RuleSet) (problem : Posed) where
+  -- the paths of help play are its lines
   pub help_paths : (phase : Phase) → play_of problem.stipulation.form ≡ HelpPlay
       → flat_map (λ s. s) (solutions rule problem phase) ≡ help_lines (game_of rule problem) (phase_half_moves problem phase) (phase_start problem phase)
   unfolding solutions
   help_paths phase help = rw help (singles _)
 
+  -- those of a battle's play are its tree
   pub play_paths : (battle : Battle) → play_of problem.stipulation.form ≡ BattlePlay battle
       → solutions rule problem Play
       ≡ tree battle (game_of rule problem) problem.variation problem.stipulation.n (phase_half_moves problem Play) (phase_start problem Play)
   unfolding solutions
   play_paths battle fought = rw fought refl
 
+  -- those of its set play are that tree
   pub set_paths : (battle : Battle) → play_of problem.stipulation.form ≡ BattlePlay battle
       → solutions rule problem Set
       ≡ set_tree battle (game_of rule problem) problem.variation problem.stipulation.n (phase_half_moves problem Set) (phase_start problem Set)

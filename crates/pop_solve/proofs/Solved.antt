@@ -19,6 +19,7 @@ lines-kept zero (x ∷ xs) = refl
 lines-kept (suc n) [] = refl
 lines-kept (suc n) (x ∷ xs) = ap (λ ys. x ∷ ys) (lines-kept n xs)
 
+-- each path begins one
 pub lines-begun : {M : Type 0} (n : ℕ) (xs : List (List M)) → beginning_count true n xs ≡ length (take n (map (λ x. x ∷ []) xs))
 unfolding beginning_count
 lines-begun zero [] = refl
@@ -108,6 +109,7 @@ module _ {P M : Type 0} where
   tree_by battle game variation n h p ms =
       map (λ m. node m (cond variation (nodes_below battle game n (h - 1) (game.after p m)) [])) (filter (λ m. keeps battle game n (game.after p m)) ms)
 
+  -- the same in set play
   abbrev pub set_by : Battle → Game P M → Bool → ℕ → ℕ → P → List M → List (List (List M))
   set_by battle game variation n h p ms =
       map (λ d. node d (cond variation (answers battle game n h (game.after p d))
@@ -150,6 +152,7 @@ module _ {P M : Type 0} (game : Game P M) (plan : Plan) (battle : Battle) (fough
 none-cut : {M : Type 0} (help : Bool) (n : ℕ) → IsCutInto {M = M} help n [] []
 none-cut {M = M} help n = search (rules, keep-nil, beginning_count-nil)
 
+-- variations are shown where the problem asks for them
 pub shown_paths-varied : (variation : Bool) → shows_variations (tree_shown variation) ≡ variation
 shown_paths-varied variation = search rules
 

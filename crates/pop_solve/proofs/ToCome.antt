@@ -16,6 +16,7 @@ passed-over f test skip (m ∷ over) ms none = search (rules, cases (test m), sk
 abbrev pub given_path : Bool → List Move → List (List Move)
 given_path b L = cond b (L ∷ []) []
 
+-- a line behind a path and a move
 pub map-path : (L : List Move) (m : Move) (xs : List (List Move))
     → map (λ line. L ++ line) (map (λ line. m ∷ line) xs) ≡ map (λ line. (L ++ m ∷ []) ++ line) xs
 map-path L m [] = refl
@@ -32,6 +33,7 @@ pub steps-start : (rule : RuleSet) (k : ℕ) (q : Position) → steps rule k q �
 unfolding steps steps_behind
 steps-start rule k q = search (rules, behind_start)
 
+-- the next move takes its own steps
 pub steps_behind-next : (rule : RuleSet) (k : ℕ) (P : Position) (place next : ℕ) (m : Move) → moves_behind rule P place ≡ m ∷ moves_behind rule P next
     → steps_behind rule (suc k) P place ≡ (1 + steps rule k (position_after rule P m)) + steps_behind rule (suc k) P next
 unfolding steps_behind
@@ -40,9 +42,11 @@ steps_behind-next rule k P place next m e = rw e (sum_by-cons (λ x. 1 + steps r
 module _ (rule : RuleSet) (plan : Plan) where
   -- the paths by the next move, and by the others
   shown_paths-next : (root : Bool) (k t : ℕ) (P : Position) (m : Move) (ms : List Move)
-      → shown_paths plan (chess plan.goal rule) root (suc k) (suc t) P (m ∷ ms) ≡ cond (follows plan.play (chess plan.goal rule) root t (position_after rule P m))
+      → shown_paths plan (chess plan.goal rule) root (suc k) (suc t) P (m ∷ ms) ≡ cond (follows plan.play (chess plan.goal rule) root t
+      (position_after rule P m))
       (given_path (gives plan.play (chess plan.goal rule) t (position_after rule P m)) (m ∷ []) ++ map (λ line. m ∷ line)
-      (shown_paths plan (chess plan.goal rule) false k (half_moves_on plan.play (varies plan) (chess plan.goal rule) t (position_after rule P m)) (position_after rule P m)
+      (shown_paths plan (chess plan.goal rule) false k (half_moves_on plan.play (varies plan) (chess plan.goal rule) t (position_after rule P m))
+      (position_after rule P m)
       (legal_moves rule (position_after rule P m)))) [] ++ shown_paths plan (chess plan.goal rule) root (suc k) (suc t) P ms
   unfolding shown_paths
   shown_paths-next root k t P m ms = refl
@@ -74,6 +78,7 @@ module _ (rule : RuleSet) (plan : Plan) where
   walk_behind-next k P place next m e =
       rw e (sum_by-cons (λ x. walk_count (legal_moves rule) (position_after rule) k (position_after rule P x)) m (moves_behind rule P next))
 
+  -- nothing is opened where no half-move or no move is left
   pub walk_behind-none : (k : ℕ) (P : Position) (place : ℕ) → (k ≡ 0) ⊎ (moves_behind rule P place ≡ []) → walk_behind rule k P place ≡ 0
   unfolding walk_behind
   walk_behind-none k P place e = search rules
@@ -83,6 +88,7 @@ module _ (rule : RuleSet) (plan : Plan) where
   one zero = 0
   one (suc k) = 1
 
+  -- a position counts one where moves are tried from it, and what these open
   pub walk_count-start : (k : ℕ) (q : Position) → walk_count (legal_moves rule) (position_after rule) k q ≡ one k + walk_behind rule k q 0
   unfolding walk_count walk_behind
   walk_count-start k q = search (rules, behind_start)
@@ -105,7 +111,8 @@ module _ (rule : RuleSet) (plan : Plan) where
     pub come-enter : (undo : Undo) → follows plan.play (chess plan.goal rule) root t q ≡ true
         → to_come rule plan h p (f ∷ below) ≡ given_path (gives plan.play (chess plan.goal rule) t q)
         (path (opened_frame m undo (half_moves_on plan.play (varies plan) (chess plan.goal rule) t q)
-        ∷ (moved f next ∷ below))) ++ to_come rule plan h p (opened_frame m undo (half_moves_on plan.play (varies plan) (chess plan.goal rule) t q) ∷ (moved f next ∷ below))
+        ∷ (moved f next ∷ below))) ++ to_come rule plan h p (opened_frame m undo (half_moves_on plan.play (varies plan) (chess plan.goal rule) t q) ∷
+        (moved f next ∷ below))
     unfolding to_come position path
     come-enter undo b =
         let less : h - suc (length below) ≡ k = omega arith in
@@ -113,50 +120,61 @@ module _ (rule : RuleSet) (plan : Plan) where
         rw (fuel, less, left, e, shown_paths-next root k t P m (moves_behind rule P next), b, behind_start rule q, no_zero (length below))
         (search (rules, turn))
 
+    -- a move that isn't followed has only its test
     pub tries-pass : follows plan.play (chess plan.goal rule) root t q ≡ false
-        → fewest_left rule plan h p (f ∷ below) ≡ fewest_for plan.play (varies plan) (chess plan.goal rule) root t q + fewest_left rule plan h p (moved f next ∷ below)
+        → fewest_left rule plan h p (f ∷ below) ≡ fewest_for plan.play (varies plan) (chess plan.goal rule) root t q + fewest_left rule plan h p
+        (moved f next ∷ below)
     unfolding fewest_left position
     tries-pass b = search (rules, fewest-next)
 
+    -- one that is followed adds what is tried below it
     pub tries-enter : (undo : Undo) → follows plan.play (chess plan.goal rule) root t q ≡ true → fewest_left rule plan h p (f ∷ below)
         ≡ fewest_for plan.play (varies plan) (chess plan.goal rule) root t q + fewest_left rule plan h p
         (opened_frame m undo (half_moves_on plan.play (varies plan) (chess plan.goal rule) t q) ∷ (moved f next ∷ below))
     unfolding fewest_left position
     tries-enter undo b = search (rules, behind_start, fewest-next, no_zero)
 
+    -- passing a move over takes a turn
     pub turns-pass : turns rule h p (moved f next ∷ below) < turns rule h p (f ∷ below)
     unfolding turns position
     turns-pass = rw (fuel, steps_behind-next rule k (position rule p (f ∷ below)) f.place next m e) (omega arith)
 
+    -- so does following it
     pub turns-enter : (undo : Undo) (tried : ℕ) → turns rule h p (opened_frame m undo tried ∷ (moved f next ∷ below)) < turns rule h p (f ∷ below)
     unfolding turns position
     turns-enter undo tried =
         let less : h - suc (length below) ≡ k = omega arith in
         rw (fuel, less, steps_behind-next rule k (position rule p (f ∷ below)) f.place next m e, steps-start rule k q) (omega arith)
 
+    -- the next move opens what it can, and the others theirs
     pub open-next : to_open rule p (f ∷ below) ≡ walk_count (legal_moves rule) (position_after rule) t q + to_open rule p (moved f next ∷ below)
     unfolding to_open position
     open-next = rw (left, walk_behind-next t (position rule p (f ∷ below)) f.place next m e) (omega arith)
 
+    -- a frame that is opened can open what its moves can
     pub open-enter : (undo : Undo) (tried : ℕ)
         → to_open rule p (opened_frame m undo tried ∷ (moved f next ∷ below)) ≡ walk_behind rule tried q 0 + to_open rule p (moved f next ∷ below)
     unfolding to_open position
     open-enter undo tried = refl
 
+  -- a frame without moves gives no path
   pub come-close : (h : ℕ) (p : Position) (f : Frame) (below : List Frame) → (f.left ≡ 0) ⊎ (moves_behind rule (position rule p (f ∷ below)) f.place ≡ [])
       → to_come rule plan h p (f ∷ below) ≡ to_come rule plan h p below
   unfolding to_come
   come-close h p f below e = search (rules, shown_paths-none)
 
+  -- nor does it try anything
   pub tries-close : (h : ℕ) (p : Position) (f : Frame) (below : List Frame) → (f.left ≡ 0) ⊎ (moves_behind rule (position rule p (f ∷ below)) f.place ≡ [])
       → fewest_left rule plan h p (f ∷ below) ≡ fewest_left rule plan h p below
   unfolding fewest_left
   tries-close h p f below e = search (rules, fewest-none)
 
+  -- closing it takes a turn
   pub turns-close : (h : ℕ) (p : Position) (f : Frame) (below : List Frame) → turns rule h p below < turns rule h p (f ∷ below)
   unfolding turns
   turns-close h p f below = omega arith
 
+  -- it opens nothing
   pub open-close : (p : Position) (f : Frame) (below : List Frame) → (f.left ≡ 0) ⊎ (moves_behind rule (position rule p (f ∷ below)) f.place ≡ [])
       → to_open rule p (f ∷ below) ≡ to_open rule p below
   unfolding to_open
@@ -189,7 +207,8 @@ module _ (rule : RuleSet) (plan : Plan) where
     gives-last q help for misses = rw (help, for, misses) refl
 
     -- in direct play a move that doesn't mate isn't followed, and tries nothing
-    follows-last : (low : Bool) (q : Position) (battle : Battle) → plan.play ≡ BattlePlay battle → seeks battle 1 ≡ true → plan.goal ≡ Mate → is_mate rule q ≡ false
+    follows-last : (low : Bool) (q : Position) (battle : Battle) → plan.play ≡ BattlePlay battle → seeks battle 1 ≡ true → plan.goal ≡ Mate
+        → is_mate rule q ≡ false
         → follows plan.play (chess plan.goal rule) low 0 q ≡ false
     unfolding follows value
     follows-last low q battle fought white for misses = search rules
@@ -199,6 +218,7 @@ module _ (rule : RuleSet) (plan : Plan) where
     unfolding smallest_tree
     fewest_for-last low q battle fought white = search rules
 
+    -- a last move that doesn't mate gives no path, where the side seeks mate
     pub skipped : (low : Bool) (fuel : ℕ) → seeks_last plan.play ≡ true → plan.goal ≡ Mate → (m : Move) (ms : List Move) → is_mating rule P m ≡ false
         → shown_paths plan (chess plan.goal rule) low fuel 1 P (m ∷ ms) ≡ shown_paths plan (chess plan.goal rule) low fuel 1 P ms
     unfolding shown_paths
@@ -262,6 +282,7 @@ module _ (rule : RuleSet) (plan : Plan) where
     tries-skip battle fought = ap (λ n. n + fewest_left rule plan h p below)
         (same-later (λ n ms. fewest_walked plan (chess plan.goal rule) deepest room n P ms) (λ last for. fewest-skipped deepest room last for battle fought))
 
+    -- what follows moves that are passed over follows from before them
     pub steps-skip : (new : List Frame) (board : Position) (before after : ℕ) (given : Bool) → Steps rule plan h p later new board before after given
         → Steps rule plan h p (f ∷ below) new board before after given
     unfolding IsWhites

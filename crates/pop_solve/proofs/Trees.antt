@@ -12,12 +12,13 @@ halves Selfmate k = 2 * k
 
 -- lists
 module _ {A B : Type 0} where
+  -- joined lists that are alike one by one
   pub flat-same : (F G : A → List B) (xs : List A) → ((x : A) → F x ≡ G x) → flat_map F xs ≡ flat_map G xs
   flat-same F G [] e = refl
   flat-same F G (x ∷ xs) e = rw (e x, flat-same F G xs e) refl
 
   -- where all pass the test
-  pub flat-all : (test : A → Bool) (F G : A → List B) (xs : List A) → list_all test xs ≡ true → ((x : A) → test x ≡ true → F x ≡ G x)
+  flat-all : (test : A → Bool) (F G : A → List B) (xs : List A) → list_all test xs ≡ true → ((x : A) → test x ≡ true → F x ≡ G x)
       → flat_map F xs ≡ flat_map G xs
   flat-all test F G [] t e = refl
   flat-all test F G (x ∷ xs) t e =
@@ -34,6 +35,7 @@ module _ {A B : Type 0} where
   flat-filter test other F G (x ∷ xs) s e = search (rules, flat-filter test other F G xs s e)
 
 module _ {P M : Type 0} (game : Game P M) where
+  -- with no half-move left no path is shown
   pub shown_paths-zero : (plan : Plan) (root : Bool) (k : ℕ) (p : P) (ms : List M) → shown_paths plan game root k 0 p ms ≡ []
   unfolding shown_paths
   shown_paths-zero plan root k p ms = search rules
@@ -57,6 +59,7 @@ module _ {P M : Type 0} (game : Game P M) where
     shown_paths-moves root (suc k) p ms =
         flat-same _ _ ms (λ m. grind (arith, by_move, half_moves_on-whole, nat_tests, shown_paths-moves false k (game.after p m) (game.moves (game.after p m))))
 
+    -- so from all moves of a position
     pub shown_paths-help : (root : Bool) (k : ℕ) (p : P) → shown_paths plan game root (suc k) (suc k) p (game.moves p) ≡ lines_to_goal game (suc k) p
     unfolding lines_to_goal
     shown_paths-help root k p = shown_paths-moves root k p (game.moves p)
@@ -83,6 +86,7 @@ module _ {P M : Type 0} (game : Game P M) where
   least_moves-halves Direct zero t q s some most open_yet v = absurd (omega (arith, some, most))
   least_moves-halves Direct (suc n) t q s some most open_yet v = grind (arith, seeks-halves Direct t s some, length-more, least_moves-direct game q n)
 
+  -- a battle with a half-move has a move
   pub half-some : (battle : Battle) (k : ℕ) → 0 < halves battle k → (j : ℕ) × (k ≡ suc j)
   half-some Selfmate k some = (k - 1, omega (arith, some))
   half-some Direct k some = (k - 1, omega (arith, some))
@@ -103,12 +107,15 @@ module _ {P M : Type 0} (game : Game P M) where
   first_from-least_moves battle q zero a = search rules
   first_from-least_moves battle q (suc n) a = search (rules, first_from-least_moves battle q n (a + 2))
 
+  -- White is to move with all half-moves of a battle left
   pub halves-seek : (battle : Battle) (k : ℕ) → seeks battle (halves battle (suc k)) ≡ true
   halves-seek battle k = search rules
 
+  -- what isn't true is false
   pub flip : (b : Bool) → not b ≡ true → b ≡ false
   flip b e = search rules
 
+  -- what isn't false is true
   pub unflip : (b : Bool) → not b ≡ false → b ≡ true
   unflip b e = search rules
 
@@ -136,6 +143,7 @@ module _ {P M : Type 0} (game : Game P M) where
     abbrev pub beneath : ℕ → ℕ → P → List (List M)
     beneath k t q = shown_paths plan game false k (half_moves_on plan.play (varies plan) game t q) q (game.moves q)
 
+    -- each move that is followed is a node
     pub as_nodes : (root : Bool) (k t : ℕ) (p : P) (ms : List M)
         → shown_paths plan game root (suc k) (suc t) p ms
         ≡ flat_map (λ m. cond (follows plan.play game root t (game.after p m)) (node m (beneath k t (game.after p m))) []) ms
@@ -186,7 +194,7 @@ module _ {P M : Type 0} (game : Game P M) where
       unfolding half_moves_on
       beneath-is k t q = rw (fought, variation) refl
 
-      abbrev pub Tie : ℕ → ℕ → ℕ → P → Type 0
+      abbrev Tie : ℕ → ℕ → ℕ → P → Type 0
       Tie n k t q = shown_paths plan game false k (open_length battle game t q) q (game.moves q) ≡ cond (seeks battle t)
           (answers battle game n k q) (nodes_below battle game n k q)
 
@@ -212,7 +220,7 @@ module _ {P M : Type 0} (game : Game P M) where
           grind (arith, as_nodes, game.moves q, flat-all, value-black battle t q g s v, by_none, beneath-is)
 
       -- what the walk shows below a move that is shown
-      pub tie : (n k t : ℕ) (q : P) → value battle game t q ≡ true → t ≤ k → t ≤ 2 * n → Tie n k t q
+      tie : (n k t : ℕ) (q : P) → value battle game t q ≡ true → t ≤ k → t ≤ 2 * n → Tie n k t q
       tie n k zero q v room most = tie-goal n k 0 q (sym (value-end-zero battle q) ∙ v)
       tie n zero (suc t) q v room most = absurd (omega (arith, room))
       tie n (suc k) (suc t) q v room most =

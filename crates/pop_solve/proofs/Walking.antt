@@ -13,6 +13,7 @@ use Rattle.pop_solve.proofs.ToCome.{steps-skip}
 pub reverse-push : (xs : List Frame) (x : Frame) → reverse (xs ++ x ∷ []) ≡ x ∷ reverse xs
 reverse-push xs x = reverse-append xs (x ∷ [])
 
+-- the top frame is the last one of the code's list
 pub popped : (old new : List Frame) (x : Frame) → old ≡ new ++ x ∷ [] → reverse old ≡ x ∷ reverse new
 popped old new x e = ap reverse e ∙ reverse-push new x
 
@@ -28,10 +29,12 @@ module _ (rule : RuleSet) (plan : Plan) (h : ℕ) (top : Frame) (old new : List 
   walking_top : (p board now : Position) → IsWalking rule h p (reverse old) board → now ≡ board → IsWalking rule h p (top ∷ reverse new) now
   walking_top p board now r e = search (rules, popped)
 
+  -- what taking a move back asks for
   pub close_asks : (p board now : Position) (depth : ℕ) → IsWalking rule h p (reverse old) board → now ≡ board → depth ≡ length new → 0 < depth
       → CameFrom rule top now
   close_asks p board now depth r e d deep = CameFrom-deep rule h p top (reverse new) now (walking_top p board now r e) (omega (arith, depth_is, d, deep))
 
+  -- a step that closes the top frame
   pub close_steps : (p board now after : Position) (depth count : ℕ) → IsWalking rule h p (reverse old) board → now ≡ board → depth ≡ length new
       → (top.left ≡ 0) ⊎ GoesTo rule plan top.left board top.place [] → (depth ≡ 0 → after ≡ now)
       → ((q : Position) → 0 < depth → CameFromAt rule top now q → after ≡ q) → Steps rule plan h p (reverse old) (reverse new) after count count false
@@ -41,9 +44,11 @@ module _ (rule : RuleSet) (plan : Plan) (h : ℕ) (top : Frame) (old new : List 
       rw (popped old new top taken) (skips-close rule plan h p top (reverse new) now r2 after count (subst T (sym e ∙ r2.board_at) none)
       (λ z. lowest (omega (arith, depth_is, d, z))) (λ q z cf. before q (omega (arith, depth_is, d, z)) cf))
 
+  -- there is room for its half-moves
   pub room_left : (p board : Position) → IsWalking rule h p (reverse old) board → top.left + length new ≤ h
   room_left p board r = omega (arith, top_room rule h p top (reverse new) board (walking_top p board board r refl), depth_is)
 
+  -- what it knows is of the board's position
   pub top_known : (p board : Position) → IsWalking rule h p (reverse old) board → IfSome top.known (IsPlaceIn rule board)
   unfolding AreKnown
   top_known p board r = let s = walking_top p board board r refl in rw s.board_at s.known.0
@@ -61,9 +66,11 @@ module _ (rule : RuleSet) (plan : Plan) (h : ℕ) (top : Frame) (old new : List 
     mid_is : reverse mid ≡ moved (learned top known) place ∷ reverse new
     mid_is = popped mid new _ put
 
+    -- a step that plays its next move
     pub enter_steps : (root given : Bool) (after : Position) (opened opened2 : ℕ) → root ≡ eqb depth 0
         → (follows plan.play (chess plan.goal rule) root behind arrived ≡ false → (given ≡ false) × (after ≡ now) × (last ≡ mid))
-        → (follows plan.play (chess plan.goal rule) root behind arrived ≡ true → (given ≡ gives plan.play (chess plan.goal rule) behind arrived) × (after ≡ arrived)
+        → (follows plan.play (chess plan.goal rule) root behind arrived ≡ true → (given ≡ gives plan.play (chess plan.goal rule) behind arrived)
+        × (after ≡ arrived)
         × (last ≡ mid ++ opened_frame m (undo_of rule now m) (half_moves_on plan.play (varies plan) (chess plan.goal rule) behind arrived) ∷ []))
         → Counts rule plan root behind arrived opened opened2
         → (p : Position) → IsWalking rule h p (reverse old) board → Steps rule plan h p (reverse old) (reverse last) after opened opened2 given
@@ -94,10 +101,12 @@ module _ (rule : RuleSet) (plan : Plan) (h : ℕ) (top : Frame) (old new : List 
 
 -- what the next move or the next mate says of the moves passed over
 module _ (rule : RuleSet) (plan : Plan) (left : ℕ) (p : Position) (place next : ℕ) where
+  -- what an answer says of the next move behind a place
   abbrev pub Next : Option Move → Type 0
   Next o = MatchOption o ((left ≡ 0) ⊎ GoesTo rule plan left p place [])
       (λ m. (0 < left) × GoesTo rule plan left p place (m ∷ moves_behind rule p next) × (is_legal rule p m ≡ true))
 
+  -- the next mate is the next move where play ends with it
   pub next_mating : (o : Option Move) → plan.goal ≡ Mate → seeks_last plan.play ≡ true → left ≡ 1
       → MatchOption o (mates_behind rule p place ≡ []) (λ m. IsNextMate rule p place next m × (is_legal rule p m ≡ true)) → Next o
   unfolding mates_behind
@@ -127,7 +136,8 @@ module _ (rule : RuleSet) (plan : Plan) (h : ℕ) (top : Frame) (old new : List 
   one_left : top.left - 1 ≡ 1
   one_left = omega (arith, s.last)
 
-  counts_one : (opened opened2 : ℕ) → opened2 ≡ min (opened + 1) (2 ^ 64 - 1) → Counts rule plan (eqb depth 0) (top.left - 1) (position_after rule now m) opened opened2
+  counts_one : (opened opened2 : ℕ) → opened2 ≡ min (opened + 1) (2 ^ 64 - 1) → Counts rule plan (eqb depth 0) (top.left - 1)
+      (position_after rule now m) opened opened2
   counts_one opened opened2 more = record {
     more = λ help some. more;
     none = λ help none. absurd (omega (arith, one_left, none));
@@ -146,6 +156,7 @@ module _ (rule : RuleSet) (plan : Plan) (h : ℕ) (top : Frame) (old new : List 
         | inr g ↦ g
       ]
 
+  -- a step whose move is settled
   pub settled_steps : (opened opened2 : ℕ) → opened2 ≡ min (opened + 1) (2 ^ 64 - 1) → (p : Position) → IsWalking rule h p (reverse old) board
       → Steps rule plan h p (reverse old) (reverse mid) now opened opened2 false
   settled_steps opened opened2 more p r =
@@ -163,9 +174,11 @@ module _ (rule : RuleSet) (plan : Plan) (h : ℕ) (top : Frame) (old new : List 
 
 -- a frame is closed, whatever is walked
 module _ (rule : RuleSet) (h : ℕ) (top : Frame) (old new : List Frame) (taken : old ≡ new ++ top ∷ []) where
+  -- what closing a frame asks for
   pub back_asks : (p board : Position) (depth : ℕ) → IsWalking rule h p (reverse old) board → depth ≡ length new → 0 < depth → CameFrom rule top board
   back_asks p board depth r d deep = CameFrom-deep rule h p top (reverse new) board (grind (arith, popped)) (omega (arith, length-reverse new, d, deep))
 
+  -- it leaves the walk on the frames below
   pub back_walking : (p board after : Position) (depth : ℕ) → IsWalking rule h p (reverse old) board → depth ≡ length new → (depth ≡ 0 → after ≡ board)
       → ((q : Position) → 0 < depth → CameFromAt rule top board q → after ≡ q) → IsWalking rule h p (reverse new) after
   back_walking p board after depth r d lowest before = walking-close rule h p top (reverse new) board after
@@ -184,6 +197,7 @@ pub value-mated : (rule : RuleSet) (aim : Aim) (left : ℕ) (q : Position) → i
 unfolding value
 value-mated rule aim left q for last mated = search (rules, for_mate)
 
+-- nor is anything to be tried there
 pub tried-mated : (rule : RuleSet) (aim : Aim) (left count : ℕ) (q : Position) → left ≡ 0
     → HasCounted count count (smallest_tree aim.battle (chess aim.goal rule) left q)
 unfolding smallest_tree

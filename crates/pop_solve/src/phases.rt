@@ -95,7 +95,8 @@ pub fn walk_on<R: Rules, const N: usize>(
         (phase_start problem.now phase)
         (reverse frames.old.items) board.old }
     ensures walks { Walks R.rule (plan_of problem.now) (is_help problem.now.stipulation.form)
-        (half_moves_of_phase problem.now phase) (phase_start problem.now phase) limit (reverse frames.old.items) (reverse frames.new.items)
+        (half_moves_of_phase problem.now phase) (phase_start problem.now phase) limit
+        (reverse frames.old.items) (reverse frames.new.items)
         board.new result }
     ensures opens { Opens R.rule (plan_of problem.now) (phase_start problem.now phase)
         (reverse frames.old.items)
@@ -335,7 +336,8 @@ pub(crate) fn advance<R: Rules, const N: usize>(
         event board.new (array_vec_len frames.new)) }
     ensures opens { OpensOn R.rule problem.now stage.old stage.new (reverse frames.old.items)
         (reverse frames.new.items)
-        history.old.opened history.new.opened (left_of R.rule problem.now stage.old (reverse frames.old.items)) }
+        history.old.opened history.new.opened (left_of R.rule problem.now stage.old
+        (reverse frames.old.items)) }
 {
     match *stage {
         Stage::Before { phase } => {

@@ -97,7 +97,8 @@ fn settled<R: Rules>(
         (λ v. v ≡ value aim.battle (chess aim.goal R.rule) left board.old) }
     ensures known { IfSome known.new (λ k. IsPlaceIn R.rule board.old k) }
     ensures opened { MatchOption result (history.new.opened ≡ history.old.opened)
-        (λ _. history.new.opened ≤ history.old.opened + walk_count (legal_moves R.rule) (position_after R.rule) left
+        (λ _. history.new.opened ≤ history.old.opened + walk_count (legal_moves R.rule)
+        (position_after R.rule) left
         board.old) }
     ensures tried { IfSome result
         (λ _. HasCounted history.old.opened history.new.opened
@@ -339,7 +340,8 @@ fn descend<R: Rules, const N: usize>(
     requires room { array_vec_len frames.old + top.left ≤ N }
     requires legal { is_legal R.rule board.old by ≡ true }
     ensures opened { MatchOption result (history.new.opened ≤ history.old.opened + 1)
-        (λ _. history.new.opened ≤ history.old.opened + walk_count (legal_moves R.rule) (position_after R.rule)
+        (λ _. history.new.opened ≤ history.old.opened + walk_count (legal_moves R.rule)
+        (position_after R.rule)
         (top.left - 1) (position_after R.rule board.old by)) }
     ensures tried { MatchOption result (HasCounted history.old.opened history.new.opened 1)
         (λ _. HasCounted history.old.opened history.new.opened

@@ -109,7 +109,8 @@ fn length_below<R: Rules, const N: usize>(
         history.new.opened }
     ensures opened { plan.play ≡ HelpPlay → history.new.opened ≡ history.old.opened }
     ensures keys_alone { (battle : Battle) → plan.play ≡ BattlePlay battle
-        → IsTrue (not (varies plan) && seeks battle (left + 1)) → history.new.opened ≡ history.old.opened }
+        → IsTrue (not (varies plan) && seeks battle (left + 1))
+        → history.new.opened ≡ history.old.opened }
 {
     let Play::Battle(battle) = plan.play else {
         return left;
@@ -224,10 +225,12 @@ pub fn enter<R: Rules, const N: usize>(
     requires room { array_vec_len frames.old + left < N }
     requires legal { is_legal R.rule board.old by ≡ true }
     requires mated { IsMatedAtLast R.rule plan left (position_after R.rule board.old by) }
-    ensures passes { is_followed plan.play (chess plan.goal R.rule) (array_vec_len frames.old == 1) left
+    ensures passes { is_followed plan.play (chess plan.goal R.rule)
+        (array_vec_len frames.old == 1) left
         (position_after R.rule board.old by) ≡ false
         → (result ≡ false) × (board.new ≡ board.old) × (frames.new.items ≡ frames.old.items) }
-    ensures enters { is_followed plan.play (chess plan.goal R.rule) (array_vec_len frames.old == 1) left
+    ensures enters { is_followed plan.play (chess plan.goal R.rule)
+        (array_vec_len frames.old == 1) left
         (position_after R.rule board.old by) ≡ true
         → (result ≡ is_given plan.play (chess plan.goal R.rule) left
         (position_after R.rule board.old by))

@@ -66,6 +66,7 @@ module _ (rule : RuleSet) (problem : Posed) where
   pub shown_paths_in_order : (phase : Phase) → AllPairs (StandsBefore Precedes) (paths (take problem.max_solutions (solutions rule problem phase)))
   shown_paths_in_order phase = first_joined (StandsBefore Precedes) problem.max_solutions (solutions rule problem phase) (paths_in_order phase)
 
+  -- No two of them are alike.
   pub shown_paths_differ : (phase : Phase) → AllPairs (λ a b. a ≢ b) (paths (take problem.max_solutions (solutions rule problem phase)))
   shown_paths_differ phase = first_joined (λ a b. a ≢ b) problem.max_solutions (solutions rule problem phase) (paths_differ phase)
 

@@ -159,7 +159,8 @@ pub record IsOpened (rule : RuleSet) (problem : Posed) (stage : Stage) (frames :
       ≤ opened + rest_fewest rule problem stage frames
 
 -- the events given, counted up to the greatest u64; the events still to come are an ending of all
-pub record IsGiven (rule : RuleSet) (problem : Posed) (left : List BareEvent) (given : ℕ) : Type 0 where
+pub record IsGiven (rule : RuleSet) (problem : Posed) (left : List BareEvent)
+    (given : ℕ) : Type 0 where
   pub within : length left ≤ length (events rule problem)
   pub ending : left ≡ drop (length (events rule problem) - length left) (events rule problem)
   pub counts : given ≡ min (length (events rule problem) - length left) (2 ^ 64 - 1)

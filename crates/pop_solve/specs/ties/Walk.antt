@@ -152,7 +152,8 @@ pub record Opens (rule : RuleSet) (plan : Plan) (p : Position) (old new : List F
   pub most : (battle : Battle) → plan.play ≡ BattlePlay battle → varies plan ≡ false
       → IsWhites battle old ≡ true
       → position_after + to_open rule p new ≤ before + to_open rule p old
-  pub helped : plan.play ≡ HelpPlay → position_after + to_open rule p new ≤ before + to_open rule p old
+  pub helped : plan.play ≡ HelpPlay
+      → position_after + to_open rule p new ≤ before + to_open rule p old
   pub counted : plan.play ≡ HelpPlay → (walk : ℕ) → IsCounted walk before (to_open rule p old)
       → IsCounted walk position_after (to_open rule p new)
 
