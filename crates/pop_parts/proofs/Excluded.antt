@@ -40,10 +40,12 @@ pub failed_sink_is_told : (asked : Asked) (input : Input) (before now : Option (
     → answer ≡ OutputFailed
 failed_sink_is_told asked input before now answer (begun, told) = told
 
+-- a sink that took all isn't said to have failed
 pub sound_sink_is_told : (asked : Asked) (input : Input) (before now : Option (List ℕ)) → Shows asked input before now false OutputFailed → ⊥
 sound_sink_is_told asked input before now (written, told) =
     let items = entries_in input in not_cut asked (list_any tells_failure items) (entry_numbered items asked.item) told
 
+-- nor is that of a list
 pub sound_sink_of_a_list_is_told : (depth : ℕ) (input : Input) (before now : Option (List ℕ)) → Lists depth input before now false ListCut → ⊥
 unfolding status_of
 sound_sink_of_a_list_is_told depth input before now (written, told) = grind arith

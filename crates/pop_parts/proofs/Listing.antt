@@ -29,6 +29,7 @@ pub record Listed (depth : ℕ) (now : Standing) (number : ℕ) (so_far : Status
   pub number_is : number ≡ 1 + length items
   pub status_is : so_far ≡ status_of items
 
+-- before the first item nothing is listed
 pub listed_start : (depth : ℕ) (had before : Option (List ℕ)) → Listed depth first_standing 1 Sound had had before before
 unfolding status_of
 listed_start depth had before = record {
@@ -90,9 +91,11 @@ pub entry_there : (found : Option Entry) → not (is_some found) ≡ false → (
 entry_there None h = absurd (let no : true ≡ false = h in cc)
 entry_there (Some entry) h = (entry, refl)
 
+-- where no item is told there is none
 pub none_there : (found : Option Entry) → not (is_some found) ≡ true → found ≡ None
 none_there None h = refl
 none_there (Some entry) h = absurd (let no : false ≡ true = h in cc)
 
+-- an entry is an item
 pub item_there : (item : Item) (entry : Entry) → entry_in item ≡ Some entry → is_item item ≡ true
 item_there item entry is = grind arith

@@ -1,5 +1,5 @@
 -- How a part begins: behind its first moves stand its solutions.
-use Rattle.pop_solve.proofs.Words.{AreKnown, BareEvent, Bool, Counts, Frame, Game, GoesTo, IsCounted, IsLinked, IsRoomy, IsSound, IsWalking, List, Mate, Move, Posed, Position, RuleSet, [], after_well_formed, ap, append-nil, arith, eqb, false, follows, get_or, gives, half_moves_on, inl, inr, is_for_mate, is_help, is_legal, is_mate, is_pseudo_legal-from_legal, length, length-append, length-reverse, map, min, moves_behind, nat_tests, path, path_end, phase_half_moves, phase_paths, phase_start, plan_of, position, refl, reverse, rules, seeks_last, shown_paths, suc, sym, take, to_come, to_open, true, undo_of, walk_count, ℕ, ◌++◌, ◌+◌, ◌-◌, ◌<◌, ◌^◌, ◌∙◌, ◌∷◌, ◌≡◌, ◌≤◌}
+use Rattle.pop_solve.proofs.Words.{AreKnown, BareEvent, Bool, Counts, Frame, Game, GoesTo, IsCounted, IsLinked, IsRoomy, IsSound, IsWalking, List, Mate, Move, Posed, Position, RuleSet, [], after_well_formed, ap, append-nil, arith, eqb, false, false≢true, follows, get_or, gives, half_moves_on, inl, inr, is_for_mate, is_help, is_legal, is_mate, is_pseudo_legal-from_legal, length, length-append, length-reverse, map, min, moves_behind, nat_tests, path, path_end, phase_half_moves, phase_paths, phase_start, plan_of, position, refl, reverse, rules, seeks_last, shown_paths, suc, sym, take, to_come, to_open, true, undo_of, varies, walk_count, ℕ, ◌++◌, ◌+◌, ◌-◌, ◌<◌, ◌^◌, ◌∙◌, ◌∷◌, ◌≡◌, ◌≤◌}
 use Rattle.pop_events.specs.declared.event.Phase.{Phase}
 use Rattle.pop_solve.specs.declared.plan.Plan.{Plan}
 use Rattle.chess_rules.specs.Legal.{moves as legal_moves}
@@ -9,7 +9,8 @@ use Rattle.pop_solve.proofs.GoingOn.{cases, ended-reached, follows-help, half_mo
 use Rattle.pop_solve.proofs.Outcomes.{counted_by}
 use Rattle.pop_parts.proofs.Parts.{part_cut}
 use Rattle.pop_solve.proofs.Paths.{cut-at, path-length, path-more, position-more, path_end-append, path_end-path, some-taken}
-use Rattle.pop_solve.proofs.PhasePaths.{game_of}
+use Rattle.pop_solve.specs.Events.{game_of}
+use Rattle.pop_solve.proofs.Sound.{help-play}
 use Rattle.pop_solve.proofs.Solved.{IsCutInto}
 use Rattle.pop_solve.proofs.ToCome.{come-close, given_path, open-close, skipped, turn, walk_count-start}
 use Rattle.pop_solve.proofs.Walking.{popped}
@@ -27,6 +28,7 @@ unfolding path
 front-none [] = refl
 front-none (f ∷ frames) = refl
 
+-- one more frame is one more move
 pub front-more : (frames : List Frame) (k : ℕ) (f : Frame) → f ≡ get_or frames k f → 0 < k → k < length frames
     → path (reverse (take (k + 1) frames)) ≡ path (reverse (take k frames)) ++ f.by ∷ []
 front-more frames k f at some less = ap path (popped _ _ f (cut-at frames (k + 1) k f refl at less)) ∙ path-more f (reverse (take k frames))
@@ -73,6 +75,7 @@ some-event : (xs : List BareEvent) (y : BareEvent) (ys : List BareEvent) → (xs
 some-event [] y ys e = cc
 some-event (x ∷ xs) y ys e = cc
 
+-- behind its total a part of help play has opened all its positions
 pub all-opened : (rule : RuleSet) (problem : Posed) (phase : Phase) (front : List Move) (stage : PartStage) (frames : List Frame) (board : Position)
     (opened : ℕ) → StandsInPart rule problem phase front stage frames board → IsPartOpened rule problem phase front frames opened
     → is_help problem.stipulation.form ≡ true → is_part_stopped rule problem phase front ≡ false → part_left rule problem phase stage frames ≡ []
@@ -190,7 +193,7 @@ module _ (rule : RuleSet) (problem : Posed) (sound : IsSound problem) (phase : P
       record { stands = in-part (Within 0) old board refl e s.walking; left = rw e events-begun; opens = o }
 
   -- the last move doesn't mate where each path ends with it
-  come-fails : is_for_mate problem.stipulation.goal ≡ true → seeks_last plan ≡ true → left ≡ 0 → is_mate rule q ≡ false → come ≡ []
+  come-fails : is_for_mate problem.stipulation.goal ≡ true → seeks_last plan.play ≡ true → left ≡ 0 → is_mate rule q ≡ false → come ≡ []
   unfolding shown_paths position moves_behind
   come-fails for last none misses =
       let g : GoesTo rule plan 1 board 0 (moves_behind rule board 0) =
@@ -199,22 +202,24 @@ module _ (rule : RuleSet) (problem : Posed) (sound : IsSound problem) (phase : P
       (ap (map (λ line. path old ++ line))
       (skipped rule plan h board (opened_frame m (undo_of rule board m) 1) [] _ g root 1 last (for_mate _ for) m [] misses))
 
-  pub begun-fails : (opened : ℕ) (after : Position) → opened ≡ 0 → after ≡ board → is_for_mate problem.stipulation.goal ≡ true → seeks_last plan ≡ true
+  -- a part whose last first move doesn't mate where it has to has no solution
+  pub begun-fails : (opened : ℕ) (after : Position) → opened ≡ 0 → after ≡ board → is_for_mate problem.stipulation.goal ≡ true → seeks_last plan.play ≡ true
       → left ≡ 0 → is_mate rule q ≡ false → HasBegun rule problem phase front (Within 0) old after opened
   unfolding walk_count
   begun-fails opened after z stays for last none misses = rw stays (begun-none opened (come-fails for last none misses)
       (λ help full. rw (walk-is, none, z, idle-open rule plan p old s.idle) (record { within = omega arith; counts = omega arith })))
 
   -- the move is not followed
-  begun-passed : (opened : ℕ) → follows plan game root left q ≡ false → HasBegun rule problem phase front (Within 0) old board opened
+  begun-passed : (opened : ℕ) → follows plan.play game root left q ≡ false → HasBegun rule problem phase front (Within 0) old board opened
   unfolding shown_paths
-  begun-passed opened passed = begun-none opened (rw passed refl) (λ help full. absurd (search (rules, follows-help)))
+  begun-passed opened passed = begun-none opened (rw passed refl) (λ help full.
+      absurd (false≢true (sym passed ∙ follows-help plan game root left q (help-play problem.stipulation.form help))))
 
   -- it is followed
   abbrev entered : List Frame
-  entered = opened_frame m (undo_of rule board m) (half_moves_on plan game left q) ∷ old
+  entered = opened_frame m (undo_of rule board m) (half_moves_on plan.play (varies plan) game left q) ∷ old
 
-  come-entered : follows plan game root left q ≡ true → come ≡ given_path (gives plan game left q) front ++ to_come rule plan h p entered
+  come-entered : follows plan.play game root left q ≡ true → come ≡ given_path (gives plan.play game left q) front ++ to_come rule plan h p entered
   unfolding shown_paths to_come
   come-entered followed =
       let more : eqb (length old) 0 ≡ false = grind (arith, nat_tests, deep) in
@@ -228,12 +233,13 @@ module _ (rule : RuleSet) (problem : Posed) (sound : IsSound problem) (phase : P
         ← s.walking.board_at,
         behind_start rule q,
       )
-      (sym (append-nil _) ∙ turn (gives plan game left q) (path old) m (shown_paths plan game false left (half_moves_on plan game left q) q
+      (sym (append-nil _) ∙ turn (gives plan.play game left q) (path old) m (shown_paths plan game false left (half_moves_on plan.play
+      (varies plan) game left q) q
       (legal_moves rule q)) [] [])
 
   walking-entered : IsWalking rule h p entered q
   walking-entered = walking-opened rule h p old board m _ deep s.walking lawful
-      (omega (arith, half_moves_on-most game plan left q, size, s.room))
+      (omega (arith, half_moves_on-most game plan.play (varies plan) left q, size, s.room))
 
   opens-entered : (opened : ℕ) → Counts rule plan root left q 0 opened → IsPartOpened rule problem phase front entered opened
   unfolding to_open
@@ -242,21 +248,22 @@ module _ (rule : RuleSet) (problem : Posed) (sound : IsSound problem) (phase : P
       record { within = omega arith; counts = omega arith } in
       rw (
         walk-is,
-        half_moves_on-help plan game left q help,
+        half_moves_on-help plan game left q (help-play problem.stipulation.form help),
         idle-open rule plan p old s.idle,
         position-more rule p _ old deep,
         ← s.walking.board_at,
       )
-      (counted_by rule plan left _ 0 opened _ _ (walk_count-start rule plan left q ∙ omega arith) (c.more help) (c.none help) start)
+      (counted_by rule plan left _ 0 opened _ _ (walk_count-start rule plan left q ∙ omega arith) (c.more (help-play problem.stipulation.form help))
+      (c.none (help-play problem.stipulation.form help)) start)
 
-  begun-entered : (opened : ℕ) (given : Bool) → given ≡ gives plan game left q → follows plan game root left q ≡ true
+  begun-entered : (opened : ℕ) (given : Bool) → given ≡ gives plan.play game left q → follows plan.play game root left q ≡ true
       → Counts rule plan root left q 0 opened → HasBegun rule problem phase front (begins_at given) entered q opened
   unfolding StandsInPart part_left part_paths
   begun-entered opened true g followed c =
       let e : part_paths rule problem phase First entered ≡ come =
       rw (path-more _ old deep) (sym (come-entered followed ∙ rw (← g) refl)) in
       record {
-        stands = (in-part First entered q refl e walking-entered, omega (arith, deep), ended-reached game plan root left q followed);
+        stands = (in-part First entered q refl e walking-entered, omega (arith, deep), ended-reached game plan.play (varies plan) root left q followed);
         left = rw e events-begun;
         opens = opens-entered opened c;
       }
@@ -266,12 +273,12 @@ module _ (rule : RuleSet) (problem : Posed) (sound : IsSound problem) (phase : P
 
   -- what `enter` leaves
   pub begun-by : (opened opened2 : ℕ) (low given : Bool) (last : List Frame) (after : Position) → opened ≡ 0
-      → (follows plan game low left q ≡ false → (given ≡ false) × (after ≡ board) × (last ≡ frames))
-      → (follows plan game low left q ≡ true → (given ≡ gives plan game left q) × (after ≡ q)
-      × (last ≡ frames ++ opened_frame m (undo_of rule board m) (half_moves_on plan game left q) ∷ []))
+      → (follows plan.play game low left q ≡ false → (given ≡ false) × (after ≡ board) × (last ≡ frames))
+      → (follows plan.play game low left q ≡ true → (given ≡ gives plan.play game left q) × (after ≡ q)
+      × (last ≡ frames ++ opened_frame m (undo_of rule board m) (half_moves_on plan.play (varies plan) game left q) ∷ []))
       → Counts rule plan low left q opened opened2 → low ≡ root → HasBegun rule problem phase front (begins_at given) (reverse last) after opened2
   begun-by opened opened2 low given last after z passes enters counts lowest =
-      elim (cases (follows plan game low left q)) [
+      elim (cases (follows plan.play game low left q)) [
         | inl passed ↦ let x = passes passed in rw (x.0, x.1, ap reverse x.2) (begun-passed opened2 (rw lowest at passed))
         | inr followed ↦
             let x = enters followed in

@@ -12,7 +12,7 @@ use Rattle.pop_parts.specs.ties.PartsSeen.{is_part_stopped, part_walk}
 use Rattle.pop_solve.proofs.Events.{room-length}
 use Rattle.pop_solve.proofs.Kept.{keep-next, beginning_count-next}
 use Rattle.pop_solve.proofs.Paths.{path-length, path_end-path}
-use Rattle.pop_solve.proofs.Sound.{in_range}
+use Rattle.pop_solve.proofs.Sound.{help-play, in_range}
 
 module _ (rule : RuleSet) (problem : Posed) (phase : Phase) where
   abbrev help : Bool
@@ -74,6 +74,7 @@ module _ (rule : RuleSet) (problem : Posed) (phase : Phase) where
 
   -- the part's own path; the board stands as it was left
   module _ (front : List Move) (frames : List Frame) (board : Position) (sound : IsSound problem) (s : Stands front First frames board) where
+    -- what showing the part's own path asks for
     pub first-asks : (2 ≤ length frames) × (length frames ≤ 33) × Walking frames board × IsEnded rule (plan_of problem) (reverse frames) board
     unfolding StandsInPart
     first-asks = search (rules, length-reverse, few)
@@ -90,6 +91,7 @@ module _ (rule : RuleSet) (problem : Posed) (phase : Phase) where
     begun-first = beginning_count-next help _ _ _ _ refl (λ b. some)
 
     module _ (stand : Position) (stays : stand ≡ board) (next : ℕ) (n : next ≡ 0 + more (length frames)) where
+      -- then the part stands behind that path
       pub first-stands : Stands front (Within next) frames stand
       unfolding StandsInPart part_paths
       first-stands = rw stays (record {
@@ -98,36 +100,43 @@ module _ (rule : RuleSet) (problem : Posed) (phase : Phase) where
         counts = counts-next 0 _ _ frames board first-asks.0 kept-first begun-first first-asks.2 next n ∙ s.0.counts;
       })
 
+      -- and the path's event is given
       pub first-gives : (event : Event) → event ≡ event_of rule problem (path_event problem phase (top frames))
           → Gives rule problem (left_at First frames) (left_at (Within next) frames) event stand (length frames)
       unfolding part_left part_paths
       first-gives event e = rw stays (gives-next 0 _ _ frames board first-asks.0 kept-first begun-first first-asks.2 next n event e)
 
   module _ (count : ℕ) (own : List Move) (old : List Frame) (from : Position) (in_part : StandsInPart rule problem phase own (Within count) old from) where
+    -- no more solutions have begun than the limit
     pub most : count ≤ problem.max_solutions
     unfolding StandsInPart
     most = in_part.most
 
+    -- the board stands on the top frame of the walk
     pub walking : IsWalking rule (phase_half_moves problem phase) (phase_start problem phase) old from
     unfolding StandsInPart
     walking = in_part.walking
 
     abbrev Walked : List Frame → Position → Bool → Type 0
-    Walked frames board given = Walks rule (plan_of problem) (phase_half_moves problem phase) (phase_start problem phase) (problem.max_solutions - count)
+    Walked frames board given = Walks rule (plan_of problem) help (phase_half_moves problem phase) (phase_start problem phase) (problem.max_solutions - count)
         old frames board given
 
     -- a path behind it; board and frames stand as they were left
     module _ (frames : List Frame) (board : Position) (w : Walked (reverse frames) board true) where
+      -- the path has a move
       pub deep-here : 2 ≤ length frames
       deep-here = omega (arith, w.deep refl, length-reverse frames)
 
+      -- a solution that begins with it is within the limit
       pub room-here : more (length frames) ≤ problem.max_solutions - count
       room-here = grind (arith, path-length, length-reverse, deep-here, nat_tests)
 
+      -- it fits a line's room
       pub few-here : IsSound problem → length frames ≤ 33
       few-here s = few frames board s w.walking
 
       module _ (left : List Frame) (stand : Position) (same : left ≡ frames) (stays : stand ≡ board) where
+        -- the part stands behind it
         pub given-stands : (front : List Move) → StandsInPart rule problem phase front (Within count) old from
             → (next : ℕ) → next ≡ count + more (length frames) → Stands front (Within next) left stand
         unfolding StandsInPart part_paths
@@ -137,6 +146,7 @@ module _ (rule : RuleSet) (problem : Posed) (phase : Phase) where
           counts = counts-next count _ _ frames board deep-here (w.come refl) (w.starts refl) w.walking next n ∙ s.counts;
         })
 
+        -- and its event is given
         pub given-gives : (next : ℕ) → next ≡ count + more (length frames) → (event : Event)
             → event ≡ event_of rule problem (path_event problem phase (top frames))
             → Gives rule problem (part_left rule problem phase (Within count) old) (left_at (Within next) left) event stand (length left)
@@ -146,6 +156,7 @@ module _ (rule : RuleSet) (problem : Posed) (phase : Phase) where
 
     -- its end
     module _ (mid : List Frame) (now : Position) (w : Walked mid now false) where
+      -- the part's total is given
       pub ended-gives : (new : List Frame) (board : Position) (depth : ℕ) (event : Event) → event ≡ Total count (eqb count problem.max_solutions)
           → Gives rule problem (part_left rule problem phase (Within count) old) (left_at Behind new) event board depth
       unfolding part_left part_paths
@@ -160,9 +171,11 @@ module _ (rule : RuleSet) (problem : Posed) (phase : Phase) where
         unfolding to_open
         nothing_open none = search (rules, stopped)
 
+        -- and its positions were all opened
         pub ended-opens : (new : List Frame) (before after : ℕ) → new ≡ []
             → Opens rule (plan_of problem) (phase_start problem phase) old mid before after
             → IsPartOpened rule problem phase front old before → IsPartOpened rule problem phase front (reverse new) after
         unfolding to_open
         ended-opens new before after none x o = λ help still.
-            rw none (subst (IsCounted (part_walk rule problem phase front) after) (nothing_open still) (x.counted help _ (o help still)))
+            rw none (subst (IsCounted (part_walk rule problem phase front) after) (nothing_open still) (x.counted (help-play problem.stipulation.form help) _
+            (o help still)))

@@ -11,26 +11,30 @@ use Rattle.pop_parts.specs.PhaseParts.{beginnings, begins_path, begins_so}
 
 -- lists joined
 module _ {A B : Type 0} where
+  -- a test of what elements become
   pub filter-map : (test : B → Bool) (f : A → B) (xs : List A) → filter test (map f xs) ≡ map f (filter (λ x. test (f x)) xs)
   filter-map test f [] = refl
   filter-map test f (x ∷ xs) = search (rules, filter-map test f xs)
 
-  pub filter-flat : (test : B → Bool) (F : A → List B) (xs : List A) → filter test (flat_map F xs) ≡ flat_map (λ x. filter test (F x)) xs
+  filter-flat : (test : B → Bool) (F : A → List B) (xs : List A) → filter test (flat_map F xs) ≡ flat_map (λ x. filter test (F x)) xs
   filter-flat test F [] = refl
   filter-flat test F (x ∷ xs) = filter-append test (F x) (flat_map F xs) ∙ ap (λ ys. filter test (F x) ++ ys) (filter-flat test F xs)
 
+  -- joined lists that are alike for each element of the list
   pub flat-in : (F G : A → List B) (xs : List A) → ((x : A) → Contains xs x → F x ≡ G x) → flat_map F xs ≡ flat_map G xs
   flat-in F G [] same = refl
   flat-in F G (x ∷ xs) same = rw (same x (first_in x xs), flat-in F G xs (λ y c. same y (later_in x xs y c))) refl
 
+  -- joined lists, each element changed
   pub map-flat : {C : Type 0} (f : B → C) (F : A → List B) (xs : List A) → map f (flat_map F xs) ≡ flat_map (λ x. map f (F x)) xs
   map-flat f F [] = refl
   map-flat f F (x ∷ xs) = map-append f (F x) (flat_map F xs) ∙ ap (λ ys. map f (F x) ++ ys) (map-flat f F xs)
 
-  pub flat-flat : {C : Type 0} (G : B → List C) (F : A → List B) (xs : List A) → flat_map G (flat_map F xs) ≡ flat_map (λ x. flat_map G (F x)) xs
+  flat-flat : {C : Type 0} (G : B → List C) (F : A → List B) (xs : List A) → flat_map G (flat_map F xs) ≡ flat_map (λ x. flat_map G (F x)) xs
   flat-flat G F [] = refl
   flat-flat G F (x ∷ xs) = flat_map-append G (F x) (flat_map F xs) ∙ ap (λ ys. flat_map G (F x) ++ ys) (flat-flat G F xs)
 
+  -- elements that become the same one by one
   pub map-each : (f g : A → B) (xs : List A) → ((x : A) → f x ≡ g x) → map f xs ≡ map g xs
   map-each f g [] same = refl
   map-each f g (x ∷ xs) same = rw (same x, map-each f g xs same) refl
@@ -44,7 +48,7 @@ module _ {B : Type 0} (F : Move → List B) (m : Move) (apart : (x : Move) → e
       let a : F x ≡ [] = apart x (grind (arith, nat_tests)) in
       rw (a, behind-none ms (λ y c. less y (later_in x ms y c))) refl
 
-  pub one-of : (ms : List Move) → AllPairs Precedes ms → Contains ms m → flat_map F ms ≡ F m
+  one-of : (ms : List Move) → AllPairs Precedes ms → Contains ms m → flat_map F ms ≡ F m
   one-of [] order c = absurd (none_in_nil m c)
   one-of (x ∷ ms) order c = elim (in_cases x ms m c) [
     | inl same ↦
@@ -57,7 +61,7 @@ module _ {B : Type 0} (F : Move → List B) (m : Move) (apart : (x : Move) → e
   ]
 
 -- a line behind a first move begins as a part does where that move is the part's first and the rest begins as the part goes on
-pub fronts-under : (m : Move) (front : List Move) (x : Move) (b : Bool) → eqb (triple_number m) (triple_number x) ≡ b → (lines : List (List Move))
+fronts-under : (m : Move) (front : List Move) (x : Move) (b : Bool) → eqb (triple_number m) (triple_number x) ≡ b → (lines : List (List Move))
     → filter (begins_path (m ∷ front)) (map (λ line. x ∷ line) lines) ≡ cond b (map (λ line. x ∷ line) (filter (begins_path front) lines)) []
 unfolding begins_path
 fronts-under m front x true e [] = refl
@@ -65,10 +69,10 @@ fronts-under m front x false e [] = refl
 fronts-under m front x true e (line ∷ lines) = search (rules, fronts-under m front x true e lines)
 fronts-under m front x false e (line ∷ lines) = search (rules, fronts-under m front x false e lines)
 
-pub same-number : (m : Move) → eqb (triple_number m) (triple_number m) ≡ true
+same-number : (m : Move) → eqb (triple_number m) (triple_number m) ≡ true
 same-number m = grind (arith, nat_tests)
 
-pub front-all : (lines : List (List Move)) → filter (begins_path []) lines ≡ lines
+front-all : (lines : List (List Move)) → filter (begins_path []) lines ≡ lines
 unfolding begins_path
 front-all [] = refl
 front-all (line ∷ lines) = ap (λ ls. line ∷ ls) (front-all lines)
@@ -220,6 +224,7 @@ module _ {A B : Type 0} (F : A → List B) where
   first-behind (suc k) (suc n) most (x ∷ xs) ys zs same =
       ap (λ l. x ∷ l) (first-behind k n (omega (arith, most)) xs ys zs (λ j less. same j (omega (arith, less))))
 
+  -- the first of joined beginnings are the first of the whole
   pub first-of-firsts : (k n : ℕ) → k ≤ n → (xs : List A) → take k (flat_map (λ x. take n (F x)) xs) ≡ take k (flat_map F xs)
   first-of-firsts k n most [] = refl
   first-of-firsts k n most (x ∷ xs) =

@@ -11,10 +11,12 @@ depth-between : (help : Bool) (depth h : ℕ) → 1 ≤ depth → 1 ≤ h → (1
 depth-between true depth h some more = (omega (arith, some, more), omega arith)
 depth-between false depth h some more = (omega arith, more)
 
+-- the moves that tell parts apart are one or more, and no more than the half-moves
 pub depth-fits : (problem : Posed) (phase : Phase) (depth : ℕ) → 1 ≤ depth → 1 ≤ phase_half_moves problem phase
     → (1 ≤ part_depth problem phase depth) × (part_depth problem phase depth ≤ phase_half_moves problem phase)
 depth-fits problem phase depth some more = depth-between (is_help problem.stipulation.form) depth (phase_half_moves problem phase) some more
 
+-- no phase has more half-moves than the play
 pub half-moves-most : (problem : Posed) (phase : Phase) → phase_half_moves problem phase ≤ half_moves problem.stipulation
 half-moves-most problem Set = omega arith
 half-moves-most problem Play = omega arith
@@ -36,14 +38,17 @@ module _ (rule : RuleSet) (problem : Posed) (phase : Phase) (depth : ℕ) where
   abbrev goal : Goal
   goal = problem.stipulation.goal
 
+  -- a phase that can't stand or has no half-move has no parts
   pub no-parts : (is_barred rule problem phase || eqb h 0) ≡ true → parts rule problem phase depth ≡ []
   unfolding parts
   no-parts none = rw none refl
 
+  -- any other has all beginnings
   pub all-parts : (is_barred rule problem phase || eqb h 0) ≡ false → parts rule problem phase depth ≡ beginnings (chess goal rule) d p
   unfolding parts
   all-parts some = rw some refl
 
+  -- where there are no parts none has a number
   pub none-numbered : (number : ℕ) → (is_barred rule problem phase || eqb h 0) ≡ true → part_numbered rule problem phase depth number ≡ None
   none-numbered number none = nothing (eqb number 0) (number - 1) _ (no-parts none)
     where
@@ -51,6 +56,7 @@ module _ (rule : RuleSet) (problem : Posed) (phase : Phase) (depth : ℕ) where
       nothing true n xs e = refl
       nothing false n xs e = rw e refl
 
+  -- no part has the number 0
   pub none-numbered-0 : (number : ℕ) → number ≡ 0 → part_numbered rule problem phase depth number ≡ None
   none-numbered-0 number e = rw e refl
 
@@ -77,6 +83,7 @@ module _ (rule : RuleSet) (problem : Posed) (phase : Phase) (depth : ℕ) where
     of-found None f = at-number ∙ rw (all-parts some, ← come) (f.here goal)
     of-found (Some m) f = (at-number ∙ rw (all-parts some, ← come) (f.here goal), f.stands.0, f.stands.1, omega (arith, f.stands.2, length-reverse new))
 
+    -- the beginning that is found with a number is the part with it
     pub numbered : (found : Option Move) (asked : ℕ) → FindsNumbered rule h d p old (reverse new) board asked found → asked ≡ number
         → MatchOption found (part_numbered rule problem phase depth number ≡ None) (λ m.
         (part_numbered rule problem phase depth number ≡ Some (path (reverse new) ++ m ∷ [])) × IsSeeking rule h d p (reverse new) board
@@ -87,5 +94,6 @@ module _ (rule : RuleSet) (problem : Posed) (phase : Phase) (depth : ℕ) where
 pub has-none : (b r : Bool) → r ≡ not b → r ≡ false → b ≡ true
 has-none b r e f = grind arith
 
+-- a phase that was set out has parts
 pub has-some : (b r : Bool) → r ≡ not b → r ≡ true → b ≡ false
 has-some b r e f = grind arith

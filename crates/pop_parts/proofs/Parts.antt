@@ -1,5 +1,8 @@
 -- What the walk shows behind a part's first moves is the part's solutions.
-use Rattle.pop_solve.proofs.Words.{Bool, Contains, IsSound, IsWellFormed, List, Move, Posed, Position, RuleSet, [], after_well_formed, and_parts, ap, append-nil, append_assoc, arith, chess, eqb, false, filter, help_lines, is_help, is_legal, is_pseudo_legal-from_legal, length, length-append, lines_to_goal, map, moves_are_the_legal_moves, moves_in_order, path_end, phase_half_moves, phase_start, plan_of, refl, set_tree, shown_paths, solutions, subst, suc, sym, tree, true, zero, ℕ, ◌++◌, ◌+◌, ◌-◌, ◌∙◌, ◌∷◌, ◌≡◌, ◌≤◌}
+use Rattle.pop_solve.proofs.Words.{Bool, Contains, IsSound, IsWellFormed, List, Move, Posed, Position, RuleSet, [], after_well_formed, and_parts, ap, append-nil, append_assoc, arith, chess, eqb, false, filter, game_of, help_lines, helps, is_help, is_legal, is_pseudo_legal-from_legal, length, length-append, lines_to_goal, map, moves_are_the_legal_moves, moves_in_order, path_end, phase_half_moves, phase_start, plan_of, play_of, refl, set_tree, shown_paths, solutions, subst, suc, sym, tree, true, zero, ℕ, ◌++◌, ◌+◌, ◌-◌, ◌∙◌, ◌∷◌, ◌≡◌, ◌≤◌}
+use Rattle.pop_solve.specs.declared.aim.Battle.{Battle}
+use Rattle.pop_solve.specs.declared.aim.Play.{Play as PlayOfSides}
+use Rattle.pop_solve.specs.declared.aim.Play.TheVariants.{Help as HelpPlay, Battle as BattlePlay}
 use Rattle.pop_events.specs.declared.event.Phase.{Phase}
 use Rattle.pop_events.specs.declared.event.Phase.TheVariants.{Play, Set}
 use Rattle.std.proofs.lemmas.Simd.{map-map}
@@ -8,9 +11,9 @@ use Rattle.chess_rules.specs.Play.{position_after}
 use Rattle.pop_solve.proofs.Kept.{map-same}
 use Rattle.pop_parts.proofs.PartLists.{front-lines, filter-map, map-each, root-part}
 use Rattle.pop_solve.proofs.Paths.{path_end-append}
-use Rattle.pop_solve.proofs.PhasePaths.{game_of, its_battle, play_paths, set_paths}
+use Rattle.pop_solve.proofs.PhasePaths.{play_paths, set_paths}
 use Rattle.pop_solve.proofs.Solved.{IsCutInto, halves-form, lines-begun, lines-kept, set-cut, set_by, shown_paths-varied, tree-cut, tree_by}
-use Rattle.pop_solve.proofs.Sound.{start_sound}
+use Rattle.pop_solve.proofs.Sound.{battle-form, helps-form, start_sound}
 use Rattle.pop_solve.proofs.Trees.{shown_paths-moves}
 use Rattle.pop_solve.proofs.theorems.Lists.{IsPlayable}
 use Rattle.pop_parts.specs.PhaseParts.{begins_path, begins_so, part_solutions}
@@ -18,7 +21,7 @@ use Rattle.pop_parts.specs.ties.PartsSeen.{are_legal}
 
 module _ (rule : RuleSet) (problem : Posed) where
   -- legal moves can be played
-  pub is_legal-playable : (p : Position) → IsWellFormed p → (front : List Move) → are_legal rule p front ≡ true → IsPlayable (game_of rule problem) p front
+  is_legal-playable : (p : Position) → IsWellFormed p → (front : List Move) → are_legal rule p front ≡ true → IsPlayable (game_of rule problem) p front
   unfolding are_legal
   is_legal-playable p well [] may = tt
   is_legal-playable p well (m ∷ ms) may =
@@ -39,7 +42,8 @@ module _ (rule : RuleSet) (problem : Posed) where
   each-alone zero p front some = absurd (omega (arith, some))
   each-alone (suc h) p front some = filter-map (begins_so front) (λ path. path ∷ []) (lines_to_goal (game_of rule problem) (suc h) p)
 
-  pub help-part : is_help problem.stipulation.form ≡ true → (phase : Phase) (front : List Move)
+  -- the solutions of a part of help play are these lines
+  pub help-part : play_of problem.stipulation.form ≡ HelpPlay → (phase : Phase) (front : List Move)
       → IsPlayable (game_of rule problem) (phase_start problem phase) front → length front ≤ phase_half_moves problem phase
       → 1 ≤ phase_half_moves problem phase → part_solutions rule problem phase front ≡ map (λ path. path ∷ []) (lines-behind phase front)
   unfolding part_solutions solutions
@@ -48,31 +52,34 @@ module _ (rule : RuleSet) (problem : Posed) where
       ∙ ap (map (λ path. path ∷ [])) (front-lines (game_of rule problem) (moves_in_order rule) (phase_half_moves problem phase)
       (phase_start problem phase) front are most))
 
-  -- battle play, of h + 1 half-moves: the solutions that begin with some moves
-  abbrev pub battle-by : Phase → ℕ → List Move → List (List (List Move))
-  battle-by Set h ms = set_by (its_battle problem) (game_of rule problem) problem.variation problem.stipulation.n h (phase_start problem Set) ms
-  battle-by Play h ms = tree_by (its_battle problem) (game_of rule problem) problem.variation problem.stipulation.n (suc h) (phase_start problem Play) ms
+  -- a battle, of h + 1 half-moves: the solutions that begin with some moves
+  abbrev pub battle-by : Battle → Phase → ℕ → List Move → List (List (List Move))
+  battle-by battle Set h ms = set_by battle (game_of rule problem) problem.variation problem.stipulation.n h (phase_start problem Set) ms
+  battle-by battle Play h ms = tree_by battle (game_of rule problem) problem.variation problem.stipulation.n (suc h) (phase_start problem Play) ms
 
-  pub battle-solutions : is_help problem.stipulation.form ≡ false → (phase : Phase) (h : ℕ) → phase_half_moves problem phase ≡ suc h
-      → solutions rule problem phase ≡ battle-by phase h (legal_moves rule (phase_start problem phase))
+  -- the solutions of a phase are those that begin with any of its moves
+  pub battle-solutions : (battle : Battle) → play_of problem.stipulation.form ≡ BattlePlay battle → (phase : Phase) (h : ℕ)
+      → phase_half_moves problem phase ≡ suc h
+      → solutions rule problem phase ≡ battle-by battle phase h (legal_moves rule (phase_start problem phase))
   unfolding set_tree
-  battle-solutions battle Set h z = set_paths rule problem battle
-      ∙ ap (λ x. set_tree (its_battle problem) (game_of rule problem) problem.variation problem.stipulation.n x (phase_start problem Set)) z
-  battle-solutions battle Play h z = play_paths rule problem battle
-      ∙ ap (λ x. tree (its_battle problem) (game_of rule problem) problem.variation problem.stipulation.n x (phase_start problem Play)) z
+  battle-solutions battle fought Set h z = set_paths rule problem battle fought
+      ∙ ap (λ x. set_tree battle (game_of rule problem) problem.variation problem.stipulation.n x (phase_start problem Set)) z
+  battle-solutions battle fought Play h z = play_paths rule problem battle fought
+      ∙ ap (λ x. tree battle (game_of rule problem) problem.variation problem.stipulation.n x (phase_start problem Play)) z
 
-  of-one : (phase : Phase) (h : ℕ) (m : Move) → Contains (legal_moves rule (phase_start problem phase)) m
-      → filter (begins_so (m ∷ [])) (battle-by phase h (legal_moves rule (phase_start problem phase))) ≡ battle-by phase h (m ∷ [])
-  of-one Set h m c = root-part _ _ m (legal_moves rule (phase_start problem Set)) (moves_in_order rule (phase_start problem Set)) c
-  of-one Play h m c = root-part _ _ m (legal_moves rule (phase_start problem Play)) (moves_in_order rule (phase_start problem Play)) c
+  of-one : (battle : Battle) (phase : Phase) (h : ℕ) (m : Move) → Contains (legal_moves rule (phase_start problem phase)) m
+      → filter (begins_so (m ∷ [])) (battle-by battle phase h (legal_moves rule (phase_start problem phase))) ≡ battle-by battle phase h (m ∷ [])
+  of-one battle Set h m c = root-part _ _ m (legal_moves rule (phase_start problem Set)) (moves_in_order rule (phase_start problem Set)) c
+  of-one battle Play h m c = root-part _ _ m (legal_moves rule (phase_start problem Play)) (moves_in_order rule (phase_start problem Play)) c
 
-  pub battle-part : is_help problem.stipulation.form ≡ false → (phase : Phase) (h : ℕ) → phase_half_moves problem phase ≡ suc h
-      → (m : Move) → Contains (legal_moves rule (phase_start problem phase)) m → part_solutions rule problem phase (m ∷ []) ≡ battle-by phase h (m ∷ [])
+  -- those of a part are those that begin with its move
+  pub battle-part : (battle : Battle) → play_of problem.stipulation.form ≡ BattlePlay battle → (phase : Phase) (h : ℕ) → phase_half_moves problem phase ≡ suc h
+      → (m : Move) → Contains (legal_moves rule (phase_start problem phase)) m → part_solutions rule problem phase (m ∷ []) ≡ battle-by battle phase h (m ∷ [])
   unfolding part_solutions
-  battle-part battle phase h z m c = ap (filter (begins_so (m ∷ []))) (battle-solutions battle phase h z) ∙ of-one phase h m c
+  battle-part battle fought phase h z m c = ap (filter (begins_so (m ∷ []))) (battle-solutions battle fought phase h z) ∙ of-one battle phase h m c
 
   -- what the walk shows behind some moves in help play
-  walked : is_help problem.stipulation.form ≡ true → (start : Bool) (h : ℕ) (p : Position) (front : List Move) (m : Move) → length front + 1 ≤ h
+  walked : play_of problem.stipulation.form ≡ HelpPlay → (start : Bool) (h : ℕ) (p : Position) (front : List Move) (m : Move) → length front + 1 ≤ h
       → map (λ line. front ++ line) (shown_paths (plan_of problem) (game_of rule problem) start (h - length front) (h - length front)
       (path_end (position_after rule) p front) (m ∷ []))
       ≡ map (λ line. (front ++ m ∷ []) ++ line) (lines_to_goal (game_of rule problem) (h - length (front ++ m ∷ []))
@@ -88,7 +95,7 @@ module _ (rule : RuleSet) (problem : Posed) where
       ∙ map-map (λ line. front ++ line) (λ line. m ∷ line) L
       ∙ map-each _ _ L (λ line. sym (append_assoc front (m ∷ []) line)))
 
-  help-cut : is_help problem.stipulation.form ≡ true → IsSound problem → (phase : Phase) (front : List Move) (m : Move)
+  help-cut : play_of problem.stipulation.form ≡ HelpPlay → IsSound problem → (phase : Phase) (front : List Move) (m : Move)
       → length front + 1 ≤ phase_half_moves problem phase → are_legal rule (phase_start problem phase) (front ++ m ∷ []) ≡ true → (start : Bool)
       → IsCutInto true problem.max_solutions
       (map (λ line. front ++ line) (shown_paths (plan_of problem) (game_of rule problem) start
@@ -106,15 +113,17 @@ module _ (rule : RuleSet) (problem : Posed) where
       subst (λ xs. IsCutInto true n xs (part_solutions rule problem phase (front ++ m ∷ []))) (sym way)
       (subst (λ sols. IsCutInto true n (lines-behind phase (front ++ m ∷ [])) sols) (sym part) whole)
 
-  one-cut : is_help problem.stipulation.form ≡ false → (phase : Phase) (h : ℕ) → phase_half_moves problem phase ≡ suc h → (m : Move)
+  one-cut : (battle : Battle) → play_of problem.stipulation.form ≡ BattlePlay battle → (phase : Phase) (h : ℕ) → phase_half_moves problem phase ≡ suc h
+      → (m : Move)
       → IsCutInto false problem.max_solutions (shown_paths (plan_of problem) (game_of rule problem) true (suc h) (suc h) (phase_start problem phase) (m ∷ []))
-      (battle-by phase h (m ∷ []))
-  one-cut battle Set h z m =
-      rw (shown_paths-varied problem.variation) at (set-cut (game_of rule problem) (plan_of problem) battle problem.stipulation.n h problem.max_solutions
-      (phase_start problem Set) (m ∷ []) (sym z ∙ ap (λ x. x - 1) (halves-form problem.stipulation.form problem.stipulation.n battle)))
-  one-cut battle Play h z m =
-      rw (shown_paths-varied problem.variation) at (tree-cut (game_of rule problem) (plan_of problem) battle problem.stipulation.n h problem.max_solutions
-      (phase_start problem Play) (m ∷ []) (sym z ∙ halves-form problem.stipulation.form problem.stipulation.n battle))
+      (battle-by battle phase h (m ∷ []))
+  one-cut battle fought Set h z m =
+      rw (shown_paths-varied problem.variation) at (set-cut (game_of rule problem) (plan_of problem) battle fought problem.stipulation.n h problem.max_solutions
+      (phase_start problem Set) (m ∷ []) (sym z ∙ ap (λ x. x - 1) (halves-form problem.stipulation.form problem.stipulation.n battle fought)))
+  one-cut battle fought Play h z m =
+      rw (shown_paths-varied problem.variation) at (tree-cut (game_of rule problem)
+      (plan_of problem) battle fought problem.stipulation.n h problem.max_solutions
+      (phase_start problem Play) (m ∷ []) (sym z ∙ halves-form problem.stipulation.form problem.stipulation.n battle fought))
 
   with-none : (n h k : ℕ) (p : Position) (ms : List Move) (sols : List (List (List Move))) → h ≡ suc k
       → IsCutInto false n (shown_paths (plan_of problem) (game_of rule problem) true (suc k) (suc k) p ms) sols
@@ -123,22 +132,22 @@ module _ (rule : RuleSet) (problem : Posed) where
       let e : h - 0 ≡ suc k = omega (arith, z) in
       rw (e, map-same (shown_paths (plan_of problem) (game_of rule problem) true (suc k) (suc k) p ms)) c
 
-  battle-cut : is_help problem.stipulation.form ≡ false → IsSound problem → (phase : Phase) (m : Move)
+  battle-cut : (battle : Battle) → play_of problem.stipulation.form ≡ BattlePlay battle → IsSound problem → (phase : Phase) (m : Move)
       → 0 + 1 ≤ phase_half_moves problem phase → are_legal rule (phase_start problem phase) (m ∷ []) ≡ true
       → IsCutInto false problem.max_solutions
       (map (λ line. [] ++ line) (shown_paths (plan_of problem) (game_of rule problem) true
       (phase_half_moves problem phase - 0) (phase_half_moves problem phase - 0) (phase_start problem phase) (m ∷ [])))
       (part_solutions rule problem phase (m ∷ []))
-  battle-cut battle sound phase m room may =
+  battle-cut battle fought sound phase m room may =
       let h : ℕ = phase_half_moves problem phase - 1 in
       let z : phase_half_moves problem phase ≡ suc h = omega (arith, room) in
       let c = is_legal-playable (phase_start problem phase) (start_sound problem sound phase) (m ∷ []) may in
       subst (λ sols. IsCutInto false problem.max_solutions
       (map (λ line. [] ++ line) (shown_paths (plan_of problem) (game_of rule problem) true
       (phase_half_moves problem phase - 0) (phase_half_moves problem phase - 0) (phase_start problem phase) (m ∷ []))) sols)
-      (sym (battle-part battle phase h z m c.0))
-      (with-none problem.max_solutions (phase_half_moves problem phase) h (phase_start problem phase) (m ∷ []) (battle-by phase h (m ∷ [])) z
-      (one-cut battle phase h z m))
+      (sym (battle-part battle fought phase h z m c.0))
+      (with-none problem.max_solutions (phase_half_moves problem phase) h (phase_start problem phase) (m ∷ []) (battle-by battle phase h (m ∷ [])) z
+      (one-cut battle fought phase h z m))
 
 -- behind a part's first moves, the last of which is still to be made, the walk shows the part's solutions
 pub part_cut : (rule : RuleSet) (problem : Posed) (sound : IsSound problem) (phase : Phase) (front : List Move) (m : Move)
@@ -149,16 +158,17 @@ pub part_cut : (rule : RuleSet) (problem : Posed) (sound : IsSound problem) (pha
     (phase_half_moves problem phase - length front) (phase_half_moves problem phase - length front)
     (path_end (position_after rule) (phase_start problem phase) front) (m ∷ [])))
     (part_solutions rule problem phase (front ++ m ∷ []))
-part_cut rule problem sound phase front m room alone may = by_form (is_help problem.stipulation.form) refl
+part_cut rule problem sound phase front m room alone may =
+    rw (← helps-form problem.stipulation.form) (by_play (play_of problem.stipulation.form) refl)
   where
-    by_form : (b : Bool) → is_help problem.stipulation.form ≡ b
-        → IsCutInto b problem.max_solutions
+    by_play : (play : PlayOfSides) → play_of problem.stipulation.form ≡ play
+        → IsCutInto (helps play) problem.max_solutions
         (map (λ line. front ++ line) (shown_paths (plan_of problem) (chess problem.stipulation.goal rule) (eqb (length front) 0)
         (phase_half_moves problem phase - length front) (phase_half_moves problem phase - length front)
         (path_end (position_after rule) (phase_start problem phase) front) (m ∷ [])))
         (part_solutions rule problem phase (front ++ m ∷ []))
-    by_form true help = help-cut rule problem help sound phase front m room may (eqb (length front) 0)
-    by_form false battle =
+    by_play HelpPlay help = help-cut rule problem help sound phase front m room may (eqb (length front) 0)
+    by_play (BattlePlay battle) fought =
         let Cut : List Move → Type 0 =
         λ front. length front + 1 ≤ phase_half_moves problem phase → are_legal rule (phase_start problem phase) (front ++ m ∷ []) ≡ true
         → IsCutInto false problem.max_solutions
@@ -166,4 +176,4 @@ part_cut rule problem sound phase front m room alone may = by_form (is_help prob
         (phase_half_moves problem phase - length front) (phase_half_moves problem phase - length front)
         (path_end (position_after rule) (phase_start problem phase) front) (m ∷ [])))
         (part_solutions rule problem phase (front ++ m ∷ [])) in
-        subst Cut (sym (alone battle)) (battle-cut rule problem battle sound phase m) room may
+        subst Cut (sym (alone (battle-form problem.stipulation.form battle fought))) (battle-cut rule problem battle fought sound phase m) room may

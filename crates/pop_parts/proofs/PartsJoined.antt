@@ -1,5 +1,8 @@
 -- The parts of a phase joined are the phase, and each solution stands in one part.
-use Rattle.pop_solve.proofs.Words.{AllPairs, Bool, Contains, IsSound, List, Move, Posed, Precedes, RuleSet, [], ap, arith, cond, eqb, false, filter, flat_map, flat_map_single, from_filter, from_map, help_lines, is_barred, is_help, length, lines_to_goal, map, min, moves_in_order, nat_tests, none_in_nil, pairs_nil, phase_half_moves, phase_start, refl, set_tree, solutions, subst, suc, sym, true, zero, ℕ, ◌||◌, ◌↔◌, ◌∙◌, ◌∷◌, ◌≡◌, ◌≤◌}
+use Rattle.pop_solve.proofs.Words.{AllPairs, Bool, Contains, IsSound, List, Move, Posed, Precedes, RuleSet, [], ap, arith, cond, eqb, false, filter, flat_map, flat_map_single, from_filter, from_map, game_of, help_lines, is_barred, is_help, length, lines_to_goal, map, min, moves_in_order, nat_tests, none_in_nil, pairs_nil, phase_half_moves, phase_start, play_of, refl, set_tree, solutions, solutions_by, subst, suc, sym, true, zero, ℕ, ◌||◌, ◌↔◌, ◌∙◌, ◌∷◌, ◌≡◌, ◌≤◌}
+use Rattle.pop_solve.specs.declared.aim.Battle.{Battle}
+use Rattle.pop_solve.specs.declared.aim.Play.{Play as PlayOfSides}
+use Rattle.pop_solve.specs.declared.aim.Play.TheVariants.{Help as HelpPlay, Battle as BattlePlay}
 use Rattle.pop_events.specs.declared.event.Phase.{Phase}
 use Rattle.pop_events.specs.declared.event.Phase.TheVariants.{Play, Set}
 use Rattle.std.proofs.lemmas.List.Folds.{flat_map-map}
@@ -7,8 +10,7 @@ use Rattle.chess_rules.specs.Legal.{moves as legal_moves}
 use Rattle.pop_solve.proofs.HelpPlay.{from_lines}
 use Rattle.pop_parts.proofs.PartLists.{beginnings-lines, beginnings-one, beginnings-play, beginnings-stand, each-own, flat-in, in-beginnings, map-flat}
 use Rattle.pop_parts.proofs.Parts.{battle-by, battle-part, battle-solutions, help-part, lines-behind}
-use Rattle.pop_solve.proofs.PhasePaths.{game_of}
-use Rattle.pop_solve.proofs.Sound.{some_way}
+use Rattle.pop_solve.proofs.Sound.{battle-form, help-form, some_way}
 use Rattle.pop_solve.proofs.theorems.Lists.{IsPlayable, StandsBefore}
 use Rattle.pop_parts.specs.PhaseParts.{beginnings, begins_so, part_depth, part_solutions, parts}
 
@@ -32,6 +34,7 @@ module _ (rule : RuleSet) (problem : Posed) (phase : Phase) where
       → parts rule problem phase depth ≡ beginnings (game_of rule problem) 1 (phase_start problem phase)
   parts-battle depth free some battle = rw battle at (parts-some depth free some)
 
+  -- the parts are the lists of so many legal moves
   pub parts-are : (depth : ℕ) → is_barred rule problem phase ≡ false → (h : ℕ) → phase_half_moves problem phase ≡ h → (front : List Move)
       → Contains (parts rule problem phase depth) front
       ↔ ((1 ≤ phase_half_moves problem phase) × IsPlayable (game_of rule problem) (phase_start problem phase) front
@@ -62,13 +65,13 @@ module _ (rule : RuleSet) (problem : Posed) (phase : Phase) where
   help-some zero some = absurd (omega (arith, some))
   help-some (suc h) some = refl
 
-  help-solutions : is_help problem.stipulation.form ≡ true → 1 ≤ phase_half_moves problem phase
+  help-solutions : play_of problem.stipulation.form ≡ HelpPlay → 1 ≤ phase_half_moves problem phase
       → solutions rule problem phase
       ≡ map (λ path. path ∷ []) (lines_to_goal (game_of rule problem) (phase_half_moves problem phase) (phase_start problem phase))
   unfolding solutions
   help-solutions help some = rw help (ap (map (λ path. path ∷ [])) (help-some (phase_half_moves problem phase) some))
 
-  help-joined : is_help problem.stipulation.form ≡ true → 1 ≤ phase_half_moves problem phase → (d : ℕ) → d ≤ phase_half_moves problem phase
+  help-joined : play_of problem.stipulation.form ≡ HelpPlay → 1 ≤ phase_half_moves problem phase → (d : ℕ) → d ≤ phase_half_moves problem phase
       → flat_map (part_solutions rule problem phase) (beginnings (game_of rule problem) d (phase_start problem phase)) ≡ solutions rule problem phase
   help-joined help some d most =
       let fronts = beginnings (game_of rule problem) d (phase_start problem phase) in
@@ -80,7 +83,7 @@ module _ (rule : RuleSet) (problem : Posed) (phase : Phase) where
       (beginnings-lines (game_of rule problem) d (phase_half_moves problem phase) (phase_start problem phase) most)
       ∙ sym (help-solutions help some)
 
-  help-once : is_help problem.stipulation.form ≡ true → 1 ≤ phase_half_moves problem phase → (d : ℕ) → d ≤ phase_half_moves problem phase
+  help-once : play_of problem.stipulation.form ≡ HelpPlay → 1 ≤ phase_half_moves problem phase → (d : ℕ) → d ≤ phase_half_moves problem phase
       → (s : List (List Move)) → Contains (solutions rule problem phase) s
       → length (filter (λ front. begins_so front s) (beginnings (game_of rule problem) d (phase_start problem phase))) ≡ 1
   help-once help some d most s c =
@@ -96,67 +99,74 @@ module _ (rule : RuleSet) (problem : Posed) (phase : Phase) where
   beginnings-each = flat_map_single (λ m. m ∷ []) (legal_moves rule (phase_start problem phase))
 
 module _ (rule : RuleSet) (problem : Posed) where
-  by-joined : (phase : Phase) (h : ℕ) (ms : List Move) → flat_map (λ m. battle-by rule problem phase h (m ∷ [])) ms ≡ battle-by rule problem phase h ms
-  by-joined Set h ms = each-own _ _ ms
-  by-joined Play h ms = each-own _ _ ms
+  by-joined : (battle : Battle) (phase : Phase) (h : ℕ) (ms : List Move)
+      → flat_map (λ m. battle-by rule problem battle phase h (m ∷ [])) ms ≡ battle-by rule problem battle phase h ms
+  by-joined battle Set h ms = each-own _ _ ms
+  by-joined battle Play h ms = each-own _ _ ms
 
-  by-roots : (phase : Phase) (h : ℕ) (ms : List Move) (s : List (List Move)) → Contains (battle-by rule problem phase h ms) s
+  by-roots : (battle : Battle) (phase : Phase) (h : ℕ) (ms : List Move) (s : List (List Move)) → Contains (battle-by rule problem battle phase h ms) s
       → (m : Move) × (below : List (List Move)) × Contains ms m × ((m ∷ []) ∷ below ≡ s)
-  by-roots Set h ms s c = let w = from_map _ _ s c in let f = from_filter _ ms w.0 w.1 in (w.0, _, f.0, w.2)
-  by-roots Play h ms s c = let w = from_map _ _ s c in let f = from_filter _ ms w.0 w.1 in (w.0, _, f.0, w.2)
+  by-roots battle Set h ms s c = let w = from_map _ _ s c in let f = from_filter _ ms w.0 w.1 in (w.0, _, f.0, w.2)
+  by-roots battle Play h ms s c = let w = from_map _ _ s c in let f = from_filter _ ms w.0 w.1 in (w.0, _, f.0, w.2)
 
-  battle-joined : is_help problem.stipulation.form ≡ false → (phase : Phase) (h : ℕ) → phase_half_moves problem phase ≡ suc h
+  battle-joined : (battle : Battle) → play_of problem.stipulation.form ≡ BattlePlay battle → (phase : Phase) (h : ℕ) → phase_half_moves problem phase ≡ suc h
       → flat_map (part_solutions rule problem phase) (beginnings (game_of rule problem) 1 (phase_start problem phase)) ≡ solutions rule problem phase
-  battle-joined battle phase h z =
+  battle-joined battle fought phase h z =
       let ms = legal_moves rule (phase_start problem phase) in
       ap (flat_map (part_solutions rule problem phase)) (beginnings-each rule problem phase)
       ∙ flat_map-map (part_solutions rule problem phase) (λ m. m ∷ []) ms
-      ∙ flat-in (λ m. part_solutions rule problem phase (m ∷ [])) (λ m. battle-by rule problem phase h (m ∷ [])) ms
-      (λ m c. battle-part rule problem battle phase h z m c)
-      ∙ by-joined phase h ms ∙ sym (battle-solutions rule problem battle phase h z)
+      ∙ flat-in (λ m. part_solutions rule problem phase (m ∷ [])) (λ m. battle-by rule problem battle phase h (m ∷ [])) ms
+      (λ m c. battle-part rule problem battle fought phase h z m c)
+      ∙ by-joined battle phase h ms ∙ sym (battle-solutions rule problem battle fought phase h z)
 
-  battle-once : is_help problem.stipulation.form ≡ false → (phase : Phase) (h : ℕ) → phase_half_moves problem phase ≡ suc h
+  battle-once : (battle : Battle) → play_of problem.stipulation.form ≡ BattlePlay battle → (phase : Phase) (h : ℕ) → phase_half_moves problem phase ≡ suc h
       → (s : List (List Move)) → Contains (solutions rule problem phase) s
       → length (filter (λ front. begins_so front s) (beginnings (game_of rule problem) 1 (phase_start problem phase))) ≡ 1
-  battle-once battle phase h z s c =
-      let w = by-roots phase h (legal_moves rule (phase_start problem phase)) s (rw (battle-solutions rule problem battle phase h z) at c) in
+  battle-once battle fought phase h z s c =
+      let w = by-roots battle phase h (legal_moves rule (phase_start problem phase)) s (rw (battle-solutions rule problem battle fought phase h z) at c) in
       subst (λ s. length (filter (λ front. begins_so front s) (beginnings (game_of rule problem) 1 (phase_start problem phase))) ≡ 1) w.3
       (ap length (beginnings-one (game_of rule problem) (moves_in_order rule) 1 (phase_start problem phase) (w.0 ∷ []) (w.2, tt) (omega arith)))
 
   none-solved : IsSound problem → (phase : Phase) → phase_half_moves problem phase ≡ 0 → solutions rule problem phase ≡ []
   unfolding solutions help_lines set_tree
   none-solved sound Play z = absurd (omega (arith, z, some_way problem sound))
-  none-solved sound Set z = by_form (is_help problem.stipulation.form) refl
+  none-solved sound Set z = by_play (play_of problem.stipulation.form)
     where
-      by_form : (b : Bool) → is_help problem.stipulation.form ≡ b → solutions rule problem Set ≡ []
-      by_form true help = rw (help, z) refl
-      by_form false battle = rw (battle, z) refl
+      by_play : (play : PlayOfSides) → solutions_by play rule problem Set ≡ []
+      by_play HelpPlay = rw z refl
+      by_play (BattlePlay battle) = rw z refl
 
   module _ (phase : Phase) (depth : ℕ) (free : is_barred rule problem phase ≡ false) (sound : IsSound problem) where
-    all-joined : (h : ℕ) → phase_half_moves problem phase ≡ h → (b : Bool) → is_help problem.stipulation.form ≡ b
+    all-joined : (h : ℕ) → phase_half_moves problem phase ≡ h → (play : PlayOfSides) → play_of problem.stipulation.form ≡ play
         → flat_map (part_solutions rule problem phase) (parts rule problem phase depth) ≡ solutions rule problem phase
-    all-joined zero z b e = ap (flat_map (part_solutions rule problem phase)) (parts-none rule problem phase depth free z) ∙ sym (none-solved sound phase z)
-    all-joined (suc h) z true help =
-        ap (flat_map (part_solutions rule problem phase)) (parts-help rule problem phase depth free (omega (arith, z)) help)
+    all-joined zero z play e = ap (flat_map (part_solutions rule problem phase)) (parts-none rule problem phase depth free z) ∙ sym (none-solved sound phase z)
+    all-joined (suc h) z HelpPlay help =
+        ap (flat_map (part_solutions rule problem phase))
+        (parts-help rule problem phase depth free (omega (arith, z)) (help-form problem.stipulation.form help))
         ∙ help-joined rule problem phase help (omega (arith, z)) (min depth (phase_half_moves problem phase)) (omega arith)
-    all-joined (suc h) z false battle =
-        ap (flat_map (part_solutions rule problem phase)) (parts-battle rule problem phase depth free (omega (arith, z)) battle)
-        ∙ battle-joined battle phase h z
+    all-joined (suc h) z (BattlePlay battle) fought =
+        ap (flat_map (part_solutions rule problem phase))
+        (parts-battle rule problem phase depth free (omega (arith, z)) (battle-form problem.stipulation.form battle fought))
+        ∙ battle-joined battle fought phase h z
 
+    -- the solutions of all parts, joined, are the phase's
     pub joined : flat_map (part_solutions rule problem phase) (parts rule problem phase depth) ≡ solutions rule problem phase
-    joined = all-joined (phase_half_moves problem phase) refl (is_help problem.stipulation.form) refl
+    joined = all-joined (phase_half_moves problem phase) refl (play_of problem.stipulation.form) refl
 
-    all-once : (h : ℕ) → phase_half_moves problem phase ≡ h → (b : Bool) → is_help problem.stipulation.form ≡ b
+    all-once : (h : ℕ) → phase_half_moves problem phase ≡ h → (play : PlayOfSides) → play_of problem.stipulation.form ≡ play
         → (s : List (List Move)) → Contains (solutions rule problem phase) s
         → length (filter (λ front. begins_so front s) (parts rule problem phase depth)) ≡ 1
-    all-once zero z b e s c = absurd (none_in_nil s (rw (none-solved sound phase z) at c))
-    all-once (suc h) z true help s c =
-        ap (λ fronts. length (filter (λ front. begins_so front s) fronts)) (parts-help rule problem phase depth free (omega (arith, z)) help)
+    all-once zero z play e s c = absurd (none_in_nil s (rw (none-solved sound phase z) at c))
+    all-once (suc h) z HelpPlay help s c =
+        ap (λ fronts. length (filter (λ front. begins_so front s) fronts)) (parts-help rule problem phase depth free (omega (arith, z))
+        (help-form problem.stipulation.form help))
         ∙ help-once rule problem phase help (omega (arith, z)) (min depth (phase_half_moves problem phase)) (omega arith) s c
-    all-once (suc h) z false battle s c =
-        ap (λ fronts. length (filter (λ front. begins_so front s) fronts)) (parts-battle rule problem phase depth free (omega (arith, z)) battle)
-        ∙ battle-once battle phase h z s c
+    all-once (suc h) z (BattlePlay battle) fought s c =
+        ap (λ fronts. length (filter (λ front. begins_so front s) fronts)) (parts-battle rule problem phase depth free (omega (arith, z))
+        (battle-form problem.stipulation.form battle fought))
+        ∙ battle-once battle fought phase h z s c
 
+    -- each solution begins as one part alone
     pub once : (s : List (List Move)) → Contains (solutions rule problem phase) s
         → length (filter (λ front. begins_so front s) (parts rule problem phase depth)) ≡ 1
-    once s c = all-once (phase_half_moves problem phase) refl (is_help problem.stipulation.form) refl s c
+    once s c = all-once (phase_half_moves problem phase) refl (play_of problem.stipulation.form) refl s c

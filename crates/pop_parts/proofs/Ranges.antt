@@ -31,7 +31,7 @@ first_of_some xs n k h =
     (first.0, first.1, ap (take (k + 1)) first.2 ∙ take_first first.0 (drop (n + 1) xs) k)
 
 -- where so many of the parts up to the last are left, the first of them and its number
-pub next_part : {A : Type 0} (xs : List A) (last left : ℕ) → 0 < left → left ≤ last → last ≤ length xs
+next_part : {A : Type 0} (xs : List A) (last left : ℕ) → 0 < left → left ≤ last → last ≤ length xs
     → (x : A) × ((if (last - (left - 1)) == 0 then None else slice_get xs ((last - (left - 1)) - 1)) ≡ Some x)
     × (take left (drop (last - left) xs) ≡ x ∷ take (left - 1) (drop (last - (left - 1)) xs))
 next_part xs last left some within there =
@@ -48,12 +48,14 @@ next_part xs last left some within there =
 module _ (rule : RuleSet) (posed : Posed) (phase : Phase) (depth : ℕ) (all : List (List Move)) (last left : ℕ) (before mid now : Option (List ℕ))
     (p : IsPrinting (part_text rule posed phase) all (take left (drop (last - left) (parts rule posed phase depth))) before mid)
     (some : 0 < left) (within : left ≤ last) (there : last ≤ length (parts rule posed phase depth)) where
+  -- the next part's text is printed
   pub parts_go_on : Appends mid now (text_if rule posed phase (part_numbered rule posed phase depth (last - (left - 1))))
       → IsPrinting (part_text rule posed phase) all (take (left - 1) (drop (last - (left - 1)) (parts rule posed phase depth))) before now
   parts_go_on written =
       let next = next_part (parts rule posed phase depth) last left some within there in
       printing_goes_on (part_text rule posed phase) all _ next.0 before mid now (rw next.2 at p) (rw next.1 at written)
 
+  -- where the sink fails within it, a beginning of all was printed
   pub parts_break_off : Begins mid now (text_if rule posed phase (part_numbered rule posed phase depth (last - (left - 1))))
       → Begins before now (flat_map (part_text rule posed phase) all)
   parts_break_off begun =

@@ -42,8 +42,10 @@ all_met old now mid left r items NoItem all (nothing, same, over) none seen =
 all_met old now mid left r items (Sound posed last) all p none seen = absurd (let no : Some (SoundEntry posed) ≡ None = none in cc)
 all_met old now mid left r items (Faulty fault last) all p none seen = absurd (let no : Some (FaultyEntry fault) ≡ None = none in cc)
 
+-- a count that stayed tells of no failure
 pub kept_is_told : (n m : ℕ) → m ≡ n → grew n m ≡ false
 kept_is_told n m is = rw (is, grew_same) refl
 
+-- one that grew tells of one
 pub failure_is_told : (n m : ℕ) → m ≡ n + 1 → grew n m ≡ true
 failure_is_told n m is = rw (is, grew_more) refl

@@ -129,10 +129,12 @@ module _ (rule : RuleSet) (h d : ℕ) (p : Position) (top : Frame) (old new : Li
   on_top : IsWalking rule h p (top ∷ reverse new) board
   on_top = subst (λ frames. IsWalking rule h p frames board) at_top s.walking
 
+  -- what the top frame knows is of the board's position
   pub top-known : IfSome top.known (IsPlaceIn rule board)
   unfolding AreKnown
   top-known = rw on_top.board_at on_top.known.0
 
+  -- what taking its move back asks for
   pub back-asks : (now : Position) (depth : ℕ) → now ≡ board → depth ≡ length new → 0 < depth → CameFrom rule top now
   back-asks now depth e at some = rw e (CameFrom-deep rule h p top (reverse new) board on_top (omega (arith, at, length-reverse new, some)))
 
@@ -142,6 +144,7 @@ module _ (rule : RuleSet) (h d : ℕ) (p : Position) (top : Frame) (old new : Li
   deep : length (reverse new) + 1 ≤ d
   deep = omega (arith, s.within, ap length at_top)
 
+  -- a frame without moves is closed
   pub seeks-closed : (now after : Position) (depth : ℕ) → now ≡ board → depth ≡ length new → moves_behind rule board top.place ≡ []
       → (depth ≡ 0 → after ≡ now) → ((q : Position) → 0 < depth → CameFromAt rule top now q → after ≡ q)
       → Seeks rule h d p (reverse old) (reverse new) after None
@@ -175,6 +178,7 @@ module _ (rule : RuleSet) (h d : ℕ) (p : Position) (top : Frame) (old new : Li
     behind : moves_behind rule (position rule p (f ∷ reverse new)) f.place ≡ m ∷ moves_behind rule (position rule p (f ∷ reverse new)) place
     behind = rw (← known_top.board_at) next.0
 
+    -- its next move ends a beginning
     pub seeks-found : length mid ≡ d → Seeks rule h d p (reverse old) (reverse mid) now (Some m)
     seeks-found last =
         let at : length (reverse new) + 1 ≡ d = omega (arith, last, length-reverse new, ap length put ∙ length-append new (moved f place ∷ [])) in
@@ -191,6 +195,7 @@ module _ (rule : RuleSet) (h d : ℕ) (p : Position) (top : Frame) (old new : Li
           falls = rw (← turns-learned rule h p top known (reverse new)) (turns-found rule h p f place m (reverse new) (omega (arith, deep, s.room)) behind);
         })
 
+    -- or leads on to a deeper frame
     pub seeks-deeper : (undo : Undo) (after : Position) (last : List Frame) → length mid ≢ d → undo ≡ undo_of rule now m → after ≡ position_after rule now m
         → last ≡ mid ++ opened_frame m undo 0 ∷ [] → Seeks rule h d p (reverse old) (reverse last) after None
     seeks-deeper undo after last other u a pushed =
@@ -227,14 +232,13 @@ pub record CountsOn (rule : RuleSet) (h d : ℕ) (p : Position) (old new : List 
       ≡ min (length (beginnings_to_come goal rule d p old) - length (beginnings_to_come goal rule d p new)) (2 ^ 64 - 1)
 
 module _ (rule : RuleSet) (h d : ℕ) (p : Position) where
+  -- the count down begins with the number asked for
   pub numbered-start : (old : List Frame) (board : Position) (number : ℕ) → IsSeeking rule h d p old board → 1 ≤ number
       → SeeksNumbered rule h d p old old board number number
   numbered-start old board number s some = record { seeking = s; some = some; same = λ goal. refl }
 
-  pub counts-start : (old : List Frame) (board : Position) → IsSeeking rule h d p old board → CountsOn rule h d p old old board 0
-  counts-start old board s = record { seeking = s; fewer = λ goal. omega arith; counts = λ goal. omega arith }
-
   module _ (old mid new : List Frame) (board after : Position) where
+    -- a step that finds none leaves it
     pub numbered-on : (number left : ℕ) (o : Option Move) → is_some o ≡ false → SeeksNumbered rule h d p old mid board number left
         → Seeks rule h d p mid new after o → SeeksNumbered rule h d p old new after number left
     numbered-on number left None none s x = record {
@@ -244,6 +248,7 @@ module _ (rule : RuleSet) (h d : ℕ) (p : Position) where
     }
     numbered-on number left (Some m) none s x = absurd cc
 
+    -- one that finds a beginning before it counts down
     pub numbered-next : (number left next : ℕ) (o : Option Move) → is_some o ≡ true → next + 1 ≡ left → left ≢ 1
         → SeeksNumbered rule h d p old mid board number left → Seeks rule h d p mid new after o → SeeksNumbered rule h d p old new after number next
     numbered-next number left next None some e other s x = absurd cc
@@ -257,6 +262,7 @@ module _ (rule : RuleSet) (h d : ℕ) (p : Position) where
           same = λ goal. s.same goal ∙ rw (l, x.come goal, k1) refl;
         }
 
+    -- one that finds it ends the search
     pub numbered-found : (number left : ℕ) (o : Option Move) → is_some o ≡ true → left ≡ 1 → SeeksNumbered rule h d p old mid board number left
         → Seeks rule h d p mid new after o → FindsNumbered rule h d p old new after number o
     numbered-found number left None some one s x = absurd cc
@@ -267,6 +273,7 @@ module _ (rule : RuleSet) (h d : ℕ) (p : Position) where
           stands = (x.seeking, x.legal, x.full);
         }
 
+    -- a step that finds no beginning leaves the count
     pub counts-on : (count : ℕ) (o : Option Move) → is_some o ≡ false → CountsOn rule h d p old mid board count → Seeks rule h d p mid new after o
         → CountsOn rule h d p old new after count
     counts-on count None none s x = record {
@@ -276,6 +283,7 @@ module _ (rule : RuleSet) (h d : ℕ) (p : Position) where
     }
     counts-on count (Some m) none s x = absurd cc
 
+    -- one that finds a beginning counts it
     pub counts-one : (count next : ℕ) (o : Option Move) → is_some o ≡ true → next ≡ min (count + 1) (2 ^ 64 - 1) → CountsOn rule h d p old mid board count
         → Seeks rule h d p mid new after o → CountsOn rule h d p old new after next
     counts-one count next None some e s x = absurd cc
@@ -285,16 +293,19 @@ module _ (rule : RuleSet) (h d : ℕ) (p : Position) where
       counts = λ goal. omega (arith, s.fewer goal, s.counts goal, ap length (x.come goal), e);
     }
 
+  -- with no frame left there is no such beginning
   pub numbered-none : (old mid : List Frame) (board : Position) (number left : ℕ) → mid ≡ [] → SeeksNumbered rule h d p old mid board number left
       → FindsNumbered rule h d p old mid board number None
   unfolding beginnings_to_come
   numbered-none old mid board number left e s = record { here = λ goal. s.same goal ∙ rw e refl; stands = tt }
 
+  -- then all were counted
   pub counts-all : (old mid : List Frame) (board : Position) (count : ℕ) → mid ≡ [] → CountsOn rule h d p old mid board count
       → (goal : Goal) → count ≡ min (length (beginnings_to_come goal rule d p old)) (2 ^ 64 - 1)
   unfolding beginnings_to_come
   counts-all old mid board count e s goal = let c = rw e at s.counts goal in omega (arith, c)
 
+-- no frames from either end
 pub no-frames : (frames : List Frame) → length frames ≡ 0 → reverse frames ≡ []
 no-frames [] e = refl
 no-frames (f ∷ frames) e = absurd (omega (arith, e))
@@ -305,10 +316,12 @@ map-none (x ∷ xs) = ap (λ ys. x ∷ ys) (map-none xs)
 
 -- before all beginnings
 module _ (rule : RuleSet) (p : Position) (f : Frame) (left : f.left ≡ 0) where
+  -- the walk over beginnings stands on the root of the phase
   pub seeking-begun : (h d : ℕ) (board : Position) → f.known ≡ None → 1 ≤ d → d ≤ h → board ≡ p → IsWellFormed board → IsSeeking rule h d p (f ∷ []) board
   unfolding IsLinked IsRoomy AreKnown position are_idle
   seeking-begun h d board unknown some room e sound = search rules
 
+  -- all beginnings are to come from there
   pub come-begun : (goal : Goal) (d : ℕ) → f.place ≡ 0 → 1 ≤ d → beginnings_to_come goal rule d p (f ∷ []) ≡ beginnings (chess goal rule) d p
   unfolding beginnings_to_come position path
   come-begun goal zero at some = absurd (omega (arith, some))

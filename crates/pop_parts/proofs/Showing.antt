@@ -30,6 +30,7 @@ pub record Passed (wanted : ℕ) (now : Standing) (number : ℕ) (failed : Bool)
   pub failed_is : failed ≡ list_any tells_failure items
   pub early : 0 < wanted → number ≤ wanted
 
+-- before the first item none was passed
 pub passed_start : (wanted : ℕ) (had : Option (List ℕ)) → Passed wanted first_standing 1 false had had
 passed_start wanted had = record {
   items = [];

@@ -27,6 +27,7 @@ use pop_input::problem::Problem;
 use pop_solve::chess::{reaches_goal, retract};
 use pop_solve::frame::Frame;
 use pop_solve::guess::guess_killers;
+use pop_solve::history::History;
 use pop_solve::killers::Killers;
 use pop_solve::phases::{
     count_with, end, event_at, phase_half_moves, still_to_begin, total, walk_on,
@@ -56,7 +57,7 @@ fn may_lead<R: Rules>(plan: Plan, left: usize, by: Move, board: &mut Board) -> b
     ensures unchanged { board.new ≡ board.old }
     ensures mated { result ≡ true → IsMatedAtLast R.rule plan left
         (position_after R.rule board.old by) }
-    ensures fails { result ≡ false → (is_for_mate plan.goal ≡ true) × (seeks_last plan ≡ true)
+    ensures fails { result ≡ false → (is_for_mate plan.goal ≡ true) × (seeks_last plan.play ≡ true)
         × (left ≡ 0) × (is_mate R.rule (position_after R.rule board.old by) ≡ false) }
 {
     if !ends_with_mate(plan, left + 1) {
@@ -91,8 +92,7 @@ fn begin<R: Rules, const N: usize>(
     by: Move,
     board: &mut Board,
     frames: &mut ArrayVec<Frame<R>, N>,
-    killers: &mut Killers<R>,
-    opened: &mut u64,
+    history: &mut History<R>,
 ) -> PartStage
     requires sound { IsSound problem.now }
     requires room { half_moves problem.now.stipulation < N }
@@ -102,13 +102,13 @@ fn begin<R: Rules, const N: usize>(
         × (array_vec_len frames.old ≡ d) }
     requires legal { is_legal R.rule board.old by ≡ true }
     requires battle { is_help problem.now.stipulation.form ≡ false → array_vec_len frames.old ≡ 1 }
-    requires opened { opened.old ≡ 0 }
+    requires opened { history.old.opened ≡ 0 }
     ensures stands { StandsInPart R.rule problem.now phase
         (path (reverse frames.old.items) ++ by ∷ []) result (reverse frames.new.items) board.new }
     ensures left { part_left R.rule problem.now phase result (reverse frames.new.items)
         ≡ part_events R.rule problem.now phase (path (reverse frames.old.items) ++ by ∷ []) }
     ensures opens { IsPartOpened R.rule problem.now phase
-        (path (reverse frames.old.items) ++ by ∷ []) (reverse frames.new.items) opened.new }
+        (path (reverse frames.old.items) ++ by ∷ []) (reverse frames.new.items) history.new.opened }
 {
     let plan = Plan::of(problem);
     let depth = frames.len();
@@ -116,77 +116,73 @@ fn begin<R: Rules, const N: usize>(
     if !may_lead::<R>(plan, left, by, board) {
         return PartStage::Within { count: 0 };
     }
-    let root = depth == 1;
-    guess_killers::<R>(plan, left, by, board, killers);
-    if enter::<R, N>(plan, root, left, by, board, frames, killers, opened) {
+    guess_killers::<R>(plan, left, by, board, &mut history.killers);
+    if enter::<R, N>(plan, left, by, board, frames, history) {
         return PartStage::First;
     }
     PartStage::Within { count: 0 }
 }
 
-/// Gives the path of the part's first moves themselves, and answers its event.
+/// Gives the path of the part's first moves themselves: answers the stage behind it, and its event.
 fn give_first<R: Rules>(
     problem: &Problem,
     phase: Phase,
     frames: &[Frame<R>],
-    stage: &mut PartStage,
     board: &mut Board,
-) -> Event
+) -> (PartStage, Event)
     requires sound { IsSound problem.now }
     requires stands { (front : List Move) × StandsInPart R.rule problem.now phase front First
         (reverse frames.now) board.old }
     ensures stands { (front : List Move) → StandsInPart R.rule problem.now phase front First
         (reverse frames.now) board.old
-        → StandsInPart R.rule problem.now phase front stage.new (reverse frames.now) board.new }
+        → StandsInPart R.rule problem.now phase front result.0 (reverse frames.now) board.new }
     ensures gives { Gives R.rule problem.now
         (part_left R.rule problem.now phase First (reverse frames.now))
-        (part_left R.rule problem.now phase stage.new (reverse frames.now))
-        result board.new (length frames.now) }
+        (part_left R.rule problem.now phase result.0 (reverse frames.now))
+        result.1 board.new (length frames.now) }
 {
-    *stage = PartStage::Within {
+    let stage = PartStage::Within {
         count: count_with(problem, frames.len(), 0),
     };
-    event_at::<R>(problem, phase, frames, board)
+    (stage, event_at::<R>(problem, phase, frames, board))
 }
 
-/// Goes on within a part, of which `count` solutions have begun.
+/// Goes on within a part, of which `count` solutions have begun. Answers the stage behind the event and the event.
 fn go_on_in_part<R: Rules, const N: usize>(
     problem: &Problem,
     phase: Phase,
     count: u32,
-    stage: &mut PartStage,
     board: &mut Board,
     frames: &mut ArrayVec<Frame<R>, N>,
-    killers: &mut Killers<R>,
-    opened: &mut u64,
-) -> Event
+    history: &mut History<R>,
+) -> (PartStage, Event)
     requires sound { IsSound problem.now }
     requires room { half_moves problem.now.stipulation < N }
     requires stands { (front : List Move) × StandsInPart R.rule problem.now phase front
         (Within count) (reverse frames.old.items) board.old }
     ensures stands { (front : List Move) → StandsInPart R.rule problem.now phase front
         (Within count) (reverse frames.old.items) board.old
-        → StandsInPart R.rule problem.now phase front stage.new (reverse frames.new.items)
+        → StandsInPart R.rule problem.now phase front result.0 (reverse frames.new.items)
         board.new }
     ensures gives { Gives R.rule problem.now
         (part_left R.rule problem.now phase (Within count) (reverse frames.old.items))
-        (part_left R.rule problem.now phase stage.new (reverse frames.new.items))
-        result board.new (array_vec_len frames.new) }
+        (part_left R.rule problem.now phase result.0 (reverse frames.new.items))
+        result.1 board.new (array_vec_len frames.new) }
     ensures opens { (front : List Move) → StandsInPart R.rule problem.now phase front
         (Within count) (reverse frames.old.items) board.old
-        → IsPartOpened R.rule problem.now phase front (reverse frames.old.items) opened.old
-        → IsPartOpened R.rule problem.now phase front (reverse frames.new.items) opened.new }
-    ensures grows { min opened.old (2 ^ 64 - 1) ≤ opened.new }
+        → IsPartOpened R.rule problem.now phase front (reverse frames.old.items) history.old.opened
+        → IsPartOpened R.rule problem.now phase front
+        (reverse frames.new.items) history.new.opened }
+    ensures grows { min history.old.opened (2 ^ 64 - 1) ≤ history.new.opened }
 {
     let limit = still_to_begin(problem, count);
-    if walk_on::<R, N>(problem, phase, limit, board, frames, killers, opened) {
+    if walk_on::<R, N>(problem, phase, limit, board, frames, history) {
         let count = count_with(problem, frames.len(), count);
-        *stage = PartStage::Within { count };
-        return event_at::<R>(problem, phase, frames.as_slice(), board);
+        let event = event_at::<R>(problem, phase, frames.as_slice(), board);
+        return (PartStage::Within { count }, event);
     }
     end::<R, N>(problem, phase, board, frames);
-    *stage = PartStage::Behind;
-    total(problem, count)
+    (PartStage::Behind, total(problem, count))
 }
 
 /// A search for the solutions of one part of a phase, those that begin with given moves; it gives their events one by one and
@@ -199,8 +195,7 @@ pub struct PartSearch<R: Rules, const N: usize> {
     stage: PartStage,
     board: Board,
     frames: ArrayVec<Frame<R>, N>,
-    killers: Killers<R>,
-    opened: u64,
+    history: History<R>,
 }
 
 impl<R: Rules, const N: usize> Model for PartSearch<R, N> {
@@ -220,15 +215,16 @@ impl<R: Rules, const N: usize> Model for PartSearch<R, N> {
       left = part_left R.rule s.problem s.phase s.stage (reverse s.frames.items);
       board = s.board;
       depth = array_vec_len s.frames;
-      opened = s.opened;
-      killers = s.killers;
+      opened = s.history.opened;
+      killers = s.history.killers;
     } };
 
     ghost invariant = { λ s. IsSound s.problem
         × (half_moves s.problem.stipulation < N)
         × StandsInPart R.rule s.problem s.phase s.front.items s.stage (reverse s.frames.items)
         s.board
-        × IsPartOpened R.rule s.problem s.phase s.front.items (reverse s.frames.items) s.opened };
+        × IsPartOpened R.rule s.problem s.phase s.front.items
+        (reverse s.frames.items) s.history.opened };
 }
 
 impl<R: Rules, const N: usize> PartSearch<R, N> {
@@ -250,7 +246,7 @@ impl<R: Rules, const N: usize> PartSearch<R, N> {
         phase: Phase,
         depth: usize,
         number: u64,
-        mut killers: Killers<R>,
+        killers: Killers<R>,
     ) -> Option<Self>
         requires room { half_moves problem.now.stipulation < N }
         requires few { N ≤ 33 }
@@ -266,16 +262,8 @@ impl<R: Rules, const N: usize> PartSearch<R, N> {
         let mut frames = ArrayVec::new();
         let by = go_to_part::<R, N>(problem, phase, depth, number, &mut board, &mut frames)?;
         let front = front_of::<R, N>(&frames, by);
-        let mut opened = 0;
-        let stage = begin::<R, N>(
-            problem,
-            phase,
-            by,
-            &mut board,
-            &mut frames,
-            &mut killers,
-            &mut opened,
-        );
+        let mut history = History::with(killers);
+        let stage = begin::<R, N>(problem, phase, by, &mut board, &mut frames, &mut history);
         Some(PartSearch {
             problem: *problem,
             phase,
@@ -283,8 +271,7 @@ impl<R: Rules, const N: usize> PartSearch<R, N> {
             stage,
             board,
             frames,
-            killers,
-            opened,
+            history,
         })
     }
 
@@ -303,23 +290,28 @@ impl<R: Rules, const N: usize> PartSearch<R, N> {
         ensures opened { self.old.opened ≤ self.new.opened }
     {
         match self.stage {
-            PartStage::First => Some(give_first::<R>(
-                &self.problem,
-                self.phase,
-                self.frames.as_slice(),
-                &mut self.stage,
-                &mut self.board,
-            )),
-            PartStage::Within { count } => Some(go_on_in_part::<R, N>(
-                &self.problem,
-                self.phase,
-                count,
-                &mut self.stage,
-                &mut self.board,
-                &mut self.frames,
-                &mut self.killers,
-                &mut self.opened,
-            )),
+            PartStage::First => {
+                let (stage, event) = give_first::<R>(
+                    &self.problem,
+                    self.phase,
+                    self.frames.as_slice(),
+                    &mut self.board,
+                );
+                self.stage = stage;
+                Some(event)
+            }
+            PartStage::Within { count } => {
+                let (stage, event) = go_on_in_part::<R, N>(
+                    &self.problem,
+                    self.phase,
+                    count,
+                    &mut self.board,
+                    &mut self.frames,
+                    &mut self.history,
+                );
+                self.stage = stage;
+                Some(event)
+            }
             PartStage::Behind => None,
         }
     }
@@ -328,8 +320,8 @@ impl<R: Rules, const N: usize> PartSearch<R, N> {
     pub fn into_killers(self) -> Killers<R>
         ensures { result ≡ self.killers }
     {
-        let PartSearch { killers, .. } = self;
-        killers
+        let PartSearch { history, .. } = self;
+        history.killers
     }
 
     /// The frames opened for a half-move so far, the beginnings and the test of mate apart, up to the greatest u64. In help
@@ -342,6 +334,6 @@ impl<R: Rules, const N: usize> PartSearch<R, N> {
             → result ≡ min (part_walk R.rule self.now.problem self.now.phase self.now.front)
             (2 ^ 64 - 1) }
     {
-        self.opened
+        self.history.opened
     }
 }

@@ -16,6 +16,7 @@ module _ {P M : Type 0} (game : Game P M) where
   unfolding value
   value-zero battle q = refl
 
+  -- with an even number of half-moves left, of a direct mate: Black is lost
   pub value-is_lost : (j : ℕ) (q : P) → value Direct game (2 * j) q ≡ is_lost game j q
   unfolding is_lost
   value-is_lost zero q = value-zero Direct q
@@ -25,6 +26,7 @@ module _ {P M : Type 0} (game : Game P M) where
       λ r. direct-odd (2 * j) r (omega arith) ∙ ap (λ test. some_move game test r) (λ i x. value-is_lost j x i) in
       rw (two, direct-even (suc (2 * j)) q (omega arith)) (ap (λ test. game.goal q || (can_move game q && every_move game test q)) (λ i r. white r i))
 
+  -- with an odd number: White wins
   pub value-wins : (k : ℕ) (p : P) → value Direct game (suc (2 * k)) p ≡ wins game (suc k) p
   unfolding wins
   value-wins k p = direct-odd (2 * k) p (omega arith) ∙ ap (λ test. some_move game test p) (λ i x. value-is_lost k x i)
@@ -38,6 +40,7 @@ module _ {P M : Type 0} (game : Game P M) where
   unfolding value
   self-odd t p e = rw e refl
 
+  -- of a selfmate, with an even number: White wins, or has been brought to the goal
   pub value-self_wins : (k : ℕ) (r : P) → value Selfmate game (2 * k) r ≡ (game.goal r || self_wins game k r)
   unfolding self_wins
   value-self_wins zero r = grind (arith, value-zero)
@@ -47,6 +50,7 @@ module _ {P M : Type 0} (game : Game P M) where
       λ q. self-odd (2 * k) q (omega arith) ∙ ap (λ test. can_move game q && every_move game test q) (λ i x. value-self_wins k x i) in
       rw (two, self-even (suc (2 * k)) r (omega arith)) (ap (λ test. game.goal r || some_move game test r) (λ i q. black q i))
 
+  -- with an odd number: after a move of White to this position he still wins
   pub value-is_self_lost : (k : ℕ) (q : P) → value Selfmate game (suc (2 * k)) q ≡ is_self_lost game (suc k) q
   unfolding is_self_lost
   value-is_self_lost k q = search (rules, self-odd, value-self_wins)

@@ -7,6 +7,7 @@ use Rattle.pop_solve.specs.declared.aim.Battle.TheVariants.{Direct}
 use Rattle.pop_solve.proofs.Words.{Battle, Bool, Goal, IfSome, List, MatchOption, Mate, Move, None, Option, Position, RuleSet, Selfmate, Some, [], arith, can_move, chess, cut_mates, cut_moves, eqb, false, filter, is_for_mate, is_goal_reached, is_legal, is_mate, is_mating, is_nil, is_some, is_stalemate, length, list_all, list_any, mates_behind, mates_between, moves, moves_behind, moves_between, nat_tests, not, refl, rules, sym, true, value, walk_count, ℕ, ◌&&◌, ◌++◌, ◌-◌, ◌<◌, ◌∙◌, ◌∷◌, ◌≡◌, ◌≤◌}
 use Rattle.pop_solve.specs.Game.{some_move as some_good}
 
+-- there is a legal move exactly where the list of moves isn't empty
 pub can_move-is : (goal : Goal) (rule : RuleSet) (p : Position) → not (is_nil (moves rule p)) ≡ can_move (chess goal rule) p
 can_move-is goal rule p = grind arith
 
@@ -17,6 +18,7 @@ behind_start rule p = refl
 
 pub ruleset some_move = (can_move-is)
 
+-- a goal told to be mate is mate
 pub for_mate : (goal : Goal) → is_for_mate goal ≡ true → goal ≡ Mate
 for_mate goal e = search rules
 
@@ -52,17 +54,20 @@ module _ (rule : RuleSet) (p : Position) where
   mate_within [] behind m more e = rw e refl
   mate_within (x ∷ before) behind m more e = refl
 
+  -- a mate found behind the killer mates
   pub mate_behind : (b next : ℕ) (o : Option Move) → MatchOption o (mates_behind rule p b ≡ []) (λ m. mates_behind rule p b ≡ m ∷ mates_behind rule p next)
       → true ≡ is_some o → true ≡ some_good (chess Mate rule) (is_goal_reached Mate rule) p
   mate_behind b next None found some = absurd cc
   mate_behind b next (Some m) found some = mate_within (mates_between rule p 0 b) (mates_behind rule p b) m _ found ∙ sym (some_mates b)
 
+  -- so does one found before it
   pub mate_before : (a b next : ℕ) (q : Position) (o : Option Move)
       → MatchOption o (mates_between rule q a b ≡ []) (λ m. mates_between rule q a b ≡ m ∷ mates_between rule q next b)
       → a ≡ 0 → q ≡ p → true ≡ is_some o → true ≡ some_good (chess Mate rule) (is_goal_reached Mate rule) p
   mate_before a b next q None found start same some = absurd cc
   mate_before a b next q (Some m) found start same some = rw (some_mates b, rw (start, same) at found) refl
 
+  -- where neither search finds one, no move mates
   pub no_mate : (a b b' next last : ℕ) (q : Position) (o o' : Option Move)
       → MatchOption o (mates_behind rule p b ≡ []) (λ m. mates_behind rule p b ≡ m ∷ mates_behind rule p next)
       → MatchOption o' (mates_between rule q a b' ≡ []) (λ m. mates_between rule q a b' ≡ m ∷ mates_between rule q last b')
@@ -76,6 +81,7 @@ module _ (rule : RuleSet) (p : Position) where
   on_mate_behind place None some at found = absurd cc
   on_mate_behind place (Some m) some at found = record { by = m; here = at; mates = found }
 
+  -- the place on which a search left off is that of the mate it found
   pub on_mate_before : (old place : ℕ) (o : Option Move) → true ≡ is_some o → place ≡ place_onto o old → IfSome o (λ m. mates rule p m ≡ true)
       → IsOnMate rule p place
   on_mate_before old place None some at found = absurd cc
@@ -93,6 +99,7 @@ module _ (goal : Goal) (rule : RuleSet) (p : Position) where
   some-within [] here behind m more e = rw e (grind (arith, nat_tests))
   some-within (x ∷ before) here behind m more e = grind (arith, nat_tests)
 
+  -- a killer that was found is a legal move
   pub has_killer : (killer place next : ℕ) (o : Option Move) → place ≡ killer - 1 → is_some o ≡ true
       → MatchOption o (moves_between rule p place killer ≡ []) (λ m. (moves_between rule p place killer ≡ m ∷ moves_between rule p next killer)
       × (is_legal rule p m ≡ true)) → true ≡ can_move (chess goal rule) p
@@ -100,6 +107,7 @@ module _ (goal : Goal) (rule : RuleSet) (p : Position) where
   has_killer killer place next (Some m) at e found = rw (cut_moves rule p place killer (omega (arith, at)))
       (sym (some-within (moves_between rule p 0 place) (moves_between rule p place killer) (moves_behind rule p killer) m _ found.0))
 
+  -- the first move is found exactly where there is one
   pub has_first : (place next : ℕ) (o : Option Move) → place ≡ 0
       → MatchOption o (moves_behind rule p place ≡ []) (λ m. (moves_behind rule p place ≡ m ∷ moves_behind rule p next) × (is_legal rule p m ≡ true))
       → is_some o ≡ can_move (chess goal rule) p

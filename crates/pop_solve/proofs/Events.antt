@@ -17,6 +17,7 @@ pub node-event : (problem : Posed) (phase : Phase) (frames : List Frame) (half d
     → Node depth (half + depth) shown ≡ event_of rule problem (path_event problem phase (path (reverse frames)))
 node-event problem phase frames half depth shown help h e rule s = grind (arith, path-length, length-reverse)
 
+-- frames with room for their half-moves are at most one more than these
 pub room-length : (h : ℕ) (fs : List Frame) → IsRoomy h fs → length fs ≤ h + 1
 unfolding IsRoomy
 room-length h [] s = omega arith
@@ -25,27 +26,31 @@ room-length h (f ∷ below) s = omega (arith, s.0)
 -- the board after a path is given
 module _ (rule : RuleSet) (problem : Posed) (phase : Phase) (h : ℕ) (frames : List Frame) (board : Position)
     (r : IsWalking rule h (phase_start problem phase) (reverse frames) board) (deep : 2 ≤ length frames) where
+  -- so they fit a line's room
   pub shallow : h ≤ 32 → length frames ≤ 33
   shallow least = omega (arith, room-length h (reverse frames) r.roomy, length-reverse frames)
 
 -- a path is given: the events to come lose their first
 module _ (rule : RuleSet) (problem : Posed) (phase : Phase) (count : ℕ) (old new : List Frame) (board : Position) (most : count ≤ problem.max_solutions)
-    (w : Walks rule (plan_of problem) (phase_half_moves problem phase) (phase_start problem phase) (problem.max_solutions - count) old new board true) where
+    (w : Walks rule (plan_of problem) (is_help problem.stipulation.form) (phase_half_moves problem phase) (phase_start problem phase)
+    (problem.max_solutions - count) old new board true) where
   abbrev more : ℕ
   more = cond (begins (is_help problem.stipulation.form) (path new)) 1 0
 
-  pub left-given : (next : ℕ) → next ≡ count + more
+  left-given : (next : ℕ) → next ≡ count + more
       → left_of rule problem (Within phase count) old ≡ path_event problem phase (path new) ∷ left_of rule problem (Within phase next) new
   unfolding left_of
   left-given next e = search rules
 
 -- none is given: the total is left
 pub left-ended : (rule : RuleSet) (problem : Posed) (phase : Phase) (count : ℕ) (old new : List Frame) (board : Position)
-    → Walks rule (plan_of problem) (phase_half_moves problem phase) (phase_start problem phase) (problem.max_solutions - count) old new board false
+    → Walks rule (plan_of problem) (is_help problem.stipulation.form) (phase_half_moves problem phase) (phase_start problem phase)
+    (problem.max_solutions - count) old new board false
     → left_of rule problem (Within phase count) old ≡ total count (eqb count problem.max_solutions) ∷ cond (is_set phase) (events_from rule problem Play) []
 unfolding left_of
 left-ended rule problem phase count old new board w = search rules
 
+-- within a phase no more solutions have begun than the limit
 pub within-limit : (rule : RuleSet) (problem : Posed) (phase : Phase) (count : ℕ) (frames : List Frame) (board : Position)
     → IsStanding rule problem (Within phase count) frames board → count ≤ problem.max_solutions
 unfolding IsStanding
@@ -53,11 +58,14 @@ within-limit rule problem phase count frames board s = s.1
 
 module _ (rule : RuleSet) (problem : Posed) (phase : Phase) (count : ℕ) (old : List Frame) (frames : List Frame) (board : Position)
     (most : count ≤ problem.max_solutions)
-    (w : Walks rule (plan_of problem) (phase_half_moves problem phase) (phase_start problem phase) (problem.max_solutions - count) old
+    (w : Walks rule (plan_of problem) (is_help problem.stipulation.form) (phase_half_moves problem phase) (phase_start problem phase)
+    (problem.max_solutions - count) old
     (reverse frames) board true) where
+  -- a path that is given has a move
   pub deep-given : 2 ≤ length frames
   deep-given = omega (arith, w.deep refl, length-reverse frames)
 
+  -- a solution that begins with it is within the limit
   pub room-given : cond (is_help problem.stipulation.form || eqb (length frames) 2) 1 0 ≤ problem.max_solutions - count
   room-given = grind (arith, path-length, length-reverse, deep-given, nat_tests)
 
@@ -74,15 +82,18 @@ module _ (rule : RuleSet) (problem : Posed) (phase : Phase) (count : ℕ) (old :
 
   -- once board and frames still stand as they were left
   module _ (left : List Frame) (stand : Position) (kept : left ≡ frames) (stays : stand ≡ board) where
+    -- the call gives the path's event
     pub gives-given : (next : ℕ) (event : Event) → next ≡ count + cond (is_help problem.stipulation.form || eqb (length frames) 2) 1 0
         → event ≡ event_of rule problem (path_event problem phase (path (reverse frames)))
         → Gives rule problem (left_of rule problem (Within phase count) old) (left_of rule problem (Within phase next) (reverse left)) event stand (length left)
     gives-given next event n e = rw (kept, stays) (gives-here next event n e)
 
+  -- it leaves the phase as it may stand
   pub standing-given : (left : List Frame) (stand : Position) → left ≡ reverse frames → stand ≡ board → (next : ℕ)
       → next ≡ count + cond (is_help problem.stipulation.form || eqb (length frames) 2) 1 0 → IsStanding rule problem (Within phase next) left stand
   standing-given left stand kept stays next n = rw (kept, stays) (stands-here next n)
 
+  -- the path fits a line's room
   pub shallow-given : IsSound problem → length frames ≤ 33
   shallow-given s = shallow rule problem phase (phase_half_moves problem phase) frames board w.walking deep-given (at_most phase)
     where
@@ -103,12 +114,15 @@ behind-standing rule problem phase board e = search rules
 
 module _ (rule : RuleSet) (problem : Posed) (phase : Phase) (stage : Stage) (new : List Frame) (board : Position)
     (at : stage ≡ cond (is_set phase) (Before Play) Behind) (none : new ≡ []) where
+  -- at the end of a phase its total is given
   pub gives-ended : (count depth : ℕ) (old mid : List Frame) (now : Position)
-      → Walks rule (plan_of problem) (phase_half_moves problem phase) (phase_start problem phase) (problem.max_solutions - count) old mid now false
+      → Walks rule (plan_of problem) (is_help problem.stipulation.form) (phase_half_moves problem phase) (phase_start problem phase)
+      (problem.max_solutions - count) old mid now false
       → Gives rule problem (left_of rule problem (Within phase count) old) (left_of rule problem stage (reverse new))
       (Total count (eqb count problem.max_solutions)) board depth
   gives-ended count depth old mid now w = search (rules, left-ended, behind-left)
 
+  -- the search then stands behind the phase
   pub standing-ended : board ≡ play_start problem → IsStanding rule problem stage (reverse new) board
   standing-ended e = rw (at, none) (behind-standing rule problem phase board e)
 
@@ -127,6 +141,7 @@ pub left-begun : (rule : RuleSet) (problem : Posed) (phase : Phase) (old new : L
 unfolding left_of phase_events
 left-begun rule problem phase old new e kept begun = search (rules, append_assoc)
 
+-- a phase stands on its root
 pub standing-begun : (rule : RuleSet) (problem : Posed) (phase : Phase) (f : Frame) (board : Position) → f.left ≡ phase_half_moves problem phase
     → f.known ≡ None → board ≡ phase_start problem phase → IsWellFormed board → IsStanding rule problem (Within phase 0) (f ∷ []) board
 unfolding IsStanding IsLinked IsRoomy AreKnown position
@@ -144,14 +159,17 @@ drop-next zero xs y ys e = grind arith
 drop-next (suc k) [] y ys e = absurd cc
 drop-next (suc k) (x ∷ xs) y ys e = drop-next k xs y ys e
 
+-- a search that has given nothing has all events to come
 pub given-all : (rule : RuleSet) (problem : Posed) → IsGiven rule problem (events rule problem) 0
 given-all rule problem = search rules
 
+-- an event that is given is counted
 pub given-event : (rule : RuleSet) (problem : Posed) (event : Option Event) (old new : List BareEvent) (board : Position) (depth given given2 : ℕ)
     → is_some event ≡ true → MatchOption event ((old ≡ []) × (board ≡ play_start problem) × (new ≡ [])) (λ e. Gives rule problem old new e board depth)
     → given2 ≡ min (given + 1) (2 ^ 64 - 1) → IsGiven rule problem old given → IsGiven rule problem new given2
 given-event rule problem event old new board depth given given2 some x more g = grind (arith, drop-next)
 
+-- where none is left nothing is counted
 pub given-none : (rule : RuleSet) (problem : Posed) (event : Option Event) (old new : List BareEvent) (board : Position) (depth given : ℕ)
     → is_some event ≡ false → MatchOption event ((old ≡ []) × (board ≡ play_start problem) × (new ≡ [])) (λ e. Gives rule problem old new e board depth)
     → IsGiven rule problem old given → IsGiven rule problem new given
@@ -162,13 +180,16 @@ module _ (rule : RuleSet) (problem : Posed) where
   abbrev Given : Option Event → List BareEvent → List BareEvent → Position → ℕ → Type 0
   Given event old new board depth = MatchOption event ((old ≡ []) × (board ≡ play_start problem) × (new ≡ [])) (λ e. Gives rule problem old new e board depth)
 
+  -- it answers the first event that was to come
   pub next-event : (event : Option Event) (old new : List BareEvent) (board : Position) (depth : ℕ) → Given event old new board depth
       → event ≡ option_map (event_of rule problem) (slice_get old 0)
   next-event event old new board depth x = search rules
 
+  -- the others remain
   pub next-left : (event : Option Event) (old new : List BareEvent) (board : Position) (depth : ℕ) → Given event old new board depth → new ≡ drop 1 old
   next-left event old new board depth x = search rules
 
+  -- the board stands where the event's path leads
   pub next-board : (event : Option Event) (old new : List BareEvent) (board : Position) (depth : ℕ) → Given event old new board depth
       → MatchOption (slice_get old 0) (board ≡ play_start problem) (λ bare. StandsOn rule problem bare board depth)
   next-board event old new board depth x = search rules

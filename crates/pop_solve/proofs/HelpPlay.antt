@@ -3,9 +3,7 @@ use Rattle.pop_solve.proofs.Words.{AllPairs, Contains, Game, List, [], arith, fa
 use Rattle.pop_solve.proofs.theorems.Lists.{IsPlayable, StandsBefore}
 
 module _ {P M : Type 0} (game : Game P M) where
-  abbrev IsLineToGoal : ℕ → P → List M → Type 0
-  IsLineToGoal h p line = (length line ≡ h) × IsPlayable game p line × (game.goal (path_end game.after p line) ≡ true)
-
+  -- a line in the list has the length, can be played and reaches the goal
   pub from_lines : (h : ℕ) (p : P) (line : List M) → Contains (lines_to_goal game h p) line
       → (length line ≡ h) × IsPlayable game p line × (game.goal (path_end game.after p line) ≡ true)
   unfolding lines_to_goal
@@ -15,6 +13,7 @@ module _ {P M : Type 0} (game : Game P M) where
       let r = from_map (λ line. w.0 ∷ line) (lines_to_goal game h (game.after p w.0)) line w.2 in
       grind (arith, from_lines h (game.after p w.0) r.0 r.1)
 
+  -- any such line is in the list
   pub in_lines : (h : ℕ) (p : P) (line : List M) → length line ≡ h → IsPlayable game p line → game.goal (path_end game.after p line) ≡ true
       → Contains (lines_to_goal game h p) line
   unfolding lines_to_goal
@@ -25,6 +24,7 @@ module _ {P M : Type 0} (game : Game P M) where
       (in_map (λ line. m ∷ line) (lines_to_goal game h (game.after p m)) line (in_lines h (game.after p m) line (omega (arith, long)) are.1 g))
 
   module _ (before : M → M → Type 0) (order : (p : P) → AllPairs before (game.moves p)) where
+    -- the lines stand in lexicographic order
     pub lines_stand : (h : ℕ) (p : P) → AllPairs (StandsBefore before) (lines_to_goal game h p)
     unfolding lines_to_goal
     lines_stand zero p = grind (arith, pairs_of, none_in_nil, pairs_nil)

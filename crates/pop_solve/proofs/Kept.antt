@@ -1,49 +1,54 @@
 -- The first solutions of a phase, by the paths that begin them.
-use Rattle.pop_solve.proofs.Words.{Bool, Frame, Game, IsWalking, List, Plan, Position, RuleSet, Steps, Walks, [], ap, append-nil, arith, beginning_count, begins, chess, cond, eqb, false, gives, is_help, keep, length, map, moves_behind, nat_tests, path, position, refl, rules, shown_paths, suc, to_come, true, zero, ℕ, ◌&&◌, ◌++◌, ◌+◌, ◌-◌, ◌<◌, ◌||◌, ◌∙◌, ◌∷◌, ◌≡◌}
+use Rattle.pop_solve.proofs.Words.{Battle, BattlePlay, Bool, Frame, Game, HelpPlay, IsWalking, List, Plan, PlayOfSides, Position, RuleSet, Steps, Walks, [], ap, append-nil, arith, beginning_count, begins, chess, cond, eqb, false, gives, helps, keep, length, map, moves_behind, nat_tests, path, position, refl, rules, shown_paths, suc, to_come, true, zero, ℕ, ◌&&◌, ◌++◌, ◌+◌, ◌-◌, ◌<◌, ◌||◌, ◌∙◌, ◌∷◌, ◌≡◌}
 use Rattle.pop_solve.proofs.Paths.{path-length}
 
+-- where no path is to come no solution begins
 pub beginning_count-nil : (M : Type 0) (help : Bool) (n : ℕ) → beginning_count {M = M} help n [] ≡ 0
 unfolding beginning_count
 beginning_count-nil M help n = search rules
 
 module _ {M : Type 0} where
+  -- nor is one kept
   pub keep-nil : (help : Bool) (n : ℕ) → keep {M = M} help n [] ≡ []
   unfolding keep
   keep-nil help n = search rules
 
+  -- the next path is kept, and of the others those of the solutions that may still begin
   pub keep-next : (help : Bool) (n : ℕ) (x : List M) (xs : List (List M)) (b : Bool) → begins help x ≡ b → (b ≡ true → 0 < n)
       → keep help n (x ∷ xs) ≡ x ∷ keep help (n - cond b 1 0) xs
   unfolding keep
   keep-next help n x xs b e some = search rules
 
+  -- the solutions that begin with it and behind it
   pub beginning_count-next : (help : Bool) (n : ℕ) (x : List M) (xs : List (List M)) (b : Bool) → begins help x ≡ b → (b ≡ true → 0 < n)
       → beginning_count help n (x ∷ xs) ≡ cond b 1 0 + beginning_count help (n - cond b 1 0) xs
   unfolding beginning_count
   beginning_count-next help n x xs b e some = search rules
 
   -- where every path begins a solution, none is kept with none to begin
-  pub keep-help : (xs : List (List M)) → keep true 0 xs ≡ []
+  keep-help : (xs : List (List M)) → keep true 0 xs ≡ []
   unfolding keep
   keep-help [] = refl
   keep-help (x ∷ xs) = refl
 
-  pub beginning_count-help : (xs : List (List M)) → beginning_count true 0 xs ≡ 0
+  beginning_count-help : (xs : List (List M)) → beginning_count true 0 xs ≡ 0
   unfolding beginning_count
   beginning_count-help [] = refl
   beginning_count-help (x ∷ xs) = refl
 
+  -- lines behind no move
   pub map-same : (xs : List (List M)) → map (λ line. [] ++ line) xs ≡ xs
   map-same [] = refl
   map-same (x ∷ xs) = ap (λ ys. x ∷ ys) (map-same xs)
 
-  pub root-same : (xs : List (List M)) → map (λ line. [] ++ line) xs ++ [] ≡ xs
+  root-same : (xs : List (List M)) → map (λ line. [] ++ line) xs ++ [] ≡ xs
   root-same xs = append-nil (map (λ line. [] ++ line) xs) ∙ map-same xs
 
 -- the first path by the moves of a root in battle play begins a solution
-module _ {P M : Type 0} (plan : Plan) (game : Game P M) (battle : is_help plan.form ≡ false) where
-  pub gives-battle : (t : ℕ) (q : P) → gives plan game t q ≡ true
+module _ {P M : Type 0} (plan : Plan) (game : Game P M) (battle : Battle) (fought : plan.play ≡ BattlePlay battle) where
+  gives-battle : (t : ℕ) (q : P) → gives plan.play game t q ≡ true
   unfolding gives
-  gives-battle t q = rw battle refl
+  gives-battle t q = rw fought refl
 
   keep-shown_paths : (root : Bool) (k left : ℕ) (p : P) (ms : List M) → keep false 0 (shown_paths plan game root k left p ms) ≡ []
   unfolding shown_paths keep
@@ -69,14 +74,20 @@ no_frame [] e = refl
 no_frame (f ∷ below) e = absurd (omega (arith, e))
 
 module _ (rule : RuleSet) (plan : Plan) (h : ℕ) (p : Position) where
+  -- the paths to come from the root alone
   pub to_come-root : (f : Frame) → to_come rule plan h p (f ∷ []) ≡ shown_paths plan (chess plan.goal rule) true (h - 0) f.left p (moves_behind rule p f.place)
   unfolding to_come path position
   to_come-root f = root-same _
 
   -- with none to begin, and none on the way
-  full : (frames : List Frame) → (is_help plan.form || eqb (length frames) 1) ≡ true
-      → (keep (is_help plan.form) 0 (to_come rule plan h p frames) ≡ []) × (beginning_count (is_help plan.form) 0 (to_come rule plan h p frames) ≡ 0)
-  full frames e = search (rules, keep-help, beginning_count-help, one_frame, to_come-root, keep-shown_paths, beginning_count-shown_paths)
+  full : (play : PlayOfSides) → plan.play ≡ play → (frames : List Frame) → (helps play || eqb (length frames) 1) ≡ true
+      → (keep (helps play) 0 (to_come rule plan h p frames) ≡ []) × (beginning_count (helps play) 0 (to_come rule plan h p frames) ≡ 0)
+  full HelpPlay same frames e = (keep-help _, beginning_count-help _)
+  full (BattlePlay battle) same frames e =
+      let game = chess plan.goal rule in
+      let one = one_frame frames e in
+      rw (one.1, to_come-root one.0)
+      (keep-shown_paths plan game battle same _ _ _ _ _, beginning_count-shown_paths plan game battle same _ _ _ _ _)
 
   none : (frames : List Frame) → length frames ≡ 0 → to_come rule plan h p frames ≡ []
   unfolding to_come
@@ -84,19 +95,25 @@ module _ (rule : RuleSet) (plan : Plan) (h : ℕ) (p : Position) where
   none (f ∷ below) e = absurd (omega (arith, e))
 
   module _ (old mid : List Frame) (same : to_come rule plan h p old ≡ to_come rule plan h p mid) where
-    pub walks_none : (limit : ℕ) (board : Position) → IsWalking rule h p mid board → length mid ≡ 0 → Walks rule plan h p limit old mid board false
+    -- the walk ends once no frame is left
+    pub walks_none : (limit : ℕ) (board : Position) → IsWalking rule h p mid board → length mid ≡ 0
+        → Walks rule plan (helps plan.play) h p limit old mid board false
     walks_none limit board r e = search (rules, none, keep-nil, no_frame, beginning_count-nil)
 
     both_true : (a b : Bool) → (a && b) ≡ true → (a ≡ true) × (b ≡ true)
     both_true a b e = search rules
 
-    pub walks_full : (limit : ℕ) (board : Position) → IsWalking rule h p mid board → (eqb limit 0 && (is_help plan.form || eqb (length mid) 1)) ≡ true
-        → Walks rule plan h p limit old mid board false
-    walks_full limit board r e = let x = both_true (eqb limit 0) (is_help plan.form || eqb (length mid) 1) e in grind (arith, nat_tests, full mid x.1, none)
+    -- it ends where the limit is reached and no solution is on the way
+    pub walks_full : (limit : ℕ) (board : Position) → IsWalking rule h p mid board → (eqb limit 0 && (helps plan.play || eqb (length mid) 1)) ≡ true
+        → Walks rule plan (helps plan.play) h p limit old mid board false
+    walks_full limit board r e = let x = both_true (eqb limit 0) (helps plan.play || eqb (length mid) 1) e in grind
+        (arith, nat_tests, full plan.play refl mid x.1, none)
 
     room : (n : ℕ) (b : Bool) → (eqb n 0 && b) ≡ false → b ≡ true → 0 < n
     room n b e t = search rules
 
+    -- a step that gives a path ends it too
     pub walks_given : (limit : ℕ) (new : List Frame) (board : Position) (before after : ℕ) (given : Bool) → Steps rule plan h p mid new board before after given
-        → given ≡ true → 0 < length mid → (eqb limit 0 && (is_help plan.form || eqb (length mid) 1)) ≡ false → Walks rule plan h p limit old new board true
+        → given ≡ true → 0 < length mid → (eqb limit 0 && (helps plan.play || eqb (length mid) 1)) ≡ false
+        → Walks rule plan (helps plan.play) h p limit old new board true
     walks_given limit new board before after given made is some e = grind (arith, path-length, room, keep-next, beginning_count-next, none)

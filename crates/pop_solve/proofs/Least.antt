@@ -43,5 +43,6 @@ module _ {P M : Type 0} (game : Game P M) (q : P) where
     unfolding first_number self_wins
     zero_loses_self n = refl
 
+    -- the same of a selfmate
     pub least_moves-selfmate : (n : ℕ) → first_from Selfmate game q n 2 ≡ 2 * least_moves Selfmate game (suc n) q
     least_moves-selfmate n = search (rules, first_number, by_twos_self n 1, first_number-is, zero_loses_self n)

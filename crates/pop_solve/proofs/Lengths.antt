@@ -14,13 +14,16 @@ module _ {P M : Type 0} (battle : Battle) (game : Game P M) (q : P) where
   unfolding first_from
   last a = refl
 
+  -- a length that wins is the least, where the shorter ones were tried
   pub length-found : (left a : ℕ) → value battle game a q ≡ true → first_from battle game q ((left - a) / 2) a ≡ a
   length-found left a e = found ((left - a) / 2) a e
 
+  -- one that fails hands on to the next
   pub length-next : (left a : ℕ) → a + 2 ≤ left → value battle game a q ≡ false
       → first_from battle game q ((left - (a + 2)) / 2) (a + 2) ≡ first_from battle game q ((left - a) / 2) a
   length-next left a h e = grind (arith, next ((left - (a + 2)) / 2) a e)
 
+  -- the last is not tried
   pub length-last : (left a : ℕ) → left < a + 2 → first_from battle game q ((left - a) / 2) a ≡ a
   length-last left a h = grind (arith, last a)
 

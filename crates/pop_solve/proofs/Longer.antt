@@ -27,6 +27,7 @@ module _ {P M : Type 0} (game : Game P M) where
   every_weaker : (f g : P → Bool) → ((q : P) → f q ≡ true → g q ≡ true) → (p : P) → every_move game f p ≡ true → every_move game g p ≡ true
   every_weaker f g w p h = all_weaker (λ m. f (game.after p m)) (λ m. g (game.after p m)) (λ m. w (game.after p m)) (game.moves p) h
 
+  -- who is lost within some moves is lost within more
   pub is_lost-more : (j : ℕ) (q : P) → is_lost game j q ≡ true → is_lost game (suc j) q ≡ true
   unfolding is_lost
   is_lost-more zero q h = or_left (game.goal q) _ h
@@ -34,6 +35,7 @@ module _ {P M : Type 0} (game : Game P M) where
       or_weaker (game.goal q) _ _ (and_weaker (can_move game q) _ _ (every_weaker (some_move game (is_lost game j)) (some_move game (is_lost game (suc j)))
       (some_weaker (is_lost game j) (is_lost game (suc j)) (λ r. is_lost-more j r)) q)) h
 
+  -- who wins within some moves wins within more
   pub wins-more : (k : ℕ) (p : P) → wins game k p ≡ true → wins game (suc k) p ≡ true
   unfolding wins
   wins-more k p h = search (rules, some_weaker, is_lost-more)
@@ -43,6 +45,7 @@ module _ {P M : Type 0} (game : Game P M) where
       → (can_move game q && every_move game (λ r. game.goal r || f r) q) ≡ true → (can_move game q && every_move game (λ r. game.goal r || g r) q) ≡ true
   won-more f g w q h = search (rules, and_weaker, every_weaker, or_weaker)
 
+  -- the same of a selfmate
   pub self_wins-more : (k : ℕ) (p : P) → self_wins game k p ≡ true → self_wins game (suc k) p ≡ true
   unfolding self_wins
   self_wins-more zero p h = absurd cc
@@ -50,6 +53,7 @@ module _ {P M : Type 0} (game : Game P M) where
       (λ q. can_move game q && every_move game (λ r. game.goal r || self_wins game (suc k) r) q)
       (won-more (self_wins game k) (self_wins game (suc k)) (λ r. self_wins-more k r)) p h
 
+  -- and after a move of White's
   pub is_self_lost-more : (j : ℕ) (q : P) → is_self_lost game j q ≡ true → is_self_lost game (suc j) q ≡ true
   unfolding is_self_lost
   is_self_lost-more zero q h = h
@@ -70,17 +74,20 @@ module _ (test : ℕ → Bool) (n : ℕ) where
   long : length (range_with_len 0 n) ≡ n
   long = length-range_with_len 0 n
 
+  -- the first number that passes is at most their count
   pub first_at_most : position_or_len test (range_with_len 0 n) ≤ n
   first_at_most = rw long at (prefix_len-le-length (λ k. not (test k)) (range_with_len 0 n))
 
   at : (k : ℕ) → k < n → get_or (range_with_len 0 n) k 0 ≡ k
   at k less = get_or-range_with_len 0 n k 0 less ∙ omega arith
 
+  -- no lower number passes
   pub first_is_first : (k : ℕ) → k < position_or_len test (range_with_len 0 n) → test k ≡ false
   first_is_first k less =
       let within : k < n = omega (arith, less, first_at_most) in
       ap test (sym (at k within)) ∙ fails_before_first test (range_with_len 0 n) k 0 less
 
+  -- it passes itself, if the count does
   pub first_passes : test n ≡ true → test (position_or_len test (range_with_len 0 n)) ≡ true
   first_passes h = elim (cases_lt (position_or_len test (range_with_len 0 n)) n) [
     | inl less ↦ ap test (sym (at (position_or_len test (range_with_len 0 n)) less)) ∙ passes_at_first test (range_with_len 0 n) 0 (rw long less)

@@ -10,6 +10,7 @@ any_from_element test (y ∷ xs) x c t = elim (in_cases y xs x c) [
   | inr r ↦ or_right (test y) (list_any test xs) (any_from_element test xs x r t)
 ]
 
+-- where some element passes, one that does
 pub element_from_any : {X : Type 0} (test : X → Bool) (xs : List X) → list_any test xs ≡ true → (x : X) × (Contains xs x × (test x ≡ true))
 element_from_any test [] h = absurd (false≢true h)
 element_from_any test (y ∷ xs) h = elim (or_cases (test y) (list_any test xs) h) [
@@ -27,7 +28,7 @@ joined_first : {X Y : Type 0} (g : X → List Y) (k : ℕ) (xs : List X) → fla
 joined_first g k xs = rw (take-map g k xs) (joined g (take k xs))
 
 -- no path is empty
-abbrev pub HasNoEmpty : {M : Type 0} → List (List M) → Type 0
+abbrev HasNoEmpty : {M : Type 0} → List (List M) → Type 0
 HasNoEmpty {M} paths = (path : List M) → Contains paths path → path ≢ []
 
 module _ {M : Type 0} where
@@ -64,16 +65,17 @@ module _ {M : Type 0} where
         let same : w.0 ≡ m = cc in
         (subst (Contains ms) same w.1, continues m (f m) path (subst (λ k. Contains (node k (f k)) (m ∷ path)) same w.2))
 
-    pub root_in_nodes : (ms : List M) (m : M) → Contains ms m → Contains (flat_map (λ m. node m (f m)) ms) (m ∷ [])
+    root_in_nodes : (ms : List M) (m : M) → Contains ms m → Contains (flat_map (λ m. node m (f m)) ms) (m ∷ [])
     root_in_nodes ms m c = in_flat_map (λ m. node m (f m)) ms m (m ∷ []) c (first_in (m ∷ []) (map (λ path. m ∷ path) (f m)))
 
-    pub path_in_nodes : (ms : List M) (m : M) (path : List M) → Contains ms m → Contains (f m) path → Contains (flat_map (λ m. node m (f m)) ms) (m ∷ path)
+    path_in_nodes : (ms : List M) (m : M) (path : List M) → Contains ms m → Contains (f m) path → Contains (flat_map (λ m. node m (f m)) ms) (m ∷ path)
     path_in_nodes ms m path c b =
         in_flat_map (λ m. node m (f m)) ms m (m ∷ path) c (later_in (m ∷ []) (map (λ path. m ∷ path) (f m)) (m ∷ path) (in_map (λ path. m ∷ path) (f m) path b))
 
-    pub nodes_not_empty : (ms : List M) → HasNoEmpty (flat_map (λ m. node m (f m)) ms)
+    nodes_not_empty : (ms : List M) → HasNoEmpty (flat_map (λ m. node m (f m)) ms)
     nodes_not_empty ms path c e = let w = from_flat_map (λ m. node m (f m)) ms path c in grind (arith, starts w.0 (f w.0) path w.2)
 
+    -- nodes over lists that have their beginnings have theirs
     pub nodes_have_beginnings : ((m : M) → HasBeginnings (f m)) → (ms : List M) → HasBeginnings (flat_map (λ m. node m (f m)) ms)
     nodes_have_beginnings closed ms x [] ys c = root_in_nodes ms x (from_nodes ms x ys c).0
     nodes_have_beginnings closed ms x (y ∷ xs) ys c =
@@ -104,13 +106,14 @@ either_way : {A : Type 0} (Q : A → Type 0) (b : Bool) (x y : A) → Q x → Q 
 either_way Q b x y here other = search rules
 
 -- a list, unless the goal is reached
-pub in_unless : {X : Type 0} (g : Bool) (xs : List X) (x : X) → Contains (cond g [] xs) x ↔ ((g ≡ false) × Contains xs x)
+in_unless : {X : Type 0} (g : Bool) (xs : List X) (x : X) → Contains (cond g [] xs) x ↔ ((g ≡ false) × Contains xs x)
 in_unless g xs x = search rules
 
 module _ {M : Type 0} where
   nil_not_empty : HasNoEmpty {M = M} []
   nil_not_empty path c e = none_in_nil path c
 
+  -- so has the empty list
   pub nil_has_beginnings : HasBeginnings {M = M} []
   nil_has_beginnings x xs ys c = absurd (none_in_nil ((x ∷ xs) ++ ys) c)
 
@@ -144,26 +147,30 @@ module _ {M : Type 0} where
   singles_stand before ms order = pairs_map before (StandsBefore before) (λ m. m ∷ []) ms (λ x y less. inl less) order
 
 module _ {P M : Type 0} (battle : Battle) (game : Game P M) (n : ℕ) where
+  -- no half-move left: nothing stands below Black's position
   pub below_zero : (q : P) → nodes_below battle game n zero q ≡ []
   unfolding nodes_below answers
   below_zero q = refl
 
+  -- nor below White's
   pub answers_zero : (r : P) → answers battle game n zero r ≡ []
   unfolding nodes_below answers
   answers_zero r = refl
 
+  -- Black's defences, each over White's answers
   pub below_more : (h : ℕ) (q : P)
       → nodes_below battle game n (suc h) q ≡ cond (game.goal q) [] (flat_map (λ d. node d (answers battle game n h (game.after q d))) (game.moves q))
   unfolding nodes_below answers
   below_more h q = refl
 
+  -- White's best moves, each over Black's defences
   pub answers_more : (h : ℕ) (r : P)
       → answers battle game n (suc h) r ≡ cond (game.goal r) [] (flat_map (λ m. node m (nodes_below battle game n h (game.after r m)))
       (best_moves battle game n r))
   unfolding nodes_below answers
   answers_more h r = refl
 
-  pub trees_not_empty : (h : ℕ) → ((q : P) → HasNoEmpty (nodes_below battle game n h q)) × ((r : P) → HasNoEmpty (answers battle game n h r))
+  trees_not_empty : (h : ℕ) → ((q : P) → HasNoEmpty (nodes_below battle game n h q)) × ((r : P) → HasNoEmpty (answers battle game n h r))
   trees_not_empty zero = (λ q. rw (below_zero q) nil_not_empty, λ r. rw (answers_zero r) nil_not_empty)
   trees_not_empty (suc h) = (
     λ q. rw (below_more h q) (unless_not_empty (game.goal q) _ (nodes_not_empty (λ d. answers battle game n h (game.after q d)) (game.moves q))),
@@ -171,7 +178,7 @@ module _ {P M : Type 0} (battle : Battle) (game : Game P M) (n : ℕ) where
         (best_moves battle game n r))),
   )
 
-  pub trees_have_beginnings : (h : ℕ) → ((q : P) → HasBeginnings (nodes_below battle game n h q)) × ((r : P) → HasBeginnings (answers battle game n h r))
+  trees_have_beginnings : (h : ℕ) → ((q : P) → HasBeginnings (nodes_below battle game n h q)) × ((r : P) → HasBeginnings (answers battle game n h r))
   trees_have_beginnings zero = (λ q. rw (below_zero q) nil_has_beginnings, λ r. rw (answers_zero r) nil_has_beginnings)
   trees_have_beginnings (suc h) =
       let both = trees_have_beginnings h in (
@@ -182,10 +189,10 @@ module _ {P M : Type 0} (battle : Battle) (game : Game P M) (n : ℕ) where
       )
 
   module _ (before : M → M → Type 0) (order : (p : P) → AllPairs before (game.moves p)) where
-    pub best_stand : (r : P) → AllPairs before (best_moves battle game n r)
+    best_stand : (r : P) → AllPairs before (best_moves battle game n r)
     best_stand r = AllPairs-filter before (λ m. keeps battle game (least_moves battle game n r) (game.after r m)) (game.moves r) (order r)
 
-    pub trees_stand : (h : ℕ) → ((q : P) → AllPairs (StandsBefore before) (nodes_below battle game n h q))
+    trees_stand : (h : ℕ) → ((q : P) → AllPairs (StandsBefore before) (nodes_below battle game n h q))
         × ((r : P) → AllPairs (StandsBefore before) (answers battle game n h r))
     trees_stand zero = (λ q. rw (below_zero q) (pairs_nil (StandsBefore before)), λ r. rw (answers_zero r) (pairs_nil (StandsBefore before)))
     trees_stand (suc h) =
@@ -203,6 +210,7 @@ module _ {P M : Type 0} (battle : Battle) (game : Game P M) (n : ℕ) where
   abbrev pub kept : P → List M
   kept p = filter (λ m. keeps battle game n (game.after p m)) (game.moves p)
 
+  -- the first moves that set play shows
   abbrev pub set_moves : P → List M
   set_moves p = filter (λ d. set_shows battle game n (game.after p d)) (game.moves p)
 
@@ -212,18 +220,22 @@ module _ {P M : Type 0} (battle : Battle) (game : Game P M) (n : ℕ) where
 
   -- what stands below the first moves of a play and of set play
   module _ (variation : Bool) where
+    -- what stands below a key
     unfoldable pub below_key : ℕ → P → M → List (List M)
     below_key h p m = cond variation (nodes_below battle game n (h - 1) (game.after p m)) []
 
+    -- what stands below a first move of set play
     unfoldable pub below_set : ℕ → P → M → List (List M)
     below_set h p d = cond variation (answers battle game n h (game.after p d)) (single_answers (game.after p d))
 
+    -- no path below a key is empty
     pub below_key_not_empty : (h : ℕ) (p : P) (m : M) → HasNoEmpty (below_key h p m)
     unfolding below_key
     below_key_not_empty h p m =
         either_way (HasNoEmpty {M = M}) variation (nodes_below battle game n (h - 1) (game.after p m)) [] ((trees_not_empty (h - 1)).0 (game.after p m))
         nil_not_empty
 
+    -- nor one below a first move of set play
     pub below_set_not_empty : (h : ℕ) (p : P) (d : M) → HasNoEmpty (below_set h p d)
     unfolding below_set
     below_set_not_empty h p d =
@@ -231,6 +243,7 @@ module _ {P M : Type 0} (battle : Battle) (game : Game P M) (n : ℕ) where
         either_way (HasNoEmpty {M = M}) variation (answers battle game n h r) (single_answers r) ((trees_not_empty h).1 r)
         (unless_not_empty (game.goal r) (map (λ m. m ∷ []) (best_moves battle game n r)) (singles_not_empty (best_moves battle game n r)))
 
+    -- the paths below a key have their beginnings
     pub below_key_has_beginnings : (h : ℕ) (p : P) (m : M) → HasBeginnings (below_key h p m)
     unfolding below_key
     below_key_has_beginnings h p m =
@@ -238,6 +251,7 @@ module _ {P M : Type 0} (battle : Battle) (game : Game P M) (n : ℕ) where
         ((trees_have_beginnings (h - 1)).0 (game.after p m))
         nil_has_beginnings
 
+    -- so have those below a first move of set play
     pub below_set_has_beginnings : (h : ℕ) (p : P) (d : M) → HasBeginnings (below_set h p d)
     unfolding below_set
     below_set_has_beginnings h p d =
@@ -246,11 +260,13 @@ module _ {P M : Type 0} (battle : Battle) (game : Game P M) (n : ℕ) where
         (unless_has_beginnings (game.goal r) (map (λ m. m ∷ []) (best_moves battle game n r)) (singles_have_beginnings (best_moves battle game n r)))
 
     module _ (before : M → M → Type 0) (order : (p : P) → AllPairs before (game.moves p)) where
+      -- the paths below a key stand in order
       pub below_key_stands : (h : ℕ) (p : P) (m : M) → AllPairs (StandsBefore before) (below_key h p m)
       unfolding below_key
       below_key_stands h p m = either_way (AllPairs (StandsBefore before)) variation (nodes_below battle game n (h - 1) (game.after p m)) []
           ((trees_stand before order (h - 1)).0 (game.after p m)) (pairs_nil (StandsBefore before))
 
+      -- so do those below a first move of set play
       pub below_set_stands : (h : ℕ) (p : P) (d : M) → AllPairs (StandsBefore before) (below_set h p d)
       unfolding below_set
       below_set_stands h p d =
@@ -263,10 +279,12 @@ module _ {P M : Type 0} (battle : Battle) (game : Game P M) (n : ℕ) where
     unfolding below_key
     tree_paths h p = joined (λ m. node m (cond variation (nodes_below battle game n (h - 1) (game.after p m)) [])) (kept p)
 
+    -- set play without half-moves has no paths
     pub set_tree_none : (p : P) → flat_map (λ s. s) (set_tree battle game variation n zero p) ≡ []
     unfolding set_tree
     set_tree_none p = refl
 
+    -- set play's paths as nodes
     pub set_tree_paths : (h : ℕ) (p : P)
         → flat_map (λ s. s) (set_tree battle game variation n (suc h) p) ≡ flat_map (λ d. node d (below_set h p d)) (set_moves p)
     unfolding set_tree below_set
@@ -278,10 +296,12 @@ module _ {P M : Type 0} (battle : Battle) (game : Game P M) (n : ℕ) where
     unfolding below_key
     first_tree_paths k h p = joined_first (λ m. node m (cond variation (nodes_below battle game n (h - 1) (game.after p m)) [])) k (kept p)
 
+    -- the same of its first solutions
     pub first_set_tree_none : (k : ℕ) (p : P) → flat_map (λ s. s) (take k (set_tree battle game variation n zero p)) ≡ []
     unfolding set_tree
     first_set_tree_none k p = grind arith
 
+    -- the paths of its first solutions as nodes
     pub first_set_tree_paths : (k h : ℕ) (p : P)
         → flat_map (λ s. s) (take k (set_tree battle game variation n (suc h) p)) ≡ flat_map (λ d. node d (below_set h p d)) (take k (set_moves p))
     unfolding set_tree below_set
@@ -289,6 +309,7 @@ module _ {P M : Type 0} (battle : Battle) (game : Game P M) (n : ℕ) where
 
 -- the paths of nodes, unless the goal is reached
 module _ {M : Type 0} (f : M → List (List M)) (g : Bool) (ms : List M) (m : M) where
+  -- a path of one move, where nothing stands below the goal
   pub roots_unless : Contains (cond g [] (flat_map (λ m. node m (f m)) ms)) (m ∷ []) ↔ ((g ≡ false) × Contains ms m)
   roots_unless = (
     λ c. let w = (in_unless g (flat_map (λ m. node m (f m)) ms) (m ∷ [])).0 c in (w.0, (from_nodes f ms m [] w.1).0),
@@ -298,6 +319,7 @@ module _ {M : Type 0} (f : M → List (List M)) (g : Bool) (ms : List M) (m : M)
   deeper : (x : M) (path : List M) → (x ∷ path ≡ []) ⊎ Contains (f m) (x ∷ path) → Contains (f m) (x ∷ path)
   deeper x path e = search rules
 
+  -- a longer path there
   pub deeper_unless : (x : M) (path : List M)
       → Contains (cond g [] (flat_map (λ m. node m (f m)) ms)) (m ∷ (x ∷ path)) ↔ ((g ≡ false) × Contains ms m × Contains (f m) (x ∷ path))
   deeper_unless x path = (
@@ -309,9 +331,11 @@ module _ {M : Type 0} (f : M → List (List M)) (g : Bool) (ms : List M) (m : M)
 
 -- nodes of the moves that pass a test
 module _ {M : Type 0} (f : M → List (List M)) (test : M → Bool) (ms : List M) (m : M) where
+  -- a path of one move, among nodes that pass a test
   pub roots_are : Contains (flat_map (λ m. node m (f m)) (filter test ms)) (m ∷ []) ↔ (Contains ms m × (test m ≡ true))
   roots_are = (λ c. from_filter test ms m (from_nodes f (filter test ms) m [] c).0, λ w. root_in_nodes f (filter test ms) m (in_filter test ms m w.0 w.1))
 
+  -- a longer path there
   pub deeper_are : (x : M) (path : List M)
       → Contains (flat_map (λ m. node m (f m)) (filter test ms)) (m ∷ (x ∷ path)) ↔ (Contains ms m × (test m ≡ true) × Contains (f m) (x ∷ path))
   deeper_are x path = (

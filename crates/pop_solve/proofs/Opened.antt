@@ -1,30 +1,29 @@
 -- How many frames a search opens.
-use Rattle.pop_solve.proofs.Words.{BareEvent, Barred, Battle, Before, Behind, Bool, Form, Frame, IsCounted, IsGiven, IsKeys, IsNarrow, IsOpened, IsSound, IsWhites, List, Opens, OpensOn, Phase, Plan, Play, Posed, Position, RuleSet, Set, Stage, Tries, Within, [], arith, battle_of, cond, drop, eqb, false, fewest_from, fewest_left, first_phase, half_moves_of, inl, inr}
-use Rattle.pop_solve.proofs.Words.{is_barred, is_help, is_set, is_stop, is_unstopped, left_of, min, not, phase_events, phase_fewest, phase_half_moves, phase_start, phase_walk, plan_of, position, refl, rest_fewest, rest_open, rules, seeks, suc, to_open, total, true, walk_from, zero, ℕ, ◌&&◌, ◌++◌, ◌+◌, ◌-◌, ◌<◌, ◌^◌, ◌∷◌, ◌≡◌, ◌≤◌, ◌⊎◌}
+use Rattle.pop_solve.proofs.Words.{BareEvent, Barred, Battle, BattlePlay, Before, Behind, Bool, Form, Frame, IsCounted, IsGiven, IsKeys, IsNarrow, IsOpened, IsSound, IsWhites, List, Opens, OpensOn, Phase, Plan, Play, Posed, Position, RuleSet, Set, Stage, Tries, Within, [], ap, arith, cond, drop, eqb, false, fewest_from, fewest_left, first_phase, half_moves_of, inl, inr, HelpPlay}
+use Rattle.pop_solve.proofs.Words.{is_barred, is_set, is_stop, is_unstopped, left_of, min, not, phase_events, phase_fewest, phase_half_moves, phase_start, phase_walk, plan_of, play_of, position, refl, rest_fewest, rest_open, rules, seeks, shows_variations, suc, to_open, total, tree_shown, true, varies, walk_from, zero, ℕ, ◌&&◌, ◌++◌, ◌+◌, ◌-◌, ◌<◌, ◌^◌, ◌∷◌, ◌≡◌, ◌≤◌, ◌⊎◌}
 use Rattle.pop_solve.proofs.Boards.{behind_start}
-use Rattle.pop_solve.proofs.Sound.{some_way}
+use Rattle.pop_solve.proofs.Sound.{battle-play, help-play, some_way}
 use Rattle.pop_solve.proofs.ToCome.{one, walk_count-start}
 use Rattle.pop_solve.proofs.Outcomes.{counted_by, opened-most}
 
 -- one part of a walk after another
 module _ (rule : RuleSet) (plan : Plan) (p : Position) where
+  -- no step opens nothing
   pub opens-none : (frames : List Frame) (count : ℕ) → Opens rule plan p frames frames count count
-  opens-none frames count = record { whites = λ a b w. w; most = λ a b w. omega arith; helped = λ a. omega arith; counted = λ a walk c. c }
+  opens-none frames count = record { whites = λ battle a b w. w; most = λ battle a b w. omega arith; helped = λ a. omega arith; counted = λ a walk c. c }
 
+  -- what two parts open comes together
   pub opens-then : (old mid new : List Frame) (a b c : ℕ) → Opens rule plan p old mid a b → Opens rule plan p mid new b c → Opens rule plan p old new a c
   opens-then old mid new a b c x y = search rules
 
+  -- no step tries nothing
   pub tries-none : (h : ℕ) (frames : List Frame) (count : ℕ) → Tries rule plan h p frames frames count count
-  tries-none h frames count = record { grows = omega arith; fewest = λ a. omega arith }
+  tries-none h frames count = record { grows = omega arith; fewest = λ battle a. omega arith }
 
+  -- what two parts try comes together
   pub tries-then : (h : ℕ) (old mid new : List Frame) (a b c : ℕ) → Tries rule plan h p old mid a b → Tries rule plan h p mid new b c
       → Tries rule plan h p old new a c
   tries-then h old mid new a b c x y = search rules
-
--- the root of a phase counts where half-moves are tried from it
-root-counted : (n count count2 : ℕ) → (0 < n → count2 ≡ min (count + 1) (2 ^ 64 - 1)) → (n ≡ 0 → count2 ≡ count)
-    → min (count + cond (eqb n 0) 0 1) (2 ^ 64 - 1) ≤ count2
-root-counted n count count2 more same = search rules
 
 -- what is opened in a later phase, counted apart
 counted-apart : (walk later opened rest : ℕ) → IsCounted walk opened (rest + later) → IsCounted (walk - later) opened rest
@@ -34,8 +33,9 @@ counted-along : (walk later opened rest : ℕ) → later ≤ walk → IsCounted 
 counted-along walk later opened rest l c = search rules
 
 -- White is to move in the first position of a battle
-white-starts : (form : Form) (n : ℕ) → is_help form ≡ false → 1 ≤ half_moves_of form n → seeks (battle_of form) (half_moves_of form n) ≡ true
-white-starts form n e some = search rules
+white-starts : (form : Form) (n : ℕ) (battle : Battle) → play_of form ≡ BattlePlay battle → 1 ≤ half_moves_of form n
+    → seeks battle (half_moves_of form n) ≡ true
+white-starts form n battle e some = search rules
 
 whites-root : (battle : Battle) (f : Frame) → seeks battle f.left ≡ true → IsWhites battle (f ∷ []) ≡ true
 unfolding IsWhites
@@ -77,23 +77,51 @@ module _ (rule : RuleSet) (problem : Posed) where
         (eqb f.left 0) 0 1 + (fewest_left rule plan (phase_half_moves problem phase) (phase_start problem phase) (f ∷ []) + later_fewest phase)
     from-fewest = search (rules, root-fewest)
 
+    narrow-begun : (play_of problem.stipulation.form ≡ HelpPlay) ⊎ IsKeys problem phase
+        → (play_of problem.stipulation.form ≡ HelpPlay) ⊎ ((keys : IsKeys problem phase) × (IsWhites keys.battle (f ∷ []) ≡ true))
+    narrow-begun (inl help) = inl help
+    narrow-begun (inr keys) = inr (keys, search (rules, whites-root, white-starts, some_way))
+
+    -- the root of a phase is counted
     pub opens-begun : (old : List Frame) (count count2 : ℕ) (left : List BareEvent) → (0 < f.left → count2 ≡ min (count + 1) (2 ^ 64 - 1))
         → (f.left ≡ 0 → count2 ≡ count) → OpensOn rule problem (Before phase) (Within phase 0) old (f ∷ []) count count2 left
     unfolding rest_open rest_fewest IsNarrow
-    opens-begun old count count2 left more same = search (rules, from-open, opened-most, counted_by, from-fewest, whites-root, white-starts, some_way)
+    opens-begun old count count2 left more same = search (rules, from-open, opened-most, counted_by, from-fewest, narrow-begun)
 
   -- within a phase
   module _ (phase : Phase) (count : ℕ) (old new : List Frame) (before after : ℕ)
       (x : Opens rule (plan_of problem) (phase_start problem phase) old new before after)
       (y : Tries rule (plan_of problem) (phase_half_moves problem phase) (phase_start problem phase) old new before after) where
-    walked-counted : is_help problem.stipulation.form ≡ true → (walk : ℕ) → IsCounted walk before (to_open rule (phase_start problem phase) old + later phase)
+    walked-counted : play_of problem.stipulation.form ≡ HelpPlay → (walk : ℕ) → IsCounted walk before (to_open rule
+        (phase_start problem phase) old + later phase)
         → IsCounted walk after (to_open rule (phase_start problem phase) new + later phase)
     walked-counted h walk c = search (rules, counted-along, counted-apart)
 
+    abbrev Narrow : List Frame → Type 0
+    Narrow frames = (play_of problem.stipulation.form ≡ HelpPlay) ⊎ ((keys : IsKeys problem phase) × (IsWhites keys.battle frames ≡ true))
+
+    keys_alone : IsKeys problem phase → varies (plan_of problem) ≡ false
+    keys_alone keys = ap (λ variation. shows_variations (tree_shown variation)) keys.keys
+
+    narrowed : Narrow old → Narrow new
+    narrowed (inl help) = inl help
+    narrowed (inr w) = inr (w.0, x.whites w.0.battle w.0.fought (keys_alone w.0) w.1)
+
+    opened : Narrow old → after + to_open rule (phase_start problem phase) new ≤ before + to_open rule (phase_start problem phase) old
+    opened (inl help) = x.helped help
+    opened (inr w) = x.most w.0.battle w.0.fought (keys_alone w.0) w.1
+
+    -- what a call opens that gives a path
     pub opens-given : (next : ℕ) (left : List BareEvent) (last : List Frame) → last ≡ new
         → OpensOn rule problem (Within phase count) (Within phase next) old last before after left
     unfolding rest_open rest_fewest IsNarrow
-    opens-given next left last kept = grind (arith, walked-counted)
+    opens-given next left last kept = record {
+      narrow = λ n. rw kept (narrowed n);
+      most = λ n. rw kept (omega (arith, opened n));
+      counted = λ help u walk c. rw kept (walked-counted help walk c);
+      grows = y.grows;
+      fewest = λ battle fought u. rw kept (omega (arith, y.fewest battle fought));
+    }
 
     -- its end: where no phase is stopped, nothing is left to open
     nothing_open : (left : List BareEvent) → is_unstopped (total count (eqb count problem.max_solutions) ∷ left) ≡ true → count ≤ problem.max_solutions
@@ -107,16 +135,17 @@ module _ (rule : RuleSet) (problem : Posed) where
     unfolding fewest_left
     nothing_fewest left u most e = search rules
 
+    -- what it opens that ends the phase
     pub opens-ended : (stage : Stage) (last : List Frame) (left : List BareEvent) → stage ≡ cond (is_set phase) (Before Play) Behind
         → count ≤ problem.max_solutions → (new ≡ []) ⊎ (problem.max_solutions - count ≡ 0)
         → OpensOn rule problem (Within phase count) stage old last before after (total count (eqb count problem.max_solutions) ∷ left)
     unfolding rest_open rest_fewest IsNarrow
     opens-ended stage last left at most over = record {
-      narrow = λ n. rw at (narrowed phase n);
+      narrow = λ n. rw at (behind phase n);
       most = λ n. rw (at, rest-is phase) (grind arith);
       counted = λ h u walk c. grind (arith, walked-counted h walk c, nothing_open);
       grows = y.grows;
-      fewest = λ h u. rw (at, fewest-is phase) (omega (arith, y.fewest h, nothing_fewest left u most over));
+      fewest = λ battle h u. rw (at, fewest-is phase) (omega (arith, y.fewest battle h, nothing_fewest left u most over));
     }
       where
         rest-is : (b : Phase) → rest_open rule problem (cond (is_set b) (Before Play) Behind) last ≡ later b
@@ -127,15 +156,15 @@ module _ (rule : RuleSet) (problem : Posed) where
         fewest-is Set = refl
         fewest-is Play = refl
 
-        narrowed : (b : Phase) → (is_help problem.stipulation.form ≡ true) ⊎ (IsKeys problem b × (IsWhites (battle_of problem.stipulation.form) old ≡ true))
+        behind : (b : Phase) → (play_of problem.stipulation.form ≡ HelpPlay) ⊎ ((keys : IsKeys problem b) × (IsWhites keys.battle old ≡ true))
             → IsNarrow problem (cond (is_set b) (Before Play) Behind) last
-        narrowed Set (inl h) = inl h
-        narrowed Set (inr k) = let f : true ≡ false = k.0.play in absurd cc
-        narrowed Play n = tt
+        behind Set (inl h) = inl h
+        behind Set (inr k) = let f : true ≡ false = k.0.play in absurd cc
+        behind Play n = tt
 
   -- a call that walked again from the phase's first position would count what had been opened before twice
   pub no_second_walk : (old new : Stage) (frames last : List Frame) (before after again walk : ℕ) (left : List BareEvent)
-      → OpensOn rule problem old new frames last before after left → is_help problem.stipulation.form ≡ true → is_unstopped left ≡ true
+      → OpensOn rule problem old new frames last before after left → play_of problem.stipulation.form ≡ HelpPlay → is_unstopped left ≡ true
       → IsCounted walk before (rest_open rule problem old frames) → 0 < before → walk - rest_open rule problem new last ≤ again
       → after ≡ before + again → after < 2 ^ 64 → ⊥
   no_second_walk old new frames last before after again walk left x h u c some whole sum fits = search rules
@@ -148,7 +177,7 @@ module _ (rule : RuleSet) (problem : Posed) where
   -- a search that has opened nothing
   pub opened-start : (frames : List Frame) (opened : ℕ) → opened ≡ 0 → IsOpened rule problem (Before (first_phase problem)) frames opened
   unfolding rest_open rest_fewest IsNarrow
-  opened-start frames opened none = search rules
+  opened-start frames opened none = search (rules, help-play, battle-play)
 
   all-drop : (k : ℕ) (xs : List BareEvent) → is_unstopped xs ≡ true → is_unstopped (drop k xs) ≡ true
   all-drop zero xs e = e
@@ -159,6 +188,7 @@ module _ (rule : RuleSet) (problem : Posed) where
       second true b e = e
       second false b e = absurd cc
 
+  -- the counts hold on after a call
   pub opened-on : (old new : Stage) (frames last : List Frame) (before after given : ℕ) (left : List BareEvent) → IsGiven rule problem left given
       → OpensOn rule problem old new frames last before after left → IsOpened rule problem old frames before → IsOpened rule problem new last after
   opened-on old new frames last before after given left g x o = search (rules, all-drop)
@@ -176,6 +206,7 @@ module _ (rule : RuleSet) (problem : Posed) where
       some (x ∷ xs) y ys e = cc
   rest-none Behind frames e = refl
 
+  -- nor is anything to be tried
   pub fewest-none : (stage : Stage) (frames : List Frame) → left_of rule problem stage frames ≡ [] → rest_fewest rule problem stage frames ≡ 0
   unfolding left_of rest_fewest phase_events
   fewest-none (Before Set) frames e = absurd cc

@@ -68,11 +68,13 @@ module _ (rule : RuleSet) (p : Position) (order : Order) where
   unfolding moves_here belongs
   before_killer place at = rw at (one_place rule p order.killer)
 
+  -- the place before the earlier killer has it ahead
   pub before_earlier : (place : ℕ) → place ≡ order.earlier - 1 → eqb order.earlier order.killer ≡ false
       → moves_here rule p order Earlier place ≡ all_moves_of rule p order Earlier
   unfolding moves_here belongs
   before_earlier place at other = search (rules, one_place, filter_agree, nat_tests)
 
+  -- where both killers are one, the earlier has no move
   pub behind_earlier : (place : ℕ) → place ≡ order.earlier → eqb order.earlier order.killer ≡ true
       → moves_here rule p order Earlier place ≡ all_moves_of rule p order Earlier
   unfolding moves_here belongs

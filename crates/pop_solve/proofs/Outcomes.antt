@@ -1,5 +1,5 @@
 -- The outcomes of a step, for frames listed from the top down.
-use Rattle.pop_solve.proofs.Words.{AreKnown, Battle, Bool, CameFrom, CameFromAt, Counts, Frame, GoesTo, IfSome, IsCounted, IsLinked, IsPlaceIn, IsRoomy, IsWalking, IsWhites, LegalPlace, List, Move, Option, Plan, Position, RuleSet, Steps, Undo, [], after_well_formed, ap, arith, chess, eqb, false, fewest_left, follows, gives, half_moves_on, inl, inr, is_help, is_legal, is_pseudo_legal-from_legal, length, min, moves_behind, opened_frame, path, position, refl, rules, seeks, suc, to_come, to_open, true, turns, undo_of, walk_behind, ℕ, ◌+◌, ◌-◌, ◌<◌, ◌^◌, ◌∷◌, ◌≡◌, ◌≤◌, ◌⊎◌, ◌∙◌}
+use Rattle.pop_solve.proofs.Words.{AreKnown, Battle, Bool, CameFrom, CameFromAt, Counts, Frame, GoesTo, HelpPlay, IfSome, IsCounted, IsLinked, IsPlaceIn, IsRoomy, IsWalking, IsWhites, LegalPlace, List, Move, Option, Plan, Position, RuleSet, Steps, Undo, [], after_well_formed, ap, arith, chess, eqb, false, fewest_left, follows, gives, half_moves_on, inl, inr, is_legal, is_pseudo_legal-from_legal, length, min, moves_behind, opened_frame, path, position, refl, rules, seeks, suc, to_come, to_open, true, turns, undo_of, varies, walk_behind, ℕ, ◌+◌, ◌-◌, ◌<◌, ◌^◌, ◌∷◌, ◌≡◌, ◌≤◌, ◌⊎◌, ◌∙◌}
 use Rattle.chess_rules.specs.Play.{position_after}
 use Rattle.pop_solve.proofs.Tests.{learned, moved}
 use Rattle.pop_solve.proofs.GoingOn.{no_zero, half_moves_on-help, follows-help, half_moves_on-keys, half_moves_on-most, ended-reached}
@@ -22,15 +22,18 @@ module _ (rule : RuleSet) (h : ℕ) (p : Position) where
   unfolding IsLinked position
   CameFrom-top f g below board r = search rules
 
+  -- a frame above the lowest came from a position
   pub CameFrom-deep : (f : Frame) (below : List Frame) (board : Position) → IsWalking rule h p (f ∷ below) board → 0 < length below → CameFrom rule f board
   CameFrom-deep f [] board r deep = absurd (omega (arith, deep))
   CameFrom-deep f (g ∷ below) board r deep = (position rule p (g ∷ below), CameFrom-top f g below board r)
 
+  -- the walk goes on once the top frame is closed
   pub walking-close : (f : Frame) (below : List Frame) (board after : Position) → IsWalking rule h p (f ∷ below) board → (length below ≡ 0 → after ≡ board)
       → ((q : Position) → 0 < length below → CameFromAt rule f board q → after ≡ q) → IsWalking rule h p below after
   unfolding IsLinked IsRoomy AreKnown position
   walking-close f below board after r lowest before = search (rules, CameFrom-top)
 
+  -- the top frame has room for its half-moves
   pub top_room : (f : Frame) (below : List Frame) (board : Position) → IsWalking rule h p (f ∷ below) board → f.left + length below ≤ h
   unfolding IsRoomy
   top_room f below board r = r.roomy.0
@@ -45,6 +48,7 @@ module _ (rule : RuleSet) (h : ℕ) (p : Position) where
   unfolding IsLinked IsRoomy AreKnown position
   walking-learned f known below board r w = search rules
 
+  -- or once its place has moved on
   pub walking-moved : (f : Frame) (next : ℕ) (below : List Frame) (board after : Position) → IsWalking rule h p (f ∷ below) board → after ≡ board
       → IsWalking rule h p (moved f next ∷ below) after
   unfolding IsRoomy
@@ -76,10 +80,12 @@ whites-none : (battle : Battle) (m : Move) (undo : Undo) (tried : ℕ) (below : 
 unfolding IsWhites
 whites-none battle m undo tried below z e = rw z e
 
+-- the count stays exact where one frame is opened
 pub counted_by : (rule : RuleSet) (plan : Plan) (t walk opened opened2 before after : ℕ) → before ≡ one rule plan t + after
     → (0 < t → opened2 ≡ min (opened + 1) (2 ^ 64 - 1)) → (t ≡ 0 → opened2 ≡ opened) → IsCounted walk opened before → IsCounted walk opened2 after
 counted_by rule plan t walk opened opened2 before after e more same c = search rules
 
+-- one frame at most is opened
 pub opened-most : (rule : RuleSet) (plan : Plan) (t opened opened2 : ℕ) → (0 < t → opened2 ≡ min (opened + 1) (2 ^ 64 - 1)) → (t ≡ 0 → opened2 ≡ opened)
     → opened2 ≤ opened + one rule plan t
 opened-most rule plan t opened opened2 more same = search rules
@@ -87,7 +93,7 @@ opened-most rule plan t opened opened2 more same = search rules
 -- the outcomes of a step, for frames listed from the top down
 module _ (rule : RuleSet) (plan : Plan) (h : ℕ) (p : Position) (f : Frame) (below : List Frame) (board : Position)
     (r : IsWalking rule h p (f ∷ below) board) where
-  pub steps-shut : (after : Position) (count : ℕ) → (f.left ≡ 0) ⊎ (moves_behind rule board f.place ≡ []) → IsWalking rule h p below after
+  steps-shut : (after : Position) (count : ℕ) → (f.left ≡ 0) ⊎ (moves_behind rule board f.place ≡ []) → IsWalking rule h p below after
       → Steps rule plan h p (f ∷ below) below after count count false
   steps-shut after count e walking =
       let here : (f.left ≡ 0) ⊎ (moves_behind rule (position rule p (f ∷ below)) f.place ≡ []) = rw (← r.board_at) e in
@@ -101,7 +107,7 @@ module _ (rule : RuleSet) (plan : Plan) (h : ℕ) (p : Position) (f : Frame) (be
         tries-close rule plan h p f below here,
       )
 
-  pub steps-close : (after : Position) (count : ℕ) → (f.left ≡ 0) ⊎ (moves_behind rule board f.place ≡ []) → (length below ≡ 0 → after ≡ board)
+  steps-close : (after : Position) (count : ℕ) → (f.left ≡ 0) ⊎ (moves_behind rule board f.place ≡ []) → (length below ≡ 0 → after ≡ board)
       → ((q : Position) → 0 < length below → CameFromAt rule f board q → after ≡ q) → Steps rule plan h p (f ∷ below) below after count count false
   steps-close after count e lowest before = steps-shut after count e (walking-close rule h p f below board after r lowest before)
 
@@ -115,7 +121,8 @@ module _ (rule : RuleSet) (plan : Plan) (h : ℕ) (p : Position) (f : Frame) (be
     fuel : h - length below ≡ suc (h - length below - 1)
     fuel = omega (arith, top_room rule h p f below board r, left)
 
-    pub steps-pass : (after : Position) (opened opened2 : ℕ) → follows plan (chess plan.goal rule) (eqb (length below) 0) t (position_after rule board m)
+    -- its next move is passed over
+    pub steps-pass : (after : Position) (opened opened2 : ℕ) → follows plan.play (chess plan.goal rule) (eqb (length below) 0) t (position_after rule board m)
         ≡ false
         → after ≡ board → Counts rule plan (eqb (length below) 0) t (position_after rule board m) opened opened2
         → Steps rule plan h p (f ∷ below) (moved f next ∷ below) after opened opened2 false
@@ -131,33 +138,34 @@ module _ (rule : RuleSet) (plan : Plan) (h : ℕ) (p : Position) (f : Frame) (be
           tries = record { grows = omega (arith, x.tries); fewest = search (rules, x.tries, tries-pass rule plan h p f next m below _ t fuel left here) };
         }
 
+    -- its next move is followed
     pub steps-enter : (after : Position) (opened opened2 : ℕ) → is_legal rule board m ≡ true
-        → follows plan (chess plan.goal rule) (eqb (length below) 0) t (position_after rule board m) ≡ true → after ≡ position_after rule board m
+        → follows plan.play (chess plan.goal rule) (eqb (length below) 0) t (position_after rule board m) ≡ true → after ≡ position_after rule board m
         → Counts rule plan (eqb (length below) 0) t (position_after rule board m) opened opened2
         → Steps rule plan h p (f ∷ below) (opened_frame m (undo_of rule board m)
-        (half_moves_on plan (chess plan.goal rule) t (position_after rule board m)) ∷ (moved f next ∷
-        below)) after opened opened2 (gives plan (chess plan.goal rule) t (position_after rule board m))
+        (half_moves_on plan.play (varies plan) (chess plan.goal rule) t (position_after rule board m)) ∷ (moved f next ∷
+        below)) after opened opened2 (gives plan.play (chess plan.goal rule) t (position_after rule board m))
     steps-enter after opened opened2 lawful b at x =
         let o = open-next rule plan h p f next m below _ t fuel left here in
         let u = undo_of rule board m in
         let q = position_after rule (position rule p (f ∷ below)) m in
-        let tried = half_moves_on plan (chess plan.goal rule) t (position_after rule board m) in
+        let tried = half_moves_on plan.play (varies plan) (chess plan.goal rule) t (position_after rule board m) in
         let n = open-enter rule plan h p f next m below _ t fuel left here u tried in
-        let helped : is_help plan.form ≡ true
+        let helped : plan.play ≡ HelpPlay
         → to_open rule p (f ∷ below) ≡ one rule plan t + to_open rule p (opened_frame m u tried ∷ (moved f next ∷ below)) = λ a.
         let w : walk_behind rule tried q 0 ≡ walk_behind rule t q 0 = ap (λ x. walk_behind rule x q 0) (half_moves_on-help plan (chess plan.goal rule) t _ a) in
         omega (arith, o, n, w, walk_count-start rule plan t q) in
         record {
           walking = walking-enter rule h p plan f next m tried below board after r
-              (omega (arith, left, half_moves_on-most (chess plan.goal rule) plan t (position_after rule board m))) lawful at;
+              (omega (arith, left, half_moves_on-most (chess plan.goal rule) plan.play (varies plan) t (position_after rule board m))) lawful at;
           come = rw after_here (come-enter rule plan h p f next m below _ t fuel left here u (rw (← after_here) b));
           deep = λ g. omega arith;
-          ended = λ g e. rw at (ended-reached (chess plan.goal rule) plan (eqb (length below) 0) t (position_after rule board m) b e);
+          ended = λ g e. rw at (ended-reached (chess plan.goal rule) plan.play (varies plan) (eqb (length below) 0) t (position_after rule board m) b e);
           falls = turns-enter rule plan h p f next m below _ t fuel left here u tried;
           opens = grind (arith, whites-none, half_moves_on-keys, whites-top, whites-moved, walk_behind-none, after_here, counted_by);
           tries = record {
             grows = omega (arith, x.tries);
-            fewest = λ a. rw after_here
+            fewest = λ battle fought. rw after_here
                 (omega (arith, rw after_here at x.tries, tries-enter rule plan h p f next m below _ t fuel left here u (rw (← after_here) b)));
           };
         }
@@ -165,6 +173,7 @@ module _ (rule : RuleSet) (plan : Plan) (h : ℕ) (p : Position) (f : Frame) (be
 -- a frame is closed once moves that don't count have been passed over
 module _ (rule : RuleSet) (plan : Plan) (h : ℕ) (p : Position) (f : Frame) (below : List Frame) (board : Position)
     (r : IsWalking rule h p (f ∷ below) board) where
+  -- it is closed once moves that don't count were passed over
   pub skips-close : (after : Position) (count : ℕ) → (f.left ≡ 0) ⊎ GoesTo rule plan f.left (position rule p (f ∷ below)) f.place []
       → (length below ≡ 0 → after ≡ board) → ((q : Position) → 0 < length below → CameFromAt rule f board q → after ≡ q)
       → Steps rule plan h p (f ∷ below) below after count count false
@@ -191,14 +200,15 @@ steps-then rule plan h p old mid new there board before between after a b = reco
   ended = λ g. absurd cc;
   falls = omega (arith, a.falls, b.falls);
   opens = record {
-    whites = λ battle keys w. b.opens.whites battle keys (a.opens.whites battle keys w);
-    most = λ battle keys w. omega (arith, a.opens.most battle keys w, b.opens.most battle keys (a.opens.whites battle keys w));
+    whites = λ battle fought keys w. b.opens.whites battle fought keys (a.opens.whites battle fought keys w);
+    most = λ battle fought keys w. omega
+        (arith, a.opens.most battle fought keys w, b.opens.most battle fought keys (a.opens.whites battle fought keys w));
     helped = λ help. omega (arith, a.opens.helped help, b.opens.helped help);
     counted = λ help walk c. b.opens.counted help walk (a.opens.counted help walk c);
   };
   tries = record {
     grows = omega (arith, a.tries.grows, b.tries.grows);
-    fewest = λ battle. omega (arith, a.tries.fewest battle, b.tries.fewest battle);
+    fewest = λ battle fought. omega (arith, a.tries.fewest battle fought, b.tries.fewest battle fought);
   };
 }
 

@@ -1,16 +1,17 @@
 -- The path to the top frame, and what is shown of it.
-use Rattle.pop_solve.proofs.Words.{CameFrom, CameFromAt, Frame, Goal, IsEnded, IsLinked, IsWalking, List, Move, Plan, Position, RuleSet, [], ap, arith, chess, cond, drop, ends_variation, get_or, is_legal, length, length-append, length-reverse, length-take, path, path_end, position, refl, reverse, reverse-append, rules, shown_along, shown_last, shown_move, subst, sym, take, take-append-drop, take_all, take_more, true, ℕ, ◌++◌, ◌+◌, ◌-◌, ◌<◌, ◌∙◌, ◌∷◌, ◌≡◌, ◌≤◌}
+use Rattle.pop_solve.proofs.Words.{CameFrom, CameFromAt, Frame, Goal, IsEnded, IsLinked, IsWalking, List, Move, Plan, Position, RuleSet, [], ap, arith, chess, cond, drop, ends_variation, get_or, is_legal, length, length-append, length-reverse, length-take, path, path_end, position, refl, reverse, reverse-append, rules, shown_along, shown_last, shown_move, subst, sym, take, take-append-drop, take_all, take_more, true, varies, ℕ, ◌++◌, ◌+◌, ◌-◌, ◌<◌, ◌∙◌, ◌∷◌, ◌≡◌, ◌≤◌}
 use Rattle.chess_rules.specs.Play.{position_after}
 use Rattle.pop_solve.proofs.Outcomes.{CameFrom-deep, walking-close}
 use Rattle.pop_solve.specs.declared.chess.Reached.{Reached}
 use Rattle.pop_solve.specs.declared.chess.Reached.TheVariants.{Perhaps, Surely}
 use Rattle.pop_solve.proofs.Walking.{popped}
 
-pub length-path : (f : Frame) (below : List Frame) → length (path (f ∷ below)) ≡ length below
+length-path : (f : Frame) (below : List Frame) → length (path (f ∷ below)) ≡ length below
 unfolding path
 length-path f [] = refl
 length-path f (g ∷ below) = length-append (path (g ∷ below)) (f.by ∷ []) ∙ omega (arith, length-path g below)
 
+-- so one fewer than frames
 pub path-length : (frames : List Frame) → length (path frames) ≡ length frames - 1
 unfolding path
 path-length [] = omega arith
@@ -22,6 +23,7 @@ unfolding path
 path-more f fs some = search rules
 
 module _ (goal : Goal) (rule : RuleSet) where
+  -- one more move leads on from the end of a path
   pub path_end-append : (p : Position) (xs : List Move) (m : Move) → path_end (position_after rule) p (xs ++ m ∷ [])
       ≡ position_after rule (path_end (position_after rule) p xs) m
   path_end-append p [] m = refl
@@ -45,15 +47,16 @@ module _ (goal : Goal) (rule : RuleSet) where
   path_end-path p (f ∷ []) = search rules
   path_end-path p (f ∷ (g ∷ below)) = search (rules, path_end-append, path_end-path p (g ∷ below))
 
-  pub along-more : (p : Position) (f : Frame) (fs : List Frame) → 0 < length fs
+  along-more : (p : Position) (f : Frame) (fs : List Frame) → 0 < length fs
       → shown_along goal rule p (path (f ∷ fs)) ≡ shown_along goal rule p (path fs) ++ shown_move goal rule (position rule p fs) f.by ∷ []
   along-more p f fs some = search (rules, path-more, along-append, path_end-path)
 
-  pub last-more : (p : Position) (f : Frame) (fs : List Frame) → 0 < length fs
+  last-more : (p : Position) (f : Frame) (fs : List Frame) → 0 < length fs
       → shown_last goal rule p (path (f ∷ fs)) ≡ shown_move goal rule (position rule p fs) f.by
   last-more p f fs some = rw (path-more f fs some, last-append p (path fs) f.by, path_end-path p fs) refl
 
 module _ (rule : RuleSet) where
+  -- and leads to its position
   pub position-more : (p : Position) (f : Frame) (fs : List Frame) → 0 < length fs → position rule p (f ∷ fs) ≡ position_after rule (position rule p fs) f.by
   unfolding position
   position-more p f fs some = search rules
@@ -68,6 +71,7 @@ module _ (rule : RuleSet) where
   linked-cut p (f ∷ []) ys l = grind arith
   linked-cut p (f ∷ (g ∷ xs)) ys l = linked-cut p (g ∷ xs) ys l.3
 
+  -- the lower frames are linked as before
   pub linked-take : (p : Position) (frames : List Frame) (n : ℕ) → IsLinked rule p (reverse frames) → IsLinked rule p (reverse (take n frames))
   linked-take p frames n l = grind (arith, take-append-drop n frames, reverse-append (take n frames) (drop n frames), linked-cut)
 
@@ -76,18 +80,22 @@ module _ (rule : RuleSet) where
     stacked : reverse upper ≡ f ∷ reverse lower
     stacked = popped upper lower f cut
 
+    -- what taking the top frame's move back asks for
     pub back-asks : (h : ℕ) (p board : Position) → IsWalking rule h p (reverse upper) board → CameFrom rule f board
     back-asks h p board r = grind (arith, CameFrom-deep, stacked, length-reverse)
 
+    -- it leads to the frames below
     pub back-walking : (h : ℕ) (p board after : Position) → IsWalking rule h p (reverse upper) board → ((q : Position) → CameFromAt rule f board q
         → after ≡ q) → IsWalking rule h p (reverse lower) after
     back-walking h p board after r before =
         let T : List Frame → Type 0 = λ fs. IsWalking rule h p fs board in
         walking-close rule h p f (reverse lower) board after (subst T stacked r) (λ z. absurd (grind (arith, length-reverse))) (λ q z cf. before q cf)
 
+    -- played again from there the move is legal
     pub forth-is_legal : (p : Position) → IsLinked rule p (reverse upper) → is_legal rule (position rule p (reverse lower)) f.by ≡ true
     forth-is_legal p l = grind (arith, linked-is_legal, stacked, length-reverse)
 
+    -- and leads to the top frame's position
     pub forth-position : (p : Position) → position rule p (reverse upper) ≡ position_after rule (position rule p (reverse lower)) f.by
     forth-position p = grind (arith, stacked, position-more, length-reverse)
 
@@ -96,16 +104,20 @@ module _ (rule : RuleSet) where
         → position_after rule after f.by ≡ board
     forth-again h p board after r s = ap (λ b. position_after rule b f.by) s.board_at ∙ sym (r.board_at ∙ forth-position p)
 
+    -- where it ends a variation it reaches the goal
     pub forth-ended : (plan : Plan) (h : ℕ) (p board after : Position) → IsWalking rule h p (reverse upper) board
         → IsWalking rule h p (reverse lower) after → IsEnded rule plan (reverse upper) board → (b : Reached)
-        → b ≡ cond (ends_variation plan f.left) Surely Perhaps → b ≡ Surely → (chess plan.goal rule).goal (position_after rule after f.by) ≡ true
+        → b ≡ cond (ends_variation plan.play (varies plan) f.left) Surely Perhaps → b ≡ Surely
+        → (chess plan.goal rule).goal (position_after rule after f.by) ≡ true
     forth-ended plan h p board after r s ended b e here = search (rules, forth-again, stacked)
 
+    -- it is the last of the moves that are shown
     pub forth-along : (goal : Goal) (p : Position)
         → shown_along goal rule p (path (reverse upper)) ≡ shown_along goal rule p (path (reverse lower)) ++ shown_move goal rule
         (position rule p (reverse lower)) f.by ∷ []
     forth-along goal p = grind (arith, stacked, along-more, length-reverse)
 
+    -- shown alone it is the same
     pub forth-last : (goal : Goal) (p : Position) → shown_last goal rule p (path (reverse upper)) ≡ shown_move goal rule (position rule p (reverse lower)) f.by
     forth-last goal p = grind (arith, stacked, last-more, length-reverse)
 
@@ -115,9 +127,11 @@ module _ (rule : RuleSet) where
   one-position p [] few = refl
   one-position p frames few = grind arith
 
+  -- the lowest frame stands on the first position
   pub first-position : (p : Position) (frames : List Frame) (k : ℕ) → k ≤ 1 → position rule p (reverse (take k frames)) ≡ p
   first-position p frames k few = search (rules, one-position, length-reverse)
 
+  -- no move leads there
   pub first-path : (goal : Goal) (p : Position) (frames : List Frame) → shown_along goal rule p (path (reverse (take 1 frames))) ≡ []
   unfolding path
   first-path goal p frames = search rules
@@ -126,8 +140,10 @@ module _ (rule : RuleSet) where
 pub cut-at : (frames : List Frame) (n k : ℕ) (f : Frame) → n ≡ k + 1 → f ≡ get_or frames k f → k < length frames → take n frames ≡ take k frames ++ f ∷ []
 cut-at frames n k f e at less = rw e (take_more frames k f less) ∙ ap (λ x. take k frames ++ x ∷ []) (sym at)
 
+-- the frames are those below the top one, and that one
 pub cut-last : (frames : List Frame) (k : ℕ) (f : Frame) → length frames ≡ k + 1 → f ≡ get_or frames k f → frames ≡ take k frames ++ f ∷ []
 cut-last frames k f e at = sym (take_all (length frames) frames (omega arith)) ∙ cut-at frames (length frames) k f e at (omega (arith, e))
 
+-- below it there is a frame
 pub some-taken : (frames : List Frame) (k : ℕ) → 0 < k → k ≤ length frames → 0 < length (take k frames)
 some-taken frames k some most = omega (arith, length-take k frames, some, most)

@@ -24,6 +24,7 @@ module _ {M : Type 0} (test : M → Bool) (f : M → ℕ) where
   below-next m ms = least-next m (sum_by f ms) (sum_by f (m ∷ ms)) ms (sum_by-cons f m ms)
 
 module _ {P M : Type 0} (battle : Battle) (game : Game P M) where
+  -- a move that decides ends the count, another adds its tree
   pub trees-next : (t : ℕ) (p : P) (m : M) (ms : List M)
       → smallest_below battle game (suc t) p (m ∷ ms) ≤ smallest_tree battle game t (game.after p m) + cond (decided_by battle game t p m) 0
       (smallest_below battle game (suc t) p ms)
@@ -35,6 +36,7 @@ module _ {P M : Type 0} (battle : Battle) (game : Game P M) where
   unfolding smallest_below least_of
   trees-end t p = search rules
 
+  -- a position counts one more than its moves
   pub trees-start : (t : ℕ) (p : P) → smallest_tree battle game t p ≤ 1 + smallest_below battle game t p (game.moves p)
   unfolding smallest_tree smallest_below
   trees-start t p = search rules
@@ -44,6 +46,7 @@ module _ {P M : Type 0} (battle : Battle) (game : Game P M) where
   unfolding smallest_tree
   tree-none t p e = search rules
 
+  -- with no half-move left nothing is tried
   pub tree-zero : (t : ℕ) (p : P) → t ≡ 0 → smallest_tree battle game t p ≡ 0
   unfolding smallest_tree
   tree-zero t p e = search rules
@@ -52,6 +55,7 @@ module _ {P M : Type 0} (battle : Battle) (game : Game P M) where
   nothing p [] = search rules
   nothing p (m ∷ ms) = search (rules, sum_by-cons, tree-zero, nothing p ms)
 
+  -- with one left a single position is
   pub tree-one : (t : ℕ) (p : P) → t ≡ 1 → smallest_tree battle game t p ≤ 1
   unfolding smallest_below
   tree-one zero p e = cc

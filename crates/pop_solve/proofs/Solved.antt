@@ -1,9 +1,7 @@
 -- What is to come from the root frame of a phase is the phase's solutions.
-use Rattle.pop_solve.proofs.Words.{Battle, Bool, Form, Frame, Game, IsSound, List, Phase, Plan, Play, Posed, RuleSet, Selfmate, Set, [], answers, ap, arith, battle_of, beginning_count, best_moves, chess, cond, false, filter, flat_map, half_moves_of, help_lines, is_help, is_set, keep, keeps, length, list_all, map, moves_behind, nat_tests, node, nodes_below, phase_half_moves, phase_paths, phase_start, plan_of, refl, rules, seeks, set_shows, set_tree, shown_paths, shows_variations, solutions, suc, sym, take, tree, tree_shown, true, value, varies, zero, ℕ, ◌++◌, ◌+◌, ◌-◌, ◌∙◌, ◌∷◌, ◌≡◌}
-use Rattle.pop_solve.specs.declared.aim.Battle.TheVariants.{Direct}
+use Rattle.pop_solve.proofs.Words.{Battle, BattlePlay, Bool, Direct, Form, Frame, Game, HelpPlay, IsSound, List, Phase, Plan, Play, PlayOfSides, Posed, RuleSet, Selfmate, Set, [], answers, ap, arith, beginning_count, best_moves, cond, false, filter, flat_map, game_of, half_moves_of, help_lines, helps, is_help, keep, keeps, length, list_all, map, moves_behind, nat_tests, node, nodes_below, phase_half_moves, phase_paths, phase_start, plan_of, play_of, refl, rules, seeks, set_shows, set_tree, shown_paths, shows_variations, solutions, solutions_by, suc, sym, take, tree_shown, true, value, varies, zero, ℕ, ◌++◌, ◌+◌, ◌-◌, ◌∙◌, ◌∷◌, ◌≡◌}
 use Rattle.chess_rules.specs.Legal.{moves as legal_moves}
-use Rattle.pop_solve.proofs.Sound.{some_way}
-use Rattle.pop_input.specs.declared.stipulation.Form.TheVariants.{Direct}
+use Rattle.pop_solve.proofs.Sound.{helps-form, some_way}
 use Rattle.pop_solve.proofs.Battles.{value-wins, value-self_wins}
 use Rattle.pop_solve.proofs.Trees.{as_nodes, beneath, by_test, flat-filter, flip, half-some, halves, halves-seek, keeps-value, nodes_below-key, nodes_below-set, seeks-step, shown_paths-help, shown_paths-zero, unflip}
 use Rattle.pop_solve.proofs.Kept.{keep-nil, beginning_count-nil, to_come-root}
@@ -21,6 +19,7 @@ lines-kept zero (x ∷ xs) = refl
 lines-kept (suc n) [] = refl
 lines-kept (suc n) (x ∷ xs) = ap (λ ys. x ∷ ys) (lines-kept n xs)
 
+-- each path begins one
 pub lines-begun : {M : Type 0} (n : ℕ) (xs : List (List M)) → beginning_count true n xs ≡ length (take n (map (λ x. x ∷ []) xs))
 unfolding beginning_count
 lines-begun zero [] = refl
@@ -85,24 +84,24 @@ module _ {P M : Type 0} (game : Game P M) (plan : Plan) where
   shown_paths-full root (suc k) (suc t) p (m ∷ ms) = search (rules, all-append, all-over, shown_paths-full root (suc k) (suc t) p ms)
 
   -- the root in battle play: those of its moves that pass the test, each with what stands below it
-  root-cut : (battle : is_help plan.form ≡ false) (h n : ℕ) (p : P) (ms : List M) (other : M → Bool) (G : M → List (List M))
-      → ((m : M) → value (battle_of plan.form) game h (game.after p m) ≡ other m)
-      → ((m : M) → value (battle_of plan.form) game h (game.after p m) ≡ true → beneath game plan battle h h (game.after p m) ≡ G m)
+  root-cut : (battle : Battle) (fought : plan.play ≡ BattlePlay battle) (h n : ℕ) (p : P) (ms : List M) (other : M → Bool) (G : M → List (List M))
+      → ((m : M) → value battle game h (game.after p m) ≡ other m)
+      → ((m : M) → value battle game h (game.after p m) ≡ true → beneath game plan battle fought h h (game.after p m) ≡ G m)
       → IsCutInto false n (shown_paths plan game true (suc h) (suc h) p ms) (map (λ m. node m (G m)) (filter other ms))
-  root-cut battle h n p ms other G same each =
-      let T : M → Bool = λ m. value (battle_of plan.form) game h (game.after p m) in
-      let X : M → List (List M) = λ m. beneath game plan battle h h (game.after p m) in
+  root-cut battle fought h n p ms other G same each =
+      let T : M → Bool = λ m. value battle game h (game.after p m) in
+      let X : M → List (List M) = λ m. beneath game plan battle fought h h (game.after p m) in
       let a : shown_paths plan game true (suc h) (suc h) p ms ≡ flat_map (λ m. node m (X m)) (filter T ms) =
-      as_nodes game plan battle true h h p ms
-      ∙ flat-filter _ T (λ m. node m (X m)) (λ m. node m (X m)) ms (λ m. by_test game plan battle true h (game.after p m) refl) (λ m t. refl) in
+      as_nodes game plan battle fought true h h p ms
+      ∙ flat-filter _ T (λ m. node m (X m)) (λ m. node m (X m)) ms (λ m. by_test game plan battle fought true h (game.after p m) refl) (λ m t. refl) in
       let b : map (λ m. node m (X m)) (filter T ms) ≡ map (λ m. node m (G m)) (filter other ms) =
       map-filter T other _ _ ms same (λ m t. ap (node m) (each m t)) in
       let full : (m : M) → list_all some (X m) ≡ true = grind (arith, shown_paths-full) in
       grind (arith, nodes-kept, ms, nodes-begun X full n (filter T ms))
 
 -- half-moves of a battle
-pub halves-form : (form : Form) (n : ℕ) → is_help form ≡ false → half_moves_of form n ≡ halves (battle_of form) n
-halves-form form n e = search rules
+pub halves-form : (form : Form) (n : ℕ) (battle : Battle) → play_of form ≡ BattlePlay battle → half_moves_of form n ≡ halves battle n
+halves-form form n battle e = search rules
 
 module _ {P M : Type 0} where
   -- the solutions that begin with some moves of the root: in the play, and in set play
@@ -110,48 +109,50 @@ module _ {P M : Type 0} where
   tree_by battle game variation n h p ms =
       map (λ m. node m (cond variation (nodes_below battle game n (h - 1) (game.after p m)) [])) (filter (λ m. keeps battle game n (game.after p m)) ms)
 
+  -- the same in set play
   abbrev pub set_by : Battle → Game P M → Bool → ℕ → ℕ → P → List M → List (List (List M))
   set_by battle game variation n h p ms =
       map (λ d. node d (cond variation (answers battle game n h (game.after p d))
       (cond (game.goal (game.after p d)) [] (map (λ m. m ∷ []) (best_moves battle game n (game.after p d))))))
       (filter (λ d. set_shows battle game n (game.after p d)) ms)
 
-module _ {P M : Type 0} (game : Game P M) (plan : Plan) (battle : is_help plan.form ≡ false) where
+module _ {P M : Type 0} (game : Game P M) (plan : Plan) (battle : Battle) (fought : plan.play ≡ BattlePlay battle) where
   set_value : (battle : Battle) (n h : ℕ) (r : P) → suc h ≡ halves battle n - 1 → value battle game h r ≡ set_shows battle game n r
   set_value Direct n h r e = grind (arith, value-wins game (n - 2) r)
   set_value Selfmate n h r e = grind (arith, value-self_wins game (n - 1) r)
 
   -- the play: the tree
-  pub tree-cut : (n h max : ℕ) (p : P) (ms : List M) → suc h ≡ halves (battle_of plan.form) n
-      → IsCutInto false max (shown_paths plan game true (suc h) (suc h) p ms) (tree_by (battle_of plan.form) game (varies plan) n (suc h) p ms)
+  pub tree-cut : (n h max : ℕ) (p : P) (ms : List M) → suc h ≡ halves battle n
+      → IsCutInto false max (shown_paths plan game true (suc h) (suc h) p ms) (tree_by battle game (varies plan) n (suc h) p ms)
   tree-cut n h max p ms e =
-      let k = half-some game (battle_of plan.form) n (omega (arith, e)) in
-      let e2 : suc h ≡ halves (battle_of plan.form) (suc k.0) = e ∙ ap (halves (battle_of plan.form)) k.1 in
-      let l : halves (battle_of plan.form) (suc k.0) - 1 ≡ h = omega (arith, e2) in
+      let k = half-some game battle n (omega (arith, e)) in
+      let e2 : suc h ≡ halves battle (suc k.0) = e ∙ ap (halves battle) k.1 in
+      let l : halves battle (suc k.0) - 1 ≡ h = omega (arith, e2) in
       let one : suc h - 1 ≡ h = omega arith in
-      let s : seeks (battle_of plan.form) (suc h) ≡ true = rw e2 (halves-seek game (battle_of plan.form) k.0) in
-      let same : (m : M) → value (battle_of plan.form) game h (game.after p m) ≡ keeps (battle_of plan.form) game n (game.after p m) =
+      let s : seeks battle (suc h) ≡ true = rw e2 (halves-seek game battle k.0) in
+      let same : (m : M) → value battle game h (game.after p m) ≡ keeps battle game n (game.after p m) =
       grind (arith, keeps-value) in
-      rw one (root-cut game plan battle h max p ms _ _ same (λ m v. nodes_below-key game plan battle n h (game.after p m) s (grind arith) v))
+      rw one (root-cut game plan battle fought h max p ms _ _ same (λ m v. nodes_below-key game plan battle fought n h (game.after p m) s (grind arith) v))
 
   -- set play
-  pub set-cut : (n h max : ℕ) (p : P) (ms : List M) → suc h ≡ halves (battle_of plan.form) n - 1
-      → IsCutInto false max (shown_paths plan game true (suc h) (suc h) p ms) (set_by (battle_of plan.form) game (varies plan) n h p ms)
+  pub set-cut : (n h max : ℕ) (p : P) (ms : List M) → suc h ≡ halves battle n - 1
+      → IsCutInto false max (shown_paths plan game true (suc h) (suc h) p ms) (set_by battle game (varies plan) n h p ms)
   set-cut n h max p ms e =
-      let k = half-some game (battle_of plan.form) n (omega (arith, e)) in
-      let e2 : suc h + 1 ≡ halves (battle_of plan.form) (suc k.0) = omega (arith, e, ap (halves (battle_of plan.form)) k.1) in
-      let s : seeks (battle_of plan.form) (suc h + 1) ≡ true = rw e2 (halves-seek game (battle_of plan.form) k.0) in
-      let s1 : seeks (battle_of plan.form) (suc h) ≡ false = flip game _ (sym (seeks-step game (battle_of plan.form) (suc h)) ∙ s) in
+      let k = half-some game battle n (omega (arith, e)) in
+      let e2 : suc h + 1 ≡ halves battle (suc k.0) = omega (arith, e, ap (halves battle) k.1) in
+      let s : seeks battle (suc h + 1) ≡ true = rw e2 (halves-seek game battle k.0) in
+      let s1 : seeks battle (suc h) ≡ false = flip game _ (sym (seeks-step game battle (suc h)) ∙ s) in
       let one : suc h ≡ h + 1 = omega arith in
-      let s2 : seeks (battle_of plan.form) (h + 1) ≡ false = rw (← one) s1 in
-      let s3 : seeks (battle_of plan.form) h ≡ true = unflip game _ (sym (seeks-step game (battle_of plan.form) h) ∙ s2) in
-      root-cut game plan battle h max p ms _ _ (λ m. set_value (battle_of plan.form) n h (game.after p m) e)
-      (λ m v. nodes_below-set game plan battle n h (game.after p m) s3 (grind arith) v)
+      let s2 : seeks battle (h + 1) ≡ false = rw (← one) s1 in
+      let s3 : seeks battle h ≡ true = unflip game _ (sym (seeks-step game battle h) ∙ s2) in
+      root-cut game plan battle fought h max p ms _ _ (λ m. set_value battle n h (game.after p m) e)
+      (λ m v. nodes_below-set game plan battle fought n h (game.after p m) s3 (grind arith) v)
 
 -- a phase of no half-moves
 none-cut : {M : Type 0} (help : Bool) (n : ℕ) → IsCutInto {M = M} help n [] []
 none-cut {M = M} help n = search (rules, keep-nil, beginning_count-nil)
 
+-- variations are shown where the problem asks for them
 pub shown_paths-varied : (variation : Bool) → shows_variations (tree_shown variation) ≡ variation
 shown_paths-varied variation = search rules
 
@@ -159,25 +160,23 @@ module _ (rule : RuleSet) (problem : Posed) (stated : IsSound problem) where
   abbrev plan : Plan
   plan = plan_of problem
 
-  cut : (phase : Phase) (help : Bool) → is_help problem.stipulation.form ≡ help → (h : ℕ) → phase_half_moves problem phase ≡ h
-      → IsCutInto help problem.max_solutions (shown_paths plan (chess problem.stipulation.goal rule) true h h (phase_start problem phase) (legal_moves rule
-      (phase_start problem phase))) (cond help (map (λ path. path ∷ []) (help_lines (chess problem.stipulation.goal rule) h (phase_start problem phase))) (cond
-      (is_set phase) (set_tree (battle_of problem.stipulation.form) (chess problem.stipulation.goal rule) problem.variation problem.stipulation.n h (phase_start
-      problem phase)) (tree (battle_of problem.stipulation.form) (chess problem.stipulation.goal rule) problem.variation problem.stipulation.n h (phase_start
-      problem phase))))
+  cut : (phase : Phase) (play : PlayOfSides) → play_of problem.stipulation.form ≡ play → (h : ℕ) → phase_half_moves problem phase ≡ h
+      → IsCutInto (helps play) problem.max_solutions (shown_paths plan (game_of rule problem) true h h (phase_start problem phase) (legal_moves rule
+      (phase_start problem phase))) (solutions_by play rule problem phase)
   unfolding help_lines set_tree
-  cut phase true e zero z = search (rules, shown_paths-zero, none-cut)
-  cut phase true e (suc h) z = rw (shown_paths-help (chess problem.stipulation.goal rule) plan e true h (phase_start problem phase))
+  cut phase HelpPlay e zero z = rw z (search (rules, shown_paths-zero, none-cut))
+  cut phase HelpPlay e (suc h) z = rw (z, shown_paths-help (game_of rule problem) plan e true h (phase_start problem phase))
       (record { kept = lines-kept problem.max_solutions _; begun = lines-begun problem.max_solutions _ })
-  cut Set false e zero z = search (rules, shown_paths-zero, none-cut)
-  cut Set false e (suc h) z =
-      rw (shown_paths-varied problem.variation) at (set-cut (chess problem.stipulation.goal rule) plan e problem.stipulation.n h problem.max_solutions
+  cut Set (BattlePlay battle) e zero z = rw z (search (rules, shown_paths-zero, none-cut))
+  cut Set (BattlePlay battle) e (suc h) z =
+      rw z (rw (shown_paths-varied problem.variation) at (set-cut (game_of rule problem) plan battle e problem.stipulation.n h problem.max_solutions
       (phase_start problem Set) (legal_moves rule (phase_start problem Set))
-      (sym z ∙ ap (λ x. x - 1) (halves-form problem.stipulation.form problem.stipulation.n e)))
-  cut Play false e zero z = absurd (omega (arith, z, some_way problem stated))
-  cut Play false e (suc h) z =
-      rw (shown_paths-varied problem.variation) at (tree-cut (chess problem.stipulation.goal rule) plan e problem.stipulation.n h problem.max_solutions
-      (phase_start problem Play) (legal_moves rule (phase_start problem Play)) (sym z ∙ halves-form problem.stipulation.form problem.stipulation.n e))
+      (sym z ∙ ap (λ x. x - 1) (halves-form problem.stipulation.form problem.stipulation.n battle e))))
+  cut Play (BattlePlay battle) e zero z = absurd (omega (arith, z, some_way problem stated))
+  cut Play (BattlePlay battle) e (suc h) z =
+      rw z (rw (shown_paths-varied problem.variation) at (tree-cut (game_of rule problem) plan battle e problem.stipulation.n h problem.max_solutions
+      (phase_start problem Play) (legal_moves rule (phase_start problem Play))
+      (sym z ∙ halves-form problem.stipulation.form problem.stipulation.n battle e)))
 
   -- what is to come from the root frame of a phase
   pub root-solutions : (phase : Phase) (f : Frame) → f.left ≡ phase_half_moves problem phase
@@ -187,4 +186,4 @@ module _ (rule : RuleSet) (problem : Posed) (stated : IsSound problem) where
   root-solutions phase f l b =
       let h : phase_half_moves problem phase - 0 ≡ phase_half_moves problem phase = omega arith in
       let r = to_come-root rule plan (phase_half_moves problem phase) (phase_start problem phase) f in
-      rw (r, h, l, b) (cut phase (is_help problem.stipulation.form) refl (phase_half_moves problem phase) refl)
+      rw (← helps-form problem.stipulation.form, r, h, l, b) (cut phase (play_of problem.stipulation.form) refl (phase_half_moves problem phase) refl)

@@ -1,10 +1,12 @@
--- What a sound problem's play rests on.
-use Rattle.pop_solve.proofs.Words.{arith, IsSound, IsWellFormed, None, Phase, Posed, Position, half_moves, is_crossed_right, other, phase_start, refl, true, ◌≡◌, ◌≤◌}
+-- What a sound problem's play rests on, and how the sides play.
+use Rattle.pop_input.specs.declared.stipulation.Form.TheVariants.{Direct as DirectForm, SelfMate, Help, HelpHalf}
+use Rattle.pop_solve.proofs.Words.{Battle, BattlePlay, Direct, Form, HelpPlay, Selfmate, arith, false, helps, is_help, play_of, rules, IsSound, IsWellFormed, None, Phase, Posed, Position, half_moves, is_crossed_right, other, phase_start, refl, sym, ap, true, ◌≡◌, ◌≤◌, ◌∙◌}
 
 -- a problem has 1 to 32 half-moves
 pub some_way : (problem : Posed) → IsSound problem → 1 ≤ half_moves problem.stipulation
 some_way problem s = grind arith
 
+-- nor has it more than 32
 pub in_range : (problem : Posed) → IsSound problem → half_moves problem.stipulation ≤ 32
 in_range problem s = grind arith
 
@@ -13,5 +15,31 @@ nothing_crossed : (p : Position) → is_crossed_right p.men (other p.turn) None 
 unfolding is_crossed_right
 nothing_crossed p = refl
 
+-- the first position of each phase is well formed
 pub start_sound : (problem : Posed) → IsSound problem → (phase : Phase) → IsWellFormed (phase_start problem phase)
 start_sound problem s phase = grind (arith, nothing_crossed)
+
+-- help play and battles, told by the form
+pub helps-form : (form : Form) → helps (play_of form) ≡ is_help form
+helps-form form = search rules
+
+-- the form of help play is played so
+pub help-play : (form : Form) → is_help form ≡ true → play_of form ≡ HelpPlay
+help-play form e = search rules
+
+-- and no other form is
+pub help-form : (form : Form) → play_of form ≡ HelpPlay → is_help form ≡ true
+help-form form e = sym (helps-form form) ∙ ap helps e
+
+-- any other form is a battle
+pub battle-play : (form : Form) → is_help form ≡ false → (battle : Battle) × (play_of form ≡ BattlePlay battle)
+battle-play DirectForm e = (Direct, refl)
+battle-play SelfMate e = (Selfmate, refl)
+battle-play Help e = absurd cc
+battle-play HelpHalf e = absurd cc
+
+-- and no battle is help play
+pub battle-form : (form : Form) (battle : Battle) → play_of form ≡ BattlePlay battle → is_help form ≡ false
+battle-form form battle e = sym (helps-form form) ∙ ap helps e
+
+pub ruleset ways_to_play = (battle-play, help-play)

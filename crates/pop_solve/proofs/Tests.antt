@@ -22,6 +22,7 @@ passed f place s known = record f { place = place; stretch = s; known = known }
 
 -- the moves of a frame that is opened are all its position's moves, in another order
 module _ (rule : RuleSet) (q : Position) (o : Order) where
+  -- the moves of the top frame that are still to be tried
   abbrev pub first : List Move
   first = moves_ahead rule q o Killer (o.killer - 1)
 
@@ -57,24 +58,24 @@ module _ (rule : RuleSet) (aim : Aim) where
   rest-start t q o = search (rules, any-start, all-start)
 
   -- a frame that its last answer decides, and one that it doesn't
-  pub pending_value-decided : (p : Position) (f : Frame) (below : List Frame) (answer : Option Bool) → answer ≡ Some (seeks aim.battle f.left)
+  pending_value-decided : (p : Position) (f : Frame) (below : List Frame) (answer : Option Bool) → answer ≡ Some (seeks aim.battle f.left)
       → pending_value rule aim p (f ∷ below) answer ≡ delivered_value rule aim p below (seeks aim.battle f.left)
   unfolding pending_value delivered_value
   pending_value-decided p f below answer e = grind arith
 
-  pub pending_value-undecided : (p : Position) (f : Frame) (below : List Frame) (answer : Option Bool)
+  pending_value-undecided : (p : Position) (f : Frame) (below : List Frame) (answer : Option Bool)
       → (answer ≡ None) ⊎ (answer ≡ Some (not (seeks aim.battle f.left)))
       → pending_value rule aim p (f ∷ below) answer ≡ delivered_value rule aim p below
       (rest f.left (position rule p (f ∷ below)) (untried_moves rule (position rule p (f ∷ below)) f))
   unfolding pending_value delivered_value
   pending_value-undecided p f below answer e = search rules
 
-  pub delivered_value-some : (p : Position) (below : List Frame) (v : Bool) → 0 < length below
+  delivered_value-some : (p : Position) (below : List Frame) (v : Bool) → 0 < length below
       → delivered_value rule aim p below v ≡ pending_value rule aim p below (Some v)
   unfolding pending_value
   delivered_value-some p below v some = search rules
 
-  pub delivered_value-none : (p : Position) (below : List Frame) (v : Bool) → length below ≡ 0 → delivered_value rule aim p below v ≡ v
+  delivered_value-none : (p : Position) (below : List Frame) (v : Bool) → length below ≡ 0 → delivered_value rule aim p below v ≡ v
   unfolding delivered_value
   delivered_value-none p [] v none = refl
   delivered_value-none p (g ∷ below) v none = absurd (omega (arith, none))
@@ -90,23 +91,23 @@ module _ (rule : RuleSet) (aim : Aim) where
   fewest-start : (t : ℕ) (q : Position) (o : Order) → smallest_tree aim.battle (chess aim.goal rule) t q ≤ 1 + fewest t q (first rule q o)
   fewest-start t q o = rw (same-fewest t q o) (trees-start aim.battle (chess aim.goal rule) t q)
 
-  pub try-decided : (p : Position) (f : Frame) (below : List Frame) (answer : Option Bool) → answer ≡ Some (seeks aim.battle f.left)
+  try-decided : (p : Position) (f : Frame) (below : List Frame) (answer : Option Bool) → answer ≡ Some (seeks aim.battle f.left)
       → to_try rule aim p (f ∷ below) answer ≡ to_try_with rule aim p below (seeks aim.battle f.left)
   unfolding to_try to_try_with
   try-decided p f below answer e = grind arith
 
-  pub try-undecided : (p : Position) (f : Frame) (below : List Frame) (answer : Option Bool) → (answer ≡ None) ⊎ (answer ≡ Some (not (seeks aim.battle f.left)))
+  try-undecided : (p : Position) (f : Frame) (below : List Frame) (answer : Option Bool) → (answer ≡ None) ⊎ (answer ≡ Some (not (seeks aim.battle f.left)))
       → to_try rule aim p (f ∷ below) answer ≡ fewest f.left (position rule p (f ∷ below)) (untried_moves rule (position rule p (f ∷ below)) f) + to_try_with
       rule aim
       p below (rest f.left (position rule p (f ∷ below)) (untried_moves rule (position rule p (f ∷ below)) f))
   unfolding to_try to_try_with
   try-undecided p f below answer e = search rules
 
-  pub try-some : (p : Position) (below : List Frame) (v : Bool) → 0 < length below → to_try_with rule aim p below v ≡ to_try rule aim p below (Some v)
+  try-some : (p : Position) (below : List Frame) (v : Bool) → 0 < length below → to_try_with rule aim p below v ≡ to_try rule aim p below (Some v)
   unfolding to_try
   try-some p below v some = search rules
 
-  pub try-none : (p : Position) (below : List Frame) (v : Bool) → length below ≡ 0 → to_try_with rule aim p below v ≡ 0
+  try-none : (p : Position) (below : List Frame) (v : Bool) → length below ≡ 0 → to_try_with rule aim p below v ≡ 0
   unfolding to_try_with
   try-none p [] v none = refl
   try-none p (g ∷ below) v none = absurd (omega (arith, none))
@@ -184,11 +185,12 @@ module _ (rule : RuleSet) (aim : Aim) where
           rw (left, walk-next t P (untried_moves rule P f) (moves_ahead rule P f.order s next) m e, walk_count-start t (position_after rule P m) k some)
           (omega arith)
 
+  -- closing a frame opens none
   pub open-close : (p : Position) (f : Frame) (below : List Frame) → to_test rule p below ≤ to_test rule p (f ∷ below)
   unfolding to_test
   open-close p f below = omega arith
 
-  pub work-close : (p : Position) (f : Frame) (below : List Frame) → work rule p below < work rule p (f ∷ below)
+  work-close : (p : Position) (f : Frame) (below : List Frame) → work rule p below < work rule p (f ∷ below)
   unfolding work
   work-close p f below = omega arith
 
@@ -197,7 +199,7 @@ module _ (rule : RuleSet) (p : Position) where
   unfolding IsCut
   cut-top f below c = search rules
 
-  pub top_cut : (f : Frame) (below : List Frame) (board : Position) → IsTesting rule p (f ∷ below) board → 0 < f.left
+  top_cut : (f : Frame) (below : List Frame) (board : Position) → IsTesting rule p (f ∷ below) board → 0 < f.left
   top_cut f below board r = cut-top f below r.cut
 
   -- what undoes the top frame
@@ -206,29 +208,30 @@ module _ (rule : RuleSet) (p : Position) where
   unfolding IsLinked position
   CameFrom-top f g below board r = record { sound = r.linked.0; legal = r.linked.1; led = r.board_at; undone = r.linked.2 }
 
+  -- a frame above the lowest came from a position
   pub CameFrom-deep : (f : Frame) (below : List Frame) (board : Position) → IsTesting rule p (f ∷ below) board → 0 < length below → CameFrom rule f board
   CameFrom-deep f [] board r deep = absurd (omega (arith, deep))
   CameFrom-deep f (g ∷ below) board r deep = (position rule p (g ∷ below), CameFrom-top f g below board r)
 
-  pub testing-close : (f : Frame) (below : List Frame) (board after : Position) → IsTesting rule p (f ∷ below) board → 0 < length below
+  testing-close : (f : Frame) (below : List Frame) (board after : Position) → IsTesting rule p (f ∷ below) board → 0 < length below
       → ((q : Position) → CameFromAt rule f board q → after ≡ q) → IsTesting rule p below after
   unfolding IsLinked IsCut AreKnown position
   testing-close f below board after r deep before = search rules
 
-  pub room-close : (f : Frame) (below : List Frame) (board : Position) → IsTesting rule p (f ∷ below) board → 0 < length below → f.left + 1 ≡ top_left below
+  room-close : (f : Frame) (below : List Frame) (board : Position) → IsTesting rule p (f ∷ below) board → 0 < length below → f.left + 1 ≡ top_left below
   unfolding IsCut
   room-close f below board r deep = search rules
 
-  pub lowest-back : (f : Frame) (below : List Frame) (board : Position) → IsTesting rule p (f ∷ below) board → length below ≡ 0 → board ≡ p
+  lowest-back : (f : Frame) (below : List Frame) (board : Position) → IsTesting rule p (f ∷ below) board → length below ≡ 0 → board ≡ p
   unfolding position
   lowest-back f below board r none = search rules
 
-  pub testing-settled : (f : Frame) (next : ℕ) (s : Stretch) (kn : Option LegalPlace) (below : List Frame) (board : Position)
+  testing-settled : (f : Frame) (next : ℕ) (s : Stretch) (kn : Option LegalPlace) (below : List Frame) (board : Position)
       → IsTesting rule p (f ∷ below) board → IfSome kn (IsPlaceIn rule board) → IsTesting rule p (passed f next s kn ∷ below) board
   unfolding IsLinked IsCut AreKnown position
   testing-settled f next s kn below board r w = search rules
 
-  pub testing-open : (f : Frame) (next : ℕ) (s : Stretch) (m : Move) (k : Order) (t : ℕ) (kn kq : Option LegalPlace) (below : List Frame) (board : Position)
+  testing-open : (f : Frame) (next : ℕ) (s : Stretch) (m : Move) (k : Order) (t : ℕ) (kn kq : Option LegalPlace) (below : List Frame) (board : Position)
       → IsTesting rule p (f ∷ below) board → is_legal rule board m ≡ true → 0 < t → f.left ≡ suc t → IfSome kn (IsPlaceIn rule board)
       → IfSome kq (IsPlaceIn rule (position_after rule board m))
       → IsTesting rule p (tested_frame k m (undo_of rule board m) t kq ∷ (passed f next s kn ∷ below)) (position_after rule board m)
@@ -237,11 +240,11 @@ module _ (rule : RuleSet) (p : Position) where
       grind (arith, after_well_formed rule board m r.sound (is_pseudo_legal-from_legal rule board m lawful), is_pseudo_legal-from_legal rule board m lawful)
 
 -- the frames from the floor up, once a frame is put on or taken off
-pub tests-push : (floor : ℕ) (xs : List Frame) (x : Frame) → floor ≤ length xs → tests floor (xs ++ x ∷ []) ≡ x ∷ tests floor xs
+tests-push : (floor : ℕ) (xs : List Frame) (x : Frame) → floor ≤ length xs → tests floor (xs ++ x ∷ []) ≡ x ∷ tests floor xs
 unfolding tests
 tests-push floor xs x low = ap reverse (drop-append-le floor xs (x ∷ []) low) ∙ reverse-append (drop floor xs) (x ∷ [])
 
-pub length-tests : (floor : ℕ) (xs : List Frame) → length (tests floor xs) ≡ length xs - floor
+length-tests : (floor : ℕ) (xs : List Frame) → length (tests floor xs) ≡ length xs - floor
 unfolding tests
 length-tests floor xs = length-reverse (drop floor xs) ∙ length-drop floor xs
 
@@ -255,12 +258,14 @@ module _ (rule : RuleSet) (aim : Aim) (floor : ℕ) (top : Frame) (old new : Lis
   testing_top : (p board : Position) → IsTesting rule p (tests floor old) board → IsTesting rule p (top ∷ tests floor new) board
   testing_top p board r = let P : List Frame → Type 0 = λ fs. IsTesting rule p fs board in subst P popped r
 
+  -- what closing a frame asks for
   pub close_asks : (p board : Position) (depth : ℕ) → depth ≡ length new → IsTesting rule p (tests floor old) board → floor < depth → CameFrom rule top board
   close_asks p board depth d r deep = CameFrom-deep rule p top (tests floor new) board (testing_top p board r) (omega (arith, length-tests floor new, d))
 
   module _ (board after : Position) (depth : ℕ) (v : Bool) (was is result : Option Bool) (d : depth ≡ length new)
       (lowest : depth ≤ floor → (result ≡ Some v) × (after ≡ board)) (above : floor < depth → (result ≡ None) × (is ≡ Some v))
       (before : (q : Position) → floor < depth → CameFromAt rule top board q → after ≡ q) where
+    -- a frame that is closed ends the test or hands its value down
     pub close_turns : (count : ℕ) (p : Position) → IsTesting rule p (tests floor old) board
         → pending_value rule aim p (top ∷ tests floor new) was ≡ delivered_value rule aim p (tests floor new) v
         → to_try rule aim p (top ∷ tests floor new) was ≡ to_try_with rule aim p (tests floor new) v → MatchOption result
@@ -279,6 +284,7 @@ module _ (rule : RuleSet) (aim : Aim) (floor : ℕ) (top : Frame) (old new : Lis
       | inr low ↦ grind (arith, popped, delivered_value-none, length-tests, lowest-back, take_all, base_new, try-none)
     ]
 
+    -- closing keeps the room
     pub close_room : (p : Position) (N : ℕ) → IsTesting rule p (tests floor old) board → top_left (tests floor old) + length old ≤ N + 1
         → IfNone result (top_left (tests floor new) + length new ≤ N + 1)
     close_room p N r room = grind (arith, cases_lt, room-close, testing_top, length-tests, popped, length-append)
@@ -288,7 +294,7 @@ module _ (rule : RuleSet) (aim : Aim) (floor : ℕ) (top : Frame) (old new : Lis
       (next : untried_moves rule board top ≡ m ∷ moves_ahead rule board top.order s place) (lawful : is_legal rule board m ≡ true)
       (within : IfSome kn (IsPlaceIn rule board)) where
     -- what `descend` leaves
-    abbrev pub Descends : Option Bool → Type 0
+    abbrev Descends : Option Bool → Type 0
     Descends is = MatchOption is ((0 < top.left - 1)
         × (value aim.battle (chess aim.goal rule) (top.left - 1) (position_after rule board m) ≡ joined_value aim.battle (chess aim.goal rule) (top.left - 1)
         (position_after rule board m) (legal_moves rule (position_after rule board m))) × (after ≡ position_after rule board m)
@@ -345,6 +351,7 @@ module _ (rule : RuleSet) (aim : Aim) (floor : ℕ) (top : Frame) (old new : Lis
       descend_tried (Some v) d before count tries = rw (settled_last v d, popped)
           (let n = try-next rule aim p top (tests floor new) place s m _ kn left_is here in search (rules, at, try-undecided, try-some))
 
+    -- a move that is played hands its value down or opens a frame
     pub descend_turns : (is : Option Bool) → Descends is → (before count : ℕ)
         → MatchOption is (count ≤ before + 1) (λ _. count ≤ before + walk_count (legal_moves rule) (position_after rule) (top.left - 1)
         (position_after rule board m))
@@ -361,6 +368,7 @@ module _ (rule : RuleSet) (aim : Aim) (floor : ℕ) (top : Frame) (old new : Lis
       tried = descend_tried p r is d before count tries;
     }
 
+    -- playing it keeps the room
     pub descend_room : (is : Option Bool) → Descends is → top_left (tests floor old) + length old ≤ N + 1 → top_left (tests floor last) + length last ≤ N + 1
     descend_room is d room = grind (arith, tests-push, length-append)
 
@@ -368,10 +376,12 @@ module _ (rule : RuleSet) (aim : Aim) (floor : ℕ) (top : Frame) (old new : Lis
   pub top_some : (p board : Position) → IsTesting rule p (tests floor old) board → 0 < top.left
   top_some p board r = top_cut rule p top (tests floor new) board (testing_top p board r)
 
+  -- what the top frame knows is of the board's position
   pub top_known : (p board : Position) → IsTesting rule p (tests floor old) board → IfSome top.known (IsPlaceIn rule board)
   unfolding AreKnown
   top_known p board r = let f = testing_top p board r in rw f.board_at f.known.0
 
+  -- there is room for its half-moves
   pub top_room : (N : ℕ) → top_left (tests floor old) + length old ≤ N + 1 → length new + top.left ≤ N
   top_room N room = let t : top_left (tests floor old) ≡ top.left = ap top_left popped in grind (arith, length-append)
 
@@ -380,6 +390,7 @@ module _ (rule : RuleSet) (aim : Aim) (floor : ℕ) (top : Frame) (old new : Lis
       → pending_value rule aim p (top ∷ tests floor new) was ≡ delivered_value rule aim p (tests floor new) (seeks aim.battle top.left)
   decided_value p was e = pending_value-decided rule aim p top (tests floor new) was e
 
+  -- where no move is left untried and none decided, all moves did together
   pub exhausted_value : (p board : Position) (was : Option Bool) → IsTesting rule p (tests floor old) board
       → (was ≡ None) ⊎ (was ≡ Some (not (seeks aim.battle top.left))) → untried_moves rule board top ≡ []
       → pending_value rule aim p (top ∷ tests floor new) was ≡ delivered_value rule aim p (tests floor new) (not (seeks aim.battle top.left))
@@ -390,6 +401,7 @@ module _ (rule : RuleSet) (aim : Aim) (floor : ℕ) (top : Frame) (old new : Lis
       → to_try rule aim p (top ∷ tests floor new) was ≡ to_try_with rule aim p (tests floor new) (seeks aim.battle top.left)
   decided_left p was e = try-decided rule aim p top (tests floor new) was e
 
+  -- then nothing is left to be tried there
   pub exhausted_left : (p board : Position) (was : Option Bool) → IsTesting rule p (tests floor old) board
       → (was ≡ None) ⊎ (was ≡ Some (not (seeks aim.battle top.left))) → untried_moves rule board top ≡ []
       → to_try rule aim p (top ∷ tests floor new) was ≡ to_try_with rule aim p (tests floor new) (not (seeks aim.battle top.left))
@@ -420,6 +432,7 @@ pub record IsUnderway (rule : RuleSet) (aim : Aim) (floor : ℕ) (p : Position) 
   pub base : take floor frames ≡ under
 
 module _ (rule : RuleSet) (aim : Aim) where
+  -- a test begins with the frame of its position
   pub begins : (floor : ℕ) (p : Position) (N left : ℕ) (k : Order) (board : Position) (before count : ℕ) (by : Move) (undo : Undo) (under frames : List Frame)
       (kn : Option LegalPlace) → floor ≡ length under → frames ≡ under ++ tested_frame k by undo left kn ∷ [] → IfSome kn (IsPlaceIn rule p) → floor + left ≤ N
       → count ≤ before + 1 → HasCounted before count 1 → board ≡ p → IsWellFormed board → (0 < left)
@@ -431,6 +444,7 @@ module _ (rule : RuleSet) (aim : Aim) where
       let none : tests floor under ≡ [] = nil_of (tests floor under) (omega (arith, length-tests floor under, low)) in
       grind (arith, tests-push, length-append, walk_count-start, fewest-start, rest-start, take-append-le, take_all)
 
+  -- each turn leaves it under way
   pub goes_on : (floor : ℕ) (p : Position) (N : ℕ) (v : Bool) (under old new : List Frame) (was is : Option Bool) (board after : Position) (before count most
       fewest : ℕ) → IsUnderway rule aim floor p N v under old was board before most fewest → Turns rule aim floor p old new was is after before count
       → top_left (tests floor new) + length new ≤ N + 1 → IsUnderway rule aim floor p N v under new is after count most fewest

@@ -1,10 +1,10 @@
 -- What the moves still to come say of paths, turns and counts: the next move, and those passed over.
-use Rattle.pop_solve.proofs.Words.{Bool, Frame, GoesTo, IsWhites, List, Mate, Move, Plan, Position, RuleSet, Steps, Undo, [], ap, append_assoc, arith, battle_of, chess, cond, eqb, false, fewest_for, fewest_left, fewest_walked, filter, follows, gives, half_moves_on, inl, inr, is_help, is_mate, is_mating, length, map, map-append, moves_behind, opened_frame, path, position, refl, rules, seeks, seeks_last, shown_paths, smallest_tree, steps, steps_behind, suc, sum_by, sum_by-append, sum_by-cons, to_come, to_open, true, turns, value, walk_behind, walk_count, zero, ℕ, ◌++◌, ◌+◌, ◌-◌, ◌<◌, ◌∙◌, ◌∷◌, ◌≡◌, ◌≤◌, ◌⊎◌}
+use Rattle.pop_solve.proofs.Words.{Battle, BattlePlay, Bool, Frame, GoesTo, HelpPlay, IsWhites, List, Mate, Move, Plan, Position, RuleSet, Steps, Undo, [], ap, append_assoc, arith, chess, cond, eqb, false, fewest_for, fewest_left, fewest_walked, filter, follows, gives, half_moves_on, inl, inr, is_mate, is_mating, length, map, map-append, moves_behind, opened_frame, path, position, refl, rules, seeks, seeks_last, shown_paths, smallest_tree, steps, steps_behind, suc, sum_by, sum_by-append, sum_by-cons, to_come, to_open, true, turns, value, varies, walk_behind, walk_count, zero, ℕ, ◌++◌, ◌+◌, ◌-◌, ◌<◌, ◌∙◌, ◌∷◌, ◌≡◌, ◌≤◌, ◌⊎◌}
 use Rattle.chess_rules.specs.Play.{position_after}
 use Rattle.chess_rules.specs.Legal.{moves as legal_moves}
 use Rattle.pop_solve.proofs.Boards.{behind_start}
 use Rattle.pop_solve.proofs.Tests.{moved}
-use Rattle.pop_solve.proofs.GoingOn.{cases, no_zero, half_moves_on-help, follows-help}
+use Rattle.pop_solve.proofs.GoingOn.{cases, no_zero, ways, half_moves_on-help, follows-help}
 
 -- where the first move counts nothing if it fails a test, all that fail it at the head of a list count nothing
 passed-over : {A : Type 0} (f : List Move → A) (test : Move → Bool) → ((m : Move) (ms : List Move) → test m ≡ false → f (m ∷ ms) ≡ f ms)
@@ -16,6 +16,7 @@ passed-over f test skip (m ∷ over) ms none = search (rules, cases (test m), sk
 abbrev pub given_path : Bool → List Move → List (List Move)
 given_path b L = cond b (L ∷ []) []
 
+-- a line behind a path and a move
 pub map-path : (L : List Move) (m : Move) (xs : List (List Move))
     → map (λ line. L ++ line) (map (λ line. m ∷ line) xs) ≡ map (λ line. (L ++ m ∷ []) ++ line) xs
 map-path L m [] = refl
@@ -32,6 +33,7 @@ pub steps-start : (rule : RuleSet) (k : ℕ) (q : Position) → steps rule k q �
 unfolding steps steps_behind
 steps-start rule k q = search (rules, behind_start)
 
+-- the next move takes its own steps
 pub steps_behind-next : (rule : RuleSet) (k : ℕ) (P : Position) (place next : ℕ) (m : Move) → moves_behind rule P place ≡ m ∷ moves_behind rule P next
     → steps_behind rule (suc k) P place ≡ (1 + steps rule k (position_after rule P m)) + steps_behind rule (suc k) P next
 unfolding steps_behind
@@ -40,9 +42,11 @@ steps_behind-next rule k P place next m e = rw e (sum_by-cons (λ x. 1 + steps r
 module _ (rule : RuleSet) (plan : Plan) where
   -- the paths by the next move, and by the others
   shown_paths-next : (root : Bool) (k t : ℕ) (P : Position) (m : Move) (ms : List Move)
-      → shown_paths plan (chess plan.goal rule) root (suc k) (suc t) P (m ∷ ms) ≡ cond (follows plan (chess plan.goal rule) root t (position_after rule P m))
-      (given_path (gives plan (chess plan.goal rule) t (position_after rule P m)) (m ∷ []) ++ map (λ line. m ∷ line)
-      (shown_paths plan (chess plan.goal rule) false k (half_moves_on plan (chess plan.goal rule) t (position_after rule P m)) (position_after rule P m)
+      → shown_paths plan (chess plan.goal rule) root (suc k) (suc t) P (m ∷ ms) ≡ cond (follows plan.play (chess plan.goal rule) root t
+      (position_after rule P m))
+      (given_path (gives plan.play (chess plan.goal rule) t (position_after rule P m)) (m ∷ []) ++ map (λ line. m ∷ line)
+      (shown_paths plan (chess plan.goal rule) false k (half_moves_on plan.play (varies plan) (chess plan.goal rule) t (position_after rule P m))
+      (position_after rule P m)
       (legal_moves rule (position_after rule P m)))) [] ++ shown_paths plan (chess plan.goal rule) root (suc k) (suc t) P ms
   unfolding shown_paths
   shown_paths-next root k t P m ms = refl
@@ -55,9 +59,9 @@ module _ (rule : RuleSet) (plan : Plan) where
   -- the positions to be tried for the next move, and for the others
   fewest-next : (root : Bool) (k t : ℕ) (P : Position) (m : Move) (ms : List Move)
       → fewest_walked plan (chess plan.goal rule) root (suc k) (suc t) P (m ∷ ms)
-      ≡ (fewest_for plan (chess plan.goal rule) root t (position_after rule P m) + cond
-      (follows plan (chess plan.goal rule) root t (position_after rule P m))
-      (fewest_walked plan (chess plan.goal rule) false k (half_moves_on plan (chess plan.goal rule) t
+      ≡ (fewest_for plan.play (varies plan) (chess plan.goal rule) root t (position_after rule P m) + cond
+      (follows plan.play (chess plan.goal rule) root t (position_after rule P m))
+      (fewest_walked plan (chess plan.goal rule) false k (half_moves_on plan.play (varies plan) (chess plan.goal rule) t
       (position_after rule P m)) (position_after rule P m) (legal_moves rule (position_after rule P m))) 0) + fewest_walked plan (chess plan.goal rule) root
       (suc k) (suc t) P ms
   unfolding fewest_walked
@@ -74,6 +78,7 @@ module _ (rule : RuleSet) (plan : Plan) where
   walk_behind-next k P place next m e =
       rw e (sum_by-cons (λ x. walk_count (legal_moves rule) (position_after rule) k (position_after rule P x)) m (moves_behind rule P next))
 
+  -- nothing is opened where no half-move or no move is left
   pub walk_behind-none : (k : ℕ) (P : Position) (place : ℕ) → (k ≡ 0) ⊎ (moves_behind rule P place ≡ []) → walk_behind rule k P place ≡ 0
   unfolding walk_behind
   walk_behind-none k P place e = search rules
@@ -83,6 +88,7 @@ module _ (rule : RuleSet) (plan : Plan) where
   one zero = 0
   one (suc k) = 1
 
+  -- a position counts one where moves are tried from it, and what these open
   pub walk_count-start : (k : ℕ) (q : Position) → walk_count (legal_moves rule) (position_after rule) k q ≡ one k + walk_behind rule k q 0
   unfolding walk_count walk_behind
   walk_count-start k q = search (rules, behind_start)
@@ -97,15 +103,16 @@ module _ (rule : RuleSet) (plan : Plan) where
     root = eqb (length below) 0
 
     -- a move that is not followed is passed over
-    pub come-pass : follows plan (chess plan.goal rule) root t q ≡ false → to_come rule plan h p (f ∷ below) ≡ to_come rule plan h p (moved f next ∷ below)
+    pub come-pass : follows plan.play (chess plan.goal rule) root t q ≡ false → to_come rule plan h p (f ∷ below) ≡ to_come rule plan h p (moved f next ∷ below)
     unfolding to_come position path
     come-pass b = search (rules, shown_paths-next)
 
     -- a move that is followed: its path, where that is given, and what stands below it
-    pub come-enter : (undo : Undo) → follows plan (chess plan.goal rule) root t q ≡ true
-        → to_come rule plan h p (f ∷ below) ≡ given_path (gives plan (chess plan.goal rule) t q)
-        (path (opened_frame m undo (half_moves_on plan (chess plan.goal rule) t q)
-        ∷ (moved f next ∷ below))) ++ to_come rule plan h p (opened_frame m undo (half_moves_on plan (chess plan.goal rule) t q) ∷ (moved f next ∷ below))
+    pub come-enter : (undo : Undo) → follows plan.play (chess plan.goal rule) root t q ≡ true
+        → to_come rule plan h p (f ∷ below) ≡ given_path (gives plan.play (chess plan.goal rule) t q)
+        (path (opened_frame m undo (half_moves_on plan.play (varies plan) (chess plan.goal rule) t q)
+        ∷ (moved f next ∷ below))) ++ to_come rule plan h p (opened_frame m undo (half_moves_on plan.play (varies plan) (chess plan.goal rule) t q) ∷
+        (moved f next ∷ below))
     unfolding to_come position path
     come-enter undo b =
         let less : h - suc (length below) ≡ k = omega arith in
@@ -113,50 +120,61 @@ module _ (rule : RuleSet) (plan : Plan) where
         rw (fuel, less, left, e, shown_paths-next root k t P m (moves_behind rule P next), b, behind_start rule q, no_zero (length below))
         (search (rules, turn))
 
-    pub tries-pass : follows plan (chess plan.goal rule) root t q ≡ false
-        → fewest_left rule plan h p (f ∷ below) ≡ fewest_for plan (chess plan.goal rule) root t q + fewest_left rule plan h p (moved f next ∷ below)
+    -- a move that isn't followed has only its test
+    pub tries-pass : follows plan.play (chess plan.goal rule) root t q ≡ false
+        → fewest_left rule plan h p (f ∷ below) ≡ fewest_for plan.play (varies plan) (chess plan.goal rule) root t q + fewest_left rule plan h p
+        (moved f next ∷ below)
     unfolding fewest_left position
     tries-pass b = search (rules, fewest-next)
 
-    pub tries-enter : (undo : Undo) → follows plan (chess plan.goal rule) root t q ≡ true → fewest_left rule plan h p (f ∷ below)
-        ≡ fewest_for plan (chess plan.goal rule) root t q + fewest_left rule plan h p
-        (opened_frame m undo (half_moves_on plan (chess plan.goal rule) t q) ∷ (moved f next ∷ below))
+    -- one that is followed adds what is tried below it
+    pub tries-enter : (undo : Undo) → follows plan.play (chess plan.goal rule) root t q ≡ true → fewest_left rule plan h p (f ∷ below)
+        ≡ fewest_for plan.play (varies plan) (chess plan.goal rule) root t q + fewest_left rule plan h p
+        (opened_frame m undo (half_moves_on plan.play (varies plan) (chess plan.goal rule) t q) ∷ (moved f next ∷ below))
     unfolding fewest_left position
     tries-enter undo b = search (rules, behind_start, fewest-next, no_zero)
 
+    -- passing a move over takes a turn
     pub turns-pass : turns rule h p (moved f next ∷ below) < turns rule h p (f ∷ below)
     unfolding turns position
     turns-pass = rw (fuel, steps_behind-next rule k (position rule p (f ∷ below)) f.place next m e) (omega arith)
 
+    -- so does following it
     pub turns-enter : (undo : Undo) (tried : ℕ) → turns rule h p (opened_frame m undo tried ∷ (moved f next ∷ below)) < turns rule h p (f ∷ below)
     unfolding turns position
     turns-enter undo tried =
         let less : h - suc (length below) ≡ k = omega arith in
         rw (fuel, less, steps_behind-next rule k (position rule p (f ∷ below)) f.place next m e, steps-start rule k q) (omega arith)
 
+    -- the next move opens what it can, and the others theirs
     pub open-next : to_open rule p (f ∷ below) ≡ walk_count (legal_moves rule) (position_after rule) t q + to_open rule p (moved f next ∷ below)
     unfolding to_open position
     open-next = rw (left, walk_behind-next t (position rule p (f ∷ below)) f.place next m e) (omega arith)
 
+    -- a frame that is opened can open what its moves can
     pub open-enter : (undo : Undo) (tried : ℕ)
         → to_open rule p (opened_frame m undo tried ∷ (moved f next ∷ below)) ≡ walk_behind rule tried q 0 + to_open rule p (moved f next ∷ below)
     unfolding to_open position
     open-enter undo tried = refl
 
+  -- a frame without moves gives no path
   pub come-close : (h : ℕ) (p : Position) (f : Frame) (below : List Frame) → (f.left ≡ 0) ⊎ (moves_behind rule (position rule p (f ∷ below)) f.place ≡ [])
       → to_come rule plan h p (f ∷ below) ≡ to_come rule plan h p below
   unfolding to_come
   come-close h p f below e = search (rules, shown_paths-none)
 
+  -- nor does it try anything
   pub tries-close : (h : ℕ) (p : Position) (f : Frame) (below : List Frame) → (f.left ≡ 0) ⊎ (moves_behind rule (position rule p (f ∷ below)) f.place ≡ [])
       → fewest_left rule plan h p (f ∷ below) ≡ fewest_left rule plan h p below
   unfolding fewest_left
   tries-close h p f below e = search (rules, fewest-none)
 
+  -- closing it takes a turn
   pub turns-close : (h : ℕ) (p : Position) (f : Frame) (below : List Frame) → turns rule h p below < turns rule h p (f ∷ below)
   unfolding turns
   turns-close h p f below = omega arith
 
+  -- it opens nothing
   pub open-close : (p : Position) (f : Frame) (below : List Frame) → (f.left ≡ 0) ⊎ (moves_behind rule (position rule p (f ∷ below)) f.place ≡ [])
       → to_open rule p (f ∷ below) ≡ to_open rule p below
   unfolding to_open
@@ -184,34 +202,44 @@ module _ (rule : RuleSet) (plan : Plan) where
     unfolding shown_paths
     ends low fuel k m q qs ms = search rules
 
-    gives-last : (q : Position) → is_help plan.form ≡ true → plan.goal ≡ Mate → is_mate rule q ≡ false → gives plan (chess plan.goal rule) 0 q ≡ false
+    gives-last : (q : Position) → plan.play ≡ HelpPlay → plan.goal ≡ Mate → is_mate rule q ≡ false → gives plan.play (chess plan.goal rule) 0 q ≡ false
     unfolding gives
-    gives-last q a for misses = rw (a, for, misses) refl
+    gives-last q help for misses = rw (help, for, misses) refl
 
     -- in direct play a move that doesn't mate isn't followed, and tries nothing
-    follows-last : (low : Bool) (q : Position) → is_help plan.form ≡ false → seeks (battle_of plan.form) 1 ≡ true → plan.goal ≡ Mate → is_mate rule q ≡ false
-        → follows plan (chess plan.goal rule) low 0 q ≡ false
+    follows-last : (low : Bool) (q : Position) (battle : Battle) → plan.play ≡ BattlePlay battle → seeks battle 1 ≡ true → plan.goal ≡ Mate
+        → is_mate rule q ≡ false
+        → follows plan.play (chess plan.goal rule) low 0 q ≡ false
     unfolding follows value
-    follows-last low q a white for misses = search rules
+    follows-last low q battle fought white for misses = search rules
 
-    fewest_for-last : (low : Bool) (q : Position) → is_help plan.form ≡ false → seeks (battle_of plan.form) 1 ≡ true
-        → fewest_for plan (chess plan.goal rule) low 0 q ≡ 0
+    fewest_for-last : (low : Bool) (q : Position) (battle : Battle) → plan.play ≡ BattlePlay battle → seeks battle 1 ≡ true
+        → fewest_for plan.play (varies plan) (chess plan.goal rule) low 0 q ≡ 0
     unfolding smallest_tree
-    fewest_for-last low q a white = search rules
+    fewest_for-last low q battle fought white = search rules
 
-    pub skipped : (low : Bool) (fuel : ℕ) → seeks_last plan ≡ true → plan.goal ≡ Mate → (m : Move) (ms : List Move) → is_mating rule P m ≡ false
+    -- a last move that doesn't mate gives no path, where the side seeks mate
+    pub skipped : (low : Bool) (fuel : ℕ) → seeks_last plan.play ≡ true → plan.goal ≡ Mate → (m : Move) (ms : List Move) → is_mating rule P m ≡ false
         → shown_paths plan (chess plan.goal rule) low fuel 1 P (m ∷ ms) ≡ shown_paths plan (chess plan.goal rule) low fuel 1 P ms
     unfolding shown_paths
-    skipped low fuel last for m ms misses = search (rules, cases, ends, follows-help, follows-last, gives-last, half_moves_on-help, shown_paths-next)
+    skipped low zero last for m ms misses = refl
+    skipped low (suc fuel) last for m ms misses =
+        let q = position_after rule P m in
+        let game = chess plan.goal rule in
+        rw (shown_paths-next low fuel 0 P m ms) (elim (ways plan.play) [
+          | inl help ↦ rw (follows-help plan game low 0 q help, gives-last q help for misses, half_moves_on-help plan game 0 q help)
+              (ends low fuel fuel m q (legal_moves rule q) ms)
+          | inr way ↦ rw (follows-last low q way.0 way.1 (rw way.1 at last) for misses) refl
+        ])
 
-    fewest-skipped : (low : Bool) (fuel : ℕ) → seeks_last plan ≡ true → plan.goal ≡ Mate → is_help plan.form ≡ false
+    fewest-skipped : (low : Bool) (fuel : ℕ) → seeks_last plan.play ≡ true → plan.goal ≡ Mate → (battle : Battle) → plan.play ≡ BattlePlay battle
         → (m : Move) (ms : List Move) → is_mating rule P m ≡ false
         → fewest_walked plan (chess plan.goal rule) low fuel 1 P (m ∷ ms) ≡ fewest_walked plan (chess plan.goal rule) low fuel 1 P ms
     unfolding fewest_walked
-    fewest-skipped low fuel last for a m ms misses = search (rules, fewest-next, fewest_for-last, follows-last)
+    fewest-skipped low fuel last for battle fought m ms misses = search (rules, fewest-next, fewest_for-last, follows-last)
 
     -- what such moves count nothing in is the same from the later place on
-    same-later : {A : Type 0} (F : ℕ → List Move → A) → (seeks_last plan ≡ true → plan.goal ≡ Mate → (m : Move) (ms : List Move)
+    same-later : {A : Type 0} (F : ℕ → List Move → A) → (seeks_last plan.play ≡ true → plan.goal ≡ Mate → (m : Move) (ms : List Move)
         → is_mating rule P m ≡ false → F 1 (m ∷ ms) ≡ F 1 ms) → F f.left (moves_behind rule P f.place) ≡ F f.left (moves_behind rule P g.mid)
     unfolding position
     same-later F skip = elim g.none [
@@ -249,11 +277,12 @@ module _ (rule : RuleSet) (plan : Plan) where
     unfolding to_open position
     open-skip = search (rules, nothing, same)
 
-    tries-skip : is_help plan.form ≡ false → fewest_left rule plan h p (f ∷ below) ≡ fewest_left rule plan h p later
+    tries-skip : (battle : Battle) → plan.play ≡ BattlePlay battle → fewest_left rule plan h p (f ∷ below) ≡ fewest_left rule plan h p later
     unfolding fewest_left position
-    tries-skip a = ap (λ n. n + fewest_left rule plan h p below)
-        (same-later (λ n ms. fewest_walked plan (chess plan.goal rule) deepest room n P ms) (λ last for. fewest-skipped deepest room last for a))
+    tries-skip battle fought = ap (λ n. n + fewest_left rule plan h p below)
+        (same-later (λ n ms. fewest_walked plan (chess plan.goal rule) deepest room n P ms) (λ last for. fewest-skipped deepest room last for battle fought))
 
+    -- what follows moves that are passed over follows from before them
     pub steps-skip : (new : List Frame) (board : Position) (before after : ℕ) (given : Bool) → Steps rule plan h p later new board before after given
         → Steps rule plan h p (f ∷ below) new board before after given
     unfolding IsWhites

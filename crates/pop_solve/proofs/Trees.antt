@@ -1,6 +1,5 @@
 -- What the walk shows is the tree that the definitions name.
-use Rattle.pop_solve.proofs.Words.{Battle, Bool, Game, List, Plan, Selfmate, [], answers, ap, append-nil, arith, battle_of, best_moves, cond, eqb, every_move, false, fewest, filter, first_from, flat_map, flat_map_single, follows, gives, half_moves_on, is_help, keeps, least_moves, lines_to_goal, list_all, map, nat_tests, node, nodes_below, not, open_length, refl, rules, seeks, shown_paths, suc, sym, true, value, varies, zero, ℕ, ◌%◌, ◌&&◌, ◌*◌, ◌++◌, ◌+◌, ◌-◌, ◌/◌, ◌<◌, ◌||◌, ◌∙◌, ◌∷◌, ◌≡◌, ◌≤◌}
-use Rattle.pop_solve.specs.declared.aim.Battle.TheVariants.{Direct}
+use Rattle.pop_solve.proofs.Words.{Battle, BattlePlay, Bool, Direct, Game, HelpPlay, List, Plan, Selfmate, [], answers, ap, append-nil, arith, best_moves, cond, eqb, every_move, false, fewest, filter, first_from, flat_map, flat_map_single, follows, gives, half_moves_on, keeps, least_moves, lines_to_goal, list_all, map, nat_tests, node, nodes_below, not, open_length, refl, rules, seeks, shown_paths, suc, sym, true, value, varies, zero, ℕ, ◌%◌, ◌&&◌, ◌*◌, ◌++◌, ◌+◌, ◌-◌, ◌/◌, ◌<◌, ◌||◌, ◌∙◌, ◌∷◌, ◌≡◌, ◌≤◌}
 use Rattle.pop_solve.proofs.Battles.{value-is_lost, value-is_self_lost}
 use Rattle.pop_solve.proofs.Lengths.{length-more}
 use Rattle.pop_solve.proofs.GoingOn.{length_most, half_moves_on-keys}
@@ -13,12 +12,13 @@ halves Selfmate k = 2 * k
 
 -- lists
 module _ {A B : Type 0} where
+  -- joined lists that are alike one by one
   pub flat-same : (F G : A → List B) (xs : List A) → ((x : A) → F x ≡ G x) → flat_map F xs ≡ flat_map G xs
   flat-same F G [] e = refl
   flat-same F G (x ∷ xs) e = rw (e x, flat-same F G xs e) refl
 
   -- where all pass the test
-  pub flat-all : (test : A → Bool) (F G : A → List B) (xs : List A) → list_all test xs ≡ true → ((x : A) → test x ≡ true → F x ≡ G x)
+  flat-all : (test : A → Bool) (F G : A → List B) (xs : List A) → list_all test xs ≡ true → ((x : A) → test x ≡ true → F x ≡ G x)
       → flat_map F xs ≡ flat_map G xs
   flat-all test F G [] t e = refl
   flat-all test F G (x ∷ xs) t e =
@@ -35,19 +35,19 @@ module _ {A B : Type 0} where
   flat-filter test other F G (x ∷ xs) s e = search (rules, flat-filter test other F G xs s e)
 
 module _ {P M : Type 0} (game : Game P M) where
+  -- with no half-move left no path is shown
   pub shown_paths-zero : (plan : Plan) (root : Bool) (k : ℕ) (p : P) (ms : List M) → shown_paths plan game root k 0 p ms ≡ []
   unfolding shown_paths
   shown_paths-zero plan root k p ms = search rules
 
   -- help play
-  module _ (plan : Plan) (help : is_help plan.form ≡ true) where
+  module _ (plan : Plan) (help : plan.play ≡ HelpPlay) where
     -- the lines by a move
-    by_move : (tested b : Bool) (m : M) (xs ys : List (List M)) → cond b ([] ∷ []) [] ++ xs ≡ ys
-        → cond (is_help plan.form || tested) (cond (not (is_help plan.form) || b) ((m ∷ []) ∷ []) [] ++ map (λ line. m ∷ line) xs) []
-        ≡ map (λ line. m ∷ line) ys
-    by_move tested b m xs ys e = search rules
+    by_move : (b : Bool) (m : M) (xs ys : List (List M)) → cond b ([] ∷ []) [] ++ xs ≡ ys
+        → cond b ((m ∷ []) ∷ []) [] ++ map (λ line. m ∷ line) xs ≡ map (λ line. m ∷ line) ys
+    by_move b m xs ys e = search rules
 
-    half_moves_on-whole : (t : ℕ) (q : P) → half_moves_on plan game t q ≡ t
+    half_moves_on-whole : (t : ℕ) (q : P) → half_moves_on plan.play (varies plan) game t q ≡ t
     unfolding half_moves_on
     half_moves_on-whole t q = rw help refl
 
@@ -59,6 +59,7 @@ module _ {P M : Type 0} (game : Game P M) where
     shown_paths-moves root (suc k) p ms =
         flat-same _ _ ms (λ m. grind (arith, by_move, half_moves_on-whole, nat_tests, shown_paths-moves false k (game.after p m) (game.moves (game.after p m))))
 
+    -- so from all moves of a position
     pub shown_paths-help : (root : Bool) (k : ℕ) (p : P) → shown_paths plan game root (suc k) (suc k) p (game.moves p) ≡ lines_to_goal game (suc k) p
     unfolding lines_to_goal
     shown_paths-help root k p = shown_paths-moves root k p (game.moves p)
@@ -85,6 +86,7 @@ module _ {P M : Type 0} (game : Game P M) where
   least_moves-halves Direct zero t q s some most open_yet v = absurd (omega (arith, some, most))
   least_moves-halves Direct (suc n) t q s some most open_yet v = grind (arith, seeks-halves Direct t s some, length-more, least_moves-direct game q n)
 
+  -- a battle with a half-move has a move
   pub half-some : (battle : Battle) (k : ℕ) → 0 < halves battle k → (j : ℕ) × (k ≡ suc j)
   half-some Selfmate k some = (k - 1, omega (arith, some))
   half-some Direct k some = (k - 1, omega (arith, some))
@@ -105,12 +107,15 @@ module _ {P M : Type 0} (game : Game P M) where
   first_from-least_moves battle q zero a = search rules
   first_from-least_moves battle q (suc n) a = search (rules, first_from-least_moves battle q n (a + 2))
 
+  -- White is to move with all half-moves of a battle left
   pub halves-seek : (battle : Battle) (k : ℕ) → seeks battle (halves battle (suc k)) ≡ true
   halves-seek battle k = search rules
 
+  -- what isn't true is false
   pub flip : (b : Bool) → not b ≡ true → b ≡ false
   flip b e = search rules
 
+  -- what isn't false is true
   pub unflip : (b : Bool) → not b ≡ false → b ≡ true
   unflip b e = search rules
 
@@ -119,165 +124,166 @@ module _ {P M : Type 0} (game : Game P M) where
   value-end-zero battle q = refl
 
   -- in battle play
-  module _ (plan : Plan) (battle : is_help plan.form ≡ false) where
+  module _ (plan : Plan) (battle : Battle) (fought : plan.play ≡ BattlePlay battle) where
     -- a move that is tested, and one that isn't
-    pub by_test : (root : Bool) (t : ℕ) (q : P) → (root || seeks (battle_of plan.form) (t + 1)) ≡ true
-        → follows plan game root t q ≡ value (battle_of plan.form) game t q
+    pub by_test : (root : Bool) (t : ℕ) (q : P) → (root || seeks battle (t + 1)) ≡ true
+        → follows plan.play game root t q ≡ value battle game t q
     unfolding follows
-    by_test root t q s = rw (battle, s) refl
+    by_test root t q s = rw (fought, s) refl
 
-    by_none : (t : ℕ) (q : P) → seeks (battle_of plan.form) (t + 1) ≡ false → follows plan game false t q ≡ true
+    by_none : (t : ℕ) (q : P) → seeks battle (t + 1) ≡ false → follows plan.play game false t q ≡ true
     unfolding follows
-    by_none t q s = rw (battle, s) refl
+    by_none t q s = rw (fought, s) refl
 
-    given_always : (t : ℕ) (q : P) → gives plan game t q ≡ true
+    given_always : (t : ℕ) (q : P) → gives plan.play game t q ≡ true
     unfolding gives
-    given_always t q = rw battle refl
+    given_always t q = rw fought refl
 
     -- what the walk shows by some moves, as nodes
     abbrev pub beneath : ℕ → ℕ → P → List (List M)
-    beneath k t q = shown_paths plan game false k (half_moves_on plan game t q) q (game.moves q)
+    beneath k t q = shown_paths plan game false k (half_moves_on plan.play (varies plan) game t q) q (game.moves q)
 
+    -- each move that is followed is a node
     pub as_nodes : (root : Bool) (k t : ℕ) (p : P) (ms : List M)
         → shown_paths plan game root (suc k) (suc t) p ms
-        ≡ flat_map (λ m. cond (follows plan game root t (game.after p m)) (node m (beneath k t (game.after p m))) []) ms
+        ≡ flat_map (λ m. cond (follows plan.play game root t (game.after p m)) (node m (beneath k t (game.after p m))) []) ms
     unfolding shown_paths
     as_nodes root k t p ms = search (rules, flat-same, given_always)
 
     -- the moves of White in his least length, over anything
-    white : (n k t : ℕ) (q : P) (G : M → List (List M)) → seeks (battle_of plan.form) t ≡ true → 0 < t → t ≤ 2 * n → t ≤ suc k → game.goal q ≡ false
-        → value (battle_of plan.form) game t q ≡ true → ((l : ℕ) (m : M) → seeks (battle_of plan.form) (l + 1) ≡ true → l + 1 ≤ t
-        → value (battle_of plan.form) game l (game.after q m) ≡ true → node m (beneath k l (game.after q m)) ≡ G m)
-        → shown_paths plan game false (suc k) (open_length (battle_of plan.form) game t q) q (game.moves q)
-        ≡ flat_map G (best_moves (battle_of plan.form) game n q)
+    white : (n k t : ℕ) (q : P) (G : M → List (List M)) → seeks battle t ≡ true → 0 < t → t ≤ 2 * n → t ≤ suc k → game.goal q ≡ false
+        → value battle game t q ≡ true → ((l : ℕ) (m : M) → seeks battle (l + 1) ≡ true → l + 1 ≤ t
+        → value battle game l (game.after q m) ≡ true → node m (beneath k l (game.after q m)) ≡ G m)
+        → shown_paths plan game false (suc k) (open_length battle game t q) q (game.moves q)
+        ≡ flat_map G (best_moves battle game n q)
     unfolding open_length
     white n k zero q G s some most room open_yet v each = absurd (omega (arith, some))
     white n k (suc t) q G s some most room open_yet v each =
         let z : eqb (suc t) 0 ≡ false = grind arith in
-        let L = first_from (battle_of plan.form) game q ((suc t - fewest (battle_of plan.form)) / 2) (fewest (battle_of plan.form)) in
-        let h : L ≡ halves (battle_of plan.form) (least_moves (battle_of plan.form) game n q) = grind (arith, least_moves-halves) in
+        let L = first_from battle game q ((suc t - fewest battle) / 2) (fewest battle) in
+        let h : L ≡ halves battle (least_moves battle game n q) = grind (arith, least_moves-halves) in
         rw (z, open_yet, s) (go L refl h)
       where
         z0 : eqb (suc t) 0 ≡ false
         z0 = grind arith
 
         L0 : ℕ
-        L0 = first_from (battle_of plan.form) game q ((suc t - fewest (battle_of plan.form)) / 2) (fewest (battle_of plan.form))
+        L0 = first_from battle game q ((suc t - fewest battle) / 2) (fewest battle)
 
-        go : (x : ℕ) → L0 ≡ x → x ≡ halves (battle_of plan.form) (least_moves (battle_of plan.form) game n q)
-            → shown_paths plan game false (suc k) x q (game.moves q) ≡ flat_map G (best_moves (battle_of plan.form) game n q)
+        go : (x : ℕ) → L0 ≡ x → x ≡ halves battle (least_moves battle game n q)
+            → shown_paths plan game false (suc k) x q (game.moves q) ≡ flat_map G (best_moves battle game n q)
         go zero e h = absurd (grind (arith, first_from-least_moves))
         go (suc l) e h =
-            let j = half-some (battle_of plan.form) (least_moves (battle_of plan.form) game n q) (omega (arith, h)) in
-            let h2 : suc l ≡ halves (battle_of plan.form) (suc j.0) = h ∙ ap (halves (battle_of plan.form)) j.1 in
-            let n2 : l + 1 ≡ halves (battle_of plan.form) (suc j.0) = omega (arith, h2) in
-            let l2 : halves (battle_of plan.form) (suc j.0) - 1 ≡ l = omega (arith, h2) in
-            let s2 : seeks (battle_of plan.form) (l + 1) ≡ true = rw n2 (halves-seek (battle_of plan.form) j.0) in
-            let most2 : L0 ≤ suc t = length_most game (battle_of plan.form) (suc t) q false true false z0 s in
+            let j = half-some battle (least_moves battle game n q) (omega (arith, h)) in
+            let h2 : suc l ≡ halves battle (suc j.0) = h ∙ ap (halves battle) j.1 in
+            let n2 : l + 1 ≡ halves battle (suc j.0) = omega (arith, h2) in
+            let l2 : halves battle (suc j.0) - 1 ≡ l = omega (arith, h2) in
+            let s2 : seeks battle (l + 1) ≡ true = rw n2 (halves-seek battle j.0) in
+            let most2 : L0 ≤ suc t = length_most game battle (suc t) q false true false z0 s in
             as_nodes false k l q (game.moves q)
-            ∙ flat-filter _ (λ m. keeps (battle_of plan.form) game (least_moves (battle_of plan.form) game n q) (game.after q m)) _ G (game.moves q)
+            ∙ flat-filter _ (λ m. keeps battle game (least_moves battle game n q) (game.after q m)) _ G (game.moves q)
             (grind (arith, by_test, keeps-value))
             (λ m v2. each l m s2 (omega (arith, e, most2)) (sym (by_test false l (game.after q m) s2) ∙ v2))
 
-    open-goal : (k : ℕ) (q : P) → game.goal q ≡ true → shown_paths plan game false k (open_length (battle_of plan.form) game k q) q (game.moves q) ≡ []
+    open-goal : (k : ℕ) (q : P) → game.goal q ≡ true → shown_paths plan game false k (open_length battle game k q) q (game.moves q) ≡ []
     unfolding open_length
     open-goal k q g = search (rules, shown_paths-zero)
 
     module _ (variation : varies plan ≡ true) where
-      beneath-is : (k t : ℕ) (q : P) → beneath k t q ≡ shown_paths plan game false k (open_length (battle_of plan.form) game t q) q (game.moves q)
+      beneath-is : (k t : ℕ) (q : P) → beneath k t q ≡ shown_paths plan game false k (open_length battle game t q) q (game.moves q)
       unfolding half_moves_on
-      beneath-is k t q = rw (battle, variation) refl
+      beneath-is k t q = rw (fought, variation) refl
 
-      abbrev pub Tie : ℕ → ℕ → ℕ → P → Type 0
-      Tie n k t q = shown_paths plan game false k (open_length (battle_of plan.form) game t q) q (game.moves q) ≡ cond (seeks (battle_of plan.form) t)
-          (answers (battle_of plan.form) game n k q) (nodes_below (battle_of plan.form) game n k q)
+      abbrev Tie : ℕ → ℕ → ℕ → P → Type 0
+      Tie n k t q = shown_paths plan game false k (open_length battle game t q) q (game.moves q) ≡ cond (seeks battle t)
+          (answers battle game n k q) (nodes_below battle game n k q)
 
       tie-goal : (n k t : ℕ) (q : P) → game.goal q ≡ true → Tie n k t q
       unfolding open_length
       tie-goal n k t q g = search (rules, shown_paths-zero, nothing)
 
-      tie-white : (n k t : ℕ) (q : P) → ((l : ℕ) (r : P) → value (battle_of plan.form) game l r ≡ true → l ≤ k → l ≤ 2 * n → Tie n k l r)
-          → value (battle_of plan.form) game (suc t) q ≡ true → suc t ≤ suc k → suc t ≤ 2 * n → game.goal q ≡ false
-          → seeks (battle_of plan.form) (suc t) ≡ true → Tie n (suc k) (suc t) q
+      tie-white : (n k t : ℕ) (q : P) → ((l : ℕ) (r : P) → value battle game l r ≡ true → l ≤ k → l ≤ 2 * n → Tie n k l r)
+          → value battle game (suc t) q ≡ true → suc t ≤ suc k → suc t ≤ 2 * n → game.goal q ≡ false
+          → seeks battle (suc t) ≡ true → Tie n (suc k) (suc t) q
       unfolding answers
       tie-white n k t q ih v room most g s = search (rules, white, flip, seeks-step, beneath-is)
 
-      tie-black : (n k t : ℕ) (q : P) → ((l : ℕ) (r : P) → value (battle_of plan.form) game l r ≡ true → l ≤ k → l ≤ 2 * n → Tie n k l r)
-          → value (battle_of plan.form) game (suc t) q ≡ true → suc t ≤ suc k → suc t ≤ 2 * n → game.goal q ≡ false
-          → seeks (battle_of plan.form) (suc t) ≡ false → Tie n (suc k) (suc t) q
+      tie-black : (n k t : ℕ) (q : P) → ((l : ℕ) (r : P) → value battle game l r ≡ true → l ≤ k → l ≤ 2 * n → Tie n k l r)
+          → value battle game (suc t) q ≡ true → suc t ≤ suc k → suc t ≤ 2 * n → game.goal q ≡ false
+          → seeks battle (suc t) ≡ false → Tie n (suc k) (suc t) q
       unfolding nodes_below open_length
       tie-black n k t q ih v room most g s =
           let z : eqb (suc t) 0 ≡ false = grind arith in
           let one : suc t ≡ t + 1 = omega arith in
-          let s1 : seeks (battle_of plan.form) (t + 1) ≡ false = (rw (← one) s) in
-          let w : seeks (battle_of plan.form) t ≡ true = unflip _ (sym (seeks-step (battle_of plan.form) t) ∙ s1) in
-          grind (arith, as_nodes, game.moves q, flat-all, value-black (battle_of plan.form) t q g s v, by_none, beneath-is)
+          let s1 : seeks battle (t + 1) ≡ false = (rw (← one) s) in
+          let w : seeks battle t ≡ true = unflip _ (sym (seeks-step battle t) ∙ s1) in
+          grind (arith, as_nodes, game.moves q, flat-all, value-black battle t q g s v, by_none, beneath-is)
 
       -- what the walk shows below a move that is shown
-      pub tie : (n k t : ℕ) (q : P) → value (battle_of plan.form) game t q ≡ true → t ≤ k → t ≤ 2 * n → Tie n k t q
-      tie n k zero q v room most = tie-goal n k 0 q (sym (value-end-zero (battle_of plan.form) q) ∙ v)
+      tie : (n k t : ℕ) (q : P) → value battle game t q ≡ true → t ≤ k → t ≤ 2 * n → Tie n k t q
+      tie n k zero q v room most = tie-goal n k 0 q (sym (value-end-zero battle q) ∙ v)
       tie n zero (suc t) q v room most = absurd (omega (arith, room))
       tie n (suc k) (suc t) q v room most =
           split (game.goal q) refl (tie-goal n (suc k) (suc t) q) (tie-white n k t q (λ l r a b c. tie n k l r a b c) v room most)
           (tie-black n k t q (λ l r a b c. tie n k l r a b c) v room most)
         where
           split : (g : Bool) → game.goal q ≡ g → (game.goal q ≡ true → Tie n (suc k) (suc t) q)
-              → (game.goal q ≡ false → seeks (battle_of plan.form) (suc t) ≡ true → Tie n (suc k) (suc t) q)
-              → (game.goal q ≡ false → seeks (battle_of plan.form) (suc t) ≡ false → Tie n (suc k) (suc t) q) → Tie n (suc k) (suc t) q
+              → (game.goal q ≡ false → seeks battle (suc t) ≡ true → Tie n (suc k) (suc t) q)
+              → (game.goal q ≡ false → seeks battle (suc t) ≡ false → Tie n (suc k) (suc t) q) → Tie n (suc k) (suc t) q
           split true e a b c = a e
-          split false e a b c = side (seeks (battle_of plan.form) (suc t)) refl
+          split false e a b c = side (seeks battle (suc t)) refl
             where
-              side : (s : Bool) → seeks (battle_of plan.form) (suc t) ≡ s → Tie n (suc k) (suc t) q
+              side : (s : Bool) → seeks battle (suc t) ≡ s → Tie n (suc k) (suc t) q
               side true f = b e f
               side false f = c e f
 
     -- where no variations are shown, nothing stands below a move of White
-    beneath-none : (k t : ℕ) (q : P) → varies plan ≡ false → seeks (battle_of plan.form) (t + 1) ≡ true → beneath k t q ≡ []
+    beneath-none : (k t : ℕ) (q : P) → varies plan ≡ false → seeks battle (t + 1) ≡ true → beneath k t q ≡ []
     beneath-none k t q v s = search (rules, half_moves_on-keys, shown_paths-zero)
 
-    beneath-set : (k t : ℕ) (q : P) → seeks (battle_of plan.form) (t + 1) ≡ false
-        → beneath k t q ≡ shown_paths plan game false k (open_length (battle_of plan.form) game t q) q (game.moves q)
+    beneath-set : (k t : ℕ) (q : P) → seeks battle (t + 1) ≡ false
+        → beneath k t q ≡ shown_paths plan game false k (open_length battle game t q) q (game.moves q)
     unfolding half_moves_on
     beneath-set k t q s = search rules
 
     -- below a key
-    pub nodes_below-key : (n h : ℕ) (q : P) → seeks (battle_of plan.form) (suc h) ≡ true → suc h ≤ 2 * n → value (battle_of plan.form) game h q ≡ true
-        → beneath h h q ≡ cond (varies plan) (nodes_below (battle_of plan.form) game n h q) []
+    pub nodes_below-key : (n h : ℕ) (q : P) → seeks battle (suc h) ≡ true → suc h ≤ 2 * n → value battle game h q ≡ true
+        → beneath h h q ≡ cond (varies plan) (nodes_below battle game n h q) []
     nodes_below-key n h q s most v = go (varies plan) refl
       where
-        s1 : seeks (battle_of plan.form) (h + 1) ≡ true
+        s1 : seeks battle (h + 1) ≡ true
         s1 = let one : suc h ≡ h + 1 = omega arith in rw (← one) s
 
-        go : (b : Bool) → varies plan ≡ b → beneath h h q ≡ cond b (nodes_below (battle_of plan.form) game n h q) []
+        go : (b : Bool) → varies plan ≡ b → beneath h h q ≡ cond b (nodes_below battle game n h q) []
         go true e =
             beneath-is e h h q ∙ tie e n h h q v (omega arith) (omega (arith, most))
-            ∙ ap (λ x. cond x (answers (battle_of plan.form) game n h q) (nodes_below (battle_of plan.form) game n h q))
-            (flip _ (sym (seeks-step (battle_of plan.form) h) ∙ s1))
+            ∙ ap (λ x. cond x (answers battle game n h q) (nodes_below battle game n h q))
+            (flip _ (sym (seeks-step battle h) ∙ s1))
         go false e = beneath-none h h q e s1
 
     -- below a first move of Black in set play
-    pub nodes_below-set : (n h : ℕ) (r : P) → seeks (battle_of plan.form) h ≡ true → h ≤ 2 * n → value (battle_of plan.form) game h r ≡ true
-        → beneath h h r ≡ cond (varies plan) (answers (battle_of plan.form) game n h r)
-        (cond (game.goal r) [] (map (λ m. m ∷ []) (best_moves (battle_of plan.form) game n r)))
+    pub nodes_below-set : (n h : ℕ) (r : P) → seeks battle h ≡ true → h ≤ 2 * n → value battle game h r ≡ true
+        → beneath h h r ≡ cond (varies plan) (answers battle game n h r)
+        (cond (game.goal r) [] (map (λ m. m ∷ []) (best_moves battle game n r)))
     nodes_below-set n h r s most v = go (varies plan) refl
       where
-        s1 : seeks (battle_of plan.form) (h + 1) ≡ false
-        s1 = seeks-step (battle_of plan.form) h ∙ ap not s
+        s1 : seeks battle (h + 1) ≡ false
+        s1 = seeks-step battle h ∙ ap not s
 
         no_variation : varies plan ≡ false → (h2 : ℕ) → h ≡ h2 → (g : Bool) → game.goal r ≡ g
-            → shown_paths plan game false h2 (open_length (battle_of plan.form) game h2 r) r (game.moves r) ≡ cond g []
-            (map (λ m. m ∷ []) (best_moves (battle_of plan.form) game n r))
+            → shown_paths plan game false h2 (open_length battle game h2 r) r (game.moves r) ≡ cond g []
+            (map (λ m. m ∷ []) (best_moves battle game n r))
         no_variation e h2 i true g = open-goal h2 r g
         no_variation e zero i false g = absurd (grind (arith, value-end-zero))
         no_variation e (suc k) i false g =
             white n k (suc k) r (λ m. (m ∷ []) ∷ []) (rw i at s) (omega arith) (rw i at most) (omega arith) g (rw i at v)
             (λ l m s2 less v2. ap (node m) (beneath-none k l (game.after r m) e s2))
-            ∙ flat_map_single (λ m. m ∷ []) (best_moves (battle_of plan.form) game n r)
+            ∙ flat_map_single (λ m. m ∷ []) (best_moves battle game n r)
 
         go : (b : Bool) → varies plan ≡ b
-            → beneath h h r ≡ cond b (answers (battle_of plan.form) game n h r)
-            (cond (game.goal r) [] (map (λ m. m ∷ []) (best_moves (battle_of plan.form) game n r)))
+            → beneath h h r ≡ cond b (answers battle game n h r)
+            (cond (game.goal r) [] (map (λ m. m ∷ []) (best_moves battle game n r)))
         go true e =
             beneath-is e h h r ∙ tie e n h h r v (omega arith) most
-            ∙ ap (λ x. cond x (answers (battle_of plan.form) game n h r) (nodes_below (battle_of plan.form) game n h r)) s
+            ∙ ap (λ x. cond x (answers battle game n h r) (nodes_below battle game n h r)) s
         go false e = beneath-set h h r s1 ∙ no_variation e h refl (game.goal r) refl

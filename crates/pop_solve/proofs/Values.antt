@@ -4,10 +4,12 @@ use Rattle.pop_solve.specs.declared.aim.Battle.TheVariants.{Direct}
 use Rattle.std.specs.Prelude.{◌==◌}
 
 module _ {P M : Type 0} (battle : Battle) (game : Game P M) where
+  -- with no half-move left the goal decides
   pub value-last : (t : ℕ) (p : P) → t ≡ 0 → value battle game t p ≡ game.goal p
   unfolding value
   value-last t p z = search rules
 
+  -- a conjunction by its parts
   pub both : (a b : Bool) → (a && b) ≡ true → (a ≡ true) × (b ≡ true)
   both a b e = search rules
 
@@ -16,6 +18,7 @@ module _ {P M : Type 0} (battle : Battle) (game : Game P M) where
   unfolding value
   value-mates p is = rw is refl
 
+  -- the last half-move of a selfmate is forced
   pub value-forced : (p : P) → battle ≡ Selfmate → value battle game 1 p ≡ (can_move game p && every_move game game.goal p)
   unfolding value
   value-forced p is = rw is refl

@@ -1,5 +1,6 @@
 -- The outcomes of a step for frames listed from the bottom up, as the code holds them, and what its calls hand on.
-use Rattle.pop_solve.proofs.Words.{AreKnown, Bool, CameFrom, CameFromAt, Counts, Frame, GoesTo, HasCounted, IfSome, IsNextMate, IsPlaceIn, IsWalking, LegalPlace, List, MatchOption, Mate, Option, Plan, Position, RuleSet, Steps, [], ap, append-nil, arith, battle_of, chess, eqb, false, follows, gives, half_moves_on, inl, inr, is_for_mate, is_mate, is_legal, length, length-reverse, mates_behind, moves_behind, moves_behind-end, position, refl, reverse, reverse-append, rules, seeks_last, smallest_tree, subst, suc, sym, true, undo_of, value, ℕ, ◌++◌, ◌+◌, ◌-◌, ◌<◌, ◌∙◌, ◌∷◌, ◌≡◌, ◌≤◌, ◌⊎◌, IsSettled, fewest_for, is_help, min, None, false≢true, ◌^◌, Move}
+use Rattle.pop_solve.specs.declared.aim.Aim.{Aim}
+use Rattle.pop_solve.proofs.Words.{AreKnown, Battle, BattlePlay, Bool, CameFrom, CameFromAt, Counts, Frame, GoesTo, HasCounted, HelpPlay, IfSome, IsNextMate, IsPlaceIn, IsWalking, LegalPlace, List, MatchOption, Mate, Option, Plan, Position, RuleSet, Steps, [], ap, append-nil, arith, chess, eqb, false, follows, gives, half_moves_on, inl, inr, is_for_mate, is_mate, is_legal, length, length-reverse, mates_behind, nat_tests, moves_behind, moves_behind-end, position, refl, reverse, reverse-append, rules, seeks_last, smallest_tree, subst, suc, sym, true, undo_of, value, varies, ℕ, ◌++◌, ◌+◌, ◌-◌, ◌<◌, ◌∙◌, ◌∷◌, ◌≡◌, ◌≤◌, ◌⊎◌, IsSettled, fewest_for, min, None, false≢true, ◌^◌, Move}
 use Rattle.chess_rules.specs.Play.{position_after}
 use Rattle.pop_solve.proofs.Boards.{for_mate}
 use Rattle.pop_solve.specs.ties.Frames.{opened_frame}
@@ -12,8 +13,13 @@ use Rattle.pop_solve.proofs.ToCome.{steps-skip}
 pub reverse-push : (xs : List Frame) (x : Frame) → reverse (xs ++ x ∷ []) ≡ x ∷ reverse xs
 reverse-push xs x = reverse-append xs (x ∷ [])
 
+-- the top frame is the last one of the code's list
 pub popped : (old new : List Frame) (x : Frame) → old ≡ new ++ x ∷ [] → reverse old ≡ x ∷ reverse new
 popped old new x e = ap reverse e ∙ reverse-push new x
+
+-- the frames of the first position's moves
+pub at_root : (n depth : ℕ) → n ≡ depth + 1 → eqb n 1 ≡ eqb depth 0
+at_root n depth e = grind (arith, nat_tests)
 
 -- the same outcomes, for frames listed from the bottom up, as the code holds them
 module _ (rule : RuleSet) (plan : Plan) (h : ℕ) (top : Frame) (old new : List Frame) (taken : old ≡ new ++ top ∷ []) where
@@ -23,10 +29,12 @@ module _ (rule : RuleSet) (plan : Plan) (h : ℕ) (top : Frame) (old new : List 
   walking_top : (p board now : Position) → IsWalking rule h p (reverse old) board → now ≡ board → IsWalking rule h p (top ∷ reverse new) now
   walking_top p board now r e = search (rules, popped)
 
+  -- what taking a move back asks for
   pub close_asks : (p board now : Position) (depth : ℕ) → IsWalking rule h p (reverse old) board → now ≡ board → depth ≡ length new → 0 < depth
       → CameFrom rule top now
   close_asks p board now depth r e d deep = CameFrom-deep rule h p top (reverse new) now (walking_top p board now r e) (omega (arith, depth_is, d, deep))
 
+  -- a step that closes the top frame
   pub close_steps : (p board now after : Position) (depth count : ℕ) → IsWalking rule h p (reverse old) board → now ≡ board → depth ≡ length new
       → (top.left ≡ 0) ⊎ GoesTo rule plan top.left board top.place [] → (depth ≡ 0 → after ≡ now)
       → ((q : Position) → 0 < depth → CameFromAt rule top now q → after ≡ q) → Steps rule plan h p (reverse old) (reverse new) after count count false
@@ -36,9 +44,11 @@ module _ (rule : RuleSet) (plan : Plan) (h : ℕ) (top : Frame) (old new : List 
       rw (popped old new top taken) (skips-close rule plan h p top (reverse new) now r2 after count (subst T (sym e ∙ r2.board_at) none)
       (λ z. lowest (omega (arith, depth_is, d, z))) (λ q z cf. before q (omega (arith, depth_is, d, z)) cf))
 
+  -- there is room for its half-moves
   pub room_left : (p board : Position) → IsWalking rule h p (reverse old) board → top.left + length new ≤ h
   room_left p board r = omega (arith, top_room rule h p top (reverse new) board (walking_top p board board r refl), depth_is)
 
+  -- what it knows is of the board's position
   pub top_known : (p board : Position) → IsWalking rule h p (reverse old) board → IfSome top.known (IsPlaceIn rule board)
   unfolding AreKnown
   top_known p board r = let s = walking_top p board board r refl in rw s.board_at s.known.0
@@ -56,10 +66,12 @@ module _ (rule : RuleSet) (plan : Plan) (h : ℕ) (top : Frame) (old new : List 
     mid_is : reverse mid ≡ moved (learned top known) place ∷ reverse new
     mid_is = popped mid new _ put
 
+    -- a step that plays its next move
     pub enter_steps : (root given : Bool) (after : Position) (opened opened2 : ℕ) → root ≡ eqb depth 0
-        → (follows plan (chess plan.goal rule) root behind arrived ≡ false → (given ≡ false) × (after ≡ now) × (last ≡ mid))
-        → (follows plan (chess plan.goal rule) root behind arrived ≡ true → (given ≡ gives plan (chess plan.goal rule) behind arrived) × (after ≡ arrived)
-        × (last ≡ mid ++ opened_frame m (undo_of rule now m) (half_moves_on plan (chess plan.goal rule) behind arrived) ∷ []))
+        → (follows plan.play (chess plan.goal rule) root behind arrived ≡ false → (given ≡ false) × (after ≡ now) × (last ≡ mid))
+        → (follows plan.play (chess plan.goal rule) root behind arrived ≡ true → (given ≡ gives plan.play (chess plan.goal rule) behind arrived)
+        × (after ≡ arrived)
+        × (last ≡ mid ++ opened_frame m (undo_of rule now m) (half_moves_on plan.play (varies plan) (chess plan.goal rule) behind arrived) ∷ []))
         → Counts rule plan root behind arrived opened opened2
         → (p : Position) → IsWalking rule h p (reverse old) board → Steps rule plan h p (reverse old) (reverse last) after opened opened2 given
     enter_steps root given after opened opened2 flag passes enters counts p r =
@@ -72,7 +84,7 @@ module _ (rule : RuleSet) (plan : Plan) (h : ℕ) (top : Frame) (old new : List 
         let g = subst T (sym at ∙ r2.board_at) some.1 in
         let r3 = walking-moved rule h p f g.mid (reverse new) now now r2 refl in
         let here : moves_behind rule now g.mid ≡ m ∷ moves_behind rule now place = rw r2.board_at g.here in
-        elim (cases (follows plan (chess plan.goal rule) root behind arrived)) [
+        elim (cases (follows plan.play (chess plan.goal rule) root behind arrived)) [
           | inl passed ↦
               let x = passes passed in
               rw (popped old new top taken, x.2, mid_is, x.0) (steps-learned rule plan h p top known (reverse new) _ after opened opened2 false
@@ -89,23 +101,28 @@ module _ (rule : RuleSet) (plan : Plan) (h : ℕ) (top : Frame) (old new : List 
 
 -- what the next move or the next mate says of the moves passed over
 module _ (rule : RuleSet) (plan : Plan) (left : ℕ) (p : Position) (place next : ℕ) where
+  -- what an answer says of the next move behind a place
   abbrev pub Next : Option Move → Type 0
   Next o = MatchOption o ((left ≡ 0) ⊎ GoesTo rule plan left p place [])
       (λ m. (0 < left) × GoesTo rule plan left p place (m ∷ moves_behind rule p next) × (is_legal rule p m ≡ true))
 
-  pub next_mating : (o : Option Move) → plan.goal ≡ Mate → seeks_last plan ≡ true → left ≡ 1
+  -- the next mate is the next move where play ends with it
+  pub next_mating : (o : Option Move) → plan.goal ≡ Mate → seeks_last plan.play ≡ true → left ≡ 1
       → MatchOption o (mates_behind rule p place ≡ []) (λ m. IsNextMate rule p place next m × (is_legal rule p m ≡ true)) → Next o
   unfolding mates_behind
   next_mating o for last single e = grind (arith, moves_behind-end rule p 28672 (omega arith), append-nil)
 
 -- in help play the position behind a move has no path of its own while half-moves are left, and is one to be tried
-gives-more : (rule : RuleSet) (plan : Plan) (q : Position) (t : ℕ) → is_help plan.form ≡ true → t ≡ 1 → gives plan (chess plan.goal rule) t q ≡ false
+gives-more : (rule : RuleSet) (plan : Plan) (q : Position) (t : ℕ) → plan.play ≡ HelpPlay → t ≡ 1 → gives plan.play (chess plan.goal rule) t q ≡ false
 unfolding gives
 gives-more rule plan q t help one = rw (help, one) refl
 
-one_tried : (rule : RuleSet) (plan : Plan) (root : Bool) (t before after : ℕ) (q : Position) → is_help plan.form ≡ true → t ≡ 1
-    → after ≡ min (before + 1) (2 ^ 64 - 1) → HasCounted before after (fewest_for plan (chess plan.goal rule) root t q)
-one_tried rule plan root t before after q help one e = rw (help, half_moves_on-help plan (chess plan.goal rule) t q help, one) (omega (arith, e))
+no_battle : (battle : Battle) → HelpPlay ≡ BattlePlay battle → ⊥
+no_battle battle e = cc
+
+one_tried : (rule : RuleSet) (plan : Plan) (root : Bool) (t before after : ℕ) (q : Position) → plan.play ≡ HelpPlay → t ≡ 1
+    → after ≡ min (before + 1) (2 ^ 64 - 1) → HasCounted before after (fewest_for plan.play (varies plan) (chess plan.goal rule) root t q)
+one_tried rule plan root t before after q help one e = rw (help, one) (omega (arith, e))
 
 -- a move that is settled is followed, and the frame behind it closed at once
 module _ (rule : RuleSet) (plan : Plan) (h : ℕ) (top : Frame) (old new : List Frame) (taken : old ≡ new ++ top ∷ []) (place : ℕ)
@@ -114,20 +131,21 @@ module _ (rule : RuleSet) (plan : Plan) (h : ℕ) (top : Frame) (old new : List 
     (within : IfSome known (IsPlaceIn rule board)) (put : mid ≡ new ++ moved (learned top known) place ∷ [])
     (s : IsSettled rule plan top.left now m) where
   abbrev shut : Frame
-  shut = opened_frame m (undo_of rule now m) (half_moves_on plan (chess plan.goal rule) (top.left - 1) (position_after rule now m))
+  shut = opened_frame m (undo_of rule now m) (half_moves_on plan.play (varies plan) (chess plan.goal rule) (top.left - 1) (position_after rule now m))
 
   one_left : top.left - 1 ≡ 1
   one_left = omega (arith, s.last)
 
-  counts_one : (opened opened2 : ℕ) → opened2 ≡ min (opened + 1) (2 ^ 64 - 1) → Counts rule plan (eqb depth 0) (top.left - 1) (position_after rule now m) opened opened2
+  counts_one : (opened opened2 : ℕ) → opened2 ≡ min (opened + 1) (2 ^ 64 - 1) → Counts rule plan (eqb depth 0) (top.left - 1)
+      (position_after rule now m) opened opened2
   counts_one opened opened2 more = record {
     more = λ help some. more;
     none = λ help none. absurd (omega (arith, one_left, none));
-    keys = λ battle keys white. absurd (false≢true (sym battle ∙ s.helped));
+    keys = λ battle fought keys white. absurd (no_battle battle (sym s.helped ∙ fought));
     tries = one_tried rule plan (eqb depth 0) (top.left - 1) opened opened2 (position_after rule now m) s.helped one_left more;
   }
 
-  followed : follows plan (chess plan.goal rule) (eqb depth 0) (top.left - 1) (position_after rule now m) ≡ true
+  followed : follows plan.play (chess plan.goal rule) (eqb depth 0) (top.left - 1) (position_after rule now m) ≡ true
   followed = follows-help (plan) (chess plan.goal rule) (eqb depth 0) (top.left - 1) (position_after rule now m) s.helped
 
   none_left : GoesTo rule plan shut.left (position_after rule now m) 0 []
@@ -138,6 +156,7 @@ module _ (rule : RuleSet) (plan : Plan) (h : ℕ) (top : Frame) (old new : List 
         | inr g ↦ g
       ]
 
+  -- a step whose move is settled
   pub settled_steps : (opened opened2 : ℕ) → opened2 ≡ min (opened + 1) (2 ^ 64 - 1) → (p : Position) → IsWalking rule h p (reverse old) board
       → Steps rule plan h p (reverse old) (reverse mid) now opened opened2 false
   settled_steps opened opened2 more p r =
@@ -155,9 +174,11 @@ module _ (rule : RuleSet) (plan : Plan) (h : ℕ) (top : Frame) (old new : List 
 
 -- a frame is closed, whatever is walked
 module _ (rule : RuleSet) (h : ℕ) (top : Frame) (old new : List Frame) (taken : old ≡ new ++ top ∷ []) where
+  -- what closing a frame asks for
   pub back_asks : (p board : Position) (depth : ℕ) → IsWalking rule h p (reverse old) board → depth ≡ length new → 0 < depth → CameFrom rule top board
   back_asks p board depth r d deep = CameFrom-deep rule h p top (reverse new) board (grind (arith, popped)) (omega (arith, length-reverse new, d, deep))
 
+  -- it leaves the walk on the frames below
   pub back_walking : (p board after : Position) (depth : ℕ) → IsWalking rule h p (reverse old) board → depth ≡ length new → (depth ≡ 0 → after ≡ board)
       → ((q : Position) → 0 < depth → CameFromAt rule top board q → after ≡ q) → IsWalking rule h p (reverse new) after
   back_walking p board after depth r d lowest before = walking-close rule h p top (reverse new) board after
@@ -171,15 +192,16 @@ walking_back rule h p board [] r none = r.board_at
 walking_back rule h p board (f ∷ frames) r none = absurd (omega (arith, none))
 
 -- after a mating last half-move the value is known, and nothing has to be tried for it
-pub value-mated : (rule : RuleSet) (plan : Plan) (left : ℕ) (q : Position) → is_for_mate plan.goal ≡ true → left + 1 ≡ 1 → is_mate rule q ≡ true
-    → true ≡ value (battle_of plan.form) (chess plan.goal rule) left q
+pub value-mated : (rule : RuleSet) (aim : Aim) (left : ℕ) (q : Position) → is_for_mate aim.goal ≡ true → left ≡ 0 → is_mate rule q ≡ true
+    → true ≡ value aim.battle (chess aim.goal rule) left q
 unfolding value
-value-mated rule plan left q for last mated = search (rules, for_mate)
+value-mated rule aim left q for last mated = search (rules, for_mate)
 
-pub tried-mated : (rule : RuleSet) (plan : Plan) (left count : ℕ) (q : Position) → left + 1 ≡ 1
-    → HasCounted count count (smallest_tree (battle_of plan.form) (chess plan.goal rule) left q)
+-- nor is anything to be tried there
+pub tried-mated : (rule : RuleSet) (aim : Aim) (left count : ℕ) (q : Position) → left ≡ 0
+    → HasCounted count count (smallest_tree aim.battle (chess aim.goal rule) left q)
 unfolding smallest_tree
-tried-mated rule plan left count q last = search rules
+tried-mated rule aim left count q last = search rules
 
 pub ruleset mated = (value-mated, tried-mated)
 

@@ -34,10 +34,10 @@ pub use Rattle.pop_input.specs.Stipulations.{half_moves, half_moves_of, is_help,
 pub use Rattle.pop_input.specs.declared.stipulation.Form.{Form}
 pub use Rattle.pop_input.specs.declared.stipulation.Goal.{Goal}
 pub use Rattle.pop_input.specs.declared.stipulation.Goal.TheVariants.{Mate}
-pub use Rattle.pop_solve.specs.Aims.{battle_of}
+pub use Rattle.pop_solve.specs.Aims.{play_of}
 pub use Rattle.pop_solve.specs.Chess.{chess, is_goal_reached, set_start}
 unfoldable pub use Rattle.pop_events.specs.Shown.{shown_move}
-pub use Rattle.pop_solve.specs.Events.{BareEvent, event_of, events, events_from, first_phase, impossible, is_barred, is_set, line, opening, path_event, phase_count, phase_half, phase_half_moves, phase_start, play_start, shown_along, shown_last, total, tree_node}
+pub use Rattle.pop_solve.specs.Events.{BareEvent, event_of, events, events_from, first_phase, game_of, impossible, is_barred, is_set, line, opening, path_event, phase_count, phase_half, phase_half_moves, phase_start, play_start, shown_along, shown_last, solutions_by, total, tree_node}
 unfoldable pub use Rattle.pop_solve.specs.Events.{phase_events, solutions}
 pub use Rattle.pop_solve.specs.Game.{Game, can_move, every_move, path_end, some_move}
 unfoldable pub use Rattle.pop_solve.specs.Game.{help_lines, is_lost, is_self_lost, lines_to_goal, self_wins, wins}
@@ -45,7 +45,9 @@ pub use Rattle.pop_events.specs.Shown.{Shown}
 pub use Rattle.pop_solve.specs.Tree.{best_moves, keeps, least_moves, node, set_shows, tree, wins_in}
 unfoldable pub use Rattle.pop_solve.specs.Tree.{answers, nodes_below, set_tree}
 pub use Rattle.pop_solve.specs.declared.aim.Battle.{Battle}
-pub use Rattle.pop_solve.specs.declared.aim.Battle.TheVariants.{Selfmate}
+pub use Rattle.pop_solve.specs.declared.aim.Battle.TheVariants.{Direct, Selfmate}
+pub use Rattle.pop_solve.specs.declared.aim.Play.{Play as PlayOfSides}
+pub use Rattle.pop_solve.specs.declared.aim.Play.TheVariants.{Help as HelpPlay, Battle as BattlePlay}
 pub use Rattle.pop_events.specs.declared.event.Event.{Event}
 pub use Rattle.pop_events.specs.declared.event.Event.TheVariants.{Line, Node, Total}
 pub use Rattle.pop_events.specs.declared.event.Phase.{Phase}
@@ -62,7 +64,7 @@ unfoldable pub use Rattle.pop_solve.specs.ties.Frames.{AreKnown, IsCut, IsLinked
 pub use Rattle.pop_solve.specs.ties.Marks.{is_for_mate}
 pub use Rattle.pop_solve.specs.ties.Phases.{Gives, IsGiven, IsKeys, IsOpened, OpensOn, Walks, begins, phase_paths}
 unfoldable pub use Rattle.pop_solve.specs.ties.Phases.{IsNarrow, IsStanding, beginning_count, keep, left_of, rest_fewest, rest_open}
-pub use Rattle.pop_solve.specs.ties.Plans.{plan_of, shows_variations, tree_shown, varies}
+pub use Rattle.pop_solve.specs.ties.Plans.{helps, plan_of, shows_variations, tree_shown, varies}
 pub use Rattle.pop_solve.specs.ties.Seen.{StandsOn, fewest_from, is_stop, is_unstopped, is_walked_once, phase_fewest, phase_walk, walk_from}
 pub use Rattle.pop_solve.specs.ties.Values.{decides, join, seeks}
 unfoldable pub use Rattle.pop_solve.specs.ties.Values.{joined_value, value}

@@ -1,12 +1,13 @@
--- Which battle a stipulation asks for (Codex).
+-- How a stipulation is played (Codex).
 use Rattle.pop_input.specs.declared.stipulation.Form.{Form}
 use Rattle.pop_input.specs.declared.stipulation.Form.TheVariants.{Direct as DirectForm, SelfMate, Help, HelpHalf}
-use Rattle.pop_solve.specs.declared.aim.Battle.{Battle}
 use Rattle.pop_solve.specs.declared.aim.Battle.TheVariants.{Direct, Selfmate}
+use Rattle.pop_solve.specs.declared.aim.Play.{Play}
+use Rattle.pop_solve.specs.declared.aim.Play.TheVariants.{Help as HelpPlay, Battle as BattlePlay}
 
--- the battle of a form; help play, which is none, counts with the direct ones
-abbrev pub battle_of : Form → Battle
-battle_of DirectForm = Direct
-battle_of SelfMate = Selfmate
-battle_of Help = Direct
-battle_of HelpHalf = Direct
+-- in help play both sides help; in a battle White seeks his aim against every defence
+abbrev pub play_of : Form → Play
+play_of DirectForm = BattlePlay Direct
+play_of SelfMate = BattlePlay Selfmate
+play_of Help = HelpPlay
+play_of HelpHalf = HelpPlay

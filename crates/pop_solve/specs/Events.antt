@@ -1,6 +1,8 @@
 -- The events of a problem: its phases, their solutions and their totals. Set play, the limit of solutions and the order
 -- of events are this project's own; half-moves are numbered as in the Popeye manual.
-use Rattle.pop_solve.specs.Aims.{battle_of}
+use Rattle.pop_solve.specs.Aims.{play_of}
+use Rattle.pop_solve.specs.declared.aim.Play.{Play as PlayOfSides}
+use Rattle.pop_solve.specs.declared.aim.Play.TheVariants.{Help as HelpPlay, Battle as BattlePlay}
 use Rattle.pop_input.specs.declared.stipulation.Goal.{Goal}
 use Rattle.chess_rules.specs.Play.{position_after}
 use Rattle.std.specs.Prelude.{ℕ, ◌+◌, ◌-◌, ◌==◌, Bool, true, false, ◌&&◌, if◌then◌else◌, List, [], ◌∷◌, ◌++◌, map, take, length}
@@ -9,7 +11,7 @@ use Rattle.chess_core.specs.Diagrams.{position_of}
 use Rattle.chess_core.specs.Position.{Position}
 use Rattle.chess_core.specs.declared.man.Move.{Move}
 use Rattle.chess_rules.specs.RuleSet.{RuleSet}
-use Rattle.pop_solve.specs.Game.{help_lines}
+use Rattle.pop_solve.specs.Game.{Game, help_lines}
 use Rattle.pop_solve.specs.Tree.{tree, set_tree}
 use Rattle.pop_input.specs.Posed.{Posed, rule_of}
 use Rattle.pop_input.specs.Stipulations.{is_help, first_half, half_moves}
@@ -59,17 +61,26 @@ abbrev pub phase_half_moves : Posed → Phase → ℕ
 phase_half_moves problem phase = if is_set phase then half_moves problem.stipulation - 1
     else half_moves problem.stipulation
 
--- its solutions
+-- the game that a problem asks for
+abbrev pub game_of : RuleSet → Posed → Game Position Move
+game_of rule problem = chess problem.stipulation.goal rule
+
+-- the solutions of a phase: in help play its lines, in a battle its tree
+abbrev pub solutions_by : PlayOfSides → RuleSet → Posed → Phase → List Solution
+solutions_by HelpPlay rule problem phase =
+    map (λ path. path ∷ []) (help_lines (game_of rule problem) (phase_half_moves problem phase)
+    (phase_start problem phase))
+solutions_by (BattlePlay battle) rule problem Set =
+    set_tree battle (game_of rule problem) problem.variation problem.stipulation.n
+    (phase_half_moves problem Set) (phase_start problem Set)
+solutions_by (BattlePlay battle) rule problem Play =
+    tree battle (game_of rule problem) problem.variation problem.stipulation.n
+    (phase_half_moves problem Play) (phase_start problem Play)
+
+-- those that the stipulation asks for
 unfoldable pub solutions : RuleSet → Posed → Phase → List Solution
 solutions rule problem phase =
-    let h = phase_half_moves problem phase in
-    let p = phase_start problem phase in
-    if is_help problem.stipulation.form then map (λ path. path ∷ [])
-    (help_lines (chess problem.stipulation.goal rule) h p)
-    else (if is_set phase then set_tree (battle_of problem.stipulation.form)
-    (chess problem.stipulation.goal rule) problem.variation problem.stipulation.n h p
-    else tree (battle_of problem.stipulation.form) (chess problem.stipulation.goal rule)
-    problem.variation problem.stipulation.n h p)
+    solutions_by (play_of problem.stipulation.form) rule problem phase
 
 -- a phase with set play's first position is barred where that can't stand
 abbrev pub is_barred : RuleSet → Posed → Phase → Bool

@@ -1,6 +1,6 @@
 //! What a search is after.
 ghost use Rattle.std.specs.Prelude.{◌≡◌};
-ghost use Rattle.pop_solve.specs.Aims.{battle_of};
+ghost use Rattle.pop_solve.specs.Aims.{play_of};
 
 use pop_input::stipulation::{Form, Goal};
 
@@ -13,19 +13,29 @@ pub enum Battle {
     Selfmate,
 }
 
-impl Battle {
-    /// The battle of a form; help play, which is none, counts with the direct ones.
-    pub fn of(form: Form) -> Battle
-        ensures { result ≡ battle_of form }
+/// How a stipulation is played (Codex).
+#[derive(Clone, Copy, PartialEq, Eq)]
+pub enum Play {
+    /// Both sides help.
+    Help,
+    /// White seeks his aim against every defence.
+    Battle(Battle),
+}
+
+impl Play {
+    /// How a form is played.
+    pub fn of(form: Form) -> Play
+        ensures { result ≡ play_of form }
     {
         match form {
-            Form::SelfMate => Battle::Selfmate,
-            Form::Direct | Form::Help | Form::HelpHalf => Battle::Direct,
+            Form::Direct => Play::Battle(Battle::Direct),
+            Form::SelfMate => Play::Battle(Battle::Selfmate),
+            Form::Help | Form::HelpHalf => Play::Help,
         }
     }
 }
 
-/// The goal, and the battle for it, where it is one.
+/// What White seeks in a battle: the battle, and its goal.
 #[derive(Clone, Copy)]
 pub struct Aim {
     pub battle: Battle,

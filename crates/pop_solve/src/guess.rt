@@ -3,15 +3,15 @@ ghost use Rattle.std.specs.Prelude.{◌≡◌, ◌≤◌, is_some, not, false, t
 ghost use Rattle.chess_core.specs.WellFormed.{IsWellFormed};
 ghost use Rattle.chess_rules.specs.Legal.{is_legal};
 ghost use Rattle.chess_rules.specs.Play.{position_after};
-ghost use Rattle.pop_input.specs.Stipulations.{is_help};
-ghost use Rattle.pop_solve.specs.Aims.{battle_of};
 ghost use Rattle.pop_solve.specs.Chess.{chess};
 ghost use Rattle.pop_solve.specs.declared.aim.Battle.TheVariants.{Selfmate};
+ghost use Rattle.pop_solve.specs.declared.aim.Play.TheVariants.{Help as HelpPlay, Battle as BattlePlay};
 ghost use Rattle.pop_solve.specs.ties.Values.{value};
 
-use crate::aim::{Aim, Battle};
+use crate::aim::{Aim, Battle, Play};
 use crate::chess::next_move;
 use crate::frame::Frame;
+use crate::history::History;
 use crate::killers::Killers;
 use crate::plan::Plan;
 use crate::value::value_of;
@@ -20,14 +20,15 @@ use chess_core::board::Board;
 use chess_core::man::Move;
 use chess_rules::moves::Moves;
 use chess_rules::rules::Rules;
+use std::mem;
 
 /// Whether killers are guessed for a test with `left` half-moves: in a direct mate, with Black to move. In selfmates none
 /// stand, and help play has no tests.
-fn wants_guess(plan: Plan, left: usize) -> bool
-    ensures help { is_help plan.form ≡ true → result ≡ false }
-    ensures selfmate { battle_of plan.form ≡ Selfmate → result ≡ false }
+fn wants_guess(play: Play, left: usize) -> bool
+    ensures help { play ≡ HelpPlay → result ≡ false }
+    ensures selfmate { play ≡ BattlePlay Selfmate → result ≡ false }
 {
-    !plan.form.is_help() && Battle::of(plan.form) == Battle::Direct && left % 2 == 0
+    play == Play::Battle(Battle::Direct) && left % 2 == 0
 }
 
 /// Whether White wins with `left` half-moves, and how many frames that test opens, on a board of its own.
@@ -43,8 +44,13 @@ fn cost_of_test<R: Rules>(
 {
     let mut stand = *board;
     let mut frames = ArrayVec::<Frame<R>, 33>::new();
-    let mut opened = 0;
-    let wins = value_of::<R, 33>(aim, left, &mut stand, &mut frames, killers, &mut opened);
+    let mut history = History::with(mem::replace(killers, Killers::none()));
+    let wins = value_of::<R, 33>(aim, left, &mut stand, &mut frames, &mut history);
+    let History {
+        killers: found,
+        opened,
+    } = history;
+    *killers = found;
     (wins, opened)
 }
 
@@ -119,19 +125,23 @@ pub fn guess_killers<R: Rules>(
     requires well_formed { IsWellFormed board.now }
     requires legal { is_legal R.rule board.now by ≡ true }
     requires few { left ≤ 32 }
-    ensures help { is_help plan.form ≡ true → killers.new ≡ killers.old }
-    ensures selfmate { battle_of plan.form ≡ Selfmate → killers.new ≡ killers.old }
+    ensures help { plan.play ≡ HelpPlay → killers.new ≡ killers.old }
+    ensures selfmate { plan.play ≡ BattlePlay Selfmate → killers.new ≡ killers.old }
 {
-    if !wants_guess(plan, left) {
+    if !wants_guess(plan.play, left) {
         return;
     }
+    let aim = Aim {
+        battle: Battle::Direct,
+        goal: plan.goal,
+    };
     let mut stand = *board;
     let _undo = R::play(&mut stand, by);
     for half in 1..left / 2 {
         let tried = 2 * half;
-        let _cost = cost_of_test::<R>(plan.aim(), tried, &stand, killers);
+        let _cost = cost_of_test::<R>(aim, tried, &stand, killers);
         if tried + 4 <= left {
-            choose_killer::<R>(plan.aim(), tried, &stand, killers);
+            choose_killer::<R>(aim, tried, &stand, killers);
         }
         killers.lengthen();
     }

@@ -1,10 +1,11 @@
 //! The search for the solutions of a chess problem: help play, direct mate and selfmate over one board and explicit frames.
 #![tactic(auto)]
 
-mod aim;
+pub mod aim;
 pub mod chess;
 pub mod frame;
 pub mod guess;
+pub mod history;
 pub mod killers;
 pub mod phases;
 pub mod plan;
@@ -14,5 +15,6 @@ mod value;
 pub mod walk;
 
 pub use frame::{Early, Frame, Order, Stretch};
+pub use history::History;
 pub use killers::Killers;
 pub use search::Search;

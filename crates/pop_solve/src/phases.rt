@@ -6,15 +6,16 @@ ghost use Rattle.pop_input.specs.Posed.{IsSound};
 ghost use Rattle.pop_input.specs.Stipulations.{half_moves, is_help};
 ghost use Rattle.pop_solve.specs.Events.{first_phase, play_start, phase_half_moves as half_moves_of_phase, phase_start, phase_half as half_of_phase, event_of, is_barred, path_event, is_set, opening};
 ghost use Rattle.pop_solve.specs.ties.Walk.{IsEnded, IsWalking, Opens, Tries, path};
-ghost use Rattle.pop_solve.specs.ties.Plans.{plan_of};
+ghost use Rattle.pop_solve.specs.ties.Plans.{helps, plan_of};
 ghost use Rattle.pop_solve.specs.ties.Phases.{left_of, IsStanding, Walks, Gives, OpensOn};
 ghost use Rattle.pop_events.specs.declared.event.Event.TheVariants.{Total};
 ghost use Rattle.pop_events.specs.declared.event.Phase.TheVariants.{Play};
 ghost use Rattle.pop_solve.specs.declared.phases.Stage.TheVariants.{Before, Within, Behind};
 
+use crate::aim;
 use crate::chess::{is_impossible, turn_back, turn_over};
 use crate::frame::Frame;
-use crate::killers::Killers;
+use crate::history::History;
 use crate::plan::Plan;
 use crate::showing::{last_shown, line};
 use crate::walk::{opened_by, step, step_back};
@@ -73,9 +74,9 @@ fn phase_half(problem: &Problem, phase: Phase) -> u32
 
 /// Whether a phase ends before another solution begins: so many have begun, and none is on the way.
 fn is_full(plan: Plan, depth: usize, limit: u32) -> bool
-    ensures { result ≡ ((limit == 0) && (is_help plan.form || (depth == 1))) }
+    ensures { result ≡ ((limit == 0) && (helps plan.play || (depth == 1))) }
 {
-    limit == 0 && (plan.form.is_help() || depth == 1)
+    limit == 0 && (plan.play == aim::Play::Help || depth == 1)
 }
 
 /// Walks on to the next path that is given, in a phase in which `limit` solutions are still to begin. Answers whether
@@ -86,28 +87,28 @@ pub fn walk_on<R: Rules, const N: usize>(
     limit: u32,
     board: &mut Board,
     frames: &mut ArrayVec<Frame<R>, N>,
-    killers: &mut Killers<R>,
-    opened: &mut u64,
+    history: &mut History<R>,
 ) -> bool
     requires sound { IsSound problem.now }
     requires room { half_moves problem.now.stipulation < N }
     requires walking { IsWalking R.rule (half_moves_of_phase problem.now phase)
         (phase_start problem.now phase)
         (reverse frames.old.items) board.old }
-    ensures walks { Walks R.rule (plan_of problem.now) (half_moves_of_phase problem.now phase)
-        (phase_start problem.now phase) limit (reverse frames.old.items) (reverse frames.new.items)
+    ensures walks { Walks R.rule (plan_of problem.now) (is_help problem.now.stipulation.form)
+        (half_moves_of_phase problem.now phase) (phase_start problem.now phase) limit
+        (reverse frames.old.items) (reverse frames.new.items)
         board.new result }
     ensures opens { Opens R.rule (plan_of problem.now) (phase_start problem.now phase)
         (reverse frames.old.items)
-        (reverse frames.new.items) opened.old opened.new }
+        (reverse frames.new.items) history.old.opened history.new.opened }
     ensures tries { Tries R.rule (plan_of problem.now) (half_moves_of_phase problem.now phase)
         (phase_start problem.now phase) (reverse frames.old.items) (reverse frames.new.items)
-        opened.old opened.new }
+        history.old.opened history.new.opened }
 {
     let plan = Plan::of(problem);
     let half_moves = phase_half_moves(problem, phase);
     while !frames.is_empty() && !is_full(plan, frames.len(), limit) {
-        if step::<R, N>(plan, half_moves, board, frames, killers, opened) {
+        if step::<R, N>(plan, half_moves, board, frames, history) {
             return true;
         }
     }
@@ -149,7 +150,7 @@ pub fn event_at<R: Rules>(
 {
     let half = phase_half(problem, phase);
     let plan = Plan::of(problem);
-    if plan.form.is_help() {
+    if problem.stipulation().form.is_help() {
         return Event::Line {
             half,
             moves: line::<R>(plan.goal, frames, board),
@@ -188,7 +189,7 @@ fn begin<R: Rules, const N: usize>(
     phase: Phase,
     board: &mut Board,
     frames: &mut ArrayVec<Frame<R>, N>,
-    opened: &mut u64,
+    history: &mut History<R>,
 ) -> Stage
     requires sound { IsSound problem.now }
     requires room { half_moves problem.now.stipulation < N }
@@ -199,7 +200,7 @@ fn begin<R: Rules, const N: usize>(
         ≡ opening phase ∷ left_of R.rule problem.now result (reverse frames.new.items) }
     ensures opens { OpensOn R.rule problem.now (Before phase) result (reverse frames.old.items)
         (reverse frames.new.items)
-        opened.old opened.new
+        history.old.opened history.new.opened
         (left_of R.rule problem.now (Before phase) (reverse frames.old.items)) }
 {
     if !set_up::<R>(problem, phase, board) {
@@ -212,7 +213,7 @@ fn begin<R: Rules, const N: usize>(
         known: None,
         ..Frame::default()
     });
-    *opened = opened_by(*opened, left, false);
+    history.opened = opened_by(history.opened, left, false);
     Stage::Within { phase, count: 0 }
 }
 
@@ -241,42 +242,39 @@ pub fn end<R: Rules, const N: usize>(
     }
 }
 
-/// Goes on within a phase, of which `count` solutions have begun.
+/// Goes on within a phase, of which `count` solutions have begun. Answers the stage behind the event and the event.
 #[tactic(auto, unfolding(crate::specs::ties::Phases::IsStanding))]
 fn go_on<R: Rules, const N: usize>(
     problem: &Problem,
     phase: Phase,
     count: u32,
-    stage: &mut Stage,
     board: &mut Board,
     frames: &mut ArrayVec<Frame<R>, N>,
-    killers: &mut Killers<R>,
-    opened: &mut u64,
-) -> Event
+    history: &mut History<R>,
+) -> (Stage, Event)
     requires sound { IsSound problem.now }
     requires room { half_moves problem.now.stipulation < N }
     requires standing { IsStanding R.rule problem.now (Within phase count)
         (reverse frames.old.items) board.old }
-    ensures standing { IsStanding R.rule problem.now stage.new (reverse frames.new.items)
+    ensures standing { IsStanding R.rule problem.now result.0 (reverse frames.new.items)
         board.new }
     ensures gives { Gives R.rule problem.now
         (left_of R.rule problem.now (Within phase count) (reverse frames.old.items))
-        (left_of R.rule problem.now stage.new (reverse frames.new.items))
-        result board.new (array_vec_len frames.new) }
-    ensures opens { OpensOn R.rule problem.now (Within phase count) stage.new
+        (left_of R.rule problem.now result.0 (reverse frames.new.items))
+        result.1 board.new (array_vec_len frames.new) }
+    ensures opens { OpensOn R.rule problem.now (Within phase count) result.0
         (reverse frames.old.items)
-        (reverse frames.new.items) opened.old opened.new
+        (reverse frames.new.items) history.old.opened history.new.opened
         (left_of R.rule problem.now (Within phase count) (reverse frames.old.items)) }
 {
     let limit = still_to_begin(problem, count);
-    if walk_on::<R, N>(problem, phase, limit, board, frames, killers, opened) {
+    if walk_on::<R, N>(problem, phase, limit, board, frames, history) {
         let count = count_with(problem, frames.len(), count);
         let event = event_at::<R>(problem, phase, frames.as_slice(), board);
-        *stage = Stage::Within { phase, count };
-        return event;
+        return (Stage::Within { phase, count }, event);
     }
-    *stage = end::<R, N>(problem, phase, board, frames);
-    total(problem, count)
+    let stage = end::<R, N>(problem, phase, board, frames);
+    (stage, total(problem, count))
 }
 
 /// How many solutions of a phase may still begin, once `count` have begun.
@@ -320,8 +318,7 @@ pub(crate) fn advance<R: Rules, const N: usize>(
     stage: &mut Stage,
     board: &mut Board,
     frames: &mut ArrayVec<Frame<R>, N>,
-    killers: &mut Killers<R>,
-    opened: &mut u64,
+    history: &mut History<R>,
 ) -> Option<Event>
     requires sound { IsSound problem.now }
     requires room { half_moves problem.now.stipulation < N }
@@ -339,11 +336,12 @@ pub(crate) fn advance<R: Rules, const N: usize>(
         event board.new (array_vec_len frames.new)) }
     ensures opens { OpensOn R.rule problem.now stage.old stage.new (reverse frames.old.items)
         (reverse frames.new.items)
-        opened.old opened.new (left_of R.rule problem.now stage.old (reverse frames.old.items)) }
+        history.old.opened history.new.opened (left_of R.rule problem.now stage.old
+        (reverse frames.old.items)) }
 {
     match *stage {
         Stage::Before { phase } => {
-            *stage = begin::<R, N>(problem, phase, board, frames, opened);
+            *stage = begin::<R, N>(problem, phase, board, frames, history);
             Some(Event::Phase(phase))
         }
         Stage::Barred => {
@@ -351,7 +349,9 @@ pub(crate) fn advance<R: Rules, const N: usize>(
             Some(Event::Impossible)
         }
         Stage::Within { phase, count } => {
-            Some(go_on::<R, N>(problem, phase, count, stage, board, frames, killers, opened))
+            let (next, event) = go_on::<R, N>(problem, phase, count, board, frames, history);
+            *stage = next;
+            Some(event)
         }
         Stage::Behind => None,
     }

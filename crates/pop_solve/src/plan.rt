@@ -1,10 +1,10 @@
 //! What is walked.
 ghost use Rattle.std.specs.Prelude.{◌≡◌};
-ghost use Rattle.pop_solve.specs.ties.Plans.{aim_of, plan_of, shows_variations, tree_shown};
+ghost use Rattle.pop_solve.specs.ties.Plans.{plan_of, shows_variations, tree_shown};
 
-use crate::aim::{Aim, Battle};
+use crate::aim::Play;
 use pop_input::problem::Problem;
-use pop_input::stipulation::{Form, Goal};
+use pop_input::stipulation::Goal;
 
 /// What is shown of a battle.
 #[derive(Clone, Copy)]
@@ -18,7 +18,7 @@ pub enum Tree {
 /// What is walked: help play or a battle, its goal, and what is shown of a battle.
 #[derive(Clone, Copy)]
 pub struct Plan {
-    pub form: Form,
+    pub play: Play,
     pub goal: Goal,
     pub tree: Tree,
 }
@@ -53,19 +53,9 @@ impl Plan {
     {
         let stipulation = problem.stipulation();
         Plan {
-            form: stipulation.form,
+            play: Play::of(stipulation.form),
             goal: stipulation.goal,
             tree: Tree::with(problem.variation()),
-        }
-    }
-
-    /// The battle and its goal.
-    pub(crate) fn aim(self) -> Aim
-        ensures { result ≡ aim_of self }
-    {
-        Aim {
-            battle: Battle::of(self.form),
-            goal: self.goal,
         }
     }
 }

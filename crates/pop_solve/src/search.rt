@@ -1,5 +1,6 @@
 //! Searches.
 use crate::frame::Frame;
+use crate::history::History;
 use crate::killers::Killers;
 use crate::phases::{Stage, advance, first_phase};
 use arrayvec::ArrayVec;
@@ -19,9 +20,8 @@ pub struct Search<R: Rules, const N: usize> {
     stage: Stage,
     board: Board,
     frames: ArrayVec<Frame<R>, N>,
-    killers: Killers<R>,
+    history: History<R>,
     given: u64,
-    opened: u64,
 }
 
 impl<R: Rules, const N: usize> Model for Search<R, N> {
@@ -41,7 +41,7 @@ impl<R: Rules, const N: usize> Model for Search<R, N> {
       board = s.board;
       depth = array_vec_len s.frames;
       given = s.given;
-      opened = s.opened;
+      opened = s.history.opened;
     } };
 
     ghost invariant = { λ s. IsSound s.problem
@@ -49,7 +49,7 @@ impl<R: Rules, const N: usize> Model for Search<R, N> {
         × IsStanding R.rule s.problem s.stage (reverse s.frames.items) s.board
         × IsGiven R.rule s.problem
         (left_of R.rule s.problem s.stage (reverse s.frames.items)) s.given
-        × IsOpened R.rule s.problem s.stage (reverse s.frames.items) s.opened };
+        × IsOpened R.rule s.problem s.stage (reverse s.frames.items) s.history.opened };
 }
 
 impl<R: Rules, const N: usize> Search<R, N> {
@@ -78,9 +78,8 @@ impl<R: Rules, const N: usize> Search<R, N> {
             },
             board: Board::of(&problem.diagram()),
             frames: ArrayVec::new(),
-            killers: Killers::none(),
+            history: History::with(Killers::none()),
             given: 0,
-            opened: 0,
         }
     }
 
@@ -102,8 +101,7 @@ impl<R: Rules, const N: usize> Search<R, N> {
             &mut self.stage,
             &mut self.board,
             &mut self.frames,
-            &mut self.killers,
-            &mut self.opened,
+            &mut self.history,
         );
         if event.is_some() {
             self.given = self.given.saturating_add(1);
@@ -147,6 +145,6 @@ impl<R: Rules, const N: usize> Search<R, N> {
             → self.now.left ≡ []
             → min (fewest_tried R.rule self.now.problem) (2 ^ 64 - 1) ≤ result }
     {
-        self.opened
+        self.history.opened
     }
 }

@@ -8,11 +8,12 @@ ghost use Rattle.pop_solve.specs.Chess.{chess};
 ghost use Rattle.pop_events.specs.Shown.{shown_move};
 ghost use Rattle.pop_solve.specs.Events.{shown_along, shown_last};
 ghost use Rattle.pop_solve.specs.ties.Frames.{CameFrom, CameFromAt};
+ghost use Rattle.pop_solve.specs.ties.Plans.{varies};
 ghost use Rattle.pop_solve.specs.ties.Walk.{ends_variation, IsEnded, IsWalking, path};
 ghost use Rattle.pop_solve.specs.declared.chess.Reached.TheVariants.{Perhaps, Surely};
 ghost use Rattle.std.specs.Prelude.{◌≡◌, ◌≤◌, ℕ, if◌then◌else◌, length, reverse, true};
 
-use crate::aim::Battle;
+use crate::aim::Play;
 use crate::chess::{Reached, mark_after, retract, shown_of};
 use crate::frame::Frame;
 use crate::plan::Plan;
@@ -33,16 +34,15 @@ fn take_back<R: Rules>(frame: &Frame<R>, board: &mut Board)
 
 /// What is known of the goal at the frame: in direct play with variations it is reached where a variation ends.
 fn reached_at<R: Rules>(plan: Plan, frame: &Frame<R>) -> Reached
-    ensures { result ≡ if ends_variation plan frame.now.left then Surely else Perhaps }
+    ensures { result ≡ if ends_variation plan.play (varies plan) frame.now.left then Surely
+        else Perhaps }
 {
-    if frame.left == 0
-        && plan.tree.has_variations()
-        && !plan.form.is_help()
-        && seeking(Battle::of(plan.form), 1)
-    {
-        Reached::Surely
-    } else {
-        Reached::Perhaps
+    match plan.play {
+        Play::Battle(battle)
+            if frame.left == 0 && plan.tree.has_variations() && seeking(battle, 1) => {
+            Reached::Surely
+        }
+        _ => Reached::Perhaps,
     }
 }
 

@@ -23,6 +23,7 @@ use crate::chess::{
     next_until, reaches_goal, retract,
 };
 use crate::frame::{Early, Frame, Order, Stretch};
+use crate::history::History;
 use crate::killers::Killers;
 use arrayvec::ArrayVec;
 use chess_core::board::Board;
@@ -82,10 +83,9 @@ fn last_value<R: Rules>(battle: Battle, board: &mut Board, killers: &mut Killers
 fn settled<R: Rules>(
     aim: Aim,
     left: usize,
-    killers: &mut Killers<R>,
     board: &mut Board,
     known: &mut Option<LegalMoves<R>>,
-    opened: &mut u64,
+    history: &mut History<R>,
 ) -> Option<bool>
     requires well_formed { IsWellFormed board.old }
     ensures unchanged { board.new ≡ board.old }
@@ -95,11 +95,12 @@ fn settled<R: Rules>(
         (legal_moves R.rule board.old)))
         (λ v. v ≡ value aim.battle (chess aim.goal R.rule) left board.old) }
     ensures known { IfSome known.new (λ k. IsPlaceIn R.rule board.old k) }
-    ensures opened { MatchOption result (opened.new ≡ opened.old)
-        (λ _. opened.new ≤ opened.old + walk_count (legal_moves R.rule) (position_after R.rule) left
+    ensures opened { MatchOption result (history.new.opened ≡ history.old.opened)
+        (λ _. history.new.opened ≤ history.old.opened + walk_count (legal_moves R.rule)
+        (position_after R.rule) left
         board.old) }
     ensures tried { IfSome result
-        (λ _. HasCounted opened.old opened.new
+        (λ _. HasCounted history.old.opened history.new.opened
         (smallest_tree aim.battle (chess aim.goal R.rule) left board.old)) }
 {
     *known = None;
@@ -107,13 +108,13 @@ fn settled<R: Rules>(
         return Some(reaches_goal::<R>(aim.goal, board));
     }
     if is_for_mate(aim.goal) && left == 1 {
-        *opened = opened.saturating_add(1);
-        return Some(last_value::<R>(aim.battle, board, killers));
+        history.opened = history.opened.saturating_add(1);
+        return Some(last_value::<R>(aim.battle, board, &mut history.killers));
     }
     if is_free(aim.battle, left) {
         return None;
     }
-    *known = first_look::<R>(killers.of(aim.battle, left), board);
+    *known = first_look::<R>(history.killers.of(aim.battle, left), board);
     if known.is_some() {
         None
     } else {
@@ -335,24 +336,23 @@ fn descend<R: Rules, const N: usize>(
     aim: Aim,
     top: Frame<R>,
     by: Move,
-    killers: &mut Killers<R>,
     board: &mut Board,
     frames: &mut ArrayVec<Frame<R>, N>,
-    answer: &mut Option<bool>,
-    opened: &mut u64,
-)
+    history: &mut History<R>,
+) -> Option<bool>
     requires well_formed { IsWellFormed board.old }
     requires some { 0 < top.left }
     requires room { array_vec_len frames.old + top.left ≤ N }
     requires legal { is_legal R.rule board.old by ≡ true }
-    ensures opened { MatchOption answer.new (opened.new ≤ opened.old + 1)
-        (λ _. opened.new ≤ opened.old + walk_count (legal_moves R.rule) (position_after R.rule)
+    ensures opened { MatchOption result (history.new.opened ≤ history.old.opened + 1)
+        (λ _. history.new.opened ≤ history.old.opened + walk_count (legal_moves R.rule)
+        (position_after R.rule)
         (top.left - 1) (position_after R.rule board.old by)) }
-    ensures tried { MatchOption answer.new (HasCounted opened.old opened.new 1)
-        (λ _. HasCounted opened.old opened.new
+    ensures tried { MatchOption result (HasCounted history.old.opened history.new.opened 1)
+        (λ _. HasCounted history.old.opened history.new.opened
         (smallest_tree aim.battle (chess aim.goal R.rule) (top.left - 1)
         (position_after R.rule board.old by))) }
-    ensures answer { MatchOption answer.new
+    ensures answer { MatchOption result
         ((0 < top.left - 1)
         × (value aim.battle (chess aim.goal R.rule) (top.left - 1)
         (position_after R.rule board.old by)
@@ -370,30 +370,30 @@ fn descend<R: Rules, const N: usize>(
 {
     frames.push(top);
     let left = top.left - 1;
-    if rules_out_mate::<R>(aim, left, &by, board, killers) {
-        *answer = Some(false);
-        *opened = opened.saturating_add(1);
-        return;
+    if rules_out_mate::<R>(aim, left, &by, board, &mut history.killers) {
+        history.opened = history.opened.saturating_add(1);
+        return Some(false);
     }
     let undo = R::play(board, by);
     let mut known = None;
-    *answer = settled::<R>(aim, left, killers, board, &mut known, opened);
+    let answer = settled::<R>(aim, left, board, &mut known, history);
     if answer.is_some() {
         retract::<R>(board, by, undo);
-    } else {
-        *opened = opened.saturating_add(1);
-        let order = order_of(killers, aim.battle, left);
-        frames.push(Frame {
-            place: order.killer.back(),
-            by,
-            undo,
-            left,
-            order,
-            stretch: Stretch::Killer,
-            known,
-            ..top
-        });
+        return answer;
     }
+    history.opened = history.opened.saturating_add(1);
+    let order = order_of(&history.killers, aim.battle, left);
+    frames.push(Frame {
+        place: order.killer.back(),
+        by,
+        undo,
+        left,
+        order,
+        stretch: Stretch::Killer,
+        known,
+        ..top
+    });
+    None
 }
 
 /// One turn of a test: the top frame is closed, or its next move is played.
@@ -402,9 +402,8 @@ fn turn<R: Rules, const N: usize>(
     floor: usize,
     board: &mut Board,
     frames: &mut ArrayVec<Frame<R>, N>,
-    killers: &mut Killers<R>,
     answer: &mut Option<bool>,
-    opened: &mut u64,
+    history: &mut History<R>,
 ) -> Option<bool>
     requires well_formed { IsWellFormed board.old }
     requires above { floor < array_vec_len frames.old }
@@ -416,9 +415,9 @@ fn turn<R: Rules, const N: usize>(
     ensures next { (p : Position) → IsTesting R.rule p (tests floor frames.old.items) board.old
         → MatchOption result
         (Turns R.rule aim floor p frames.old.items frames.new.items
-        answer.old answer.new board.new opened.old opened.new)
+        answer.old answer.new board.new history.old.opened history.new.opened)
         (λ v. Ends R.rule aim floor p frames.old.items frames.new.items
-        answer.old board.new opened.old opened.new v) }
+        answer.old board.new history.old.opened history.new.opened v) }
 {
     let Some(top) = frames.pop() else {
         return None;
@@ -426,7 +425,7 @@ fn turn<R: Rules, const N: usize>(
     let depth = frames.len();
     let seek = seeking(aim.battle, top.left);
     if decided(*answer, seek) {
-        killers.put(top.left, top.place);
+        history.killers.put(top.left, top.place);
         return close::<R>(seek, floor, depth, top, board, answer);
     }
     let mut moves = moves_at::<R>(top.known, top.place, board);
@@ -434,21 +433,13 @@ fn turn<R: Rules, const N: usize>(
     let Some(by) = next_tried::<R>(top.order, &mut stretch, &mut moves, board) else {
         return close::<R>(!seek, floor, depth, top, board, answer);
     };
-    descend::<R, N>(
-        aim,
-        Frame {
-            place: moves.place(),
-            stretch,
-            known: Some(moves),
-            ..top
-        },
-        by,
-        killers,
-        board,
-        frames,
-        answer,
-        opened,
-    );
+    let moved = Frame {
+        place: moves.place(),
+        stretch,
+        known: Some(moves),
+        ..top
+    };
+    *answer = descend::<R, N>(aim, moved, by, board, frames, history);
     None
 }
 
@@ -458,21 +449,20 @@ pub(crate) fn value_of<R: Rules, const N: usize>(
     left: usize,
     board: &mut Board,
     frames: &mut ArrayVec<Frame<R>, N>,
-    killers: &mut Killers<R>,
-    opened: &mut u64,
+    history: &mut History<R>,
 ) -> bool
     requires well_formed { IsWellFormed board.old }
     requires room { array_vec_len frames.old + left ≤ N }
     ensures { Evaluates R.rule aim left board.old board.new frames.old.items frames.new.items
-        opened.old opened.new result }
+        history.old.opened history.new.opened result }
 {
     let mut known = None;
-    if let Some(v) = settled::<R>(aim, left, killers, board, &mut known, opened) {
+    if let Some(v) = settled::<R>(aim, left, board, &mut known, history) {
         return v;
     }
     let floor = frames.len();
-    *opened = opened.saturating_add(1);
-    let order = order_of(killers, aim.battle, left);
+    history.opened = history.opened.saturating_add(1);
+    let order = order_of(&history.killers, aim.battle, left);
     frames.push(Frame {
         place: order.killer.back(),
         left,
@@ -483,7 +473,7 @@ pub(crate) fn value_of<R: Rules, const N: usize>(
     });
     let mut answer = None;
     loop {
-        if let Some(known) = turn::<R, N>(aim, floor, board, frames, killers, &mut answer, opened) {
+        if let Some(known) = turn::<R, N>(aim, floor, board, frames, &mut answer, history) {
             return known;
         }
     }

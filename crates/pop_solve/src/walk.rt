@@ -4,23 +4,24 @@ ghost use Rattle.chess_rules.specs.Legal.{moves as legal_moves};
 ghost use Rattle.std.specs.Prelude.{◌≡◌, ◌↔◌, ◌+◌, ◌<◌, ◌≤◌, ◌/◌, [], ◌∷◌, ◌++◌, length, reverse, IsTrue, true, false, IfSome, MatchOption, ◌⊎◌, not, ◌&&◌, ◌||◌, ◌==◌, ◌-◌, ◌^◌, min};
 ghost use Rattle.chess_core.specs.Position.{Position};
 ghost use Rattle.chess_core.specs.WellFormed.{IsWellFormed};
-ghost use Rattle.chess_rules.specs.Legal.{is_legal};
+ghost use Rattle.chess_rules.specs.Legal.{is_legal, is_mate};
 ghost use Rattle.chess_rules.specs.ties.Places.{IsPlaceIn, moves_behind};
 ghost use Rattle.chess_rules.specs.Play.{undo_of};
 ghost use Rattle.arrayvec.specs.ArrayVec.{array_vec_len};
-ghost use Rattle.pop_input.specs.Stipulations.{is_help};
-ghost use Rattle.pop_solve.specs.Aims.{battle_of};
+ghost use Rattle.pop_solve.specs.declared.aim.Battle.{Battle};
+ghost use Rattle.pop_solve.specs.declared.aim.Play.TheVariants.{Help as HelpPlay, Battle as BattlePlay};
 ghost use Rattle.pop_solve.specs.ties.Calls.{Counts, Evaluates, Restores};
-ghost use Rattle.pop_solve.specs.ties.Plans.{aim_of, varies};
+ghost use Rattle.pop_solve.specs.ties.Plans.{varies};
 ghost use Rattle.pop_solve.specs.ties.Frames.{CameFrom, CameFromAt, opened_frame};
 ghost use Rattle.pop_solve.specs.Chess.{chess};
 ghost use Rattle.pop_solve.specs.ties.Marks.{is_for_mate};
 ghost use Rattle.pop_solve.specs.ties.Values.{seeks, value};
 ghost use Rattle.pop_solve.specs.ties.Walk.{fewest as fewest_of, first_from, open_length, follows as is_followed, gives as is_given, half_moves_on, GoesTo, IsMatedAtLast, IsSettled, IsWalking, seeks_last, Steps};
 
-use crate::aim::{Aim, Battle};
+use crate::aim::{Aim, Battle, Play};
 use crate::chess::{is_for_mate, next_mate, next_move, reaches_goal, retract};
 use crate::frame::{Frame, Order, Stretch};
+use crate::history::History;
 use crate::killers::Killers;
 use crate::plan::Plan;
 use crate::value::{seeking, value_of};
@@ -48,19 +49,18 @@ fn least_length<R: Rules, const N: usize>(
     left: usize,
     board: &mut Board,
     frames: &mut ArrayVec<Frame<R>, N>,
-    killers: &mut Killers<R>,
-    opened: &mut u64,
+    history: &mut History<R>,
 ) -> usize
     requires well_formed { IsWellFormed board.old }
     requires room { array_vec_len frames.old + left ≤ N }
     ensures least { result ≡ first_from aim.battle (chess aim.goal R.rule) board.old
         ((left - fewest_of aim.battle) / 2) (fewest_of aim.battle) }
-    ensures rest { Restores board.old board.new frames.old.items frames.new.items opened.old
-        opened.new }
+    ensures rest { Restores board.old board.new frames.old.items frames.new.items history.old.opened
+        history.new.opened }
 {
     let mut tried = fewest(aim.battle);
     while left >= 2 && tried <= left - 2 {
-        if value_of::<R, N>(aim, tried, board, frames, killers, opened) {
+        if value_of::<R, N>(aim, tried, board, frames, history) {
             return tried;
         }
         tried += 2;
@@ -75,14 +75,13 @@ fn length_shown<R: Rules, const N: usize>(
     left: usize,
     board: &mut Board,
     frames: &mut ArrayVec<Frame<R>, N>,
-    killers: &mut Killers<R>,
-    opened: &mut u64,
+    history: &mut History<R>,
 ) -> usize
     requires well_formed { IsWellFormed board.old }
     requires room { array_vec_len frames.old + left ≤ N }
     ensures length { result ≡ open_length aim.battle (chess aim.goal R.rule) left board.old }
-    ensures rest { Restores board.old board.new frames.old.items frames.new.items opened.old
-        opened.new }
+    ensures rest { Restores board.old board.new frames.old.items frames.new.items history.old.opened
+        history.new.opened }
 {
     if left == 0 || reaches_goal::<R>(aim.goal, board) {
         return 0;
@@ -90,7 +89,7 @@ fn length_shown<R: Rules, const N: usize>(
     if !seeking(aim.battle, left) {
         return left;
     }
-    least_length::<R, N>(aim, left, board, frames, killers, opened)
+    least_length::<R, N>(aim, left, board, frames, history)
 }
 
 /// With how many half-moves the walk goes on from the board's position, where `left` are left.
@@ -100,71 +99,84 @@ fn length_below<R: Rules, const N: usize>(
     left: usize,
     board: &mut Board,
     frames: &mut ArrayVec<Frame<R>, N>,
-    killers: &mut Killers<R>,
-    opened: &mut u64,
+    history: &mut History<R>,
 ) -> usize
     requires well_formed { IsWellFormed board.old }
     requires room { array_vec_len frames.old + left ≤ N }
-    ensures length { result ≡ half_moves_on plan (chess plan.goal R.rule) left board.old }
-    ensures rest { Restores board.old board.new frames.old.items frames.new.items opened.old
-        opened.new }
-    ensures opened { is_help plan.form ≡ true → opened.new ≡ opened.old }
-    ensures keys_alone { IsTrue (not (varies plan) && seeks (battle_of plan.form) (left + 1))
-        → opened.new ≡ opened.old }
+    ensures length { result ≡ half_moves_on plan.play (varies plan) (chess plan.goal R.rule) left
+        board.old }
+    ensures rest { Restores board.old board.new frames.old.items frames.new.items history.old.opened
+        history.new.opened }
+    ensures opened { plan.play ≡ HelpPlay → history.new.opened ≡ history.old.opened }
+    ensures keys_alone { (battle : Battle) → plan.play ≡ BattlePlay battle
+        → IsTrue (not (varies plan) && seeks battle (left + 1))
+        → history.new.opened ≡ history.old.opened }
 {
-    if plan.form.is_help() {
+    let Play::Battle(battle) = plan.play else {
         return left;
-    }
-    if !plan.tree.has_variations() && seeking(Battle::of(plan.form), left + 1) {
+    };
+    if !plan.tree.has_variations() && seeking(battle, left + 1) {
         return 0;
     }
-    length_shown::<R, N>(plan.aim(), left, board, frames, killers, opened)
+    let aim = Aim {
+        battle,
+        goal: plan.goal,
+    };
+    length_shown::<R, N>(aim, left, board, frames, history)
 }
 
-/// Whether a move is tested before it is followed, where `left` half-moves are left with it: in battle play the
-/// moves of White and those of the phase's first position.
-fn is_tested(plan: Plan, root: bool, left: usize) -> bool
-    ensures { result ≡ (not (is_help plan.form) && (root || seeks (battle_of plan.form) left)) }
+/// The battle in which a move is tested before it is followed, where `left` half-moves are left with it: the moves of White
+/// and those of the phase's first position are.
+fn tested_in(play: Play, root: bool, left: usize) -> Option<Battle>
+    ensures { MatchOption result ((battle : Battle) → play ≡ BattlePlay battle
+        → (root || seeks battle left) ≡ false)
+        (λ battle. (play ≡ BattlePlay battle) × ((root || seeks battle left) ≡ true)) }
 {
-    !plan.form.is_help() && (root || seeking(Battle::of(plan.form), left))
+    match play {
+        Play::Battle(battle) if root || seeking(battle, left) => Some(battle),
+        _ => None,
+    }
 }
 
 /// Whether the side that makes the last half-move seeks the goal: each side in help play, and White in direct play.
-fn seeking_last(plan: Plan) -> bool
-    ensures { result ≡ seeks_last plan }
+fn seeking_last(play: Play) -> bool
+    ensures { result ≡ seeks_last play }
 {
-    plan.form.is_help() || seeking(Battle::of(plan.form), 1)
+    match play {
+        Play::Help => true,
+        Play::Battle(battle) => seeking(battle, 1),
+    }
 }
 
 /// Whether each path that is given ends with the next half-move, which mates: the last one of play for mate, by a side
 /// that seeks it.
 pub fn ends_with_mate(plan: Plan, left: usize) -> bool
-    ensures { IsTrue result ↔ ((is_for_mate plan.goal ≡ true) × (seeks_last plan ≡ true)
+    ensures { IsTrue result ↔ ((is_for_mate plan.goal ≡ true) × (seeks_last plan.play ≡ true)
         × (left ≡ 1)) }
 {
-    is_for_mate(plan.goal) && left == 1 && seeking_last(plan)
+    is_for_mate(plan.goal) && left == 1 && seeking_last(plan.play)
 }
 
 /// The value of the position that a move has reached, with `left` half-moves left there. It isn't looked at again where
 /// the move was the last one and is known to mate.
 fn value_after<R: Rules, const N: usize>(
-    plan: Plan,
+    aim: Aim,
     left: usize,
     board: &mut Board,
     frames: &mut ArrayVec<Frame<R>, N>,
-    killers: &mut Killers<R>,
-    opened: &mut u64,
+    history: &mut History<R>,
 ) -> bool
     requires well_formed { IsWellFormed board.old }
     requires room { array_vec_len frames.old + left ≤ N }
-    requires mated { IsMatedAtLast R.rule plan left board.old }
-    ensures { Evaluates R.rule (aim_of plan) left board.old board.new frames.old.items
-        frames.new.items opened.old opened.new result }
+    requires mated { is_for_mate aim.goal ≡ true → seeks aim.battle 1 ≡ true → left ≡ 0
+        → is_mate R.rule board.old ≡ true }
+    ensures { Evaluates R.rule aim left board.old board.new frames.old.items
+        frames.new.items history.old.opened history.new.opened result }
 {
-    if ends_with_mate(plan, left + 1) {
+    if left == 0 && is_for_mate(aim.goal) && seeking(aim.battle, 1) {
         return true;
     }
-    value_of::<R, N>(plan.aim(), left, board, frames, killers, opened)
+    value_of::<R, N>(aim, left, board, frames, history)
 }
 
 /// Whether the path to the board's position is given, with `left` half-moves left there. The last half-move of help play
@@ -174,10 +186,12 @@ fn gives<R: Rules>(plan: Plan, left: usize, board: &mut Board) -> bool
     requires well_formed { IsWellFormed board.old }
     requires mated { IsMatedAtLast R.rule plan left board.old }
     ensures unchanged { board.new ≡ board.old }
-    ensures given { result ≡ is_given plan (chess plan.goal R.rule) left board.old }
+    ensures given { result ≡ is_given plan.play (chess plan.goal R.rule) left board.old }
 {
-    !plan.form.is_help()
-        || left == 0 && (is_for_mate(plan.goal) || reaches_goal::<R>(plan.goal, board))
+    match plan.play {
+        Play::Battle(_) => true,
+        Play::Help => left == 0 && (is_for_mate(plan.goal) || reaches_goal::<R>(plan.goal, board)),
+    }
 }
 
 /// The count of opened frames once a frame has been opened that has `tried` half-moves below it. One with none isn't
@@ -201,39 +215,47 @@ pub(crate) fn opened_by(opened: u64, tried: usize, tested: bool) -> u64
 #[inline(always)]
 pub fn enter<R: Rules, const N: usize>(
     plan: Plan,
-    root: bool,
     left: usize,
     by: Move,
     board: &mut Board,
     frames: &mut ArrayVec<Frame<R>, N>,
-    killers: &mut Killers<R>,
-    opened: &mut u64,
+    history: &mut History<R>,
 ) -> bool
     requires well_formed { IsWellFormed board.old }
     requires room { array_vec_len frames.old + left < N }
     requires legal { is_legal R.rule board.old by ≡ true }
     requires mated { IsMatedAtLast R.rule plan left (position_after R.rule board.old by) }
-    ensures passes { is_followed plan (chess plan.goal R.rule) root left
+    ensures passes { is_followed plan.play (chess plan.goal R.rule)
+        (array_vec_len frames.old == 1) left
         (position_after R.rule board.old by) ≡ false
         → (result ≡ false) × (board.new ≡ board.old) × (frames.new.items ≡ frames.old.items) }
-    ensures enters { is_followed plan (chess plan.goal R.rule) root left
+    ensures enters { is_followed plan.play (chess plan.goal R.rule)
+        (array_vec_len frames.old == 1) left
         (position_after R.rule board.old by) ≡ true
-        → (result ≡ is_given plan (chess plan.goal R.rule) left
+        → (result ≡ is_given plan.play (chess plan.goal R.rule) left
         (position_after R.rule board.old by))
         × (board.new ≡ position_after R.rule board.old by)
         × (frames.new.items ≡ frames.old.items ++ opened_frame by (undo_of R.rule board.old by)
-        (half_moves_on plan (chess plan.goal R.rule) left (position_after R.rule board.old by))
+        (half_moves_on plan.play (varies plan) (chess plan.goal R.rule) left
+        (position_after R.rule board.old by))
         ∷ []) }
-    ensures counts { Counts R.rule plan root left (position_after R.rule board.old by) opened.old
-        opened.new }
+    ensures counts { Counts R.rule plan (array_vec_len frames.old == 1) left
+        (position_after R.rule board.old by) history.old.opened history.new.opened }
 {
+    let root = frames.len() == 1;
     let undo = R::play(board, by);
-    let tested = is_tested(plan, root, left + 1);
-    if tested && !value_after::<R, N>(plan, left, board, frames, killers, opened) {
-        retract::<R>(board, by, undo);
-        return false;
+    let tested = tested_in(plan.play, root, left + 1);
+    if let Some(battle) = tested {
+        let aim = Aim {
+            battle,
+            goal: plan.goal,
+        };
+        if !value_after::<R, N>(aim, left, board, frames, history) {
+            retract::<R>(board, by, undo);
+            return false;
+        }
     }
-    let tried = length_below::<R, N>(plan, left, board, frames, killers, opened);
+    let tried = length_below::<R, N>(plan, left, board, frames, history);
     frames.push(Frame {
         place: Moves::start(),
         by,
@@ -243,7 +265,7 @@ pub fn enter<R: Rules, const N: usize>(
         stretch: Stretch::Others,
         known: None,
     });
-    *opened = opened_by(*opened, tried, tested);
+    history.opened = opened_by(history.opened, tried, tested.is_some());
     gives::<R>(plan, left, board)
 }
 
@@ -301,7 +323,10 @@ fn is_settled<R: Rules>(
     requires legal { is_legal R.rule board.now by.now ≡ true }
     ensures { result ≡ true → IsSettled R.rule plan left board.now by.now }
 {
-    left == 2 && plan.form.is_help() && is_for_mate(plan.goal) && killers.rule_out_mate(board, by)
+    left == 2
+        && plan.play == Play::Help
+        && is_for_mate(plan.goal)
+        && killers.rule_out_mate(board, by)
 }
 
 /// One step of the walk: the next move of the top frame is played, or the frame is closed. Answers whether the path
@@ -312,8 +337,7 @@ pub(crate) fn step<R: Rules, const N: usize>(
     half_moves: usize,
     board: &mut Board,
     frames: &mut ArrayVec<Frame<R>, N>,
-    killers: &mut Killers<R>,
-    opened: &mut u64,
+    history: &mut History<R>,
 ) -> bool
     requires well_formed { IsWellFormed board.old }
     requires room { half_moves < N }
@@ -323,7 +347,7 @@ pub(crate) fn step<R: Rules, const N: usize>(
     ensures steps { (p : Position) → IsWalking R.rule half_moves p (reverse frames.old.items)
         board.old
         → Steps R.rule plan half_moves p (reverse frames.old.items) (reverse frames.new.items)
-        board.new opened.old opened.new result }
+        board.new history.old.opened history.new.opened result }
 {
     let Some(top) = frames.pop() else {
         return false;
@@ -340,18 +364,9 @@ pub(crate) fn step<R: Rules, const N: usize>(
         known,
         ..top
     });
-    if is_settled::<R>(plan, top.left, &by, board, killers) {
-        *opened = opened_by(*opened, 1, false);
+    if is_settled::<R>(plan, top.left, &by, board, &mut history.killers) {
+        history.opened = opened_by(history.opened, 1, false);
         return false;
     }
-    enter::<R, N>(
-        plan,
-        depth == 0,
-        top.left - 1,
-        by,
-        board,
-        frames,
-        killers,
-        opened,
-    )
+    enter::<R, N>(plan, top.left - 1, by, board, frames, history)
 }

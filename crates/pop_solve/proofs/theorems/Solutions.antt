@@ -1,7 +1,7 @@
 -- The solutions of a chess problem: which lines and keys they are, that no path of a phase stands twice, and in which order the paths stand.
-use Rattle.pop_solve.proofs.Words.{AllPairs, Bool, Contains, IsSound, List, Move, Phase, Play, Posed, Precedes, RuleSet, Set, [], false, is_goal_reached, is_help, is_legal, keeps, length, moves_are_the_legal_moves, moves_in_order, pairs_weaker, path_end, phase_half_moves, phase_start, play_start, refl, rules, set_shows, solutions, take, true, ◌↔◌, ◌∷◌, ◌≡◌, ◌≢◌, ◌≤◌}
+use Rattle.pop_solve.proofs.Words.{AllPairs, Battle, BattlePlay, Contains, HelpPlay, IsSound, List, Move, Phase, Play, PlayOfSides, Posed, Precedes, RuleSet, Set, [], game_of, is_goal_reached, is_legal, keeps, length, moves_are_the_legal_moves, moves_in_order, pairs_weaker, path_end, phase_half_moves, phase_start, play_of, play_start, refl, rules, set_shows, solutions, take, true, ◌↔◌, ◌∷◌, ◌≡◌, ◌≢◌, ◌≤◌}
 use Rattle.chess_rules.specs.Play.{position_after}
-use Rattle.pop_solve.proofs.PhasePaths.{first_joined, game_of, its_battle, help_paths, never_itself, play_paths, set_paths}
+use Rattle.pop_solve.proofs.PhasePaths.{first_joined, help_paths, never_itself, play_paths, set_paths}
 use Rattle.pop_solve.proofs.Sound.{start_sound}
 use Rattle.pop_solve.proofs.theorems.HelpLines.{IsLegalLine, help_lines_of_chess_are, help_lines_of_chess_in_order}
 use Rattle.pop_solve.proofs.theorems.Lists.{HasBeginnings, StandsBefore, never_before_itself, paths}
@@ -10,7 +10,7 @@ use Rattle.pop_solve.proofs.theorems.Trees.{first_set_solutions_have_beginnings,
 module _ (rule : RuleSet) (problem : Posed) where
   -- Help play: from a sound problem a list of moves is a line of a phase exactly where it has as many moves as the phase has half-moves,
   -- one or more, each legal where it is made, and the goal is reached in its last position.
-  pub lines_of_a_phase_are : (phase : Phase) (line : List Move) → IsSound problem → is_help problem.stipulation.form ≡ true
+  pub lines_of_a_phase_are : (phase : Phase) (line : List Move) → IsSound problem → play_of problem.stipulation.form ≡ HelpPlay
       → Contains (paths (solutions rule problem phase)) line
       ↔ ((1 ≤ phase_half_moves problem phase) × (length line ≡ phase_half_moves problem phase)
       × IsLegalLine rule (phase_start problem phase) line
@@ -18,43 +18,44 @@ module _ (rule : RuleSet) (problem : Posed) where
   lines_of_a_phase_are phase line sound help = rw (help_paths rule problem phase help) (search (rules, help_lines_of_chess_are, start_sound))
 
   -- Battle play: a move is a key of a sound problem exactly where it is legal and keeps the win within the problem's number of moves.
-  pub keys_of_a_problem_are : (m : Move) → IsSound problem → is_help problem.stipulation.form ≡ false
+  pub keys_of_a_problem_are : (m : Move) (battle : Battle) → IsSound problem → play_of problem.stipulation.form ≡ BattlePlay battle
       → Contains (paths (solutions rule problem Play)) (m ∷ [])
       ↔ ((is_legal rule (play_start problem) m ≡ true)
-      × (keeps (its_battle problem) (game_of rule problem) problem.stipulation.n (position_after rule (play_start problem) m) ≡ true))
-  keys_of_a_problem_are m sound battle =
+      × (keeps battle (game_of rule problem) problem.stipulation.n (position_after rule (play_start problem) m) ≡ true))
+  keys_of_a_problem_are m battle sound fought =
       let game = game_of rule problem in
-      let are = keys_are (its_battle problem) game problem.stipulation.n problem.variation (phase_half_moves problem Play) (play_start problem) m in
+      let are = keys_are battle game problem.stipulation.n problem.variation (phase_half_moves problem Play) (play_start problem) m in
       let legal = moves_are_the_legal_moves rule (play_start problem) m (start_sound problem sound Play) in
-      rw (play_paths rule problem battle) (λ c. let w = are.0 c in (legal.0 w.0, w.1), λ w. are.1 (legal.1 w.0, w.1))
+      rw (play_paths rule problem battle fought) (λ c. let w = are.0 c in (legal.0 w.0, w.1), λ w. are.1 (legal.1 w.0, w.1))
 
   -- Set play: a move of Black stands among the first moves exactly where set play has half-moves, the move is legal in its first position,
   -- and after it the goal is reached, if that is for Black to do, or White wins with a move less.
-  pub set_moves_of_a_problem_are : (d : Move) → IsSound problem → is_help problem.stipulation.form ≡ false
+  pub set_moves_of_a_problem_are : (d : Move) (battle : Battle) → IsSound problem → play_of problem.stipulation.form ≡ BattlePlay battle
       → Contains (paths (solutions rule problem Set)) (d ∷ [])
       ↔ ((1 ≤ phase_half_moves problem Set) × (is_legal rule (phase_start problem Set) d ≡ true)
-      × (set_shows (its_battle problem) (game_of rule problem) problem.stipulation.n (position_after rule (phase_start problem Set) d) ≡ true))
-  set_moves_of_a_problem_are d sound battle =
+      × (set_shows battle (game_of rule problem) problem.stipulation.n (position_after rule (phase_start problem Set) d) ≡ true))
+  set_moves_of_a_problem_are d battle sound fought =
       let game = game_of rule problem in
       let from = phase_start problem Set in
-      let are = set_play_is (its_battle problem) game problem.stipulation.n problem.variation (phase_half_moves problem Set) from d in
+      let are = set_play_is battle game problem.stipulation.n problem.variation (phase_half_moves problem Set) from d in
       let legal = moves_are_the_legal_moves rule from d (start_sound problem sound Set) in
-      rw (set_paths rule problem battle) (λ c. let w = are.0 c in (w.0, legal.0 w.1, w.2), λ w. are.1 (w.0, legal.1 w.1, w.2))
+      rw (set_paths rule problem battle fought) (λ c. let w = are.0 c in (w.0, legal.0 w.1, w.2), λ w. are.1 (w.0, legal.1 w.1, w.2))
 
   -- The paths of each phase stand in lexicographic order of the moves: lines in order, and in trees each node before what stands below it,
   -- and that before the next of its siblings.
   pub paths_in_order : (phase : Phase) → AllPairs (StandsBefore Precedes) (paths (solutions rule problem phase))
-  paths_in_order phase = by_form (is_help problem.stipulation.form) refl phase
+  paths_in_order phase = by_play (play_of problem.stipulation.form) refl phase
     where
-      by_form : (b : Bool) → is_help problem.stipulation.form ≡ b → (phase : Phase) → AllPairs (StandsBefore Precedes) (paths (solutions rule problem phase))
-      by_form true help phase =
+      by_play : (play : PlayOfSides) → play_of problem.stipulation.form ≡ play → (phase : Phase)
+          → AllPairs (StandsBefore Precedes) (paths (solutions rule problem phase))
+      by_play HelpPlay help phase =
           rw (help_paths rule problem phase help)
           (help_lines_of_chess_in_order problem.stipulation.goal rule (phase_half_moves problem phase) (phase_start problem phase))
-      by_form false battle Play =
-          rw (play_paths rule problem battle)
+      by_play (BattlePlay battle) fought Play =
+          rw (play_paths rule problem battle fought)
           (search (rules, play_in_order, moves_in_order))
-      by_form false battle Set =
-          rw (set_paths rule problem battle)
+      by_play (BattlePlay battle) fought Set =
+          rw (set_paths rule problem battle fought)
           (search (rules, set_play_in_order, moves_in_order))
 
   -- No two paths of a phase are alike.
@@ -65,16 +66,18 @@ module _ (rule : RuleSet) (problem : Posed) where
   pub shown_paths_in_order : (phase : Phase) → AllPairs (StandsBefore Precedes) (paths (take problem.max_solutions (solutions rule problem phase)))
   shown_paths_in_order phase = first_joined (StandsBefore Precedes) problem.max_solutions (solutions rule problem phase) (paths_in_order phase)
 
+  -- No two of them are alike.
   pub shown_paths_differ : (phase : Phase) → AllPairs (λ a b. a ≢ b) (paths (take problem.max_solutions (solutions rule problem phase)))
   shown_paths_differ phase = first_joined (λ a b. a ≢ b) problem.max_solutions (solutions rule problem phase) (paths_differ phase)
 
   -- In battle play a beginning of a path is a path too: no node stands without those above it.
-  pub nodes_stand_below_their_parents : (phase : Phase) → is_help problem.stipulation.form ≡ false → HasBeginnings (paths (solutions rule problem phase))
-  nodes_stand_below_their_parents Play battle = rw (play_paths rule problem battle) (search (rules, play_has_beginnings))
-  nodes_stand_below_their_parents Set battle = rw (set_paths rule problem battle) (search (rules, set_play_has_beginnings))
+  pub nodes_stand_below_their_parents : (phase : Phase) (battle : Battle) → play_of problem.stipulation.form ≡ BattlePlay battle
+      → HasBeginnings (paths (solutions rule problem phase))
+  nodes_stand_below_their_parents Play battle fought = rw (play_paths rule problem battle fought) (search (rules, play_has_beginnings))
+  nodes_stand_below_their_parents Set battle fought = rw (set_paths rule problem battle fought) (search (rules, set_play_has_beginnings))
 
   -- Nor does one that is shown, where the limit cuts the solutions.
-  pub shown_nodes_stand_below_their_parents : (phase : Phase) → is_help problem.stipulation.form ≡ false
+  pub shown_nodes_stand_below_their_parents : (phase : Phase) (battle : Battle) → play_of problem.stipulation.form ≡ BattlePlay battle
       → HasBeginnings (paths (take problem.max_solutions (solutions rule problem phase)))
-  shown_nodes_stand_below_their_parents Play battle = rw (play_paths rule problem battle) (search (rules, first_solutions_have_beginnings))
-  shown_nodes_stand_below_their_parents Set battle = rw (set_paths rule problem battle) (search (rules, first_set_solutions_have_beginnings))
+  shown_nodes_stand_below_their_parents Play battle fought = rw (play_paths rule problem battle fought) (search (rules, first_solutions_have_beginnings))
+  shown_nodes_stand_below_their_parents Set battle fought = rw (set_paths rule problem battle fought) (search (rules, first_set_solutions_have_beginnings))

@@ -121,6 +121,7 @@ module _ {P M : Type 0} (battle : Battle) (game : Game P M) (n : ℕ) where
         (nodes_have_beginnings (below_key battle game n variation h p) (below_key_has_beginnings battle game n variation h p)
         (take k (kept battle game n p)))
 
+    -- The same of the first solutions of set play.
     pub first_set_solutions_have_beginnings : (k : ℕ) → HasBeginnings (paths (take k (set_tree battle game variation n h p)))
     first_set_solutions_have_beginnings k = by_half_moves h
       where

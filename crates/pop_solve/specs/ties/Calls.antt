@@ -10,8 +10,8 @@ use Rattle.pop_solve.specs.Chess.{chess}
 use Rattle.pop_solve.specs.declared.aim.Aim.{Aim}
 use Rattle.pop_solve.specs.ties.Counts.{HasCounted, smallest_tree, walk_count}
 use Rattle.pop_solve.specs.ties.Frames.{Frame}
-use Rattle.pop_input.specs.Stipulations.{is_help}
-use Rattle.pop_solve.specs.Aims.{battle_of}
+use Rattle.pop_solve.specs.declared.aim.Battle.{Battle}
+use Rattle.pop_solve.specs.declared.aim.Play.TheVariants.{Help as HelpPlay, Battle as BattlePlay}
 use Rattle.pop_solve.specs.declared.plan.Plan.{Plan}
 use Rattle.pop_solve.specs.ties.Plans.{varies}
 use Rattle.pop_solve.specs.ties.Walk.{fewest_for}
@@ -54,9 +54,10 @@ pub record Evaluates (rule : RuleSet) (aim : Aim) (left : ℕ) (p now : Position
 -- tried
 pub record Counts (rule : RuleSet) (plan : Plan) (root : Bool) (left : ℕ) (q : Position)
     (before after : ℕ) : Type 0 where
-  pub more : is_help plan.form ≡ true → 0 < left → after ≡ min (before + 1) (2 ^ 64 - 1)
-  pub none : is_help plan.form ≡ true → left ≡ 0 → after ≡ before
-  pub keys : is_help plan.form ≡ false → varies plan ≡ false
-      → seeks (battle_of plan.form) (left + 1) ≡ true
+  pub more : plan.play ≡ HelpPlay → 0 < left → after ≡ min (before + 1) (2 ^ 64 - 1)
+  pub none : plan.play ≡ HelpPlay → left ≡ 0 → after ≡ before
+  pub keys : (battle : Battle) → plan.play ≡ BattlePlay battle → varies plan ≡ false
+      → seeks battle (left + 1) ≡ true
       → after ≤ before + walk_count (legal_moves rule) (position_after rule) left q
-  pub tries : HasCounted before after (fewest_for plan (chess plan.goal rule) root left q)
+  pub tries : HasCounted before after (fewest_for plan.play (varies plan)
+      (chess plan.goal rule) root left q)

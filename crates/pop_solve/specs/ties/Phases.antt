@@ -1,5 +1,7 @@
 -- What a search that stands in a phase has still to give.
-use Rattle.pop_solve.specs.Aims.{battle_of}
+use Rattle.pop_solve.specs.Aims.{play_of}
+use Rattle.pop_solve.specs.declared.aim.Battle.{Battle}
+use Rattle.pop_solve.specs.declared.aim.Play.TheVariants.{Help as HelpPlay, Battle as BattlePlay}
 use Rattle.std.specs.Prelude.{◌≡◌, ℕ, zero, suc, ◌+◌, ◌-◌, ◌≤◌, ◌^◌, min, ◌==◌, Bool, true, false, ◌||◌, if◌then◌else◌, List, [], ◌∷◌, ◌++◌, map, length, drop, ◌⊎◌}
 use Rattle.chess_core.specs.Position.{Position}
 use Rattle.chess_core.specs.declared.man.Move.{Move}
@@ -65,22 +67,22 @@ IsStanding rule problem (Within phase count) frames board =
 IsStanding rule problem Behind frames board = (frames ≡ []) × (board ≡ play_start problem)
 
 -- what walking on in a phase leaves, at most `limit` solutions being still to begin
-pub record Walks (rule : RuleSet) (plan : Plan) (h : ℕ) (p : Position) (limit : ℕ)
+pub record Walks (rule : RuleSet) (plan : Plan) (help : Bool) (h : ℕ) (p : Position) (limit : ℕ)
     (old new : List Frame) (board : Position) (given : Bool) : Type 0 where
   pub walking : IsWalking rule h p new board
-  pub come : given ≡ true → keep (is_help plan.form) limit (to_come rule plan h p old)
-      ≡ path new ∷ keep (is_help plan.form)
-      (limit - (if begins (is_help plan.form) (path new) then 1 else 0)) (to_come rule plan h p new)
-  pub starts : given ≡ true → beginning_count (is_help plan.form) limit (to_come rule plan h p old)
-      ≡ (if begins (is_help plan.form) (path new) then 1 else 0)
-      + beginning_count (is_help plan.form)
-      (limit - (if begins (is_help plan.form) (path new) then 1 else 0)) (to_come rule plan h p new)
-  pub within : given ≡ true → (if begins (is_help plan.form) (path new) then 1 else 0) ≤ limit
+  pub come : given ≡ true → keep help limit (to_come rule plan h p old)
+      ≡ path new ∷ keep help
+      (limit - (if begins help (path new) then 1 else 0)) (to_come rule plan h p new)
+  pub starts : given ≡ true → beginning_count help limit (to_come rule plan h p old)
+      ≡ (if begins help (path new) then 1 else 0)
+      + beginning_count help
+      (limit - (if begins help (path new) then 1 else 0)) (to_come rule plan h p new)
+  pub within : given ≡ true → (if begins help (path new) then 1 else 0) ≤ limit
   pub deep : given ≡ true → 2 ≤ length new
   pub closed : given ≡ true → IsEnded rule plan new board
-  pub ended : given ≡ false → keep (is_help plan.form) limit (to_come rule plan h p old) ≡ []
+  pub ended : given ≡ false → keep help limit (to_come rule plan h p old) ≡ []
   pub over : given ≡ false → (new ≡ []) ⊎ (limit ≡ 0)
-  pub none : given ≡ false → beginning_count (is_help plan.form) limit (to_come rule plan h p old)
+  pub none : given ≡ false → beginning_count help limit (to_come rule plan h p old)
       ≡ 0
 
 -- what a call gives: the first event still to come, as it is shown, with board and frames where it stands
@@ -112,18 +114,19 @@ rest_fewest rule problem Behind frames = 0
 
 -- the play of a battle, whose keys alone are shown
 pub record IsKeys (problem : Posed) (phase : Phase) : Type 0 where
-  pub battle : is_help problem.stipulation.form ≡ false
+  pub battle : Battle
+  pub fought : play_of problem.stipulation.form ≡ BattlePlay battle
   pub keys : problem.variation ≡ false
   pub play : is_set phase ≡ false
 
 -- help play, or keys alone, for which White alone has frames
 unfoldable pub IsNarrow : Posed → Stage → List Frame → Type 0
-IsNarrow problem (Before phase) frames = (is_help problem.stipulation.form ≡ true)
+IsNarrow problem (Before phase) frames = (play_of problem.stipulation.form ≡ HelpPlay)
     ⊎ IsKeys problem phase
-IsNarrow problem Barred frames = is_help problem.stipulation.form ≡ true
+IsNarrow problem Barred frames = play_of problem.stipulation.form ≡ HelpPlay
 IsNarrow problem (Within phase count) frames =
-    (is_help problem.stipulation.form ≡ true)
-    ⊎ (IsKeys problem phase × (IsWhites (battle_of problem.stipulation.form) frames ≡ true))
+    (play_of problem.stipulation.form ≡ HelpPlay)
+    ⊎ ((keys : IsKeys problem phase) × (IsWhites keys.battle frames ≡ true))
 IsNarrow problem Behind frames = Unit {0}
 
 -- what a call opens, `left` being the events still to come before it
@@ -132,11 +135,12 @@ pub record OpensOn (rule : RuleSet) (problem : Posed) (old new : Stage) (frames 
   pub narrow : IsNarrow problem old frames → IsNarrow problem new last
   pub most : IsNarrow problem old frames
       → after + rest_open rule problem new last ≤ before + rest_open rule problem old frames
-  pub counted : is_help problem.stipulation.form ≡ true → is_unstopped left ≡ true → (walk : ℕ)
+  pub counted : play_of problem.stipulation.form ≡ HelpPlay → is_unstopped left ≡ true → (walk : ℕ)
       → IsCounted walk before (rest_open rule problem old frames)
       → IsCounted walk after (rest_open rule problem new last)
   pub grows : min before (2 ^ 64 - 1) ≤ after
-  pub fewest : is_help problem.stipulation.form ≡ false → is_unstopped left ≡ true
+  pub fewest : (battle : Battle) → play_of problem.stipulation.form ≡ BattlePlay battle
+      → is_unstopped left ≡ true
       → min (before + rest_fewest rule problem old frames) (2 ^ 64 - 1)
       ≤ after + rest_fewest rule problem new last
 
@@ -147,14 +151,16 @@ pub record IsOpened (rule : RuleSet) (problem : Posed) (stage : Stage) (frames :
   pub narrow : is_walked_once problem ≡ true → IsNarrow problem stage frames
   pub most : is_walked_once problem ≡ true
       → opened + rest_open rule problem stage frames ≤ whole_walk rule problem
-  pub counted : is_help problem.stipulation.form ≡ true → is_never_stopped rule problem ≡ true
+  pub counted : play_of problem.stipulation.form ≡ HelpPlay → is_never_stopped rule problem ≡ true
       → IsCounted (whole_walk rule problem) opened (rest_open rule problem stage frames)
-  pub fewest : is_help problem.stipulation.form ≡ false → is_never_stopped rule problem ≡ true
+  pub fewest : (battle : Battle) → play_of problem.stipulation.form ≡ BattlePlay battle
+      → is_never_stopped rule problem ≡ true
       → min (fewest_tried rule problem) (2 ^ 64 - 1)
       ≤ opened + rest_fewest rule problem stage frames
 
 -- the events given, counted up to the greatest u64; the events still to come are an ending of all
-pub record IsGiven (rule : RuleSet) (problem : Posed) (left : List BareEvent) (given : ℕ) : Type 0 where
+pub record IsGiven (rule : RuleSet) (problem : Posed) (left : List BareEvent)
+    (given : ℕ) : Type 0 where
   pub within : length left ≤ length (events rule problem)
   pub ending : left ≡ drop (length (events rule problem) - length left) (events rule problem)
   pub counts : given ≡ min (length (events rule problem) - length left) (2 ^ 64 - 1)

@@ -1,8 +1,9 @@
 -- What is walked: help play, or a battle with its keys alone or with variations.
 use Rattle.std.specs.Prelude.{Bool, true, false}
 use Rattle.pop_input.specs.Posed.{Posed}
-use Rattle.pop_solve.specs.Aims.{battle_of}
-use Rattle.pop_solve.specs.declared.aim.Aim.{Aim}
+use Rattle.pop_solve.specs.Aims.{play_of}
+use Rattle.pop_solve.specs.declared.aim.Play.{Play}
+use Rattle.pop_solve.specs.declared.aim.Play.TheVariants.{Help as HelpPlay, Battle as BattlePlay}
 use Rattle.pop_solve.specs.declared.plan.Plan.{Plan}
 use Rattle.pop_solve.specs.declared.plan.Tree.{Tree}
 use Rattle.pop_solve.specs.declared.plan.Tree.TheVariants.{Keys, Variations}
@@ -24,11 +25,12 @@ varies plan = shows_variations plan.tree
 -- what is walked of a problem
 abbrev pub plan_of : Posed → Plan
 plan_of problem = record {
-  form = problem.stipulation.form;
+  play = play_of problem.stipulation.form;
   goal = problem.stipulation.goal;
   tree = tree_shown problem.variation;
 }
 
--- the battle and its goal
-abbrev pub aim_of : Plan → Aim
-aim_of plan = record { battle = battle_of plan.form; goal = plan.goal }
+-- both sides help
+abbrev pub helps : Play → Bool
+helps HelpPlay = true
+helps (BattlePlay battle) = false

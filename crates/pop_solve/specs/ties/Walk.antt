@@ -12,8 +12,8 @@ use Rattle.chess_mates.specs.ties.Mates.{is_mating, mates_behind}
 use Rattle.chess_rules.specs.Legal.{is_mate}
 use Rattle.chess_rules.specs.Play.{position_after}
 use Rattle.chess_rules.specs.RuleSet.{RuleSet}
-use Rattle.pop_input.specs.Stipulations.{is_help}
-use Rattle.pop_solve.specs.Aims.{battle_of}
+use Rattle.pop_solve.specs.declared.aim.Play.{Play}
+use Rattle.pop_solve.specs.declared.aim.Play.TheVariants.{Help as HelpPlay, Battle as BattlePlay}
 use Rattle.pop_solve.specs.Game.{Game}
 use Rattle.pop_solve.specs.ties.Counts.{smallest_tree}
 use Rattle.pop_solve.specs.ties.Values.{seeks, value}
@@ -42,22 +42,23 @@ module _ {P M : Type 0} where
       else (if seeks battle t then first_from battle game q ((t - fewest battle) / 2)
       (fewest battle) else t)
 
-  -- whether the walk follows a move to q, with t half-moves left there: moves of White and those of a root are tested
-  unfoldable pub follows : Plan → Game P M → Bool → ℕ → P → Bool
-  follows plan game root t q =
-      is_help plan.form || (not (root || seeks (battle_of plan.form) (t + 1))
-      || value (battle_of plan.form) game t q)
+  -- whether the walk follows a move to q, with t half-moves left there: in a battle moves of White and those of a root are
+  -- tested
+  unfoldable pub follows : Play → Game P M → Bool → ℕ → P → Bool
+  follows HelpPlay game root t q = true
+  follows (BattlePlay battle) game root t q = not (root || seeks battle (t + 1))
+      || value battle game t q
 
   -- whether it gives the path to q: in help play where the last half-move reaches the goal
-  unfoldable pub gives : Plan → Game P M → ℕ → P → Bool
-  gives plan game t q = not (is_help plan.form) || (t == 0 && game.goal q)
+  unfoldable pub gives : Play → Game P M → ℕ → P → Bool
+  gives HelpPlay game t q = t == 0 && game.goal q
+  gives (BattlePlay battle) game t q = true
 
-  -- with how many half-moves the walk goes on from q
-  unfoldable pub half_moves_on : Plan → Game P M → ℕ → P → ℕ
-  half_moves_on plan game t q =
-      if is_help plan.form then t
-      else (if not (varies plan) && seeks (battle_of plan.form) (t + 1) then 0
-      else open_length (battle_of plan.form) game t q)
+  -- with how many half-moves the walk goes on from q, with variations or without
+  unfoldable pub half_moves_on : Play → Bool → Game P M → ℕ → P → ℕ
+  half_moves_on HelpPlay variation game t q = t
+  half_moves_on (BattlePlay battle) variation game t q =
+      if not variation && seeks battle (t + 1) then 0 else open_length battle game t q
 
   -- the paths that the walk gives from P by these moves, with `left` half-moves; `fuel` is at least `left`
   unfoldable pub shown_paths : Plan → Game P M → Bool → ℕ → ℕ → P → List M → List (List M)
@@ -65,19 +66,19 @@ module _ {P M : Type 0} where
   shown_paths plan game root (suc fuel) zero p ms = []
   shown_paths plan game root (suc fuel) (suc t) p ms =
       flat_map (λ m. let q = game.after p m in
-      if follows plan game root t q
-      then (if gives plan game t q then (m ∷ []) ∷ [] else [])
-      ++ map (λ path. m ∷ path) (shown_paths plan game false fuel (half_moves_on plan game t q) q
-      (game.moves q))
+      if follows plan.play game root t q
+      then (if gives plan.play game t q then (m ∷ []) ∷ [] else [])
+      ++ map (λ path. m ∷ path) (shown_paths plan game false fuel
+      (half_moves_on plan.play (varies plan) game t q) q (game.moves q))
       else []) ms
 
   -- the fewest positions that are tried for a move to q, with t half-moves left there: where the move is tested those of a
   -- smallest tree, else q itself if the walk goes on from it
-  abbrev pub fewest_for : Plan → Game P M → Bool → ℕ → P → ℕ
-  fewest_for plan game root t q =
-      if not (is_help plan.form) && (root || seeks (battle_of plan.form) (t + 1))
-      then smallest_tree (battle_of plan.form) game t q
-      else (if half_moves_on plan game t q == 0 then 0 else 1)
+  abbrev pub fewest_for : Play → Bool → Game P M → Bool → ℕ → P → ℕ
+  fewest_for HelpPlay variation game root t q = if t == 0 then 0 else 1
+  fewest_for (BattlePlay battle) variation game root t q =
+      if root || seeks battle (t + 1) then smallest_tree battle game t q
+      else (if half_moves_on (BattlePlay battle) variation game t q == 0 then 0 else 1)
 
   -- the same for these moves of p, with `left` half-moves, and for all that the walk gives below them
   unfoldable pub fewest_walked : Plan → Game P M → Bool → ℕ → ℕ → P → List M → ℕ
@@ -85,9 +86,9 @@ module _ {P M : Type 0} where
   fewest_walked plan game root (suc fuel) zero p ms = 0
   fewest_walked plan game root (suc fuel) (suc t) p ms =
       sum_by (λ m. let q = game.after p m in
-      fewest_for plan game root t q
-      + (if follows plan game root t q then fewest_walked plan game false fuel
-      (half_moves_on plan game t q) q (game.moves q) else 0)) ms
+      fewest_for plan.play (varies plan) game root t q
+      + (if follows plan.play game root t q then fewest_walked plan game false fuel
+      (half_moves_on plan.play (varies plan) game t q) q (game.moves q) else 0)) ms
 
 -- the moves that lead to the top frame
 unfoldable pub path : List Frame → List Move
@@ -146,32 +147,34 @@ IsWhites battle frames = list_all (λ f. f.left == 0 || seeks battle f.left) fra
 -- shown they grow by nothing
 pub record Opens (rule : RuleSet) (plan : Plan) (p : Position) (old new : List Frame)
     (before position_after : ℕ) : Type 0 where
-  pub whites : is_help plan.form ≡ false → varies plan ≡ false
-      → IsWhites (battle_of plan.form) old ≡ true → IsWhites (battle_of plan.form) new ≡ true
-  pub most : is_help plan.form ≡ false → varies plan ≡ false
-      → IsWhites (battle_of plan.form) old ≡ true
+  pub whites : (battle : Battle) → plan.play ≡ BattlePlay battle → varies plan ≡ false
+      → IsWhites battle old ≡ true → IsWhites battle new ≡ true
+  pub most : (battle : Battle) → plan.play ≡ BattlePlay battle → varies plan ≡ false
+      → IsWhites battle old ≡ true
       → position_after + to_open rule p new ≤ before + to_open rule p old
-  pub helped : is_help plan.form ≡ true → position_after + to_open rule p new ≤ before + to_open rule p old
-  pub counted : is_help plan.form ≡ true → (walk : ℕ) → IsCounted walk before (to_open rule p old)
+  pub helped : plan.play ≡ HelpPlay
+      → position_after + to_open rule p new ≤ before + to_open rule p old
+  pub counted : plan.play ≡ HelpPlay → (walk : ℕ) → IsCounted walk before (to_open rule p old)
       → IsCounted walk position_after (to_open rule p new)
 
 -- a part of a walk counts on, and in a battle it tries no fewer positions than have to be
 pub record Tries (rule : RuleSet) (plan : Plan) (h : ℕ) (p : Position) (old new : List Frame)
     (before position_after : ℕ) : Type 0 where
   pub grows : min before (2 ^ 64 - 1) ≤ position_after
-  pub fewest : is_help plan.form ≡ false
+  pub fewest : (battle : Battle) → plan.play ≡ BattlePlay battle
       → min (before + fewest_left rule plan h p old) (2 ^ 64 - 1)
       ≤ position_after + fewest_left rule plan h p new
 
 -- the side that makes the last half-move seeks the goal: each side in help play, and White in direct play
-abbrev pub seeks_last : Plan → Bool
-seeks_last plan = is_help plan.form || seeks (battle_of plan.form) 1
+abbrev pub seeks_last : Play → Bool
+seeks_last HelpPlay = true
+seeks_last (BattlePlay battle) = seeks battle 1
 
 -- the position after a move, with `left` half-moves left there: where that was the last half-move, by a side that seeks
 -- mate, it mated
 abbrev pub IsMatedAtLast : RuleSet → Plan → ℕ → Position → Type 0
 IsMatedAtLast rule plan left q =
-    is_for_mate plan.goal ≡ true → seeks_last plan ≡ true → left ≡ 0 → is_mate rule q ≡ true
+    is_for_mate plan.goal ≡ true → seeks_last plan.play ≡ true → left ≡ 0 → is_mate rule q ≡ true
 
 -- from a place to the moves `rest` behind a later one only moves are passed over whose paths aren't given: with one
 -- half-move left, by a side that seeks mate, those that don't mate
@@ -180,26 +183,26 @@ pub record GoesTo (rule : RuleSet) (plan : Plan) (left : ℕ) (p : Position) (pl
   pub mid : ℕ
   pub over : List Move
   pub passed : moves_behind rule p place ≡ over ++ moves_behind rule p mid
-  pub none : (over ≡ []) ⊎ ((seeks_last plan ≡ true) × (plan.goal ≡ Mate) × (left ≡ 1)
+  pub none : (over ≡ []) ⊎ ((seeks_last plan.play ≡ true) × (plan.goal ≡ Mate) × (left ≡ 1)
       × (filter (is_mating rule p) over ≡ []))
   pub here : moves_behind rule p mid ≡ rest
 
 -- the move m of p, the last of help play for mate but one, is followed by no mate
 pub record IsSettled (rule : RuleSet) (plan : Plan) (left : ℕ) (p : Position) (m : Move) : Type
     0 where
-  pub helped : is_help plan.form ≡ true
+  pub helped : plan.play ≡ HelpPlay
   pub goal : plan.goal ≡ Mate
   pub last : left ≡ 2
   pub none : mates_behind rule (position_after rule p m) 0 ≡ []
 
 -- whether a variation ends at a frame with `left` half-moves: in direct play with variations, where the goal is reached
-abbrev pub ends_variation : Plan → ℕ → Bool
-ends_variation plan left =
-    left == 0 && (varies plan && (not (is_help plan.form) && seeks (battle_of plan.form) 1))
+abbrev pub ends_variation : Play → Bool → ℕ → Bool
+ends_variation HelpPlay variation left = false
+ends_variation (BattlePlay battle) variation left = left == 0 && (variation && seeks battle 1)
 
 -- where a variation ends at the top frame, the goal is reached on the board
 abbrev pub IsEnded : RuleSet → Plan → List Frame → Position → Type 0
-IsEnded rule plan frames board = ends_variation plan (top_left frames) ≡ true
+IsEnded rule plan frames board = ends_variation plan.play (varies plan) (top_left frames) ≡ true
     → (chess plan.goal rule).goal board ≡ true
 
 -- what one step of a walk leaves, for frames listed from the top down; `given` says whether the path to the new top is given

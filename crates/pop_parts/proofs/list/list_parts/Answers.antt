@@ -41,7 +41,8 @@ items-preserved g c =
     let there = entry_there _ (sym c.is_end.ensures ∙ c.if-is_end.false) in
     let less = next.ensures.less (item_there next.result there.0 there.1) in
     record {
-      listed = rw c.status_after-so_far.ensures (listed_step _ c.items.reader next.new.self c.items.number c.items.so_far _ (g.S.Source.remaining c.items.source)
+      listed = rw c.status_after-so_far.ensures (listed_step _ c.items.reader next.new.self c.items.number c.items.so_far _
+          (g.S.Source.remaining c.items.source)
           (g.S.Source.remaining next.new.source) _ (g.W.Sink.taken c.items.sink) (g.W.Sink.taken c.print_item.new.sink) next.result there.0 i.listed
           next.ensures.item there.1 c.in-Ok.ensures.bytes);
       seen = next.ensures.seen i.seen;

@@ -1,4 +1,5 @@
 use Rattle.pop_solve.proofs.Words.{refl, rules}
+use Rattle.pop_solve.proofs.Sound.{help-play}
 use Rattle.pop_parts.proofs.PartEvents as events
 use Rattle.pop_parts.specs.ties.PartStages.{StandsInPart}
 use Rattle.pop_parts.proofs.part_search.go_on_in_part.Goals as goal
@@ -18,8 +19,8 @@ count_with-count-requires-clause-begins g c =
 pub count_with-count-requires-clause-most : goal.count_with-count-requires-clause-most
 count_with-count-requires-clause-most g c = events.most _ _ _ _ _ _ _ c.requires.stands.1
 
-pub event_at-requires : goal.event_at-requires
-event_at-requires g c =
+pub event_at-event-requires : goal.event_at-event-requires
+event_at-event-requires g c =
     let w = rw c.still_to_begin-limit.ensures at c.if-walk_on.ensures.walks in
     rw c.as_slice.ensures.value (record {
       deep = events.deep-here _ _ _ _ _ _ _ c.requires.stands.1 _ _ w;
@@ -33,13 +34,16 @@ returns-then-walk_on-clause-stands g c =
     let w = rw c.still_to_begin-limit.ensures at c.if-walk_on.ensures.walks in
     λ front s. search (
       rules,
-      events.given-stands _ _ _ _ _ _ _ c.requires.stands.1 _ _ w c.walk_on.new.frames.items _ refl c.event_at.ensures.unchanged front s,
+      events.given-stands _ _ _ _ _ _ _ c.requires.stands.1 _ _ w c.walk_on.new.frames.items _ refl c.event_at-event.ensures.unchanged front s,
     )
 
 pub returns-then-walk_on-clause-gives : goal.returns-then-walk_on-clause-gives
 returns-then-walk_on-clause-gives g c =
     let w = rw c.still_to_begin-limit.ensures at c.if-walk_on.ensures.walks in
-    events.given-gives _ _ _ _ _ _ _ c.requires.stands.1 _ _ w _ _ refl c.event_at.ensures.unchanged _ (search rules) _ (search rules)
+    events.given-gives _ _ _ _ _ _ _ c.requires.stands.1 _ _ w _ _ refl c.event_at-event.ensures.unchanged _ (search rules) _ (search rules)
+
+pub returns-then-walk_on-clause-opens : goal.returns-then-walk_on-clause-opens
+returns-then-walk_on-clause-opens g c = search (rules, help-play)
 
 pub returns-clause-stands : goal.returns-clause-stands
 unfolding StandsInPart

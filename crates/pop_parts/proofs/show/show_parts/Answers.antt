@@ -59,7 +59,8 @@ items-preserved g c =
     let less = next.ensures.less (item_there next.result there.0 there.1) in
     let another : c.items.number ≢ c.args.asked.now.item = grind (arith, c.if-number-asked.false) in
     record {
-      passed = rw c.tells_failure-failed.ensures (passed_step _ c.items.reader next.new.self c.items.number c.items.failed _ (g.S.Source.remaining c.items.source)
+      passed = rw c.tells_failure-failed.ensures (passed_step _ c.items.reader next.new.self c.items.number c.items.failed _
+          (g.S.Source.remaining c.items.source)
           (g.S.Source.remaining next.new.source) next.result there.0 i.passed next.ensures.item there.1 another);
       seen = next.ensures.seen i.seen;
       read_failures = failures_then _ _ _ _ _ _ (inl refl) next.ensures.ends i.read_failures next.ensures.counted;

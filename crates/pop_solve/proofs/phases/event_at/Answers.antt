@@ -1,4 +1,4 @@
-use Rattle.pop_solve.proofs.Words.{Plan, ap, arith, is_help, length, phase_start, rules, sym, ◌+◌, ◌-◌, ◌∙◌, ◌≡◌}
+use Rattle.pop_solve.proofs.Words.{arith, length, phase_start, rules, ◌+◌, ◌-◌, ◌≡◌}
 use Rattle.pop_solve.proofs.Events as events
 use Rattle.pop_solve.proofs.phases.event_at.Goals as goal
 
@@ -13,5 +13,5 @@ returns-clause-event g c =
     let w = c.requires.walking in
     let deep : length c.args.frames.now - 2 + 2 ≡ length c.args.frames.now = omega arith in
     events.node-event c.args.problem.now c.args.phase _ _ (length c.args.frames.now - 2) _
-    (ap (λ (plan : Plan). is_help plan.form) (sym c.of-plan.ensures) ∙ sym c.is_help.ensures ∙ c.if-is_help.false) c.phase_half-half.ensures deep g.R.Rules.rule
+    (search (rules, c.stipulation.ensures, c.is_help.ensures, c.if-is_help.false)) c.phase_half-half.ensures deep g.R.Rules.rule
     (rw c.of-plan.ensures at c.last_shown.ensures.shown w.0 (phase_start c.args.problem.now c.args.phase) w.1)

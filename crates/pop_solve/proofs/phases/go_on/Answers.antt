@@ -48,5 +48,5 @@ unfolding IsStanding
 returns-clause-opens g c =
     let w = rw c.still_to_begin-limit.ensures at c.if-walk_on.ensures.walks in
     rw (events.left-ended g.R.Rules.rule c.args.problem.now c.args.phase _ _ _ _ w)
-    (opened.opens-ended g.R.Rules.rule c.args.problem.now c.args.phase _ _ _ _ _ c.walk_on.ensures.opens c.walk_on.ensures.tries _ _ _ c.end.ensures.stage
+    (opened.opens-ended g.R.Rules.rule c.args.problem.now c.args.phase _ _ _ _ _ c.walk_on.ensures.opens c.walk_on.ensures.tries _ _ _ c.end-stage.ensures.stage
     c.requires.standing.1 (w.over refl))

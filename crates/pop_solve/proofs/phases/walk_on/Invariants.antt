@@ -5,8 +5,9 @@ abbrev pub invariant-loop-frames : goal.invariant-loop-frames
 invariant-loop-frames g l = IsWalking g.R.Rules.rule l.half_moves (phase_start l.problem l.fn.phase) (reverse l.frames.items) l.board
     × (to_come g.R.Rules.rule l.plan l.half_moves (phase_start l.problem l.fn.phase) (reverse l.fn.frames.items)
     ≡ to_come g.R.Rules.rule l.plan l.half_moves (phase_start l.problem l.fn.phase) (reverse l.frames.items))
-    × Opens g.R.Rules.rule l.plan (phase_start l.problem l.fn.phase) (reverse l.fn.frames.items) (reverse l.frames.items) l.fn.opened l.opened
-    × Tries g.R.Rules.rule l.plan l.half_moves (phase_start l.problem l.fn.phase) (reverse l.fn.frames.items) (reverse l.frames.items) l.fn.opened l.opened
+    × Opens g.R.Rules.rule l.plan (phase_start l.problem l.fn.phase) (reverse l.fn.frames.items) (reverse l.frames.items) l.fn.history.opened l.history.opened
+    × Tries g.R.Rules.rule l.plan l.half_moves (phase_start l.problem l.fn.phase) (reverse l.fn.frames.items)
+    (reverse l.frames.items) l.fn.history.opened l.history.opened
 
 abbrev pub decreases-loop-frames : goal.decreases-loop-frames
 decreases-loop-frames g l = turns g.R.Rules.rule l.half_moves (phase_start l.problem l.fn.phase) (reverse l.frames.items)

@@ -5,8 +5,8 @@ use Rattle.pop_solve.proofs.SmallestTrees.{tree-one}
 use Rattle.pop_solve.proofs.Words.{Frame, after_well_formed, ap, arith, chess, is_pseudo_legal-from_legal, rules, ◌-◌, ◌≡◌}
 use Rattle.pop_solve.proofs.value.descend.Goals as goal
 
-pub returns-else-is_some-clause-answer : goal.returns-else-is_some-clause-answer
-returns-else-is_some-clause-answer g c = search rules
+pub returns-clause-answer : goal.returns-clause-answer
+returns-clause-answer g c = search rules
 
 pub returns-then-rules_out_mate-clause-opened : goal.returns-then-rules_out_mate-clause-opened
 returns-then-rules_out_mate-clause-opened g c =
@@ -26,7 +26,7 @@ returns-then-rules_out_mate-clause-tried g c =
     (position_after g.R.Rules.rule c.args.board.now c.args.by) one in
     omega (arith, tree)
 
-pub settled-requires : goal.settled-requires
-settled-requires g c =
+pub settled-answer-requires : goal.settled-answer-requires
+settled-answer-requires g c =
     let well = after_well_formed g.R.Rules.rule _ _ c.requires.well_formed (is_pseudo_legal-from_legal _ _ _ c.requires.legal) in
     (search rules, rw c.play-undo.ensures.after well)

@@ -75,7 +75,7 @@ returns-clause-room g c =
     let some = test.top_some g.R.Rules.rule c.args.aim _ _ _ _ taken c.requires.above _ _ c.requires.testing.1 in
     test.descend_room g.R.Rules.rule c.args.aim _ _ _ _ taken c.requires.above _ _ _ _ _ _ _ _ _ some u
     (rw (c.moves_at-moves.ensures.place, ← c.place.ensures) at c.in-Some-next_tried.ensures.next.0) c.in-Some-next_tried.ensures.next.1
-    c.next_tried.ensures.within c.descend.new.answer (rw c.next_tried.ensures.unchanged at c.descend.ensures.answer) c.requires.room
+    c.next_tried.ensures.within c.descend.result (rw c.next_tried.ensures.unchanged at c.descend.ensures.answer) c.requires.room
 
 pub returns-clause-next : goal.returns-clause-next
 returns-clause-next g c = λ p r.
@@ -85,5 +85,5 @@ returns-clause-next g c = λ p r.
     let some = test.top_some g.R.Rules.rule c.args.aim _ _ _ _ taken c.requires.above _ _ r in
     test.descend_turns g.R.Rules.rule c.args.aim _ _ _ _ taken c.requires.above _ _ _ _ _ _ 0 _ _ some u
     (rw (c.moves_at-moves.ensures.place, ← c.place.ensures) at c.in-Some-next_tried.ensures.next.0) c.in-Some-next_tried.ensures.next.1
-    c.next_tried.ensures.within c.descend.new.answer (rw c.next_tried.ensures.unchanged at c.descend.ensures.answer) _ _
+    c.next_tried.ensures.within c.descend.result (rw c.next_tried.ensures.unchanged at c.descend.ensures.answer) _ _
     (rw c.next_tried.ensures.unchanged at c.descend.ensures.opened) (rw c.next_tried.ensures.unchanged at c.descend.ensures.tried) p r

@@ -20,7 +20,8 @@ returns g c = record {
   steps =
       let taken = rw (← c.top.view_is) at c.in-Some.ensures.items in
       walking.enter_steps g.R.Rules.rule c.args.plan c.args.half_moves _ _ _ taken _ _ _ _ _ _ _ _ c.next_of.ensures.unchanged c.len-depth.ensures.value
-      c.in-Some-next_of.ensures.next c.next_of.ensures.within c.push.ensures.items _ _ _ _ _ refl c.enter.ensures.passes c.enter.ensures.enters
+      c.in-Some-next_of.ensures.next c.next_of.ensures.within c.push.ensures.items _ _ _ _ _
+      (walking.at_root _ _ (omega (arith, c.push.ensures.len, c.len-depth.ensures.value))) c.enter.ensures.passes c.enter.ensures.enters
       c.enter.ensures.counts;
 }
 
@@ -30,7 +31,7 @@ returns-then-is_settled g c = record {
       let taken = rw (← c.top.view_is) at c.in-Some.ensures.items in
       walking.settled_steps g.R.Rules.rule c.args.plan c.args.half_moves _ _ _ taken _ _ _ _ _ _ _ c.next_of.ensures.unchanged c.len-depth.ensures.value
       c.in-Some-next_of.ensures.next c.next_of.ensures.within c.push.ensures.items (c.is_settled.ensures c.if-is_settled.true) _ _
-      (c.opened_by.ensures.more (omega arith) refl);
+      (c.opened_by-history.ensures.more (omega arith) refl);
 }
 
 pub enter-requires : goal.enter-requires
