@@ -96,6 +96,8 @@ impl<R: Rules, const N: usize> Search<R, N> {
         ensures problem { self.new.problem ≡ self.old.problem }
         ensures opened { self.old.opened ≤ self.new.opened }
     {
+        // For the proof: the count is below 2^64.
+        let _count = self.history.opened;
         let event = advance::<R, N>(
             &self.problem,
             &mut self.stage,
