@@ -1,5 +1,5 @@
 -- What the clauses of men, diagrams and boards exclude: small boards on which the definitions say otherwise than a wrong body would.
-use Rattle.chess_core.proofs.Basics.{Black, King, List, Man, None, Option, Pawn, Some, White, [], false, has_kind, has_men, has_unmoved, is_home, is_other_king, is_second_king, is_stray_pawn, is_taken, is_there, king_square, man_on, mark_unmoved, none_unmoved, refl, repeat, shows, side_of, some_square, squares, squares_of, stands, true, with_man, with_unmoved, without_man, without_unmoved, word, word_of, ◌∷◌, ◌≡◌}
+use Rattle.chess_core.proofs.Basics.{Black, King, List, Man, None, Option, Pawn, Some, White, [], false, has_kind, has_men, has_unmoved, is_home, is_other_king, is_second_king, is_stray_pawn, is_taken, is_man_on, king_square, man_on, mark_unmoved, none_unmoved, refl, repeat, is_kind_on, side_of, some_square, squares, squares_of, has_man, true, with_man, with_unmoved, without_man, without_unmoved, word, word_of, ◌∷◌, ◌≡◌}
 use Rattle.chess_core.specs.SquareNames.{a1, b1, e1, a2, e8, h8}
 
 abbrev white_king : Man
@@ -44,8 +44,8 @@ unfolding is_taken side_of some_square squares word word_of
 black_man_alone = (refl, refl)
 
 -- a white king stands there, and no black one
-pub king_of_white_stands : (stands two_kings White King ≡ true) × (stands two_kings Black King ≡ false)
-unfolding is_there some_square squares stands
+pub king_of_white_stands : (has_man two_kings White King ≡ true) × (has_man two_kings Black King ≡ false)
+unfolding is_man_on some_square squares has_man
 king_of_white_stands = (refl, refl)
 
 -- a king is at home on e1 and not on a1
@@ -73,7 +73,7 @@ kind_has_square = refl
 
 -- a pawn on a2 is seen, and no king
 pub pawn_is_seen : (has_kind (with_man empty a2 white_pawn) Pawn ≡ true) × (has_kind (with_man empty a2 white_pawn) King ≡ false)
-unfolding has_kind shows some_square squares
+unfolding has_kind is_kind_on some_square squares
 pawn_is_seen = (refl, refl)
 
 -- a pawn on a1 is out of place, and not on a2

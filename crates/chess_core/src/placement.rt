@@ -1,7 +1,7 @@
 //! The men on the squares.
 ghost use Rattle.std.specs.Prelude.{◌≡◌, IsSome, None, [], ◌∷◌};
 ghost use Rattle.std.specs.List.{repeat};
-ghost use Rattle.chess_core.specs.Diagrams.{shows};
+ghost use Rattle.chess_core.specs.Diagrams.{is_kind_on};
 ghost use Rattle.chess_core.specs.Position.{king_square, man_on, with_man, without_man};
 ghost use Rattle.chess_core.specs.ties.Words.{side_of, squares_of, word};
 
@@ -60,7 +60,7 @@ impl Placement {
 
     // The squares of the men of this kind.
     pub(crate) fn of_kind(&self, kind: Kind) -> u64
-        ensures { result ≡ word (shows self.now kind) }
+        ensures { result ≡ word (is_kind_on self.now kind) }
     {
         self.by_kind[kind.number()]
     }

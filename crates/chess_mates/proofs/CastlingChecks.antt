@@ -1,6 +1,6 @@
 -- Castling that uncovers no king gives check by its rook alone.
 use Rattle.chess_rules.proofs.Basics.{Bool, List, None, Option, Some, [], agree_below, agree_below_at, and_from, and_left, and_parts, ap, arith, bit_and, bit_at, bit_or, cases_eq, cond-false, cond-true, eq-eqb, eqb-true, false, false_from_ne_true, false≢true, inl, inr, is_some, length, length-set, list_all, list_any, not, or_cases, or_left, or_parts, range_with_len, refl, rules, sym, true, ℕ, ◌%◌, ◌&&◌, ◌*◌, ◌+◌, ◌-◌, ◌/◌, ◌<◌, ◌==◌, ◌^◌, ◌||◌, ◌∙◌, ◌∷◌, ◌≡◌, ◌≢◌, ◌≤◌, ◌⊎◌}
-use Rattle.chess_mates.proofs.Chess.{AreCastlingTargets, Bishop, CheckSquares, Colour, Direction, East, Grasshopper, IsWellFormed, Kind, King, Man, Move, Nightrider, North, NorthEast, NorthWest, Pawn, Position, Queen, Rook, RuleSet, South, SouthEast, SouthWest, Step, Straight, West, all_at, along, along-is, capture_square, castles, is_attacked_at, position_after}
+use Rattle.chess_mates.proofs.Chess.{same_kind-true, AreCastlingTargets, Bishop, CheckSquares, Colour, Direction, East, Grasshopper, IsWellFormed, Kind, King, Man, Move, Nightrider, North, NorthEast, NorthWest, Pawn, Position, Queen, Rook, RuleSet, South, SouthEast, SouthWest, Step, Straight, West, all_at, along, along-is, capture_square, castles, is_attacked_at, position_after}
 use Rattle.chess_mates.proofs.Chess.{corner, find_first, halfway, hops, in_check, is_ahead, is_aside, is_castling, is_clear, is_diagonal, is_man, is_on_fairy_line, is_on_fairy_line_to, is_on_some, is_reached, is_side, is_square, is_vacant_at, king_square, man_on, man_on-with_same, may_castle, may_check_from, may_expose}
 use Rattle.chess_mates.proofs.Chess.{may_expose_on, may_stand_between, moved_men, other, queen_steps, reaches, reaches_as, rides, same_colour, same_kind, some_square_false, some_square_true, squares, squares_between, step_of, steps_to, straight_steps, with_man, without_man, word}
 use Rattle.chess_mates.specs.ties.CheckSquares.{enemy}
@@ -201,9 +201,6 @@ inside_of a t c h s = search rules
 someone : (o : Option Man) → (o ≡ None → ⊥) → (y : Man) × (o ≡ Some y)
 someone o h = grind arith
 
-kind_is_rook : (j : Kind) → same_kind j Rook ≡ true → j ≡ Rook
-kind_is_rook j h = grind arith
-
 -- what castling changes: the king steps, and then the rook
 module _ (rule : RuleSet) (p : Position) (x : Man) (m : Move) (well : IsWellFormed p) (is : IsMade rule p x m) (castling : is_castling x m ≡ true) where
   king : same_kind x.kind King ≡ true
@@ -287,7 +284,7 @@ module _ (rule : RuleSet) (p : Position) (x : Man) (m : Move) (well : IsWellForm
       king_steps = search (rules, unreached, king_shift, parts, off_lines, from_there, stood, small)
 
       not_corner : k ≢ corner m
-      not_corner e = search (rules, rook, kind_is_rook, rook_kind, false≢true, and_parts)
+      not_corner e = search (rules, rook, same_kind-true, rook_kind, false≢true, and_parts)
 
       apart : (k ≢ halfway m + 1) × (k ≢ halfway m - 1)
       apart =
@@ -300,7 +297,7 @@ module _ (rule : RuleSet) (p : Position) (x : Man) (m : Move) (well : IsWellForm
       unfolding reaches reaches_as is_on_some
       rook_strikes side hit =
           let mine : same_colour rook.0.colour (other c) ≡ true = rw rook_there at side in
-          let is_rook : rook.0.kind ≡ Rook = kind_is_rook rook.0.kind rook_kind in
+          let is_rook : rook.0.kind ≡ Rook = same_kind-true rook.0.kind Rook rook_kind in
           let now : reaches_as castled rook.0.colour rook.0.kind (halfway m) k ≡ true = rw rook_there at hit in
           let before : reaches_as stepped rook.0.colour rook.0.kind (halfway m) k ≡ true =
           reached stepped castled (corner m) (halfway m) k (frees stepped castled (corner m) (halfway m) rook.0 rook_shift) the_way.edge the_way.inside small.2
@@ -342,7 +339,7 @@ module _ (rule : RuleSet) (p : Position) (x : Man) (m : Move) (well : IsWellForm
         let is_one : is_man (Some y.0) c King ≡ true = rw y.1 at h in
         let off_half : k ≢ halfway m = λ e.
         let same : y.0 ≡ rook.0 = rook_shift.arrived y.0 (ap (man_on castled) (sym e) ∙ y.1) in
-        grind (arith, kind_is_rook, rook_kind, false≢true, and_parts) in
+        grind (arith, same_kind-true, rook_kind, false≢true, and_parts) in
         let one : man_on stepped k ≡ Some y.0 = rook_shift.others k y.0 y.1 off_half in
         let off_to : k ≢ m.to = λ e.
         let same : y.0 ≡ x = king_shift.arrived y.0 (ap (man_on stepped) (sym e) ∙ one) in

@@ -1,4 +1,5 @@
 -- Lists of legal moves of which one doesn't mate.
+use Rattle.chess_core.proofs.Ranges.{second_fails}
 use Rattle.chess_rules.proofs.Basics.{Bool, List, arith, false, list_all, not, refl, sym, true, ◌&&◌, ◌∷◌, ◌≡◌}
 use Rattle.chess_mates.proofs.Chess.{Move, Position, RuleSet, in_check, is_legal, is_mating, mates, other, position_after}
 use Rattle.chess_rules.proofs.listing_moves.Calls.{is_pseudo_legal-from_legal}
@@ -8,11 +9,7 @@ use Rattle.chess_mates.proofs.Mating.{no_mate_quietly}
 pub quiet : (rule : RuleSet) (p : Position) (m : Move) → is_legal rule p m ≡ true → in_check rule (position_after rule p m).men (other p.turn) ≡ false
     → is_mating rule p m ≡ false
 unfolding mates
-quiet rule p m lawful calm = second (is_legal rule p m) (is_mating rule p m) lawful (sym (no_mate_quietly rule p m (λ h. calm)))
-  where
-    second : (a b : Bool) → a ≡ true → (a && b) ≡ false → b ≡ false
-    second true b e h = h
-    second false b e h = absurd cc
+quiet rule p m lawful calm = second_fails (is_legal rule p m) (is_mating rule p m) (sym (no_mate_quietly rule p m (λ h. calm))) lawful
 
 pub fails-here : (test : Move → Bool) (ms more : List Move) (m : Move) → ms ≡ m ∷ more → test m ≡ false → list_all test ms ≡ false
 fails-here test ms more m e h = rw (e, h) refl

@@ -1,6 +1,6 @@
 -- Men who couldn't come to a check square give no check.
 use Rattle.chess_rules.proofs.Basics.{Option, Some, arith, bit_and, bit_at, bit_at-lt, bit_at_and, bit_at_or, bit_not, bit_or, cases_Bool, eq-eqb, eqb-true, false, false≢true, sym, true, w64, ℕ, ◌<◌, ◌==◌, ◌^◌, ◌∙◌, ◌≡◌}
-use Rattle.chess_mates.proofs.Chess.{AreApproaches, AreCheckOrigins, AreCheckTargets, Colour, Kind, Man, Move, Position, RuleSet, is_man, is_pseudo_legal, is_square, man_on, may_go, same_colour-true, same_kind-is, side_of, squares_of, word}
+use Rattle.chess_mates.proofs.Chess.{AreApproaches, AreCheckOrigins, AreCheckTargets, Colour, Kind, Man, Move, Position, RuleSet, is_man, is_pseudo_legal, is_square, man_on, may_go, same_colour-true, same_kind-true, side_of, squares_of, word}
 use Rattle.std.proofs.Common.{rules}
 use Rattle.std.proofs.lemmas.Nat.Bits.{bit_at_not}
 use Rattle.chess_rules.proofs.listing_moves.Arrivals.{may_go_aimed}
@@ -12,7 +12,7 @@ use Rattle.chess_rules.proofs.listing_moves.Calls.{is_pseudo_legal-from_legal}
 
 -- the man on a square of his kind
 man_is : (o : Option Man) (c : Colour) (k : Kind) → is_man o c k ≡ true → o ≡ Some (record { colour = c; kind = k })
-man_is o c k h = search (rules, same_colour-true, same_kind-is)
+man_is o c k h = search (rules, same_colour-true, same_kind-true)
 
 pub man_of_word : (men : _) (c : Colour) (k : Kind) (w s : ℕ) → w ≡ squares_of men c k → s < 64 → (bit_at w s == 1) ≡ true
     → man_on men s ≡ Some (record { colour = c; kind = k })

@@ -1,10 +1,10 @@
 -- A king who goes next to the other king is in check there: no legal move does so.
 use Rattle.chess_rules.proofs.Basics.{Bool, List, None, Option, Some, and_from, and_left, and_parts, ap, arith, cases_Bool, false, false_from_ne_true, false≢true, inl, inr, not-true, refl, sym, true, ℕ, ◌<◌, ◌||◌, ◌∙◌, ◌≡◌, ◌≢◌}
-use Rattle.chess_mates.proofs.Chess.{CanCastle, Colour, IsWellFormed, King, Man, Move, Position, RuleSet, capture_square, corner, halfway, in_check, is_absent, is_attacked, is_attacked_at, is_castling, is_fairy, is_legal, is_man, is_pseudo_legal, king_square, man_on, man_on-with_other, man_on-without_other, man_on_at, may_check_from, may_check_from_on, moved_men, other, position_after, put_at, reaches_as, reborn_square, same_colour, same_kind, some_square_true, strikes}
+use Rattle.chess_mates.proofs.Chess.{same_kind-true, CanCastle, Colour, IsWellFormed, King, Man, Move, Position, RuleSet, capture_square, corner, halfway, in_check, is_absent, is_attacked, is_attacked_at, is_castling, is_fairy, is_legal, is_man, is_pseudo_legal, king_square, man_on, man_on-with_other, man_on-without_other, man_on_at, may_check_from, may_check_from_on, moved_men, other, position_after, put_at, reaches_as, reborn_square, same_colour, same_kind, some_square_true, strikes}
 use Rattle.chess_core.proofs.Kept.{same_colour-refl}
 use Rattle.chess_rules.proofs.listing_moves.Calls.{is_pseudo_legal-from_legal}
 use Rattle.chess_rules.proofs.attacks.Exposing.{king_stays_king}
-use Rattle.chess_rules.proofs.making_moves.Fits.{arrived, arrived_other, can_move, kind_is_king, taken}
+use Rattle.chess_rules.proofs.making_moves.Fits.{arrived, arrived_other, can_move, taken}
 use Rattle.chess_mates.proofs.Fleeing.{IsKingOn, king_is_able, king_on, no_king_square, steps_there}
 use Rattle.chess_rules.proofs.rays.Flips.{king-back}
 use Rattle.chess_rules.proofs.making_moves.Pseudo.{IsMade, made}
@@ -60,7 +60,7 @@ module _ (rule : RuleSet) (p : Position) (x : Man) (m : Move) (well : IsWellForm
       back : reaches_as (position_after rule p m).men (other p.turn) King k m.to ≡ true
       unfolding reaches_as
       back =
-          let kind : x.kind ≡ King = kind_is_king x.kind king in
+          let kind : x.kind ≡ King = same_kind-true x.kind King king in
           grind (arith, king-back)
 
       strikes_him : strikes rule (position_after rule p m).men m.to (other p.turn) k ≡ true
@@ -91,7 +91,7 @@ kings_apart rule p x m well here small lawful king = by (king_square p.men (othe
   by : (o : Option ℕ) → king_square p.men (other p.turn) ≡ o → may_check_from_on p.men o x m.to ≡ false
   by None at = refl
   by (Some k) at =
-      let kind : x.kind ≡ King = kind_is_king x.kind king in
+      let kind : x.kind ≡ King = same_kind-true x.kind King king in
       let stood = king_on p.men (other p.turn) k at in
       let apart : reaches_as p.men x.colour x.kind m.to k ≡ false = false_from_ne_true _ (λ near.
       let check = in_check_there rule p x m well (made rule p m x may here) k at stood.0 stood.1 small king near may in

@@ -1,6 +1,7 @@
 -- Flights that one move can't take.
-use Rattle.chess_rules.proofs.Basics.{Bool, List, None, Option, Some, [], and_from, and_left, and_parts, and_right, ap, arith, bit_and, bit_at, bit_at_and, bit_not, bit_or, cases_Bool, cases_eq, cases_lt, eq-eqb, eqb-true, false, false_from_ne_true, false≢true, find, inl, inr, is_some, length, list_any, list_any-append, not, or_cases, or_lt, or_parts, range_with_len, refl, rules, subst, sym, true, w64, ℕ, ◌&&◌, ◌+◌, ◌-◌, ◌<◌, ◌==◌, ◌^◌, ◌||◌, ◌∙◌, ◌≡◌, ◌≢◌, ◌⊎◌}
-use Rattle.chess_mates.proofs.Chess.{Bishop, Colour, Grasshopper, HaveNone, IsWellFormed, Kind, King, Knight, Man, Move, Nightrider, Pawn, Position, Queen, Rook, RuleSet, arrives, arriving_man, capture_square, diagonal_steps, find_first, is_arrival_free, is_attacked, is_castling, is_circe, is_man, is_on_some, is_pseudo_legal, is_side, is_square, king_after, king_square, knight_steps, leaps, man_on, mates, mates_behind, may_go, other, pawn_captures, position_after, queen_steps}
+use Rattle.chess_core.proofs.Kept.{same_colour-refl}
+use Rattle.chess_rules.proofs.Basics.{List, None, Option, Some, [], and_from, and_left, and_parts, and_right, ap, arith, bit_and, bit_at, bit_at_and, bit_not, bit_or, cases_Bool, cases_eq, cases_lt, eq-eqb, eqb-true, false, false_from_ne_true, false≢true, find, inl, inr, length, list_any, list_any-append, not, or_cases, or_lt, or_parts, range_with_len, refl, rules, subst, sym, true, w64, ℕ, ◌&&◌, ◌+◌, ◌-◌, ◌<◌, ◌==◌, ◌^◌, ◌||◌, ◌∙◌, ◌≡◌, ◌≢◌, ◌⊎◌}
+use Rattle.chess_mates.proofs.Chess.{Bishop, Colour, Grasshopper, IsWellFormed, Kind, King, Knight, Man, Move, Nightrider, Pawn, Position, Queen, Rook, RuleSet, arrives, arriving_man, capture_square, diagonal_steps, find_first, is_arrival_free, is_attacked, is_castling, is_circe, is_man, is_on_some, is_pseudo_legal, is_side, is_square, king_after, king_square, knight_steps, leaps, man_on, mates, mates_behind, may_go, other, pawn_captures, position_after, queen_steps}
 use Rattle.chess_mates.proofs.Chess.{reaches, reaches_as, reaches_of, rides, same_colour, same_colour-true, same_kind, side_of, some_square_false, some_square_true, squares_of, straight_steps, strikes, triple_at, word}
 use Rattle.chess_rules.specs.Legal.{is_promotion_right}
 use Rattle.chess_mates.specs.ties.Flights.{has_flight, is_flight, is_flight_from, is_open}
@@ -20,7 +21,7 @@ use Rattle.chess_rules.proofs.making_moves.Pseudo.{IsMade, made, on_board}
 use Rattle.chess_rules.proofs.making_moves.Stays.{after_well_formed, maker}
 use Rattle.chess_mates.proofs.CheckTargets.{last_rank_on}
 use Rattle.chess_mates.proofs.FarMen.{off_denied}
-use Rattle.chess_rules.proofs.listing_moves.Walks.{off_zero, on_first}
+use Rattle.chess_rules.proofs.listing_moves.Walks.{off_second, off_zero, on_first}
 use Rattle.chess_mates.proofs.Fleeing.{IsKingOn, IsKingStep, king_on, no_king_free, no_mate_with_flight, no_strike, step_is_legal, step_to, unseen_bit}
 use Rattle.chess_mates.proofs.Mating.{mates_behind-end, mates_behind-none, not_mating, turn_after}
 use Rattle.chess_mates.proofs.OpenBoard.{rides_on}
@@ -119,9 +120,7 @@ pub on_own : (men : List (Option Man)) (c : Colour) (w s : ℕ) (x : Man) → w 
     → (bit_at w s == 1) ≡ true
 unfolding side_of
 on_own men c w s x own small here mine =
-    word_has (λ q. is_side (man_on men q) c) w s own small ∙ ap (λ (o : Option Man). is_side o c) here ∙ ap (λ (d : Colour). same_colour d c) mine ∙ self c where
-      self : (c : Colour) → same_colour c c ≡ true
-      self c = grind arith
+    word_has (λ q. is_side (man_on men q) c) w s own small ∙ ap (λ (o : Option Man). is_side o c) here ∙ ap (λ (d : Colour). same_colour d c) mine ∙ same_colour-refl c
 
 -- neither on a last rank nor on a king's home
 on_both : (a b t : ℕ) → (bit_at a t == 1) ≡ true → (bit_at b t == 1) ≡ true → (bit_at (bit_and a b) t == 1) ≡ true
@@ -133,9 +132,6 @@ no_last_rank x w t none small on = false_by (arrives x t) (λ last.
     let zero : bit_and w 18374686479671623935 ≡ 0 = eqb-true _ _ none in
     let never = off_zero t in
     false≢true (sym never ∙ ap (λ n. bit_at n t == 1) (sym zero) ∙ both))
-
-pub no_pawn_arrives : (x : Man) (t : ℕ) → same_kind x.kind Pawn ≡ false → arrives x t ≡ false
-no_pawn_arrives x t piece = and_left _ _ piece
 
 pub off_homes : (s : ℕ) → not (bit_at 1152921504606846992 s == 1) ≡ true → (s ≢ 4) × (s ≢ 60)
 off_homes s off = ((λ e. false≢true (rw e at off)), (λ e. false≢true (rw e at off)))
@@ -179,16 +175,13 @@ come_back x t w small piece are = record {
   inside = λ men s inside h. are.inside men s inside (sym (reaches_back men x.colour x.kind s t inside small piece) ∙ h);
 }
 
-off_both : (a b t : ℕ) → (bit_at (bit_and a b) t == 1) ≡ false → (bit_at a t == 1) ≡ true → (bit_at b t == 1) ≡ false
-off_both a b t off on = false_by (bit_at b t == 1) (λ y. false≢true (sym off ∙ on_both a b t on y))
-
 -- where the man neither stands on the first square nor reaches it, that one is left
 pub first_there : (squares targets a o first t : ℕ) (x : Man) → AreApproached x first a → o ≡ word (λ q. is_square (Some first) q)
     → find (λ s. bit_at squares s == 1) (range_with_len 0 64) ≡ Some first → t < 64 → (bit_at targets t == 1) ≡ true
     → (bit_at (bit_and targets (bit_or a o)) t == 1) ≡ false → IsLeft squares x t first
 first_there squares targets a o first t x are only found small on off =
     let is = find_first (λ s. bit_at squares s == 1) 0 64 first found in
-    let free = off_both targets (bit_or a o) t off on in
+    let free = off_second targets (bit_or a o) t off on in
     record {
       small = omega (arith, is.high);
       on = is.here;
@@ -293,11 +286,9 @@ module _ (rule : RuleSet) (p : Position) (m : Move) (x : Man) (k w : ℕ) (well 
   enemy_stood s v there enemy = elim (stood_q s v there) [
     | inl came ↦
         absurd (false≢true (sym (not_mine v p.turn enemy) ∙ ap (λ (u : Man). same_colour u.colour p.turn) came.1
-        ∙ ap (λ (c : Colour). same_colour c p.turn) (arriving_colour x m.promo ∙ is.mine) ∙ self p.turn))
+        ∙ ap (λ (c : Colour). same_colour c p.turn) (arriving_colour x m.promo ∙ is.mine) ∙ same_colour-refl p.turn))
     | inr kept ↦ kept.1.1
-  ] where
-    self : (c : Colour) → same_colour c c ≡ true
-    self c = grind arith
+  ]
 
   module _ (n : Move) (to : n.to < 64) (can : is_pseudo_legal rule q n ≡ true) where
     abbrev y : Man

@@ -1,5 +1,6 @@
 -- The moves that mate, by their numbers.
-use Rattle.chess_rules.proofs.Basics.{Bool, [], and_left, and_right, ap, arith, cases_Bool, cases_lt, false, inl, inr, not, refl, rules, suc, sym, true, zero, ℕ, ◌&&◌, ◌+◌, ◌-◌, ◌<◌, ◌∙◌, ◌∷◌, ◌≡◌, ◌≤◌}
+use Rattle.chess_core.proofs.Ranges.{second_fails}
+use Rattle.chess_rules.proofs.Basics.{[], and_left, and_right, ap, arith, cases_Bool, cases_lt, false, inl, inr, not, refl, rules, suc, sym, true, zero, ℕ, ◌&&◌, ◌+◌, ◌-◌, ◌<◌, ◌∙◌, ◌∷◌, ◌≡◌, ◌≤◌}
 use Rattle.chess_mates.proofs.Chess.{HaveNone, Move, Position, RuleSet, after_by, first_of_and, in_check, is_legal, is_mate, is_pseudo_legal, mates, mates_behind, other, position_after, second_of_and, triple_at}
 use Rattle.chess_rules.proofs.listing_moves.Places.{moves_behind-end, moves_behind-here, moves_behind-skip}
 use Rattle.chess_rules.specs.ties.Idle.{is_legal-idle}
@@ -11,13 +12,10 @@ pub mates_behind-here : (rule : RuleSet) (p : Position) (n : ℕ) → n < 28672 
 unfolding mates_behind mates
 mates_behind-here rule p n lt h = search (rules, first_of_and, moves_behind-here, second_of_and)
 
-false_second : (a b : Bool) → a ≡ true → (a && b) ≡ false → b ≡ false
-false_second a b e h = grind arith
-
 pub mates_behind-skip : (rule : RuleSet) (p : Position) (n : ℕ) → n < 28672 → mates rule p (triple_at n) ≡ false
     → mates_behind rule p n ≡ mates_behind rule p (n + 1)
 unfolding mates_behind mates
-mates_behind-skip rule p n lt h = search (rules, false_second, moves_behind-here, moves_behind-skip)
+mates_behind-skip rule p n lt h = search (rules, second_fails, moves_behind-here, moves_behind-skip)
 
 pub not_mating : (rule : RuleSet) (p : Position) (m : Move) → is_pseudo_legal rule p m ≡ false → mates rule p m ≡ false
 unfolding mates

@@ -87,7 +87,7 @@ const LAST_RANKS: u64 = 0xff00_0000_0000_00ff;
 const KINGS_HOMES: u64 = 0x1000_0000_0000_0010;
 
 // Whether the man is no fairy man and surely neither promotes nor castles; `targets` are the squares to which he may go.
-#[tactic(auto, using(crate::proofs::LastingFlights::no_last_rank, crate::proofs::LastingFlights::no_pawn_arrives, crate::proofs::LastingFlights::off_homes))]
+#[tactic(auto, using(crate::proofs::LastingFlights::no_last_rank, chess_rules::proofs::listing_moves::Targeting::no_pawn_arrives, crate::proofs::LastingFlights::off_homes))]
 fn goes_plainly(man: Man, from: Square, targets: u64) -> bool
     ensures unpromoted { result ≡ true → (t : ℕ) → t < 64 → (bit_at targets t == 1) ≡ true
         → arrives man t ≡ false }

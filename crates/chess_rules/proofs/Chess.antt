@@ -1,7 +1,7 @@
 -- The words of chess, and the lemmas on squares and tests, that most proofs name.
 pub use Rattle.chess_core.proofs.Boards.{IsAt, along-is, square_at-is}
 pub use Rattle.chess_core.proofs.Castlings.{has_unmoved-mark_other, has_unmoved-parts, is_home-none, is_home-square}
-pub use Rattle.chess_core.proofs.Kept.{same_kind-is}
+pub use Rattle.chess_core.proofs.Kept.{same_kind-true}
 pub use Rattle.chess_core.proofs.Men.{AtMostOneKing-without, is_man-without, man_on-with_other, man_on-with_same, man_on-without_none, man_on-without_other, man_on-without_same, same_colour-true}
 pub use Rattle.chess_core.proofs.Ranges.{NoneBelow, all_range_false, all_range_true, any_range_false, any_range_true, find_range_none, find_range_some, some_square_false, some_square_true}
 pub use Rattle.chess_core.proofs.Words.{square_bit, square_word, square_word_small, squares_both, squares_either, squares_none, squares_not, squares_same, squares_some}
@@ -29,7 +29,7 @@ pub use Rattle.chess_rules.specs.Attacks.{is_attacked_at, is_faced}
 unfoldable pub use Rattle.chess_rules.specs.Attacks.{faces, faces_its_like, in_check, is_attacked, is_paralysed, strikes}
 pub use Rattle.chess_rules.specs.Legal.{forward, goes, is_arrival_free, is_nil, is_promotion_right, is_pseudo_legal_of, last_rank, pawn_steps, pawn_takes, promotions, second_rank, squares_between}
 unfoldable pub use Rattle.chess_rules.specs.Legal.{castles, is_legal, is_mate, is_pseudo_legal, may_castle, moves, triples}
-pub use Rattle.chess_rules.specs.Play.{arriving_man, by_shade, corner, halfway, if_empty, is_castling, is_diagonal, is_double_step, man_on_at, move_man, put_at, reborn_at, unmoved_with_rook, unmoved_without_at, without_at}
+pub use Rattle.chess_rules.specs.Play.{arriving_man, by_shade, captured_man, corner, halfway, if_empty, is_castling, is_diagonal, is_double_step, man_on_at, move_man, put_at, reborn_at, unmoved_with_rook, unmoved_without_at, without_at}
 unfoldable pub use Rattle.chess_rules.specs.Play.{after_by, capture_square, moved_men, position_after, rebirth, reborn_square, undo_by, undo_of, unmoved_after}
 pub use Rattle.chess_rules.specs.Reaches.{is_occupied, is_vacant, reaches_of}
 unfoldable pub use Rattle.chess_rules.specs.Reaches.{hops, is_clear, leaps, reaches, reaches_as, rides}

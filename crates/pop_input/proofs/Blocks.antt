@@ -1,29 +1,26 @@
 -- Blocks token by token.
-use Rattle.pop_input.proofs.Words.{Bool, Command, Fault, List, None, Option, Some, State, Tail, TextLine, TextWord, Token, Word, Words, [], append-nil, append_assoc, arith, at_line, before_blocks, block_entries, block_fault, blocks_of, closed_entry, closes, closes_none, closing_line, closing_of, command_of, entries_by, entries_of, false, fault_of, first_fault, has_begun, last_text, line_of, list_all, no_words, or_else, put_before, refl, state_of, text_after, text_word_of, tokens_inside, true, words_before, ℕ, ◌++◌, ◌∷◌, ◌≡◌}
+use Rattle.pop_input.proofs.Words.{Bool, Command, List, None, Some, Draft, Tail, TextLine, TextWord, Token, Word, Words, [], append-nil, ap, append_assoc, arith, at_line, before_blocks, block_entries, block_fault, blocks_of, closed_entry, closes, closes_none, closing_line, closing_of, command_of, entries_by, entries_of, false, fault_of, first_fault, fold, has_begun, last_text, line_of, list_all, no_words, or_else, put_before, refl, draft_after, draft_of, text_after, text_word_of, tokens_inside, true, words_in, ℕ, ◌++◌, ◌∷◌, ◌≡◌}
 use Rattle.pop_input.specs.declared.names.Command.TheVariants.{Next, Last}
 
 -- One more token.
 
--- the fault of a word of a problem
-abbrev word_fault : List (List ℕ) → ℕ → List ℕ → Option Fault
-word_fault before line text = at_line line (fault_of true (state_of before) text)
-
 -- the first fault behind one more word: an earlier one, or that of the word
-fault_more : (before : List (List ℕ)) (done : List Token) (line : ℕ) (text : List ℕ)
-    → first_fault before (done ++ Word line text ∷ []) ≡ or_else (first_fault before done) (word_fault (words_before before done) line text)
-fault_more before [] line text = grind arith
-fault_more before (Word l t ∷ done) line text = grind (arith, fault_more (t ∷ before) done line text)
-fault_more before (TextLine l k t ∷ done) line text = fault_more before done line text
+fault_more : (draft : Draft) (done : List Token) (line : ℕ) (text : List ℕ)
+    → first_fault draft (done ++ Word line text ∷ [])
+    ≡ or_else (first_fault draft done) (at_line line (fault_of true (fold draft_after draft (words_in done)) text))
+fault_more draft [] line text = grind arith
+fault_more draft (Word l t ∷ done) line text = grind (arith, fault_more (draft_after draft t) done line text)
+fault_more draft (TextLine l k t ∷ done) line text = fault_more draft done line text
 
-fault_line : (before : List (List ℕ)) (done : List Token) (line : ℕ) (keyword text : List ℕ)
-    → first_fault before (done ++ TextLine line keyword text ∷ []) ≡ first_fault before done
-fault_line before [] line keyword text = refl
-fault_line before (Word l t ∷ done) line keyword text = grind (arith, fault_line (t ∷ before) done line keyword text)
-fault_line before (TextLine l k t ∷ done) line keyword text = fault_line before done line keyword text
+fault_line : (draft : Draft) (done : List Token) (line : ℕ) (keyword text : List ℕ)
+    → first_fault draft (done ++ TextLine line keyword text ∷ []) ≡ first_fault draft done
+fault_line draft [] line keyword text = refl
+fault_line draft (Word l t ∷ done) line keyword text = grind (arith, fault_line (draft_after draft t) done line keyword text)
+fault_line draft (TextLine l k t ∷ done) line keyword text = fault_line draft done line keyword text
 
--- the state behind the tokens of a block
-abbrev pub said : Bool → List Token → State
-said first done = state_of (words_before [] (tokens_inside first done))
+-- what the tokens of a block say
+abbrev pub said : Bool → List Token → Draft
+said first done = draft_of (words_in (tokens_inside first done))
 
 -- one more word of a block
 pub block_more : (first : Bool) (done : List Token) (line : ℕ) (text : List ℕ)
@@ -64,19 +61,18 @@ pub inside_first : (first : Bool) (done : List Token) (token : Token) → has_be
 inside_first first [] token h = grind arith
 inside_first first (other ∷ done) token h = grind (arith, inside_first first done token)
 
--- one more word of a problem: the words stand last first
-pub words_more : (before : List (List ℕ)) (done : List Token) (line : ℕ) (text : List ℕ)
-    → words_before before (done ++ Word line text ∷ []) ≡ text ∷ words_before before done
-words_more before [] line text = refl
-words_more before (Word l t ∷ done) line text = words_more (t ∷ before) done line text
-words_more before (TextLine l k t ∷ done) line text = words_more before done line text
+-- one more word is said last
+pub said_more : (draft : Draft) (done : List Token) (line : ℕ) (text : List ℕ)
+    → fold draft_after draft (words_in (done ++ Word line text ∷ [])) ≡ draft_after (fold draft_after draft (words_in done)) text
+said_more draft [] line text = refl
+said_more draft (Word l t ∷ done) line text = said_more (draft_after draft t) done line text
+said_more draft (TextLine l k t ∷ done) line text = said_more draft done line text
 
 -- a text line adds no word
-pub words_line : (before : List (List ℕ)) (done : List Token) (line : ℕ) (keyword text : List ℕ)
-    → words_before before (done ++ TextLine line keyword text ∷ []) ≡ words_before before done
-words_line before [] line keyword text = refl
-words_line before (Word l t ∷ done) line keyword text = words_line (t ∷ before) done line keyword text
-words_line before (TextLine l k t ∷ done) line keyword text = words_line before done line keyword text
+pub words_line : (done : List Token) (line : ℕ) (keyword text : List ℕ) → words_in (done ++ TextLine line keyword text ∷ []) ≡ words_in done
+words_line [] line keyword text = refl
+words_line (Word l t ∷ done) line keyword text = ap (λ words. t ∷ words) (words_line done line keyword text)
+words_line (TextLine l k t ∷ done) line keyword text = words_line done line keyword text
 
 -- a word changes neither title nor author
 pub text_more : (wanted : TextWord) (old : List ℕ) (done : List Token) (line : ℕ) (text : List ℕ)

@@ -1,6 +1,6 @@
 -- The item at the end of a block.
-use Rattle.pop_input.proofs.Words.{Block, Bool, Closes, Command, CutsOff, Device, DeviceFailed, Entry, Fault, FaultKind, First, Input, IsOver, Item, Later, List, Long, MayFollow, NextItem, No, None, Nothing, Option, ReadFault, Reading, Reads, ReadsWord, Some, Standing, Tail, Takes, TakesNothing, TakesPart, TooLong, Word, Yes, [], among}
-use Rattle.pop_input.proofs.Words.{append-nil, arith, block_fault, closed_entry, command_of, cut_fault, ended_by, ended_item, entries_by, entries_left, entries_of, false, fault_at, last_of, more_entries, next_behind, no_words, put_before, refl, subst, tail_fault, tokens_inside, told_of_cut, true, words_left, ℕ, ◌++◌, ◌∷◌, ◌≡◌}
+use Rattle.pop_input.proofs.Words.{Block, Bool, Command, CutsOff, Device, DeviceFailed, Entry, Fault, FaultKind, First, Input, IsOver, Later, List, Long, MayFollow, NextItem, No, None, Nothing, Option, ReadFault, Reading, Reads, ReadsWord, Some, Sound, Standing, Tail, Takes, TakesNothing, TakesPart, TooLong, Word, Yes, [], among}
+use Rattle.pop_input.proofs.Words.{append-nil, arith, block_fault, closed_entry, command_of, cut_fault, ended_by, ended_item, entry_now, item_of, entries_by, entries_left, entries_of, false, fault_at, last_of, more_entries, next_behind, no_words, put_before, refl, subst, tail_fault, tokens_inside, told_of_cut, true, words_left, ℕ, ◌++◌, ◌∷◌, ◌≡◌}
 use Rattle.pop_text.specs.Words.{Token, End as AtEnd, Broken as Failing}
 use Rattle.pop_text.specs.declared.read_fault.ReadFault.TheVariants.{InputTooLong as PastLimit}
 use Rattle.pop_input.specs.Blocks.{Faulty as FaultyEntry}
@@ -17,6 +17,12 @@ use Rattle.pop_input.specs.declared.fault_kind.FaultKind.TheVariants.{InputTooLo
 abbrev pub block_of : Bool → Next
 block_of true = First
 block_of false = Later
+
+-- an entry that was read is the next item
+read_item : (old new : Standing) (had left : Option (List ℕ)) (entry : Entry) (last : Last) → new.next ≡ next_behind last
+    → Reads old new had left (entry ∷ []) → NextItem old new had left (item_of entry last)
+read_item old new had left (Sound problem) last is reads = (reads, is)
+read_item old new had left (FaultyEntry fault) last is reads = (reads, is)
 
 module _ (first : Bool) (old new : Standing) (had left : Option (List ℕ)) (starts : old.next ≡ block_of first) where
   -- items of tokens that were taken
@@ -36,23 +42,24 @@ module _ (first : Bool) (old new : Standing) (had left : Option (List ℕ)) (sta
     taken : Takes (among old.at) (among new.at) had left full
     taken = takes_more first old.at mid new.at had met left block next b (Word line text) t
 
-    closed_reads : (item : Item) (last : Last) → Closes next line last item → new.next ≡ next_behind last
-        → Reads old new had left (closed_entry (block_fault first full) line (tokens_inside first full) ∷ []) → NextItem old new had left item
-    closed_reads item last c is reads = let w = word_read first old.at mid new.at had met left block next b line text r.fault (λ none. r) in
-        grind arith
+    closed_reads : (last : Last) → new.next ≡ next_behind last
+        → Reads old new had left (closed_entry (block_fault first full) line (tokens_inside first full) ∷ [])
+        → NextItem old new had left (item_of (entry_now next line) last)
+    closed_reads last is reads = let w = word_read first old.at mid new.at had met left block next b line text r.fault (λ none. r) in
+        grind (arith, read_item)
 
-    next_closes : (item : Item) → Closes next line No item → command_of text ≡ Some NextProblem → new.next ≡ Later → NextItem old new had left item
-    next_closes item c is later = closed_reads item No c later (reads_by full taken _ (λ rest may.
+    next_closes : command_of text ≡ Some NextProblem → new.next ≡ Later → NextItem old new had left (item_of (entry_now next line) No)
+    next_closes is later = closed_reads No later (reads_by full taken _ (λ rest may.
         grind (arith, next_entries first b.done line text b.plain (words_left None new.at rest) is)))
 
-    last_closes : (item : Item) → Closes next line Yes item → command_of text ≡ Some EndProblem → new.next ≡ Nothing → NextItem old new had left item
-    last_closes item c is over = closed_reads item Yes c over (reads_by full taken _ (λ rest may.
+    last_closes : command_of text ≡ Some EndProblem → new.next ≡ Nothing → NextItem old new had left (item_of (entry_now next line) Yes)
+    last_closes is over = closed_reads Yes over (reads_by full taken _ (λ rest may.
         grind (arith, last_entries first b.done line text b.plain (words_left None new.at rest) is)))
 
     -- a closing word ends the block, and its item is the next one to come
-    pub word_closes : (item : Item) (last : Last) (c : Option Command) → Closes next line last item → command_of text ≡ c → last_of c ≡ Some last
-        → new.next ≡ next_behind last → NextItem old new had left item
-    word_closes item last c how is e behind = grind (arith, next_closes, last_closes)
+    pub word_closes : (last : Last) (c : Option Command) → command_of text ≡ c → last_of c ≡ Some last → new.next ≡ next_behind last
+        → NextItem old new had left (item_of (entry_now next line) last)
+    word_closes last c how is behind = grind (arith, next_closes, last_closes)
 
   -- Ends of the input.
 

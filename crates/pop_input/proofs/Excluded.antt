@@ -1,6 +1,6 @@
 -- What the clauses exclude: bytes that an item doesn't use, a cut that isn't told, and words of which the definitions say otherwise than a wrong body
 -- would.
-use Rattle.pop_input.proofs.Words.{Bool, Command, Diagram, EnPassantImpossible, Entry, Fault, Input, IsClosed, List, Long, MayFollow, NextItem, None, Option, Some, Standing, State, Stipulation, Takes, Token, Uses, Word, WordMisplaced, Words, Yes, [], among, ap, arith, closes_none, codes, command_of, diagram_fault, entries_by, entries_left, false, fault_at, first_fault, has_men, is_crossed_right, is_plain, last_of, length, length-append, list_all, list_all-append, onto_input, refl, section_of, sym, true, words_left, ℕ, ◌++◌, ◌<◌, ◌∙◌, ◌∷◌, ◌≡◌}
+use Rattle.pop_input.proofs.Words.{Bool, Command, Diagram, EnPassantImpossible, Entry, Fault, Input, IsClosed, List, Long, MayFollow, NextItem, None, Option, Some, Standing, Draft, Stipulation, Takes, Token, Uses, Word, WordMisplaced, Words, Yes, [], among, ap, arith, closes_none, codes, command_of, diagram_fault, entries_by, entries_left, false, fault_at, first_fault, has_men, is_crossed_right, is_plain, last_of, length, length-append, list_all, list_all-append, nothing_said, onto_input, refl, section_of, sym, true, words_left, ℕ, ◌++◌, ◌<◌, ◌∙◌, ◌∷◌, ◌≡◌}
 use Rattle.std.proofs.lemmas.List.{append_cancel_right}
 use Rattle.pop_text.proofs.Excluded.{gap_or_word, same_bytes}
 use Rattle.pop_text.specs.Words.{is_gap, is_in_word}
@@ -79,11 +79,11 @@ cut_is_to_come old new had left fault did rest other more may two =
 
 -- a plain word of a sound problem may not be passed over: it is a fault
 pub plain_word_is_a_fault : (is_plain (Word 2 (codes "xx")) ≡ true)
-    × (first_fault [] (Word 2 (codes "xx") ∷ []) ≡ Some (fault_at WordMisplaced 2)) × (first_fault [] [] ≡ None)
+    × (first_fault nothing_said (Word 2 (codes "xx") ∷ []) ≡ Some (fault_at WordMisplaced 2)) × (first_fault nothing_said [] ≡ None)
 unfolding command_of section_of
 plain_word_is_a_fault = (refl, refl, refl)
 
 -- where men stand and no pawn can have passed the crossed square, this is the fault, and not that there are no men
-pub en_passant_is_told : (state : State) (stipulation : Stipulation) (setup : Diagram) → has_men setup.men ≡ true
-    → is_crossed_right setup.men setup.turn setup.crossed ≡ false → diagram_fault state stipulation setup ≡ Some EnPassantImpossible
-en_passant_is_told state stipulation setup some wrong = rw (some, wrong) refl
+pub en_passant_is_told : (draft : Draft) (stipulation : Stipulation) (setup : Diagram) → has_men setup.men ≡ true
+    → is_crossed_right setup.men setup.turn setup.crossed ≡ false → diagram_fault draft stipulation setup ≡ Some EnPassantImpossible
+en_passant_is_told draft stipulation setup some wrong = rw (some, wrong) refl

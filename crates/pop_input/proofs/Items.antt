@@ -1,9 +1,9 @@
 -- A block as far as it is read, and the item at its end.
-use Rattle.pop_input.proofs.Words.{Block, Bool, Command, IsNew, List, None, Option, Reading, ReadsWord, Some, State, Takes, TakesLine, TakesPart, TextLine, TextWord, Word, WordTooLong, [], among, ap, arith, at_line, block_fault, closes, closes_none, command_of, false, fault_at, fault_of, has_begun, inr, last_of, last_text, length, list_all, list_all-append, lt-ltb, no_short_form, noted_text, or_else, refl, section_of, sym, takes_none, text_of_line, text_word_of, tokens_inside, true, ℕ, ◌++◌, ◌<◌, ◌∙◌, ◌∷◌, ◌≡◌, ◌≤◌, ◌⊎◌}
+use Rattle.pop_input.proofs.Words.{Block, Bool, Command, IsNew, List, None, Option, Reading, ReadsWord, Some, Draft, Takes, TakesLine, TakesPart, TextLine, TextWord, Word, WordTooLong, [], among, ap, arith, at_line, block_fault, closes, closes_none, command_of, false, fault_at, fault_of, has_begun, inr, last_of, last_text, length, list_all, list_all-append, lt-ltb, no_short_form, noted_text, or_else, refl, section_of, sym, takes_none, text_of_line, text_word_of, tokens_inside, true, ℕ, ◌++◌, ◌<◌, ◌∙◌, ◌∷◌, ◌≡◌, ◌≤◌, ◌⊎◌}
 use Rattle.pop_text.specs.Words.{Token}
 use Rattle.pop_input.specs.declared.names.TextWord.TheVariants.{Title, Author}
 use Rattle.pop_input.proofs.Taking.{takes_then}
-use Rattle.pop_input.proofs.Blocks.{said, block_more, block_line, begun_word, begun_line, inside_more, inside_none, inside_first, words_more, words_line, text_more, text_line}
+use Rattle.pop_input.proofs.Blocks.{said, block_more, block_line, begun_word, begun_line, inside_more, inside_none, inside_first, said_more, words_line, text_more, text_line}
 
 -- what a block says of its tokens
 pub record Tells (first : Bool) (block : Block) (done : List Token) : Type 0 where
@@ -35,8 +35,8 @@ long_no_command : (text : List ℕ) → 160 < length text → command_of text �
 unfolding command_of section_of
 long_no_command text long = grind (arith, no_short_form)
 
-long_fault : (begun : Bool) (state : State) (text : List ℕ) → 160 < length text → fault_of begun state text ≡ Some WordTooLong
-long_fault begun state text long = rw (lt-ltb 160 (length text) long) refl
+long_fault : (begun : Bool) (draft : Draft) (text : List ℕ) → 160 < length text → fault_of begun draft text ≡ Some WordTooLong
+long_fault begun draft text long = rw (lt-ltb 160 (length text) long) refl
 
 -- Texts behind one more token.
 
@@ -79,7 +79,7 @@ module _ (first : Bool) (old mid new : Reading) (had met left : Option (List ℕ
       (r : next.fault ≡ None → ReadsWord block next line text) where
     -- a word, the closing one too
     pub word_read : (next.fault ≡ block_fault first (b.done ++ Word line text ∷ [])) × (next.fault ≡ None → Tells first next (b.done ++ Word line text ∷ []))
-    word_read = grind (arith, block_more, or_first, begun_word, text_more, inside_more, inside_none, inside_first, words_more)
+    word_read = grind (arith, block_more, or_first, begun_word, text_more, inside_more, inside_none, inside_first, said_more)
 
     -- a word that does not close the block
     pub open_read : TakesPart mid new met left (Word line text) → closes (command_of text) ≡ false → BlockSoFar first old new had left next

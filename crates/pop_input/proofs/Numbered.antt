@@ -1,5 +1,5 @@
 -- The fault of a block that is read so far, and of the item that closes it.
-use Rattle.pop_input.proofs.Words.{Block, Bool, Closes, IsNumbered, Item, List, Option, Reading, ReadsWord, TakesPart, Word, [], subst, sym, ℕ, ◌++◌, ◌∷◌}
+use Rattle.pop_input.proofs.Words.{Block, Bool, IsNumbered, List, Option, Reading, ReadsWord, TakesPart, Word, [], entry_now, item_of, subst, sym, ℕ, ◌++◌, ◌∷◌}
 use Rattle.pop_input.specs.declared.item.Last.{Last}
 use Rattle.pop_input.proofs.Items.{BlockSoFar, word_read}
 use Rattle.pop_input.proofs.Numbers.{SmallFault, block_small, closed_numbered}
@@ -13,7 +13,7 @@ module _ (first : Bool) (old mid new : Reading) (had met left : Option (List ℕ
     (b : BlockSoFar first old mid had met block) where
   -- the item that a word closes has a number that its place allows
   pub word_numbered : (line : ℕ) (text : List ℕ) → TakesPart mid new met left (Word line text)
-      → ReadsWord block next line text → (item : Item) (last : Last) → Closes next line last item → IsNumbered new item
-  word_numbered line text t r item last c =
+      → ReadsWord block next line text → (last : Last) → IsNumbered new (item_of (entry_now next line) last)
+  word_numbered line text t r last =
       let w = word_read first old mid new had met left block next b line text r.fault (λ none. r) in
-      closed_numbered new next line last item c (subst SmallFault (sym w.0) (block_small first (b.done ++ Word line text ∷ [])))
+      closed_numbered new next.fault next.draft next.title next.author line last (subst SmallFault (sym w.0) (block_small first (b.done ++ Word line text ∷ [])))

@@ -1,5 +1,5 @@
 -- The numbers of faults.
-use Rattle.pop_input.proofs.Words.{Block, Bool, Closes, Colour, Command, CutsOff, Fault, FaultKind, IsNumbered, Item, Kind, List, Man, None, Option, ReadFault, Reading, Some, State, Stipulation, TextLine, Token, Word, [], arith, block_fault, condition_fault, control_fault, end_fault_in, ended_item, false, fault_of, first_fault, if◌then◌else◌, letter_fault, man_fault, men_fault, number_of, or_else, pieces_fault, put_fault, role_fault, state_of, stipulation_fault, told_of_cut, true, with_man, ℕ, ◌∷◌, ◌≤◌}
+use Rattle.pop_input.proofs.Words.{Block, Bool, Colour, Command, CutsOff, Fault, FaultKind, IsNumbered, Kind, List, Man, None, Option, ReadFault, Reading, Some, Draft, Stipulation, TextLine, Token, Word, [], arith, block_fault, condition_fault, control_fault, ended_item, false, fault_of, first_fault, if◌then◌else◌, item_of, judged_entry, letter_fault, man_fault, men_fault, nothing_said, number_of, or_else, pieces_fault, posed_entry, put_fault, role_fault, draft_after, stipulation_fault, told_of_cut, true, with_man, ℕ, ◌∷◌, ◌≤◌}
 use Rattle.pop_input.specs.declared.condition.Condition.{Condition}
 use Rattle.pop_input.specs.declared.item.Item.TheVariants.{Faulty}
 use Rattle.pop_input.specs.declared.item.Last.{Last}
@@ -26,11 +26,11 @@ men_small men man (square ∷ squares) = grind (arith, man_small, men_small (wit
 put_small : (men : List (Option Man)) (colour : Option Colour) (of : Kind) (squares : Option (List ℕ)) → IsSmall (put_fault men colour of squares)
 put_small men colour of squares = grind (arith, men_small)
 
-letter_small : (state : State) (of : Option Kind) (text : List ℕ) → IsSmall (letter_fault state of text)
-letter_small state of text = grind (arith, small_if, put_small)
+letter_small : (draft : Draft) (of : Option Kind) (text : List ℕ) → IsSmall (letter_fault draft of text)
+letter_small draft of text = grind (arith, small_if, put_small)
 
-pieces_small : (state : State) (text : List ℕ) → IsSmall (pieces_fault state text)
-pieces_small state text = grind (arith, small_if, letter_small)
+pieces_small : (draft : Draft) (text : List ℕ) → IsSmall (pieces_fault draft text)
+pieces_small draft text = grind (arith, small_if, letter_small)
 
 stipulation_small : (given : Option Stipulation) (text : List ℕ) → IsSmall (stipulation_fault given text)
 stipulation_small given text = grind (arith, small_if)
@@ -38,15 +38,11 @@ stipulation_small given text = grind (arith, small_if)
 condition_small : (given : Option Condition) (text : List ℕ) → IsSmall (condition_fault given text)
 condition_small given text = grind (arith, small_if)
 
-role_small : (state : State) (role : Role) (text : List ℕ) → IsSmall (role_fault state role text)
-role_small state role text = grind (arith, small_if, control_small, pieces_small, stipulation_small, condition_small)
+role_small : (draft : Draft) (role : Role) (text : List ℕ) → IsSmall (role_fault draft role text)
+role_small draft role text = grind (arith, small_if, control_small, pieces_small, stipulation_small, condition_small)
 
-word_small : (begun : Bool) (state : State) (text : List ℕ) → IsSmall (fault_of begun state text)
-word_small begun state text = grind (arith, small_if, role_small)
-
-end_small : (state : State) → IsSmall (end_fault_in state)
-unfolding end_fault_in
-end_small state = grind arith
+word_small : (begun : Bool) (draft : Draft) (text : List ℕ) → IsSmall (fault_of begun draft text)
+word_small begun draft text = grind (arith, small_if, role_small)
 
 -- Faults.
 
@@ -58,14 +54,14 @@ SmallFault (Some fault) = (1 ≤ fault.number) × (fault.number ≤ 19)
 fault_else : (a b : Option Fault) → SmallFault a → SmallFault b → SmallFault (or_else a b)
 fault_else a b p q = grind arith
 
-first_small : (before : List (List ℕ)) (tokens : List Token) → SmallFault (first_fault before tokens)
-first_small before [] = tt
-first_small before (Word line text ∷ tokens) = grind (arith, fault_else, word_small true (state_of before) text, first_small (text ∷ before) tokens)
-first_small before (TextLine line keyword text ∷ tokens) = first_small before tokens
+first_small : (draft : Draft) (tokens : List Token) → SmallFault (first_fault draft tokens)
+first_small draft [] = tt
+first_small draft (Word line text ∷ tokens) = grind (arith, fault_else, word_small true draft text, first_small (draft_after draft text) tokens)
+first_small draft (TextLine line keyword text ∷ tokens) = first_small draft tokens
 
 -- a block's words have no fault, or one numbered from 1 to 19
 pub block_small : (first : Bool) (tokens : List Token) → SmallFault (block_fault first tokens)
-block_small false tokens = first_small [] tokens
+block_small false tokens = first_small nothing_said tokens
 block_small true [] = tt
 block_small true (Word line text ∷ tokens) = grind (arith, fault_else, word_small, first_small)
 block_small true (TextLine line keyword text ∷ tokens) = block_small true tokens
@@ -77,9 +73,10 @@ small_item : (place : Reading) (fault : Fault) (last : Last) → SmallFault (Som
 small_item place fault last p = grind arith
 
 -- so has the item that a word closes
-pub closed_numbered : (place : Reading) (block : Block) (line : ℕ) (last : Last) (item : Item) → Closes block line last item → SmallFault block.fault
-    → IsNumbered place item
-closed_numbered place block line last item c p = grind (arith, small_item, fault_else, end_small)
+pub closed_numbered : (place : Reading) (f : Option Fault) (draft : Draft) (title author : List ℕ) (line : ℕ) (last : Last) → SmallFault f
+    → IsNumbered place (item_of (judged_entry f draft title author line) last)
+unfolding posed_entry
+closed_numbered place f draft title author line last p = grind (arith, small_item)
 
 -- so has one in which the input ends
 pub ended_numbered : (place : Reading) (block : Block) (line : ℕ) → SmallFault block.fault → IsNumbered place (ended_item block line)

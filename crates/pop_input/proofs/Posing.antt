@@ -1,6 +1,6 @@
 -- The problem that words pose is sound where no test at their end fails.
 use Rattle.std.proofs.Common.{rules}
-use Rattle.pop_input.proofs.Words.{ArePut, Bool, Diagram, EnPassantImpossible, IsWellFormed, List, Man, None, Option, Some, State, Stipulation, arith, cases_Bool, diagram_fault, diagram_of, false, has_king_to_mate, has_men, has_unmoved, in_check, is_crossed_right, is_home, man_on, mark_unmoved, none_unmoved, other, position_fault, position_of, refl, rule_of, starting_side, true, unmoved_of, ℕ, ◌≡◌}
+use Rattle.pop_input.proofs.Words.{ArePut, Bool, Diagram, EnPassantImpossible, IsWellFormed, List, Man, None, Option, Some, Draft, Stipulation, arith, cases_Bool, diagram_fault, diagram_of, false, has_king_to_mate, has_men, has_unmoved, in_check, is_crossed_right, is_home, man_on, mark_unmoved, none_unmoved, other, position_fault, position_of, refl, rule_of, starting_side, true, unmoved_of, ℕ, ◌≡◌}
 use Rattle.chess_core.specs.declared.man.Unmoved.{Unmoved}
 use Rattle.pop_input.specs.declared.stipulation.Form.{Form}
 
@@ -11,21 +11,21 @@ module _ (men : List (Option Man)) (barred : Unmoved) where
   homes s h = search rules
 
 -- well formed but for the crossed square
-well_formed_by : (state : State) (form : Form) → ArePut state.men → is_crossed_right state.men (starting_side form) state.crossed ≡ true
-    → IsWellFormed (position_of (diagram_of state form))
+well_formed_by : (draft : Draft) (form : Form) → ArePut draft.men → is_crossed_right draft.men (starting_side form) draft.crossed ≡ true
+    → IsWellFormed (position_of (diagram_of draft form))
 unfolding position_of
-well_formed_by state form put right = record { size = put.size; kings = put.kings; pawns = put.pawns; homes = homes state.men state.barred; crossed = right }
+well_formed_by draft form put right = record { size = put.size; kings = put.kings; pawns = put.pawns; homes = homes draft.men draft.barred; crossed = right }
 
 -- without one it is
-pub well_formed_without : (state : State) (form : Form) (setup : Diagram) → setup ≡ diagram_of state form → ArePut state.men → state.crossed ≡ None
+pub well_formed_without : (draft : Draft) (form : Form) (setup : Diagram) → setup ≡ diagram_of draft form → ArePut draft.men → draft.crossed ≡ None
     → IsWellFormed (position_of setup)
 unfolding is_crossed_right
-well_formed_without state form setup is put none = rw is (well_formed_by state form put (rw none refl))
+well_formed_without draft form setup is put none = rw is (well_formed_by draft form put (rw none refl))
 
 -- where it isn't, the crossed square cannot be
-crossed_wrong : (state : State) (form : Form) → ArePut state.men → (IsWellFormed (position_of (diagram_of state form)) → ⊥)
-    → is_crossed_right state.men (starting_side form) state.crossed ≡ false
-crossed_wrong state form put ill = grind (arith, cases_Bool, well_formed_by)
+crossed_wrong : (draft : Draft) (form : Form) → ArePut draft.men → (IsWellFormed (position_of (diagram_of draft form)) → ⊥)
+    → is_crossed_right draft.men (starting_side form) draft.crossed ≡ false
+crossed_wrong draft form put ill = grind (arith, cases_Bool, well_formed_by)
 
 -- where it is well formed, a pawn can have passed the crossed square
 crossed_fine : (setup : Diagram) → IsWellFormed (position_of setup) → is_crossed_right setup.men setup.turn setup.crossed ≡ true
@@ -39,10 +39,10 @@ pub shown_men : (setup : Diagram) → (position_of setup).men ≡ setup.men
 unfolding position_of
 shown_men setup = refl
 
-module _ (state : State) (stipulation : Stipulation) (setup : Diagram) (is : setup ≡ diagram_of state stipulation.form) (put : ArePut state.men)
+module _ (draft : Draft) (stipulation : Stipulation) (setup : Diagram) (is : setup ≡ diagram_of draft stipulation.form) (put : ArePut draft.men)
     (some : has_men setup.men ≡ true) where
   -- where men stand and the position isn't well formed, the fault is the crossed square's
-  pub ill_fault : (IsWellFormed (position_of setup) → ⊥) → Some EnPassantImpossible ≡ diagram_fault state stipulation setup
+  pub ill_fault : (IsWellFormed (position_of setup) → ⊥) → Some EnPassantImpossible ≡ diagram_fault draft stipulation setup
   ill_fault ill = grind (arith, crossed_wrong)
 
   module _ (well : IsWellFormed (position_of setup)) where
@@ -51,6 +51,6 @@ module _ (state : State) (stipulation : Stipulation) (setup : Diagram) (is : set
 
     -- the faults of the position
     pub position_told : (king check : Bool) → king ≡ has_king_to_mate stipulation setup.men
-        → check ≡ in_check (rule_of state.condition) setup.men (other (starting_side stipulation.form))
-        → position_fault king check ≡ diagram_fault state stipulation setup
+        → check ≡ in_check (rule_of draft.condition) setup.men (other (starting_side stipulation.form))
+        → position_fault king check ≡ diagram_fault draft stipulation setup
     position_told king check k at = grind (arith, right)

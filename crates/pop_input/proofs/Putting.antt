@@ -1,5 +1,5 @@
 -- Men that are put without a fault.
-use Rattle.pop_input.proofs.Words.{ArePut, Bool, Colour, Diagram, Err, HasNoKing, IsSome, King, List, Man, MatchResult, None, Ok, Option, PawnOnOuterRank, Result, SecondKing, Some, SquareTaken, [], arith, cases_Bool, cases_eq, cases_lt, false, fault_if, get_or, if◌then◌else◌, inl, inr, is_man, is_pawn_inside, is_some, is_there, length, length-set, man_fault, man_on, no_men, not, refl, repeat, same_kind, set_past, stands, suc, true, with_man, zero, ℕ, ◌&&◌, ◌∙◌, ◌∷◌, ◌≡◌}
+use Rattle.pop_input.proofs.Words.{ArePut, Bool, Colour, Diagram, Err, HasNoKing, IsSome, King, List, Man, MatchResult, None, Ok, Option, PawnOnOuterRank, Result, SecondKing, Some, SquareTaken, [], arith, cases_Bool, cases_eq, cases_lt, false, fault_if, get_or, if◌then◌else◌, inl, inr, is_man, is_pawn_inside, is_some, is_man_on, length, length-set, man_fault, man_on, no_men, not, refl, repeat, same_kind, set_past, has_man, suc, true, with_man, zero, ℕ, ◌&&◌, ◌∙◌, ◌∷◌, ◌≡◌}
 use Rattle.std.proofs.Math.ListN.{get_or-eq_default}
 use Rattle.chess_core.specs.declared.diagram.Taken.{Taken}
 use Rattle.chess_core.proofs.Men.{AtMostOneKing-with, man_on-with_same, man_on-with_other}
@@ -19,11 +19,11 @@ none_put = record {
 }
 
 -- no king is found, so there is none
-no_king : (men : List (Option Man)) (colour : Colour) → length men ≡ 64 → stands men colour King ≡ false → HasNoKing men colour
-unfolding stands is_there
+no_king : (men : List (Option Man)) (colour : Colour) → length men ≡ 64 → has_man men colour King ≡ false → HasNoKing men colour
+unfolding has_man is_man_on
 no_king men colour size none s = elim (cases_lt s 64) [
-  | inl lt ↦ elim (cases_Bool (is_there men colour King s)) [
-    | inl here ↦ let found = some_square_true (is_there men colour King) s lt here in cc
+  | inl lt ↦ elim (cases_Bool (is_man_on men colour King s)) [
+    | inl here ↦ let found = some_square_true (is_man_on men colour King) s lt here in cc
     | inr absent ↦ absent
   ]
   | inr ge ↦ let gone : man_on men s ≡ None = get_or-eq_default men None (omega (arith, size, ge)) in rw gone refl
@@ -31,7 +31,7 @@ no_king men colour size none s = elim (cases_lt s 64) [
 
 -- one more man
 more_put : (men : List (Option Man)) (man : Man) (square : ℕ) → ArePut men → is_pawn_inside (Some man) square ≡ true
-    → (same_kind man.kind King ≡ true → stands men man.colour King ≡ false) → ArePut (with_man men square man)
+    → (same_kind man.kind King ≡ true → has_man men man.colour King ≡ false) → ArePut (with_man men square man)
 more_put men man square put inside king = record {
   size = length-set men square (Some man) ∙ put.size;
   kings = AtMostOneKing-with men square man put.kings (λ is. no_king men man.colour put.size (king is));
@@ -47,6 +47,6 @@ pub put_keeps : (r : Result (Unit {0}) Taken) (old new : Diagram) (square : ℕ)
     → MatchResult r (λ _. (man_on old.men square ≡ None) × (new ≡ record old { men = with_man old.men square man })) (λ _. IsSome (man_on old.men square) × (new
     ≡ old)) → man_fault old.men man square ≡ None → ArePut old.men → ArePut new.men
 put_keeps (Ok done) old new square man did none put =
-    let fits = fits_by (is_some (man_on old.men square)) (is_pawn_inside (Some man) square) (same_kind man.kind King) (stands old.men man.colour King) none in
+    let fits = fits_by (is_some (man_on old.men square)) (is_pawn_inside (Some man) square) (same_kind man.kind King) (has_man old.men man.colour King) none in
     rw did.1 (more_put old.men man square put fits.0 fits.1)
 put_keeps (Err taken) old new square man did none put = rw did.1 put

@@ -1,8 +1,8 @@
 -- Which bytes tokens and items use.
-use Rattle.pop_input.proofs.Words.{Block, Bool, Closes, CutsOff, Device, Err, IsClosed, IsInputOver, IsRunOver, IsUnclosed, Item, List, Ok, Option, Peeks, ReadFault, Reading, RestOfLine, Skips, Some, Standing, Sticks, Takes, TakesPart, TooLong, UsesAll, UsesItem, UsesLine, UsesRun, UsesSome, Word, [], among, append-nil, append_assoc, command_of, inl, inr, last_of, next_behind, subst, uses_none, uses_then, ℕ, ◌++◌, ◌∷◌, ◌≡◌}
+use Rattle.pop_input.proofs.Words.{Block, Bool, CutsOff, Device, Entry, Err, IsClosed, IsInputOver, IsRunOver, IsUnclosed, List, Ok, Option, Peeks, ReadFault, Reading, RestOfLine, Skips, Some, Standing, Sticks, Takes, TakesPart, TooLong, UsesAll, UsesItem, UsesLine, UsesRun, UsesSome, Word, [], among, append-nil, append_assoc, command_of, inl, inr, item_of, last_of, next_behind, subst, uses_none, uses_then, ℕ, ◌++◌, ◌∷◌, ◌≡◌}
 use Rattle.pop_text.specs.declared.read_fault.ReadFault.TheVariants.{InputTooLong}
 use Rattle.pop_text.specs.declared.text.Text.{Text}
-use Rattle.pop_input.specs.declared.item.Item.TheVariants.{Sound, Faulty, End}
+use Rattle.pop_input.specs.Blocks.{Sound, Faulty}
 use Rattle.pop_input.specs.declared.item.Last.{Last}
 use Rattle.pop_input.proofs.Items.{BlockSoFar}
 use Rattle.pop_input.proofs.Taking.{takes_then}
@@ -80,12 +80,11 @@ module _ (first : Bool) (old new : Standing) (mid : Reading) (had met left : Opt
     over = over;
   }
 
--- what is answered of a closed block, where the reader stands behind the closing word, and nothing more was taken from the source
-pub closed_item : (old new behind : Standing) (had left met : Option (List ℕ)) (block : Block) (line : ℕ) (last : Last) (item : Item)
-    → Closes block line last item → IsClosed old behind had met → new ≡ behind → left ≡ met → UsesItem old new had left item
-closed_item old new behind had left met block line last (Sound problem answered) c is stays same = rw (stays, same) is
-closed_item old new behind had left met block line last (Faulty fault answered) c is stays same = rw (stays, same) (inl is)
-closed_item old new behind had left met block line last End c is stays same = absurd c
+-- the item of a closed block, where the reader stands behind the closing word, and nothing more was taken from the source
+pub closed_item : (old new behind : Standing) (had left met : Option (List ℕ)) (entry : Entry) (last : Last) → IsClosed old behind had met
+    → new ≡ behind → left ≡ met → UsesItem old new had left (item_of entry last)
+closed_item old new behind had left met (Sound problem) last is stays same = rw (stays, same) is
+closed_item old new behind had left met (Faulty fault) last is stays same = rw (stays, same) (inl is)
 
 -- where a fault cuts the input, no token is taken
 pub cut_takes : {old new : Reading} {had left : Option (List ℕ)} (cut : ReadFault) → CutsOff old new had left cut → Takes (among old) (among new) had left []

@@ -9,7 +9,7 @@ pub use Rattle.std.specs.Prelude.{MatchResult, codes, nat_eq, option_map}
 pub use Rattle.chess_core.specs.Castling.{castling_squares, is_castling_square, with_unmoved}
 unfoldable pub use Rattle.chess_core.specs.Castling.{has_unmoved, mark_unmoved, none_unmoved}
 pub use Rattle.chess_core.specs.Diagrams.{Diagram, has_men}
-unfoldable pub use Rattle.chess_core.specs.Diagrams.{is_taken, is_there, position_of, stands}
+unfoldable pub use Rattle.chess_core.specs.Diagrams.{is_taken, is_man_on, position_of, has_man}
 pub use Rattle.chess_core.specs.Position.{HasNoKing, is_man, man_on, other, same_kind, with_man}
 unfoldable pub use Rattle.chess_core.specs.Position.{king_square}
 pub use Rattle.chess_core.specs.WellFormed.{IsWellFormed, is_pawn_inside}
@@ -30,15 +30,16 @@ pub use Rattle.pop_text.specs.ties.Left.{GoesOn, IsOver, MayFollow, RestOfLine, 
 pub use Rattle.pop_text.specs.ties.Plain.{Skips, is_named, is_plain}
 pub use Rattle.pop_text.specs.ties.Reading.{Asks, Reading, Uses, UsesAll}
 pub use Rattle.pop_text.specs.ties.Runs.{IsRunOver, Peeks, Sticks, UsesLine, UsesRun, UsesWord}
-pub use Rattle.pop_input.specs.Blocks.{Entry, Sound, before_blocks, block_entries, block_fault, blocks_of, closed_entry, closes_none, closing_line, closing_of, entries_by, entries_of, entry_of, first_fault, has_begun, last_text, line_of, more_entries, problem_of, tail_fault, text_after, tokens_inside, words_before}
-pub use Rattle.pop_input.specs.Ends.{ArePut, counts_as_unmoved, diagram_fault, diagram_of, posed_of, position_fault, stated_fault}
-unfoldable pub use Rattle.pop_input.specs.Ends.{end_fault_in, unmoved_of}
+pub use Rattle.pop_input.specs.Blocks.{Entry, Sound, before_blocks, block_entries, block_fault, blocks_of, closed_entry, closes_none, closing_line, closing_of, entries_by, entries_of, entry_of, first_fault, has_begun, last_text, judged_entry, line_of, more_entries, tail_fault, text_after, tokens_inside, words_in}
+unfoldable pub use Rattle.pop_input.specs.Blocks.{posed_entry}
+pub use Rattle.pop_input.specs.Ends.{ArePut, counts_as_unmoved, diagram_fault, diagram_of, posed_of, position_fault}
+unfoldable pub use Rattle.pop_input.specs.Ends.{unmoved_of}
 pub use Rattle.pop_input.specs.FaultKinds.{at_line, fault_at, number_of}
 unfoldable pub use Rattle.pop_input.specs.FaultKinds.{kind_numbered}
 pub use Rattle.pop_input.specs.Names.{closes, or_else}
 unfoldable pub use Rattle.pop_input.specs.Names.{awaited_of, colour_of, command_of, condition_of, kind_of, option_of, section_of, text_word_of}
 pub use Rattle.pop_input.specs.Posed.{rule_of}
-pub use Rattle.pop_input.specs.State.{State, no_men, put_men, state_of}
+pub use Rattle.pop_input.specs.Drafts.{Draft, no_men, nothing_said, put_men, draft_after, draft_of}
 pub use Rattle.pop_input.specs.Stipulations.{has_king_to_mate, starting_side}
 pub use Rattle.pop_input.specs.Values.{before_squares, is_digit, most_solutions, square_by, squares_from, stipulation_in_small_letters, value_of}
 unfoldable pub use Rattle.pop_input.specs.Values.{limit_of, squares_of, stipulation_of}
@@ -54,7 +55,7 @@ pub use Rattle.pop_input.specs.declared.names.Command.TheVariants.{Enter}
 pub use Rattle.pop_input.specs.declared.names.TextWord.{TextWord}
 pub use Rattle.pop_input.specs.declared.reader.Next.TheVariants.{First, Later, Nothing}
 pub use Rattle.pop_input.specs.declared.stipulation.Stipulation.{Stipulation}
-pub use Rattle.pop_input.specs.ties.Closings.{Closes, IsNew, ReadsWord, TakesLine, closing_fault, cut_fault, ended_by, ended_item, last_of, noted_text, said_after, text_with, told_of_cut}
+pub use Rattle.pop_input.specs.ties.Closings.{IsNew, ReadsWord, TakesLine, cut_fault, ended_by, ended_item, entry_now, item_of, last_of, noted_text, said_after, text_with, told_of_cut}
 pub use Rattle.pop_input.specs.ties.Standing.{IsNumbered, NextItem, Reads, Standing, entries_at, entries_left, next_behind}
 pub use Rattle.pop_input.specs.ties.Tokens.{CutsOff, NextToken, TakesNothing, TakesPart, UsesSome, UsesToken}
 pub use Rattle.pop_input.specs.ties.Used.{IsClosed, IsInputOver, IsUnclosed, UsesEntry, UsesItem, UsesTokens}

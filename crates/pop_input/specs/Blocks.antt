@@ -1,26 +1,27 @@
 -- The blocks of an input, and the entry of each (own; commands of the Popeye manual).
 use Rattle.pop_input.specs.declared.fault_kind.FaultKind.{FaultKind}
-use Rattle.pop_input.specs.declared.fault_kind.FaultKind.TheVariants.{BeginProblemMissing, EndProblemMissing, InputTooLong, DeviceFailed}
+use Rattle.pop_input.specs.declared.fault_kind.FaultKind.TheVariants.{BeginProblemMissing, StipulationMissing, EndProblemMissing, InputTooLong, DeviceFailed}
 use Rattle.pop_input.specs.FaultKinds.{at_line, fault_at}
 use Rattle.std.specs.Prelude.{ℕ, List, [], ◌∷◌, ◌++◌, Bool, true, false, not, Option, Some, None}
 use Rattle.std.specs.List.{onto_first}
 use Rattle.pop_text.specs.Words.{Words, Token, Word, TextLine, Tail, End, Long, Broken, text_of_line}
 use Rattle.pop_input.specs.Names.{command_of, text_word_of, closes, or_else}
-use Rattle.pop_input.specs.State.{state_of}
+use Rattle.pop_input.specs.Drafts.{Draft, nothing_said, draft_after, draft_of}
 use Rattle.pop_input.specs.WordFaults.{fault_of}
-use Rattle.pop_input.specs.Ends.{end_fault_in, posed_of}
+use Rattle.pop_input.specs.Ends.{diagram_fault, diagram_of, posed_of}
 use Rattle.pop_input.specs.Posed.{Posed}
 use Rattle.pop_input.specs.declared.item.Fault.{Fault}
 use Rattle.pop_input.specs.declared.names.Command.{Command}
 use Rattle.pop_input.specs.declared.names.Command.TheVariants.{Begin, Enter, Next, Last}
 use Rattle.pop_input.specs.declared.names.TextWord.{TextWord}
 use Rattle.pop_input.specs.declared.names.TextWord.TheVariants.{Title, Author}
+use Rattle.pop_input.specs.declared.stipulation.Stipulation.{Stipulation}
 
--- the words of tokens after others, the newest first
-abbrev pub words_before : List (List ℕ) → List Token → List (List ℕ)
-words_before before [] = before
-words_before before ((Word line text) ∷ tokens) = words_before (text ∷ before) tokens
-words_before before ((TextLine line keyword text) ∷ tokens) = words_before before tokens
+-- the words among tokens, in order
+abbrev pub words_in : List Token → List (List ℕ)
+words_in [] = []
+words_in ((Word line text) ∷ tokens) = text ∷ words_in tokens
+words_in ((TextLine line keyword text) ∷ tokens) = words_in tokens
 
 -- The words and text lines of a problem: those of its block, in the first block those after the first word, which is BeginProblem.
 
@@ -38,21 +39,21 @@ tokens_inside true [] = []
 tokens_inside true ((Word line text) ∷ tokens) = tokens
 tokens_inside true ((TextLine line keyword text) ∷ tokens) = tokens_inside true tokens
 
--- The first fault of the words of a problem after the words before, and of those of a block.
+-- The first fault of the words of a problem, and of those of a block.
 
--- the first fault of tokens, after these words
-abbrev pub first_fault : List (List ℕ) → List Token → Option Fault
-first_fault before [] = None
-first_fault before ((Word line text) ∷ tokens) = or_else
-    (at_line line (fault_of true (state_of before) text)) (first_fault (text ∷ before) tokens)
-first_fault before ((TextLine line keyword text) ∷ tokens) = first_fault before tokens
+-- the first fault of tokens, where the words before them say this
+abbrev pub first_fault : Draft → List Token → Option Fault
+first_fault draft [] = None
+first_fault draft ((Word line text) ∷ tokens) = or_else
+    (at_line line (fault_of true draft text)) (first_fault (draft_after draft text) tokens)
+first_fault draft ((TextLine line keyword text) ∷ tokens) = first_fault draft tokens
 
 -- the first fault of the tokens of a block, which is the first of the input or a later one
 abbrev pub block_fault : Bool → List Token → Option Fault
-block_fault false tokens = first_fault [] tokens
+block_fault false tokens = first_fault nothing_said tokens
 block_fault true [] = None
 block_fault true ((Word line text) ∷ tokens) = or_else
-    (at_line line (fault_of false (state_of []) text)) (first_fault [] tokens)
+    (at_line line (fault_of false nothing_said text)) (first_fault nothing_said tokens)
 block_fault true ((TextLine line keyword text) ∷ tokens) = block_fault true tokens
 
 -- the command that a token is, if it is one
@@ -108,15 +109,38 @@ last_text wanted old ((Word line text) ∷ tokens) = last_text wanted old tokens
 last_text wanted old ((TextLine line keyword text) ∷ tokens) = last_text wanted
     (text_after wanted old (text_word_of keyword) text) tokens
 
--- the problem that words and text lines pose
-abbrev pub problem_of : List Token → Posed
-problem_of tokens = posed_of (state_of (words_before [] tokens)) (last_text Title [] tokens)
-    (last_text Author [] tokens)
+-- The entry of a block.
 
 -- a sound problem, or a fault
 pub data Entry : Type 0 where
   Sound : Posed → Entry
   Faulty : Fault → Entry
+
+-- a problem, or its fault in its place
+abbrev pub entry_of : Option Fault → Posed → Entry
+entry_of None problem = Sound problem
+entry_of (Some fault) problem = Faulty fault
+
+-- what words without a fault pose by their stipulation, if they give one
+abbrev pub stated_entry : Draft → Option Stipulation → List ℕ → List ℕ → ℕ → Entry
+stated_entry draft None title author line = Faulty (fault_at StipulationMissing line)
+stated_entry draft (Some stipulation) title author line = entry_of
+    (at_line line (diagram_fault draft stipulation (diagram_of draft stipulation.form)))
+    (posed_of draft stipulation title author)
+
+-- the problem that words without a fault pose, or the fault at their end, in this line
+unfoldable pub posed_entry : Draft → List ℕ → List ℕ → ℕ → Entry
+posed_entry draft title author line = stated_entry draft draft.stipulation title author line
+
+-- the first fault of the words, if they have one, else what they pose
+abbrev pub judged_entry : Option Fault → Draft → List ℕ → List ℕ → ℕ → Entry
+judged_entry (Some fault) draft title author line = Faulty fault
+judged_entry None draft title author line = posed_entry draft title author line
+
+-- the entry of tokens that a word in this line closes
+abbrev pub closed_entry : Option Fault → ℕ → List Token → Entry
+closed_entry fault line tokens = judged_entry fault (draft_of (words_in tokens))
+    (last_text Title [] tokens) (last_text Author [] tokens) line
 
 -- the fault of a tail
 abbrev pub tail_fault : Bool → Tail → FaultKind
@@ -130,17 +154,6 @@ abbrev pub more_entries : Tail → ℕ → List Entry
 more_entries End line = []
 more_entries Long line = Faulty (fault_at InputTooLong line) ∷ []
 more_entries Broken line = Faulty (fault_at DeviceFailed line) ∷ []
-
--- a problem, or its fault in its place
-abbrev pub entry_of : Option Fault → Posed → Entry
-entry_of None problem = Sound problem
-entry_of (Some fault) problem = Faulty fault
-
--- the entry of a block that a word in this line closes: its first fault, or that of its end, or none
-abbrev pub closed_entry : Option Fault → ℕ → List Token → Entry
-closed_entry fault line tokens = entry_of
-    (or_else fault (at_line line (end_fault_in (state_of (words_before [] tokens)))))
-    (problem_of tokens)
 
 -- by the word fault, and the line of the closing word
 abbrev pub entries_by : Option Fault → Option ℕ → Bool → Tail → ℕ → List Token → List Entry

@@ -1,7 +1,7 @@
 -- The problem that the words of a block pose (Codex, Popeye manual), and the tests at its end (own).
 use Rattle.pop_input.specs.declared.fault_kind.FaultKind.{FaultKind}
-use Rattle.pop_input.specs.declared.fault_kind.FaultKind.TheVariants.{StipulationMissing, NoMen, EnPassantImpossible, KingMissing, WaitingSideInCheck}
-use Rattle.std.specs.Prelude.{◌≡◌, ℕ, List, length, fold, not, ◌&&◌, Bool, true, if◌then◌else◌, Option, Some, None, unwrap_or}
+use Rattle.pop_input.specs.declared.fault_kind.FaultKind.TheVariants.{NoMen, EnPassantImpossible, KingMissing, WaitingSideInCheck}
+use Rattle.std.specs.Prelude.{◌≡◌, ℕ, List, length, fold, not, ◌&&◌, Bool, true, if◌then◌else◌, Option, Some, None}
 use Rattle.chess_core.specs.Castling.{castling_squares, has_unmoved, mark_unmoved, none_unmoved}
 use Rattle.chess_core.specs.Diagrams.{Diagram, has_men}
 use Rattle.chess_core.specs.Position.{AtMostOneKing, man_on, other}
@@ -10,11 +10,9 @@ use Rattle.chess_core.specs.declared.man.Man.{Man}
 use Rattle.chess_core.specs.declared.man.Unmoved.{Unmoved}
 use Rattle.chess_rules.specs.Attacks.{in_check}
 use Rattle.pop_input.specs.Posed.{Posed, rule_of}
-use Rattle.pop_input.specs.State.{State}
+use Rattle.pop_input.specs.Drafts.{Draft}
 use Rattle.pop_input.specs.Stipulations.{starting_side, has_king_to_mate, is_in_range}
 use Rattle.pop_input.specs.declared.stipulation.Form.{Form}
-use Rattle.pop_input.specs.declared.stipulation.Form.TheVariants.{Direct}
-use Rattle.pop_input.specs.declared.stipulation.Goal.TheVariants.{Mate}
 use Rattle.pop_input.specs.declared.stipulation.Stipulation.{Stipulation}
 
 -- The diagram.
@@ -31,36 +29,27 @@ unmoved_of men barred =
     none_unmoved castling_squares
 
 -- the diagram that words pose: who starts is said by the form
-abbrev pub diagram_of : State → Form → Diagram
-diagram_of state form = record {
-  men = state.men;
+abbrev pub diagram_of : Draft → Form → Diagram
+diagram_of draft form = record {
+  men = draft.men;
   turn = starting_side form;
-  unmoved = unmoved_of state.men state.barred;
-  crossed = state.crossed;
+  unmoved = unmoved_of draft.men draft.barred;
+  crossed = draft.crossed;
 }
 
--- that of a block without one, whose fault it is: no item shows it
-abbrev pub no_stipulation : Stipulation
-no_stipulation = record { form = Direct; goal = Mate; n = 1 }
-
--- the problem that words pose with this stipulation
-abbrev pub posed_by : State → Stipulation → List ℕ → List ℕ → Posed
-posed_by state stipulation title author = record {
-  diagram = diagram_of state stipulation.form;
+-- the problem that words pose with this stipulation, a title and an author
+abbrev pub posed_of : Draft → Stipulation → List ℕ → List ℕ → Posed
+posed_of draft stipulation title author = record {
+  diagram = diagram_of draft stipulation.form;
   stipulation = stipulation;
-  condition = state.condition;
-  set_play = state.switches.set_play;
-  variation = state.switches.variation;
-  no_board = state.switches.no_board;
-  max_solutions = state.limit;
+  condition = draft.condition;
+  set_play = draft.switches.set_play;
+  variation = draft.switches.variation;
+  no_board = draft.switches.no_board;
+  max_solutions = draft.limit;
   title = title;
   author = author;
 }
-
--- the problem that words pose, with a title and an author
-abbrev pub posed_of : State → List ℕ → List ℕ → Posed
-posed_of state title author = posed_by state (unwrap_or state.stipulation no_stipulation) title
-    author
 
 -- The tests, in their order.
 
@@ -70,23 +59,13 @@ position_fault has_king in_check = if not has_king then Some KingMissing
     else (if in_check then Some WaitingSideInCheck else None)
 
 -- no men, en passant not possible, and the faults of the position
-abbrev pub diagram_fault : State → Stipulation → Diagram → Option FaultKind
-diagram_fault state stipulation diagram =
+abbrev pub diagram_fault : Draft → Stipulation → Diagram → Option FaultKind
+diagram_fault draft stipulation diagram =
     if not (has_men diagram.men) then Some NoMen
     else (if not (is_crossed_right diagram.men diagram.turn diagram.crossed)
     then Some EnPassantImpossible
     else position_fault (has_king_to_mate stipulation diagram.men)
-    (in_check (rule_of state.condition) diagram.men (other diagram.turn)))
-
--- no stipulation, or a fault of the diagram
-abbrev pub stated_fault : State → Option Stipulation → Option FaultKind
-stated_fault state None = Some StipulationMissing
-stated_fault state (Some stipulation) = diagram_fault state stipulation
-    (diagram_of state stipulation.form)
-
--- the fault at the end of a block whose words have none
-unfoldable pub end_fault_in : State → Option FaultKind
-end_fault_in state = stated_fault state state.stipulation
+    (in_check (rule_of draft.condition) diagram.men (other diagram.turn)))
 
 -- What words without a fault keep.
 

@@ -3,7 +3,7 @@ pub mod Posed
 pub mod Letters
 pub mod Names
 pub mod Values
-pub mod State
+pub mod Drafts
 pub mod FaultKinds
 pub mod WordFaults
 pub mod Ends

@@ -5,7 +5,7 @@ use Rattle.std.specs.Prelude.{ℕ, List, [], ◌∷◌, length, nat_le, nat_lt, 
 use Rattle.std.specs.Prelude.{◌==◌}
 use Rattle.std.specs.List.{list_any, list_all}
 use Rattle.chess_core.specs.Castling.{is_castling_square}
-use Rattle.chess_core.specs.Diagrams.{stands}
+use Rattle.chess_core.specs.Diagrams.{has_man}
 use Rattle.chess_core.specs.Position.{man_on, same_kind, with_man}
 use Rattle.chess_core.specs.WellFormed.{is_pawn_inside}
 use Rattle.chess_core.specs.declared.man.Colour.{Colour}
@@ -15,7 +15,7 @@ use Rattle.chess_core.specs.declared.man.Man.{Man}
 use Rattle.pop_input.specs.Letters.{mate_sign, stalemate_sign}
 use Rattle.pop_input.specs.Names.{command_of, colour_of, kind_of, condition_of, option_of, or_else}
 use Rattle.pop_input.specs.Values.{squares_of, only_square, is_digit, limit_of, stipulation_of}
-use Rattle.pop_input.specs.State.{State, role_of}
+use Rattle.pop_input.specs.Drafts.{Draft, role_of}
 use Rattle.pop_input.specs.declared.condition.Condition.{Condition}
 use Rattle.pop_input.specs.declared.place.Role.{Role}
 use Rattle.pop_input.specs.declared.place.Role.TheVariants.{Limit, CrossedSquare, BarredSquares, Control, Within}
@@ -46,7 +46,7 @@ abbrev pub man_fault : List (Option Man) → Man → ℕ → Option FaultKind
 man_fault men man square =
     if is_some (man_on men square) then Some SquareTaken
     else (if not (is_pawn_inside (Some man) square) then Some PawnOnOuterRank
-    else fault_if (same_kind man.kind King && stands men man.colour King) SecondKing)
+    else fault_if (same_kind man.kind King && has_man men man.colour King) SecondKing)
 
 -- the fault of squares on which a man is put in turn
 abbrev pub men_fault : List (Option Man) → Man → List ℕ → Option FaultKind
@@ -66,17 +66,17 @@ abbrev pub is_foreign : List ℕ → Bool
 is_foreign text = nat_le 2 (length text) && not (list_any is_digit text)
 
 -- of a word of this letter in Pieces
-abbrev pub letter_fault : State → Option Kind → List ℕ → Option FaultKind
-letter_fault state None text = Some WordMisplaced
-letter_fault state (Some letter) text =
+abbrev pub letter_fault : Draft → Option Kind → List ℕ → Option FaultKind
+letter_fault draft None text = Some WordMisplaced
+letter_fault draft (Some letter) text =
     if not (is_some (squares_of text)) && is_foreign text then Some WordMisplaced
-    else put_fault state.men state.colour letter (squares_of text)
+    else put_fault draft.men draft.colour letter (squares_of text)
 
 -- of a word in Pieces: a colour, or a letter and squares
-abbrev pub pieces_fault : State → List ℕ → Option FaultKind
-pieces_fault state [] = None
-pieces_fault state (letter ∷ text) = if is_some (colour_of (letter ∷ text)) then None
-    else letter_fault state (kind_of letter) text
+abbrev pub pieces_fault : Draft → List ℕ → Option FaultKind
+pieces_fault draft [] = None
+pieces_fault draft (letter ∷ text) = if is_some (colour_of (letter ∷ text)) then None
+    else letter_fault draft (kind_of letter) text
 
 -- where one was given: a second one holds a goal's sign
 abbrev pub stipulation_fault : Option Stipulation → List ℕ → Option FaultKind
@@ -92,25 +92,25 @@ condition_fault given text = if not (is_some (condition_of text)) then Some Word
     else fault_if (is_some given) SecondCondition
 
 -- of a word in a section
-abbrev pub section_fault : State → Option Section → List ℕ → Option FaultKind
-section_fault state None text = Some WordMisplaced
-section_fault state (Some Pieces) text = pieces_fault state text
-section_fault state (Some Stipulations) text = stipulation_fault state.stipulation text
-section_fault state (Some Conditions) text = condition_fault state.condition text
-section_fault state (Some Options) text = fault_if (not (is_some (option_of text))) WordMisplaced
+abbrev pub section_fault : Draft → Option Section → List ℕ → Option FaultKind
+section_fault draft None text = Some WordMisplaced
+section_fault draft (Some Pieces) text = pieces_fault draft text
+section_fault draft (Some Stipulations) text = stipulation_fault draft.stipulation text
+section_fault draft (Some Conditions) text = condition_fault draft.condition text
+section_fault draft (Some Options) text = fault_if (not (is_some (option_of text))) WordMisplaced
 
 -- of a word that is this
-abbrev pub role_fault : State → Role → List ℕ → Option FaultKind
-role_fault state Limit text = fault_if (not (is_some (limit_of text))) BadLimit
-role_fault state CrossedSquare text = fault_if (not (is_some (only_square (squares_of text))))
+abbrev pub role_fault : Draft → Role → List ℕ → Option FaultKind
+role_fault draft Limit text = fault_if (not (is_some (limit_of text))) BadLimit
+role_fault draft CrossedSquare text = fault_if (not (is_some (only_square (squares_of text))))
     SquareMissing
-role_fault state BarredSquares text = barred_fault (squares_of text)
-role_fault state (Control command) text = control_fault command
-role_fault state (Within section) text = section_fault state section text
+role_fault draft BarredSquares text = barred_fault (squares_of text)
+role_fault draft (Control command) text = control_fault command
+role_fault draft (Within section) text = section_fault draft section text
 
 -- the fault of a word of at most 160 bytes in a problem
-abbrev pub fault_in : State → List ℕ → Option FaultKind
-fault_in state text = role_fault state (role_of state.place text) text
+abbrev pub fault_in : Draft → List ℕ → Option FaultKind
+fault_in draft text = role_fault draft (role_of draft.place text) text
 
 -- and of the first word of the input, which has to be BeginProblem
 abbrev pub begin_fault : Option Command → Option FaultKind
@@ -121,7 +121,7 @@ begin_fault (Some Last) = Some BeginProblemMissing
 begin_fault None = Some BeginProblemMissing
 
 -- the fault of a word, in a problem that has begun or before the first
-abbrev pub fault_of : Bool → State → List ℕ → Option FaultKind
-fault_of begun state text =
+abbrev pub fault_of : Bool → Draft → List ℕ → Option FaultKind
+fault_of begun draft text =
     if nat_lt 160 (length text) then Some WordTooLong
-    else (if begun then fault_in state text else begin_fault (command_of text))
+    else (if begun then fault_in draft text else begin_fault (command_of text))

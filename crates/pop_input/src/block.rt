@@ -2,7 +2,7 @@
 ghost use Rattle.std.specs.Prelude.{◌≡◌, ℕ, List, [], None, Some, not, true};
 ghost use Rattle.pop_input.specs.Names.{or_else};
 ghost use Rattle.pop_input.specs.FaultKinds.{at_line, fault_at};
-ghost use Rattle.pop_input.specs.ties.Closings.{Closes, IsNew, ReadsWord, TakesLine, ended_item, said_after};
+ghost use Rattle.pop_input.specs.ties.Closings.{IsNew, ReadsWord, TakesLine, ended_item, entry_now, item_of, said_after};
 ghost use Rattle.pop_input.specs.WordFaults.{fault_of};
 ghost use Rattle.pop_input.specs.declared.fault_kind.FaultKind.TheVariants.{WordTooLong};
 
@@ -101,7 +101,7 @@ impl Block {
 
     /// The item, where a closing word stands in this line.
     pub(crate) fn closed(&self, line: u64, last: Last) -> Item
-        ensures { Closes self.now line last result }
+        ensures { result ≡ item_of (entry_now self.now line) last }
     {
         match self.fault {
             Some(fault) => Item::Faulty(fault, last),

@@ -1,6 +1,6 @@
 //! A problem as far as its words are read. Its modules say what words of each section do, and what its end tests.
 ghost use Rattle.std.specs.Prelude.{◌≡◌, [], None, Some};
-ghost use Rattle.pop_input.specs.State.{state_after, state_by, state_of};
+ghost use Rattle.pop_input.specs.Drafts.{nothing_said, draft_after, draft_by};
 ghost use Rattle.pop_input.specs.WordFaults.{control_fault, fault_in, role_fault};
 ghost use Rattle.pop_input.specs.declared.place.Role.TheVariants.{Control, Within};
 
@@ -24,7 +24,7 @@ use chess_core::man::{Colour, Unmoved};
 use chess_core::square::Square;
 use std::marker::Model;
 
-/// What the words of a problem say so far. Contracts see the record `State`.
+/// What the words of a problem say so far. Contracts see the record of the same name in `specs/Drafts.antt`.
 #[derive(Drop)]
 pub struct Draft {
     place: Place,
@@ -41,10 +41,10 @@ pub struct Draft {
 impl Model for Draft {
     ghost use Rattle.std.specs.Prelude.{◌≡◌, ◌≤◌, true};
     ghost use Rattle.pop_input.specs.Ends.{ArePut, is_stated};
-    ghost use Rattle.pop_input.specs.State.{State};
+    ghost use Rattle.pop_input.specs.Drafts.{Draft};
     ghost use Rattle.pop_input.specs.Values.{most_solutions};
 
-    ghost Value = { State };
+    ghost Value = { Draft };
 
     ghost view = { λ d. record {
       place = d.place;
@@ -65,7 +65,7 @@ impl Model for Draft {
 impl Draft {
     /// Nothing is said yet.
     pub(crate) fn new() -> Draft
-        ensures { result ≡ state_of [] }
+        ensures { result ≡ nothing_said }
     {
         Draft {
             place: Place {
@@ -90,7 +90,7 @@ impl Draft {
     /// Takes a word, or answers its fault.
     pub(crate) fn take(&mut self, word: &ShortWord<'_>) -> Option<FaultKind>
         ensures fault { result ≡ fault_in self.old word.now }
-        ensures state { result ≡ None → self.new ≡ state_after self.old word.now }
+        ensures draft { result ≡ None → self.new ≡ draft_after self.old word.now }
     {
         match self.place.role_of(word) {
             Role::Limit => self.take_limit(word),
@@ -104,7 +104,7 @@ impl Draft {
     // A command.
     fn take_command(&mut self, command: Command) -> Option<FaultKind>
         ensures fault { result ≡ control_fault command }
-        ensures state { result ≡ None → self.new ≡ state_by (Control command) self.old [] }
+        ensures draft { result ≡ None → self.new ≡ draft_by (Control command) self.old [] }
     {
         self.colour = None;
         self.place.awaited = None;
@@ -121,7 +121,7 @@ impl Draft {
     // A word that is no command and no awaited value.
     fn take_in(&mut self, section: Option<Section>, word: &ShortWord<'_>) -> Option<FaultKind>
         ensures fault { result ≡ role_fault self.old (Within section) word.now }
-        ensures state { result ≡ None → self.new ≡ state_by (Within section) self.old word.now }
+        ensures draft { result ≡ None → self.new ≡ draft_by (Within section) self.old word.now }
     {
         match section {
             None => Some(FaultKind::WordMisplaced),

@@ -88,7 +88,7 @@ fn begins(name: &[u8], word: &[u8]) -> bool
     if word.len() > name.len() {
         return false;
     }
-    'letters: for (at, &byte) in word.iter().enumerate() {
+    for (at, &byte) in word.iter().enumerate() {
         if name[at] != byte.to_ascii_lowercase() {
             return false;
         }

@@ -1,6 +1,6 @@
 //! What a word at a place is.
 ghost use Rattle.std.specs.Prelude.{◌≡◌};
-ghost use Rattle.pop_input.specs.State.{role_of, plain_role};
+ghost use Rattle.pop_input.specs.Drafts.{role_of, plain_role};
 
 use crate::names::{Awaited, Command, Section};
 use crate::short_word::ShortWord;

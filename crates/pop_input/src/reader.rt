@@ -103,7 +103,7 @@ impl Reader {
         let mut block = Block::new(first);
         let mut word = Word::new();
         let mut text = Text::empty();
-        'words: loop {
+        loop {
             match next_token(&mut self.scanner, source, &mut word, &mut text) {
                 ReadToken::Line(keyword) => block.note(keyword, &text),
                 ReadToken::TooLong(line) => block.read_long(line),

@@ -32,7 +32,7 @@ pub(crate) fn squares_of(word: &[u8]) -> Option<ArrayVec<Square, 80>>
     }
     let mut squares = ArrayVec::new();
     let mut at = 0;
-    'pairs: while at < word.len() {
+    while at < word.len() {
         if at + 1 == word.len() {
             return None;
         }
@@ -70,7 +70,7 @@ pub(crate) fn limit_of(word: &[u8]) -> Option<u32>
     ensures range { IfSome result (λ limit. (1 ≤ limit) × (limit ≤ most_solutions)) }
 {
     let mut value = 0u64;
-    'digits: for &byte in word {
+    for &byte in word {
         if !is_digit(byte) {
             return None;
         }

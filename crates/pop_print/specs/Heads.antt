@@ -42,14 +42,14 @@ abbrev pub labelled_text : List ℕ → List ℕ → List ℕ
 labelled_text label [] = []
 labelled_text label (byte ∷ text) = label ++ (byte ∷ text) ++ codes "\n"
 
--- what stands before and behind the goal's sign and the number in the stipulation's word
+-- what stands before the goal's sign in the stipulation's word
 abbrev pub form_text : Form → List ℕ
 form_text Direct = []
 form_text SelfMate = codes "s"
 form_text Help = codes "h"
 form_text HelpHalf = codes "h"
 
--- behind its number of moves
+-- what stands behind its number of moves
 abbrev pub half_text : Form → List ℕ
 half_text Direct = []
 half_text SelfMate = []

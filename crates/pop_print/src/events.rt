@@ -127,7 +127,7 @@ impl LineBuffer {
     {
         let mut number = half;
         let mut first = true;
-        'moves: for shown in moves {
+        for shown in moves {
             self.add_lead(first, number);
             self.add_move(shown);
             first = false;
@@ -170,7 +170,7 @@ impl LineBuffer {
         requires { length self.old + count ≤ room }
         ensures { self.new ≡ self.old ++ replicate count blank }
     {
-        'blanks: for _blank in 0..count {
+        for _blank in 0..count {
             self.add_byte(b' ');
         }
     }

@@ -32,7 +32,7 @@ pub fn run<S: Source, W: Sink>(settings: &Settings, source: &mut S, sink: &mut W
         (λ had. length (taken_of had (S.remaining source.new)) ≤ 2 ^ 30 + 4096) }
 {
     let mut session = Session::new(settings);
-    'items: loop {
+    loop {
         match session.step(source, sink) {
             Ok(StepOutcome::Problem { sound: _sound }) => {}
             Ok(StepOutcome::Finished(status)) => return status,

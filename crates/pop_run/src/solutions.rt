@@ -79,7 +79,7 @@ fn print_solutions<R: Rules, W: Sink>(sink: &mut W, problem: &Problem) -> Result
     ensures counted { W.failures sink.new ≡ count_after result (W.failures sink.old) }
 {
     let mut search = start_search::<R>(problem);
-    'events: while let Some(event) = search.next() {
+    while let Some(event) = search.next() {
         print_event(sink, &event)?;
     }
     Ok(())

@@ -3,11 +3,6 @@ use Rattle.pop_text.proofs.Basics.{Bool, List, None, Some, TextLine, Token, Word
 
 -- Lines of a view.
 
--- a blank says nothing
-skip_blank : (cut : Bool) (n b : ℕ) (view : List ℕ) → is_blank b ≡ true → is_line_end b ≡ false
-    → tokens_from None cut n (b ∷ view) ≡ tokens_from None cut n view
-skip_blank cut n b view h e = grind arith
-
 -- a byte of a gap is a line end or a blank
 gap_byte : (b : ℕ) → is_gap b ≡ true → (is_line_end b ≡ true) ⊎ ((is_blank b ≡ true) × (is_line_end b ≡ false))
 gap_byte b h = grind arith

@@ -57,7 +57,7 @@ fn near_gap(view: &[u8]) -> Front
         → 0 < result.count }
 {
     let mut line_ends = 0;
-    'gap: for (count, &byte) in view.iter().enumerate() {
+    for (count, &byte) in view.iter().enumerate() {
         if count == NEAR || !in_gap(byte) {
             return Front { count, line_ends };
         }
@@ -80,7 +80,7 @@ fn gap_blocks(view: &[u8]) -> Front
         count: 0,
         line_ends: 0,
     };
-    'whole: while view.len() - blocks.count >= BLOCK {
+    while view.len() - blocks.count >= BLOCK {
         let block = &view[blocks.count..blocks.count + BLOCK];
         if !are_in_gap(block) {
             return blocks;
@@ -96,7 +96,7 @@ fn are_in_gap(block: &[u8]) -> bool
     ensures { result ≡ list_all is_gap block.now }
 {
     let mut all = true;
-    'block: for &byte in block {
+    for &byte in block {
         all &= in_gap_of_block(byte);
     }
     all
@@ -109,7 +109,7 @@ fn line_ends_in(block: &[u8]) -> u8
     ensures few { result ≤ length block.now }
 {
     let mut ends = 0;
-    'block: for &byte in block {
+    for &byte in block {
         if byte == b'\n' {
             ends += 1;
         }
@@ -133,7 +133,7 @@ fn run_front(view: &[u8]) -> usize
     ensures front { Leads is_in_word view.now result }
     ensures over { result < length view.now → is_gap (slice_index view.now result) ≡ true }
 {
-    'run: for (count, &byte) in view.iter().enumerate() {
+    for (count, &byte) in view.iter().enumerate() {
         if in_gap(byte) {
             return count;
         }
@@ -156,7 +156,7 @@ fn run_blocks(view: &[u8]) -> usize
     ensures all { list_all is_in_word (take result view.now) ≡ true }
 {
     let mut count = 0;
-    'whole: while view.len() - count >= BLOCK {
+    while view.len() - count >= BLOCK {
         if !are_in_run(&view[count..count + BLOCK]) {
             return count;
         }
@@ -170,7 +170,7 @@ fn are_in_run(block: &[u8]) -> bool
     ensures { result ≡ list_all is_in_word block.now }
 {
     let mut all = true;
-    'block: for &byte in block {
+    for &byte in block {
         all &= !in_gap_of_block(byte);
     }
     all
@@ -184,7 +184,7 @@ pub(crate) fn plain_front(view: &[u8]) -> Front
         count: 0,
         line_ends: 0,
     };
-    'words: while plain.count < view.len() {
+    while plain.count < view.len() {
         let left = &view[plain.count..];
         let gap = gap_front(left);
         let behind = &left[gap.count..];

@@ -222,7 +222,7 @@ impl Scanner {
         ensures stuck { (fault : ReadFault) → Peeks self.old (Err fault)
             → (result ≡ Err fault) × (self.new ≡ self.old) }
     {
-        'gap: loop {
+        loop {
             match self.peek(source) {
                 Ok(Some(byte)) if in_gap(byte) => self.skip_part(),
                 other => return other,
@@ -245,7 +245,7 @@ impl Scanner {
             (S.remaining source.new) (S.failures source.old) (S.failures source.new) }
     {
         let mut fits = true;
-        'run: loop {
+        loop {
             match self.peek(source)? {
                 Some(byte) if !in_gap(byte) => {
                     let part = self.run_part(!fits);
@@ -346,7 +346,7 @@ impl Scanner {
             → (result ≡ Err fault) × (self.new ≡ self.old) }
     {
         let mut kept = ArrayVec::new();
-        'line: loop {
+        loop {
             match self.peek(source) {
                 Ok(Some(byte)) if ends_line(byte) => {
                     self.advance(1, 1);

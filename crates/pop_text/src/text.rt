@@ -54,7 +54,7 @@ impl Text {
     pub(crate) fn trimmed(mut kept: ArrayVec<u8, 200>) -> Text
         ensures { result ≡ without_trailing kept.items }
     {
-        'trim: while let Some(&byte) = kept.as_slice().last() {
+        while let Some(&byte) = kept.as_slice().last() {
             if !is_blank_byte(byte) {
                 break;
             }
@@ -80,7 +80,7 @@ impl Text {
 pub(crate) fn keep_all(kept: &mut ArrayVec<u8, 200>, bytes: &[u8])
     ensures { kept.new.items ≡ fold (with_byte 200) kept.old.items bytes.now }
 {
-    'bytes: for &byte in bytes {
+    for &byte in bytes {
         if kept.is_full() {
             return;
         }

@@ -1,6 +1,6 @@
 -- Flights that the other side can't take with one move: none of its men would reach them, whoever else stood on the
 -- board (a composer's word; own).
-use Rattle.std.specs.Prelude.{◌≡◌, ◌≢◌, ◌<◌, ◌==◌, ℕ, Bool, true, false, List, Option, Some}
+use Rattle.std.specs.Prelude.{◌≡◌, ◌≢◌, ◌<◌, ◌==◌, ℕ, true, false, List, Option, Some}
 use Rattle.std.specs.Int.{bit_at}
 use Rattle.std.specs.List.{list_any}
 use Rattle.chess_core.specs.Position.{Position, is_man, is_side, man_on, other, same_kind}

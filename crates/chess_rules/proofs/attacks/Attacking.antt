@@ -1,6 +1,6 @@
 -- Attack looked for outward from the square.
 use Rattle.chess_rules.proofs.Basics.{Bool, List, None, Option, Some, [], and_left, ap, arith, bit_and, bit_at, bit_or, false, false_from_ne_true, false≢true, inl, inr, list_any, list_any-append, not, refl, rules, sym, true, ℕ, ◌&&◌, ◌<◌, ◌==◌, ◌||◌, ◌∙◌, ◌∷◌, ◌≡◌}
-use Rattle.chess_rules.proofs.Chess.{Bishop, Colour, Grasshopper, Kind, King, Knight, Man, Nightrider, Pawn, Queen, Rook, RuleSet, Step, any_range_cases, diagonal_steps, faces, faces_its_like, first_of_and, hopped_from, is_ahead, is_attacked, is_man, is_on_some, is_paralysed, is_reached, is_side, man_on, other, queen_steps, reaches, reaches_as, reaches_of, rides, same_colour-true, same_kind, same_kind-is, second_of_and, some_square, some_square_false, some_square_true, squares_both, squares_either, squares_of, squares_same, straight_steps, strikes, word}
+use Rattle.chess_rules.proofs.Chess.{Bishop, Colour, Grasshopper, Kind, King, Knight, Man, Nightrider, Pawn, Queen, Rook, RuleSet, Step, any_range_cases, diagonal_steps, faces, faces_its_like, first_of_and, hopped_from, is_ahead, is_attacked, is_man, is_on_some, is_paralysed, is_reached, is_side, man_on, other, queen_steps, reaches, reaches_as, reaches_of, rides, same_colour-true, same_kind, same_kind-true, second_of_and, some_square, some_square_false, some_square_true, squares_both, squares_either, squares_of, squares_same, straight_steps, strikes, word}
 use Rattle.chess_rules.specs.ties.Outward.{is_met}
 use Rattle.chess_rules.proofs.Bits.{not_zero, word_empty, word_has}
 use Rattle.chess_rules.proofs.rays.Flips.{diagonal-back, grasshopper-back, king-back, knight-back, nightrider-back, pawn-back, queen_rides-back, straight-back}
@@ -35,7 +35,7 @@ comes_grasshopper men c t q = squares_same _ _ (λ s p. sym (grasshopper-back me
 -- a man of this colour and kind goes as such men go
 reaches_of_man : (men : List (Option Man)) (o : Option Man) (c : Colour) (k : Kind) (s t : ℕ) → is_man o c k ≡ true
     → reaches_of men o s t ≡ reaches_as men c k s t
-reaches_of_man men o c k s t h = grind (arith, first_of_and, same_colour-true, same_kind-is, second_of_and)
+reaches_of_man men o c k s t h = grind (arith, first_of_and, same_colour-true, same_kind-true, second_of_and)
 
 only_then : (a b c : Bool) → (a ≡ true → b ≡ c) → (a && b) ≡ (a && c)
 only_then a b c p = grind arith

@@ -1,5 +1,5 @@
 -- The men that an attack sees once a move is made.
-use Rattle.chess_rules.proofs.Basics.{Bool, List, None, Option, Some, and_left, and_right, ap, arith, bit_and, bit_not, cases_Bool, cases_eq, eq-eqb, eqb-true, false, false≢true, inl, inr, is_some, length, length-set, not, or_cases, or_from, or_left, or_parts, or_right, refl, rules, sym, true, w64, ℕ, ◌&&◌, ◌<◌, ◌||◌, ◌∙◌, ◌≡◌, ◌≢◌}
+use Rattle.chess_rules.proofs.Basics.{Bool, List, None, Option, Some, and_left, and_right, ap, arith, bit_and, bit_not, cases_Bool, cases_eq, eq-eqb, eqb-true, false, false≢true, inl, inr, is_some, length, not, or_cases, or_from, or_left, or_parts, or_right, refl, rules, sym, true, w64, ℕ, ◌&&◌, ◌<◌, ◌||◌, ◌∙◌, ◌≡◌, ◌≢◌}
 use Rattle.chess_rules.proofs.Chess.{AreSeen, Colour, Kind, King, Man, differs, is_man, is_side, is_square, king_square, man_on, man_on-with_other, man_on-without_other, man_on-without_same, other, same_colour, same_kind, sight_after, squares, squares_both, squares_either, squares_not, squares_of, squares_same, with_man, without_at, without_man, word}
 use Rattle.chess_rules.proofs.making_moves.Plays.{stays_empty}
 use Rattle.chess_rules.proofs.Bits.{every_square}
@@ -26,10 +26,6 @@ occupied_words men a o b = search (rules, squares_both, squares_either, squares_
 -- the men once z has come from a to b and the man on o is gone
 abbrev pub gone_to : List (Option Man) → ℕ → Option ℕ → ℕ → Man → List (Option Man)
 gone_to men a o b z = with_man (without_at (without_man men a) o) b z
-
--- taking a man off leaves the number of squares
-pub length-without_at : (men : List (Option Man)) (o : Option ℕ) → length (without_at men o) ≡ length men
-length-without_at men o = grind (arith, length-set)
 
 -- on the arrival stands the man that came
 pub there_now : (men : List (Option Man)) (a : ℕ) (o : Option ℕ) (b : ℕ) (z : Man) → b < length men → man_on (gone_to men a o b z) b ≡ Some z

@@ -3,7 +3,7 @@ use Rattle.chess_rules.proofs.Basics.{Bool, List, None, Option, Some, [], and_fr
 use Rattle.chess_rules.proofs.Chess.{AtMostOneKing, Bishop, Colour, Direction, East, Grasshopper, IsWellFormed, Kind, King, Man, Move, Nightrider, North, NorthEast, NorthWest, Position, Queen, Rook, RuleSet, South, SouthEast, SouthWest, Step, Straight, West, after_by, arriving_man, capture_square, is_attacked, is_attacked_at, position_after}
 use Rattle.chess_rules.proofs.Chess.{diagonal_steps, differs, find_first, has_fairy, hops, in_check, is_behind, is_castling, is_circe, is_man, is_on_fairy_line, is_on_fairy_line_to, is_on_some, is_plain, is_promotion_right, is_reached, is_shut, is_side, is_square, is_vacant, king_square, knight_steps, man_on, man_on_at}
 use Rattle.chess_rules.proofs.Chess.{is_paralysed, is_pseudo_legal, may_expose, may_expose_on, may_stand_between, moved_men, other, queen_steps, reaches, reaches_as, reborn_at, reborn_square, rider_along, rides, same_colour, same_kind, some_square_false, some_square_true, squares, squares_either, squares_of, squares_same, step_of, steps_along, straight_steps, strikes, word}
-use Rattle.chess_core.proofs.Ranges.{find_square_some}
+use Rattle.chess_core.proofs.Ranges.{second_fails, find_square_some}
 use Rattle.chess_rules.specs.ties.Shields.{cannot_expose}
 use Rattle.chess_rules.specs.declared.shields.RiderLines.{RiderLines}
 use Rattle.chess_rules.specs.declared.shields.RiderLines.TheVariants.{Diagonal}
@@ -279,13 +279,10 @@ pub record IsPlain (rule : RuleSet) (p : Position) (x : Man) (m : Move) : Type 0
   pub crossed : is_square p.crossed m.to ≡ false
   pub rebirth : is_circe rule ≡ true → capture_square p x m ≡ None
 
-first_off : (a b : Bool) → (a && b) ≡ false → a ≡ true → b ≡ false
-first_off a b p q = grind arith
-
 -- a plain move has them
 pub plain_parts : (rule : RuleSet) (p : Position) (x : Man) (m : Move) → is_plain rule p x m ≡ true → IsPlain rule p x m
 unfolding is_plain
-plain_parts rule p x m h = grind (arith, and_parts, not-true, captures_nobody, first_off)
+plain_parts rule p x m h = grind (arith, and_parts, not-true, captures_nobody, second_fails)
 
 -- where nobody castles, the moved men are those once the man has arrived
 pub moved_plainly : (p : Position) (x : Man) (m : Move) → is_castling x m ≡ false → moved_men p x m ≡ arrived p x m

@@ -1,6 +1,7 @@
 -- Where a man may go, and no move is missed by going from one such square to the next.
+use Rattle.chess_core.proofs.Kept.{same_colour-refl}
 use Rattle.chess_rules.proofs.Basics.{Bool, List, None, Option, Some, agree_below_at, and_from, and_parts, ap, arith, bit_at, bit_not, cases_Bool, cases_eq, cond-false, cond-true, false, find, inl, inr, is_some, or_left, or_right, range_with_len, refl, rules, sym, true, w64, ℕ, ◌%◌, ◌*◌, ◌+◌, ◌-◌, ◌/◌, ◌<◌, ◌==◌, ◌∙◌, ◌≡◌, ◌≤◌}
-use Rattle.chess_rules.proofs.Chess.{Black, Colour, IsBarrenFrom, IsFirst, IsNamed, Kind, King, Man, Move, Pawn, Position, RuleSet, White, along, arrives, castles, file_of, find_first, find_no, goes, is_advance, is_arrival, is_aside, is_castling, is_promotion_right, is_pseudo_legal, is_pseudo_legal_of, is_side, is_square, man_on, may_castle, may_go, promotion_at, rank_of, reaches, reaches_as, same_colour, same_kind, square_at, squares_same, steps_to, word}
+use Rattle.chess_rules.proofs.Chess.{IsBarrenFrom, IsFirst, IsNamed, Kind, King, Man, Move, Pawn, Position, RuleSet, along, arrives, castles, file_of, find_first, find_no, goes, is_advance, is_arrival, is_aside, is_castling, is_promotion_right, is_pseudo_legal, is_pseudo_legal_of, is_side, is_square, man_on, may_castle, may_go, promotion_at, rank_of, reaches, reaches_as, same_colour, same_kind, square_at, squares_same, steps_to, word}
 use Rattle.chess_rules.proofs.Bits.{word_empty}
 use Rattle.chess_rules.proofs.making_moves.Pseudo.{made}
 
@@ -84,10 +85,7 @@ pub own_moves : (p : Position) (rule : RuleSet) (m : Move) (o : Option Man) → 
 own_moves p rule m None e h = nobody_moves rule p m e
 own_moves p rule m (Some x) e h =
     false_by (is_pseudo_legal rule p m) (λ y. let c : x.colour ≡ p.turn = (made rule p m x y e).mine in let t : same_colour p.turn p.turn ≡ false = rw c at h in
-    let u = same p.turn in cc) where
-      same : (c : Colour) → same_colour c c ≡ true
-      same White = refl
-      same Black = refl
+    let u = same_colour-refl p.turn in cc)
 
 -- stretches of one origin
 from-empty : (p : Position) (s z a : ℕ) → IsBarrenFrom p s z a a
@@ -146,8 +144,9 @@ pub from-none : (p : Position) (s start at w : ℕ) → IsBarrenFrom p s w start
 from-none p s start at w past none =
     from-join p s w start at 448 past (from-missed p s at 448 w (λ q lo hi. find_no (λ q. bit_at w q == 1) (at / 7) (64 - at / 7) q none lo (omega arith)))
 
-no_pawn_promotes : (x : Man) (t : ℕ) → same_kind x.kind Pawn ≡ false → arrives x t ≡ false
-no_pawn_promotes x t h = rw h refl
+-- another man than a pawn never arrives as one
+pub no_pawn_arrives : (x : Man) (t : ℕ) → same_kind x.kind Pawn ≡ false → arrives x t ≡ false
+no_pawn_arrives x t h = rw h refl
 
 -- a man that is no pawn has no other triple to a square than that without a promotion
 from-plain : (p : Position) (x : Man) (s a w : ℕ) → man_on p.men s ≡ Some x → same_kind x.kind Pawn ≡ false → IsBarrenFrom p s w a (7 * ((a + 6) / 7))
@@ -155,7 +154,7 @@ from-plain p x s a w here h = elim (cases_eq (a % 7) 0) [
   | inl e ↦ let at : 7 * ((a + 6) / 7) ≡ a = omega (arith, e) in rw at (from-empty p s w a)
   | inr ne ↦
       let at : 7 * ((a + 6) / 7) ≡ 7 * (a / 7) + 7 = omega (arith, ne) in
-      rw at (from-unpromoted p x s w (a / 7) a here (no_pawn_promotes x (a / 7) h) (omega (arith, ne)))
+      rw at (from-unpromoted p x s w (a / 7) a here (no_pawn_arrives x (a / 7) h) (omega (arith, ne)))
 ]
 
 -- for another man than a pawn, up to the next target
@@ -182,7 +181,7 @@ none_named n e = rw e refl
 -- for another man than a pawn it is the one without a promotion
 pub plain-named : (p : Position) (x : Man) (s t w : ℕ) → man_on p.men s ≡ Some x → same_kind x.kind Pawn ≡ false → (bit_at w t == 1) ≡ true
     → IsNamed p s w (7 * t)
-plain-named p x s t w here h set = grind (arith, named_at, none_named, no_pawn_promotes)
+plain-named p x s t w here h set = grind (arith, named_at, none_named, no_pawn_arrives)
 
 -- the word of all squares has each square
 pub every_square_on : (t : ℕ) → t < 64 → (bit_at (bit_not w64 0) t == 1) ≡ true

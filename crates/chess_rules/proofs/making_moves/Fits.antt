@@ -1,6 +1,6 @@
 -- A move that may be made can be made on the board.
 use Rattle.chess_rules.proofs.Basics.{IsSome, List, None, Option, Some, and_from, and_parts, ap, arith, cases_Bool, cond-false, cond-true, eq-eqb, eqb-true, false, false_from_ne_true, inl, inr, is_some, list_any, not-true, refl, rules, sym, true, ℕ, ◌&&◌, ◌<◌, ◌∙◌, ◌≡◌, ◌≢◌}
-use Rattle.chess_rules.proofs.Chess.{CanCastle, CanMove, Colour, HasNoKing, IsAt, IsWellFormed, Kind, King, Man, Move, Pawn, Position, Rook, RuleSet, arriving_man, capture_square, corner, file_of, halfway, is_castling, is_crossed_right, is_diagonal, is_man, is_man-without, is_promotion_right, is_square, leaps, man_on, man_on-without_none, man_on-without_other, may_promote, queen_steps, rank_of, reaches, reaches_as, same_colour, same_kind, square_at, square_at-is, was_passed, with_man, without_at, without_man}
+use Rattle.chess_rules.proofs.Chess.{CanCastle, CanMove, Colour, HasNoKing, IsAt, IsWellFormed, Kind, King, Man, Move, Pawn, Position, Rook, RuleSet, arriving_man, capture_square, corner, file_of, halfway, is_castling, is_crossed_right, is_diagonal, is_man, is_man-without, is_promotion_right, is_square, leaps, man_on, man_on-without_none, man_on-without_other, may_promote, queen_steps, rank_of, reaches, reaches_as, same_colour, same_kind, same_kind-true, square_at, square_at-is, was_passed, with_man, without_at, without_man}
 use Rattle.chess_rules.proofs.making_moves.Castles.{no_king_left, same_colour_self}
 use Rattle.chess_rules.proofs.making_moves.Plays.{stays_empty}
 use Rattle.chess_rules.proofs.making_moves.Pseudo.{IsCastle, IsMade, IsPawnTake, king_castles, king_is_no_pawn, made, on_board, pawn_goes, pawn_reaches, ways}
@@ -101,16 +101,12 @@ capture_of_piece p x m s piece h = search rules
 abbrev pub arrived : Position → Man → Move → List (Option Man)
 arrived p x m = with_man (without_at (without_man p.men m.from) (capture_square p x m)) m.to (arriving_man x m.promo)
 
--- the kind that passes the test of a king is the king
-pub kind_is_king : (k : Kind) → same_kind k King ≡ true → k ≡ King
-kind_is_king k h = grind arith
-
 -- a king's step isn't castling
 pub king_no_step : (p : Position) (x : Man) (m : Move) → IsWellFormed p → man_on p.men m.from ≡ Some x → is_castling x m ≡ true → same_kind x.kind King ≡ true
     → reaches p.men m.from m.to ≡ true → ⊥
 unfolding reaches reaches_as
 king_no_step p x m well here castling king h =
-    let k : x.kind ≡ King = kind_is_king x.kind king in
+    let k : x.kind ≡ King = same_kind-true x.kind King king in
     let steps : list_any (leaps m.from m.to) queen_steps ≡ true = rw (here, k) at h in
     let c1 = and_parts _ _ castling in
     let c2 = and_parts _ _ c1.0 in

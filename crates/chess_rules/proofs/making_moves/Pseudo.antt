@@ -1,6 +1,6 @@
 -- What a move that may be made is made of, check to the mover apart.
 use Rattle.chess_rules.proofs.Basics.{arith, List, None, Option, Some, and_parts, cases_lt, cond-false, cond-true, eqb-true, false, get_or_past, inl, inr, le-ltb, length, list_any, lt-ltb, nat_lt, or_cases, rules, true, ℕ, ◌+◌, ◌<◌, ◌≡◌, ◌≢◌, ◌⊎◌}
-use Rattle.chess_rules.proofs.Chess.{Black, Colour, IsWellFormed, Kind, King, Man, Move, Pawn, Position, Rook, RuleSet, White, along, along-is, castles, corner, file_of, forward, goes, halfway, is_arrival_free, is_home, is_home-none, is_home-square, is_promotion_right, is_pseudo_legal, is_square, leaps, man_on, may_castle, pawn_captures, pawn_steps, pawn_takes, rank_of, reaches, reaches_as, same_colour-true, same_kind, second_rank}
+use Rattle.chess_rules.proofs.Chess.{Black, Colour, IsWellFormed, Kind, King, Man, Move, Pawn, Position, Rook, RuleSet, White, along, along-is, castles, corner, file_of, forward, goes, halfway, is_arrival_free, is_home, is_home-none, is_home-square, is_promotion_right, is_pseudo_legal, is_square, leaps, man_on, may_castle, pawn_captures, pawn_steps, pawn_takes, rank_of, reaches, reaches_as, same_colour-true, same_kind, same_kind-true, second_rank}
 use Rattle.chess_rules.proofs.making_moves.Castles.{no_man}
 
 -- the parts of the definition
@@ -27,10 +27,6 @@ IsPieceWay rule p x m = (same_kind x.kind Pawn ≡ false) × ((reaches p.men m.f
 -- a pawn goes one of its ways, another man one of its own
 pub ways : (rule : RuleSet) (p : Position) (x : Man) (m : Move) → goes rule p x m ≡ true → IsPawnWay p x m ⊎ IsPieceWay rule p x m
 ways rule p x m h = search rules
-
--- the kind that passes the test of a pawn is the pawn
-pub kind_is_pawn : (k : Kind) → same_kind k Pawn ≡ true → k ≡ Pawn
-kind_is_pawn k h = grind arith
 
 -- a king is no pawn
 pub king_is_no_pawn : (k : Kind) → same_kind k King ≡ true → same_kind k Pawn ≡ false
@@ -60,7 +56,7 @@ pub pawn_reaches : (men : List (Option Man)) (x : Man) (s t : ℕ) → man_on me
     → IsPawnTake x.colour s t
 unfolding reaches reaches_as
 pawn_reaches men x s t here pawn h =
-    let k : x.kind ≡ Pawn = kind_is_pawn x.kind pawn in
+    let k : x.kind ≡ Pawn = same_kind-true x.kind Pawn pawn in
     pawn_leaps x.colour s t (rw (here, k) at h)
 
 -- a pawn's step, or two of them

@@ -1,21 +1,18 @@
 -- The position before a move, found again.
 use Rattle.chess_rules.proofs.Basics.{IsSome, List, None, Option, Some, and_parts, ap, arith, cases_Bool, inl, inr, length, length-set, refl, rules, sym, true, ℕ, ◌<◌, ◌∙◌, ◌≡◌}
-use Rattle.chess_rules.proofs.Chess.{CanCastle, CanReturn, IsWellFormed, Kind, Man, Move, Position, RuleSet, after_by, arriving_man, before_by, capture_square, corner, halfway, is_castling, is_crossed_right, is_promotion_right, is_pseudo_legal, is_square, leaving_man, man_on, man_on-with_same, man_on-without_other, man_on-without_same, man_on_at, moved_men, position_after, put_at, reborn_square, returned_men, returns_to, uncastled_men, undo_by, undo_of, without_at, without_man}
+use Rattle.chess_rules.proofs.Chess.{captured_man, same_kind-true, CanCastle, CanReturn, IsWellFormed, Kind, Man, Move, Position, RuleSet, after_by, arriving_man, before_by, capture_square, corner, halfway, is_castling, is_crossed_right, is_promotion_right, is_pseudo_legal, is_square, leaving_man, man_on, man_on-with_same, man_on-without_other, man_on-without_same, man_on_at, moved_men, position_after, put_at, reborn_square, returned_men, returns_to, uncastled_men, undo_by, undo_of, without_at, without_man}
 use Rattle.chess_rules.specs.Undo.{Undo}
 use Rattle.chess_rules.proofs.making_moves.Pseudo.{made}
 use Rattle.chess_rules.proofs.making_moves.Back.{lift_after_place, place_after_lift, unborn, uncastled}
 use Rattle.chess_rules.proofs.making_moves.Castles.{no_king_left, same_colour_self}
 use Rattle.chess_rules.proofs.making_moves.Fits.{IsTaken, arrived, can_move, castle_of, corner_stays, taken}
-use Rattle.chess_rules.proofs.making_moves.Plays.{capture_clears}
-use Rattle.chess_rules.proofs.making_moves.Pseudo.{IsCastle, IsMade, kind_is_pawn}
+use Rattle.chess_rules.proofs.making_moves.Plays.{capture_clears, length-without_at}
+use Rattle.chess_rules.proofs.making_moves.Pseudo.{IsCastle, IsMade}
 use Rattle.chess_rules.proofs.making_moves.Stays.{captured_mortal, move_man_other, moved_sound, reborn_is, rebirth_small, maker}
 
 -- the men once origin and square of capture are cleared
 abbrev cleared : Position → Man → Move → List (Option Man)
 cleared p x m = without_at (without_man p.men m.from) (capture_square p x m)
-
-length-without_at : (men : List (Option Man)) (o : Option ℕ) → length (without_at men o) ≡ length men
-length-without_at men o = grind (arith, length-set)
 
 arrived_there : (p : Position) (x : Man) (m : Move) → length p.men ≡ 64 → m.to < 64 → man_on (arrived p x m) m.to ≡ Some (arriving_man x m.promo)
 arrived_there p x m size small = search rules
@@ -35,7 +32,7 @@ moved_arrival rule p x m well made small = elim (cases_Bool (is_castling x m)) [
 
 -- a promoted man was a pawn
 leaving_arriving : (p : Position) (x : Man) (m : Move) (r : Option Kind) → is_promotion_right p x m r ≡ true → leaving_man (arriving_man x r) r ≡ x
-leaving_arriving p x m r h = grind (arith, and_parts, kind_is_pawn)
+leaving_arriving p x m r h = grind (arith, and_parts, same_kind-true)
 
 -- the rook that castles
 rook_stands : (p : Position) (m : Move) → IsCastle p m → (z : Man) × (man_on p.men (corner m) ≡ Some z)
@@ -58,7 +55,7 @@ unfolding capture_square
 returns_some p x m s w well h = search (rules, crossed_vacant)
 
 returns_there : (rule : RuleSet) (p : Position) (x : Man) (m : Move) → IsWellFormed p → IsMade rule p x m
-    → returns_to x m p.crossed (man_on_at p.men (capture_square p x m)) ≡ capture_square p x m
+    → returns_to x m p.crossed (captured_man p x m) ≡ capture_square p x m
 returns_there rule p x m well made = by (capture_square p x m) refl where
   by : (o : Option ℕ) → capture_square p x m ≡ o → returns_to x m p.crossed (man_on_at p.men o) ≡ o
   by None e = refl
@@ -69,7 +66,7 @@ returned : (rule : RuleSet) (p : Position) (x : Man) (m : Move) (u : Undo) → I
     → returned_men (moved_men p x m) x m u ≡ without_man p.men m.from
 unfolding returned_men undo_by
 returned rule p x m u well made lost =
-    let back : put_at (cleared p x m) (capture_square p x m) (man_on_at p.men (capture_square p x m))
+    let back : put_at (cleared p x m) (capture_square p x m) (captured_man p x m)
     ≡ without_man p.men m.from = recapture (capture_square p x m) (λ s e. taken rule p x m s well made e) in
     rw (
       lost,
@@ -117,8 +114,8 @@ can_return rule p x m u well made small lost =
 
 -- the men before the rebirth
 unreborn : (rule : RuleSet) (p : Position) (x : Man) (m : Move)
-    → without_at (put_at (moved_men p x m) (reborn_square rule p x m) (man_on_at p.men (capture_square p x m))) (reborn_square rule p x m) ≡ moved_men p x m
-unreborn rule p x m = unborn (moved_men p x m) (reborn_square rule p x m) (man_on_at p.men (capture_square p x m))
+    → without_at (put_at (moved_men p x m) (reborn_square rule p x m) (captured_man p x m)) (reborn_square rule p x m) ≡ moved_men p x m
+unreborn rule p x m = unborn (moved_men p x m) (reborn_square rule p x m) (captured_man p x m)
     (λ s e. let b = reborn_is rule p x m s e in (b.empty, rw b.who refl))
 
 -- the man that goes back
@@ -132,7 +129,7 @@ before_is rule p x m u well made lost = search (rules, place_after_lift, returne
 
 -- a reborn man stands on his square
 reborn_stands : (rule : RuleSet) (p : Position) (x : Man) (m : Move) (s : ℕ) → IsWellFormed p → IsMade rule p x m → reborn_square rule p x m ≡ Some s
-    → IsSome (man_on (put_at (moved_men p x m) (reborn_square rule p x m) (man_on_at p.men (capture_square p x m))) s)
+    → IsSome (man_on (put_at (moved_men p x m) (reborn_square rule p x m) (captured_man p x m)) s)
 reborn_stands rule p x m s well made e =
     grind (arith, reborn_is rule p x m s e, moved_sound rule p x m well made, made, rebirth_small, some_there, man_on-with_same)
 
@@ -152,7 +149,7 @@ unfolding undo_by after_by
 can_take_off rule q p m u s well may now was e =
     let x = maker rule p m may in
     let at : reborn_square rule p x.0 m ≡ Some s = ap (λ (v : Undo). v.rebirth) (sym (was ∙ undo_is rule p x.0 m x.1)) ∙ e in
-    let men : q.men ≡ put_at (moved_men p x.0 m) (reborn_square rule p x.0 m) (man_on_at p.men (capture_square p x.0 m)) = search (rules, after_is) in
+    let men : q.men ≡ put_at (moved_men p x.0 m) (reborn_square rule p x.0 m) (captured_man p x.0 m) = search (rules, after_is) in
     rw men (reborn_stands rule p x.0 m s well (made rule p m x.0 may x.1) at)
 
 -- the board when the reborn man is off

@@ -1,13 +1,14 @@
 -- A well-formed position stays well formed.
-use Rattle.chess_rules.proofs.Basics.{Bool, List, None, Option, Some, and_from, and_parts, ap, arith, cases_Bool, cases_eq, cases_lt, cond-false, cond-true, eq-eqb, eqb, eqb-true, false, if◌then◌else◌, inl, inr, length, length-set, ne_eqb, not-true, or_cases, refl, rules, set_past, sym, true, ℕ, ◌&&◌, ◌+◌, ◌<◌, ◌||◌, ◌∙◌, ◌≡◌, ◌≢◌, ◌≤◌, ◌⊎◌}
-use Rattle.chess_rules.proofs.Chess.{AtMostOneKing, AtMostOneKing-without, CanCastle, Colour, HasNoKing, IsAt, IsWellFormed, Kind, King, Man, Move, Pawn, Position, Rook, RuleSet, after_by, arriving_man, by_shade, capture_square, corner, file_of, halfway, has_unmoved, has_unmoved-mark_other, has_unmoved-parts, position_after}
+use Rattle.chess_core.proofs.Ranges.{second_fails}
+use Rattle.chess_rules.proofs.Basics.{Bool, List, None, Option, Some, and_from, and_parts, ap, arith, cases_Bool, cases_eq, cases_lt, cond-false, cond-true, eq-eqb, eqb, eqb-true, false, if◌then◌else◌, inl, inr, length, length-set, ne_eqb, not-true, or_cases, refl, rules, set_past, sym, true, ℕ, ◌+◌, ◌<◌, ◌||◌, ◌∙◌, ◌≡◌, ◌≢◌, ◌≤◌, ◌⊎◌}
+use Rattle.chess_rules.proofs.Chess.{captured_man, AtMostOneKing, AtMostOneKing-without, CanCastle, Colour, HasNoKing, IsAt, IsWellFormed, Kind, King, Man, Move, Pawn, Position, Rook, RuleSet, after_by, arriving_man, by_shade, capture_square, corner, file_of, halfway, has_unmoved, has_unmoved-mark_other, has_unmoved-parts, position_after}
 use Rattle.chess_rules.proofs.Chess.{if_empty, is_castling, is_circe, is_crossed_right, is_double_step, is_home, is_home-none, is_man, is_pawn_inside, is_promotion_right, is_vacant_at, last_rank, man_on, man_on-with_other, man_on-with_same, man_on-without_none, man_on-without_other, man_on-without_same, man_on_at, may_promote, move_man}
-use Rattle.chess_rules.proofs.Chess.{is_pseudo_legal, moved_men, other, put_at, rank_of, rebirth, reborn_at, reborn_square, same_colour, same_kind, second_rank, square_at, square_at-is, unmoved_after, unmoved_with_rook, unmoved_without_at, was_passed, with_man, without_at, without_man, without_unmoved}
+use Rattle.chess_rules.proofs.Chess.{is_pseudo_legal, moved_men, other, put_at, rank_of, rebirth, reborn_at, reborn_square, same_colour, same_kind, same_kind-true, second_rank, square_at, square_at-is, unmoved_after, unmoved_with_rook, unmoved_without_at, was_passed, with_man, without_at, without_man, without_unmoved}
 use Rattle.chess_core.specs.declared.man.Unmoved.{Unmoved}
 use Rattle.chess_core.proofs.Kept.{same_colour-refl}
 use Rattle.chess_rules.proofs.making_moves.Fits.{arrived, arrived_other, can_move, castle_of, corner_stays, no_capture, pawn_is_no_king, taken}
 use Rattle.chess_rules.proofs.making_moves.Plays.{none_from_is_some}
-use Rattle.chess_rules.proofs.making_moves.Pseudo.{Advances, IsMade, kind_is_pawn, made, pawn_goes, pawn_reaches, ways}
+use Rattle.chess_rules.proofs.making_moves.Pseudo.{Advances, IsMade, made, pawn_goes, pawn_reaches, ways}
 
 -- the men of a well-formed position
 pub record IsSound (men : List (Option Man)) : Type 0 where
@@ -49,15 +50,12 @@ onward c s t n low high small adv one last = grind (arith, cases_eq, eq-eqb)
 promoted_no_pawn : (p : Position) (k : Kind) → may_promote p k ≡ true → same_kind k Pawn ≡ false
 promoted_no_pawn p k h = grind arith
 
-and_false_right : (a b : Bool) → a ≡ true → (a && b) ≡ false → b ≡ false
-and_false_right a b h e = grind arith
-
 -- the man that arrives stands where he may
 arriving_inside : (rule : RuleSet) (p : Position) (x : Man) (m : Move) (r : Option Kind) → IsWellFormed p → IsMade rule p x m
     → is_promotion_right p x m r ≡ true → is_pawn_inside (Some (arriving_man x r)) m.to ≡ true
 arriving_inside rule p x m (Some k) well made right = search (rules, and_parts, other_inside, promoted_no_pawn)
 arriving_inside rule p x m None well made right =
-    search (rules, and_false_right, and_parts, cases_Bool, not-true, onward, other_inside, pawn_goes, pawn_inside, pawn_ranks, pawn_reaches, ways)
+    search (rules, second_fails, and_parts, cases_Bool, not-true, onward, other_inside, pawn_goes, pawn_inside, pawn_ranks, pawn_reaches, ways)
 
 rook_is_no_pawn : (k : Kind) → same_kind k Rook ≡ true → same_kind k Pawn ≡ false
 rook_is_no_pawn k h = grind arith
@@ -109,19 +107,16 @@ unfolding rebirth
 pawn_reborn c s r h = grind (arith, square_at-is, eq-eqb)
 
 reborn_inside : (y : Man) (s r : ℕ) → rebirth y.colour y.kind s ≡ Some r → is_pawn_inside (Some y) r ≡ true
-reborn_inside y s r h = search (rules, kind_is_pawn, other_inside, pawn_inside, pawn_reborn)
+reborn_inside y s r h = search (rules, same_kind-true, other_inside, pawn_inside, pawn_reborn)
 
 -- a rook is reborn on a corner of its side
 rook_reborn : (y : Man) (c : Colour) (s r : ℕ) → is_man (Some y) c Rook ≡ true → rebirth c Rook s ≡ Some r → is_home (Some y) r ≡ true
 unfolding rebirth is_home
 rook_reborn y c s r is h = grind (arith, cases_Bool)
 
-kind_is_rook : (k : Kind) → same_kind k Rook ≡ true → k ≡ Rook
-kind_is_rook k h = grind arith
-
 reborn_rook_home : (y : Man) (s r : ℕ) → same_kind y.kind Rook ≡ true → rebirth y.colour y.kind s ≡ Some r → is_home (Some y) r ≡ true
 reborn_rook_home y s r rook h =
-    let k : y.kind ≡ Rook = kind_is_rook y.kind rook in
+    let k : y.kind ≡ Rook = same_kind-true y.kind Rook rook in
     rook_reborn y y.colour s r (and_from _ _ (same_colour-refl y.colour) rook) (rw k at h)
 
 -- the men once a man is reborn
@@ -134,7 +129,7 @@ captured_there men c z h = grind arith
 
 -- the man that was captured is no king, and an enemy
 captured : (rule : RuleSet) (p : Position) (x : Man) (m : Move) (z : Man) → IsWellFormed p → IsMade rule p x m
-    → man_on_at p.men (capture_square p x m) ≡ Some z → (same_kind z.kind King ≡ false) × (same_colour z.colour p.turn ≡ false)
+    → captured_man p x m ≡ Some z → (same_kind z.kind King ≡ false) × (same_colour z.colour p.turn ≡ false)
 captured rule p x m z well made h =
     let c = captured_there p.men (capture_square p x m) z h in
     let t = taken rule p x m c.0 well made c.1.0 in
@@ -144,24 +139,24 @@ captured rule p x m z well made h =
 
 -- no king is captured
 pub captured_mortal : (rule : RuleSet) (p : Position) (x : Man) (m : Move) (z : Man) → IsWellFormed p → IsMade rule p x m
-    → man_on_at p.men (capture_square p x m) ≡ Some z → same_kind z.kind King ≡ false
+    → captured_man p x m ≡ Some z → same_kind z.kind King ≡ false
 captured_mortal rule p x m z well made h = (captured rule p x m z well made h).0
 
 -- and no man of the mover
 pub captured_enemy : (rule : RuleSet) (p : Position) (x : Man) (m : Move) (z : Man) → IsWellFormed p → IsMade rule p x m
-    → man_on_at p.men (capture_square p x m) ≡ Some z → same_colour z.colour p.turn ≡ false
+    → captured_man p x m ≡ Some z → same_colour z.colour p.turn ≡ false
 captured_enemy rule p x m z well made h = (captured rule p x m z well made h).1
 
 -- the reborn man, where there is one
 pub reborn_is : (rule : RuleSet) (p : Position) (x : Man) (m : Move) (r : ℕ) → reborn_square rule p x m ≡ Some r
-    → IsReborn (is_circe rule) (moved_men p x m) (man_on_at p.men (capture_square p x m)) (capture_square p x m) r
+    → IsReborn (is_circe rule) (moved_men p x m) (captured_man p x m) (capture_square p x m) r
 unfolding reborn_square
 reborn_is rule p x m r h = search (rules, reborn_parts)
 
 after_sound : (rule : RuleSet) (p : Position) (x : Man) (m : Move) → IsWellFormed p → IsMade rule p x m
-    → IsSound (put_at (moved_men p x m) (reborn_square rule p x m) (man_on_at p.men (capture_square p x m)))
+    → IsSound (put_at (moved_men p x m) (reborn_square rule p x m) (captured_man p x m))
 after_sound rule p x m well made =
-    reborn_sound (moved_men p x m) (reborn_square rule p x m) (man_on_at p.men (capture_square p x m)) (moved_sound rule p x m well made) (λ r z at who.
+    reborn_sound (moved_men p x m) (reborn_square rule p x m) (captured_man p x m) (moved_sound rule p x m well made) (λ r z at who.
     let b = reborn_is rule p x m r at in
     let e : Some b.man ≡ Some z = sym b.who ∙ who in
     let man : b.man ≡ z = cc in
@@ -231,10 +226,10 @@ unfolding rebirth
 rebirth_small c k s r h = grind (arith, shade_small, at_small)
 
 after_home : (rule : RuleSet) (p : Position) (x : Man) (m : Move) → IsWellFormed p → IsMade rule p x m
-    → AreHome (unmoved_after rule p x m) (put_at (moved_men p x m) (reborn_square rule p x m) (man_on_at p.men (capture_square p x m)))
+    → AreHome (unmoved_after rule p x m) (put_at (moved_men p x m) (reborn_square rule p x m) (captured_man p x m))
 unfolding unmoved_after
 after_home rule p x m well made =
-    reborn_home (stayed p x m) (moved_men p x m) (reborn_square rule p x m) (man_on_at p.men (capture_square p x m)) (moved_sound rule p x m well made).size
+    reborn_home (stayed p x m) (moved_men p x m) (reborn_square rule p x m) (captured_man p x m) (moved_sound rule p x m well made).size
     (moved_home rule p x m well made) (λ r at.
     let b = reborn_is rule p x m r at in
     (b.empty, (rebirth_small b.man.colour b.man.kind b.square r b.home, (b.man, (b.who, λ rook. reborn_rook_home b.man b.square r rook b.home)))))
@@ -251,7 +246,7 @@ double_passed c p x m size mine pawn small file second adv empty =
 
 -- a move that captures nothing and doesn't castle
 plain_men : (rule : RuleSet) (p : Position) (x : Man) (m : Move) → capture_square p x m ≡ None → is_castling x m ≡ false
-    → put_at (moved_men p x m) (reborn_square rule p x m) (man_on_at p.men (capture_square p x m))
+    → put_at (moved_men p x m) (reborn_square rule p x m) (captured_man p x m)
     ≡ with_man (without_man p.men m.from) m.to (arriving_man x m.promo)
 unfolding moved_men reborn_square
 plain_men rule p x m none plain = rw (none, plain) refl
@@ -268,7 +263,7 @@ one_or_two : (c : Colour) (s t n : ℕ) → Advances c s t n → n ≡ 1 → (eq
 one_or_two c s t n adv one h = grind (arith, eqb-true, or_cases)
 
 double_right : (rule : RuleSet) (p : Position) (x : Man) (m : Move) → IsWellFormed p → IsMade rule p x m → is_double_step x m ≡ true
-    → was_passed (put_at (moved_men p x m) (reborn_square rule p x m) (man_on_at p.men (capture_square p x m))) (other p.turn) (halfway m) ≡ true
+    → was_passed (put_at (moved_men p x m) (reborn_square rule p x m) (captured_man p x m)) (other p.turn) (halfway m) ≡ true
 double_right rule p x m well made double =
     search (rules, double_passed, no_capture, no_promotion, one_or_two, pawn_goes, pawn_is_no_king, pawn_reaches, plain_men, two_on, ways)
 

@@ -4,7 +4,6 @@ use Rattle.chess_core.specs.Position.{Position, man_on, with_man, without_man, s
 use Rattle.chess_core.specs.declared.man.Man.{Man}
 use Rattle.chess_core.specs.declared.man.Move.{Move}
 use Rattle.chess_core.specs.declared.man.Kind.TheVariants.{King}
-use Rattle.chess_rules.specs.RuleSet.{RuleSet}
 use Rattle.chess_rules.specs.Play.{arriving_man, capture_square, corner, halfway, is_castling, without_at}
 
 -- a rook can be taken from one square and put on another
@@ -22,9 +21,3 @@ pub record CanMove (p : Position) (x : Man) (m : Move) : Type 0 where
   pub rook : is_castling x m ≡ true → CanCastle
       (with_man (without_at (without_man p.men m.from) (capture_square p x m)) m.to
       (arriving_man x m.promo)) (corner m) (halfway m)
-
--- and when the move is made whole
-pub record CanPlay (rule : RuleSet) (p : Position) (m : Move) : Type 0 where
-  pub moves : (x : Man) → man_on p.men m.from ≡ Some x → CanMove p x m
-  pub mortal : (x y : Man) (s : ℕ) → man_on p.men m.from ≡ Some x → capture_square p x m ≡ Some s
-      → man_on p.men s ≡ Some y → same_kind y.kind King ≡ false

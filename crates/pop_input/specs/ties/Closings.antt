@@ -6,14 +6,13 @@ use Rattle.pop_text.specs.Words.{End}
 use Rattle.pop_text.specs.declared.read_fault.ReadFault.{ReadFault}
 use Rattle.pop_text.specs.declared.read_fault.ReadFault.TheVariants.{TooLong, InputTooLong as PastLimit, Device}
 use Rattle.pop_input.specs.Names.{or_else}
-use Rattle.pop_input.specs.Blocks.{tail_fault}
+use Rattle.pop_input.specs.Blocks.{Entry, Sound as SoundEntry, Faulty as FaultyEntry, judged_entry, tail_fault}
 use Rattle.pop_input.specs.WordFaults.{fault_of}
-use Rattle.pop_input.specs.Ends.{end_fault_in, posed_of}
-use Rattle.pop_input.specs.State.{State, state_after, state_of}
+use Rattle.pop_input.specs.Drafts.{Draft, nothing_said, draft_after}
 use Rattle.pop_input.specs.declared.block.Block.{Block}
 use Rattle.pop_input.specs.declared.item.Fault.{Fault}
 use Rattle.pop_input.specs.declared.item.Item.{Item}
-use Rattle.pop_input.specs.declared.item.Item.TheVariants.{Sound, Faulty, End as NoItem}
+use Rattle.pop_input.specs.declared.item.Item.TheVariants.{Sound, Faulty}
 use Rattle.pop_input.specs.declared.item.Last.{Last}
 use Rattle.pop_input.specs.declared.item.Last.TheVariants.{Yes, No}
 use Rattle.pop_input.specs.declared.names.Command.{Command}
@@ -23,9 +22,9 @@ use Rattle.pop_input.specs.declared.names.TextWord.TheVariants.{Title, Author}
 use Rattle.std.specs.Prelude.{List, [], not}
 
 -- what is said with one more word: the first one of the input says nothing
-abbrev pub said_after : Bool → State → List ℕ → State
-said_after true state text = state_after state text
-said_after false state text = state
+abbrev pub said_after : Bool → Draft → List ℕ → Draft
+said_after true draft text = draft_after draft text
+said_after false draft text = draft
 
 -- the text behind a text word, after one more text line
 abbrev pub text_with : TextWord → List ℕ → TextWord → List ℕ → List ℕ
@@ -42,7 +41,7 @@ noted_text false wanted old keyword text = old
 pub record IsNew (first : Bool) (block : Block) : Type 0 where
   pub fault : block.fault ≡ None
   pub begun : block.begun ≡ not first
-  pub draft : block.draft ≡ state_of []
+  pub draft : block.draft ≡ nothing_said
   pub title : block.title ≡ []
   pub author : block.author ≡ []
 
@@ -62,25 +61,14 @@ pub record TakesLine (old new : Block) (keyword : TextWord) (text : List ℕ) : 
   pub title : new.title ≡ noted_text old.begun Title old.title keyword text
   pub author : new.author ≡ noted_text old.begun Author old.author keyword text
 
--- the fault of a block that a word in this line closes
-abbrev pub closing_fault : Block → ℕ → Option Fault
-closing_fault block line = or_else block.fault (at_line line (end_fault_in block.draft))
+-- the item of an entry, the last or not
+abbrev pub item_of : Entry → Last → Item
+item_of (SoundEntry problem) last = Sound problem last
+item_of (FaultyEntry fault) last = Faulty fault last
 
--- what is answered of it
-abbrev pub Closes : Block → ℕ → Last → Item → Type 0
-Closes block line last (Sound problem answered) = (closing_fault block line ≡ None)
-    × (problem ≡ posed_of block.draft block.title block.author) × (answered ≡ last)
-Closes block line last (Faulty fault answered) = (closing_fault block line ≡ Some fault)
-    × (answered ≡ last)
-Closes block line last NoItem = ⊥
-
--- what is answered of words without a fault that a word in this line closes
-abbrev pub Poses : State → List ℕ → List ℕ → ℕ → Last → Item → Type 0
-Poses state title author line last (Sound problem answered) =
-    (end_fault_in state ≡ None) × (problem ≡ posed_of state title author) × (answered ≡ last)
-Poses state title author line last (Faulty fault answered) =
-    (at_line line (end_fault_in state) ≡ Some fault) × (answered ≡ last)
-Poses state title author line last NoItem = ⊥
+-- the entry of a block that a word in this line closes
+abbrev pub entry_now : Block → ℕ → Entry
+entry_now block line = judged_entry block.fault block.draft block.title block.author line
 
 -- the fault of a block, if it has one, before that of its end
 abbrev pub ended_by : Option Fault → Fault → Fault

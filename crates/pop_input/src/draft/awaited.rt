@@ -3,7 +3,7 @@ ghost use Rattle.std.specs.Prelude.{◌≡◌, ◌≤◌, ◌<◌, length, None,
 ghost use Rattle.std.specs.List.{list_all};
 ghost use Rattle.chess_core.specs.Castling.{is_castling_square, with_unmoved};
 ghost use Rattle.pop_input.specs.Values.{squares_of};
-ghost use Rattle.pop_input.specs.State.{state_by};
+ghost use Rattle.pop_input.specs.Drafts.{draft_by};
 ghost use Rattle.pop_input.specs.WordFaults.{role_fault};
 ghost use Rattle.pop_input.specs.declared.place.Role.TheVariants.{BarredSquares, CrossedSquare, Limit};
 
@@ -19,7 +19,7 @@ impl Draft {
     /// The number of MaxSolutions.
     pub(crate) fn take_limit(&mut self, word: &ShortWord<'_>) -> Option<FaultKind>
         ensures fault { result ≡ role_fault self.old Limit word.now }
-        ensures state { result ≡ None → self.new ≡ state_by Limit self.old word.now }
+        ensures draft { result ≡ None → self.new ≡ draft_by Limit self.old word.now }
     {
         match limit_of(word.bytes()) {
             Some(limit) => {
@@ -34,7 +34,7 @@ impl Draft {
     /// The square of EnPassant.
     pub(crate) fn take_crossed(&mut self, word: &ShortWord<'_>) -> Option<FaultKind>
         ensures fault { result ≡ role_fault self.old CrossedSquare word.now }
-        ensures state { result ≡ None → self.new ≡ state_by CrossedSquare self.old word.now }
+        ensures draft { result ≡ None → self.new ≡ draft_by CrossedSquare self.old word.now }
     {
         match square_of(word.bytes()) {
             Some(square) => {
@@ -49,7 +49,7 @@ impl Draft {
     /// Squares of NoCastling.
     pub(crate) fn take_barred(&mut self, word: &ShortWord<'_>) -> Option<FaultKind>
         ensures fault { result ≡ role_fault self.old BarredSquares word.now }
-        ensures state { result ≡ None → self.new ≡ state_by BarredSquares self.old word.now }
+        ensures draft { result ≡ None → self.new ≡ draft_by BarredSquares self.old word.now }
     {
         match squares_of(word.bytes()) {
             Some(squares) => match barred_with(self.barred, squares.as_slice()) {
@@ -71,7 +71,7 @@ fn barred_with(barred: Unmoved, squares: &[Square]) -> Option<Unmoved>
         then Some (fold with_unmoved barred squares.now) else None) }
 {
     let mut set = barred;
-    'squares: for &square in squares {
+    for &square in squares {
         if !square.is_castling_square() {
             return None;
         }

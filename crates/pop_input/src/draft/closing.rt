@@ -6,7 +6,8 @@ ghost use Rattle.chess_core.specs.WellFormed.{IsWellFormed};
 ghost use Rattle.chess_rules.specs.Attacks.{in_check};
 ghost use Rattle.pop_input.specs.Posed.{rule_of};
 ghost use Rattle.pop_input.specs.Ends.{counts_as_unmoved, diagram_fault, diagram_of, position_fault, unmoved_of};
-ghost use Rattle.pop_input.specs.ties.Closings.{Poses};
+ghost use Rattle.pop_input.specs.Blocks.{posed_entry};
+ghost use Rattle.pop_input.specs.ties.Closings.{item_of};
 ghost use Rattle.pop_input.specs.Stipulations.{has_king_to_mate};
 
 use crate::condition::Condition;
@@ -25,9 +26,9 @@ use pop_text::text::Text;
 impl Draft {
     /// The problem that the words pose, or the fault at their end, in this line. The tests in their order: a stipulation,
     /// men, the crossed square, the king of the side to be mated, check to the side that isn't to move.
-    #[tactic(auto, unfolding(crate::specs::Ends::end_fault_in))]
+    #[tactic(auto, unfolding(crate::specs::Blocks::posed_entry))]
     pub(crate) fn posed(&self, title: &Text, author: &Text, line: u64, last: Last) -> Item
-        ensures { Poses self.now title.now author.now line last result }
+        ensures { result ≡ item_of (posed_entry self.now title.now author.now line) last }
     {
         let Some(stipulation) = self.stipulation else {
             return Item::Faulty(Fault::at(FaultKind::StipulationMissing, line), last);
@@ -99,7 +100,7 @@ impl Draft {
     {
         let mut set = Unmoved::none();
         let castling = Square::castling();
-        'squares: for &square in &castling {
+        for &square in &castling {
             set = self.with_counted(set, square);
         }
         set

@@ -1,6 +1,6 @@
 //! Words of the section of the condition.
 ghost use Rattle.std.specs.Prelude.{◌≡◌, ◌≤◌, ◌<◌, length, None, Some};
-ghost use Rattle.pop_input.specs.State.{state_by};
+ghost use Rattle.pop_input.specs.Drafts.{draft_by};
 ghost use Rattle.pop_input.specs.WordFaults.{role_fault};
 ghost use Rattle.pop_input.specs.declared.place.Role.TheVariants.{Within};
 ghost use Rattle.pop_input.specs.declared.names.Section.TheVariants.{Condition as Conditions};
@@ -14,8 +14,8 @@ impl Draft {
     /// A word of the section of the condition.
     pub(crate) fn take_condition(&mut self, word: &ShortWord<'_>) -> Option<FaultKind>
         ensures fault { result ≡ role_fault self.old (Within (Some Conditions)) word.now }
-        ensures state { result ≡ None → self.new
-            ≡ state_by (Within (Some Conditions)) self.old word.now }
+        ensures draft { result ≡ None → self.new
+            ≡ draft_by (Within (Some Conditions)) self.old word.now }
     {
         match condition_of(word.bytes()) {
             Some(condition) => {

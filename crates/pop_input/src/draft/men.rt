@@ -4,7 +4,7 @@ ghost use Rattle.std.specs.List.{list_any};
 ghost use Rattle.chess_core.specs.Position.{with_man};
 ghost use Rattle.pop_input.specs.Names.{kind_of};
 ghost use Rattle.pop_input.specs.Values.{is_digit, squares_of};
-ghost use Rattle.pop_input.specs.State.{put_kind, put_men, state_by};
+ghost use Rattle.pop_input.specs.Drafts.{put_kind, put_men, draft_by};
 ghost use Rattle.pop_input.specs.WordFaults.{is_foreign, letter_fault, man_fault, men_fault, role_fault};
 ghost use Rattle.pop_input.specs.declared.place.Role.TheVariants.{Within};
 ghost use Rattle.pop_input.specs.declared.names.Section.TheVariants.{Pieces};
@@ -21,8 +21,8 @@ impl Draft {
     /// A colour, or men on squares.
     pub(crate) fn take_pieces(&mut self, word: &ShortWord<'_>) -> Option<FaultKind>
         ensures fault { result ≡ role_fault self.old (Within (Some Pieces)) word.now }
-        ensures state { result ≡ None → self.new
-            ≡ state_by (Within (Some Pieces)) self.old word.now }
+        ensures draft { result ≡ None → self.new
+            ≡ draft_by (Within (Some Pieces)) self.old word.now }
     {
         self.place.awaited = None;
         let word = word.bytes();
@@ -40,7 +40,7 @@ impl Draft {
     fn take_men(&mut self, letter: u8, text: &[u8]) -> Option<FaultKind>
         requires { length text.now ≤ 160 }
         ensures fault { result ≡ letter_fault self.old (kind_of letter) text.now }
-        ensures state { result ≡ None → self.new
+        ensures draft { result ≡ None → self.new
             ≡ record self.old {
               men = put_kind self.old.colour (kind_of letter)
                   (unwrap_or (squares_of text.now) []) self.old.men;
@@ -56,7 +56,7 @@ impl Draft {
     fn take_kind(&mut self, kind: Kind, text: &[u8]) -> Option<FaultKind>
         requires { length text.now ≤ 160 }
         ensures fault { result ≡ letter_fault self.old (Some kind) text.now }
-        ensures state { result ≡ None → self.new
+        ensures draft { result ≡ None → self.new
             ≡ record self.old {
               men = put_kind self.old.colour (Some kind)
                   (unwrap_or (squares_of text.now) []) self.old.men;
@@ -82,10 +82,10 @@ impl Draft {
     // Puts the man on the squares in turn, up to a fault.
     fn put_men(&mut self, man: Man, squares: &[Square]) -> Option<FaultKind>
         ensures fault { result ≡ men_fault self.old.men man squares.now }
-        ensures state { result ≡ None → self.new
+        ensures draft { result ≡ None → self.new
             ≡ record self.old { men = put_men self.old.men man squares.now } }
     {
-        'squares: for &square in squares {
+        for &square in squares {
             if let Some(fault) = self.put_man(man, square) {
                 return Some(fault);
             }
@@ -95,7 +95,7 @@ impl Draft {
 
     fn put_man(&mut self, man: Man, square: Square) -> Option<FaultKind>
         ensures fault { result ≡ man_fault self.old.men man square }
-        ensures state { result ≡ None → self.new
+        ensures draft { result ≡ None → self.new
             ≡ record self.old { men = with_man self.old.men square man } }
     {
         if let Some(fault) = self.man_fault(man, square) {
@@ -133,7 +133,7 @@ fn is_foreign(text: &[u8]) -> bool
 fn has_digit(text: &[u8]) -> bool
     ensures { result ≡ list_any is_digit text.now }
 {
-    'bytes: for &byte in text {
+    for &byte in text {
         if is_digit(byte) {
             return true;
         }

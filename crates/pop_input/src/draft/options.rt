@@ -1,6 +1,6 @@
 //! Words of the section of options.
 ghost use Rattle.std.specs.Prelude.{◌≡◌, ◌≤◌, ◌<◌, length, None, Some};
-ghost use Rattle.pop_input.specs.State.{awaited_by, state_by, switches_with};
+ghost use Rattle.pop_input.specs.Drafts.{awaited_by, draft_by, switches_with};
 ghost use Rattle.pop_input.specs.WordFaults.{role_fault};
 ghost use Rattle.pop_input.specs.declared.place.Role.TheVariants.{Within};
 ghost use Rattle.pop_input.specs.declared.names.Section.TheVariants.{Options};
@@ -14,8 +14,8 @@ impl Draft {
     /// A word of the section of options.
     pub(crate) fn take_option(&mut self, word: &ShortWord<'_>) -> Option<FaultKind>
         ensures fault { result ≡ role_fault self.old (Within (Some Options)) word.now }
-        ensures state { result ≡ None → self.new
-            ≡ state_by (Within (Some Options)) self.old word.now }
+        ensures draft { result ≡ None → self.new
+            ≡ draft_by (Within (Some Options)) self.old word.now }
     {
         match option_of(word.bytes()) {
             Some(option) => {

@@ -1,6 +1,6 @@
 //! Words of the section of the stipulation.
 ghost use Rattle.std.specs.Prelude.{◌≡◌, ◌≤◌, ◌<◌, length, None, Some};
-ghost use Rattle.pop_input.specs.State.{state_by};
+ghost use Rattle.pop_input.specs.Drafts.{draft_by};
 ghost use Rattle.pop_input.specs.WordFaults.{role_fault};
 ghost use Rattle.pop_input.specs.declared.place.Role.TheVariants.{Within};
 ghost use Rattle.pop_input.specs.declared.names.Section.TheVariants.{Stipulation as Stipulations};
@@ -14,8 +14,8 @@ impl Draft {
     /// A word of the section of the stipulation.
     pub(crate) fn take_stipulation(&mut self, word: &ShortWord<'_>) -> Option<FaultKind>
         ensures fault { result ≡ role_fault self.old (Within (Some Stipulations)) word.now }
-        ensures state { result ≡ None → self.new
-            ≡ state_by (Within (Some Stipulations)) self.old word.now }
+        ensures draft { result ≡ None → self.new
+            ≡ draft_by (Within (Some Stipulations)) self.old word.now }
     {
         if self.stipulation.is_some() {
             let word = word.bytes();

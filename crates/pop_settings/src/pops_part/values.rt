@@ -54,7 +54,7 @@ pub fn number_of(text: &[u8]) -> Option<u64>
     ensures { result ≡ number_in text.now }
 {
     let mut value: u64 = 0;
-    'digits: for &byte in text {
+    for &byte in text {
         if !is_digit(byte) {
             return None;
         }
@@ -84,7 +84,7 @@ fn digits_in_front(text: &[u8]) -> usize
     ensures { result ≡ prefix_len is_digit text.now }
 {
     let mut at = 0;
-    'digits: while at < text.len() && is_digit(text[at]) {
+    while at < text.len() && is_digit(text[at]) {
         at += 1;
     }
     at

@@ -1,4 +1,4 @@
-use Rattle.chess_rules.proofs.Basics.{Some, rules, sym, ◌∙◌, ◌≡◌, ℕ}
+use Rattle.chess_rules.proofs.Basics.{Some, sym, ◌∙◌, ◌≡◌}
 use Rattle.chess_mates.proofs.Chess.{Man, man_on}
 use Rattle.chess_mates.proofs.LastingFlights.{hold_all, hold_next, hold_none}
 use Rattle.chess_mates.specs.ties.LastingFlights.{LeavesOne}

@@ -1,4 +1,4 @@
-use Rattle.chess_rules.proofs.Basics.{Some, sym, ◌∙◌, ℕ}
+use Rattle.chess_rules.proofs.Basics.{sym, ◌∙◌, ℕ}
 use Rattle.chess_mates.proofs.LastingFlights.{hold_all, hold_next, hold_none}
 use Rattle.chess_mates.specs.ties.LastingFlights.{IsLeft}
 use Rattle.chess_mates.proofs.lasting_flights.leaves_one_each.Goals as goal

@@ -1,4 +1,4 @@
-use Rattle.chess_rules.proofs.Basics.{Some, rules, sym, ◌∙◌, ◌≡◌, ℕ}
+use Rattle.chess_rules.proofs.Basics.{Some, sym, ◌∙◌, ◌≡◌, ℕ}
 use Rattle.chess_mates.proofs.Chess.{Man, man_on}
 use Rattle.chess_mates.proofs.LastingFlights.{hold_all, hold_map, hold_next, hold_none, reached_left, reached_right}
 use Rattle.chess_mates.specs.ties.LastingFlights.{AreReached}

@@ -3,5 +3,5 @@ use Rattle.pop_input.proofs.Parsing.{DigitsSoFar}
 use Rattle.pop_input.proofs.values.limit_of.Given as goal
 
 -- the digits so far are read
-abbrev pub invariant-digits : goal.invariant-digits
-invariant-digits l = record { read : DigitsSoFar (take l.byte-index l.word) l.value }
+abbrev pub invariant-loop-byte : goal.invariant-loop-byte
+invariant-loop-byte l = record { read : DigitsSoFar (take l.byte-index l.word) l.value }

@@ -3,13 +3,13 @@ use Rattle.pop_input.proofs.Parsing.{with_front}
 use Rattle.pop_input.proofs.values.squares_of.Given as goal
 
 -- the squares of the bytes before `at` are listed
-abbrev pub invariant-pairs : goal.invariant-pairs
-invariant-pairs l = record {
+abbrev pub invariant-loop-at : goal.invariant-loop-at
+invariant-loop-at l = record {
   within : l.at ≤ length l.word;
   room : 2 * length l.squares.items ≤ l.at;
   rest : squares_of l.word ≡ with_front l.squares.items (squares_from (drop l.at l.word));
 }
 
 -- fewer bytes are left to read
-abbrev pub decreases-pairs : goal.decreases-pairs
-decreases-pairs l = length l.word - l.at
+abbrev pub decreases-loop-at : goal.decreases-loop-at
+decreases-loop-at l = length l.word - l.at

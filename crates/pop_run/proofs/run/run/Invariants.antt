@@ -3,8 +3,8 @@ use Rattle.pop_run.proofs.Running.{Progress}
 use Rattle.pop_run.proofs.run.run.Given as goal
 
 -- the items so far are read and reported
-abbrev pub invariant-items : goal.invariant-items
-invariant-items g l = record {
+abbrev pub invariant-loop-sound : goal.invariant-loop-sound
+invariant-loop-sound g l = record {
   progress : Progress (choice_of l.settings) l.session (g.S.Source.remaining l.fn.source) (g.S.Source.remaining l.source) (g.W.Sink.taken l.fn.sink)
       (g.W.Sink.taken l.sink);
   seen : IsSeen l.session.at.at.end (g.S.Source.remaining l.source);
@@ -13,5 +13,5 @@ invariant-items g l = record {
 }
 
 -- less of the input is left to read
-abbrev pub decreases-items : goal.decreases-items
-decreases-items g l = work_left l.session.at
+abbrev pub decreases-loop-sound : goal.decreases-loop-sound
+decreases-loop-sound g l = work_left l.session.at

@@ -2,8 +2,8 @@ use Rattle.pop_run.proofs.Basics.{ap, err_from_is_err_and, event_of, event_text,
 use Rattle.pop_run.proofs.Findings.{printing_starts, printing_goes_on, printing_breaks_off, events_under, first_shown}
 use Rattle.pop_run.proofs.solutions.print_solutions.Goals as goal
 
-pub events-init : goal.events-init
-events-init g c =
+pub loop-event-init : goal.loop-event-init
+loop-event-init g c =
     let rule = g.R.Rules.rule in
     let posed = c.args.problem.now in
     let all = events_under rule posed c.requires.rules ∙ ap (map (event_of rule posed)) (sym c.start_search-search.ensures.left) in
@@ -13,12 +13,12 @@ events-init g c =
       counted = refl;
     }
 
-pub events-preserved : goal.events-preserved
-events-preserved g c =
-    let i = c.events.invariant in
+pub loop-event-preserved : goal.loop-event-preserved
+loop-event-preserved g c =
+    let i = c.loop-event.invariant in
     let rule = g.R.Rules.rule in
     let posed = c.args.problem.now in
-    let first = first_shown (event_of rule posed) c.events.search.left c.next.new.self.left c.in-Some.event
+    let first = first_shown (event_of rule posed) c.loop-event.search.left c.next.new.self.left c.in-Some.event
     (rw i.problem at (sym c.in-Some.is ∙ c.next.ensures.event)) c.next.ensures.left in
     record {
       problem = c.next.ensures.problem ∙ i.problem;
@@ -28,10 +28,10 @@ events-preserved g c =
 
 pub returns-in_err-print_event-clause-bytes : goal.returns-in_err-print_event-clause-bytes
 returns-in_err-print_event-clause-bytes g c =
-    let i = c.events.invariant in
+    let i = c.loop-event.invariant in
     let rule = g.R.Rules.rule in
     let posed = c.args.problem.now in
-    let first = first_shown (event_of rule posed) c.events.search.left c.next.new.self.left c.in-Some.event
+    let first = first_shown (event_of rule posed) c.loop-event.search.left c.next.new.self.left c.in-Some.event
     (rw i.problem at (sym c.in-Some.is ∙ c.next.ensures.event)) c.next.ensures.left in
     let p = err_from_is_err_and c.from_residual.result c.from_residual.ensures.1 in
     rw p.1 (printing_breaks_off event_text (events_of posed) _ c.in-Some.event _ _ _ (rw first at i.printing) c.in_err-print_event.ensures.bytes)

@@ -3,8 +3,8 @@ use Rattle.pop_run.proofs.Findings.{IsPrinting}
 use Rattle.pop_run.proofs.solutions.print_solutions.Given as goal
 
 -- the events so far are printed, and the search has the others still to give
-abbrev pub invariant-events : goal.invariant-events
-invariant-events g l = record {
+abbrev pub invariant-loop-event : goal.invariant-loop-event
+invariant-loop-event g l = record {
   problem : l.search.problem ≡ l.problem;
   printing : IsPrinting event_text (events_of l.problem) (map (event_of g.R.Rules.rule l.problem) l.search.left) (g.W.Sink.taken l.fn.sink)
       (g.W.Sink.taken l.sink);
@@ -12,5 +12,5 @@ invariant-events g l = record {
 }
 
 -- fewer events are still to come
-abbrev pub decreases-events : goal.decreases-events
-decreases-events g l = length l.search.left
+abbrev pub decreases-loop-event : goal.decreases-loop-event
+decreases-loop-event g l = length l.search.left

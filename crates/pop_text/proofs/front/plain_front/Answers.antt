@@ -2,21 +2,21 @@ use Rattle.pop_text.proofs.Basics.{arith, length, refl, slice_range, take_rest}
 use Rattle.pop_text.proofs.Plain.{none_plain, none_out, step_more}
 use Rattle.pop_text.proofs.front.plain_front.Goals as goal
 
-pub words-init : goal.words-init
-words-init c = record { within = omega arith; plain = none_plain; over = none_out c.args.view.now; lines = refl }
+pub loop-plain-init : goal.loop-plain-init
+loop-plain-init c = record { within = omega arith; plain = none_plain; over = none_out c.args.view.now; lines = refl }
 
-pub words-preserved : goal.words-preserved
-words-preserved c =
+pub loop-plain-preserved : goal.loop-plain-preserved
+loop-plain-preserved c =
     let view = c.args.view.now in
-    let left = slice_range view c.words.plain.count (length view) in
+    let left = slice_range view c.loop-plain.plain.count (length view) in
     let behind = slice_range left c.gap_front-gap.result.count (length left) in
     let told = c.says_nothing.ensures in
     let yes = c.if-not-says_nothing.false in
     let some = told.some yes in
     let whole = told.whole yes in
     rw (c.both-plain.ensures.count, c.both-plain.ensures.line_ends)
-    (step_more view left behind c.words.plain.count c.gap_front-gap.result.count c.run_front-run.result c.words.plain.line_ends c.gap_front-gap.result.line_ends
-    (take_rest view c.words.plain.count) (take_rest left c.gap_front-gap.result.count) (λ none. omega (arith, none, some)) (λ all. omega (arith, all, whole))
+    (step_more view left behind c.loop-plain.plain.count c.gap_front-gap.result.count c.run_front-run.result c.loop-plain.plain.line_ends c.gap_front-gap.result.line_ends
+    (take_rest view c.loop-plain.plain.count) (take_rest left c.gap_front-gap.result.count) (λ none. omega (arith, none, some)) (λ all. omega (arith, all, whole))
     c.gap_front-gap.ensures.first.within c.run_front-run.ensures.front.within
     c.gap_front-gap.ensures.first.all c.run_front-run.ensures.front.all c.run_front-run.ensures.over (told.plain yes) c.gap_front-gap.ensures.first.lines
-    c.words.invariant)
+    c.loop-plain.invariant)

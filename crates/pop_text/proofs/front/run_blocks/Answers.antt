@@ -2,5 +2,5 @@ use Rattle.pop_text.proofs.Basics.{rules}
 use Rattle.pop_text.proofs.Fronts.{all_block}
 use Rattle.pop_text.proofs.front.run_blocks.Goals as goal
 
-pub whole-preserved : goal.whole-preserved
-whole-preserved c = search (rules, all_block)
+pub loop-count-preserved : goal.loop-count-preserved
+loop-count-preserved c = search (rules, all_block)

@@ -2,6 +2,6 @@ use Rattle.pop_input.proofs.Words.{castling_squares, counts_as_unmoved, fold, ma
 use Rattle.pop_input.proofs.draft.Draft.unmoved.Given as goal
 
 -- the castling squares so far are marked
-abbrev pub invariant-squares : goal.invariant-squares
-invariant-squares l = l.set ≡ fold (λ set square. mark_unmoved set square (counts_as_unmoved l.self.men l.self.barred square)) none_unmoved
+abbrev pub invariant-loop-square : goal.invariant-loop-square
+invariant-loop-square l = l.set ≡ fold (λ set square. mark_unmoved set square (counts_as_unmoved l.self.men l.self.barred square)) none_unmoved
     (take l.square-index castling_squares)

@@ -8,17 +8,17 @@ use Rattle.pop_input.proofs.Numbered.{block_fault_small, word_numbered}
 use Rattle.pop_input.proofs.reader.Reader.next_problem.Goals as goal
 use Rattle.pop_input.proofs.reader.Reader.next_problem.Goals.{in-First, in-Later}
 
-pub words-init : goal.words-init
-words-init g c = rw (← c.self.view_is) (record {
+pub loop-keyword-init : goal.loop-keyword-init
+loop-keyword-init g c = rw (← c.self.view_is) (record {
   block = block_starts c.match-self.first c.self.inside.scanner (g.S.Source.remaining c.args.source.now) c.new-block.result c.new-block.ensures;
   used = some_none c.self.inside.scanner (g.S.Source.remaining c.args.source.now);
   starts = elim c.match-self.branch [ in-First w ↦ rw w.first-is w.in-First.is | in-Later w ↦ rw w.first-is w.in-Later.is ];
   asks = asks_none c.self.inside.scanner.end (g.S.Source.remaining c.args.source.now) (g.S.Source.failures c.args.source.now);
 })
 
-pub words-preserved-in-Line : goal.words-preserved-in-Line
-words-preserved-in-Line g c =
-    let i = c.words.invariant in
+pub loop-keyword-preserved-in-Line : goal.loop-keyword-preserved-in-Line
+loop-keyword-preserved-in-Line g c =
+    let i = c.loop-keyword.invariant in
     let t = c.in-Line.ensures.token in
     record {
       block = line_read _ _ _ _ _ _ _ _ _ i.block t.0 t.1 t.2 c.in-Line.keyword c.next_token.new.text t.3 t.4 t.5 c.note.ensures;
@@ -27,9 +27,9 @@ words-preserved-in-Line g c =
       asks = asks_then i.asks c.next_token.ensures.asks;
     }
 
-pub words-preserved-in-TooLong : goal.words-preserved-in-TooLong
-words-preserved-in-TooLong g c =
-    let i = c.words.invariant in
+pub loop-keyword-preserved-in-TooLong : goal.loop-keyword-preserved-in-TooLong
+loop-keyword-preserved-in-TooLong g c =
+    let i = c.loop-keyword.invariant in
     let t = c.in-TooLong.ensures.token in
     record {
       block = long_read _ _ _ _ _ _ _ _ _ i.block c.in-TooLong.line t.0 t.1 t.2 c.read_long.ensures.fault;
@@ -38,9 +38,9 @@ words-preserved-in-TooLong g c =
       asks = asks_then i.asks c.next_token.ensures.asks;
     }
 
-pub words-preserved : goal.words-preserved
-words-preserved g c =
-    let i = c.words.invariant in
+pub loop-keyword-preserved : goal.loop-keyword-preserved
+loop-keyword-preserved g c =
+    let i = c.loop-keyword.invariant in
     let t = c.next_token.ensures.token in
     let word = rw c.in-Word.is at t in
     let r = c.read_word.ensures.read in
@@ -55,56 +55,55 @@ words-preserved g c =
 
 pub returns-in-Some-clause-item : goal.returns-in-Some-clause-item
 returns-in-Some-clause-item g c =
-    let i = c.words.invariant in
+    let i = c.loop-keyword.invariant in
     let new : Standing = record { next = c.next_behind-self-inside.result; at = c.next_token.new.scanner } in
-    word_closes _ _ new _ _ i.starts _ _ _ _ i.block _ _ c.in-Word.ensures.token.0 c.read_word.ensures.read c.closed.result c.in-Some.last _
-    c.closed.ensures refl (sym c.read_word.ensures.closes ∙ c.in-Some.is) c.next_behind-self-inside.ensures
+    rw c.closed.ensures (word_closes _ _ new _ _ i.starts _ _ _ _ i.block _ _ c.in-Word.ensures.token.0 c.read_word.ensures.read c.in-Some.last _
+    refl (sym c.read_word.ensures.closes ∙ c.in-Some.is) c.next_behind-self-inside.ensures)
 
 pub returns-in-Some-clause-used : goal.returns-in-Some-clause-used
 returns-in-Some-clause-used g c =
-    let i = c.words.invariant in
+    let i = c.loop-keyword.invariant in
     let behind : Standing = record { next = c.next_behind-self-inside.result; at = c.next_token.new.scanner } in
-    closed_item _ _ behind _ _ (g.S.Source.remaining c.next_token.new.source) c.read_word.new.block _ _ _ c.closed.ensures
+    rw c.closed.ensures (closed_item _ _ behind _ _ (g.S.Source.remaining c.next_token.new.source) _ _
     (word_used _ _ behind _ _ _ _ _ i.block i.used _ _ c.in-Some.last c.in-Word.ensures.token.0 c.in-Word.ensures.used
-    (sym c.read_word.ensures.closes ∙ c.in-Some.is) c.next_behind-self-inside.ensures) (search rules) (search rules)
+    (sym c.read_word.ensures.closes ∙ c.in-Some.is) c.next_behind-self-inside.ensures) (search rules) (search rules))
 
 pub returns-in-Ended-clause-used : goal.returns-in-Ended-clause-used
 returns-in-Ended-clause-used g c =
-    let i = c.words.invariant in
+    let i = c.loop-keyword.invariant in
     let new : Standing = record { next = Nothing; at = c.next_token.new.scanner } in
     let u = c.in-Ended.ensures.used in
     rw c.ended.ensures (inr (end_used _ _ new _ _ _ _ _ i.block i.used c.in-Ended.ensures.token.0 u.0 (inl u.1)))
 
 pub returns-in-Cut-clause-used : goal.returns-in-Cut-clause-used
 returns-in-Cut-clause-used g c =
-    let i = c.words.invariant in
+    let i = c.loop-keyword.invariant in
     let new : Standing = record { next = c.next_behind-self-inside-in-Cut.result; at = c.next_token.new.scanner } in
     let u = c.in-Cut.ensures.used in
     inr (end_used _ _ new _ _ _ _ _ i.block i.used (cut_takes c.in-Cut.cut c.in-Cut.ensures.token) u.0 (inr (c.in-Cut.cut, u.1)))
 
 pub returns-in-Ended-clause-item : goal.returns-in-Ended-clause-item
 returns-in-Ended-clause-item g c =
-    let i = c.words.invariant in
+    let i = c.loop-keyword.invariant in
     let new : Standing = record { next = Nothing; at = c.next_token.new.scanner } in
     rw c.ended.ensures (input_ends _ _ new _ _ i.starts _ _ _ i.block c.in-Ended.line c.in-Ended.ensures.token refl)
 
 pub returns-in-Cut-clause-item : goal.returns-in-Cut-clause-item
 returns-in-Cut-clause-item g c =
-    let i = c.words.invariant in
+    let i = c.loop-keyword.invariant in
     let told = c.told_of_cut-last.ensures in
     let new : Standing = record { next = c.next_behind-self-inside-in-Cut.result; at = c.next_token.new.scanner } in
-    rw told (cut_read _ _ new _ _ i.starts _ _ _ i.block c.words.block.fault c.in-Cut.cut refl c.in-Cut.ensures.token
+    rw told (cut_read _ _ new _ _ i.starts _ _ _ i.block c.loop-keyword.block.fault c.in-Cut.cut refl c.in-Cut.ensures.token
     (c.next_behind-self-inside-in-Cut.ensures ∙ ap (λ t. next_behind t.1) told))
 
 pub returns-in-Some-clause-numbered : goal.returns-in-Some-clause-numbered
 returns-in-Some-clause-numbered g c =
-    word_numbered _ _ _ _ _ _ _ _ _ c.words.invariant.block _ _ c.in-Word.ensures.token.0 c.read_word.ensures.read c.closed.result c.in-Some.last
-    c.closed.ensures
+    rw c.closed.ensures (word_numbered _ _ _ _ _ _ _ _ _ c.loop-keyword.invariant.block _ _ c.in-Word.ensures.token.0 c.read_word.ensures.read c.in-Some.last)
 
 pub returns-in-Ended-clause-numbered : goal.returns-in-Ended-clause-numbered
 returns-in-Ended-clause-numbered g c =
-    rw c.ended.ensures (ended_numbered c.next_token.new.scanner c.words.block c.in-Ended.line (block_fault_small _ _ _ _ _ _ c.words.invariant.block))
+    rw c.ended.ensures (ended_numbered c.next_token.new.scanner c.loop-keyword.block c.in-Ended.line (block_fault_small _ _ _ _ _ _ c.loop-keyword.invariant.block))
 
 pub returns-in-Cut-clause-numbered : goal.returns-in-Cut-clause-numbered
 returns-in-Cut-clause-numbered g c = rw c.told_of_cut-last.ensures
-    (cut_told _ _ _ _ c.words.block.fault c.in-Cut.cut c.in-Cut.ensures.token (block_fault_small _ _ _ _ _ _ c.words.invariant.block))
+    (cut_told _ _ _ _ c.loop-keyword.block.fault c.in-Cut.cut c.in-Cut.ensures.token (block_fault_small _ _ _ _ _ _ c.loop-keyword.invariant.block))

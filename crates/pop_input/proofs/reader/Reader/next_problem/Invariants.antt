@@ -4,8 +4,8 @@ use Rattle.pop_input.proofs.Ends.{block_of}
 use Rattle.pop_input.proofs.reader.Reader.next_problem.Given as goal
 
 -- the tokens of the block so far are read
-abbrev pub invariant-words : goal.invariant-words
-invariant-words g l = record {
+abbrev pub invariant-loop-keyword : goal.invariant-loop-keyword
+invariant-loop-keyword g l = record {
   block : BlockSoFar l.first l.fn.self.at l.self-inside.scanner (g.S.Source.remaining l.fn.source) (g.S.Source.remaining l.source) l.block;
   used : UsesSome l.fn.self.at l.self-inside.scanner (g.S.Source.remaining l.fn.source) (g.S.Source.remaining l.source);
   starts : l.fn.self.next ≡ block_of l.first;
@@ -14,5 +14,5 @@ invariant-words g l = record {
 }
 
 -- each turn uses a byte, and the limit stops it
-abbrev pub decreases-words : goal.decreases-words
-decreases-words g l = limit - l.self-inside.scanner.used
+abbrev pub decreases-loop-keyword : goal.decreases-loop-keyword
+decreases-loop-keyword g l = limit - l.self-inside.scanner.used

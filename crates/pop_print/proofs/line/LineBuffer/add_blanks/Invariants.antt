@@ -2,5 +2,5 @@ use Rattle.std.proofs.Common.{◌≡◌, ◌++◌, replicate}
 use Rattle.pop_print.proofs.line.LineBuffer.add_blanks.Given as goal
 
 -- the blanks so far are added
-abbrev pub invariant-blanks : goal.invariant-blanks
-invariant-blanks l = l.self ≡ l.fn.self ++ replicate l._blank 32
+abbrev pub invariant-loop-blank : goal.invariant-loop-blank
+invariant-loop-blank l = l.self ≡ l.fn.self ++ replicate l._blank 32

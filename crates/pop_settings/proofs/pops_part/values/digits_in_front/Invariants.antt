@@ -4,12 +4,12 @@ use Rattle.pop_settings.specs.pops_part.Numbers.{is_digit}
 use Rattle.pop_settings.proofs.pops_part.values.digits_in_front.Given as goal
 
 -- up to the place stand digits alone
-abbrev pub invariant-digits : goal.invariant-digits
-invariant-digits l = record {
+abbrev pub invariant-loop-at : goal.invariant-loop-at
+invariant-loop-at l = record {
   front : prefix_len is_digit l.text ≡ l.at + prefix_len is_digit (drop l.at l.text);
   within : l.at ≤ length l.text;
 }
 
 -- fewer bytes are left to look at
-abbrev pub decreases-digits : goal.decreases-digits
-decreases-digits l = length l.text - l.at
+abbrev pub decreases-loop-at : goal.decreases-loop-at
+decreases-loop-at l = length l.text - l.at

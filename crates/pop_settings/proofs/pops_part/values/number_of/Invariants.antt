@@ -3,5 +3,5 @@ use Rattle.pop_settings.proofs.Numbers.{DigitsSoFar}
 use Rattle.pop_settings.proofs.pops_part.values.number_of.Given as goal
 
 -- the digits so far are read
-abbrev pub invariant-digits : goal.invariant-digits
-invariant-digits l = record { read : DigitsSoFar (take l.byte-index l.text) l.value }
+abbrev pub invariant-loop-byte : goal.invariant-loop-byte
+invariant-loop-byte l = record { read : DigitsSoFar (take l.byte-index l.text) l.value }

@@ -2,8 +2,8 @@ use Rattle.pop_text.proofs.Basics.{Asks, Err, Peeks, ReadFault, UsesAll, is_gap,
 use Rattle.pop_text.proofs.scanner.Scanner.skip_gap.Given as goal
 
 -- only blanks and line ends are used so far
-abbrev pub invariant-gap : goal.invariant-gap
-invariant-gap g l = record {
+abbrev pub invariant-loop-byte : goal.invariant-loop-byte
+invariant-loop-byte g l = record {
   uses : UsesAll is_gap l.fn.self l.self (g.S.Source.remaining l.fn.source) (g.S.Source.remaining l.source);
   stuck : (fault : ReadFault) → Peeks l.fn.self (Err fault) → l.self ≡ l.fn.self;
   asks : Asks l.fn.self.end l.self.end (g.S.Source.remaining l.fn.source) (g.S.Source.remaining l.source) (g.S.Source.failures l.fn.source)
@@ -11,5 +11,5 @@ invariant-gap g l = record {
 }
 
 -- each turn uses a byte, and the limit stops it
-abbrev pub decreases-gap : goal.decreases-gap
-decreases-gap g l = limit - l.self.used
+abbrev pub decreases-loop-byte : goal.decreases-loop-byte
+decreases-loop-byte g l = limit - l.self.used

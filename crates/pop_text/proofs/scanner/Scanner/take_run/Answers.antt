@@ -3,15 +3,15 @@ use Rattle.std.proofs.lemmas.Result.{err_from_is_err_and}
 use Rattle.pop_text.proofs.Using.{asks_none, asks_then, kept_of_run, more_so_far, none_so_far, run_more, run_over, seen_so_far}
 use Rattle.pop_text.proofs.scanner.Scanner.take_run.Goals as goal
 
-pub run-init : goal.run-init
-run-init g c = record {
+pub loop-byte-init : goal.loop-byte-init
+loop-byte-init g c = record {
   run = rw c.requires.empty (none_so_far is_in_word kept_of_run c.args.self.now (g.S.Source.remaining c.args.source.now));
   asks = asks_none c.args.self.now.end (g.S.Source.remaining c.args.source.now) (g.S.Source.failures c.args.source.now);
 }
 
-pub run-preserved : goal.run-preserved
-run-preserved g c =
-    let i = c.run.invariant in
+pub loop-byte-preserved : goal.loop-byte-preserved
+loop-byte-preserved g c =
+    let i = c.loop-byte.invariant in
     let now = g.S.Source.remaining c.peek.new.source in
     let part = c.run_part-part.ensures in
     let bytes = c.run_part-part.result.now in
@@ -26,8 +26,8 @@ run-preserved g c =
       asks = rw c.advance.ensures.end (asks_then i.asks c.peek.ensures.asks);
     }
 
-pub run-smaller : goal.run-smaller
-run-smaller g c =
+pub loop-byte-smaller : goal.loop-byte-smaller
+loop-byte-smaller g c =
     let here = rw c.in-Some.is at c.in_ok-byte.ensures.at in
     let some = c.run_part-part.ensures.some c.in-Some.byte here.0 here.1 (ap not (sym c.in_gap.ensures ∙ c.if-not-in_gap.true)) here.2 in
     omega (arith, some, c.run_part-part.ensures.room, c.advance.ensures.used, c.peek.ensures.uses.used)
@@ -35,15 +35,15 @@ run-smaller g c =
 pub returns-in_err-byte-clause-run : goal.returns-in_err-byte-clause-run
 returns-in_err-byte-clause-run g c =
     let p = err_from_is_err_and c.from_residual.result c.from_residual.ensures.1 in
-    let q = (seen_so_far c.run.invariant.run c.in_err-byte.ensures.uses).used in
+    let q = (seen_so_far c.loop-byte.invariant.run c.in_err-byte.ensures.uses).used in
     rw (p.1, p.2) (q.bytes, record { solid = q.all; uses = q.uses }, c.in_err-byte.ensures.at)
 
 pub returns-in_default-clause-run : goal.returns-in_default-clause-run
 returns-in_default-clause-run g c =
     let here = rw c.in-Some.is at c.in_ok-byte.ensures.at in
-    run_over c.run.fits (seen_so_far c.run.invariant.run c.peek.ensures.uses)
+    run_over c.loop-byte.fits (seen_so_far c.loop-byte.invariant.run c.peek.ensures.uses)
     (inl (c.in-Some.byte, here.0, here.1, sym c.in_gap.ensures ∙ c.if-not-in_gap.false, here.2))
 
 pub returns-in_default-2-clause-run : goal.returns-in_default-2-clause-run
-returns-in_default-2-clause-run g c = run_over c.run.fits (seen_so_far c.run.invariant.run c.peek.ensures.uses)
+returns-in_default-2-clause-run g c = run_over c.loop-byte.fits (seen_so_far c.loop-byte.invariant.run c.peek.ensures.uses)
     (inr (rw c.in_default.is at c.in_ok-byte.ensures.at))

@@ -2,9 +2,9 @@ use Rattle.pop_text.proofs.Basics.{length, without_trailing, ◌≡◌}
 use Rattle.pop_text.proofs.text.Text.trimmed.Given as goal
 
 -- only trailing blanks are gone
-abbrev pub invariant-trim : goal.invariant-trim
-invariant-trim l = without_trailing l.kept.items ≡ without_trailing l.fn.kept.items
+abbrev pub invariant-loop-byte : goal.invariant-loop-byte
+invariant-loop-byte l = without_trailing l.kept.items ≡ without_trailing l.fn.kept.items
 
 -- the text gets shorter
-abbrev pub decreases-trim : goal.decreases-trim
-decreases-trim l = length l.kept.items
+abbrev pub decreases-loop-byte : goal.decreases-loop-byte
+decreases-loop-byte l = length l.kept.items

@@ -1,5 +1,4 @@
--- What the words of a problem before a place say (Popeye manual; the place of a word is own).
--- The words before are listed newest first.
+-- What the words of a problem say, one after another (Popeye manual; the place of a word is own).
 use Rattle.std.specs.Prelude.{ℕ, List, [], ◌∷◌, true, false, if◌then◌else◌, Option, Some, None, is_some, unwrap_or, fold}
 use Rattle.std.specs.List.{repeat}
 use Rattle.chess_core.specs.Castling.{none_unmoved, with_unmoved}
@@ -46,9 +45,9 @@ abbrev pub role_of : Place → List ℕ → Role
 role_of place text = role_by place.awaited place text
 
 -- the section that is open behind a word
-abbrev pub section_by : Option Section → Role → Option Section
-section_by section (Control (Enter opened)) = Some opened
-section_by section _ = section
+abbrev pub section_after : Role → Option Section → Option Section
+section_after (Control (Enter opened)) old = Some opened
+section_after _ old = old
 
 -- what an option awaits
 abbrev pub awaited_by : Option OptionWord → Option Awaited
@@ -64,31 +63,17 @@ awaited_after _ text = None
 -- the place behind one more word
 abbrev pub place_after : Role → Place → List ℕ → Place
 place_after role place text = record {
-  section = section_by place.section role;
+  section = section_after role place.section;
   awaited = awaited_after role text;
 }
-
--- the place behind words
-abbrev pub place_at : List (List ℕ) → Place
-place_at [] = record { section = None; awaited = None }
-place_at (text ∷ before) = place_after (role_of (place_at before) text) (place_at before) text
-
--- what a word was
-abbrev pub role_at : List (List ℕ) → List ℕ → Role
-role_at before text = role_of (place_at before) text
 
 -- What was given.
 
 -- the colour behind one more word: a command ends it
-abbrev pub colour_by : Role → List ℕ → Option Colour → Option Colour
-colour_by (Control command) text old = None
-colour_by (Within (Some Pieces)) text old = or_else (colour_of text) old
-colour_by _ text old = old
-
--- the last colour since the last command
-abbrev pub colour_at : List (List ℕ) → Option Colour
-colour_at [] = None
-colour_at (text ∷ before) = colour_by (role_at before text) text (colour_at before)
+abbrev pub colour_after : Role → List ℕ → Option Colour → Option Colour
+colour_after (Control command) text old = None
+colour_after (Within (Some Pieces)) text old = or_else (colour_of text) old
+colour_after _ text old = old
 
 -- men put on squares in turn
 abbrev pub put_men : List (Option Man) → Man → List ℕ → List (Option Man)
@@ -108,38 +93,23 @@ put_word colour (letter ∷ text) men = if is_some (colour_of (letter ∷ text))
     else put_kind colour (kind_of letter) (unwrap_or (squares_of text) []) men
 
 -- the men behind one more word
-abbrev pub men_by : Role → Option Colour → List ℕ → List (Option Man) → List (Option Man)
-men_by (Within (Some Pieces)) colour text men = put_word colour text men
-men_by _ colour text men = men
+abbrev pub men_after : Role → Option Colour → List ℕ → List (Option Man) → List (Option Man)
+men_after (Within (Some Pieces)) colour text men = put_word colour text men
+men_after _ colour text men = men
 
 -- the empty board
 abbrev pub no_men : List (Option Man)
 no_men = repeat 64 (None ∷ [])
 
--- all men put so far, square by square
-abbrev pub men_at : List (List ℕ) → List (Option Man)
-men_at [] = no_men
-men_at (text ∷ before) = men_by (role_at before text) (colour_at before) text (men_at before)
-
 -- the stipulation behind one more word: the first counts
-abbrev pub stipulation_by : Role → List ℕ → Option Stipulation → Option Stipulation
-stipulation_by (Within (Some Stipulations)) text old = or_else old (stipulation_of text)
-stipulation_by _ text old = old
-
--- the stipulation that words give
-abbrev pub stipulation_at : List (List ℕ) → Option Stipulation
-stipulation_at [] = None
-stipulation_at (text ∷ before) = stipulation_by (role_at before text) text (stipulation_at before)
+abbrev pub stipulation_after : Role → List ℕ → Option Stipulation → Option Stipulation
+stipulation_after (Within (Some Stipulations)) text old = or_else old (stipulation_of text)
+stipulation_after _ text old = old
 
 -- the condition behind one more word: the first counts
-abbrev pub condition_by : Role → List ℕ → Option Condition → Option Condition
-condition_by (Within (Some Conditions)) text old = or_else old (condition_of text)
-condition_by _ text old = old
-
--- the condition that words name
-abbrev pub condition_at : List (List ℕ) → Option Condition
-condition_at [] = None
-condition_at (text ∷ before) = condition_by (role_at before text) text (condition_at before)
+abbrev pub condition_after : Role → List ℕ → Option Condition → Option Condition
+condition_after (Within (Some Conditions)) text old = or_else old (condition_of text)
+condition_after _ text old = old
 
 -- the options that hold or do not
 abbrev pub switches_with : Option OptionWord → Switches → Switches
@@ -150,47 +120,31 @@ switches_with (Some (Awaits awaited)) old = old
 switches_with None old = old
 
 -- the options that hold behind one more word
-abbrev pub switches_by : Role → List ℕ → Switches → Switches
-switches_by (Within (Some Options)) text old = switches_with (option_of text) old
-switches_by _ text old = old
-
--- the options that words name
-abbrev pub switches_at : List (List ℕ) → Switches
-switches_at [] = record { set_play = false; variation = false; no_board = false }
-switches_at (text ∷ before) = switches_by (role_at before text) text (switches_at before)
+abbrev pub switches_after : Role → List ℕ → Switches → Switches
+switches_after (Within (Some Options)) text old = switches_with (option_of text) old
+switches_after _ text old = old
 
 -- the limit of solutions behind one more word
-abbrev pub limit_by : Role → List ℕ → ℕ → ℕ
-limit_by Limit text old = unwrap_or (limit_of text) old
-limit_by _ text old = old
-
--- the limit of the last MaxSolutions, the greatest where there is none
-abbrev pub limit_at : List (List ℕ) → ℕ
-limit_at [] = most_solutions
-limit_at (text ∷ before) = limit_by (role_at before text) text (limit_at before)
+abbrev pub limit_after : Role → List ℕ → ℕ → ℕ
+limit_after Limit text old = unwrap_or (limit_of text) old
+limit_after _ text old = old
 
 -- the crossed square behind one more word
-abbrev pub crossed_by : Role → List ℕ → Option ℕ → Option ℕ
-crossed_by CrossedSquare text old = or_else (only_square (squares_of text)) old
-crossed_by _ text old = old
-
--- the square of the last EnPassant
-abbrev pub crossed_at : List (List ℕ) → Option ℕ
-crossed_at [] = None
-crossed_at (text ∷ before) = crossed_by (role_at before text) text (crossed_at before)
+abbrev pub crossed_after : Role → List ℕ → Option ℕ → Option ℕ
+crossed_after CrossedSquare text old = or_else (only_square (squares_of text)) old
+crossed_after _ text old = old
 
 -- the squares of NoCastling behind one more word
-abbrev pub barred_by : Role → List ℕ → Unmoved → Unmoved
-barred_by BarredSquares text old = fold with_unmoved old (unwrap_or (squares_of text) [])
-barred_by _ text old = old
+abbrev pub barred_after : Role → List ℕ → Unmoved → Unmoved
+barred_after BarredSquares text old = fold with_unmoved old (unwrap_or (squares_of text) [])
+barred_after _ text old = old
 
--- the castling squares that NoCastling names
-abbrev pub barred_at : List (List ℕ) → Unmoved
-barred_at [] = none_unmoved
-barred_at (text ∷ before) = barred_by (role_at before text) text (barred_at before)
+-- All that words say.
 
--- all that the words say
-pub record State : Type 0 where
+-- the place behind them; the last colour since the last command; the men put so far, square by square;
+-- the first stipulation and the first condition; the options that hold; the limit of the last
+-- MaxSolutions; the square of the last EnPassant; the castling squares that NoCastling names
+pub record Draft : Type 0 where
   pub place : Place
   pub colour : Option Colour
   pub men : List (Option Man)
@@ -201,34 +155,38 @@ pub record State : Type 0 where
   pub crossed : Option ℕ
   pub barred : Unmoved
 
--- all that words say, the newest first
-abbrev pub state_of : List (List ℕ) → State
-state_of before = record {
-  place = place_at before;
-  colour = colour_at before;
-  men = men_at before;
-  stipulation = stipulation_at before;
-  condition = condition_at before;
-  switches = switches_at before;
-  limit = limit_at before;
-  crossed = crossed_at before;
-  barred = barred_at before;
+-- what no words say: an empty board, and the greatest limit of solutions
+abbrev pub nothing_said : Draft
+nothing_said = record {
+  place = record { section = None; awaited = None };
+  colour = None;
+  men = no_men;
+  stipulation = None;
+  condition = None;
+  switches = record { set_play = false; variation = false; no_board = false };
+  limit = most_solutions;
+  crossed = None;
+  barred = none_unmoved;
 }
 
--- what they say with one more, which has this role
-abbrev pub state_by : Role → State → List ℕ → State
-state_by role state text = record {
-  place = place_after role state.place text;
-  colour = colour_by role text state.colour;
-  men = men_by role state.colour text state.men;
-  stipulation = stipulation_by role text state.stipulation;
-  condition = condition_by role text state.condition;
-  switches = switches_by role text state.switches;
-  limit = limit_by role text state.limit;
-  crossed = crossed_by role text state.crossed;
-  barred = barred_by role text state.barred;
+-- what is said with one more word, which has this role
+abbrev pub draft_by : Role → Draft → List ℕ → Draft
+draft_by role draft text = record {
+  place = place_after role draft.place text;
+  colour = colour_after role text draft.colour;
+  men = men_after role draft.colour text draft.men;
+  stipulation = stipulation_after role text draft.stipulation;
+  condition = condition_after role text draft.condition;
+  switches = switches_after role text draft.switches;
+  limit = limit_after role text draft.limit;
+  crossed = crossed_after role text draft.crossed;
+  barred = barred_after role text draft.barred;
 }
 
--- what words say with one more
-abbrev pub state_after : State → List ℕ → State
-state_after state text = state_by (role_of state.place text) state text
+-- what is said with one more word
+abbrev pub draft_after : Draft → List ℕ → Draft
+draft_after draft text = draft_by (role_of draft.place text) draft text
+
+-- what words in order say
+abbrev pub draft_of : List (List ℕ) → Draft
+draft_of words = fold draft_after nothing_said words
