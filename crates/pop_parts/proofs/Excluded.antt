@@ -1,12 +1,14 @@
 -- What the clauses of a list and of parts exclude: text of parts that are refused, a failed sink told as another end or another end as a failed sink,
--- parts that are numbered from 0, and solutions in a part with whose moves they don't begin.
-use Rattle.std.proofs.Common.{Bool, List, None, Option, Some, [], arith, false, refl, true, ℕ, ◌≡◌, ◌≢◌}
+-- words used behind the item that is asked for, parts that are numbered from 0, and solutions in a part with whose moves they don't begin.
+use Rattle.std.proofs.Common.{Bool, List, None, Option, Some, [], arith, codes, false, refl, true, ℕ, ◌≡◌, ◌≢◌, ◌≤◌}
 use Rattle.pop_text.specs.Bytes.{Appends}
-use Rattle.pop_text.specs.Words.{Input}
+use Rattle.pop_text.specs.Words.{Input, Word}
 use Rattle.pop_input.specs.Blocks.{Entry, Faulty, Sound}
 use Rattle.std.specs.List.{list_any}
+unfoldable use Rattle.pop_input.specs.Names.{command_of}
 use Rattle.pop_run.specs.Report.{entries_in, tells_failure}
 unfoldable use Rattle.pop_run.specs.Report.{status_of}
+use Rattle.pop_run.specs.Run.{closings}
 use Rattle.pop_run.specs.declared.status.Status.TheVariants.{OutputFailed as ListCut}
 use Rattle.pop_solve.proofs.Words.{Move, Posed, RuleSet, ap, eqb, slice_get, ◌∷◌}
 use Rattle.pop_events.specs.declared.event.Phase.{Phase}
@@ -14,7 +16,7 @@ use Rattle.chess_core.specs.MoveOrder.{triple_number}
 use Rattle.pop_parts.specs.PhaseParts.{begins_path, begins_so, part_numbered, parts}
 use Rattle.pop_parts.specs.Parts.{entry_numbered, outcome_at, text_at}
 unfoldable use Rattle.pop_parts.specs.Parts.{text_in}
-use Rattle.pop_parts.specs.Runs.{Lists, Shows}
+use Rattle.pop_parts.specs.Runs.{Lists, ReadsItems, Shows}
 use Rattle.pop_parts.specs.declared.asked.Asked.{Asked}
 use Rattle.pop_parts.specs.declared.asked.Outcome.{Outcome}
 use Rattle.pop_parts.specs.declared.asked.Outcome.TheVariants.{OutputFailed, Shown}
@@ -49,6 +51,15 @@ sound_sink_is_told asked input before now (written, told) =
 pub sound_sink_of_a_list_is_told : (depth : ℕ) (input : Input) (before now : Option (List ℕ)) → Lists depth input before now false ListCut → ⊥
 unfolding status_of
 sound_sink_of_a_list_is_told depth input before now (written, told) = grind arith
+
+-- where item 1 is asked for the words of a second one aren't used
+pub no_second_item : (input : Input) (taken : List ℕ) (line next : ℕ) (r : ReadsItems 1 input taken)
+    → r.reads.tokens ≡ Word line (codes "NextProblem") ∷ Word next (codes "EndProblem") ∷ [] → ⊥
+unfolding command_of
+no_second_item input taken line next r are =
+    let few : closings r.reads.tokens ≤ 1 = r.few (omega arith) in
+    let two : closings (Word line (codes "NextProblem") ∷ Word next (codes "EndProblem") ∷ []) ≡ 2 = refl in
+    omega (arith, rw are at few, two)
 
 module _ (rule : RuleSet) (problem : Posed) (phase : Phase) (depth : ℕ) where
   -- the parts of a phase are counted from 1: none is numbered 0

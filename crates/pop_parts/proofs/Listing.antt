@@ -9,6 +9,8 @@ use Rattle.pop_text.specs.ties.Reading.{IsSeen, failures_after}
 use Rattle.pop_input.specs.Blocks.{Entry}
 use Rattle.pop_input.specs.declared.item.Item.{Item}
 use Rattle.pop_input.specs.ties.Standing.{NextItem, Reads, Standing, first_standing, is_item}
+use Rattle.pop_input.specs.ties.Used.{UsesItem}
+use Rattle.pop_run.proofs.Reached.{Reached, Stopped, item_reached, item_stops, reached_start, stopped_last}
 use Rattle.pop_run.proofs.Running.{grew_broken, reads_then, status_more}
 use Rattle.pop_run.specs.Report.{is_faulty, tells_failure}
 unfoldable use Rattle.pop_run.specs.Report.{status_of}
@@ -16,7 +18,7 @@ use Rattle.pop_run.specs.Run.{grew, input_met}
 use Rattle.pop_run.specs.declared.status.Status.{Status}
 use Rattle.pop_run.specs.declared.status.Status.TheVariants.{OutputFailed, Sound}
 use Rattle.pop_run.specs.ties.Sessions.{status_with}
-use Rattle.pop_parts.proofs.Reading.{all_met, failure_is_told, item_read, items_met, kept_is_told}
+use Rattle.pop_parts.proofs.Reading.{all_met, failure_is_told, item_read, items_met, kept_is_told, last_read, took}
 use Rattle.pop_parts.specs.Parts.{line_of, lines_from}
 use Rattle.pop_parts.specs.Runs.{Lists}
 use Rattle.pop_parts.specs.ties.Items.{entry_in, item_line, status_after}
@@ -28,6 +30,7 @@ pub record Listed (depth : ℕ) (now : Standing) (number : ℕ) (so_far : Status
   pub written : Appends before taken (lines_from depth 1 items)
   pub number_is : number ≡ 1 + length items
   pub status_is : so_far ≡ status_of items
+  pub reached : Reached now had left
 
 -- before the first item nothing is listed
 pub listed_start : (depth : ℕ) (had before : Option (List ℕ)) → Listed depth first_standing 1 Sound had had before before
@@ -38,6 +41,7 @@ listed_start depth had before = record {
   written = appends_none before;
   number_is = refl;
   status_is = refl;
+  reached = reached_start had;
 }
 
 lines-append : (depth n : ℕ) (xs ys : List Entry) → lines_from depth n (xs ++ ys) ≡ lines_from depth n xs ++ lines_from depth (n + length xs) ys
@@ -46,15 +50,16 @@ lines-append depth n (x ∷ xs) ys = grind (arith, append_assoc, lines-append de
 
 -- one more item
 pub listed_step : (depth : ℕ) (old new : Standing) (number : ℕ) (so_far : Status) (had mid left before t now : Option (List ℕ)) (item : Item) (entry : Entry)
-    → Listed depth old number so_far had mid before t → NextItem old new mid left item → entry_in item ≡ Some entry
+    → Listed depth old number so_far had mid before t → NextItem old new mid left item → UsesItem old new mid left item → entry_in item ≡ Some entry
     → Appends t now (item_line number depth (entry_in item))
     → Listed depth new (number + 1) (status_after so_far (entry_in item)) had left before now
-listed_step depth old new number so_far had mid left before t now item entry p q is w = rw is (record {
+listed_step depth old new number so_far had mid left before t now item entry p q u is w = rw is (record {
   items = p.items ++ entry ∷ [];
   reads = reads_then first_standing old new had mid left p.items (entry ∷ []) p.reads (item_read old new mid left item entry q is);
   written = rw (lines-append depth 1 p.items (entry ∷ []), append-nil) (appends_then before t now _ _ p.written (rw (is, p.number_is) at w));
   number_is = ap (λ n. n + 1) p.number_is ∙ omega (arith, length-append p.items (entry ∷ []));
   status_is = ap (λ s. status_with s (tells_failure entry) (is_faulty entry)) p.status_is ∙ sym (status_more p.items entry);
+  reached = let t = took old new mid left item entry q u is in item_reached old new had mid left p.reached t.0 entry t.1;
 })
 
 -- the list is whole behind the last item
@@ -85,6 +90,19 @@ list_cut depth old new number so_far (Some r) mid left before t now item entry n
       ) (begins_longer _ (begins_later before t now (lines_from depth 1 p.items) text p.written (rw (is, p.number_is) at begun))),
       refl,
     )
+
+-- a list stops behind the last item, or behind the one at which the sink fails
+pub ends_stopped : (old new : Standing) (had mid left : Option (List ℕ)) (item : Item) → Reached old had mid → NextItem old new mid left item
+    → UsesItem old new mid left item → entry_in item ≡ None → Stopped new had left
+ends_stopped old new had mid left item p q u is =
+    let l = last_read old new mid left item q u is in
+    rw (l.1, l.2) (stopped_last p l.0)
+
+pub cut_stopped : (old new : Standing) (had mid left : Option (List ℕ)) (item : Item) (entry : Entry) → Reached old had mid → NextItem old new mid left item
+    → UsesItem old new mid left item → entry_in item ≡ Some entry → Stopped new had left
+cut_stopped old new had mid left item entry p q u is =
+    let t = took old new mid left item entry q u is in
+    item_stops old new had mid left p t.0 entry t.1
 
 -- an item that isn't the end is an entry
 pub entry_there : (found : Option Entry) → not (is_some found) ≡ false → (entry : Entry) × (found ≡ Some entry)

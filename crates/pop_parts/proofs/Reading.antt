@@ -1,18 +1,24 @@
 -- What was read of an input, item by item.
-use Rattle.std.proofs.Common.{List, None, Option, Some, [], ap, arith, false, refl, sym, true, ℕ, ◌++◌, ◌+◌, ◌∙◌, ◌∷◌, ◌≡◌}
+use Rattle.std.proofs.Common.{IfSome, List, None, Option, Some, [], ap, arith, false, length, refl, sym, true, ℕ, ◌++◌, ◌+◌, ◌∙◌, ◌∷◌, ◌≡◌, ◌≤◌}
 use Rattle.std.proofs.lemmas.List.{append-nil}
 use Rattle.pop_text.specs.Words.{Input}
 unfoldable use Rattle.pop_text.specs.Words.{limit}
-use Rattle.pop_text.specs.ties.Reading.{IsSeen}
+use Rattle.pop_text.specs.declared.scanner.End.TheVariants.{Open}
+use Rattle.pop_text.specs.ties.Reading.{IsSeen, failures_after}
+use Rattle.pop_input.proofs.Taking.{some_rest}
 use Rattle.pop_input.specs.Blocks.{Entry, Sound as SoundEntry, Faulty as FaultyEntry}
 use Rattle.pop_input.specs.declared.item.Item.{Item}
 use Rattle.pop_input.specs.declared.item.Item.TheVariants.{Sound, Faulty, End as NoItem}
 use Rattle.pop_input.specs.declared.reader.Next.TheVariants.{Nothing}
 use Rattle.pop_input.specs.ties.Standing.{NextItem, Reads, Standing, entries_left, first_standing}
+use Rattle.pop_input.specs.ties.Used.{UsesEntry, UsesItem}
 use Rattle.pop_run.proofs.Meeting.{is_broken, met_after}
-use Rattle.pop_run.proofs.Running.{all_to_come, grew_more, grew_same, reads_then}
+use Rattle.pop_run.proofs.Reached.{Stopped, still_more, stopped_reads, stopped_reads_words}
+use Rattle.pop_run.proofs.Running.{all_to_come, grew_broken, grew_more, grew_same, reads_then}
 use Rattle.pop_run.specs.Report.{entries_in}
-use Rattle.pop_run.specs.Run.{grew, input_met}
+use Rattle.pop_run.specs.Run.{ReadsUpTo, closings, grew, input_met, taken_of}
+use Rattle.pop_run.specs.ties.Sessions.{ends}
+use Rattle.pop_parts.specs.Runs.{ReadsItems}
 use Rattle.pop_parts.specs.ties.Items.{entry_in}
 
 -- an item that is one was read
@@ -49,3 +55,35 @@ kept_is_told n m is = rw (is, grew_same) refl
 -- one that grew tells of one
 pub failure_is_told : (n m : ℕ) → m ≡ n + 1 → grew n m ≡ true
 failure_is_told n m is = rw (is, grew_more) refl
+
+-- How far a call reads.
+
+-- where an item was read one was still to come, and its bytes are used
+pub took : (old new : Standing) (had left : Option (List ℕ)) (item : Item) (entry : Entry) → NextItem old new had left item
+    → UsesItem old new had left item → entry_in item ≡ Some entry → (ends old.next ≡ false) × UsesEntry old new had left entry
+took old new had left item entry p u is =
+    let r = some_rest new.at.end in
+    (still_more old new had left entry r.0 r.1 (item_read old new had left item entry p is), grind arith)
+
+-- behind the last item nothing more is read
+pub last_read : (old new : Standing) (mid left : Option (List ℕ)) (item : Item) → NextItem old new mid left item → UsesItem old new mid left item
+    → entry_in item ≡ None → (ends old.next ≡ true) × (new ≡ old) × (left ≡ mid)
+last_read old new mid left NoItem (nothing, same, over) u none = (rw nothing refl, same, u.1)
+last_read old new mid left (Sound posed last) p u none = absurd (let no : Some (SoundEntry posed) ≡ None = none in cc)
+last_read old new mid left (Faulty fault last) p u none = absurd (let no : Some (FaultyEntry fault) ≡ None = none in cc)
+
+-- a call that stops has read as a run does
+pub reads_as_a_run : (new : Standing) (had left : Option (List ℕ)) (n m : ℕ) → Stopped new had left → IsSeen new.at.end left
+    → length new.at.window ≤ 4096 → m ≡ failures_after Open new.at.end n
+    → IfSome had (λ r. ReadsUpTo (input_met (grew n m) r left) (taken_of r left))
+reads_as_a_run new None left n m s seen few reads = tt
+reads_as_a_run new (Some r) left n m s seen few reads = rw (grew_broken new.at.end n m reads) (stopped_reads new r left s seen few)
+
+-- and no further than an item, where no more of the words used close one
+pub reads_items : (number : ℕ) (new : Standing) (had left : Option (List ℕ)) (n m : ℕ) (s : Stopped new had left) → (1 ≤ number → closings s.tokens ≤ number)
+    → IsSeen new.at.end left → length new.at.window ≤ 4096 → m ≡ failures_after Open new.at.end n
+    → IfSome had (λ r. ReadsItems number (input_met (grew n m) r left) (taken_of r left))
+reads_items number new None left n m s closed seen few reads = tt
+reads_items number new (Some r) left n m s closed seen few reads =
+    let w = stopped_reads_words (λ tokens. 1 ≤ number → closings tokens ≤ number) new r left s closed seen few in
+    rw (grew_broken new.at.end n m reads) (record { reads = w.0; few = w.1 })

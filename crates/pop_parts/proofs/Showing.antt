@@ -10,13 +10,15 @@ use Rattle.pop_text.specs.ties.Reading.{IsSeen, failures_after}
 use Rattle.pop_input.specs.Blocks.{Entry, Sound, Faulty}
 use Rattle.pop_input.specs.declared.item.Item.{Item}
 use Rattle.pop_input.specs.ties.Standing.{NextItem, Reads, Standing, first_standing}
+use Rattle.pop_input.specs.ties.Used.{UsesItem}
 use Rattle.pop_run.proofs.Meeting.{is_broken}
+use Rattle.pop_run.proofs.Reached.{Reached, item_reached, item_stops, last_few, reached_few, reached_start, start_few, stopped_last, stops_few}
 use Rattle.pop_run.proofs.Running.{any_more, grew_broken, reads_then}
 use Rattle.pop_run.specs.Report.{entries_in, tells_failure}
-use Rattle.pop_run.specs.Run.{grew, input_met}
-use Rattle.pop_parts.proofs.Reading.{all_met, failure_is_told, item_read, items_met, kept_is_told}
+use Rattle.pop_run.specs.Run.{closings, grew, input_met, taken_of}
+use Rattle.pop_parts.proofs.Reading.{all_met, failure_is_told, item_read, items_met, kept_is_told, last_read, reads_items, took}
 use Rattle.pop_parts.specs.Parts.{entry_numbered, outcome_at, text_at}
-use Rattle.pop_parts.specs.Runs.{Shows}
+use Rattle.pop_parts.specs.Runs.{ReadsItems, Shows}
 use Rattle.pop_parts.specs.declared.asked.Asked.{Asked}
 use Rattle.pop_parts.specs.declared.asked.Outcome.{Outcome}
 use Rattle.pop_parts.specs.declared.asked.Outcome.TheVariants.{OutputFailed}
@@ -29,6 +31,8 @@ pub record Passed (wanted : ℕ) (now : Standing) (number : ℕ) (failed : Bool)
   pub number_is : number ≡ 1 + length items
   pub failed_is : failed ≡ list_any tells_failure items
   pub early : 0 < wanted → number ≤ wanted
+  pub reached : Reached now had left
+  pub few : closings reached.tokens ≤ length items
 
 -- before the first item none was passed
 pub passed_start : (wanted : ℕ) (had : Option (List ℕ)) → Passed wanted first_standing 1 false had had
@@ -38,18 +42,23 @@ passed_start wanted had = record {
   number_is = refl;
   failed_is = refl;
   early = λ some. omega (arith, some);
+  reached = reached_start had;
+  few = start_few had;
 }
 
 -- one more item, which isn't the one
 pub passed_step : (wanted : ℕ) (old new : Standing) (number : ℕ) (failed : Bool) (had mid left : Option (List ℕ)) (item : Item) (entry : Entry)
-    → Passed wanted old number failed had mid → NextItem old new mid left item → entry_in item ≡ Some entry → number ≢ wanted
-    → Passed wanted new (number + 1) (failed || is_failure (entry_in item)) had left
-passed_step wanted old new number failed had mid left item entry p q is another = rw is (record {
+    → Passed wanted old number failed had mid → NextItem old new mid left item → UsesItem old new mid left item → entry_in item ≡ Some entry
+    → number ≢ wanted → Passed wanted new (number + 1) (failed || is_failure (entry_in item)) had left
+passed_step wanted old new number failed had mid left item entry p q u is another = rw is (record {
   items = p.items ++ entry ∷ [];
   reads = reads_then first_standing old new had mid left p.items (entry ∷ []) p.reads (item_read old new mid left item entry q is);
   number_is = ap (λ n. n + 1) p.number_is ∙ omega (arith, length-append p.items (entry ∷ []));
   failed_is = ap (λ b. b || tells_failure entry) p.failed_is ∙ sym (any_more tells_failure p.items entry);
   early = λ some. let so_far = p.early some in omega (arith, so_far, another);
+  reached = let t = took old new mid left item entry q u is in item_reached old new had mid left p.reached t.0 entry t.1;
+  few = let t = took old new mid left item entry q u is in
+      omega (arith, p.few, reached_few old new had mid left p.reached t.0 entry t.1, length-append p.items (entry ∷ []));
 })
 
 -- beyond the last item there is none
@@ -112,3 +121,23 @@ item_cut asked old new number failed None mid left before now item entry n m v w
 item_cut asked old new number failed (Some r) mid left before now item entry n m v w p q is seen one begun reads writes =
     let there = entry_met asked old new number failed mid left r item entry p q is seen one in
     rw (grew_broken new.at.end n m reads, failure_is_told v w writes, there) (rw is at begun, refl)
+
+-- How far it reads: up to the item, or to the input's end.
+
+pub missing_reads : (wanted : ℕ) (old new : Standing) (number : ℕ) (failed : Bool) (had mid left : Option (List ℕ)) (item : Item) (n m : ℕ)
+    → Passed wanted old number failed had mid → NextItem old new mid left item → UsesItem old new mid left item → entry_in item ≡ None
+    → IsSeen new.at.end left → length new.at.window ≤ 4096 → m ≡ failures_after Open new.at.end n
+    → IfSome had (λ r. ReadsItems wanted (input_met (grew n m) r left) (taken_of r left))
+missing_reads wanted old new number failed had mid left item n m p q u is =
+    let l = last_read old new mid left item q u is in
+    rw (l.1, l.2) (reads_items wanted old had mid n m (stopped_last p.reached l.0)
+    (λ some. let early = p.early some in omega (arith, p.few, p.number_is, early, last_few p.reached l.0)))
+
+pub found_reads : (wanted : ℕ) (old new : Standing) (number : ℕ) (failed : Bool) (had mid left : Option (List ℕ)) (item : Item) (entry : Entry) (n m : ℕ)
+    → Passed wanted old number failed had mid → NextItem old new mid left item → UsesItem old new mid left item → entry_in item ≡ Some entry → number ≡ wanted
+    → IsSeen new.at.end left → length new.at.window ≤ 4096 → m ≡ failures_after Open new.at.end n
+    → IfSome had (λ r. ReadsItems wanted (input_met (grew n m) r left) (taken_of r left))
+found_reads wanted old new number failed had mid left item entry n m p q u is one =
+    let t = took old new mid left item entry q u is in
+    reads_items wanted new had left n m (item_stops old new had mid left p.reached t.0 entry t.1)
+    (λ some. omega (arith, p.few, p.number_is, one, stops_few old new had mid left p.reached t.0 entry t.1))

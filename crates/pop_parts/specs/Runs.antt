@@ -1,8 +1,9 @@
 -- What the calls do (own).
-use Rattle.std.specs.Prelude.{◌≡◌, ℕ, List, Option, Bool, true, false}
+use Rattle.std.specs.Prelude.{◌≡◌, ◌≤◌, ℕ, List, Option, Bool, true, false}
 use Rattle.pop_text.specs.Bytes.{Appends, Begins}
 use Rattle.pop_text.specs.Words.{Input}
 use Rattle.pop_run.specs.Report.{status}
+use Rattle.pop_run.specs.Run.{ReadsUpTo, closings}
 use Rattle.pop_run.specs.declared.status.Status.{Status}
 use Rattle.pop_run.specs.declared.status.Status.TheVariants.{OutputFailed as ListCut}
 use Rattle.pop_parts.specs.Parts.{list_text, outcome_of, text_of}
@@ -23,3 +24,9 @@ Shows asked input before now false answer = Appends before now (text_of asked in
     × (answer ≡ outcome_of asked input)
 Shows asked input before now true answer = Begins before now (text_of asked input)
     × (answer ≡ OutputFailed)
+
+-- How far a call reads that took these bytes and was asked for the item with a number: as a run does, but no further than that item, which no more words
+-- close than its number. No item has number 0.
+pub record ReadsItems (number : ℕ) (input : Input) (taken : List ℕ) : Type 0 where
+  pub reads : ReadsUpTo input taken
+  pub few : 1 ≤ number → closings reads.tokens ≤ number

@@ -5,7 +5,7 @@ ghost use Rattle.pop_input.specs.Blocks.{Sound as SoundEntry};
 ghost use Rattle.pop_input.specs.Posed.{rule_of};
 ghost use Rattle.pop_solve.specs.Events.{is_barred as barred};
 ghost use Rattle.pop_print.specs.ties.Room.{room};
-ghost use Rattle.pop_run.specs.Run.{FailsOnce, grew, input_met};
+ghost use Rattle.pop_run.specs.Run.{FailsOnce, ReadsUpTo, grew, input_met, taken_of};
 ghost use Rattle.pop_parts.specs.Parts.{count_of, count_text, line_of, set_text, told_count};
 ghost use Rattle.pop_parts.specs.Runs.{Lists};
 ghost use Rattle.pop_parts.specs.ties.Items.{entry_in, item_line};
@@ -29,7 +29,8 @@ use pop_text::source::Source;
 /// `depth` moves tell the parts of help play apart.
 ///
 /// What is written is exactly the list of the input, or a beginning of it where the sink fails; then the status is
-/// `OutputFailed`, and nothing more is written. Of the calls of each, source and sink, at most one fails.
+/// `OutputFailed`, and nothing more is written. It takes at most 4,096 bytes behind the first EndProblem, which
+/// are not used. Of the calls of each, source and sink, at most one fails.
 pub fn list_parts<S: Source, W: Sink>(depth: usize, source: &mut S, sink: &mut W) -> Status
     requires depth { 1 ≤ depth }
     requires source { S.failures source.old < greatest_count }
@@ -39,6 +40,9 @@ pub fn list_parts<S: Source, W: Sink>(depth: usize, source: &mut S, sink: &mut W
         (S.remaining source.new))
         (W.taken sink.old) (W.taken sink.new)
         (grew (W.failures sink.old) (W.failures sink.new)) result) }
+    ensures reads { IfSome (S.remaining source.old) (λ had.
+        ReadsUpTo (input_met (grew (S.failures source.old) (S.failures source.new)) had
+        (S.remaining source.new)) (taken_of had (S.remaining source.new))) }
     ensures once { FailsOnce (S.failures source.old) (S.failures source.new)
         × FailsOnce (W.failures sink.old) (W.failures sink.new) }
 {

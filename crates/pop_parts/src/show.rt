@@ -9,9 +9,9 @@ ghost use Rattle.pop_input.specs.Posed.{rule_of};
 ghost use Rattle.pop_solve.specs.Events.{event_of};
 ghost use Rattle.pop_print.specs.Events.{event_text};
 ghost use Rattle.pop_parts.specs.PhaseParts.{part_numbered};
-ghost use Rattle.pop_run.specs.Run.{FailsOnce, grew, input_met};
+ghost use Rattle.pop_run.specs.Run.{FailsOnce, grew, input_met, taken_of};
 ghost use Rattle.pop_parts.specs.Parts.{has_parts as has_the_parts, has_phase as has_the_phase, outcome_at, outcome_in, part_text, parts_asked, text_at, text_in};
-ghost use Rattle.pop_parts.specs.Runs.{Shows};
+ghost use Rattle.pop_parts.specs.Runs.{ReadsItems, Shows};
 ghost use Rattle.pop_parts.specs.ties.Items.{entry_in, text_if};
 
 use crate::asked::{Asked, Outcome};
@@ -32,8 +32,8 @@ use pop_text::source::Source;
 /// Reads items of the source up to the one that is asked for and writes the solutions of its parts into the sink.
 ///
 /// What is written is exactly the text of the parts in the input, none where they are refused, or a beginning of it
-/// where the sink fails; then the outcome is `OutputFailed`, and nothing more is written. Of the calls of each, source
-/// and sink, at most one fails.
+/// where the sink fails; then the outcome is `OutputFailed`, and nothing more is written. Behind the item that is asked
+/// for it takes at most 4,096 bytes, which are not used. Of the calls of each, source and sink, at most one fails.
 pub fn show_parts<S: Source, W: Sink>(asked: &Asked, source: &mut S, sink: &mut W) -> Outcome
     requires depth { 1 ≤ asked.now.depth }
     requires source { S.failures source.old < greatest_count }
@@ -43,6 +43,9 @@ pub fn show_parts<S: Source, W: Sink>(asked: &Asked, source: &mut S, sink: &mut 
         (S.remaining source.new))
         (W.taken sink.old) (W.taken sink.new)
         (grew (W.failures sink.old) (W.failures sink.new)) result) }
+    ensures reads { IfSome (S.remaining source.old) (λ had. ReadsItems asked.now.item
+        (input_met (grew (S.failures source.old) (S.failures source.new)) had
+        (S.remaining source.new)) (taken_of had (S.remaining source.new))) }
     ensures once { FailsOnce (S.failures source.old) (S.failures source.new)
         × FailsOnce (W.failures sink.old) (W.failures sink.new) }
 {

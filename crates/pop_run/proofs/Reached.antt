@@ -4,6 +4,7 @@ use Rattle.std.proofs.Common.{inr, ◌⊎◌}
 use Rattle.std.proofs.Math.Seq.{drop-append_seam, take-append_seam}
 use Rattle.std.proofs.lemmas.List.{take_all}
 use Rattle.std.proofs.lemmas.List.Folds.{list_all-append}
+use Rattle.std.proofs.lemmas.List.Sums.{sum_by-append}
 use Rattle.std.specs.List.{list_all}
 use Rattle.pop_text.proofs.Plain.{takes_none}
 use Rattle.pop_text.proofs.Using.{uses_none, uses_then}
@@ -22,7 +23,7 @@ use Rattle.pop_input.specs.ties.Closings.{last_of}
 use Rattle.pop_input.specs.ties.Standing.{first_standing, next_behind}
 use Rattle.pop_input.specs.ties.Used.{IsClosed, IsInputOver, IsUnclosed, UsesEntry, UsesTokens}
 use Rattle.pop_run.proofs.Meeting.{is_broken, met_after, taken_front}
-use Rattle.pop_run.specs.Run.{EndsWithInput, EndsWithItem, ReadsUpTo, goes_on, is_no_end, words_behind}
+use Rattle.pop_run.specs.Run.{EndsWithInput, EndsWithItem, ReadsUpTo, closings, goes_on, is_no_end, words_behind}
 use Rattle.pop_run.specs.ties.Sessions.{ends}
 
 -- Words and text lines.
@@ -51,6 +52,19 @@ last_closes command last is = grind arith
 -- NextProblem isn't EndProblem
 next_goes_on : (command : Option Command) (last : Last) → last_of command ≡ Some last → ends (next_behind last) ≡ false → is_no_end command ≡ true
 next_goes_on command last is h = grind arith
+
+none_close : (tokens : List Token) → list_all closes_none tokens ≡ true → closings tokens ≡ 0
+none_close [] h = refl
+none_close (token ∷ tokens) h = grind (arith, none_close tokens)
+
+both_close : (ts us : List Token) → closings (ts ++ us) ≡ closings ts + closings us
+both_close ts us = sum_by-append _ ts us
+
+-- of an item's words no more than one closes it
+one_closes : (ts front : List Token) (token : Token) → list_all closes_none front ≡ true → closings (ts ++ (front ++ token ∷ [])) ≤ closings ts + 1
+one_closes ts front token plain =
+    let last : closings (token ∷ []) ≤ 1 = grind arith in
+    omega (arith, both_close ts (front ++ token ∷ []), both_close front (token ∷ []), none_close front plain, last)
 
 -- Items.
 
@@ -83,9 +97,19 @@ reached_start had = record {
   stops = λ over. absurd (let no : false ≡ true = over in cc);
 }
 
+pub start_few : (had : Option (List ℕ)) → closings (reached_start had).tokens ≤ 0
+unfolding reached_start
+start_few had = omega arith
+
 -- behind the last item a run may stop
 pub stopped_last : {now : Standing} {had left : Option (List ℕ)} → Reached now had left → ends now.next ≡ true → Stopped now had left
 stopped_last p over = record { bytes = p.bytes; tokens = p.tokens; used = p.used; stops = p.stops over }
+
+-- where it has used the same words
+pub last_few : {now : Standing} {had left : Option (List ℕ)} (p : Reached now had left) (over : ends now.next ≡ true)
+    → closings (stopped_last p over).tokens ≡ closings p.tokens
+unfolding stopped_last
+last_few p over = refl
 
 module _ (old new : Standing) (had mid left : Option (List ℕ)) (p : Reached old had mid) (more : ends old.next ≡ false) where
   closed_stops : IsClosed old new mid left → Stopped new had left
@@ -147,6 +171,19 @@ module _ (old new : Standing) (had mid left : Option (List ℕ)) (p : Reached ol
   item_reached (FaultyEntry fault) (inl c) = closed_reached c
   item_reached (FaultyEntry fault) (inr c) = unclosed_reached c
 
+  -- of the words of each no more than one closes an item
+  pub stops_few : (entry : Entry) (c : UsesEntry old new mid left entry) → closings (item_stops entry c).tokens ≤ closings p.tokens + 1
+  unfolding item_stops closed_stops unclosed_stops
+  stops_few (SoundEntry posed) c = one_closes p.tokens c.front (Word c.line c.word) c.plain
+  stops_few (FaultyEntry fault) (inl c) = one_closes p.tokens c.front (Word c.line c.word) c.plain
+  stops_few (FaultyEntry fault) (inr c) = omega (arith, both_close p.tokens c.tokens, none_close c.tokens c.plain)
+
+  pub reached_few : (entry : Entry) (c : UsesEntry old new mid left entry) → closings (item_reached entry c).tokens ≤ closings p.tokens + 1
+  unfolding item_reached closed_reached unclosed_reached closed_stops unclosed_stops
+  reached_few (SoundEntry posed) c = one_closes p.tokens c.front (Word c.line c.word) c.plain
+  reached_few (FaultyEntry fault) (inl c) = one_closes p.tokens c.front (Word c.line c.word) c.plain
+  reached_few (FaultyEntry fault) (inr c) = omega (arith, both_close p.tokens c.tokens, none_close c.tokens c.plain)
+
 -- where an item was read one was still to come
 pub still_more : (old new : Standing) (had left : Option (List ℕ)) (entry : Entry) (rest : Input) → MayFollow new.at.end rest
     → Reads old new had left (entry ∷ []) → ends old.next ≡ false
@@ -207,8 +244,9 @@ module _ (new : Standing) (r ys : List ℕ) (s : Stopped new (Some r) (Some ys))
     | inr over ↦ inr (record { all = all_used new.at taken s.bytes rest s.used.uses.unread s.used.uses.used over.1 may; none = over.0 })
   ]
 
-  reads_known : IsSeen new.at.end (Some ys) → length new.at.window ≤ 4096 → ReadsUpTo (input_met (is_broken new.at.end) r (Some ys)) (taken_of r (Some ys))
-  reads_known seen few =
+  reads_known : (Q : List Token → Type 0) → Q s.tokens → IsSeen new.at.end (Some ys) → length new.at.window ≤ 4096
+      → (w : ReadsUpTo (input_met (is_broken new.at.end) r (Some ys)) (taken_of r (Some ys))) × Q w.tokens
+  reads_known Q q seen few =
       let m = met_after new.at.end (Some ys) r taken s.used.uses.consumed seen in
       rw m.2 (record {
         used = s.bytes;
@@ -218,10 +256,15 @@ module _ (new : Standing) (r ys : List ℕ) (s : Stopped new (Some r) (Some ys))
         tokens = s.tokens;
         words = words_are m.0 m.1;
         stops = stops_are m.0 m.1;
-      })
+      }, q)
 
--- a run that stops has read up to an item's end or the input's, and at most a window more
+-- a run that stops has read up to an item's end or the input's, and at most a window more; what holds of the words used is said of these
+pub stopped_reads_words : (Q : List Token → Type 0) (new : Standing) (r : List ℕ) (left : Option (List ℕ)) (s : Stopped new (Some r) left) → Q s.tokens
+    → IsSeen new.at.end left → length new.at.window ≤ 4096
+    → (w : ReadsUpTo (input_met (is_broken new.at.end) r left) (taken_of r left)) × Q w.tokens
+stopped_reads_words Q new r None s q seen few = absurd s.used.uses.consumed
+stopped_reads_words Q new r (Some ys) s q seen few = reads_known new r ys s Q q seen few
+
 pub stopped_reads : (new : Standing) (r : List ℕ) (left : Option (List ℕ)) → Stopped new (Some r) left → IsSeen new.at.end left
     → length new.at.window ≤ 4096 → ReadsUpTo (input_met (is_broken new.at.end) r left) (taken_of r left)
-stopped_reads new r None s seen few = absurd s.used.uses.consumed
-stopped_reads new r (Some ys) s seen few = reads_known new r ys s seen few
+stopped_reads new r left s seen few = (stopped_reads_words (λ _. Unit {0}) new r left s tt seen few).0

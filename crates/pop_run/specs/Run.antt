@@ -42,6 +42,10 @@ is_no_end None = true
 abbrev pub goes_on : Token → Bool
 goes_on token = is_no_end (closing_of token)
 
+-- how many of these words close an item
+abbrev pub closings : List Token → ℕ
+closings tokens = count_by (λ token. closes (closing_of token)) tokens
+
 -- The bytes used end where a word does that closes an item: it is the last of these words and text lines, and none before it is EndProblem.
 pub record EndsWithItem (used : List ℕ) (tokens : List Token) : Type 0 where
   pub before : List ℕ

@@ -3,7 +3,9 @@ use Rattle.std.specs.Prelude.{◌≡◌, ℕ, List, Option, Bool, true, false}
 use Rattle.pop_text.specs.Bytes.{Appends, Begins}
 use Rattle.pop_text.specs.Words.{Input}
 use Rattle.pop_run.specs.Report.{status}
+use Rattle.pop_run.specs.Run.{ReadsUpTo}
 use Rattle.pop_parts.specs.Parts.{list_text, outcome_of, text_of}
+use Rattle.pop_parts.specs.Runs.{ReadsItems}
 use Rattle.pops_part.specs.ExitStatus.{ending_of_list, ending_of_parts}
 use Rattle.pops_part.specs.declared.program.Ending.{Ending}
 use Rattle.pops_part.specs.declared.program.Ending.TheVariants.{OutputFailed}
@@ -47,3 +49,8 @@ Answers wanted input before now false ending = Appends before now (text_wanted w
     × (ending ≡ ending_wanted wanted input)
 Answers wanted input before now true ending = Begins before now (text_wanted wanted input)
     × (ending ≡ OutputFailed)
+
+-- how far it reads that took these bytes: a list as a run does, parts no further than their item
+abbrev pub ReadsWanted : Wanted → Input → List ℕ → Type 0
+ReadsWanted (ListOf depth) input taken = ReadsUpTo input taken
+ReadsWanted (Parts named) input taken = ReadsItems named.item input taken

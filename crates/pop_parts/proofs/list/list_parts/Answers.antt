@@ -1,7 +1,8 @@
 use Rattle.std.proofs.Common.{None, arith, inl, refl, sym, ◌∙◌, ◌≡◌}
 unfoldable use Rattle.pop_text.specs.Words.{limit}
 use Rattle.pop_text.proofs.Using.{failures_then}
-use Rattle.pop_parts.proofs.Listing.{entry_there, item_there, list_cut, list_ends, listed_start, listed_step, none_there}
+use Rattle.pop_parts.proofs.Listing.{cut_stopped, ends_stopped, entry_there, item_there, list_cut, list_ends, listed_start, listed_step, none_there}
+use Rattle.pop_parts.proofs.Reading.{reads_as_a_run}
 use Rattle.pop_parts.specs.ties.Items.{entry_in}
 use Rattle.pop_parts.proofs.list.list_parts.Goals as goal
 
@@ -34,6 +35,25 @@ returns-in-Err-clause-headline g c =
     (next.ensures.seen i.seen) c.in-Err.ensures.bytes
     (failures_then _ _ _ _ _ _ (inl refl) next.ensures.ends i.read_failures next.ensures.counted) (rw (← i.write_failures) c.in-Err.ensures.counted)
 
+pub returns-then-is_end-clause-reads : goal.returns-then-is_end-clause-reads
+returns-then-is_end-clause-reads g c =
+    let i = c.items.invariant in
+    let next = c.next_problem-item in
+    let none : entry_in next.result ≡ None = none_there _ (sym c.is_end.ensures ∙ c.if-is_end.true) in
+    reads_as_a_run next.new.self _ (g.S.Source.remaining next.new.source) _ _ (ends_stopped c.items.reader next.new.self _ (g.S.Source.remaining c.items.source)
+    (g.S.Source.remaining next.new.source) next.result i.listed.reached next.ensures.item next.ensures.used none) (next.ensures.seen i.seen) next.ensures.waits
+    (failures_then _ _ _ _ _ _ (inl refl) next.ensures.ends i.read_failures next.ensures.counted)
+
+pub returns-in-Err-clause-reads : goal.returns-in-Err-clause-reads
+returns-in-Err-clause-reads g c =
+    let i = c.items.invariant in
+    let next = c.next_problem-item in
+    let there = entry_there _ (sym c.is_end.ensures ∙ c.if-is_end.false) in
+    reads_as_a_run next.new.self _ (g.S.Source.remaining next.new.source) _ _ (cut_stopped c.items.reader next.new.self _ (g.S.Source.remaining c.items.source)
+    (g.S.Source.remaining next.new.source) next.result there.0 i.listed.reached next.ensures.item next.ensures.used there.1) (next.ensures.seen i.seen)
+    next.ensures.waits
+    (failures_then _ _ _ _ _ _ (inl refl) next.ensures.ends i.read_failures next.ensures.counted)
+
 pub items-preserved : goal.items-preserved
 items-preserved g c =
     let i = c.items.invariant in
@@ -44,7 +64,7 @@ items-preserved g c =
       listed = rw c.status_after-so_far.ensures (listed_step _ c.items.reader next.new.self c.items.number c.items.so_far _
           (g.S.Source.remaining c.items.source)
           (g.S.Source.remaining next.new.source) _ (g.W.Sink.taken c.items.sink) (g.W.Sink.taken c.print_item.new.sink) next.result there.0 i.listed
-          next.ensures.item there.1 c.in-Ok.ensures.bytes);
+          next.ensures.item next.ensures.used there.1 c.in-Ok.ensures.bytes);
       seen = next.ensures.seen i.seen;
       read_failures = failures_then _ _ _ _ _ _ (inl refl) next.ensures.ends i.read_failures next.ensures.counted;
       write_failures = c.in-Ok.ensures.counted ∙ i.write_failures;

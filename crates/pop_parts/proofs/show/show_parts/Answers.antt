@@ -3,7 +3,7 @@ unfoldable use Rattle.pop_text.specs.Words.{limit}
 use Rattle.std.specs.Prelude.{is_some, true}
 use Rattle.pop_text.proofs.Using.{failures_then}
 use Rattle.pop_parts.proofs.Listing.{entry_there, item_there, none_there}
-use Rattle.pop_parts.proofs.Showing.{item_cut, item_missing, item_shown, passed_start, passed_step}
+use Rattle.pop_parts.proofs.Showing.{found_reads, item_cut, item_missing, item_shown, missing_reads, passed_start, passed_step}
 use Rattle.pop_parts.specs.ties.Items.{entry_in}
 use Rattle.pop_parts.proofs.show.show_parts.Goals as goal
 
@@ -51,6 +51,35 @@ returns-in-Err-clause-headline g c =
     (failures_then _ _ _ _ _ _ (inl refl) next.ensures.ends i.read_failures next.ensures.counted)
     (c.in-Err.ensures.counted ∙ ap (λ s. g.W.Sink.failures s + 1) i.untouched)
 
+pub returns-then-is_end-clause-reads : goal.returns-then-is_end-clause-reads
+returns-then-is_end-clause-reads g c =
+    let i = c.items.invariant in
+    let next = c.next_problem-item in
+    let none : entry_in next.result ≡ None = none_there _ (sym c.is_end.ensures ∙ c.if-is_end.true) in
+    missing_reads _ c.items.reader next.new.self c.items.number c.items.failed _ (g.S.Source.remaining c.items.source) (g.S.Source.remaining next.new.source)
+    next.result _ _ i.passed next.ensures.item next.ensures.used none (next.ensures.seen i.seen) next.ensures.waits
+    (failures_then _ _ _ _ _ _ (inl refl) next.ensures.ends i.read_failures next.ensures.counted)
+
+pub returns-in-Ok-clause-reads : goal.returns-in-Ok-clause-reads
+returns-in-Ok-clause-reads g c =
+    let i = c.items.invariant in
+    let next = c.next_problem-item in
+    let there = entry_there _ (sym c.is_end.ensures ∙ c.if-is_end.false) in
+    let one : c.items.number ≡ c.args.asked.now.item = grind (arith, c.if-number-asked.true) in
+    found_reads _ c.items.reader next.new.self c.items.number c.items.failed _ (g.S.Source.remaining c.items.source) (g.S.Source.remaining next.new.source)
+    next.result there.0 _ _ i.passed next.ensures.item next.ensures.used there.1 one (next.ensures.seen i.seen) next.ensures.waits
+    (failures_then _ _ _ _ _ _ (inl refl) next.ensures.ends i.read_failures next.ensures.counted)
+
+pub returns-in-Err-clause-reads : goal.returns-in-Err-clause-reads
+returns-in-Err-clause-reads g c =
+    let i = c.items.invariant in
+    let next = c.next_problem-item in
+    let there = entry_there _ (sym c.is_end.ensures ∙ c.if-is_end.false) in
+    let one : c.items.number ≡ c.args.asked.now.item = grind (arith, c.if-number-asked.true) in
+    found_reads _ c.items.reader next.new.self c.items.number c.items.failed _ (g.S.Source.remaining c.items.source) (g.S.Source.remaining next.new.source)
+    next.result there.0 _ _ i.passed next.ensures.item next.ensures.used there.1 one (next.ensures.seen i.seen) next.ensures.waits
+    (failures_then _ _ _ _ _ _ (inl refl) next.ensures.ends i.read_failures next.ensures.counted)
+
 pub items-preserved : goal.items-preserved
 items-preserved g c =
     let i = c.items.invariant in
@@ -61,7 +90,7 @@ items-preserved g c =
     record {
       passed = rw c.tells_failure-failed.ensures (passed_step _ c.items.reader next.new.self c.items.number c.items.failed _
           (g.S.Source.remaining c.items.source)
-          (g.S.Source.remaining next.new.source) next.result there.0 i.passed next.ensures.item there.1 another);
+          (g.S.Source.remaining next.new.source) next.result there.0 i.passed next.ensures.item next.ensures.used there.1 another);
       seen = next.ensures.seen i.seen;
       read_failures = failures_then _ _ _ _ _ _ (inl refl) next.ensures.ends i.read_failures next.ensures.counted;
       untouched = i.untouched;
