@@ -6,8 +6,7 @@ is read.
 """
 
 import re
-from dataclasses import dataclass
-from typing import List
+from typing import List, NamedTuple
 
 # The most bytes that pops reads of an input; a longer one is left to one run of it.
 LONGEST_INPUT = 1 << 30
@@ -42,8 +41,7 @@ _MARKS = re.compile(
 )
 
 
-@dataclass(frozen=True)
-class Piece:
+class Piece(NamedTuple):
     """A problem of an input: the bytes of its block, with the line ends that stand before them.
 
     The block of a later problem begins behind NextProblem. It is closed where NextProblem or

@@ -1,8 +1,7 @@
 """Joins the reports in the order of the problems: on standard output, in a file, in many files."""
 
 import os
-from dataclasses import dataclass
-from typing import BinaryIO, Callable, List, Optional, Sequence, Tuple
+from typing import BinaryIO, Callable, List, NamedTuple, Optional, Sequence, Tuple
 
 from pops_many.journal import Journal
 from pops_many.targets import Target
@@ -11,8 +10,7 @@ from pops_many.tasks import Task
 _COLUMNS = ("start", "bytes", "status", "problem", "line", "file")
 
 
-@dataclass(frozen=True)
-class Report:
+class Report(NamedTuple):
     """A report that is to be written, and those of its problems that come to no end beside it.
 
     Without a file it goes to standard output.

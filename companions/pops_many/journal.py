@@ -151,12 +151,12 @@ class Journal:
 
     def _add(self, head: bytes, report: bytes) -> int:
         """Writes a record. Answers where its report stands."""
-        self._file.seek(self._end)
-        self._file.write(head + report)
-        self._file.flush()
-        start = self._end + len(head)
-        self._end = start + len(report)
-        return start
+        left, end = memoryview(head + report), self._end
+        while left:
+            written = os.pwrite(self._file.fileno(), left, end)
+            left, end = left[written:], end + written
+        self._end = end
+        return end - len(report)
 
     def report(self, place: int) -> bytes:
         """The kept report of a task."""
@@ -167,8 +167,11 @@ class Journal:
         return self._read(self.parts[part.key])
 
     def _read(self, kept: Kept) -> bytes:
-        self._file.seek(kept.start)
-        return self._file.read(kept.length)
+        pieces, place, end = [], kept.start, kept.start + kept.length
+        while piece := os.pread(self._file.fileno(), end - place, place):
+            pieces.append(piece)
+            place += len(piece)
+        return b"".join(pieces)
 
     def is_finished(self, place: int) -> bool:
         """Whether the whole report of a task is kept."""

@@ -28,6 +28,11 @@ class Lot:
         return self._left[0]
 
     @property
+    def last(self) -> Part:
+        """The last one that wasn't taken from it."""
+        return self._left[-1]
+
+    @property
     def left(self) -> List[Part]:
         """All of them, in their order."""
         with self._lock:

@@ -4,13 +4,16 @@ import signal
 import subprocess
 import tempfile
 from contextlib import closing
-from typing import Dict, Generator, Iterator, List, Sequence, Set, Tuple
+from typing import Callable, Dict, Generator, Iterator, List, Sequence, Set, Tuple
 
 from pops_many.leash import Leashed
 from pops_many.lots import Lot, numbers_of
 from pops_many.parts import Key, Part, PartsError, Phase, count_in, phases_listed, up_to_totals
-from pops_many.program import SOUND, RunError, Runs
+from pops_many.program import PAUSE, SOUND, RunError, Runs
 from pops_many.tasks import whole_lines
+
+# In milliseconds, in place of PAUSE.
+_SHORT_PAUSE = 2
 
 
 def _whole(texts: Sequence[bytes]) -> bytes:
@@ -19,6 +22,22 @@ def _whole(texts: Sequence[bytes]) -> bytes:
     if count_in(report) is None:
         raise RunError("the lines of a part don't end with their number")
     return report
+
+
+def _pauses(lot: Lot, asked: Sequence[Part]) -> Callable[[], int]:
+    """How long a run on a lot may go on unread, in milliseconds, before each piece that it writes.
+
+    Where the last parts were taken from it, it isn't to go on for long behind those that are left.
+    """
+    before = len(asked)
+
+    def pause() -> int:
+        nonlocal before
+        left = len(lot)
+        came, before = before - left, left
+        return _SHORT_PAUSE if left <= max(came, 1) and lot.last is not asked[-1] else PAUSE
+
+    return pause
 
 
 class PartProgram(Runs):
@@ -59,7 +78,7 @@ class PartProgram(Runs):
         words += ["--depth", str(asked[0].depth)]
         written: List[bytes] = []
         try:
-            with closing(self._pieces(words, asked[0])) as pieces:
+            with closing(self._pieces(words, asked[0], _pauses(lot, asked))) as pieces:
                 for text, is_total in up_to_totals(pieces):
                     written.append(text)
                     # (the last part asked for is whole once the run has ended well)
@@ -77,8 +96,10 @@ class PartProgram(Runs):
                 self.begun[lot.first.key] = whole_lines(b"".join(written))
             raise
 
-    def _pieces(self, words: Sequence[str], first: Part) -> Generator[bytes, None, None]:
-        """What a run on a lot writes, piece by piece as it comes; it may be dropped meanwhile.
+    def _pieces(
+        self, words: Sequence[str], first: Part, pause: Callable[[], int]
+    ) -> Generator[bytes, None, None]:
+        """What a run on a lot writes, piece by piece after pauses; it may be dropped meanwhile.
 
         RunError where it doesn't end well.
         """
@@ -89,7 +110,7 @@ class PartProgram(Runs):
                 if first.key in self._dropped:
                     leashed.send(signal.SIGKILL)
             try:
-                yield from self._written(leashed, first.text)
+                yield from self._written(leashed, first.text, pause)
             finally:
                 with self._lock:
                     del self._at_work[first.key]

@@ -5,7 +5,6 @@ and solves each; in their order they make the phase.
 """
 
 import re
-from dataclasses import dataclass
 from typing import Iterable, Iterator, List, NamedTuple, Optional, Pattern, Tuple
 
 from pops_many.cutting import BLANKS, TEXT_LINES, short_forms
@@ -17,7 +16,8 @@ MOST_PARTS = 100_000
 _SOUND = b"sound\n\n"
 _LIST = re.compile(rb"1: (?:set (?:(?P<set>\d+)|(?P<barred>not possible)), )?play (?P<play>\d+)\n")
 _TOTAL = re.compile(rb"solutions: (\d+)(?:, stopped)?\n")
-_TOTALS = re.compile(rb"^" + _TOTAL.pattern, re.MULTILINE)
+# How a line begins that may be a total.
+_NUMBER_OF_SOLUTIONS = b"solutions: "
 _TEXT_LINE = re.compile(rb"(?<![^" + BLANKS + rb"])" + TEXT_LINES, re.IGNORECASE)
 _LIMIT = re.compile(short_forms("maxsolutions"), re.IGNORECASE)
 
@@ -43,8 +43,7 @@ class Key(NamedTuple):
     depth: int
 
 
-@dataclass(frozen=True)
-class Part:
+class Part(NamedTuple):
     """One part of a phase of a problem, numbered from 1."""
 
     task: Task
@@ -135,13 +134,27 @@ def up_to_totals(pieces: Iterable[bytes]) -> Iterator[Tuple[bytes, bool]]:
     for piece in pieces:
         lines, end, rest = (rest + piece).rpartition(b"\n")
         lines, begin = lines + end, 0
-        for total in _TOTALS.finditer(lines):
-            yield lines[begin : total.end()], True
-            begin = total.end()
+        for stop in _ends_of_totals(lines):
+            yield lines[begin:stop], True
+            begin = stop
         if begin < len(lines):
             yield lines[begin:], False
     if rest:
         yield rest, False
+
+
+def _ends_of_totals(lines: bytes) -> Iterator[int]:
+    """Where the totals among whole lines end; other lines aren't looked at one by one."""
+    begin = 0
+    while True:
+        if not lines.startswith(_NUMBER_OF_SOLUTIONS, begin):
+            begin = lines.find(b"\n" + _NUMBER_OF_SOLUTIONS, begin) + 1
+            if begin == 0:
+                return
+        total = _TOTAL.match(lines, begin)
+        begin = lines.index(b"\n", begin) + 1
+        if total is not None:
+            yield begin
 
 
 def lines_without_total(report: bytes) -> bytes:

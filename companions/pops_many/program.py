@@ -7,7 +7,7 @@ import signal
 import subprocess
 import threading
 from pathlib import Path
-from typing import Generator, Optional, Sequence, Set, Tuple
+from typing import Callable, Generator, Optional, Sequence, Set, Tuple
 
 from pops_many.leash import Leashed, Stream
 from pops_many.tasks import UNFINISHED, Result, Task, is_whole, whole_lines
@@ -15,9 +15,9 @@ from pops_many.tasks import UNFINISHED, Result, Task, is_whole, whole_lines
 # A run of pops ends with one of these where every byte of its report was written.
 SOUND, FAULTY = 0, 1
 
-# What a run writes is read after such pauses, in milliseconds, unless it ends sooner or writes much:
-# it writes each line by itself, and to be woken by each would cost more than the search.
-_PAUSE = 10
+# What a run writes is read after pauses of so many milliseconds, unless it ends sooner or writes
+# much: it writes each line by itself, and to be woken by each would cost more than the search.
+PAUSE = 20
 _PIECE = 1 << 16
 
 LOOKED_FOR = (
@@ -143,8 +143,11 @@ class Runs:
                 self._running.discard(leashed)
             leashed.let_go()
 
-    def _written(self, leashed: Leashed, text: bytes) -> Generator[bytes, None, None]:
-        """What a run writes, piece by piece as it comes. It is stopped where it isn't read on."""
+    def _written(
+        self, leashed: Leashed, text: bytes, pause: Callable[[], int]
+    ) -> Generator[bytes, None, None]:
+        """What a run writes, piece by piece, after such pauses in milliseconds. It is stopped where
+        it isn't read on."""
         run, is_read = leashed.run, False
         assert run.stdin is not None and run.stdout is not None
         output = run.stdout.fileno()
@@ -163,7 +166,7 @@ class Runs:
                     break
                 yield piece
                 if len(piece) < _PIECE // 2:
-                    end.poll(_PAUSE)
+                    end.poll(pause())
             is_read = True
         finally:
             if not is_read:

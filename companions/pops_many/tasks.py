@@ -1,8 +1,7 @@
 """What is to be run, and what came of it."""
 
 import re
-from dataclasses import dataclass
-from typing import List, Optional, Sequence
+from typing import List, NamedTuple, Optional, Sequence
 
 from pops_many.cutting import LONGEST_INPUT, Piece, cut
 from pops_texts.command import Status
@@ -17,8 +16,7 @@ _HEAD = b"problem 1\n"
 _FAULT = re.compile(rb"problem 1\nline \d+: fault ")
 
 
-@dataclass(frozen=True)
-class Source:
+class Source(NamedTuple):
     """An input: a file by its name, or standard input. Without text it is left to pops itself."""
 
     name: Optional[str]
@@ -29,8 +27,7 @@ class Source:
         return self.name or "standard input"
 
 
-@dataclass(frozen=True)
-class Task:
+class Task(NamedTuple):
     """One run of pops: a problem of a source, or all of a source that is left to pops."""
 
     place: int
@@ -81,8 +78,7 @@ class Task:
         return b"problem %d\n" % self.piece.number + report[len(_HEAD) :]
 
 
-@dataclass(frozen=True)
-class Result:
+class Result(NamedTuple):
     """A task's report, with its number, and the exit status of its run.
 
     Of an unfinished one the report is the lines that were written in so many seconds.

@@ -6,7 +6,7 @@ import re
 import tempfile
 import unittest
 from pathlib import Path
-from typing import Generator, Iterator, List, Mapping, Optional, Sequence, Tuple
+from typing import Callable, Generator, Iterator, List, Mapping, Optional, Sequence, Tuple
 from unittest import mock
 
 import made_inputs
@@ -28,7 +28,7 @@ from pops_many.parts import (
     solutions_in,
     up_to_totals,
 )
-from pops_many.program import Program
+from pops_many.program import PAUSE, Program
 from pops_many.progress import Progress
 from pops_many.tasks import UNFINISHED, Source, Task, tasks_of
 
@@ -57,7 +57,9 @@ class Told(PartProgram):
     def _answer(self, words: Sequence[str], text: bytes) -> Tuple[int, bytes, bytes]:
         return 0, parts_told.answer(words, text), b""
 
-    def _pieces(self, words: Sequence[str], first: Part) -> Generator[bytes, None, None]:
+    def _pieces(
+        self, words: Sequence[str], first: Part, pause: Callable[[], int]
+    ) -> Generator[bytes, None, None]:
         text = parts_told.answer(words, first.text)
         yield from (text[begin : begin + 100] for begin in range(0, len(text), 100))
 
@@ -329,10 +331,15 @@ class Handed(unittest.TestCase):
         program = PartProgram(NAMED, 1)
         closed = []
 
-        def pieces(words: Sequence[str], first: Part) -> Generator[bytes, None, None]:
+        pauses = []
+
+        def pieces(
+            words: Sequence[str], first: Part, pause: Callable[[], int]
+        ) -> Generator[bytes, None, None]:
             try:
                 for _ in range(6):
                     yield b"solutions: 0\n"
+                    pauses.append(pause())
             finally:
                 closed.append(words[-3])
 
@@ -344,10 +351,12 @@ class Handed(unittest.TestCase):
                     self.assertEqual(numbers_of(lot.half()), "5..6")
         self.assertEqual(found, [(number, b"solutions: 0\n") for number in range(1, 5)])
         self.assertEqual(closed, ["1..6"])
+        # It is read soon once few parts are left to it and others were taken.
+        self.assertEqual([pause < PAUSE for pause in pauses], [False, True, True])
 
     def test_cut_soon_where_processors_have_nothing_to_do(self) -> None:
         for words, problems, moment in (
-            ([], 3, 0.05),
+            ([], 3, 0.02),
             ([], 4, 2),
             (["--split-after", "7"], 3, 7),
             (["--split-after", "0.1"], 5, 0.1),

@@ -1,13 +1,13 @@
--- Parts one after another.
-use Rattle.std.proofs.Common.{List, None, Option, Some, [], ap, arith, drop, if◌then◌else◌, length, refl, take, ℕ, ◌+◌, ◌-◌, ◌<◌, ◌∙◌, ◌∷◌, ◌≡◌, ◌≤◌}
+-- Parts one behind another.
+use Rattle.std.proofs.Common.{List, Option, Some, [], ap, arith, drop, length, refl, take, ℕ, ◌+◌, ◌-◌, ◌<◌, ◌∙◌, ◌∷◌, ◌≡◌, ◌≤◌}
+use Rattle.std.proofs.lemmas.List.{length-drop}
 use Rattle.std.specs.List.{flat_map}
-use Rattle.std.specs.Prelude.{◌==◌, slice_get, suc, zero}
+use Rattle.std.specs.Prelude.{slice_get, suc, zero}
 use Rattle.chess_rules.specs.RuleSet.{RuleSet}
 use Rattle.chess_core.specs.declared.man.Move.{Move}
 use Rattle.pop_text.specs.Bytes.{Appends, Begins}
 use Rattle.pop_input.specs.Posed.{Posed}
 use Rattle.pop_run.proofs.Findings.{IsPrinting, printing_breaks_off, printing_goes_on}
-use Rattle.pop_parts.specs.PhaseParts.{part_numbered, parts}
 use Rattle.pop_events.specs.declared.event.Phase.{Phase}
 use Rattle.pop_parts.specs.Parts.{part_text}
 use Rattle.pop_parts.specs.ties.Items.{text_if}
@@ -30,34 +30,33 @@ first_of_some xs n k h =
     let first = first_behind xs n h in
     (first.0, first.1, ap (take (k + 1)) first.2 ∙ take_first first.0 (drop (n + 1) xs) k)
 
--- where so many of the parts up to the last are left, the first of them and its number
-next_part : {A : Type 0} (xs : List A) (last left : ℕ) → 0 < left → left ≤ last → last ≤ length xs
-    → (x : A) × ((if (last - (left - 1)) == 0 then None else slice_get xs ((last - (left - 1)) - 1)) ≡ Some x)
-    × (take left (drop (last - left) xs) ≡ x ∷ take (left - 1) (drop (last - (left - 1)) xs))
-next_part xs last left some within there =
-    let first = first_of_some xs (last - left) (left - 1) (omega (arith, some, within, there)) in
+-- of some parts, from the one with a number on, the first and those behind it
+next_part : {A : Type 0} (xs : List A) (number left : ℕ) → 1 ≤ number → 0 < left → number + left ≤ length xs + 1
+    → (x : A) × (slice_get xs (number - 1) ≡ Some x) × (take left (drop (number - 1) xs) ≡ x ∷ take (left - 1) (drop number xs))
+next_part xs number left counted some there =
+    let first = first_of_some xs (number - 1) (left - 1) (omega (arith, counted, some, there)) in
     let whole : left ≡ left - 1 + 1 = omega (arith, some) in
-    let next : last - left + 1 ≡ last - (left - 1) = omega (arith, some, within) in
-    let before : (last - (left - 1)) - 1 ≡ last - left = omega (arith, some, within) in
-    let later : 0 < last - (left - 1) = omega (arith, some, within) in (
-      first.0,
-      grind (arith, first.1, before, later),
-      ap (λ n. take n (drop (last - left) xs)) whole ∙ first.2 ∙ ap (λ n. first.0 ∷ take (left - 1) (drop n xs)) next,
-    )
+    let next : number - 1 + 1 ≡ number = omega (arith, counted) in
+    (first.0, first.1, ap (λ n. take n (drop (number - 1) xs)) whole ∙ first.2 ∙ ap (λ n. first.0 ∷ take (left - 1) (drop n xs)) next)
 
-module _ (rule : RuleSet) (posed : Posed) (phase : Phase) (depth : ℕ) (all : List (List Move)) (last left : ℕ) (before mid now : Option (List ℕ))
-    (p : IsPrinting (part_text rule posed phase) all (take left (drop (last - left) (parts rule posed phase depth))) before mid)
-    (some : 0 < left) (within : left ≤ last) (there : last ≤ length (parts rule posed phase depth)) where
+module _ (rule : RuleSet) (posed : Posed) (phase : Phase) (all xs : List (List Move)) (number left : ℕ) (before mid now : Option (List ℕ))
+    (p : IsPrinting (part_text rule posed phase) all (take left (drop (number - 1) xs)) before mid) (counted : 1 ≤ number) (some : 0 < left)
+    (there : number + left ≤ length xs + 1) where
   -- the next part's text is printed
-  pub parts_go_on : Appends mid now (text_if rule posed phase (part_numbered rule posed phase depth (last - (left - 1))))
-      → IsPrinting (part_text rule posed phase) all (take (left - 1) (drop (last - (left - 1)) (parts rule posed phase depth))) before now
-  parts_go_on written =
-      let next = next_part (parts rule posed phase depth) last left some within there in
-      printing_goes_on (part_text rule posed phase) all _ next.0 before mid now (rw next.2 at p) (rw next.1 at written)
+  pub parts_go_on : (behind : List (List Move)) → behind ≡ drop number xs → Appends mid now (text_if rule posed phase (slice_get xs (number - 1)))
+      → IsPrinting (part_text rule posed phase) all (take (left - 1) behind) before now
+  parts_go_on behind passed written =
+      let next = next_part xs number left counted some there in
+      rw passed (printing_goes_on (part_text rule posed phase) all _ next.0 before mid now (rw next.2 at p) (rw next.1 at written))
 
   -- where the sink fails within it, a beginning of all was printed
-  pub parts_break_off : Begins mid now (text_if rule posed phase (part_numbered rule posed phase depth (last - (left - 1))))
+  pub parts_break_off : Begins mid now (text_if rule posed phase (slice_get xs (number - 1)))
       → Begins before now (flat_map (part_text rule posed phase) all)
   parts_break_off begun =
-      let next = next_part (parts rule posed phase depth) last left some within there in
+      let next = next_part xs number left counted some there in
       printing_breaks_off (part_text rule posed phase) all _ next.0 before mid now (rw next.2 at p) (rw next.1 at begun)
+
+-- fewer parts are behind those that were passed
+pub parts_behind : (xs behind : List (List Move)) (number left : ℕ) → behind ≡ drop number xs → 0 < left → number + left ≤ length xs + 1
+    → 1 + (left - 1) ≤ length behind + 1
+parts_behind xs behind number left passed some there = omega (arith, ap length passed, length-drop number xs, some, there)

@@ -1,5 +1,6 @@
 -- The walk over beginnings: what a step leaves of those still to come.
-use Rattle.pop_solve.proofs.Words.{AreKnown, CameFrom, CameFromAt, Frame, IfSome, IsLinked, IsPlaceIn, IsRoomy, IsWalking, IsWellFormed, LegalPlace, List, Move, None, Option, Position, RuleSet, Some, Undo, [], after_well_formed, ap, append-nil, append_assoc, arith, false, is_legal, is_pseudo_legal-from_legal, is_some, length, length-append, length-reverse, map, map-append, min, moves_behind, path, position, refl, reverse, rules, slice_get, subst, suc, sym, true, turns, undo_of, zero, ℕ, ◌++◌, ◌+◌, ◌-◌, ◌<◌, ◌^◌, ◌∙◌, ◌∷◌, ◌≡◌, ◌≢◌, ◌≤◌}
+use Rattle.pop_solve.proofs.Words.{AreKnown, CameFrom, CameFromAt, Frame, IfSome, IsLinked, IsPlaceIn, IsRoomy, IsWalking, IsWellFormed, LegalPlace, List, Move, None, Option, Position, RuleSet, Some, Undo, [], after_well_formed, ap, append-nil, append_assoc, arith, drop, false, is_legal, is_pseudo_legal-from_legal, is_some, length, length-append, length-reverse, map, map-append, min, moves_behind, path, position, refl, reverse, rules, slice_get, subst, suc, sym, true, turns, undo_of, zero, ℕ, ◌++◌, ◌+◌, ◌-◌, ◌<◌, ◌^◌, ◌∙◌, ◌∷◌, ◌≡◌, ◌≢◌, ◌≤◌}
+use Rattle.std.proofs.Math.Seq.{drop-nil}
 use Rattle.chess_rules.specs.Play.{position_after}
 use Rattle.pop_input.specs.declared.stipulation.Goal.{Goal}
 use Rattle.pop_solve.proofs.Boards.{behind_start}
@@ -223,6 +224,7 @@ pub record SeeksNumbered (rule : RuleSet) (h d : ℕ) (p : Position) (old new : 
   pub seeking : IsSeeking rule h d p new board
   pub some : 1 ≤ left
   pub same : (goal : Goal) → slice_get (beginnings_to_come goal rule d p old) (number - 1) ≡ slice_get (beginnings_to_come goal rule d p new) (left - 1)
+  pub behind : (goal : Goal) → drop number (beginnings_to_come goal rule d p old) ≡ drop left (beginnings_to_come goal rule d p new)
 
 -- the same on the way to the last one, where `count` were found
 pub record CountsOn (rule : RuleSet) (h d : ℕ) (p : Position) (old new : List Frame) (board : Position) (count : ℕ) : Type 0 where
@@ -235,7 +237,7 @@ module _ (rule : RuleSet) (h d : ℕ) (p : Position) where
   -- the count down begins with the number asked for
   pub numbered-start : (old : List Frame) (board : Position) (number : ℕ) → IsSeeking rule h d p old board → 1 ≤ number
       → SeeksNumbered rule h d p old old board number number
-  numbered-start old board number s some = record { seeking = s; some = some; same = λ goal. refl }
+  numbered-start old board number s some = record { seeking = s; some = some; same = λ goal. refl; behind = λ goal. refl }
 
   module _ (old mid new : List Frame) (board after : Position) where
     -- a step that finds none leaves it
@@ -245,6 +247,7 @@ module _ (rule : RuleSet) (h d : ℕ) (p : Position) where
       seeking = x.seeking;
       some = s.some;
       same = λ goal. s.same goal ∙ ap (λ xs. slice_get xs (left - 1)) (x.come goal);
+      behind = λ goal. s.behind goal ∙ ap (drop left) (x.come goal);
     }
     numbered-on number left (Some m) none s x = absurd cc
 
@@ -256,10 +259,12 @@ module _ (rule : RuleSet) (h d : ℕ) (p : Position) where
     numbered-next number left (suc k) (Some m) some e other s x =
         let l : left - 1 ≡ suc k = omega (arith, e) in
         let k1 : suc k - 1 ≡ k = omega arith in
+        let whole : left ≡ suc (suc k) = omega (arith, e) in
         record {
           seeking = x.seeking;
           some = omega arith;
           same = λ goal. s.same goal ∙ rw (l, x.come goal, k1) refl;
+          behind = λ goal. s.behind goal ∙ rw (whole, x.come goal) refl;
         }
 
     -- one that finds it ends the search
@@ -270,6 +275,8 @@ module _ (rule : RuleSet) (h d : ℕ) (p : Position) where
         let l : left - 1 ≡ 0 = omega (arith, one) in
         record {
           here = λ goal. s.same goal ∙ rw (l, x.come goal) refl;
+          behind = λ goal. sym (s.behind goal ∙ rw (one, x.come goal) refl);
+          seeking = x.seeking;
           stands = (x.seeking, x.legal, x.full);
         }
 
@@ -297,7 +304,12 @@ module _ (rule : RuleSet) (h d : ℕ) (p : Position) where
   pub numbered-none : (old mid : List Frame) (board : Position) (number left : ℕ) → mid ≡ [] → SeeksNumbered rule h d p old mid board number left
       → FindsNumbered rule h d p old mid board number None
   unfolding beginnings_to_come
-  numbered-none old mid board number left e s = record { here = λ goal. s.same goal ∙ rw e refl; stands = tt }
+  numbered-none old mid board number left e s = record {
+    here = λ goal. s.same goal ∙ rw e refl;
+    behind = λ goal. rw e (sym (s.behind goal ∙ rw e (drop-nil left)));
+    seeking = s.seeking;
+    stands = tt;
+  }
 
   -- then all were counted
   pub counts-all : (old mid : List Frame) (board : Position) (count : ℕ) → mid ≡ [] → CountsOn rule h d p old mid board count

@@ -28,7 +28,7 @@ use pop_solve::phases::{phase_half_moves, set_up};
 use pop_solve::walk::step_back;
 
 /// How many moves tell the parts of a phase apart.
-fn part_depth(problem: &Problem, phase: Phase, depth: usize) -> usize
+pub(crate) fn part_depth(problem: &Problem, phase: Phase, depth: usize) -> usize
     ensures { result ≡ depth_of_parts problem.now phase depth }
 {
     if problem.stipulation().form.is_help() {
@@ -94,7 +94,7 @@ fn seek<R: Rules, const N: usize>(
 
 /// Puts a phase's first position on the board and its frame on the others, from which no move has been taken; or finds
 /// that the phase has no part.
-fn set_out<R: Rules, const N: usize>(
+pub(crate) fn set_out<R: Rules, const N: usize>(
     problem: &Problem,
     phase: Phase,
     board: &mut Board,
@@ -126,8 +126,9 @@ fn set_out<R: Rules, const N: usize>(
     true
 }
 
-/// Goes to the beginning with a number, counted from 1, and answers its last move, which isn't played yet.
-fn seek_numbered<R: Rules, const N: usize>(
+/// Goes to the beginning with a number, counted from 1 among those still to come, and answers its last move, which isn't
+/// played yet.
+pub(crate) fn seek_numbered<R: Rules, const N: usize>(
     problem: &Problem,
     phase: Phase,
     depth: usize,

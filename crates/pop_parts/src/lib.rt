@@ -6,5 +6,6 @@ pub mod beginnings;
 mod items;
 pub mod list;
 pub mod part_search;
+mod parts_left;
 mod searching;
 pub mod show;

@@ -228,11 +228,16 @@ impl<R: Rules, const N: usize> Model for PartSearch<R, N> {
 }
 
 impl<R: Rules, const N: usize> PartSearch<R, N> {
-    ghost use Rattle.std.specs.Prelude.{[], false, true, ◌≡◌, ◌-◌, ◌<◌, ◌≤◌, ◌^◌, min, MatchOption, None, Some, slice_get, drop};
+    ghost use Rattle.std.specs.Prelude.{[], ◌∷◌, ◌++◌, ℕ, false, true, ◌≡◌, ◌-◌, ◌<◌, ◌≤◌, ◌^◌, min, reverse, MatchOption, None, Some, slice_get, drop};
+    ghost use Rattle.arrayvec.specs.ArrayVec.{array_vec_len};
+    ghost use Rattle.chess_rules.specs.Legal.{is_legal};
+    ghost use Rattle.pop_input.specs.Posed.{IsSound};
     ghost use Rattle.std.specs.Option.{option_map};
     ghost use Rattle.pop_input.specs.Posed.{rule_of};
     ghost use Rattle.pop_input.specs.Stipulations.{half_moves, is_help};
-    ghost use Rattle.pop_solve.specs.Events.{event_of, play_start};
+    ghost use Rattle.pop_solve.specs.Events.{event_of, phase_half_moves as half_moves_of_phase, phase_start, play_start};
+    ghost use Rattle.pop_parts.specs.ties.Beginnings.{IsSeeking};
+    ghost use Rattle.pop_solve.specs.ties.Walk.{path};
     ghost use Rattle.pop_parts.specs.PhaseParts.{part_events, part_numbered};
     ghost use Rattle.pop_parts.specs.ties.PartsSeen.{is_part_stopped, part_walk};
     ghost use Rattle.pop_solve.specs.ties.Seen.{StandsOn};
@@ -261,10 +266,36 @@ impl<R: Rules, const N: usize> PartSearch<R, N> {
         let mut board = Board::of(&problem.diagram());
         let mut frames = ArrayVec::new();
         let by = go_to_part::<R, N>(problem, phase, depth, number, &mut board, &mut frames)?;
+        Some(PartSearch::at(problem, phase, by, board, frames, killers))
+    }
+
+    /// A search of the part of which `by` is the last of its first moves and the path to the top frame has those before it.
+    pub(crate) fn at(
+        problem: &Problem,
+        phase: Phase,
+        by: Move,
+        mut board: Board,
+        mut frames: ArrayVec<Frame<R>, N>,
+        killers: Killers<R>,
+    ) -> Self
+        requires sound { IsSound problem.now }
+        requires room { half_moves problem.now.stipulation < N }
+        requires few { N ≤ 33 }
+        requires open { 0 < array_vec_len frames }
+        requires seeking { (d : ℕ) × (IsSeeking R.rule (half_moves_of_phase problem.now phase) d
+            (phase_start problem.now phase) (reverse frames.items) board)
+            × (array_vec_len frames ≡ d) }
+        requires legal { is_legal R.rule board by ≡ true }
+        requires battle { is_help problem.now.stipulation.form ≡ false → array_vec_len frames ≡ 1 }
+        ensures front { result.front ≡ path (reverse frames.items) ++ by ∷ [] }
+        ensures problem { result.problem ≡ problem.now }
+        ensures phase { result.phase ≡ phase }
+        ensures left { result.left ≡ part_events R.rule problem.now phase result.front }
+    {
         let front = front_of::<R, N>(&frames, by);
         let mut history = History::with(killers);
         let stage = begin::<R, N>(problem, phase, by, &mut board, &mut frames, &mut history);
-        Some(PartSearch {
+        PartSearch {
             problem: *problem,
             phase,
             front,
@@ -272,7 +303,7 @@ impl<R: Rules, const N: usize> PartSearch<R, N> {
             board,
             frames,
             history,
-        })
+        }
     }
 
     /// The next event; `None` behind the last, and then for good. After a line or node the board stands where its path

@@ -1,5 +1,5 @@
 //! The solutions of the parts that are asked for.
-ghost use Rattle.std.specs.Prelude.{◌≡◌, ◌<◌, ◌≤◌, ◌==◌, IfOk, IfSome, false, if◌then◌else◌, is_some, map, true};
+ghost use Rattle.std.specs.Prelude.{◌≡◌, ◌<◌, ◌≤◌, ◌==◌, IfOk, IfSome, false, if◌then◌else◌, is_some, map, true, take, drop, length, slice_get, ◌+◌, ◌-◌};
 ghost use Rattle.std.specs.List.{flat_map};
 ghost use Rattle.pop_text.specs.Bytes.{Writes, count_after, greatest_count};
 ghost use Rattle.pop_input.specs.FaultKinds.{number_of};
@@ -8,7 +8,6 @@ ghost use Rattle.pop_parts.specs.declared.asked.Outcome.TheVariants.{FaultyItem,
 ghost use Rattle.pop_input.specs.Posed.{rule_of};
 ghost use Rattle.pop_solve.specs.Events.{event_of};
 ghost use Rattle.pop_print.specs.Events.{event_text};
-ghost use Rattle.pop_parts.specs.PhaseParts.{part_numbered};
 ghost use Rattle.pop_run.specs.Run.{FailsOnce, grew, input_met, taken_of};
 ghost use Rattle.pop_parts.specs.Parts.{has_parts as has_the_parts, has_phase as has_the_phase, outcome_at, outcome_in, part_text, parts_asked, text_at, text_in};
 ghost use Rattle.pop_parts.specs.Runs.{ReadsItems, Shows};
@@ -17,7 +16,8 @@ ghost use Rattle.pop_parts.specs.ties.Items.{entry_in, text_if};
 use crate::asked::{Asked, Outcome};
 use crate::items::{is_device_failure, is_end, tells_failure};
 use crate::part_search::PartSearch;
-use crate::searching::{part_of, parts_in};
+use crate::parts_left::PartsLeft;
+use crate::searching::parts_in;
 use chess_rules::{Circe, Madrasi, Orthodox, Rules};
 use pop_events::event::Phase;
 use pop_input::condition::Condition;
@@ -187,51 +187,65 @@ fn print_parts<R: Rules, W: Sink>(
         (parts_asked R.rule asked.now problem.now)) result }
     ensures counted { W.failures sink.new ≡ count_after result (W.failures sink.old) }
 {
-    print_parts_with::<R, W>(sink, asked, problem, Killers::none())
+    // For the proof: a stipulation that was read has at most 32 half-moves.
+    let _aim = problem.stipulation();
+    match PartsLeft::<R, 33>::of(problem, asked.phase, asked.depth) {
+        None => Ok(()),
+        Some(mut parts) => print_behind::<R, W>(
+            sink,
+            asked.first,
+            asked.last - asked.first + 1,
+            &mut parts,
+        ),
+    }
 }
 
-// The same, where the first part's tests begin with these killers; each part goes on with those of the one before.
-fn print_parts_with<R: Rules, W: Sink>(
+// Prints so many of the parts still to come, from the one with a number on; each goes on with the killers of the one
+// before.
+fn print_behind<R: Rules, W: Sink>(
     sink: &mut W,
-    asked: &Asked,
-    problem: &Problem,
-    mut killers: Killers<R>,
+    first: u64,
+    count: u64,
+    parts: &mut PartsLeft<R, 33>,
 ) -> Result<(), SinkFault>
-    requires depth { 1 ≤ asked.now.depth }
     requires sink { W.failures sink.old < greatest_count }
-    requires rules { R.rule ≡ rule_of problem.now.condition }
-    requires parts { has_the_parts R.rule asked.now problem.now ≡ true }
+    requires first { 1 ≤ first }
+    requires there { first + count ≤ length parts.old.left + 1 }
     ensures bytes { Writes (W.taken sink.old) (W.taken sink.new)
-        (flat_map (part_text R.rule problem.now asked.now.phase)
-        (parts_asked R.rule asked.now problem.now)) result }
+        (flat_map (part_text R.rule parts.old.problem parts.old.phase)
+        (take count (drop (first - 1) parts.old.left))) result }
     ensures counted { W.failures sink.new ≡ count_after result (W.failures sink.old) }
 {
-    let mut left = asked.last - asked.first + 1;
+    let mut killers = Killers::none();
+    let mut number = first;
+    let mut left = count;
     'parts: while left > 0 {
         left -= 1;
-        killers = print_part::<R, W>(sink, asked, problem, asked.last - left, killers)?;
+        killers = print_part::<R, W>(sink, number, parts, killers)?;
+        number = 1;
     }
     Ok(())
 }
 
-// Prints the part with a number, and answers the killers of its tests, which begin with these.
+// Prints the part with a number among those still to come, and answers the killers of its tests, which begin with these.
 #[tactic(auto, unfolding(crate::specs::Parts::part_text))]
 fn print_part<R: Rules, W: Sink>(
     sink: &mut W,
-    asked: &Asked,
-    problem: &Problem,
     number: u64,
+    parts: &mut PartsLeft<R, 33>,
     killers: Killers<R>,
 ) -> Result<Killers<R>, SinkFault>
-    requires depth { 1 ≤ asked.now.depth }
     requires sink { W.failures sink.old < greatest_count }
-    requires rules { R.rule ≡ rule_of problem.now.condition }
+    requires number { 1 ≤ number }
     ensures bytes { Writes (W.taken sink.old) (W.taken sink.new)
-        (text_if R.rule problem.now asked.now.phase
-        (part_numbered R.rule problem.now asked.now.phase asked.now.depth number)) result }
+        (text_if R.rule parts.old.problem parts.old.phase
+        (slice_get parts.old.left (number - 1))) result }
     ensures counted { W.failures sink.new ≡ count_after result (W.failures sink.old) }
+    ensures left { parts.new.left ≡ drop number parts.old.left }
+    ensures problem { parts.new.problem ≡ parts.old.problem }
+    ensures phase { parts.new.phase ≡ parts.old.phase }
 {
-    match part_of::<R>(problem, asked.phase, asked.depth, number, killers) {
+    match parts.search(number, killers) {
         None => Ok(Killers::none()),
         Some(mut search) => {
             print_events::<R, W>(sink, &mut search)?;

@@ -1,5 +1,5 @@
 -- What the frames of a walk over the beginnings of parts stand for: no half-move is left at any of them.
-use Rattle.std.specs.Prelude.{◌≡◌, ℕ, ◌-◌, ◌≤◌, ◌<◌, ◌==◌, Bool, true, List, [], ◌∷◌, ◌++◌, map, length, Option, Some, None, IfSome, slice_get}
+use Rattle.std.specs.Prelude.{◌≡◌, ℕ, ◌-◌, ◌≤◌, ◌<◌, ◌==◌, Bool, true, false, List, [], ◌∷◌, ◌++◌, drop, map, length, Option, Some, None, IfSome, slice_get}
 use Rattle.std.specs.Option.{option_map}
 use Rattle.std.specs.List.{flat_map, list_all}
 use Rattle.chess_core.specs.Position.{Position}
@@ -9,7 +9,11 @@ use Rattle.chess_rules.specs.Play.{position_after}
 use Rattle.chess_rules.specs.RuleSet.{RuleSet}
 use Rattle.chess_rules.specs.ties.Places.{moves_behind}
 use Rattle.pop_input.specs.declared.stipulation.Goal.{Goal}
+use Rattle.pop_input.specs.Posed.{Posed}
+use Rattle.pop_input.specs.Stipulations.{is_help}
+use Rattle.pop_events.specs.declared.event.Phase.{Phase}
 use Rattle.pop_solve.specs.Chess.{chess}
+use Rattle.pop_solve.specs.Events.{phase_half_moves, phase_start}
 use Rattle.pop_parts.specs.PhaseParts.{beginnings}
 use Rattle.pop_solve.specs.ties.Frames.{Frame, position}
 use Rattle.pop_solve.specs.ties.Walk.{IsWalking, path, turns}
@@ -56,10 +60,22 @@ pub record Seeks (rule : RuleSet) (h d : ℕ) (p : Position) (old new : List Fra
   pub full : IfSome found (λ m. length new ≡ d)
   pub falls : turns rule h p new < turns rule h p old
 
--- of the beginnings to come the one with a number, counted from 1, was found, or there are fewer
+-- of the beginnings to come the one with a number, counted from 1, was found, or there are fewer; those behind it are
+-- still to come
 pub record FindsNumbered (rule : RuleSet) (h d : ℕ) (p : Position) (old new : List Frame)
     (board : Position) (number : ℕ) (found : Option Move) : Type 0 where
   pub here : (goal : Goal) → slice_get (beginnings_to_come goal rule d p old) (number - 1)
       ≡ option_map (λ m. path new ++ m ∷ []) found
+  pub behind : (goal : Goal) → beginnings_to_come goal rule d p new
+      ≡ drop number (beginnings_to_come goal rule d p old)
+  pub seeking : IsSeeking rule h d p new board
   pub stands : IfSome found (λ m. IsSeeking rule h d p new board × (is_legal rule board m ≡ true)
       × (length new ≡ d))
+
+-- the board stands on the top frame of the walk that goes from part to part of a phase
+pub record IsBetweenParts (rule : RuleSet) (problem : Posed) (phase : Phase) (d : ℕ)
+    (frames : List Frame) (board : Position) : Type 0 where
+  pub seeking : IsSeeking rule (phase_half_moves problem phase) d (phase_start problem phase)
+      frames board
+  pub some : 1 ≤ d
+  pub battle : is_help problem.stipulation.form ≡ false → d ≡ 1

@@ -1,4 +1,4 @@
--- What a contract sees of a search of one part, and how many positions a part's walk opens.
+-- What a contract sees of a search of one part and of the parts still to come, and how many positions a part's walk opens.
 use Rattle.std.specs.Prelude.{ℕ, ◌-◌, ◌==◌, Bool, true, ◌&&◌, List, [], ◌∷◌, length}
 use Rattle.chess_core.specs.Position.{Position}
 use Rattle.chess_core.specs.declared.man.Move.{Move}
@@ -24,6 +24,12 @@ pub record PartSeen (R : Type 0) : Type 0 where
   pub depth : ℕ
   pub opened : ℕ
   pub killers : Killers R
+
+-- what a contract sees of the parts still to come: the problem, the phase, and the first moves of each
+pub record LeftSeen : Type 0 where
+  pub problem : Posed
+  pub phase : Phase
+  pub left : List (List Move)
 
 -- how many lists of fewer moves than are left behind a part's first moves there are there, each legal where it stands
 abbrev pub part_walk : RuleSet → Posed → Phase → List Move → ℕ

@@ -1,0 +1,19 @@
+use Rattle.std.proofs.Common.{drop, length, take, ◌+◌, ◌-◌, ◌≡◌, ◌≤◌}
+use Rattle.pop_run.proofs.Findings.{IsPrinting}
+use Rattle.pop_parts.specs.Parts.{part_text}
+use Rattle.pop_parts.proofs.show.print_behind.Given as goal
+
+-- the parts so far are printed, and the last ones are still to come
+abbrev pub invariant-parts : goal.invariant-parts
+invariant-parts g l = record {
+  problem : l.parts.problem ≡ l.fn.parts.problem;
+  phase : l.parts.phase ≡ l.fn.parts.phase;
+  printing : IsPrinting (part_text g.R.Rules.rule l.fn.parts.problem l.fn.parts.phase) (take l.count (drop (l.first - 1) l.fn.parts.left))
+      (take l.left (drop (l.number - 1) l.parts.left)) (g.W.Sink.taken l.fn.sink) (g.W.Sink.taken l.sink);
+  some : 1 ≤ l.number;
+  there : l.number + l.left ≤ length l.parts.left + 1;
+  counted : g.W.Sink.failures l.sink ≡ g.W.Sink.failures l.fn.sink;
+}
+
+abbrev pub decreases-parts : goal.decreases-parts
+decreases-parts g l = l.left

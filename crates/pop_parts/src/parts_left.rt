@@ -1,0 +1,115 @@
+//! The parts of a phase one behind another: the walk goes on to each from the one before it.
+ghost use Rattle.std.specs.Prelude.{◌≡◌, ◌≤◌};
+ghost use Rattle.arrayvec.specs.ArrayVec.{array_vec_len};
+
+use crate::beginnings::{part_depth, seek_numbered, set_out};
+use crate::part_search::PartSearch;
+use arrayvec::ArrayVec;
+use chess_core::board::Board;
+use chess_rules::rules::Rules;
+use pop_events::event::Phase;
+use pop_input::problem::Problem;
+use pop_solve::frame::Frame;
+use pop_solve::killers::Killers;
+use std::marker::Model;
+
+/// The parts of a phase that are still to come. Contracts see the record `LeftSeen`.
+#[derive(Drop)]
+pub struct PartsLeft<R: Rules, const N: usize> {
+    problem: Problem,
+    phase: Phase,
+    depth: usize,
+    board: Board,
+    frames: ArrayVec<Frame<R>, N>,
+}
+
+impl<R: Rules, const N: usize> Model for PartsLeft<R, N> {
+    ghost use Rattle.std.specs.Prelude.{◌≡◌, ◌<◌, reverse};
+    ghost use Rattle.pop_input.specs.Posed.{IsSound};
+    ghost use Rattle.pop_input.specs.Stipulations.{half_moves};
+    ghost use Rattle.pop_parts.specs.ties.PartsSeen.{LeftSeen};
+    ghost use Rattle.pop_parts.specs.ties.Beginnings.{beginnings_to_come, IsBetweenParts};
+    ghost use Rattle.pop_solve.specs.Events.{phase_start};
+
+    ghost Value = { LeftSeen };
+
+    ghost view = { λ s. record {
+      problem = s.problem;
+      phase = s.phase;
+      left = beginnings_to_come s.problem.stipulation.goal R.rule s.depth
+          (phase_start s.problem s.phase) (reverse s.frames.items);
+    } };
+
+    ghost invariant = { λ s. IsSound s.problem
+        × (half_moves s.problem.stipulation < N)
+        × IsBetweenParts R.rule s.problem s.phase s.depth (reverse s.frames.items) s.board };
+}
+
+impl<R: Rules, const N: usize> PartsLeft<R, N> {
+    ghost use Rattle.std.specs.Prelude.{[], ◌≡◌, ◌-◌, ◌<◌, ◌≤◌, MatchOption, None, Some, slice_get, drop};
+    ghost use Rattle.pop_input.specs.Stipulations.{half_moves};
+    ghost use Rattle.pop_parts.specs.PhaseParts.{part_events, parts};
+
+    /// All parts of a phase that `depth` moves tell apart; `None` where it has none.
+    pub(crate) fn of(problem: &Problem, phase: Phase, depth: usize) -> Option<Self>
+        requires room { half_moves problem.now.stipulation < N }
+        requires few { N ≤ 33 }
+        requires depth { 1 ≤ depth }
+        ensures all { MatchOption result (parts R.rule problem.now phase depth ≡ [])
+            (λ p. (p.problem ≡ problem.now) × (p.phase ≡ phase)
+            × (p.left ≡ parts R.rule problem.now phase depth)) }
+    {
+        let mut board = Board::of(&problem.diagram());
+        let mut frames = ArrayVec::new();
+        if !set_out::<R, N>(problem, phase, &mut board, &mut frames) {
+            return None;
+        }
+        Some(PartsLeft {
+            problem: *problem,
+            phase,
+            depth: part_depth(problem, phase, depth),
+            board,
+            frames,
+        })
+    }
+
+    /// A search of the part with a number, counted from 1 among those still to come; those up to it are passed. `None`
+    /// where they are fewer. The killers cost time alone.
+    pub(crate) fn search(&mut self, number: u64, killers: Killers<R>) -> Option<PartSearch<R, N>>
+        requires few { N ≤ 33 }
+        requires number { 1 ≤ number }
+        ensures part { MatchOption result (slice_get self.old.left (number - 1) ≡ None)
+            (λ s. (slice_get self.old.left (number - 1) ≡ Some s.front)
+            × (s.problem ≡ self.old.problem) × (s.phase ≡ self.old.phase)
+            × (s.left ≡ part_events R.rule self.old.problem self.old.phase s.front)) }
+        ensures left { self.new.left ≡ drop number self.old.left }
+        ensures problem { self.new.problem ≡ self.old.problem }
+        ensures phase { self.new.phase ≡ self.old.phase }
+    {
+        let by = seek_numbered::<R, N>(
+            &self.problem,
+            self.phase,
+            self.depth,
+            number,
+            &mut self.board,
+            &mut self.frames,
+        )?;
+        let frames = copied::<R, N>(&self.frames);
+        Some(PartSearch::at(&self.problem, self.phase, by, self.board, frames, killers))
+    }
+}
+
+/// The same frames once more.
+fn copied<R: Rules, const N: usize>(frames: &ArrayVec<Frame<R>, N>) -> ArrayVec<Frame<R>, N>
+    requires few { N ≤ 33 }
+    ensures { result.items ≡ frames.now.items }
+{
+    let mut copy = ArrayVec::new();
+    let mut k = 0;
+    while k < frames.len() {
+        let frame = &frames[k];
+        copy.push(*frame);
+        k += 1;
+    }
+    copy
+}
