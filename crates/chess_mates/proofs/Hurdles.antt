@@ -1,5 +1,6 @@
 -- What men reach over hurdles, the squares of a word, and later on the board.
 use Rattle.chess_rules.proofs.Basics.{Bool, List, None, Option, Some, [], ◌∷◌, and_from, and_parts, ap, arith, bit_at, bit_at-lt, bit_or, cases_lt, eq-eqb, false, false≢true, if◌then◌else◌, get_or-map-range_with_len, inl, inr, is_some, length, length-map-range_with_len, list_any, list_any-append, not, not-true, or_cases, or_left, or_right, refl, subst, suc, sym, true, zero, ℕ, ◌&&◌, ◌+◌, ◌-◌, ◌<◌, ◌≤◌, ◌==◌, ◌^◌, ◌||◌, ◌∙◌, ◌≡◌, ◌⊎◌}
+use Rattle.chess_rules.proofs.Basics.{cases_eq, ◌≢◌}
 use Rattle.chess_mates.proofs.Chess.{Bishop, Colour, Grasshopper, Kind, King, Knight, Man, Nightrider, Pawn, Queen, Rook, Step, White, all_at, along, any_range_cases, any_range_false, diagonal_steps, is_clear, is_fairy, is_square, is_vacant, leaps, man_on, occupied_squares, other, queen_steps}
 use Rattle.chess_mates.proofs.Chess.{reaches_as, rides, same_kind, squares, straight_steps, word}
 use Rattle.chess_core.proofs.Ranges.{all_range_true, any_range_true}
@@ -186,6 +187,20 @@ module _ (d : ℕ) (men : List (Option Man)) where
   later c Pawn s t plain stand h = h
   later c Grasshopper s t plain stand h = absurd (false≢true (sym plain))
   later c Nightrider s t plain stand h = absurd (false≢true (sym plain))
+
+  -- the same where two hurdles may be gone, on none of his lines
+  pub later_but : (a o : ℕ) (c : Colour) (k : Kind) (s t : ℕ) → is_fairy k ≡ false
+      → ((e : ℕ) → e < 64 → (bit_at d e == 1) ≡ true → e ≢ a → e ≢ o → is_some (man_on men e) ≡ true)
+      → (is_rider k ≡ true → (bit_at d a == 1) ≡ true → reaches_as (men_on d) c k s a ≡ true → ⊥)
+      → (is_rider k ≡ true → (bit_at d o == 1) ≡ true → reaches_as (men_on d) c k s o ≡ true → ⊥)
+      → reaches_as men c k s t ≡ true → reaches_as (men_on d) c k s t ≡ true
+  later_but a o c k s t plain stays one other h = later c k s t plain (λ rider e low on reach. elim (cases_eq e a) [
+    | inl same ↦ absurd (one rider (rw same at on) (rw same at reach))
+    | inr left ↦ elim (cases_eq e o) [
+      | inl same ↦ absurd (other rider (rw same at on) (rw same at reach))
+      | inr off ↦ stays e low on left off
+    ]
+  ]) h
 
 -- a queen reaches what a rider does
 pub queen_more : (d : ℕ) (c : Colour) (k : Kind) (s t : ℕ) → is_rider k ≡ true → reaches_as (men_on d) c k s t ≡ true

@@ -1,14 +1,13 @@
 -- No reply mates after a defender's move without risk.
 use Rattle.chess_rules.proofs.Basics.{Bool, List, None, Option, Some, [], and_from, and_left, and_parts, and_right, ap, arith, bit_at, cases_Bool, cases_eq, eqb-true, false, false_from_ne_true, false≢true, if◌then◌else◌, inl, inr, is_some, list_any, not, or_parts, refl, subst, sym, true, ℕ, ◌-◌, ◌<◌, ◌==◌, ◌∙◌, ◌≡◌, ◌≢◌, ◌⊎◌}
 use Rattle.chess_mates.proofs.Chess.{Colour, IsWellFormed, Kind, King, Man, Move, Pawn, Position, RuleSet, arriving_man, capture_square, corner, halfway, in_check, is_absent, is_arrival_free, is_attacked, is_attacked_at, is_castling, is_circe, is_fairy, is_legal, is_man, is_on_some, is_pseudo_legal, is_side, is_square, king_after, king_square, leaps, man_on, mates, mates_behind, may_check_from, may_go, other, position_after, queen_steps}
-use Rattle.chess_mates.proofs.Chess.{after_by, reaches_as, same_colour, same_colour-true, same_kind, side_of, some_square_true, straight_steps, strikes, triple_at, word}
+use Rattle.chess_mates.proofs.Chess.{after_by, reaches_as, same_colour, same_colour-true, same_kind, side_of, straight_steps, strikes, triple_at, word}
 use Rattle.chess_core.specs.Castling.{has_unmoved}
 use Rattle.chess_rules.specs.Play.{is_double_step}
 use Rattle.chess_mates.specs.declared.threats.Field.{Field}
 use Rattle.chess_mates.specs.declared.threats.Risk.{Risk}
 use Rattle.chess_mates.specs.declared.threats.Siege.{Siege}
-use Rattle.chess_mates.specs.ties.Flights.{has_flight, is_flight, is_open}
-use Rattle.chess_mates.specs.ties.Flights.{is_flight_from}
+use Rattle.chess_mates.specs.ties.Flights.{has_flight}
 use Rattle.chess_mates.specs.ties.Threats.{HasNoFairy, IsArrival, IsAttacker, IsCastlingHarmless, IsCheckWord, IsFlight, IsOff, IsPlainMove, IsQuiet, IsRiskAt, IsShut, IsSiege, IsSiegeOf, IsUnguarded, IsWeakAt, is_rider, men_on, squares_for}
 use Rattle.chess_mates.specs.ties.Threats.{reached_over}
 use Rattle.chess_rules.proofs.Bits.{word_has}
@@ -22,13 +21,13 @@ use Rattle.chess_rules.proofs.rays.Ends.{square_is}
 use Rattle.chess_rules.proofs.making_moves.Fits.{arrived, arrived_other, capture_of_piece, castle_of, taken}
 use Rattle.chess_rules.proofs.making_moves.Pseudo.{IsCastle, IsMade, made, on_board}
 use Rattle.chess_rules.proofs.making_moves.Stays.{after_well_formed, maker}
-use Rattle.chess_mates.proofs.Hurdles.{later, queen_more, reaches_back}
+use Rattle.chess_mates.proofs.Hurdles.{later, later_but, queen_more, reaches_back}
 use Rattle.chess_mates.proofs.KingsApart.{kings_apart}
-use Rattle.chess_mates.proofs.Fleeing.{IsKingOn, IsKingStep, king_on, no_king_free, no_mate_with_flight, step_is_legal, step_to}
+use Rattle.chess_mates.proofs.Fleeing.{IsKingOn, no_king_free, no_mate_with_flight, step_to}
 use Rattle.chess_mates.proofs.Mating.{mates_behind-end, mates_behind-none, no_mate_quietly, not_mating, turn_after}
 use Rattle.chess_rules.proofs.attacks.Shielding.{man_there}
 use Rattle.chess_mates.proofs.Chess.{halfway, same_kind-true}
-use Rattle.chess_mates.proofs.Standing.{stood, not_mine, free_man, unfree, unnamed, arrival_small, captured_there, stays_there, some_stays, some_side, moved_stays, no_hopper, not_mine_enemy, and_left_king, castle_unmoved, piece_reaches, king_reaches, nobody_strikes}
+use Rattle.chess_mates.proofs.Standing.{stood, not_mine, free_man, unfree, unnamed, arrival_small, captured_there, stays_there, some_stays, some_side, moved_stays, no_hopper, not_mine_enemy, and_left_king, castle_unmoved, piece_reaches, king_reaches, has_one, nobody_strikes}
 use Rattle.chess_mates.proofs.QuietCastling.{castles_quietly}
 use Rattle.chess_core.proofs.Kept.{same_colour-refl}
 
@@ -331,13 +330,9 @@ module _ (rule : RuleSet) (p : Position) (m : Move) (x : Man) (v : Siege) (k : �
           unfolding reached_over
           unguarded_off s t z inside a ne plain u = false_from_ne_true _ (λ h.
               false≢true (sym u.off ∙ (u.are.guards s z a (λ e. ne (sym e))).inside t inside
-              (later u.are.hurdles men z.colour z.kind s t plain (λ rider e low on reach.
-              let kept = u.are.kept e low on in
-              elim (cases_eq e m.from) [
-                | inl same ↦
-                    absurd (false≢true (sym (u.shut (rw same at kept.0)) ∙ (u.are.rides s z a (λ e. ne (sym e)) rider).inside m.from from (rw same at reach)))
-                | inr left ↦ stays e low kept.0 left (λ same. kept.1 (sym same))
-              ]) h)))
+              (later_but u.are.hurdles men m.from n.from z.colour z.kind s t plain (λ e low on left off. stays e low (u.are.kept e low on).0 left off)
+              (λ rider on reach. false≢true (sym (u.shut (u.are.kept m.from from on).0) ∙ (u.are.rides s z a (λ e. ne (sym e)) rider).inside m.from from reach))
+              (λ rider on reach. (u.are.kept n.from from_small on).1 refl) h)))
 
           -- nor the king, unless y stood on one of his lines
           hidden_off : (s : ℕ) (z : Man) → s < 64 → IsAttacker v.men z s → is_fairy z.kind ≡ false → (bit_at g.lines n.from == 1) ≡ false
@@ -346,28 +341,20 @@ module _ (rule : RuleSet) (p : Position) (m : Move) (x : Man) (v : Siege) (k : �
           hidden_off s z inside a plain hidden = false_from_ne_true _ (λ h.
               let weak = weak_at s z a in
               false≢true (sym weak.off ∙ (word_at z weak.checks weak.word).inside s inside
-              (later v.hurdles men (other z.colour) z.kind k s plain (λ rider e low on reach.
-              elim (cases_eq e m.from) [
-                | inl same ↦ absurd (false≢true (sym (shut_lines (rw same at on)) ∙ lined (other z.colour) z.kind m.from from rider (rw same at reach)))
-                | inr left ↦ elim (cases_eq e n.from) [
-                  | inl same ↦ absurd (false≢true (sym hidden ∙ lined (other z.colour) z.kind n.from from_small rider (rw same at reach)))
-                  | inr off ↦ stays e low on left off
-                ]
-              ]) (sym (reaches_back men z.colour z.kind s k inside at_k (no_hopper z.kind plain)) ∙ h))))
+              (later_but v.hurdles men m.from n.from (other z.colour) z.kind k s plain stays
+              (λ rider on reach. false≢true (sym (shut_lines on) ∙ lined (other z.colour) z.kind m.from from rider reach))
+              (λ rider on reach. false≢true (sym hidden ∙ lined (other z.colour) z.kind n.from from_small rider reach))
+              (sym (reaches_back men z.colour z.kind s k inside at_k (no_hopper z.kind plain)) ∙ h))))
 
           -- nor y, from a square from which he doesn't check
           quiet_off : (bit_at w.checks n.to == 1) ≡ false → reaches_as men y.colour y.kind n.to k ≡ false
           unfolding reached_over
           quiet_off quiet = false_from_ne_true _ (λ h.
               false≢true (sym quiet ∙ (word_at y w.checks w.word).inside n.to to
-              (later v.hurdles men (other y.colour) y.kind k n.to plain_y (λ rider e low on reach.
-              elim (cases_eq e m.from) [
-                | inl same ↦ absurd (false≢true (sym (shut_lines (rw same at on)) ∙ lined (other y.colour) y.kind m.from from rider (rw same at reach)))
-                | inr left ↦ elim (cases_eq e n.from) [
-                  | inl same ↦ absurd (false≢true (sym w.off ∙ (word_at y w.checks w.word).inside n.from from_small (rw same at reach)))
-                  | inr off ↦ stays e low on left off
-                ]
-              ]) (sym (reaches_back men y.colour y.kind n.to k to at_k (no_hopper y.kind plain_y)) ∙ h))))
+              (later_but v.hurdles men m.from n.from (other y.colour) y.kind k n.to plain_y stays
+              (λ rider on reach. false≢true (sym (shut_lines on) ∙ lined (other y.colour) y.kind m.from from rider reach))
+              (λ rider on reach. false≢true (sym w.off ∙ (word_at y w.checks w.word).inside n.from from_small reach))
+              (sym (reaches_back men y.colour y.kind n.to k to at_k (no_hopper y.kind plain_y)) ∙ h))))
 
       -- where he gives no check
       module _ (quiet : IsQuiet v g w.checks y n.from m.from n.to) (lawful : is_legal rule q n ≡ true) where
@@ -464,30 +451,14 @@ module _ (rule : RuleSet) (p : Position) (m : Move) (x : Man) (v : Siege) (k : �
             ]
           ]
 
-          king_step : IsKingStep rule r z k f
-          unfolding is_open reaches_as
-          king_step = record {
-            well_formed = well_r;
-            here = stands.here;
-            mine = ap (same_colour z.colour) turn_r ∙ stands.mine;
-            king = stands.king;
-            small = in_f;
-            near = and_from _ _ (and_from _ _ (ap (λ (c : ℕ). list_any (leaps c f) queen_steps) (sym i.at.king) ∙ i.at.is.next f in_f on_f)
-                (ap (λ (c : Colour). is_arrival_free c (man_on r.men f)) turn_r ∙ free_f)) (ap not (and_left (is_circe rule) _ circe));
-          }
-
-          flees : has_flight rule r ≡ true
-          unfolding has_flight is_flight
-          flees =
-              some_square_true (is_flight rule r) f in_f (ap (λ (o : Option ℕ). is_flight_from rule r o f) (ap (king_square r.men) turn_r ∙ king_r)
-              ∙ step_is_legal rule r z k f king_step (ap (is_attacked rule fled f) (ap other turn_r) ∙ nobody_strikes rule fled f p.turn unreached))
-
-        has_one : has_flight rule r ≡ true
-        has_one = let z = king_on r.men p.turn k king_r in flees z.0 z.1
+        flees : has_flight rule r ≡ true
+        flees =
+            has_one rule r p.turn k f well_r circe turn_r king_r in_f (ap (λ (c : ℕ). list_any (leaps c f) queen_steps) (sym i.at.king) ∙ i.at.is.next f in_f on_f)
+            free_f unreached
 
       unmated_plainly : mates rule q n ≡ false
       unmated_plainly = elim (w.mild.each n.to arrival recaptures) [
-        | inr flight ↦ sym (no_mate_with_flight rule q n (has_one flight))
+        | inr flight ↦ sym (no_mate_with_flight rule q n (flees flight))
         | inl quiet ↦ sym (no_mate_quietly rule q n (λ lawful. ap (in_check rule r.men) (ap other turn_q ∙ other_twice p.turn) ∙ no_check quiet lawful))
       ]
 

@@ -12,7 +12,10 @@ use Rattle.chess_rules.proofs.attacks.Shielding.{other_differs}
 use Rattle.chess_rules.proofs.listing_moves.Targeting.{false_by}
 use Rattle.chess_rules.proofs.making_moves.Fits.{arrived, arrived_other, king_no_step}
 use Rattle.chess_rules.proofs.making_moves.Pseudo.{IsMade, king_is_no_pawn, made}
-use Rattle.chess_mates.proofs.Fleeing.{no_strike}
+use Rattle.chess_mates.proofs.Fleeing.{IsKingOn, IsKingStep, king_on, no_strike, step_is_legal, step_to}
+use Rattle.chess_mates.specs.ties.Flights.{has_flight, is_flight, is_flight_from, is_open}
+use Rattle.chess_mates.proofs.Chess.{king_square, leaps, queen_steps, some_square_true}
+use Rattle.chess_rules.proofs.Basics.{and_from, list_any, not, ◌<◌}
 
 -- who stands on a square once a move is made: the man that came, or who stood there
 pub stood : (p : Position) (x : Man) (m : Move) (t : ℕ) (z : Man) → m.to < length p.men → man_on (arrived p x m) t ≡ Some z
@@ -153,3 +156,31 @@ pub nobody_strikes : (rule : RuleSet) (men : List (Option Man)) (t : ℕ) (c : C
     → is_attacked rule men t (other c) ≡ false
 unfolding is_attacked strikes
 nobody_strikes rule men t c none = search (rules, no_strike, reach_none men t c none, some_square_false)
+
+-- the king flees to a free square next to him that no enemy reaches once he stands there
+module _ (rule : RuleSet) (p : Position) (c : Colour) (k f : ℕ) (well : IsWellFormed p) (circe : is_circe rule ≡ false) (turn : p.turn ≡ c)
+    (king : king_square p.men c ≡ Some k) (small : f < 64) (near : list_any (leaps k f) queen_steps ≡ true)
+    (free : is_arrival_free c (man_on p.men f) ≡ true)
+    (unreached : (z : Man) → IsKingOn p.men c k z → (s : ℕ) (u : Man) → s < 64 → man_on (arrived p z (step_to k f)) s ≡ Some u → u.colour ≡ other c
+    → reaches_as (arrived p z (step_to k f)) u.colour u.kind s f ≡ false) where
+  king_step : (z : Man) → IsKingOn p.men c k z → IsKingStep rule p z k f
+  unfolding is_open reaches_as
+  king_step z stands = record {
+    well_formed = well;
+    here = stands.here;
+    mine = ap (same_colour z.colour) turn ∙ stands.mine;
+    king = stands.king;
+    small = small;
+    near = and_from _ _ (and_from _ _ near (ap (λ (c : Colour). is_arrival_free c (man_on p.men f)) turn ∙ free)) (ap not (and_left (is_circe rule) _ circe));
+  }
+
+  flees : (z : Man) → IsKingOn p.men c k z → has_flight rule p ≡ true
+  unfolding has_flight is_flight
+  flees z stands =
+      some_square_true (is_flight rule p) f small (ap (λ (o : Option ℕ). is_flight_from rule p o f) (ap (king_square p.men) turn ∙ king)
+      ∙ step_is_legal rule p z k f (king_step z stands) (ap (is_attacked rule (arrived p z (step_to k f)) f) (ap other turn)
+      ∙ nobody_strikes rule (arrived p z (step_to k f)) f c (unreached z stands)))
+
+  -- for flights that are left
+  pub has_one : has_flight rule p ≡ true
+  has_one = let z = king_on p.men c k king in flees z.0 z.1
