@@ -320,6 +320,8 @@ impl<R: Rules, const N: usize> PartSearch<R, N> {
         ensures front { self.new.front ≡ self.old.front }
         ensures opened { self.old.opened ≤ self.new.opened }
     {
+        // For the proof: the count is below 2^64.
+        let _count = self.history.opened;
         match self.stage {
             PartStage::First => {
                 let (stage, event) = give_first::<R>(
