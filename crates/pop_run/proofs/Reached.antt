@@ -248,15 +248,18 @@ module _ (new : Standing) (r ys : List ℕ) (s : Stopped new (Some r) (Some ys))
       → (w : ReadsUpTo (input_met (is_broken new.at.end) r (Some ys)) (taken_of r (Some ys))) × Q w.tokens
   reads_known Q q seen few =
       let m = met_after new.at.end (Some ys) r taken s.used.uses.consumed seen in
-      rw m.2 (record {
-        used = s.bytes;
-        waiting = new.at.window;
-        whole = rw s.used.uses.consumed (taken_front taken ys ∙ append-nil taken ∙ s.used.uses.unread);
-        few = few;
-        tokens = s.tokens;
-        words = words_are m.0 m.1;
-        stops = stops_are m.0 m.1;
-      }, q)
+      rw m.2 (
+        record {
+          used = s.bytes;
+          waiting = new.at.window;
+          whole = rw s.used.uses.consumed (taken_front taken ys ∙ append-nil taken ∙ s.used.uses.unread);
+          few = few;
+          tokens = s.tokens;
+          words = words_are m.0 m.1;
+          stops = stops_are m.0 m.1;
+        },
+        q,
+      )
 
 -- a run that stops has read up to an item's end or the input's, and at most a window more; what holds of the words used is said of these
 pub stopped_reads_words : (Q : List Token → Type 0) (new : Standing) (r : List ℕ) (left : Option (List ℕ)) (s : Stopped new (Some r) left) → Q s.tokens
