@@ -1,5 +1,5 @@
 -- How a part begins: behind its first moves stand its solutions.
-use Rattle.pop_solve.proofs.Words.{AreKnown, BareEvent, Bool, Counts, Frame, Game, GoesTo, IsCounted, IsLinked, IsRoomy, IsSound, IsWalking, List, Mate, Move, Posed, Position, RuleSet, [], after_well_formed, ap, append-nil, arith, eqb, false, false≢true, follows, get_or, gives, half_moves_on, inl, inr, is_for_mate, is_help, is_legal, is_mate, is_pseudo_legal-from_legal, length, length-append, length-reverse, map, min, moves_behind, nat_tests, path, path_end, phase_half_moves, phase_paths, phase_start, plan_of, position, refl, reverse, rules, seeks_last, shown_paths, suc, sym, take, to_come, to_open, true, undo_of, varies, walk_count, ℕ, ◌++◌, ◌+◌, ◌-◌, ◌<◌, ◌^◌, ◌∙◌, ◌∷◌, ◌≡◌, ◌≤◌}
+use Rattle.pop_solve.proofs.Words.{AreKnown, BareEvent, Bool, Counts, Frame, Game, IsCounted, IsLinked, IsRoomy, IsSound, IsWalking, List, Mate, Move, Posed, Position, RuleSet, [], after_well_formed, ap, append-nil, arith, eqb, false, false≢true, follows, get_or, gives, half_moves_on, inl, inr, is_for_mate, is_help, is_legal, is_mate, is_pseudo_legal-from_legal, length, length-append, length-reverse, map, min, moves_behind, nat_tests, path, path_end, phase_half_moves, phase_paths, phase_start, plan_of, position, refl, reverse, rules, seeks_last, shown_paths, suc, sym, take, to_come, to_open, true, undo_of, varies, walk_count, ℕ, ◌++◌, ◌+◌, ◌-◌, ◌<◌, ◌^◌, ◌∙◌, ◌∷◌, ◌≡◌, ◌≤◌}
 use Rattle.pop_events.specs.declared.event.Phase.{Phase}
 use Rattle.pop_solve.specs.declared.plan.Plan.{Plan}
 use Rattle.chess_rules.specs.Legal.{moves as legal_moves}
@@ -196,11 +196,7 @@ module _ (rule : RuleSet) (problem : Posed) (sound : IsSound problem) (phase : P
   come-fails : is_for_mate problem.stipulation.goal ≡ true → seeks_last plan.play ≡ true → left ≡ 0 → is_mate rule q ≡ false → come ≡ []
   unfolding shown_paths position moves_behind
   come-fails for last none misses =
-      let g : GoesTo rule plan 1 board 0 (moves_behind rule board 0) =
-      record { mid = 0; over = []; passed = refl; none = inl refl; here = refl } in
-      rw none
-      (ap (map (λ line. path old ++ line))
-      (skipped rule plan h board (opened_frame m (undo_of rule board m) 1) [] _ g root 1 last (for_mate _ for) m [] misses))
+      rw none (ap (map (λ line. path old ++ line)) (skipped rule plan board root 1 last (for_mate _ for) m [] misses))
 
   -- a part whose last first move doesn't mate where it has to has no solution
   pub begun-fails : (opened : ℕ) (after : Position) → opened ≡ 0 → after ≡ board → is_for_mate problem.stipulation.goal ≡ true → seeks_last plan.play ≡ true

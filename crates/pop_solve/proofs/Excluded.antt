@@ -1,6 +1,8 @@
 -- What the clauses of a search exclude: events given after the board was taken back or given twice, totals that say the wrong thing or come too early,
 -- mates passed over, and counts of events and frames that begin or grow otherwise.
-use Rattle.pop_solve.proofs.Words.{ArrayVec, BareEvent, Barred, Before, Bool, Event, Frame, Gives, GoesTo, IsGiven, IsOpened, Line, List, Move, Node, Phase, Plan, Posed, Position, RuleSet, Shown, Total, Within, [], ap, arith, eqb, event_of, filter, filter-append, first_phase, is_help, is_mating, is_walked_once, keep, left_of, length, map, min, moves_behind, path_event, phase_paths, rest_open, total, true, ℕ, ◌++◌, ◌+◌, ◌-◌, ◌^◌, ◌∷◌, ◌≡◌}
+use Rattle.pop_solve.proofs.Words.{ArrayVec, BareEvent, Barred, Before, Bool, Event, Frame, Gives, GoesTo, IsGiven, IsOpened, Line, List, Move, Node, Phase, Plan, Posed, Position, RuleSet, Shown, Total, Within, [], allows_mate, ap, arith, eqb, event_of, false, filter, filter-append, first_phase, helps, is_help, is_mating, is_walked_once, keep, left_of, length, length-append, map, min, moves_behind, path_event, phase_paths, rest_open, total, true, ℕ, ◌++◌, ◌+◌, ◌-◌, ◌^◌, ◌<◌, ◌∷◌, ◌≡◌, ◌⊎◌}
+
+use Rattle.pop_input.specs.declared.stipulation.Goal.TheVariants.{Stalemate}
 
 module _ (rule : RuleSet) (problem : Posed) (old new : List BareEvent) (board : Position) where
   -- no line is given with no frame in use, as after all moves were taken back
@@ -55,13 +57,29 @@ module _ (rule : RuleSet) (problem : Posed) where
   unfolding rest_open
   nothing_is_opened_at_first frames opened once o = omega (arith, o.most once)
 
-module _ (rule : RuleSet) (plan : Plan) (left place : ℕ) (p : Position) where
-  -- no mate behind the place is passed over
-  pub no_mate_is_passed_over : (rest : List Move) → GoesTo rule plan left p place rest
+module _ (rule : RuleSet) (plan : Plan) (p : Position) (place before after : ℕ) (rest : List Move) where
+  -- with one half-move left no mate behind the place is passed over
+  pub no_mate_is_passed_over : GoesTo rule plan 1 p place rest before after
       → filter (is_mating rule p) (moves_behind rule p place) ≡ filter (is_mating rule p) rest
-  no_mate_is_passed_over rest t = grind (arith, filter-append)
+  no_mate_is_passed_over t = grind (arith, filter-append)
 
-  -- so where the next move mates, it is the next solution
-  pub first_mate_is_next : (m n : Move) (more rest : List Move) → moves_behind rule p place ≡ m ∷ more → is_mating rule p m ≡ true
-      → is_mating rule p n ≡ true → GoesTo rule plan left p place (n ∷ rest) → n ≡ m
-  first_mate_is_next m n more rest here mates too t = grind (arith, no_mate_is_passed_over (n ∷ rest) t)
+  -- with two no move that some reply mates, and those that are passed over are counted, each once
+  pub no_move_before_a_mate_is_passed_over : GoesTo rule plan 2 p place rest before after
+      → filter (allows_mate rule p) (moves_behind rule p place) ≡ filter (allows_mate rule p) rest
+  no_move_before_a_mate_is_passed_over t = grind (arith, filter-append)
+
+  pub moves_passed_over_count_once : before < 2 ^ 64 → GoesTo rule plan 2 p place rest before after
+      → after ≡ min (before + (length (moves_behind rule p place) - length rest)) (2 ^ 64 - 1)
+  moves_passed_over_count_once range t = grind (arith, length-append t.over)
+
+  -- with more none is passed over, nor before the last half-move of battle play, nor in play for stalemate
+  pub none_is_passed_over : (left : ℕ) → (2 < left) ⊎ (((left ≡ 2) × (helps plan.play ≡ false)) ⊎ (plan.goal ≡ Stalemate))
+      → GoesTo rule plan left p place rest before after → moves_behind rule p place ≡ rest
+  none_is_passed_over left early t = grind arith
+
+-- so where the next move mates, it is the next solution
+pub first_mate_is_next : (rule : RuleSet) (plan : Plan) (p : Position) (place before after : ℕ) (m n : Move) (more rest : List Move)
+    → moves_behind rule p place ≡ m ∷ more → is_mating rule p m ≡ true
+    → is_mating rule p n ≡ true → GoesTo rule plan 1 p place (n ∷ rest) before after → n ≡ m
+first_mate_is_next rule plan p place before after m n more rest here mates too t =
+    grind (arith, no_mate_is_passed_over rule plan p place before after (n ∷ rest) t)

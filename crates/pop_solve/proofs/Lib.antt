@@ -8,6 +8,7 @@ pub mod Battles
 pub mod Lengths
 pub mod Least
 pub mod GoingOn
+pub mod Passing
 pub mod ToCome
 pub mod Outcomes
 pub mod Walking

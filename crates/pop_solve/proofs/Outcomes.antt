@@ -1,5 +1,5 @@
 -- The outcomes of a step, for frames listed from the top down.
-use Rattle.pop_solve.proofs.Words.{AreKnown, Battle, Bool, CameFrom, CameFromAt, Counts, Frame, GoesTo, HelpPlay, IfSome, IsCounted, IsLinked, IsPlaceIn, IsRoomy, IsWalking, IsWhites, LegalPlace, List, Move, Option, Plan, Position, RuleSet, Steps, Undo, [], after_well_formed, ap, arith, chess, eqb, false, fewest_left, follows, gives, half_moves_on, inl, inr, is_legal, is_pseudo_legal-from_legal, length, min, moves_behind, opened_frame, path, position, refl, rules, seeks, suc, to_come, to_open, true, turns, undo_of, varies, walk_behind, ℕ, ◌+◌, ◌-◌, ◌<◌, ◌^◌, ◌∷◌, ◌≡◌, ◌≤◌, ◌⊎◌, ◌∙◌}
+use Rattle.pop_solve.proofs.Words.{AreKnown, Battle, Bool, CameFrom, CameFromAt, Counts, Frame, GoesTo, HelpPlay, IfSome, IsCounted, IsLinked, IsPlaceIn, IsRoomy, IsWalking, IsWhites, LegalPlace, List, Move, Option, Plan, Position, RuleSet, Steps, Undo, [], after_well_formed, ap, arith, chess, eqb, false, fewest_left, follows, gives, half_moves_on, inl, inr, is_legal, is_pseudo_legal-from_legal, length, min, moves_behind, opened_frame, path, position, refl, rules, seeks, suc, to_come, to_open, true, turns, undo_of, varies, walk_behind, ℕ, ◌+◌, ◌-◌, ◌<◌, ◌^◌, ◌∷◌, ◌≡◌, ◌≤◌, ◌⊎◌}
 use Rattle.chess_rules.specs.Play.{position_after}
 use Rattle.pop_solve.proofs.Tests.{learned, moved}
 use Rattle.pop_solve.proofs.GoingOn.{no_zero, half_moves_on-help, follows-help, half_moves_on-keys, half_moves_on-most, ended-reached}
@@ -93,9 +93,10 @@ opened-most rule plan t opened opened2 more same = search rules
 -- the outcomes of a step, for frames listed from the top down
 module _ (rule : RuleSet) (plan : Plan) (h : ℕ) (p : Position) (f : Frame) (below : List Frame) (board : Position)
     (r : IsWalking rule h p (f ∷ below) board) where
-  steps-shut : (after : Position) (count : ℕ) → (f.left ≡ 0) ⊎ (moves_behind rule board f.place ≡ []) → IsWalking rule h p below after
-      → Steps rule plan h p (f ∷ below) below after count count false
-  steps-shut after count e walking =
+  steps-close : (after : Position) (count : ℕ) → (f.left ≡ 0) ⊎ (moves_behind rule board f.place ≡ []) → (length below ≡ 0 → after ≡ board)
+      → ((q : Position) → 0 < length below → CameFromAt rule f board q → after ≡ q) → Steps rule plan h p (f ∷ below) below after count count false
+  steps-close after count e lowest before =
+      let walking = walking-close rule h p f below board after r lowest before in
       let here : (f.left ≡ 0) ⊎ (moves_behind rule (position rule p (f ∷ below)) f.place ≡ []) = rw (← r.board_at) e in
       let o = open-close rule plan p f below here in
       grind (
@@ -106,10 +107,6 @@ module _ (rule : RuleSet) (plan : Plan) (h : ℕ) (p : Position) (f : Frame) (be
         whites-cut,
         tries-close rule plan h p f below here,
       )
-
-  steps-close : (after : Position) (count : ℕ) → (f.left ≡ 0) ⊎ (moves_behind rule board f.place ≡ []) → (length below ≡ 0 → after ≡ board)
-      → ((q : Position) → 0 < length below → CameFromAt rule f board q → after ≡ q) → Steps rule plan h p (f ∷ below) below after count count false
-  steps-close after count e lowest before = steps-shut after count e (walking-close rule h p f below board after r lowest before)
 
   module _ (next : ℕ) (m : Move) (t : ℕ) (left : f.left ≡ suc t) (e : moves_behind rule board f.place ≡ m ∷ moves_behind rule board next) where
     here : moves_behind rule (position rule p (f ∷ below)) f.place ≡ m ∷ moves_behind rule (position rule p (f ∷ below)) next
@@ -170,47 +167,16 @@ module _ (rule : RuleSet) (plan : Plan) (h : ℕ) (p : Position) (f : Frame) (be
           };
         }
 
--- a frame is closed once moves that don't count have been passed over
-module _ (rule : RuleSet) (plan : Plan) (h : ℕ) (p : Position) (f : Frame) (below : List Frame) (board : Position)
-    (r : IsWalking rule h p (f ∷ below) board) where
-  -- it is closed once moves that don't count were passed over
-  pub skips-close : (after : Position) (count : ℕ) → (f.left ≡ 0) ⊎ GoesTo rule plan f.left (position rule p (f ∷ below)) f.place []
-      → (length below ≡ 0 → after ≡ board) → ((q : Position) → 0 < length below → CameFromAt rule f board q → after ≡ q)
-      → Steps rule plan h p (f ∷ below) below after count count false
-  skips-close after count (inl e) lowest before = steps-close rule plan h p f below board r after count (inl e) lowest before
-  skips-close after count (inr g) lowest before = steps-skip rule plan h p f below [] g below after count count false
-      (steps-close rule plan h p (moved f g.mid) below board (walking-moved rule h p f g.mid below board board r refl) after count
-      (inr (rw r.board_at g.here)) lowest before)
-
-  -- and where the board stands already on the frame below
-  pub skips-shut : (after : Position) (count : ℕ) → GoesTo rule plan f.left (position rule p (f ∷ below)) f.place [] → IsWalking rule h p below after
-      → Steps rule plan h p (f ∷ below) below after count count false
-  skips-shut after count g walking = steps-skip rule plan h p f below [] g below after count count false
-      (steps-shut rule plan h p (moved f g.mid) below board (walking-moved rule h p f g.mid below board board r refl) after count
-      (inr (rw r.board_at g.here)) walking)
-
--- two steps, of which the first gives no path
-pub steps-then : (rule : RuleSet) (plan : Plan) (h : ℕ) (p : Position) (old mid new : List Frame) (there board : Position) (before between after : ℕ)
-    → Steps rule plan h p old mid there before between false → Steps rule plan h p mid new board between after false
-    → Steps rule plan h p old new board before after false
-steps-then rule plan h p old mid new there board before between after a b = record {
-  walking = b.walking;
-  come = a.come ∙ b.come;
-  deep = λ g. absurd cc;
-  ended = λ g. absurd cc;
-  falls = omega (arith, a.falls, b.falls);
-  opens = record {
-    whites = λ battle fought keys w. b.opens.whites battle fought keys (a.opens.whites battle fought keys w);
-    most = λ battle fought keys w. omega
-        (arith, a.opens.most battle fought keys w, b.opens.most battle fought keys (a.opens.whites battle fought keys w));
-    helped = λ help. omega (arith, a.opens.helped help, b.opens.helped help);
-    counted = λ help walk c. b.opens.counted help walk (a.opens.counted help walk c);
-  };
-  tries = record {
-    grows = omega (arith, a.tries.grows, b.tries.grows);
-    fewest = λ battle fought. omega (arith, a.tries.fewest battle fought, b.tries.fewest battle fought);
-  };
-}
+-- a frame is closed once moves that have no paths have been passed over
+pub skips-close : (rule : RuleSet) (plan : Plan) (h : ℕ) (p : Position) (f : Frame) (below : List Frame) (board : Position)
+    → IsWalking rule h p (f ∷ below) board → (after : Position) (before count : ℕ)
+    → ((f.left ≡ 0) × (count ≡ before)) ⊎ GoesTo rule plan f.left (position rule p (f ∷ below)) f.place [] before count
+    → (length below ≡ 0 → after ≡ board) → ((q : Position) → 0 < length below → CameFromAt rule f board q → after ≡ q)
+    → Steps rule plan h p (f ∷ below) below after before count false
+skips-close rule plan h p f below board r after before count (inl e) lowest back = rw e.1 (steps-close rule plan h p f below board r after before (inl e.0) lowest back)
+skips-close rule plan h p f below board r after before count (inr g) lowest back = steps-skip rule plan h p f below [] before count g below after count false
+    (steps-close rule plan h p (moved f g.mid) below board (walking-moved rule h p f g.mid below board board r refl) after count
+    (inr (rw r.board_at g.here)) lowest back)
 
 -- what the top frame knows changes nothing of what is to come
 pub steps-learned : (rule : RuleSet) (plan : Plan) (h : ℕ) (p : Position) (f : Frame) (known : Option LegalPlace) (below new : List Frame)

@@ -1,5 +1,5 @@
 -- What the moves still to come say of paths, turns and counts: the next move, and those passed over.
-use Rattle.pop_solve.proofs.Words.{Battle, BattlePlay, Bool, Frame, GoesTo, HelpPlay, IsWhites, List, Mate, Move, Plan, Position, RuleSet, Steps, Undo, [], ap, append_assoc, arith, chess, cond, eqb, false, fewest_for, fewest_left, fewest_walked, filter, follows, gives, half_moves_on, inl, inr, is_mate, is_mating, length, map, map-append, moves_behind, opened_frame, path, position, refl, rules, seeks, seeks_last, shown_paths, smallest_tree, steps, steps_behind, suc, sum_by, sum_by-append, sum_by-cons, to_come, to_open, true, turns, value, varies, walk_behind, walk_count, zero, ℕ, ◌++◌, ◌+◌, ◌-◌, ◌<◌, ◌∙◌, ◌∷◌, ◌≡◌, ◌≤◌, ◌⊎◌}
+use Rattle.pop_solve.proofs.Words.{Battle, BattlePlay, Bool, Frame, GoesTo, HelpPlay, IsWhites, List, Mate, Move, Plan, Position, RuleSet, Steps, Undo, [], ap, append_assoc, append-nil, allows_mate, arith, chess, cond, eqb, false, fewest_for, fewest_left, fewest_walked, filter, follows, gives, half_moves_on, inl, inr, is_mate, is_mating, length, length-append, map, map-append, mates_behind, min, moves_behind, opened_frame, path, position, refl, rules, seeks, seeks_last, shown_paths, smallest_tree, steps, steps_behind, suc, sum_by, sum_by-append, sum_by-cons, sym, to_come, to_open, true, turns, value, varies, walk_behind, walk_count, zero, ℕ, ◌++◌, ◌+◌, ◌-◌, ◌<◌, ◌^◌, ◌∙◌, ◌∷◌, ◌≡◌, ◌≤◌, ◌⊎◌}
 use Rattle.chess_rules.specs.Play.{position_after}
 use Rattle.chess_rules.specs.Legal.{moves as legal_moves}
 use Rattle.pop_solve.proofs.Boards.{behind_start}
@@ -180,21 +180,8 @@ module _ (rule : RuleSet) (plan : Plan) where
   unfolding to_open
   open-close p f below e = omega (arith, walk_behind-none f.left (position rule p (f ∷ below)) f.place e)
 
-  -- moves passed over that don't mate at the last half-move, by a side that seeks mate
-  module _ (h : ℕ) (p : Position) (f : Frame) (below : List Frame) (rest : List Move)
-      (g : GoesTo rule plan f.left (position rule p (f ∷ below)) f.place rest) where
-    abbrev P : Position
-    P = position rule p (f ∷ below)
-
-    abbrev deepest : Bool
-    deepest = eqb (length below) 0
-
-    abbrev room : ℕ
-    room = h - length below
-
-    abbrev later : List Frame
-    later = moved f g.mid ∷ below
-
+  -- moves that have no paths: at the last half-move those that don't mate, by a side that seeks mate
+  module _ (P : Position) where
     ends : (low : Bool) (fuel k : ℕ) (m : Move) (q : Position) (qs ms : List Move)
         → map (λ line. m ∷ line) (shown_paths plan (chess plan.goal rule) false k 0 q qs)
         ++ shown_paths plan (chess plan.goal rule) low (suc fuel) 1 P ms ≡ shown_paths plan
@@ -238,19 +225,87 @@ module _ (rule : RuleSet) (plan : Plan) where
     unfolding fewest_walked
     fewest-skipped low fuel last for battle fought m ms misses = search (rules, fewest-next, fewest_for-last, follows-last)
 
+    none_of : (ms : List Move) → sum_by (λ m. walk_count (legal_moves rule) (position_after rule) 0 (position_after rule P m)) ms ≡ 0
+    unfolding walk_count
+    none_of [] = refl
+    none_of (m ∷ ms) = sum_by-cons (λ m. walk_count (legal_moves rule) (position_after rule) 0 (position_after rule P m)) m ms ∙ omega (arith, none_of ms)
+
+    nothing : (k place : ℕ) → k ≡ 1 → walk_behind rule k P place ≡ 0
+    unfolding walk_behind
+    nothing k place e = rw e (none_of (moves_behind rule P place))
+
+  -- the last but one of help play, settled
+  module _ (help : plan.play ≡ HelpPlay) (for : plan.goal ≡ Mate) where
+    -- where no move mates no path is left
+    mateless : (P : Position) (fuel : ℕ) → mates_behind rule P 0 ≡ [] → shown_paths plan (chess plan.goal rule) false fuel 1 P (legal_moves rule P) ≡ []
+    unfolding mates_behind
+    mateless P fuel none =
+        let all = append-nil (legal_moves rule P) in
+        let skip = passed-over (shown_paths plan (chess plan.goal rule) false fuel 1 P) (is_mating rule P) (skipped P false fuel (rw help refl) for)
+        (legal_moves rule P) [] (rw (← behind_start rule P) none) in
+        (rw all at skip) ∙ shown_paths-none false fuel 1 P [] (inr refl)
+
+    gives-more : (q : Position) → gives plan.play (chess plan.goal rule) 1 q ≡ false
+    unfolding gives
+    gives-more q = rw help refl
+
+    no_mates : (P : Position) (m : Move) → allows_mate rule P m ≡ false → mates_behind rule (position_after rule P m) 0 ≡ []
+    no_mates P m none = search rules
+
+    pub settled : (P : Position) (low : Bool) (fuel : ℕ) (m : Move) (ms : List Move) → allows_mate rule P m ≡ false
+        → shown_paths plan (chess plan.goal rule) low fuel 2 P (m ∷ ms) ≡ shown_paths plan (chess plan.goal rule) low fuel 2 P ms
+    unfolding shown_paths
+    settled P low zero m ms none = refl
+    settled P low (suc fuel) m ms none =
+        let q = position_after rule P m in
+        let game = chess plan.goal rule in
+        rw (
+          shown_paths-next low fuel 1 P m ms,
+          follows-help plan game low 1 q help,
+          gives-more q,
+          half_moves_on-help plan game 1 q help,
+          mateless q fuel (no_mates P m none),
+        ) refl
+
+  -- each move counts one, with a half-move left behind it
+  each_one : (P : Position) (ms : List Move) → sum_by (λ m. walk_count (legal_moves rule) (position_after rule) 1 (position_after rule P m)) ms ≡ length ms
+  unfolding walk_count
+  each_one P [] = refl
+  each_one P (m ∷ ms) = sum_by-cons (λ m. walk_count (legal_moves rule) (position_after rule) 1 (position_after rule P m)) m ms
+      ∙ omega (arith, each_one P ms, none_of (position_after rule P m) (legal_moves rule (position_after rule P m)))
+
+  -- moves are passed over that have no paths
+  module _ (h : ℕ) (p : Position) (f : Frame) (below : List Frame) (rest : List Move) (before between : ℕ)
+      (g : GoesTo rule plan f.left (position rule p (f ∷ below)) f.place rest before between) where
+    abbrev P : Position
+    P = position rule p (f ∷ below)
+
+    abbrev deepest : Bool
+    deepest = eqb (length below) 0
+
+    abbrev room : ℕ
+    room = h - length below
+
+    abbrev later : List Frame
+    later = moved f g.mid ∷ below
+
     -- what such moves count nothing in is the same from the later place on
     same-later : {A : Type 0} (F : ℕ → List Move → A) → (seeks_last plan.play ≡ true → plan.goal ≡ Mate → (m : Move) (ms : List Move)
-        → is_mating rule P m ≡ false → F 1 (m ∷ ms) ≡ F 1 ms) → F f.left (moves_behind rule P f.place) ≡ F f.left (moves_behind rule P g.mid)
+        → is_mating rule P m ≡ false → F 1 (m ∷ ms) ≡ F 1 ms) → (plan.play ≡ HelpPlay → plan.goal ≡ Mate → (m : Move) (ms : List Move)
+        → allows_mate rule P m ≡ false → F 2 (m ∷ ms) ≡ F 2 ms) → F f.left (moves_behind rule P f.place) ≡ F f.left (moves_behind rule P g.mid)
     unfolding position
-    same-later F skip = elim g.none [
-      | inl e ↦ rw (g.passed, e) refl
-      | inr e ↦ rw (g.passed, e.2) (passed-over (F 1) (is_mating rule P) (skip e.0 e.1) g.over (moves_behind rule P g.mid) e.3)
+    same-later F skip settle = elim g.fits [
+      | inl same ↦ elim same.1 [
+        | inl none ↦ rw (g.passed, none) refl
+        | inr e ↦ rw (g.passed, e.2) (passed-over (F 1) (is_mating rule P) (skip e.0 e.1) g.over (moves_behind rule P g.mid) e.3)
+      ]
+      | inr e ↦ rw (g.passed, e.2) (passed-over (F 2) (allows_mate rule P) (settle e.0 e.1) g.over (moves_behind rule P g.mid) e.3.none)
     ]
 
     come-skip : to_come rule plan h p (f ∷ below) ≡ to_come rule plan h p later
     unfolding to_come position path
     come-skip = ap (λ lines. map (λ line. path (f ∷ below) ++ line) lines ++ to_come rule plan h p below)
-        (same-later (λ n ms. shown_paths plan (chess plan.goal rule) deepest room n P ms) (skipped deepest room))
+        (same-later (λ n ms. shown_paths plan (chess plan.goal rule) deepest room n P ms) (skipped P deepest room) (λ help for. settled help for P deepest room))
 
     fewer : (k : ℕ) → steps_behind rule k P g.mid ≤ steps_behind rule k P f.place
     unfolding steps_behind
@@ -264,26 +319,28 @@ module _ (rule : RuleSet) (plan : Plan) where
     unfolding walk_behind
     same k e = search rules
 
-    none_of : (ms : List Move) → sum_by (λ m. walk_count (legal_moves rule) (position_after rule) 0 (position_after rule P m)) ms ≡ 0
-    unfolding walk_count
-    none_of [] = refl
-    none_of (m ∷ ms) = sum_by-cons (λ m. walk_count (legal_moves rule) (position_after rule) 0 (position_after rule P m)) m ms ∙ omega (arith, none_of ms)
-
-    nothing : (k place : ℕ) → k ≡ 1 → walk_behind rule k P place ≡ 0
+    -- in play with two half-moves left each opens one frame
+    each : (k : ℕ) → k ≡ 2 → walk_behind rule k P f.place ≡ length g.over + walk_behind rule k P g.mid
     unfolding walk_behind
-    nothing k place e = rw e (none_of (moves_behind rule P place))
+    each k e = rw (e, each_one P (moves_behind rule P f.place), each_one P (moves_behind rule P g.mid)) (ap length g.passed ∙ length-append g.over _)
 
-    open-skip : to_open rule p (f ∷ below) ≡ to_open rule p later
+    -- so many frames are counted that are then no longer to be opened
+    open-skip : (n : ℕ) × (to_open rule p (f ∷ below) ≡ n + to_open rule p later)
+        × (((n ≡ 0) × (between ≡ before)) ⊎ ((plan.play ≡ HelpPlay) × (between ≡ min (before + n) (2 ^ 64 - 1))))
     unfolding to_open position
-    open-skip = search (rules, nothing, same)
+    open-skip = elim g.fits [
+      | inl e ↦ (0, search (rules, nothing, same), inl (refl, e.0))
+      | inr e ↦ (length g.over, omega (arith, each f.left e.2), inr (e.0, e.3.counts))
+    ]
 
     tries-skip : (battle : Battle) → plan.play ≡ BattlePlay battle → fewest_left rule plan h p (f ∷ below) ≡ fewest_left rule plan h p later
     unfolding fewest_left position
     tries-skip battle fought = ap (λ n. n + fewest_left rule plan h p below)
-        (same-later (λ n ms. fewest_walked plan (chess plan.goal rule) deepest room n P ms) (λ last for. fewest-skipped deepest room last for battle fought))
+        (same-later (λ n ms. fewest_walked plan (chess plan.goal rule) deepest room n P ms)
+        (λ last for. fewest-skipped P deepest room last for battle fought) (λ help. absurd (let e : HelpPlay ≡ BattlePlay battle = sym help ∙ fought in cc)))
 
     -- what follows moves that are passed over follows from before them
-    pub steps-skip : (new : List Frame) (board : Position) (before after : ℕ) (given : Bool) → Steps rule plan h p later new board before after given
+    pub steps-skip : (new : List Frame) (board : Position) (after : ℕ) (given : Bool) → Steps rule plan h p later new board between after given
         → Steps rule plan h p (f ∷ below) new board before after given
     unfolding IsWhites
-    steps-skip new board before after given s = search (rules, come-skip, open-skip, tries-skip, turns-skip)
+    steps-skip new board after given s = search (rules, come-skip, open-skip, tries-skip, turns-skip)

@@ -1,12 +1,12 @@
 -- The outcomes of a step for frames listed from the bottom up, as the code holds them, and what its calls hand on.
 use Rattle.pop_solve.specs.declared.aim.Aim.{Aim}
-use Rattle.pop_solve.proofs.Words.{AreKnown, Battle, BattlePlay, Bool, CameFrom, CameFromAt, Counts, Frame, GoesTo, HasCounted, HelpPlay, IfSome, IsNextMate, IsPlaceIn, IsWalking, LegalPlace, List, MatchOption, Mate, Option, Plan, Position, RuleSet, Steps, [], ap, append-nil, arith, chess, eqb, false, follows, gives, half_moves_on, inl, inr, is_for_mate, is_mate, is_legal, length, length-reverse, mates_behind, nat_tests, moves_behind, moves_behind-end, position, refl, reverse, reverse-append, rules, seeks_last, smallest_tree, subst, suc, sym, true, undo_of, value, varies, ℕ, ◌++◌, ◌+◌, ◌-◌, ◌<◌, ◌∙◌, ◌∷◌, ◌≡◌, ◌≤◌, ◌⊎◌, IsSettled, fewest_for, min, None, false≢true, ◌^◌, Move}
+use Rattle.pop_solve.proofs.Words.{AreKnown, Bool, CameFrom, CameFromAt, Counts, Frame, GoesTo, HasCounted, HelpPlay, IfSome, IsNextMate, IsNextOf, IsNextUnsettled, IsPlaceIn, IsWalking, LegalPlace, List, MatchOption, Mate, Option, Plan, Position, RuleSet, Steps, [], ap, append-nil, arith, chess, eqb, false, follows, gives, half_moves_on, inl, inr, is_for_mate, is_mate, is_legal, length, length-reverse, mates_behind, nat_tests, moves_behind, moves_behind-end, position, refl, reverse, reverse-append, rules, seeks_last, smallest_tree, subst, suc, sym, true, undo_of, value, varies, ℕ, ◌++◌, ◌+◌, ◌-◌, ◌<◌, ◌∙◌, ◌∷◌, ◌≡◌, ◌≤◌, ◌⊎◌, Move}
 use Rattle.chess_rules.specs.Play.{position_after}
 use Rattle.pop_solve.proofs.Boards.{for_mate}
 use Rattle.pop_solve.specs.ties.Frames.{opened_frame}
 use Rattle.pop_solve.proofs.Tests.{learned, moved}
-use Rattle.pop_solve.proofs.GoingOn.{cases, follows-help, half_moves_on-help}
-use Rattle.pop_solve.proofs.Outcomes.{CameFrom-deep, walking-close, walking-learned, top_room, steps-learned, skips-close, steps-pass, steps-enter, steps-then, skips-shut, walking-moved}
+use Rattle.pop_solve.proofs.GoingOn.{cases}
+use Rattle.pop_solve.proofs.Outcomes.{CameFrom-deep, walking-close, walking-learned, top_room, steps-learned, skips-close, steps-pass, steps-enter, walking-moved}
 use Rattle.pop_solve.proofs.ToCome.{steps-skip}
 
 -- a push, and the frames before a frame was taken off, seen from the top
@@ -35,13 +35,13 @@ module _ (rule : RuleSet) (plan : Plan) (h : ℕ) (top : Frame) (old new : List 
   close_asks p board now depth r e d deep = CameFrom-deep rule h p top (reverse new) now (walking_top p board now r e) (omega (arith, depth_is, d, deep))
 
   -- a step that closes the top frame
-  pub close_steps : (p board now after : Position) (depth count : ℕ) → IsWalking rule h p (reverse old) board → now ≡ board → depth ≡ length new
-      → (top.left ≡ 0) ⊎ GoesTo rule plan top.left board top.place [] → (depth ≡ 0 → after ≡ now)
-      → ((q : Position) → 0 < depth → CameFromAt rule top now q → after ≡ q) → Steps rule plan h p (reverse old) (reverse new) after count count false
-  close_steps p board now after depth count r e d none lowest before =
+  pub close_steps : (p board now after : Position) (depth opened count : ℕ) → IsWalking rule h p (reverse old) board → now ≡ board → depth ≡ length new
+      → ((top.left ≡ 0) × (count ≡ opened)) ⊎ GoesTo rule plan top.left board top.place [] opened count → (depth ≡ 0 → after ≡ now)
+      → ((q : Position) → 0 < depth → CameFromAt rule top now q → after ≡ q) → Steps rule plan h p (reverse old) (reverse new) after opened count false
+  close_steps p board now after depth opened count r e d none lowest before =
       let r2 = walking_top p board now r e in
-      let T : Position → Type 0 = λ b. (top.left ≡ 0) ⊎ GoesTo rule plan top.left b top.place [] in
-      rw (popped old new top taken) (skips-close rule plan h p top (reverse new) now r2 after count (subst T (sym e ∙ r2.board_at) none)
+      let T : Position → Type 0 = λ b. ((top.left ≡ 0) × (count ≡ opened)) ⊎ GoesTo rule plan top.left b top.place [] opened count in
+      rw (popped old new top taken) (skips-close rule plan h p top (reverse new) now r2 after opened count (subst T (sym e ∙ r2.board_at) none)
       (λ z. lowest (omega (arith, depth_is, d, z))) (λ q z cf. before q (omega (arith, depth_is, d, z)) cf))
 
   -- there is room for its half-moves
@@ -53,9 +53,9 @@ module _ (rule : RuleSet) (plan : Plan) (h : ℕ) (top : Frame) (old new : List 
   unfolding AreKnown
   top_known p board r = let s = walking_top p board board r refl in rw s.board_at s.known.0
 
-  module _ (place : ℕ) (known : Option LegalPlace) (m : Move) (board now : Position) (depth : ℕ) (mid last : List Frame) (at : now ≡ board)
-      (d : depth ≡ length new)
-      (some : (0 < top.left) × GoesTo rule plan top.left board top.place (m ∷ moves_behind rule board place) × (is_legal rule board m ≡ true))
+  module _ (place : ℕ) (known : Option LegalPlace) (m : Move) (board now : Position) (depth : ℕ) (mid last : List Frame) (opened between : ℕ)
+      (at : now ≡ board) (d : depth ≡ length new) (some : (0 < top.left)
+      × GoesTo rule plan top.left board top.place (m ∷ moves_behind rule board place) opened between × (is_legal rule board m ≡ true))
       (within : IfSome known (IsPlaceIn rule board)) (put : mid ≡ new ++ moved (learned top known) place ∷ []) where
     abbrev behind : ℕ
     behind = top.left - 1
@@ -67,20 +67,20 @@ module _ (rule : RuleSet) (plan : Plan) (h : ℕ) (top : Frame) (old new : List 
     mid_is = popped mid new _ put
 
     -- a step that plays its next move
-    pub enter_steps : (root given : Bool) (after : Position) (opened opened2 : ℕ) → root ≡ eqb depth 0
+    pub enter_steps : (root given : Bool) (after : Position) (opened2 : ℕ) → root ≡ eqb depth 0
         → (follows plan.play (chess plan.goal rule) root behind arrived ≡ false → (given ≡ false) × (after ≡ now) × (last ≡ mid))
         → (follows plan.play (chess plan.goal rule) root behind arrived ≡ true → (given ≡ gives plan.play (chess plan.goal rule) behind arrived)
         × (after ≡ arrived)
         × (last ≡ mid ++ opened_frame m (undo_of rule now m) (half_moves_on plan.play (varies plan) (chess plan.goal rule) behind arrived) ∷ []))
-        → Counts rule plan root behind arrived opened opened2
+        → Counts rule plan root behind arrived between opened2
         → (p : Position) → IsWalking rule h p (reverse old) board → Steps rule plan h p (reverse old) (reverse last) after opened opened2 given
-    enter_steps root given after opened opened2 flag passes enters counts p r =
+    enter_steps root given after opened2 flag passes enters counts p r =
         let left : top.left ≡ suc behind = omega (arith, some.0) in
         let f = learned top known in
         let r2 = walking-learned rule h p top known (reverse new) now (walking_top p board now r at) (rw at within) in
         let flag2 : eqb (length (reverse new)) 0 ≡ root = ap (λ x. eqb x 0) (depth_is ∙ sym d) ∙ sym flag in
         let lawful : is_legal rule now m ≡ true = rw at some.2 in
-        let T : Position → Type 0 = λ b. GoesTo rule plan top.left b top.place (m ∷ moves_behind rule b place) in
+        let T : Position → Type 0 = λ b. GoesTo rule plan top.left b top.place (m ∷ moves_behind rule b place) opened between in
         let g = subst T (sym at ∙ r2.board_at) some.1 in
         let r3 = walking-moved rule h p f g.mid (reverse new) now now r2 refl in
         let here : moves_behind rule now g.mid ≡ m ∷ moves_behind rule now place = rw r2.board_at g.here in
@@ -88,89 +88,30 @@ module _ (rule : RuleSet) (plan : Plan) (h : ℕ) (top : Frame) (old new : List 
           | inl passed ↦
               let x = passes passed in
               rw (popped old new top taken, x.2, mid_is, x.0) (steps-learned rule plan h p top known (reverse new) _ after opened opened2 false
-              (steps-skip rule plan h p f (reverse new) _ g _ after opened opened2 false
-              (steps-pass rule plan h p (moved f g.mid) (reverse new) now r3 place m behind left here after opened opened2
+              (steps-skip rule plan h p f (reverse new) _ opened between g _ after opened2 false
+              (steps-pass rule plan h p (moved f g.mid) (reverse new) now r3 place m behind left here after between opened2
               (rw flag2 passed) x.1 (rw flag2 counts))))
           | inr entered ↦
               let x = enters entered in
               rw (popped old new top taken, x.2, reverse-push mid, mid_is, x.0) (steps-learned rule plan h p top known (reverse new) _ after opened opened2 _
-              (steps-skip rule plan h p f (reverse new) _ g _ after opened opened2 _
-              (steps-enter rule plan h p (moved f g.mid) (reverse new) now r3 place m behind left here after opened opened2 lawful
+              (steps-skip rule plan h p f (reverse new) _ opened between g _ after opened2 _
+              (steps-enter rule plan h p (moved f g.mid) (reverse new) now r3 place m behind left here after between opened2 lawful
               (rw flag2 entered) x.1 (rw flag2 counts))))
         ]
 
 -- what the next move or the next mate says of the moves passed over
-module _ (rule : RuleSet) (plan : Plan) (left : ℕ) (p : Position) (place next : ℕ) where
-  -- what an answer says of the next move behind a place
-  abbrev pub Next : Option Move → Type 0
-  Next o = MatchOption o ((left ≡ 0) ⊎ GoesTo rule plan left p place [])
-      (λ m. (0 < left) × GoesTo rule plan left p place (m ∷ moves_behind rule p next) × (is_legal rule p m ≡ true))
-
+module _ (rule : RuleSet) (plan : Plan) (left : ℕ) (p : Position) (place next before after : ℕ) where
   -- the next mate is the next move where play ends with it
-  pub next_mating : (o : Option Move) → plan.goal ≡ Mate → seeks_last plan.play ≡ true → left ≡ 1
-      → MatchOption o (mates_behind rule p place ≡ []) (λ m. IsNextMate rule p place next m × (is_legal rule p m ≡ true)) → Next o
+  pub next_mating : (o : Option Move) → plan.goal ≡ Mate → seeks_last plan.play ≡ true → left ≡ 1 → after ≡ before
+      → MatchOption o (mates_behind rule p place ≡ []) (λ m. IsNextMate rule p place next m × (is_legal rule p m ≡ true))
+      → IsNextOf rule plan left p place next before after o
   unfolding mates_behind
-  next_mating o for last single e = grind (arith, moves_behind-end rule p 28672 (omega arith), append-nil)
+  next_mating o for last single e same = grind (arith, moves_behind-end rule p 28672 (omega arith), append-nil)
 
--- in help play the position behind a move has no path of its own while half-moves are left, and is one to be tried
-gives-more : (rule : RuleSet) (plan : Plan) (q : Position) (t : ℕ) → plan.play ≡ HelpPlay → t ≡ 1 → gives plan.play (chess plan.goal rule) t q ≡ false
-unfolding gives
-gives-more rule plan q t help one = rw (help, one) refl
-
-no_battle : (battle : Battle) → HelpPlay ≡ BattlePlay battle → ⊥
-no_battle battle e = cc
-
-one_tried : (rule : RuleSet) (plan : Plan) (root : Bool) (t before after : ℕ) (q : Position) → plan.play ≡ HelpPlay → t ≡ 1
-    → after ≡ min (before + 1) (2 ^ 64 - 1) → HasCounted before after (fewest_for plan.play (varies plan) (chess plan.goal rule) root t q)
-one_tried rule plan root t before after q help one e = rw (help, one) (omega (arith, e))
-
--- a move that is settled is followed, and the frame behind it closed at once
-module _ (rule : RuleSet) (plan : Plan) (h : ℕ) (top : Frame) (old new : List Frame) (taken : old ≡ new ++ top ∷ []) (place : ℕ)
-    (known : Option LegalPlace) (m : Move) (board now : Position) (depth : ℕ) (mid : List Frame) (at : now ≡ board) (d : depth ≡ length new)
-    (some : (0 < top.left) × GoesTo rule plan top.left board top.place (m ∷ moves_behind rule board place) × (is_legal rule board m ≡ true))
-    (within : IfSome known (IsPlaceIn rule board)) (put : mid ≡ new ++ moved (learned top known) place ∷ [])
-    (s : IsSettled rule plan top.left now m) where
-  abbrev shut : Frame
-  shut = opened_frame m (undo_of rule now m) (half_moves_on plan.play (varies plan) (chess plan.goal rule) (top.left - 1) (position_after rule now m))
-
-  one_left : top.left - 1 ≡ 1
-  one_left = omega (arith, s.last)
-
-  counts_one : (opened opened2 : ℕ) → opened2 ≡ min (opened + 1) (2 ^ 64 - 1) → Counts rule plan (eqb depth 0) (top.left - 1)
-      (position_after rule now m) opened opened2
-  counts_one opened opened2 more = record {
-    more = λ help some. more;
-    none = λ help none. absurd (omega (arith, one_left, none));
-    keys = λ battle fought keys white. absurd (no_battle battle (sym s.helped ∙ fought));
-    tries = one_tried rule plan (eqb depth 0) (top.left - 1) opened opened2 (position_after rule now m) s.helped one_left more;
-  }
-
-  followed : follows plan.play (chess plan.goal rule) (eqb depth 0) (top.left - 1) (position_after rule now m) ≡ true
-  followed = follows-help (plan) (chess plan.goal rule) (eqb depth 0) (top.left - 1) (position_after rule now m) s.helped
-
-  none_left : GoesTo rule plan shut.left (position_after rule now m) 0 []
-  none_left =
-      let left : shut.left ≡ 1 = half_moves_on-help plan (chess plan.goal rule) (top.left - 1) (position_after rule now m) s.helped ∙ one_left in
-      elim (next_mating rule plan shut.left (position_after rule now m) 0 0 None s.goal (rw s.helped refl) left s.none) [
-        | inl z ↦ absurd (omega (arith, left, z))
-        | inr g ↦ g
-      ]
-
-  -- a step whose move is settled
-  pub settled_steps : (opened opened2 : ℕ) → opened2 ≡ min (opened + 1) (2 ^ 64 - 1) → (p : Position) → IsWalking rule h p (reverse old) board
-      → Steps rule plan h p (reverse old) (reverse mid) now opened opened2 false
-  settled_steps opened opened2 more p r =
-      let q = position_after rule now m in
-      let enters = enter_steps rule plan h top old new taken place known m board now depth mid (mid ++ shut ∷ []) at d some within put (eqb depth 0) false q
-      opened opened2 refl (λ passes. absurd (false≢true (sym passes ∙ followed)))
-      (λ on. (sym (gives-more rule plan q (top.left - 1) s.helped one_left), refl, refl)) (counts_one opened opened2 more) p r in
-      let first : Steps rule plan h p (reverse old) (shut ∷ reverse mid) q opened opened2 false = rw (reverse-push mid shut) at enters in
-      let f = learned top known in
-      let r2 = walking-learned rule h p top known (reverse new) now (walking_top rule plan h top old new taken p board now r at) (rw at within) in
-      let back : IsWalking rule h p (reverse mid) now = rw (popped mid new _ put) (walking-moved rule h p f place (reverse new) now now r2 refl) in
-      let T : Position → Type 0 = λ b. GoesTo rule plan shut.left b 0 [] in
-      steps-then rule plan h p (reverse old) (shut ∷ reverse mid) (reverse mid) q now opened opened2 opened2 first
-      (skips-shut rule plan h p shut (reverse mid) q first.walking now opened2 (subst T first.walking.board_at none_left) back)
+  -- the next move that isn't settled is it with two half-moves left
+  pub next_settling : (o : Option Move) → (plan.play ≡ HelpPlay) × (plan.goal ≡ Mate) × (left ≡ 2) → IsNextUnsettled rule p place next before after o
+      → IsNextOf rule plan left p place next before after o
+  next_settling o e found = search rules
 
 -- a frame is closed, whatever is walked
 module _ (rule : RuleSet) (h : ℕ) (top : Frame) (old new : List Frame) (taken : old ≡ new ++ top ∷ []) where

@@ -68,5 +68,6 @@ pub use Rattle.pop_solve.specs.ties.Plans.{helps, plan_of, shows_variations, tre
 pub use Rattle.pop_solve.specs.ties.Seen.{StandsOn, fewest_from, is_stop, is_unstopped, is_walked_once, phase_fewest, phase_walk, walk_from}
 pub use Rattle.pop_solve.specs.ties.Values.{decides, join, seeks}
 unfoldable pub use Rattle.pop_solve.specs.ties.Values.{joined_value, value}
-pub use Rattle.pop_solve.specs.ties.Walk.{GoesTo, IsCounted, IsEnded, IsSettled, IsWalking, Opens, Steps, Tries, ends_variation, fewest, fewest_for, seeks_last}
+pub use Rattle.pop_solve.specs.ties.Walk.{AreSettled, GoesTo, HaveNoPaths, IsCounted, IsEnded, IsNextOf, IsNextUnsettled, IsWalking, Passes, Opens, Steps, Tries, ends_variation, fewest, fewest_for, seeks_last}
 unfoldable pub use Rattle.pop_solve.specs.ties.Walk.{IsRoomy, IsWhites, fewest_left, fewest_walked, first_from, follows, gives, half_moves_on, open_length, path, shown_paths, to_come, turns}
+pub use Rattle.pop_solve.specs.ties.Standins.{AreThreatsOf, IsSifted, allows_mate}

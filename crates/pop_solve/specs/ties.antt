@@ -5,5 +5,6 @@ pub mod Marks
 pub mod Phases
 pub mod Plans
 pub mod Seen
+pub mod Standins
 pub mod Values
 pub mod Walk

@@ -1,19 +1,22 @@
 //! The moves that decided tests, and the threats of the last position that was asked for them.
-ghost use Rattle.std.specs.Prelude.{◌≡◌, ◌==◌, ◌<◌, ◌∷◌, [], true, if◌then◌else◌, slice_index_or, slice_set};
+ghost use Rattle.std.specs.Prelude.{◌≡◌, ◌==◌, ◌<◌, ◌∷◌, [], IfSome, true, if◌then◌else◌, slice_index_or, slice_set};
 ghost use Rattle.std.specs.List.{copy_within, repeat};
 ghost use Rattle.chess_core.specs.WellFormed.{IsWellFormed};
 ghost use Rattle.chess_mates.specs.ties.Mates.{mates_behind};
 ghost use Rattle.chess_rules.specs.Legal.{is_legal};
 ghost use Rattle.chess_rules.specs.Play.{position_after};
+ghost use Rattle.pop_solve.specs.ties.Standins.{AreThreatsOf};
 ghost use Rattle.pop_solve.specs.declared.aim.Battle.TheVariants.{Direct};
 
 use crate::aim::Battle;
+use crate::standins::{are_of, risky_squares, tell};
 use chess_core::board::Board;
 use chess_core::man::Move;
 use chess_mates::lasting_flights::keeps_flight;
 use chess_mates::threats::Threats;
 use chess_rules::moves::Moves;
 use chess_rules::rules::Rules;
+use chess_rules::words::{contains, only};
 
 /// For each number of half-moves below 32 the places on the last two moves that decided a position with so many
 /// half-moves left. In a direct mate they are tried first in the next such position; that any place may stand here costs
@@ -22,7 +25,7 @@ use chess_rules::rules::Rules;
 pub struct Killers<R: Rules> {
     places: [Moves<R>; 32],
     earlier: [Moves<R>; 32],
-    threats: Option<Threats>,
+    pub(crate) threats: Option<Threats>,
 }
 
 impl<R: Rules> Killers<R> {
@@ -84,8 +87,29 @@ impl<R: Rules> Killers<R> {
         }
     }
 
-    /// Whether no reply to this move mates, told by the threats in the board's position, which are kept for its other moves,
-    /// or by `keeps_flight`. `false` says nothing.
+    /// Keeps the threats in the board's position, if they are told there, and else none.
+    pub(crate) fn tell_threats(&mut self, board: &Board)
+        requires well_formed { IsWellFormed board.now }
+        ensures { IfSome self.new.threats (λ t. AreThreatsOf R.rule board.now t) }
+    {
+        let Some(king) = board.king_of(board.turn()) else {
+            self.threats = None;
+            return;
+        };
+        if !Threats::are_told::<R>(board) {
+            self.threats = None;
+            return;
+        }
+        if let Some(threats) = &self.threats {
+            if are_of::<R>(threats, board) {
+                return;
+            }
+        }
+        self.threats = Some(tell::<R>(board, king));
+    }
+
+    /// Whether no reply to this move mates, told by `keeps_flight` or by the threats in the board's position, which are kept
+    /// for its other moves. `false` says nothing.
     pub fn rule_out_mate(&mut self, board: &Board, m: &Move) -> bool
         requires well_formed { IsWellFormed board.now }
         requires legal { is_legal R.rule board.now m.now ≡ true }
@@ -95,20 +119,10 @@ impl<R: Rules> Killers<R> {
         if keeps_flight::<R>(board, m) {
             return true;
         }
-        if !Threats::are_told::<R>(board) {
-            return false;
-        }
-        if let Some(threats) = &mut self.threats {
-            if let Some(ruled_out) = threats.rule_out_mate::<R>(board, m) {
-                return ruled_out;
-            }
-        }
-        let Some(king) = board.king_of(board.turn()) else {
+        self.tell_threats(board);
+        let Some(threats) = &self.threats else {
             return false;
         };
-        let mut threats = Threats::of(board, king);
-        let ruled_out = threats.rule_out_mate::<R>(board, m);
-        self.threats = Some(threats);
-        ruled_out == Some(true)
+        !contains(risky_squares::<R>(threats, board, m.from, only(Some(m.to))), m.to)
     }
 }

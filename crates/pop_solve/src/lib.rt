@@ -11,6 +11,7 @@ pub mod phases;
 pub mod plan;
 pub mod search;
 mod showing;
+mod standins;
 mod value;
 pub mod walk;
 

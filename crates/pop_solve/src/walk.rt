@@ -14,20 +14,24 @@ ghost use Rattle.pop_solve.specs.ties.Calls.{Counts, Evaluates, Restores};
 ghost use Rattle.pop_solve.specs.ties.Plans.{varies};
 ghost use Rattle.pop_solve.specs.ties.Frames.{CameFrom, CameFromAt, opened_frame};
 ghost use Rattle.pop_solve.specs.Chess.{chess};
+ghost use Rattle.pop_solve.specs.ties.Standins.{AreThreatsOf};
+ghost use Rattle.pop_input.specs.declared.stipulation.Goal.TheVariants.{Mate};
 ghost use Rattle.pop_solve.specs.ties.Marks.{is_for_mate};
 ghost use Rattle.pop_solve.specs.ties.Values.{seeks, value};
-ghost use Rattle.pop_solve.specs.ties.Walk.{fewest as fewest_of, first_from, open_length, follows as is_followed, gives as is_given, half_moves_on, GoesTo, IsMatedAtLast, IsSettled, IsWalking, seeks_last, Steps};
+ghost use Rattle.pop_solve.specs.ties.Walk.{fewest as fewest_of, first_from, open_length, follows as is_followed, gives as is_given, half_moves_on, IsMatedAtLast, IsNextOf, IsNextUnsettled, IsWalking, seeks_last, Steps};
 
 use crate::aim::{Aim, Battle, Play};
-use crate::chess::{is_for_mate, next_mate, next_move, reaches_goal, retract};
+use crate::chess::{is_for_mate, moves_at, next_mate, next_move, reaches_goal, retract};
 use crate::frame::{Frame, Order, Stretch};
 use crate::history::History;
-use crate::killers::Killers;
 use crate::plan::Plan;
+use crate::standins::{count_until, next_sifted};
 use crate::value::{seeking, value_of};
 use arrayvec::ArrayVec;
 use chess_core::board::Board;
 use chess_core::man::Move;
+use chess_mates::lasting_flights::keeps_flight;
+use chess_mates::threats::Threats;
 use chess_rules::legal_moves::LegalMoves;
 use chess_rules::moves::Moves;
 use chess_rules::rules::Rules;
@@ -269,23 +273,112 @@ pub fn enter<R: Rules, const N: usize>(
     gives::<R>(plan, left, board)
 }
 
+/// Whether moves are passed over that no reply mates: in help play for mate, with two half-moves left.
+#[tactic(auto, using(crate::proofs::Boards::for_mate))]
+fn may_settle(plan: Plan, left: usize) -> bool
+    ensures { result ≡ true → (plan.play ≡ HelpPlay) × (plan.goal ≡ Mate) × (left ≡ 2) }
+{
+    left == 2 && plan.play == Play::Help && is_for_mate(plan.goal)
+}
+
+/// How many of `count` moves come before the one that was found as the last of them, if one was.
+fn count_before(found: &Option<Move>, count: u64) -> u64
+    requires { IfSome found.now (λ m. 0 < count) }
+    ensures { MatchOption found.now (result ≡ count) (λ m. result + 1 ≡ count) }
+{
+    if found.is_some() { count - 1 } else { count }
+}
+
+/// The next move behind the place that some reply may mate, as far as the threats say. Those that are passed over are
+/// counted, each as the frame that it would have opened.
+fn next_risky<R: Rules>(
+    threats: &Threats,
+    known: &mut Option<LegalMoves<R>>,
+    place: &mut Moves<R>,
+    board: &mut Board,
+    opened: &mut u64,
+) -> Option<Move>
+    requires well_formed { IsWellFormed board.old }
+    requires threats { AreThreatsOf R.rule board.old threats.now }
+    requires known { IfSome known.old (λ k. IsPlaceIn R.rule board.old k) }
+    ensures unchanged { board.new ≡ board.old }
+    ensures within { IfSome known.new (λ k. IsPlaceIn R.rule board.old k) }
+    ensures next { IsNextUnsettled R.rule board.old place.old place.new opened.old opened.new
+        result }
+{
+    let before = moves_at::<R>(*known, *place, board);
+    let mut moves = before;
+    let found = next_sifted::<R>(&mut moves, threats, board);
+    let count = u64::from(count_until::<R>(&before, moves.place(), board));
+    *opened = opened.saturating_add(count_before(&found, count));
+    *place = moves.place();
+    *known = Some(moves);
+    found
+}
+
+/// The same as far as `keeps_flight` says.
+fn next_without_flight<R: Rules>(
+    known: &mut Option<LegalMoves<R>>,
+    place: &mut Moves<R>,
+    board: &mut Board,
+    opened: &mut u64,
+) -> Option<Move>
+    requires well_formed { IsWellFormed board.old }
+    requires known { IfSome known.old (λ k. IsPlaceIn R.rule board.old k) }
+    ensures unchanged { board.new ≡ board.old }
+    ensures within { IfSome known.new (λ k. IsPlaceIn R.rule board.old k) }
+    ensures next { IsNextUnsettled R.rule board.old place.old place.new opened.old opened.new
+        result }
+{
+    // For the proof: the count is below 2^64.
+    let _counted = *opened;
+    while let Some(by) = next_move::<R>(known, place, board) {
+        if !keeps_flight::<R>(board, &by) {
+            return Some(by);
+        }
+        *opened = opened.saturating_add(1);
+    }
+    None
+}
+
+/// The next move behind the place that isn't settled: told by threats, or by `keeps_flight` where none are told.
+fn next_unsettled<R: Rules>(
+    known: &mut Option<LegalMoves<R>>,
+    place: &mut Moves<R>,
+    board: &mut Board,
+    history: &mut History<R>,
+) -> Option<Move>
+    requires well_formed { IsWellFormed board.old }
+    requires known { IfSome known.old (λ k. IsPlaceIn R.rule board.old k) }
+    ensures unchanged { board.new ≡ board.old }
+    ensures within { IfSome known.new (λ k. IsPlaceIn R.rule board.old k) }
+    ensures next { IsNextUnsettled R.rule board.old place.old place.new history.old.opened
+        history.new.opened result }
+{
+    history.killers.tell_threats(board);
+    let opened = &mut history.opened;
+    match &history.killers.threats {
+        Some(threats) => next_risky::<R>(threats, known, place, board, opened),
+        None => next_without_flight::<R>(known, place, board, opened),
+    }
+}
+
 /// The next move behind a place, in a position from which `left` half-moves are tried: the next mate, where play ends
-/// with it.
+/// with it; with two half-moves left in help play for mate the next one that isn't settled.
 fn next_of<R: Rules>(
     plan: Plan,
     left: usize,
     known: &mut Option<LegalMoves<R>>,
     place: &mut Moves<R>,
     board: &mut Board,
+    history: &mut History<R>,
 ) -> Option<Move>
     requires well_formed { IsWellFormed board.old }
     requires known { IfSome known.old (λ k. IsPlaceIn R.rule board.old k) }
     ensures unchanged { board.new ≡ board.old }
     ensures within { IfSome known.new (λ k. IsPlaceIn R.rule board.old k) }
-    ensures next { MatchOption result ((left ≡ 0) ⊎ GoesTo R.rule plan left board.old place.old [])
-        (λ m. (0 < left) × GoesTo R.rule plan left board.old place.old
-        (m ∷ moves_behind R.rule board.old place.new)
-        × (is_legal R.rule board.old m ≡ true)) }
+    ensures next { IsNextOf R.rule plan left board.old place.old place.new history.old.opened
+        history.new.opened result }
     ensures mated { IfSome result
         (λ m. IsMatedAtLast R.rule plan (left - 1) (position_after R.rule board.old m)) }
 {
@@ -294,6 +387,9 @@ fn next_of<R: Rules>(
     }
     if ends_with_mate(plan, left) {
         return next_mate::<R>(place, board);
+    }
+    if may_settle(plan, left) {
+        return next_unsettled::<R>(known, place, board, history);
     }
     next_move::<R>(known, place, board)
 }
@@ -310,27 +406,8 @@ pub fn step_back<R: Rules>(depth: usize, top: Frame<R>, board: &mut Board)
     }
 }
 
-/// Whether the move, the last of help play but one, is known to be followed by no mate, so that it needs no board.
-#[tactic(auto, using(crate::proofs::Boards::for_mate))]
-fn is_settled<R: Rules>(
-    plan: Plan,
-    left: usize,
-    by: &Move,
-    board: &Board,
-    killers: &mut Killers<R>,
-) -> bool
-    requires well_formed { IsWellFormed board.now }
-    requires legal { is_legal R.rule board.now by.now ≡ true }
-    ensures { result ≡ true → IsSettled R.rule plan left board.now by.now }
-{
-    left == 2
-        && plan.play == Play::Help
-        && is_for_mate(plan.goal)
-        && killers.rule_out_mate(board, by)
-}
-
 /// One step of the walk: the next move of the top frame is played, or the frame is closed. Answers whether the path
-/// to the new top frame is given. The frame behind a move that is settled is counted as opened, and as closed at once.
+/// to the new top frame is given.
 #[tactic(auto, using(crate::proofs::Walking::top_frame))]
 pub(crate) fn step<R: Rules, const N: usize>(
     plan: Plan,
@@ -355,7 +432,7 @@ pub(crate) fn step<R: Rules, const N: usize>(
     let depth = frames.len();
     let mut place = top.place;
     let mut known = top.known;
-    let Some(by) = next_of::<R>(plan, top.left, &mut known, &mut place, board) else {
+    let Some(by) = next_of::<R>(plan, top.left, &mut known, &mut place, board, history) else {
         step_back::<R>(depth, top, board);
         return false;
     };
@@ -364,9 +441,5 @@ pub(crate) fn step<R: Rules, const N: usize>(
         known,
         ..top
     });
-    if is_settled::<R>(plan, top.left, &by, board, &mut history.killers) {
-        history.opened = opened_by(history.opened, 1, false);
-        return false;
-    }
     enter::<R, N>(plan, top.left - 1, by, board, frames, history)
 }

@@ -2,14 +2,15 @@
 use Rattle.pop_solve.specs.declared.aim.Battle.{Battle}
 use Rattle.pop_solve.specs.declared.aim.Battle.TheVariants.{Direct, Selfmate}
 use Rattle.pop_input.specs.declared.stipulation.Goal.TheVariants.{Mate}
-use Rattle.std.specs.Prelude.{◌≡◌, ℕ, zero, suc, ◌+◌, ◌-◌, ◌/◌, ◌≤◌, ◌<◌, ◌^◌, min, ◌==◌, Bool, true, false, not, ◌&&◌, ◌||◌, if◌then◌else◌, List, [], ◌∷◌, ◌++◌, map, length, filter, ◌⊎◌}
+use Rattle.std.specs.Prelude.{◌≡◌, ℕ, zero, suc, ◌+◌, ◌-◌, ◌/◌, ◌≤◌, ◌<◌, ◌^◌, min, ◌==◌, Bool, true, false, not, ◌&&◌, ◌||◌, if◌then◌else◌, List, [], ◌∷◌, ◌++◌, map, length, filter, Option, MatchOption, ◌⊎◌}
 use Rattle.std.specs.List.{flat_map, list_all, sum_by}
 use Rattle.chess_core.specs.Position.{Position}
 use Rattle.chess_core.specs.declared.man.Move.{Move}
 use Rattle.chess_core.specs.WellFormed.{IsWellFormed}
 use Rattle.chess_rules.specs.ties.Places.{moves_behind}
-use Rattle.chess_mates.specs.ties.Mates.{is_mating, mates_behind}
-use Rattle.chess_rules.specs.Legal.{is_mate}
+use Rattle.chess_mates.specs.ties.Mates.{is_mating}
+use Rattle.chess_rules.specs.Legal.{is_legal, is_mate}
+use Rattle.pop_solve.specs.ties.Standins.{allows_mate}
 use Rattle.chess_rules.specs.Play.{position_after}
 use Rattle.chess_rules.specs.RuleSet.{RuleSet}
 use Rattle.pop_solve.specs.declared.aim.Play.{Play}
@@ -176,24 +177,52 @@ abbrev pub IsMatedAtLast : RuleSet → Plan → ℕ → Position → Type 0
 IsMatedAtLast rule plan left q =
     is_for_mate plan.goal ≡ true → seeks_last plan.play ≡ true → left ≡ 0 → is_mate rule q ≡ true
 
--- from a place to the moves `rest` behind a later one only moves are passed over whose paths aren't given: with one
--- half-move left, by a side that seeks mate, those that don't mate
-pub record GoesTo (rule : RuleSet) (plan : Plan) (left : ℕ) (p : Position) (place : ℕ)
-    (rest : List Move) : Type 0 where
+-- from a place to the moves `rest` behind a later one the moves `over` are passed over, of which `what` holds
+pub record Passes (rule : RuleSet) (p : Position) (place : ℕ) (rest : List Move)
+    (what : List Move → Type 0) : Type 0 where
   pub mid : ℕ
   pub over : List Move
   pub passed : moves_behind rule p place ≡ over ++ moves_behind rule p mid
-  pub none : (over ≡ []) ⊎ ((seeks_last plan.play ≡ true) × (plan.goal ≡ Mate) × (left ≡ 1)
-      × (filter (is_mating rule p) over ≡ []))
   pub here : moves_behind rule p mid ≡ rest
+  pub fits : what over
 
--- the move m of p, the last of help play for mate but one, is followed by no mate
-pub record IsSettled (rule : RuleSet) (plan : Plan) (left : ℕ) (p : Position) (m : Move) : Type
+-- no reply to any of these moves of p mates, and from `before` to `after` each has counted as one opened frame
+pub record AreSettled (rule : RuleSet) (p : Position) (before after : ℕ) (over : List Move) : Type
     0 where
-  pub helped : plan.play ≡ HelpPlay
-  pub goal : plan.goal ≡ Mate
-  pub last : left ≡ 2
-  pub none : mates_behind rule (position_after rule p m) 0 ≡ []
+  pub none : filter (allows_mate rule p) over ≡ []
+  pub counts : after ≡ min (before + length over) (2 ^ 64 - 1)
+
+-- an answer, of the next move behind a place that isn't settled
+abbrev pub IsNextUnsettled : RuleSet → Position → (place next before after : ℕ) → Option Move → Type
+    0
+IsNextUnsettled rule p place next before after found =
+    MatchOption found (Passes rule p place [] (AreSettled rule p before after))
+    (λ m. Passes rule p place (m ∷ moves_behind rule p next) (AreSettled rule p before after)
+    × (is_legal rule p m ≡ true))
+
+-- these moves of p have no paths, with `left` half-moves left: there are none, or with one left, by a side that seeks
+-- mate, they don't mate; with two left in help play for mate they are settled, and counted
+abbrev pub HaveNoPaths : RuleSet → Plan → ℕ → Position → (before after : ℕ) → List Move → Type 0
+HaveNoPaths rule plan left p before after over =
+    ((after ≡ before) × ((over ≡ []) ⊎ ((seeks_last plan.play ≡ true) × (plan.goal ≡ Mate)
+    × (left ≡ 1) × (filter (is_mating rule p) over ≡ []))))
+    ⊎ ((plan.play ≡ HelpPlay) × (plan.goal ≡ Mate) × (left ≡ 2)
+    × AreSettled rule p before after over)
+
+-- from a place to the moves `rest` behind a later one only moves are passed over that have no paths
+abbrev pub GoesTo : RuleSet → Plan → ℕ → Position → ℕ → List Move → (before after : ℕ) → Type 0
+GoesTo rule plan left p place rest before after =
+    Passes rule p place rest (HaveNoPaths rule plan left p before after)
+
+-- an answer, of the next move behind a place that may have a path
+abbrev pub IsNextOf : RuleSet → Plan → ℕ → Position → (place next before after : ℕ) → Option Move
+    → Type 0
+IsNextOf rule plan left p place next before after found =
+    MatchOption found
+    (((left ≡ 0) × (after ≡ before)) ⊎ GoesTo rule plan left p place [] before after)
+    (λ m. (0 < left)
+    × GoesTo rule plan left p place (m ∷ moves_behind rule p next) before after
+    × (is_legal rule p m ≡ true))
 
 -- whether a variation ends at a frame with `left` half-moves: in direct play with variations, where the goal is reached
 abbrev pub ends_variation : Play → Bool → ℕ → Bool

@@ -1,4 +1,4 @@
-use Rattle.pop_solve.proofs.Words.{Frame, ap, arith, refl, rules, ◌≡◌}
+use Rattle.pop_solve.proofs.Words.{Frame, ap, arith, rules, ◌≡◌}
 use Rattle.pop_solve.proofs.Walking as walking
 use Rattle.pop_solve.proofs.walk.step.Goals as goal
 
@@ -11,7 +11,7 @@ returns-in_default-next_of g c = record {
   steps = λ p r.
       let left : c.top.inside.left ≡ c.in-Some.top.left = ap (λ (f : Frame). f.left) c.top.view_is in
       let place : c.top.inside.place ≡ c.in-Some.top.place = ap (λ (f : Frame). f.place) c.top.view_is in
-      walking.close_steps g.R.Rules.rule c.args.plan c.args.half_moves _ _ _ c.in-Some.ensures.items _ _ _ _ _ _ r c.next_of.ensures.unchanged
+      walking.close_steps g.R.Rules.rule c.args.plan c.args.half_moves _ _ _ c.in-Some.ensures.items _ _ _ _ _ _ _ r c.next_of.ensures.unchanged
       c.len-depth.ensures.value (rw (left, place) at c.in_default-next_of.ensures.next) c.step_back.ensures.lowest c.step_back.ensures.before;
 }
 
@@ -19,19 +19,10 @@ pub returns : goal.returns
 returns g c = record {
   steps =
       let taken = rw (← c.top.view_is) at c.in-Some.ensures.items in
-      walking.enter_steps g.R.Rules.rule c.args.plan c.args.half_moves _ _ _ taken _ _ _ _ _ _ _ _ c.next_of.ensures.unchanged c.len-depth.ensures.value
-      c.in-Some-next_of.ensures.next c.next_of.ensures.within c.push.ensures.items _ _ _ _ _
+      walking.enter_steps g.R.Rules.rule c.args.plan c.args.half_moves _ _ _ taken _ _ _ _ _ _ _ _ _ _ c.next_of.ensures.unchanged c.len-depth.ensures.value
+      c.in-Some-next_of.ensures.next c.next_of.ensures.within c.push.ensures.items _ _ _ _
       (walking.at_root _ _ (omega (arith, c.push.ensures.len, c.len-depth.ensures.value))) c.enter.ensures.passes c.enter.ensures.enters
       c.enter.ensures.counts;
-}
-
-pub returns-then-is_settled : goal.returns-then-is_settled
-returns-then-is_settled g c = record {
-  steps =
-      let taken = rw (← c.top.view_is) at c.in-Some.ensures.items in
-      walking.settled_steps g.R.Rules.rule c.args.plan c.args.half_moves _ _ _ taken _ _ _ _ _ _ _ c.next_of.ensures.unchanged c.len-depth.ensures.value
-      c.in-Some-next_of.ensures.next c.next_of.ensures.within c.push.ensures.items (c.is_settled.ensures c.if-is_settled.true) _ _
-      (c.opened_by-history.ensures.more (omega arith) refl);
 }
 
 pub enter-requires : goal.enter-requires

@@ -1,0 +1,89 @@
+-- Moves that are passed over since no reply to them mates.
+use Rattle.pop_solve.proofs.Words.{AreSettled, IfSome, IsNextUnsettled, IsSifted, IsWellFormed, MatchOption, Move, None, Option, Passes, Position, RuleSet, Some, [], allows_mate, ap, append-nil, append_assoc, arith, false, filter, filter-append, from_map, inl, inr, is_legal, is_pseudo_legal-from_legal, length, length-append, mates_behind, min, moves_behind, moves_behind-end, moves_behind-here, moves_between, place_of_triple, range_with_len, refl, sym, true, ℕ, ◌++◌, ◌+◌, ◌-◌, ◌<◌, ◌^◌, ◌∙◌, ◌∷◌, ◌≡◌}
+use Rattle.std.proofs.lemmas.Bool.{cases_lt}
+use Rattle.chess_rules.proofs.listing_moves.Between.{behind_cut, between-past}
+use Rattle.chess_rules.proofs.listing_moves.Members.{from_range}
+use Rattle.chess_rules.proofs.listing_moves.Places.{triples_numbered}
+use Rattle.chess_rules.proofs.listing_moves.Triples.{in_triples, made_is_triple}
+use Rattle.chess_rules.specs.Play.{position_after}
+use Rattle.chess_rules.specs.ties.Places.{place_of, triple_at}
+
+module _ (rule : RuleSet) (p : Position) where
+  -- a legal move is one of the triples
+  numbered : (m : Move) → IsWellFormed p → is_legal rule p m ≡ true → (n : ℕ) × (n < 28672) × (triple_at n ≡ m)
+  numbered m sound lawful =
+      let t = made_is_triple rule p m sound.size (is_pseudo_legal-from_legal rule p m lawful) in
+      let w = from_map triple_at (range_with_len 0 28672) m (rw triples_numbered at (in_triples m t.0 t.1 t.2)) in
+      let r = from_range 0 28672 w.0 w.1 in
+      (w.0, omega (arith, r), w.2)
+
+  -- it stands behind the place before its own
+  behind_back : (m : Move) → IsWellFormed p → is_legal rule p m ≡ true
+      → moves_behind rule p (place_of (Some m) - 1) ≡ m ∷ moves_behind rule p (place_of (Some m))
+  behind_back m sound lawful =
+      let w = numbered m sound lawful in
+      let at : place_of (Some m) ≡ w.0 + 1 = rw w.2 at (place_of_triple w.0 w.1) in
+      let back : place_of (Some m) - 1 ≡ w.0 = omega (arith, at) in
+      rw (back, at) (rw w.2 at (moves_behind-here rule p w.0 w.1 (rw w.2 lawful)))
+
+  -- all moves behind a place lie before the end
+  to_end : (place : ℕ) → moves_between rule p place 28672 ≡ moves_behind rule p place
+  to_end place = elim (cases_lt place 28672) [
+    | inl lt ↦ sym (behind_cut rule p place 28672 (omega (arith, lt)) ∙ (rw (moves_behind-end rule p 28672 (omega arith)) (append-nil _)))
+    | inr ge ↦ between-past rule p place 28672 ge ∙ sym (moves_behind-end rule p place ge)
+  ]
+
+  -- what the sieve passes over is settled
+  pub sifted : (place next count before after n : ℕ) (o : Option Move) → IsWellFormed p → next ≡ place_of o → IfSome o (λ m. is_legal rule p m ≡ true)
+      → MatchOption o (filter (allows_mate rule p) (moves_behind rule p place) ≡ []) (λ m. IsSifted rule p (allows_mate rule p) place next m)
+      → IfSome o (λ m. place < next) → count ≡ length (moves_between rule p place next) → MatchOption o (n ≡ count) (λ m. n + 1 ≡ count)
+      → after ≡ min (before + n) (2 ^ 64 - 1) → IsNextUnsettled rule p place next before after o
+  unfolding place_of
+  sifted place next count before after n None sound at lawful none onward all number counted = record {
+    mid = 28672;
+    over = moves_behind rule p place;
+    passed = rw (moves_behind-end rule p 28672 (omega arith)) (sym (append-nil (moves_behind rule p place)));
+    here = moves_behind-end rule p 28672 (omega arith);
+    fits = record { none = none; counts = rw (← to_end place, ← at, ← all, ← number) counted };
+  }
+  sifted place next count before after n (Some m) sound at lawful passed onward all number counted =
+      let back = behind_back m sound lawful in
+      let cut = behind_cut rule p place next (omega (arith, onward)) in
+      let long : length passed.over ≡ n = omega (arith, all, number, ap length passed.passed, length-append passed.over (m ∷ [])) in
+      (record {
+        mid = next - 1;
+        over = passed.over;
+        passed = cut ∙ (rw (passed.passed, at, back) (append_assoc passed.over (m ∷ []) (moves_behind rule p (place_of (Some m)))));
+        here = rw at back;
+        fits = record { none = passed.none; counts = rw long counted };
+      }, lawful)
+
+  -- a move that no reply mates doesn't allow mate
+  pub no_mate_allowed : (m : Move) → mates_behind rule (position_after rule p m) 0 ≡ [] → allows_mate rule p m ≡ false
+  no_mate_allowed m none = rw none refl
+
+  -- before the first move none is passed over
+  pub passes_none : (place before : ℕ) → before < 2 ^ 64 → Passes rule p place (moves_behind rule p place) (AreSettled rule p before before)
+  passes_none place before range = record {
+    mid = place;
+    over = [];
+    passed = refl;
+    here = refl;
+    fits = record { none = refl; counts = omega (arith, range) };
+  }
+
+  -- one more is passed over
+  pub passes_one : (place at next before between after : ℕ) (m : Move)
+      → Passes rule p place (moves_behind rule p at) (AreSettled rule p before between) → moves_behind rule p at ≡ m ∷ moves_behind rule p next
+      → mates_behind rule (position_after rule p m) 0 ≡ [] → after ≡ min (between + 1) (2 ^ 64 - 1)
+      → Passes rule p place (moves_behind rule p next) (AreSettled rule p before after)
+  passes_one place at next before between after m g e none counted = record {
+    mid = next;
+    over = g.over ++ m ∷ [];
+    passed = g.passed ∙ (rw (g.here, e) (sym (append_assoc g.over (m ∷ []) (moves_behind rule p next))));
+    here = refl;
+    fits = record {
+      none = filter-append (allows_mate rule p) g.over (m ∷ []) ∙ (rw (g.fits.none, no_mate_allowed m none) refl);
+      counts = omega (arith, counted, g.fits.counts, length-append g.over (m ∷ []));
+    };
+  }
