@@ -304,6 +304,7 @@ impl<'a, S: Sift> Sought for Sifted<'a, S> {
         own_origins::<R>(board)
     }
 
+    #[tactic(auto, using(crate::proofs::listing_moves::Sifting::wanted_candidates))]
     fn candidates<R: Rules>(&self, board: &Board, from: Square) -> u64 {
         let squares = candidates::<R>(board, self.known.evasion_squares, from);
         squares & self.sift.sift::<R>(board, from, squares)

@@ -4,7 +4,7 @@ use Rattle.chess_core.proofs.Ranges.{second_fails}
 use Rattle.chess_rules.proofs.Basics.{Bool, [], and_left, ap, append_cancel_right, arith, bit_and, bit_at, cases_Bool, cases_lt, false, filter, filter-append, rules, sym, true, ℕ, ◌++◌, ◌+◌, ◌<◌, ◌==◌, ◌∙◌, ◌∷◌, ◌≡◌, ◌≤◌}
 use Rattle.chess_rules.proofs.Chess.{AreCandidates, AreOrigins, HaveNone, Move, Position, RuleSet, is_legal, moves_behind, moves_between, triple_at}
 use Rattle.chess_rules.proofs.listing_moves.Between.{behind_cut, between-past}
-use Rattle.chess_rules.proofs.listing_moves.Places.{moves_behind-end, moves_behind-here, moves_behind-skip, over}
+use Rattle.chess_rules.proofs.listing_moves.Places.{moves_behind-end, moves_behind-here, moves_behind-skip, over, place_of_none, place_of_triple}
 use Rattle.chess_rules.proofs.listing_moves.Walks.{off_second, on_first}
 use Rattle.chess_rules.specs.ties.Sifting.{AreSifted, IsSifted, is_wanted}
 
@@ -48,4 +48,4 @@ module _ (rule : RuleSet) (p : Position) (test : Move → Bool) where
   sifted_missing a b ge le none = grind (arith, moves_behind-end, wanted-none)
 
 -- for the next legal move that a sieve leaves
-pub ruleset next_sifted = (moved_on, sifted_missing, sifted_numbered)
+pub ruleset next_sifted = (moved_on, place_of_none, place_of_triple, sifted_missing, sifted_numbered)
