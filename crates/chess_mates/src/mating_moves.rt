@@ -206,6 +206,8 @@ impl Sought for CheckSquares {
 
     ghost test = { mates };
 
+    ghost found = { mates };
+
     ghost fits = { λ s rule p. AreCheckSquares p.men (other p.turn) s };
 
     fn origins<R: Rules>(&self, board: &Board) -> u64 {
@@ -216,7 +218,7 @@ impl Sought for CheckSquares {
         candidates::<R>(board, self, from)
     }
 
-    fn passes<R: Rules>(&self, board: &mut Board, m: Move) -> bool {
+    fn is_found<R: Rules>(&self, board: &mut Board, m: Move) -> bool {
         is_mating::<R>(board, self, m)
     }
 

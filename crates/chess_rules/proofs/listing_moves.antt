@@ -7,3 +7,4 @@ pub mod Arrivals
 pub mod Calls
 pub mod Between
 pub mod Triples
+pub mod Sifting

@@ -6,6 +6,7 @@ pub mod Outward
 pub mod Places
 pub mod Playing
 pub mod Shields
+pub mod Sifting
 pub mod Sight
 pub mod Targets
 pub mod Undoing

@@ -1,11 +1,12 @@
 //! The legal moves of one position, most of them found without being played.
-ghost use Rattle.std.specs.Prelude.{◌≡◌, ⊤, ℕ, ◌≤◌, ◌<◌, ◌∷◌, [], IfSome, MatchOption, None, Some, true};
+ghost use Rattle.std.specs.Prelude.{◌≡◌, ⊤, ℕ, ◌≤◌, ◌<◌, ◌∷◌, ◌++◌, [], filter, IfSome, MatchOption, None, Some, true};
 ghost use Rattle.chess_core.specs.WellFormed.{IsWellFormed};
 ghost use Rattle.chess_core.specs.ties.Words.{word};
 ghost use Rattle.chess_rules.specs.ties.Evasions.{AreEvasions};
 ghost use Rattle.chess_rules.specs.ties.Shields.{may_expose};
 ghost use Rattle.chess_rules.specs.Legal.{is_legal};
 ghost use Rattle.chess_rules.specs.ties.Places.{HaveNone, IsPlaceIn, first_behind, moves_behind, moves_between, place_of, place_onto, triple_at};
+ghost use Rattle.chess_rules.specs.ties.Sifting.{IsSifted};
 ghost use Rattle.chess_rules.specs.ties.Targets.{AreCandidates, AreKept, AreOrigins, IsAimed};
 
 use crate::evasions::{evasion_squares, evasions_from};
@@ -13,6 +14,7 @@ use crate::legal::is_legal;
 use crate::moves::{Moves, triple};
 use crate::rules::Rules;
 use crate::shields::shield_squares;
+use crate::sift::Sift;
 use crate::sought::{Sought, next_passing};
 use crate::targets::{Kept, TRIPLES, arrivals};
 use chess_core::board::Board;
@@ -170,6 +172,47 @@ impl<R: Rules> LegalMoves<R> {
         }
         None
     }
+
+    /// The first legal move behind the place that the sieve leaves, on which the place then stands; those
+    /// passed over fail its test. Where there is none: `None`, and the place stands behind all triples. The
+    /// board is unchanged. Place and sieve must be of the board's position.
+    #[tactic(auto, using(crate::proofs::listing_moves::Sifting::next_sifted))]
+    pub fn next_sifted<S: Sift>(&mut self, sift: &S, board: &mut Board) -> Option<Move>
+        requires well_formed { IsWellFormed board.old }
+        requires place { IsPlaceIn R.rule board.old self.old }
+        requires fits { S.fits sift.now R.rule board.old }
+        ensures place { self.new ≡ record self.old { place = place_of result } }
+        ensures within { IsPlaceIn R.rule board.old self.new }
+        ensures passed { MatchOption result
+            (filter (S.test R.rule board.old) (moves_behind R.rule board.old self.old.place) ≡ [])
+            (λ m. IsSifted R.rule board.old (S.test R.rule board.old) self.old.place
+            self.new.place m) }
+        ensures behind { moves_behind R.rule board.old self.old.place
+            ≡ moves_between R.rule board.old self.old.place self.new.place
+            ++ moves_behind R.rule board.old self.new.place }
+        ensures legal { IfSome result (λ m. is_legal R.rule board.old m ≡ true) }
+        ensures onward { IfSome result (λ m. self.old.place < self.new.place) }
+        ensures board { board.new ≡ board.old }
+    {
+        let sifted = Sifted {
+            known: Known {
+                shield_squares: self.shield_squares,
+                evasion_squares: self.evasion_squares,
+            },
+            sift,
+        };
+        let mut kept = Kept {
+            origin: None,
+            squares: 0,
+        };
+        let number = next_passing::<R, Sifted<S>>(board, &sifted, &mut kept, self.passed, TRIPLES);
+        if number < TRIPLES {
+            self.passed = number + 1;
+            return Some(triple(number));
+        }
+        self.passed = TRIPLES;
+        None
+    }
 }
 
 // The number of the first legal move from the triple numbered `start` on and before the one numbered `end`;
@@ -219,6 +262,8 @@ impl Sought for Known {
 
     ghost test = { is_legal };
 
+    ghost found = { is_legal };
+
     ghost fits = { λ s rule p. (s.shield_squares ≡ word (may_expose p.men p.turn))
         × AreEvasions rule p.men p.turn s.evasion_squares };
 
@@ -230,11 +275,46 @@ impl Sought for Known {
         candidates::<R>(board, self.evasion_squares, from)
     }
 
-    fn passes<R: Rules>(&self, board: &mut Board, m: Move) -> bool {
+    fn is_found<R: Rules>(&self, board: &mut Board, m: Move) -> bool {
         is_legal::<R>(board, self.shield_squares, self.evasion_squares, m)
     }
 
     ghost idle = { λ rule p m h. is_legal-idle rule p m h };
+}
+
+/// The same with a sieve, where the legal moves that it leaves are looked for.
+#[derive(Drop)]
+struct Sifted<'a, S> {
+    known: Known,
+    sift: &'a S,
+}
+
+impl<'a, S: Sift> Sought for Sifted<'a, S> {
+    ghost use Rattle.chess_rules.specs.Legal.{is_legal};
+    ghost use Rattle.chess_rules.specs.ties.Idle.{is_wanted-idle};
+    ghost use Rattle.chess_rules.specs.ties.Sifting.{is_wanted};
+
+    ghost test = { λ rule p. is_wanted rule p (S.test rule p) };
+
+    ghost found = { is_legal };
+
+    ghost fits = { λ s rule p. ⟦<Known as Sought>⟧.fits s.known rule p × S.fits s.sift.now rule p };
+
+    fn origins<R: Rules>(&self, board: &Board) -> u64 {
+        own_origins::<R>(board)
+    }
+
+    #[tactic(auto, using(crate::proofs::listing_moves::Sifting::wanted_candidates))]
+    fn candidates<R: Rules>(&self, board: &Board, from: Square) -> u64 {
+        let squares = candidates::<R>(board, self.known.evasion_squares, from);
+        squares & self.sift.sift::<R>(board, from, squares)
+    }
+
+    fn is_found<R: Rules>(&self, board: &mut Board, m: Move) -> bool {
+        self.known.is_found::<R>(board, m)
+    }
+
+    ghost idle = { λ rule p m h. is_wanted-idle rule p (S.test rule p) m h };
 }
 
 // The squares from which the side to move has a legal move, and perhaps more: those of its men.

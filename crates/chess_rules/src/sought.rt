@@ -13,8 +13,8 @@ use chess_core::board::Board;
 use chess_core::man::Move;
 use chess_core::square::Square;
 
-/// What is known of a position where moves that pass a test are looked for: the test, and when the knowledge
-/// is of a position.
+/// What is known of a position where moves that pass a test are looked for: the test, what a move that is found
+/// passes for certain, and when the knowledge is of a position.
 pub trait Sought {
     ghost use Rattle.std.specs.Prelude.{Bool, ◌≡◌, true, false};
     ghost use Rattle.chess_core.specs.Position.{Position};
@@ -23,6 +23,8 @@ pub trait Sought {
     ghost use Rattle.chess_rules.specs.Legal.{is_pseudo_legal};
 
     ghost test: { RuleSet → Position → Move → Bool };
+
+    ghost found: { RuleSet → Position → Move → Bool };
 
     ghost fits: { Self → RuleSet → Position → Type 0 };
 
@@ -38,12 +40,13 @@ pub trait Sought {
         requires fits { fits self.now R.rule board.now }
         ensures { AreCandidates R.rule board.now (test R.rule board.now) from result };
 
-    /// Whether the move passes. The board is unchanged after it.
-    fn passes<R: Rules>(&self, board: &mut Board, m: Move) -> bool
+    /// Whether the move is found: each that passes is, and perhaps more. The board is unchanged after it.
+    fn is_found<R: Rules>(&self, board: &mut Board, m: Move) -> bool
         requires well_formed { IsWellFormed board.old }
         requires aimed { IsAimed R.rule board.old m }
         requires fits { fits self.now R.rule board.old }
-        ensures answer { result ≡ test R.rule board.old m }
+        ensures found { result ≡ true → found R.rule board.old m ≡ true }
+        ensures passed_over { result ≡ false → test R.rule board.old m ≡ false }
         ensures board { board.new ≡ board.old };
 
     ghost idle: { (rule : RuleSet) (p : Position) (m : Move) → is_pseudo_legal rule p m ≡ false
@@ -100,7 +103,7 @@ fn next_candidate<R: Rules, S: Sought>(
     TRIPLES
 }
 
-/// The number of the first move that passes from the triple numbered `start` on and before the one numbered
+/// The number of the first move that is found from the triple numbered `start` on and before the one numbered
 /// `end`; `end` where there is none. The board is unchanged.
 pub fn next_passing<R: Rules, S: Sought>(
     board: &mut Board,
@@ -116,7 +119,7 @@ pub fn next_passing<R: Rules, S: Sought>(
     ensures low { result < end → start ≤ result }
     ensures high { result ≤ end }
     ensures none { HaveNone (S.test R.rule board.old) start result }
-    ensures passes { result < end → S.test R.rule board.old (triple_at result) ≡ true }
+    ensures found { result < end → S.found R.rule board.old (triple_at result) ≡ true }
     ensures kept { AreKept R.rule board.old (S.test R.rule board.old) kept.new }
     ensures board { board.new ≡ board.old }
 {
@@ -127,7 +130,7 @@ pub fn next_passing<R: Rules, S: Sought>(
         if number >= end {
             return end;
         }
-        if sought.passes::<R>(board, triple(number)) {
+        if sought.is_found::<R>(board, triple(number)) {
             return number;
         }
         number += 1;

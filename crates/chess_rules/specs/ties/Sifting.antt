@@ -1,0 +1,25 @@
+-- Legal moves that a sieve takes (own).
+use Rattle.std.specs.Prelude.{◌≡◌, ℕ, Bool, true, false, ◌&&◌, ◌==◌, List, [], ◌∷◌, ◌++◌, filter}
+use Rattle.std.specs.Int.{bit_at}
+use Rattle.chess_core.specs.Position.{Position}
+use Rattle.chess_core.specs.declared.man.Move.{Move}
+use Rattle.chess_rules.specs.RuleSet.{RuleSet}
+use Rattle.chess_rules.specs.Legal.{is_legal}
+use Rattle.chess_rules.specs.ties.Places.{moves_between}
+
+-- no legal move from s to a square of w that isn't one of v passes the test
+pub record AreSifted (rule : RuleSet) (p : Position) (test : Move → Bool) (s w v : ℕ) : Type
+    0 where
+  pub taken : (m : Move) → is_legal rule p m ≡ true → m.from ≡ s → (bit_at w m.to == 1) ≡ true
+      → (bit_at v m.to == 1) ≡ false → test m ≡ false
+
+-- a move that no sieve for the test takes: it is legal and passes
+abbrev pub is_wanted : RuleSet → Position → (Move → Bool) → Move → Bool
+is_wanted rule p test m = is_legal rule p m && test m
+
+-- behind the place a up to the place b lie the legal moves `over`, none of which passes the test, and then m
+pub record IsSifted (rule : RuleSet) (p : Position) (test : Move → Bool) (a b : ℕ) (m : Move) : Type
+    0 where
+  pub over : List Move
+  pub passed : moves_between rule p a b ≡ over ++ m ∷ []
+  pub none : filter test over ≡ []
