@@ -6,4 +6,6 @@ pub mod Walks
 pub mod Arrivals
 pub mod Calls
 pub mod Between
+pub mod Counting
+pub mod SurelyLegal
 pub mod Triples
