@@ -6,5 +6,7 @@ pub mod Walks
 pub mod Arrivals
 pub mod Calls
 pub mod Between
+pub mod Counting
+pub mod SurelyLegal
 pub mod Triples
 pub mod Sifting

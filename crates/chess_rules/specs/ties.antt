@@ -1,3 +1,4 @@
+pub mod Counting
 pub mod Evasions
 pub mod Games
 pub mod Idle

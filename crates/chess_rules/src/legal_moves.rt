@@ -1,5 +1,5 @@
 //! The legal moves of one position, most of them found without being played.
-ghost use Rattle.std.specs.Prelude.{◌≡◌, ⊤, ℕ, ◌≤◌, ◌<◌, ◌∷◌, ◌++◌, [], filter, IfSome, MatchOption, None, Some, true};
+ghost use Rattle.std.specs.Prelude.{◌≡◌, ⊤, ℕ, ◌≤◌, ◌<◌, ◌∷◌, ◌++◌, [], filter, IfSome, MatchOption, None, Some, length, true};
 ghost use Rattle.chess_core.specs.WellFormed.{IsWellFormed};
 ghost use Rattle.chess_core.specs.ties.Words.{word};
 ghost use Rattle.chess_rules.specs.ties.Evasions.{AreEvasions};
@@ -9,6 +9,7 @@ ghost use Rattle.chess_rules.specs.ties.Places.{HaveNone, IsPlaceIn, first_behin
 ghost use Rattle.chess_rules.specs.ties.Sifting.{IsSifted};
 ghost use Rattle.chess_rules.specs.ties.Targets.{AreCandidates, AreKept, AreOrigins, IsAimed};
 
+use crate::counting::count_between;
 use crate::evasions::{evasion_squares, evasions_from};
 use crate::legal::is_legal;
 use crate::moves::{Moves, triple};
@@ -213,6 +214,22 @@ impl<R: Rules> LegalMoves<R> {
         self.passed = TRIPLES;
         None
     }
+
+    /// How many legal moves lie behind the place and not behind `end`. The board is unchanged. The place
+    /// must be one in the board's position.
+    pub fn count_until(&self, end: Moves<R>, board: &mut Board) -> u16
+        requires well_formed { IsWellFormed board.old }
+        requires place { IsPlaceIn R.rule board.old self.now }
+        ensures count { result ≡ length (moves_between R.rule board.old self.now.place end) }
+        ensures board { board.new ≡ board.old }
+    {
+        let known = Known {
+            shield_squares: self.shield_squares,
+            evasion_squares: self.evasion_squares,
+        };
+        let stop = end.number().min(TRIPLES);
+        count_between::<R>(board, known, &self.targets, self.passed, stop)
+    }
 }
 
 // The number of the first legal move from the triple numbered `start` on and before the one numbered `end`;
@@ -245,11 +262,12 @@ pub(crate) fn next_legal<R: Rules>(
     next_passing::<R, Known>(board, &known, kept, start, end)
 }
 
-/// What is known of a position where legal moves are looked for.
+/// What is known of a position where legal moves are looked for: the squares from which one may expose the
+/// mover's king, and those to which one may go that ends a check.
 #[derive(Clone, Copy)]
-struct Known {
-    shield_squares: u64,
-    evasion_squares: u64,
+pub(crate) struct Known {
+    pub(crate) shield_squares: u64,
+    pub(crate) evasion_squares: u64,
 }
 
 impl Sought for Known {
@@ -318,14 +336,14 @@ impl<'a, S: Sift> Sought for Sifted<'a, S> {
 }
 
 // The squares from which the side to move has a legal move, and perhaps more: those of its men.
-fn own_origins<R: Rules>(board: &Board) -> u64
+pub(crate) fn own_origins<R: Rules>(board: &Board) -> u64
     ensures { AreOrigins (is_legal R.rule board.now) result }
 {
     board.side(board.turn())
 }
 
 // The squares to which the man on `from` may go by a legal move, and perhaps more.
-fn candidates<R: Rules>(board: &Board, evasion_squares: u64, from: Square) -> u64
+pub(crate) fn candidates<R: Rules>(board: &Board, evasion_squares: u64, from: Square) -> u64
     requires well_formed { IsWellFormed board.now }
     requires evasion_squares { AreEvasions R.rule board.now.men board.now.turn evasion_squares }
     ensures { AreCandidates R.rule board.now (is_legal R.rule board.now) from result }

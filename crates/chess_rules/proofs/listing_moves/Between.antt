@@ -1,4 +1,5 @@
 -- The legal moves between two places.
+use Rattle.std.proofs.Math.Seq.{take-add}
 use Rattle.std.proofs.lemmas.List.{drop-drop}
 use Rattle.chess_rules.proofs.Basics.{List, [], ap, arith, drop, false, filter, filter-append, refl, rules, sym, take, take-append-drop, true, ℕ, ◌++◌, ◌+◌, ◌-◌, ◌<◌, ◌∙◌, ◌∷◌, ◌≡◌, ◌≤◌}
 use Rattle.chess_rules.proofs.Chess.{HaveNone, Move, Position, RuleSet, is_legal, moves, moves_behind, moves_between, triple_at, triples}
@@ -30,7 +31,7 @@ unfolding moves_between
 between-skip rule p a b lt h = search (rules, between-none, drop_triples)
 
 -- over a stretch without moves
-between-none-is_legal : (rule : RuleSet) (p : Position) (a b e : ℕ) → (b < 28672 → a ≤ b) → b ≤ 28672 → HaveNone (is_legal rule p) a b
+pub between-none-is_legal : (rule : RuleSet) (p : Position) (a b e : ℕ) → (b < 28672 → a ≤ b) → b ≤ 28672 → HaveNone (is_legal rule p) a b
     → moves_between rule p a e ≡ moves_between rule p b e
 between-none-is_legal rule p a b e =
     over (λ n. moves_between rule p n e) (is_legal rule p) (λ n lt h. between-skip rule p n e lt h) [] (λ n ge. between-past rule p n e ge) a b
@@ -60,6 +61,15 @@ cut_moves rule p a b le =
     ∙ ap (λ ms. filter (is_legal rule p) (take a triples) ++ ms) (sym (ap (filter (is_legal rule p)) (take-append-drop (b - a) (drop a triples)))
     ∙ filter-append (is_legal rule p) (take (b - a) (drop a triples)) (drop (b - a) (drop a triples))
     ∙ ap (λ l. filter (is_legal rule p) (take (b - a) (drop a triples)) ++ filter (is_legal rule p) l) (drop_twice a b triples le)))
+
+-- the moves between two places, cut at a third
+pub between_cut : (rule : RuleSet) (p : Position) (a b e : ℕ) → a ≤ b → b ≤ e → moves_between rule p a e ≡ moves_between rule p a b ++ moves_between rule p b e
+unfolding moves_between
+between_cut rule p a b e lo hi =
+    let n : e - a ≡ (b - a) + (e - b) = omega arith in
+    let kept = filter (is_legal rule p) in
+    rw n (ap kept (take-add (b - a) (e - b) (drop a triples)) ∙ filter-append (is_legal rule p) (take (b - a) (drop a triples)) _
+    ∙ ap (λ l. kept (take (b - a) (drop a triples)) ++ kept (take (e - b) l)) (drop_twice a b triples lo))
 
 -- the moves behind a place, cut at another
 pub behind_cut : (rule : RuleSet) (p : Position) (a b : ℕ) → a ≤ b → moves_behind rule p a ≡ moves_between rule p a b ++ moves_behind rule p b

@@ -64,12 +64,14 @@ promoted p x m o h e = grind (arith, cases_Bool)
 unpromoted : (p : Position) (x : Man) (m : Move) (o : Option Kind) (k : Kind) → is_promotion_right p x m o ≡ true → o ≡ Some k → arrives x m.to ≡ true
 unpromoted p x m o k h e = grind (arith, and_parts)
 
-no_promotion_here : (rule : RuleSet) (p : Position) (x : Man) (m : Move) (k : Kind) → man_on p.men m.from ≡ Some x → m.promo ≡ Some k → arrives x m.to ≡ false
+-- on another rank than the last none may be named
+pub no_promotion_here : (rule : RuleSet) (p : Position) (x : Man) (m : Move) (k : Kind) → man_on p.men m.from ≡ Some x → m.promo ≡ Some k → arrives x m.to ≡ false
     → is_pseudo_legal rule p m ≡ false
 no_promotion_here rule p x m k here e h =
     false_by (is_pseudo_legal rule p m) (λ y. let t = unpromoted p x m m.promo k (made rule p m x y here).promotion e in cc)
 
-promotion_missing : (rule : RuleSet) (p : Position) (x : Man) (m : Move) → man_on p.men m.from ≡ Some x → m.promo ≡ None → arrives x m.to ≡ true
+-- on the last one must be
+pub promotion_missing : (rule : RuleSet) (p : Position) (x : Man) (m : Move) → man_on p.men m.from ≡ Some x → m.promo ≡ None → arrives x m.to ≡ true
     → is_pseudo_legal rule p m ≡ false
 promotion_missing rule p x m here e h =
     false_by (is_pseudo_legal rule p m) (λ y. let t = promoted p x m m.promo (made rule p m x y here).promotion e in cc)
@@ -107,7 +109,8 @@ from-missed p s a b w none = search rules
 pub some_named : (n : ℕ) → 1 ≤ n → n < 7 → is_some (promotion_at n) ≡ true
 some_named n lo hi = grind (arith, agree_below_at)
 
-named_by : (o : Option Kind) → is_some o ≡ true → (k : Kind) × (o ≡ Some k)
+-- that is, one kind
+pub named_by : (o : Option Kind) → is_some o ≡ true → (k : Kind) × (o ≡ Some k)
 named_by o h = grind arith
 
 -- on another rank than the last there is no promotion

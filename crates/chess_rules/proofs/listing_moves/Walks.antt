@@ -37,7 +37,8 @@ module _ (rule : RuleSet) (p : Position) (test : Move → Bool) (needs : (m : Mo
       → test m ≡ false
   none-move s w m are at small h = search (rules, cases_Bool)
 
-  none-from : (s w a b : ℕ) → b ≤ 448 → AreCandidates rule p test s w → IsBarrenFrom p s w a b → HaveNone test (448 * s + a) (448 * s + b)
+  -- of an origin's candidates none passes over a stretch without a move
+  pub none-from : (s w a b : ℕ) → b ≤ 448 → AreCandidates rule p test s w → IsBarrenFrom p s w a b → HaveNone test (448 * s + a) (448 * s + b)
   unfolding triple_at
   none-from s w a b le are h = record {
     fails = λ k lo hi.
@@ -54,7 +55,7 @@ module _ (rule : RuleSet) (p : Position) (test : Move → Bool) (needs : (m : Mo
   own-origins o h = grind (arith, own_moves, word_has)
 
   -- none of the squares from the first one on and before the next origin is in the word
-  none-missed : (a b o : ℕ) → AreOrigins test o → b ≤ 28672 → ((s : ℕ) → a / 448 ≤ s → s < (b + 447) / 448 → (bit_at o s == 1) ≡ false)
+  pub none-missed : (a b o : ℕ) → AreOrigins test o → b ≤ 28672 → ((s : ℕ) → a / 448 ≤ s → s < (b + 447) / 448 → (bit_at o s == 1) ≡ false)
       → HaveNone test a b
   unfolding triple_at
   none-missed a b o h le none = grind arith

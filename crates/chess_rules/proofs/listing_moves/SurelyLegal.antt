@@ -1,0 +1,65 @@
+-- Moves that are legal without a look.
+use Rattle.chess_rules.proofs.Basics.{Bool, None, Some, and_from, ap, if◌then◌else◌, refl, bit_or, and_left, bit_and, bit_at, eqb-true, false, is_some, not, or_parts, rules, sym, true, ℕ, ◌&&◌, ◌<◌, ◌==◌, ◌∙◌, ◌≡◌}
+use Rattle.chess_rules.proofs.Chess.{AreCandidates, IsAimed, IsWellFormed, King, Man, Move, Pawn, Position, RuleSet, arrives, is_circe, is_legal, is_plain, is_square, man_on, may_expose, may_stand_between, rank_of, same_kind, squares, squares_either, squares_same, word, word_of, Black, White}
+use Rattle.chess_rules.proofs.Bits.{word_empty, word_has}
+use Rattle.chess_rules.proofs.attacks.Shielding.{cannot_expose_own}
+use Rattle.chess_rules.proofs.listing_moves.Arrivals.{aimed_plain, goes_on, may_go_aimed}
+use Rattle.chess_rules.proofs.listing_moves.Targeting.{no_pawn_arrives}
+use Rattle.chess_rules.proofs.listing_moves.Walks.{off_second, off_zero}
+use Rattle.chess_rules.specs.ties.Counting.{AreLegal, is_unsure}
+use Rattle.chess_rules.specs.ties.Shields.{cannot_expose}
+
+-- a move to a square that is sure changes nothing else, and uncovers no king
+sure_unexposed : (rule : RuleSet) (p : Position) (x : Man) (m : Move) → man_on p.men m.from ≡ Some x → same_kind x.kind King ≡ false
+    → may_expose p.men p.turn m.from ≡ false → is_unsure rule p x m.to ≡ false → (cannot_expose rule p p.turn m ≡ true) × (arrives x m.to ≡ false)
+unfolding cannot_expose is_plain is_unsure
+sure_unexposed rule p x m here piece from sure = search (rules, and_from, and_left, or_parts)
+
+-- of a man who isn't the king and shields him from nobody, each move to such a square is legal
+pub surely_legal : (rule : RuleSet) (p : Position) (x : Man) (s w v u : ℕ) → IsWellFormed p → man_on p.men s ≡ Some x → s < 64
+    → AreCandidates rule p (is_legal rule p) s w → same_kind x.kind King ≡ false → v ≡ word (may_expose p.men p.turn) → (bit_at v s == 1) ≡ false
+    → u ≡ word (is_unsure rule p x) → (bit_and w u == 0) ≡ true → AreLegal rule p s w
+unfolding is_legal
+surely_legal rule p x s w v u well here small are piece shields unshielding unsure none = record {
+  to = λ t lt on.
+      let m : Move = record { from = s; to = t; promo = None } in
+      let zero : bit_and w u ≡ 0 = eqb-true (bit_and w u) 0 none in
+      let off = off_second w u t (rw zero (off_zero t)) on in
+      let parts = sure_unexposed rule p x m here piece (sym (word_has (may_expose p.men p.turn) v s shields small) ∙ unshielding)
+      (sym (word_has (is_unsure rule p x) u t unsure lt) ∙ off) in
+      let aimed : IsAimed rule p m = record { man = x; here = here; arrival = are.inside t lt on; promotion = sym parts.1 } in
+      let goes = goes_on rule p x m here (may_go_aimed rule p x m here (are.inside t lt on)) (and_left _ _ piece) in
+      let may = sym (goes ∙ aimed_plain rule p m x aimed refl here) in
+      and_from _ _ may (ap not (cannot_expose_own rule p m well may lt parts.0));
+}
+
+reborn_word : (b : Bool) (test : ℕ → Bool) → (if b then word test else 0) ≡ word (λ t. b && test t)
+reborn_word true test = refl
+reborn_word false test = word_empty (λ t. false && test t) (λ t lt. refl)
+
+-- the word of the squares that aren't sure: those on the lines of fairy men, the crossed one, those with men who may be reborn, and of a pawn's last rank
+pub unsure_word : (rule : RuleSet) (p : Position) (x : Man) (f c r l : ℕ) → f ≡ word (may_stand_between p.men p.turn) → c ≡ word (λ t. is_square p.crossed t)
+    → r ≡ (if is_circe rule then word (λ t. is_some (man_on p.men t)) else 0) → l ≡ word (arrives x)
+    → bit_or (bit_or (bit_or f c) r) l ≡ word (is_unsure rule p x)
+unfolding is_unsure
+unsure_word rule p x f c r l hf hc hr hl = search (rules, reborn_word, squares_either)
+
+eighth_rank : 18374686479671623680 ≡ word (λ t. rank_of t == 8)
+unfolding word squares word_of
+eighth_rank = refl
+
+first_rank : 255 ≡ word (λ t. rank_of t == 1)
+unfolding word squares word_of
+first_rank = refl
+
+-- the squares on which a white pawn is promoted
+pub promoting_white : (x : Man) → same_kind x.kind Pawn ≡ true → x.colour ≡ White → 18374686479671623680 ≡ word (arrives x)
+promoting_white x pawn white = eighth_rank ∙ squares_same _ _ (λ t lt. rw (pawn, white) refl)
+
+-- and a black one
+pub promoting_black : (x : Man) → same_kind x.kind Pawn ≡ true → x.colour ≡ Black → 255 ≡ word (arrives x)
+promoting_black x pawn black = first_rank ∙ squares_same _ _ (λ t lt. rw (pawn, black) refl)
+
+-- another man is promoted nowhere
+pub promoting_none : (x : Man) → same_kind x.kind Pawn ≡ false → 0 ≡ word (arrives x)
+promoting_none x none = word_empty (arrives x) (λ t lt. no_pawn_arrives x t none)

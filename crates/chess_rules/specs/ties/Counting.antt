@@ -1,0 +1,22 @@
+-- Moves of which it is known without a look that they are legal (own).
+use Rattle.std.specs.Prelude.{◌≡◌, ◌<◌, ◌==◌, ◌&&◌, ◌||◌, ℕ, Bool, None, is_some, true}
+use Rattle.std.specs.Int.{bit_at}
+use Rattle.chess_core.specs.Position.{Position, man_on}
+use Rattle.chess_core.specs.Squares.{is_square}
+use Rattle.chess_core.specs.declared.man.Man.{Man}
+use Rattle.chess_rules.specs.Legal.{is_legal}
+use Rattle.chess_rules.specs.RuleSet.{RuleSet, is_circe}
+use Rattle.chess_rules.specs.ties.Shields.{may_stand_between}
+use Rattle.chess_rules.specs.ties.Targets.{arrives}
+
+-- what another man than the king does on t may be more than to stand there: he comes on a line to his king with an
+-- enemy fairy man, captures en passant, or in Circe captures a man who is reborn, or is promoted
+unfoldable pub is_unsure : RuleSet → Position → Man → ℕ → Bool
+is_unsure rule p x t =
+    may_stand_between p.men p.turn t || is_square p.crossed t
+    || (is_circe rule && is_some (man_on p.men t)) || arrives x t
+
+-- the man on s goes to each square of the word by a legal move, without a promotion
+pub record AreLegal (rule : RuleSet) (p : Position) (s w : ℕ) : Type 0 where
+  pub to : (t : ℕ) → t < 64 → (bit_at w t == 1) ≡ true
+      → is_legal rule p (record { from = s; to = t; promo = None }) ≡ true

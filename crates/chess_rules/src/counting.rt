@@ -1,0 +1,200 @@
+//! How many legal moves lie between two places, most of them counted by words of squares.
+ghost use Rattle.std.specs.Prelude.{◌≡◌, ◌*◌, ◌+◌, ◌/◌, ◌^◌, ◌<◌, ◌≤◌, ◌==◌, ℕ, count_ones, length, true};
+ghost use Rattle.std.specs.Int.{bit_at};
+ghost use Rattle.chess_core.specs.WellFormed.{IsWellFormed};
+ghost use Rattle.chess_core.specs.ties.Words.{word};
+ghost use Rattle.chess_rules.specs.Legal.{is_legal};
+ghost use Rattle.chess_rules.specs.ties.Counting.{AreLegal, is_unsure};
+ghost use Rattle.chess_rules.specs.ties.Evasions.{AreEvasions};
+ghost use Rattle.chess_rules.specs.ties.Places.{moves_between};
+ghost use Rattle.chess_rules.specs.ties.Shields.{may_expose};
+ghost use Rattle.chess_rules.specs.ties.Targets.{AreCandidates, AreKept, arrives};
+
+use crate::evasions::rebirth_captures;
+use crate::legal::is_legal;
+use crate::legal_moves::{Known, candidates, own_origins};
+use crate::moves::triple;
+use crate::rules::Rules;
+use crate::shields::fairy_lines;
+use crate::targets::{Kept, PER_ORIGIN, next_from};
+use crate::words::{contains, next_bit, only};
+use chess_core::board::Board;
+use chess_core::man::{Colour, Kind, Man};
+use chess_core::square::Square;
+
+// How many squares the word has from the one with this number on.
+fn count_from(word: u64, from: u8) -> u16
+    ensures value { result ≡ count_ones (word / 2 ^ from) }
+    ensures small { result ≤ 64 }
+{
+    if from >= 64 {
+        return 0;
+    }
+    (word >> from).count_ones() as u16
+}
+
+const FIRST_RANK: u64 = 0xff;
+
+const EIGHTH_RANK: u64 = 0xff00_0000_0000_0000;
+
+// The squares on which this man is promoted, if he is a pawn.
+#[tactic(auto, using(crate::proofs::listing_moves::SurelyLegal::promoting_black, crate::proofs::listing_moves::SurelyLegal::promoting_none, crate::proofs::listing_moves::SurelyLegal::promoting_white))]
+fn promoting_squares(man: Man) -> u64
+    ensures { result ≡ word (arrives man) }
+{
+    if !man.kind.is(Kind::Pawn) {
+        return 0;
+    }
+    match man.colour {
+        Colour::White => EIGHTH_RANK,
+        Colour::Black => FIRST_RANK,
+    }
+}
+
+// The squares to which another man than the king may go by a move that has to be looked at: one that changes
+// more than his own square, or names a promotion, or shuts or opens a line of a fairy man.
+#[tactic(auto, using(crate::proofs::listing_moves::SurelyLegal::unsure_word))]
+fn unsure_squares<R: Rules>(board: &Board, man: Man) -> u64
+    ensures { result ≡ word (is_unsure R.rule board.now man) }
+{
+    fairy_lines(board, board.turn())
+        | only(board.crossed())
+        | rebirth_captures::<R>(board)
+        | promoting_squares(man)
+}
+
+// Whether each move of the man on `from` to one of these squares is surely legal, without a promotion.
+// `shield_squares` are those from which a move may expose the mover's king.
+fn are_surely_legal<R: Rules>(
+    board: &Board,
+    shield_squares: u64,
+    from: Square,
+    squares: u64,
+) -> bool
+    requires well_formed { IsWellFormed board.now }
+    requires shield_squares { shield_squares ≡ word (may_expose board.now.men board.now.turn) }
+    requires squares { AreCandidates R.rule board.now (is_legal R.rule board.now) from squares }
+    ensures { result ≡ true → AreLegal R.rule board.now from squares }
+{
+    // For the proof: a square's number is below 64.
+    let _small = from.index();
+    let Some(man) = board.man_at(from) else {
+        return false;
+    };
+    if man.kind.is(Kind::King) {
+        return false;
+    }
+    if contains(shield_squares, from) {
+        return false;
+    }
+    squares & unsure_squares::<R>(board, man) == 0
+}
+
+// How many legal moves the man on `from` has among his triples numbered from `start` on and below `end`, each
+// counted from the origin's first; each is looked at. `squares` are those to which he may go. The board is
+// unchanged.
+fn count_one_by_one<R: Rules>(
+    board: &mut Board,
+    known: Known,
+    squares: u64,
+    from: Square,
+    start: u16,
+    end: u16,
+) -> u16
+    requires well_formed { IsWellFormed board.old }
+    requires shield_squares { known.shield_squares ≡ word (may_expose board.old.men board.old.turn) }
+    requires evasion_squares { AreEvasions R.rule board.old.men board.old.turn known.evasion_squares }
+    requires squares { AreCandidates R.rule board.old (is_legal R.rule board.old) from squares }
+    requires start { start ≤ end }
+    requires end { end ≤ 448 }
+    ensures count { result ≡ length (moves_between R.rule board.old (448 * from + start)
+        (448 * from + end)) }
+    ensures board { board.new ≡ board.old }
+{
+    let first = u16::from(from.index()) * PER_ORIGIN;
+    let mut count = 0u16;
+    let mut at = next_from(board, from, squares, start);
+    while at < end {
+        let m = triple(first + at);
+        count += u16::from(is_legal::<R>(board, known.shield_squares, known.evasion_squares, m));
+        at = next_from(board, from, squares, at + 1);
+    }
+    count
+}
+
+// The same, where all are surely legal without looking at them.
+fn count_origin<R: Rules>(
+    board: &mut Board,
+    known: Known,
+    squares: u64,
+    from: Square,
+    start: u16,
+    end: u16,
+) -> u16
+    requires well_formed { IsWellFormed board.old }
+    requires shield_squares { known.shield_squares ≡ word (may_expose board.old.men board.old.turn) }
+    requires evasion_squares { AreEvasions R.rule board.old.men board.old.turn known.evasion_squares }
+    requires squares { AreCandidates R.rule board.old (is_legal R.rule board.old) from squares }
+    requires start { start ≤ end }
+    requires end { end ≤ 448 }
+    ensures count { result ≡ length (moves_between R.rule board.old (448 * from + start)
+        (448 * from + end)) }
+    ensures board { board.new ≡ board.old }
+{
+    if are_surely_legal::<R>(board, known.shield_squares, from, squares) {
+        return count_from(squares, ((start + 6) / 7) as u8)
+            - count_from(squares, ((end + 6) / 7) as u8);
+    }
+    count_one_by_one::<R>(board, known, squares, from, start, end)
+}
+
+// The squares to which the man on `from` may go by a legal move, and perhaps more: as kept, if they are.
+fn squares_from<R: Rules>(board: &Board, known: Known, kept: &Kept, from: Square) -> u64
+    requires well_formed { IsWellFormed board.now }
+    requires evasion_squares { AreEvasions R.rule board.now.men board.now.turn known.evasion_squares }
+    requires kept { AreKept R.rule board.now (is_legal R.rule board.now) kept.now }
+    ensures { AreCandidates R.rule board.now (is_legal R.rule board.now) from result }
+{
+    if kept.origin == Some(from) {
+        kept.squares
+    } else {
+        candidates::<R>(board, known.evasion_squares, from)
+    }
+}
+
+// How many legal moves there are among the triples numbered from `start` on and below `end`. The board is
+// unchanged.
+pub(crate) fn count_between<R: Rules>(
+    board: &mut Board,
+    known: Known,
+    kept: &Kept,
+    start: u16,
+    end: u16,
+) -> u16
+    requires well_formed { IsWellFormed board.old }
+    requires shield_squares { known.shield_squares ≡ word (may_expose board.old.men board.old.turn) }
+    requires evasion_squares { AreEvasions R.rule board.old.men board.old.turn known.evasion_squares }
+    requires kept { AreKept R.rule board.old (is_legal R.rule board.old) kept.now }
+    requires end { end ≤ 28672 }
+    ensures count { result ≡ length (moves_between R.rule board.old start end) }
+    ensures board { board.new ≡ board.old }
+{
+    let origins = own_origins::<R>(board);
+    let mut count = 0u16;
+    let mut number = start;
+    while number < end {
+        let Some(from) = next_bit(origins, (number / PER_ORIGIN) as u8) else {
+            return count;
+        };
+        let first = u16::from(from.index()) * PER_ORIGIN;
+        if end <= first {
+            return count;
+        }
+        let squares = squares_from::<R>(board, known, kept, from);
+        let begin = number.saturating_sub(first);
+        let stop = (end - first).min(PER_ORIGIN);
+        count += count_origin::<R>(board, known, squares, from, begin, stop);
+        number = first + PER_ORIGIN;
+    }
+    count
+}
