@@ -98,17 +98,17 @@ impl<R: Rules> Killers<R> {
         if !Threats::are_told::<R>(board) {
             return false;
         }
-        if let Some(threats) = &mut self.threats {
-            if let Some(ruled_out) = threats.rule_out_mate::<R>(board, m) {
-                return ruled_out;
+        if let Some(threats) = &self.threats {
+            if threats.are_of::<R>(board) {
+                return threats.rule_out_mate::<R>(board, m);
             }
         }
         let Some(king) = board.king_of(board.turn()) else {
             return false;
         };
-        let mut threats = Threats::of(board, king);
+        let threats = Threats::of(board, king);
         let ruled_out = threats.rule_out_mate::<R>(board, m);
         self.threats = Some(threats);
-        ruled_out == Some(true)
+        ruled_out
     }
 }
