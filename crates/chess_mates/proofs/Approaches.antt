@@ -1,6 +1,6 @@
 -- From where pawns come to a square: so many squares before it, or behind it.
-use Rattle.chess_rules.proofs.Basics.{Bool, agree_below_at, and_parts, ap, arith, bit_at, bit_or, eqb-true, inl, inr, list_any, not, or_cases, or_left, or_right, refl, rules, sym, true, ℕ, ◌%◌, ◌*◌, ◌+◌, ◌-◌, ◌/◌, ◌<◌, ◌==◌, ◌^◌, ◌||◌, ◌∙◌, ◌≡◌, ◌≤◌}
-use Rattle.chess_mates.proofs.Chess.{AreApproaches, Black, Colour, Pawn, Position, White, along, is_advance, leaps, may_go, pawn_captures, reaches_as}
+use Rattle.chess_rules.proofs.Basics.{Bool, agree_below, agree_below_at, and_from, and_parts, ap, arith, bit_at, bit_or, eqb-true, false, inl, inr, list_any, not, not-true, or_cases, or_left, or_right, refl, rules, sym, true, ℕ, ◌%◌, ◌&&◌, ◌*◌, ◌+◌, ◌-◌, ◌/◌, ◌<◌, ◌==◌, ◌^◌, ◌||◌, ◌∙◌, ◌≡◌, ◌≤◌}
+use Rattle.chess_mates.proofs.Chess.{AreApproaches, Black, Colour, Pawn, Position, White, along, is_advance, leaps, may_go, pawn_captures, queen_steps, rank_of, reaches_as}
 use Rattle.std.proofs.Math.Nat.{div-add-mod}
 use Rattle.std.proofs.lemmas.Nat.{pow_pos, shr-shr}
 use Rattle.std.proofs.lemmas.Nat.Bits.{bit_at_cat_high, bit_at_cat_low}
@@ -53,16 +53,37 @@ abbrev pawn_distance_by : Colour → ℕ → ℕ → Bool
 pawn_distance_by White s t = pawn_distance s t
 pawn_distance_by Black s t = pawn_distance t s
 
-pawns_far : (c : Colour) (s t : ℕ) → s < 64 → t < 64 → pawn_way c s t ≡ true → pawn_distance_by c s t ≡ true
-pawns_far c s t p q = by (64 * s + t) (omega (arith, p, q)) (omega (arith, q)) (omega (arith, q)) where
-  table : (c : Colour) (k : ℕ) → k < 4096 → (not (pawn_way c (k / 64) (k % 64)) || pawn_distance_by c (k / 64) (k % 64)) ≡ true
-  table White k lt = unfold along leaps in
-      agree_below_at (λ n. not (pawn_way White (n / 64) (n % 64)) || pawn_distance (n / 64) (n % 64)) (λ n. true) 4096 k refl lt
-  table Black k lt = unfold along leaps in
-      agree_below_at (λ n. not (pawn_way Black (n / 64) (n % 64)) || pawn_distance (n % 64) (n / 64)) (λ n. true) 4096 k refl lt
+-- what is computed of all pairs of squares
+pairs : (f : ℕ → ℕ → Bool) → agree_below (λ n. f (n / 64) (n % 64)) (λ n. true) 4096 ≡ true → (s t : ℕ) → s < 64 → t < 64 → f s t ≡ true
+pairs f all s t p q =
+    let a : (64 * s + t) / 64 ≡ s = omega (arith, p, q) in
+    let b : (64 * s + t) % 64 ≡ t = omega (arith, q) in
+    rw (a, b) at (agree_below_at (λ n. f (n / 64) (n % 64)) (λ n. true) 4096 (64 * s + t) all (omega (arith, p, q)))
 
-  by : (k : ℕ) → k < 4096 → k / 64 ≡ s → k % 64 ≡ t → pawn_way c s t ≡ true → pawn_distance_by c s t ≡ true
-  by k lt a b = rw (← a, ← b) (implied _ _ (table c k lt))
+pawns_far : (c : Colour) (s t : ℕ) → s < 64 → t < 64 → pawn_way c s t ≡ true → pawn_distance_by c s t ≡ true
+pawns_far White s t p q = unfold along leaps in implied _ _ (pairs (λ s t. not (pawn_way White s t) || pawn_distance s t) refl s t p q)
+pawns_far Black s t p q = unfold along leaps in implied _ _ (pairs (λ s t. not (pawn_way Black s t) || pawn_distance t s) refl s t p q)
+
+-- two ranks away
+abbrev is_far : ℕ → ℕ → Bool
+is_far s t = rank_of s + 2 == rank_of t || rank_of t + 2 == rank_of s
+
+-- for double steps: no step goes so far, and a pawn that does goes over the next square ahead
+pub no_far_step : (s t : ℕ) → s < 64 → t < 64 → is_far s t ≡ true → list_any (leaps s t) queen_steps ≡ false
+unfolding along leaps
+no_far_step s t p q far = not-true _ (implied _ _ (pairs (λ s t. not (is_far s t) || not (list_any (leaps s t) queen_steps)) refl s t p q) far)
+
+abbrev goes_over : Colour → ℕ → ℕ → Bool
+goes_over c s t = is_advance c s ((s + t) / 2) && list_any (leaps s ((s + t) / 2)) queen_steps
+
+over_next : (c : Colour) (s t : ℕ) → s < 64 → t < 64 → (pawn_way c s t && is_far s t) ≡ true → goes_over c s t ≡ true
+unfolding along leaps
+over_next White s t p q = implied _ _ (pairs (λ s t. not (pawn_way White s t && is_far s t) || goes_over White s t) refl s t p q)
+over_next Black s t p q = implied _ _ (pairs (λ s t. not (pawn_way Black s t && is_far s t) || goes_over Black s t) refl s t p q)
+
+pub goes_over_next : (p : Position) (c : Colour) (s t : ℕ) → s < 64 → t < 64 → may_go p (record { colour = c; kind = Pawn }) s t ≡ true → is_far s t ≡ true
+    → (is_advance c s ((s + t) / 2) ≡ true) × (list_any (leaps s ((s + t) / 2)) queen_steps ≡ true)
+goes_over_next p c s t low high goes far = and_parts _ _ (over_next c s t low high (and_from _ _ (pawn_goes_so p c s t goes) far))
 
 -- the words moved by these distances
 module _ (w s t : ℕ) (small : s < 64) (on : (bit_at w t == 1) ≡ true) where

@@ -6,9 +6,9 @@ use Rattle.chess_mates.proofs.Chess.{reaches_as, rides, same_kind, squares, stra
 use Rattle.chess_core.proofs.Ranges.{all_range_true, any_range_true}
 use Rattle.chess_core.proofs.Words.{square_word}
 use Rattle.chess_core.specs.ties.Words.{bit_of}
-use Rattle.chess_mates.specs.declared.threats.Attackers.{Attackers}
-use Rattle.chess_mates.specs.ties.Threats.{AreReached, IsAttacker, IsReached, is_leaper, is_rider, men_on, squares_for}
-use Rattle.chess_mates.specs.ties.Threats.{reached_over}
+use Rattle.chess_mates.specs.declared.siege.Attackers.{Attackers}
+use Rattle.chess_mates.specs.ties.Siege.{AreReached, IsAttacker, IsReached, is_leaper, is_rider, men_on, squares_for}
+use Rattle.chess_mates.specs.ties.Siege.{reached_over}
 use Rattle.chess_rules.proofs.Bits.{on_left, on_right, word_has}
 use Rattle.chess_rules.proofs.rays.Flips.{diagonal-back, king-back, knight-back, nightrider-back, pawn-back, queen_rides-back, straight-back}
 use Rattle.chess_rules.proofs.making_moves.Pseudo.{on_board}

@@ -20,6 +20,7 @@ pub mod Hurdles
 pub mod Risks
 pub mod Sieges
 pub mod Standing
+pub mod Passing
 pub mod QuietCastling
 pub mod Sparing
 pub mod Ways

@@ -2,7 +2,7 @@
 use Rattle.chess_rules.proofs.Basics.{Bool, List, Option, Some, [], ◌∷◌, and_left, and_right, ap, arith, eqb-true, false, false≢true, list_any, refl, sym, true, ℕ, ◌<◌, ◌==◌, ◌∙◌, ◌≡◌}
 use Rattle.chess_mates.proofs.Chess.{Bishop, Colour, Grasshopper, IsWellFormed, Kind, King, Man, Move, Nightrider, Position, Rook, RuleSet, Step, halfway, in_check, is_castling, is_fairy, is_man, is_on_some, king_square, knight_steps, man_on, may_check_from, may_check_from_on, other, position_after, queen_steps}
 use Rattle.chess_mates.proofs.Chess.{reaches_as, same_colour, same_kind, some_square_false, straight_steps}
-use Rattle.chess_mates.specs.ties.Threats.{is_rider}
+use Rattle.chess_mates.specs.ties.Siege.{is_rider}
 use Rattle.chess_rules.proofs.rays.Flips.{straight-back}
 use Rattle.chess_rules.proofs.attacks.StayingInCheck.{king_there}
 use Rattle.chess_rules.proofs.listing_moves.Targeting.{false_by}

@@ -2,13 +2,13 @@
 use Rattle.chess_rules.proofs.Basics.{List, Option, Some, and_left, and_parts, ap, arith, bit_and, bit_at, bit_at-lt, bit_not, bit_or, cases_Bool, cases_eq, eq-eqb, eqb-true, false, false≢true, find, inl, inr, not, range_with_len, refl, subst, sym, true, true_from_ne_false, w64, ℕ, ◌+◌, ◌-◌, ◌<◌, ◌==◌, ◌^◌, ◌∙◌, ◌≡◌, ◌≢◌, ◌⊎◌}
 use Rattle.chess_mates.proofs.Chess.{Bishop, Grasshopper, Kind, King, Knight, Man, Nightrider, Pawn, Position, Queen, Rook, arrives, find_first, is_square, leaps, may_go, occupied_squares, other}
 use Rattle.chess_mates.proofs.Chess.{reaches_as, rides, same_kind, squares, word}
-use Rattle.chess_mates.specs.declared.threats.Attackers.{Attackers}
-use Rattle.chess_mates.specs.declared.threats.Field.{Field}
-use Rattle.chess_mates.specs.declared.threats.Guards.{Guards}
-use Rattle.chess_mates.specs.declared.threats.Risk.{Risk}
-use Rattle.chess_mates.specs.declared.threats.Siege.{Siege}
-use Rattle.chess_mates.specs.ties.Threats.{AreArrivals, AreGuardsWithout, AreReached, AreWeak, IsAttacker, IsCheckWord, IsHarmless, IsMet, IsNoCheck, IsOff, IsReached, IsWeak, LeavesOne, is_leaper, is_rider, squares_for}
-use Rattle.chess_mates.specs.ties.Threats.{reached_over}
+use Rattle.chess_mates.specs.declared.siege.Attackers.{Attackers}
+use Rattle.chess_mates.specs.declared.siege.Field.{Field}
+use Rattle.chess_mates.specs.declared.siege.Guards.{Guards}
+use Rattle.chess_mates.specs.declared.siege.Risk.{Risk}
+use Rattle.chess_mates.specs.declared.siege.Siege.{Siege}
+use Rattle.chess_mates.specs.ties.Siege.{AreArrivals, AreGuardsWithout, AreReached, AreWeak, IsAttacker, IsCheckWord, IsHarmless, IsMet, IsNoCheck, IsOff, IsReached, IsWeak, LeavesOne, is_leaper, is_rider, squares_for}
+use Rattle.chess_mates.specs.ties.Siege.{reached_over}
 use Rattle.chess_rules.proofs.Bits.{off_left, off_right, word_has}
 use Rattle.chess_rules.proofs.listing_moves.Targeting.{every_square_on, false_by}
 use Rattle.chess_rules.proofs.making_moves.Pseudo.{king_is_no_pawn}
@@ -28,11 +28,12 @@ no_last_rank_on x w t none small on = no_last_rank x w t (true_from_ne_false _ (
 pub no_pawn_arrives : (x : Man) (t : ℕ) → same_kind x.kind Pawn ≡ false → arrives x t ≡ false
 no_pawn_arrives x t piece = and_left _ _ piece
 
--- a square of the first of two words, and not of the second
+-- a square that isn't one of a word, or one of the first of two words alone
+pub bit_denied : (b i : ℕ) → b < 2 ^ 64 → i < 64 → (bit_at b i == 1) ≡ false → (bit_at (bit_not w64 b) i == 1) ≡ true
+bit_denied b i fits small off = grind (arith, bit_at_not w64 b i fits small, bit_at-lt b i, eq-eqb, false≢true)
+
 pub denied_on : (a b i : ℕ) → b < 2 ^ 64 → i < 64 → (bit_at a i == 1) ≡ true → (bit_at b i == 1) ≡ false → (bit_at (bit_and a (bit_not w64 b)) i == 1) ≡ true
-denied_on a b i fits small on off = on_both a (bit_not w64 b) i on (bit_denied b i fits small off) where
-  bit_denied : (b i : ℕ) → b < 2 ^ 64 → i < 64 → (bit_at b i == 1) ≡ false → (bit_at (bit_not w64 b) i == 1) ≡ true
-  bit_denied b i fits small off = grind (arith, bit_at_not w64 b i fits small, bit_at-lt b i, eq-eqb, false≢true)
+denied_on a b i fits small on off = on_both a (bit_not w64 b) i on (bit_denied b i fits small off)
 
 -- a square of one of two words
 pub on_one : (a b i : ℕ) → (bit_at (bit_or a b) i == 1) ≡ true → ((bit_at a i == 1) ≡ true) ⊎ ((bit_at b i == 1) ≡ true)

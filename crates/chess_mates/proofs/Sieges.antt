@@ -1,25 +1,23 @@
 -- The men of a siege, its castlings and the king's field.
-use Rattle.chess_rules.proofs.Basics.{List, None, Option, Some, and_from, and_parts, ap, arith, bit_and, bit_at, bit_not, bit_or, eq-eqb, false, false≢true, inl, inr, list_any, or_cases, refl, subst, sym, true, w64, ℕ, ◌&&◌, ◌+◌, ◌-◌, ◌<◌, ◌==◌, ◌^◌, ◌||◌, ◌∙◌, ◌≡◌, ◌⊎◌}
-use Rattle.chess_mates.proofs.Chess.{Bishop, Colour, Grasshopper, IsWellFormed, Kind, King, Knight, Man, Move, Nightrider, Pawn, Position, Queen, Rook, White, corner, halfway, is_fairy, is_man, is_on_some, is_side, is_square, king_square, leaps, man_on, occupied_squares, other, queen_steps}
+use Rattle.chess_rules.proofs.Basics.{List, None, Option, Some, and_parts, ap, arith, bit_and, bit_at, bit_not, bit_or, eq-eqb, false, false≢true, inl, inr, list_any, or_cases, refl, subst, sym, true, w64, ℕ, ◌&&◌, ◌+◌, ◌-◌, ◌<◌, ◌==◌, ◌^◌, ◌||◌, ◌∙◌, ◌≡◌, ◌⊎◌}
+use Rattle.chess_mates.proofs.Chess.{Bishop, Colour, Grasshopper, IsWellFormed, Kind, King, Knight, Man, Nightrider, Pawn, Position, Queen, Rook, White, corner, is_fairy, is_man, is_on_some, is_side, is_square, king_square, leaps, man_on, occupied_squares, other, queen_steps}
 use Rattle.chess_mates.proofs.Chess.{reaches_as, same_colour, same_kind, side_of, squares, squares_of, straight_steps, word}
 use Rattle.chess_core.specs.Castling.{has_unmoved}
-use Rattle.chess_rules.specs.Play.{is_double_step}
-use Rattle.chess_mates.specs.declared.threats.Attackers.{Attackers}
-use Rattle.chess_mates.specs.declared.threats.Field.{Field}
-use Rattle.chess_mates.specs.declared.threats.Risk.{Risk}
-use Rattle.chess_mates.specs.declared.threats.Siege.{Siege}
-use Rattle.chess_mates.specs.ties.Threats.{AreAttackers, AreCastlingSquares, AreHurdles, AreWeak, HasNoFairy, IsCastlingHarmless, IsField, IsPassing, IsRiskAt, IsShut, IsSiegeOf, squares_for}
-use Rattle.chess_mates.specs.ties.Threats.{reached_over}
+use Rattle.chess_mates.specs.declared.siege.Attackers.{Attackers}
+use Rattle.chess_mates.specs.declared.siege.Field.{Field}
+use Rattle.chess_mates.specs.declared.siege.Risk.{Risk}
+use Rattle.chess_mates.specs.declared.siege.Siege.{Siege}
+use Rattle.chess_mates.specs.ties.Siege.{AreAttackers, AreCastlingSquares, AreHurdles, AreWeak, IsCastlingHarmless, IsField, IsRiskAt, IsShut, IsSiegeOf, squares_for}
+use Rattle.chess_mates.specs.ties.Threats.{HasNoFairy}
+use Rattle.chess_mates.specs.ties.Siege.{reached_over}
 use Rattle.chess_rules.proofs.Bits.{off_left, off_right, on_left, on_right, word_has}
 use Rattle.chess_rules.proofs.Tests.{find_no}
 use Rattle.chess_rules.proofs.attacks.StayingInCheck.{king_there}
 use Rattle.chess_rules.proofs.listing_moves.Targeting.{every_square_on, false_by}
-use Rattle.chess_mates.proofs.Hurdles.{man_is, reached_is}
-use Rattle.chess_mates.proofs.Chess.{AreApproaches, halfway, same_kind-true}
+use Rattle.chess_mates.proofs.Hurdles.{reached_is}
 use Rattle.chess_rules.proofs.listing_moves.Walks.{on_first}
-use Rattle.chess_mates.proofs.Risks.{on_one, off_word, none_at, none_on, weak_never}
+use Rattle.chess_mates.proofs.Risks.{on_one, off_word, none_on, weak_never}
 use Rattle.chess_mates.proofs.LastingFlights.{on_both}
-use Rattle.chess_core.proofs.Kept.{same_colour-refl}
 
 -- the king's field
 pub field_is : (v : Siege) (k n r : ℕ) → n ≡ word (λ t. list_any (leaps k t) queen_steps) → v.hurdles < 2 ^ 64 → v.own < 2 ^ 64 → v.men.kings < 2 ^ 64
@@ -182,38 +180,17 @@ king_castles_to p c k long short king far near well = king_castles p c (bit_or l
   shut_in p c long (bit_or long short) (k - 4) (k - 1) (λ q on. on_left long short q on) far,
 ))
 
-pub siege_fits : (p : Position) (v : Siege) → IsWellFormed p → v.men.colour ≡ other p.turn → king_square p.men p.turn ≡ Some v.king
-    → v.own ≡ side_of p.men p.turn → v.enemies ≡ side_of p.men v.men.colour
-    → v.men.kings ≡ squares_of p.men v.men.colour King → v.men.queens ≡ squares_of p.men v.men.colour Queen
-    → v.men.rooks ≡ squares_of p.men v.men.colour Rook → v.men.bishops ≡ squares_of p.men v.men.colour Bishop
-    → v.men.knights ≡ squares_of p.men v.men.colour Knight → v.men.pawns ≡ squares_of p.men v.men.colour Pawn
+pub siege_fits : (p : Position) (v : Siege) → v.men.colour ≡ other p.turn → king_square p.men p.turn ≡ Some v.king → v.own ≡ side_of p.men p.turn
+    → v.enemies ≡ side_of p.men v.men.colour → AreAttackers p.men v.men → v.men.kings ≡ squares_of p.men v.men.colour King
     → AreCastlingSquares p v.men.colour v.castled → IsSiegeOf p v
 unfolding squares_of
-siege_fits p v well colour king own enemies kings queens rooks bishops knights pawns castled = record {
+siege_fits p v colour king own enemies men kings castled = record {
   colour = colour;
-  men = attackers_are p.men v.men kings queens rooks bishops knights pawns;
+  men = men;
   own = own;
   enemies = enemies ∙ ap (side_of p.men) colour;
   king = sym king;
   kings = λ s small is. word_has (λ q. is_man (man_on p.men q) v.men.colour King) v.men.kings s kings small
       ∙ ap (λ (c : Colour). is_man (man_on p.men s) c King) colour ∙ is;
   castled = subst (λ (c : Colour). AreCastlingSquares p c v.castled) colour castled;
-}
-
--- a pawn that passes
-pub passing_none : (p : Position) (x : Man) (m : Move) → is_double_step x m ≡ false → IsPassing p x m
-passing_none p x m single = record { freely = λ double. absurd (false≢true (sym single ∙ double)) }
-
-pub passing_freely : (p : Position) (x : Man) (m : Move) (h o w l : ℕ) → h ≡ halfway m → o ≡ word (λ t. is_square (Some h) t)
-    → AreApproaches (record { colour = other p.turn; kind = Pawn }) o w → l ≡ squares_of p.men (other p.turn) Pawn → bit_and w l ≡ 0 → IsPassing p x m
-unfolding squares_of
-passing_freely p x m h o w l same only near pawns none = record {
-  freely = λ double q s z small low here enemy pawn. false_by _ (λ goes.
-      let kind : z.kind ≡ Pawn = same_kind-true z.kind Pawn pawn in
-      let there : (bit_at o (halfway m) == 1) ≡ true = word_has (λ t. is_square (Some h) t) o (halfway m) only low ∙ eq-eqb h (halfway m) same in
-      let from : (bit_at w s == 1) ≡ true = near.approach q s (halfway m) small low (rw (← man_is z (other p.turn) Pawn enemy kind) at goes) there in
-      let stands : (bit_at l s == 1) ≡ true = word_has (λ t. is_man (man_on p.men t) (other p.turn) Pawn) l s pawns small
-      ∙ ap (λ (o : Option Man). is_man o (other p.turn) Pawn) here
-      ∙ and_from _ _ (ap (λ (c : Colour). same_colour c (other p.turn)) enemy ∙ same_colour-refl (other p.turn)) pawn in
-      none_at (bit_and w l) s none (on_both w l s from stands));
 }

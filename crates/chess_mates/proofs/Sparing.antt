@@ -4,12 +4,15 @@ use Rattle.chess_mates.proofs.Chess.{Colour, IsWellFormed, Kind, King, Man, Move
 use Rattle.chess_mates.proofs.Chess.{after_by, reaches_as, same_colour, same_colour-true, same_kind, side_of, straight_steps, strikes, triple_at, word}
 use Rattle.chess_core.specs.Castling.{has_unmoved}
 use Rattle.chess_rules.specs.Play.{is_double_step}
-use Rattle.chess_mates.specs.declared.threats.Field.{Field}
-use Rattle.chess_mates.specs.declared.threats.Risk.{Risk}
-use Rattle.chess_mates.specs.declared.threats.Siege.{Siege}
+use Rattle.chess_mates.specs.declared.siege.Field.{Field}
+use Rattle.chess_mates.specs.declared.siege.Risk.{Risk}
+use Rattle.chess_mates.specs.declared.siege.Siege.{Siege}
 use Rattle.chess_mates.specs.ties.Flights.{has_flight}
-use Rattle.chess_mates.specs.ties.Threats.{HasNoFairy, IsArrival, IsAttacker, IsCastlingHarmless, IsCheckWord, IsFlight, IsOff, IsPlainMove, IsQuiet, IsRiskAt, IsShut, IsSiege, IsSiegeOf, IsUnguarded, IsWeakAt, is_rider, men_on, squares_for}
-use Rattle.chess_mates.specs.ties.Threats.{reached_over}
+use Rattle.chess_mates.specs.ties.Siege.{IsArrival, IsAttacker, IsCastlingHarmless, IsCheckWord, IsFlight, IsOff, IsQuiet, IsRiskAt, IsShut, IsSiege, IsSiegeOf, IsUnguarded, IsWeakAt, is_rider, men_on, squares_for}
+use Rattle.chess_mates.specs.ties.Mates.{allows_mate}
+use Rattle.chess_mates.specs.ties.Threats.{AreRisky, HasNoFairy, IsPlainMove}
+use Rattle.chess_rules.specs.ties.Sifting.{AreSifted}
+use Rattle.chess_mates.specs.ties.Siege.{reached_over}
 use Rattle.chess_rules.proofs.Bits.{word_has}
 use Rattle.chess_rules.proofs.attacks.Exposing.{king_is_after}
 use Rattle.chess_rules.proofs.attacks.Seeing.{king_stands, there_now}
@@ -70,7 +73,7 @@ module _ (rule : RuleSet) (p : Position) (m : Move) (x : Man) (v : Siege) (k : �
   crossed_q = rw here refl
 
   captures_p : (s : ℕ) → capture_square p x m ≡ Some s → s ≡ m.to
-  captures_p s cap = captured_there p x m s i.plain.crossed cap
+  captures_p s cap = i.plain.captures s cap
 
   stood_q : (s : ℕ) (z : Man) → man_on q.men s ≡ Some z
       → ((s ≡ m.to) × (z ≡ arriving_man x m.promo)) ⊎ ((s ≢ m.to) × ((s ≢ m.from) × (man_on p.men s ≡ Some z)))
@@ -479,3 +482,8 @@ module _ (rule : RuleSet) (p : Position) (m : Move) (x : Man) (v : Siege) (k : �
   no_mate_behind =
       mates_behind-none rule q 0 28672 (λ lt. omega arith) (omega arith) (record { fails = λ j lo hi. none_mates j })
       ∙ mates_behind-end rule q 28672 (omega arith)
+
+-- squares that aren't risky sift moves by whether some reply mates
+pub sifted_by_risk : (rule : RuleSet) (p : Position) (s squares risky : ℕ) → AreRisky rule p s squares risky
+    → AreSifted rule p (allows_mate rule p) s squares risky
+sifted_by_risk rule p s squares risky r = record { taken = λ m lawful here inside out. rw (r.settled m lawful here inside out) refl }

@@ -1,73 +1,95 @@
--- The ways of a defender: his king goes, or another man, who may leave a line.
-use Rattle.chess_rules.proofs.Basics.{Option, Some, [], and_from, ap, bit_at, bit_or, cond-true, cond-false, false, false≢true, refl, subst, sym, true, ℕ, ◌<◌, ◌==◌, ◌∙◌, ◌≡◌}
-use Rattle.chess_mates.proofs.Chess.{Colour, IsWellFormed, King, Man, Move, Position, RuleSet, is_man, is_pseudo_legal, man_on, mates_behind, other, position_after}
+-- The ways of a defender to a square that isn't risky: his king goes, or another man, who may leave a line.
+use Rattle.chess_rules.proofs.Basics.{Option, Some, [], and_from, ap, bit_and, bit_at, bit_not, bit_or, cases_lt, cond-true, cond-false, false, false≢true, inl, inr, sym, subst, true, w64, ℕ, ◌<◌, ◌==◌, ◌^◌, ◌∙◌, ◌≡◌}
+use Rattle.chess_mates.proofs.Chess.{Colour, IsWellFormed, King, Man, Move, Position, RuleSet, is_man, is_pseudo_legal, man_on, mates_behind, may_go, other, position_after}
 use Rattle.chess_mates.proofs.Chess.{same_colour, same_kind}
-use Rattle.chess_mates.specs.declared.threats.Attackers.{Attackers}
-use Rattle.chess_mates.specs.declared.threats.Leaving.{Leaving}
-use Rattle.chess_mates.specs.declared.threats.Risk.{Risk}
-use Rattle.chess_mates.specs.declared.threats.Siege.{Siege}
-use Rattle.chess_mates.specs.ties.Threats.{AreAttackers, AreCastlingSquares, AreThreats, IsOff, IsPlainMove, IsRiskAt, IsRiskBehind, IsSiege, IsSiegeOf, IsTold}
+use Rattle.std.proofs.lemmas.Nat.Bits.{bit_at_above}
+use Rattle.chess_mates.specs.declared.siege.Attackers.{Attackers}
+use Rattle.chess_mates.specs.ties.Siege.{AreAttackers, AreCastlingSquares, IsSafeMove, IsSafeStep}
+use Rattle.chess_mates.specs.ties.Threats.{ArePlain, AreRisky, AreThreatsOf, IsPlainMove, ToldThreats}
 use Rattle.chess_rules.proofs.Bits.{off_left, off_right}
 use Rattle.chess_rules.proofs.Tests.{some_is}
 use Rattle.chess_rules.proofs.attacks.Shielding.{king_is}
+use Rattle.chess_rules.proofs.listing_moves.Arrivals.{may_go_aimed}
+use Rattle.chess_rules.proofs.listing_moves.Calls.{is_pseudo_legal-from_legal}
+use Rattle.chess_rules.proofs.listing_moves.Targeting.{arrival_needed}
+use Rattle.chess_rules.proofs.listing_moves.Walks.{off_second}
 use Rattle.chess_rules.proofs.making_moves.Pseudo.{made}
+use Rattle.chess_mates.proofs.Risks.{denied_on}
 use Rattle.chess_mates.proofs.Sparing.{no_mate_behind}
 use Rattle.chess_core.proofs.Kept.{same_colour-refl}
 
--- the same for the ways of a defender: his king goes, or another man
-module _ (rule : RuleSet) (p : Position) (m : Move) (x : Man) (v : Siege) (risk : Risk) (well : IsWellFormed p)
-    (may : is_pseudo_legal rule p m ≡ true) (here : man_on p.men m.from ≡ Some x) (told : IsTold rule p) (small : m.to < 64) (from : m.from < 64)
-    (plain : IsPlainMove p x m) (fits : IsSiegeOf p v) (o : Option Leaving) (threats : AreThreats v risk o) where
-  pub king_spared : (r : Risk) → same_kind x.kind King ≡ true → IsRiskAt v m.to r → (bit_at (bit_or v.hurdles r.critical) m.to == 1) ≡ false
-      → mates_behind rule (position_after rule p m) 0 ≡ []
-  king_spared r king at off =
-      let mine : x.colour ≡ p.turn = (made rule p m x may here).mine in
-      let stands : is_man (man_on p.men m.from) p.turn King ≡ true =
-      ap (λ (o : Option Man). is_man o p.turn King) here ∙ and_from _ _ (ap (λ (c : Colour). same_colour c p.turn) mine ∙ same_colour-refl p.turn) king in
-      let same : v.king ≡ m.from = some_is v.king m.from (fits.king ∙ king_is p.men p.turn m.from well.kings from stands) in
-      no_mate_behind rule p m x v m.to r well may here told.circe small from (cond-true (same_kind x.kind King) _ _ king) (record {
-        plain = plain;
-        siege = threats.siege;
-        fits = fits;
-        fairies = told.fairies;
-        at = at;
-        off = record {
-          lines = λ on. absurd ((threats.siege.hurdles.men m.from from on).1 same);
-          critical = off_right v.hurdles r.critical m.to off;
-        };
-        off_king = λ e inside on same. false≢true (sym (off_left v.hurdles r.critical m.to off) ∙ (rw same at on));
-      })
-
-  module _ (mortal : same_kind x.kind King ≡ false) where
-    -- by a siege of the same men
-    spared_by : (w : Siege) (r : Risk) → IsSiege w → w.king ≡ v.king → w.own ≡ v.own → w.enemies ≡ v.enemies → w.men ≡ v.men
-        → w.castled ≡ v.castled → IsRiskAt w v.king r
-        → IsOff w.hurdles r m.from m.to → mates_behind rule (position_after rule p m) 0 ≡ []
-    spared_by w r siege king own enemies men castled at off =
-        no_mate_behind rule p m x w v.king r well may here told.circe small from (cond-false (same_kind x.kind King) _ _ mortal ∙ sym fits.king) (record {
+module _ (rule : RuleSet) (p : Position) (x : Man) (v : ToldThreats) (well : IsWellFormed p) (threats : AreThreatsOf rule p v) where
+  module _ (m : Move) (may : is_pseudo_legal rule p m ≡ true) (here : man_on p.men m.from ≡ Some x) (small : m.to < 64) (from : m.from < 64)
+      (plain : IsPlainMove p x m) where
+    king_spared : same_kind x.kind King ≡ true → IsSafeStep v.siege m.to → mates_behind rule (position_after rule p m) 0 ≡ []
+    king_spared king safe =
+        let siege = threats.threats.siege in
+        let mine : x.colour ≡ p.turn = (made rule p m x may here).mine in
+        let stands : is_man (man_on p.men m.from) p.turn King ≡ true =
+        ap (λ (o : Option Man). is_man o p.turn King) here ∙ and_from _ _ (ap (λ (c : Colour). same_colour c p.turn) mine ∙ same_colour-refl p.turn) king in
+        let same : v.siege.king ≡ m.from = some_is v.siege.king m.from (threats.fits.king ∙ king_is p.men p.turn m.from well.kings from stands) in
+        no_mate_behind rule p m x v.siege m.to safe.risk well may here threats.told.circe small from (cond-true (same_kind x.kind King) _ _ king) (record {
           plain = plain;
           siege = siege;
-          fits = record {
-            colour = ap (λ (a : Attackers). a.colour) men ∙ fits.colour;
-            men = subst (λ (a : Attackers). AreAttackers p.men a) (sym men) fits.men;
-            own = own ∙ fits.own;
-            enemies = enemies ∙ fits.enemies;
-            king = ap (λ (k : ℕ). Some k) king ∙ fits.king;
-            kings = λ s inside stands. ap (λ (a : Attackers). bit_at a.kings s == 1) men ∙ fits.kings s inside stands;
-            castled = subst (λ (c : ℕ). AreCastlingSquares p (other p.turn) c) (sym castled) fits.castled;
-          };
-          fairies = told.fairies;
-          at = at;
-          off = off;
-          off_king = λ e inside on same. (siege.hurdles.men e inside on).1 (king ∙ sym same);
+          fits = threats.fits;
+          fairies = threats.told.fairies;
+          at = safe.at;
+          off = record { lines = λ on. absurd ((siege.hurdles.men m.from from on).1 same); critical = safe.off };
+          off_king = λ e inside on same. false≢true (sym safe.free ∙ (rw same at on));
         })
 
-    pub man_spared : (bit_at risk.lines m.from == 1) ≡ false → (bit_at risk.critical m.to == 1) ≡ false
-        → mates_behind rule (position_after rule p m) 0 ≡ []
-    man_spared lines off = spared_by v risk threats.siege refl refl refl refl refl threats.risk (record { lines = λ on. lines; critical = off })
+    man_spared : same_kind x.kind King ≡ false → IsSafeMove v.siege m.from m.to → mates_behind rule (position_after rule p m) 0 ≡ []
+    man_spared mortal safe =
+        let l = safe.like in
+        let fits = threats.fits in
+        no_mate_behind rule p m x safe.siege v.siege.king safe.risk well may here threats.told.circe small from
+        (cond-false (same_kind x.kind King) _ _ mortal ∙ sym fits.king) (record {
+          plain = plain;
+          siege = l.siege;
+          fits = record {
+            colour = ap (λ (a : Attackers). a.colour) l.men ∙ fits.colour;
+            men = subst (λ (a : Attackers). AreAttackers p.men a) (sym l.men) fits.men;
+            own = l.own ∙ fits.own;
+            enemies = l.enemies ∙ fits.enemies;
+            king = ap (λ (k : ℕ). Some k) l.king ∙ fits.king;
+            kings = λ s inside stands. ap (λ (a : Attackers). bit_at a.kings s == 1) l.men ∙ fits.kings s inside stands;
+            castled = subst (λ (c : ℕ). AreCastlingSquares p (other p.turn) c) (sym l.castled) fits.castled;
+          };
+          fairies = threats.told.fairies;
+          at = safe.at;
+          off = safe.off;
+          off_king = λ e inside on same. (l.siege.hurdles.men e inside on).1 (l.king ∙ sym same);
+        })
 
-    pub line_spared : (r : Risk) → IsRiskBehind v m.from r → (bit_at r.critical m.to == 1) ≡ false → mates_behind rule (position_after rule p m) 0 ≡ []
-    line_spared r i off = let l = i.lifted in spared_by i.siege r l.siege l.king l.own l.enemies l.men l.castled i.risk (record {
-      lines = λ on. absurd (false≢true (sym l.off ∙ on));
-      critical = off;
-    })
+  -- of the squares of w those of u, where moves aren't plain, and of r
+  module _ (s w u r : ℕ) (here : man_on p.men s ≡ Some x) (from : s < 64) (fits : w < 2 ^ 64) (plain : ArePlain p x s u) where
+    inside : (t : ℕ) → (bit_at w t == 1) ≡ true → t < 64
+    inside t on = elim (cases_lt t 64) [
+      | inl small ↦ small
+      | inr high ↦ absurd (let none = bit_at_above w 64 t fits high in cc)
+    ]
+
+    -- by what spares a move off them
+    risky_by : ((m : Move) → is_pseudo_legal rule p m ≡ true → m.from ≡ s → m.to < 64 → (bit_at w m.to == 1) ≡ true → (bit_at u m.to == 1) ≡ false
+        → (bit_at r m.to == 1) ≡ false → IsPlainMove p x m → mates_behind rule (position_after rule p m) 0 ≡ []) → AreRisky rule p s w (bit_and w (bit_or u r))
+    risky_by spares = record {
+      settled = λ m legal origin on off.
+          let small = inside m.to on in
+          let may = is_pseudo_legal-from_legal rule p m legal in
+          let both : (bit_at (bit_or u r) m.to == 1) ≡ false = off_second w (bit_or u r) m.to off on in
+          let goes : may_go p x s m.to ≡ true = ap (λ (n : ℕ). may_go p x n m.to) (sym origin)
+          ∙ may_go_aimed rule p x m (ap (man_on p.men) origin ∙ here) (arrival_needed rule p m small may) in
+          spares m may origin small on (off_left u r m.to both) (off_right u r m.to both) (plain.plain m origin small goes (off_left u r m.to both));
+    }
+
+    -- for the king's steps, and for another man's moves
+    pub steps_are_risky : u < 2 ^ 64 → same_kind x.kind King ≡ true
+        → ((t : ℕ) → t < 64 → (bit_at (bit_and w (bit_not w64 u)) t == 1) ≡ true → (bit_at r t == 1) ≡ false → IsSafeStep v.siege t)
+        → AreRisky rule p s w (bit_and w (bit_or u r))
+    steps_are_risky fits_u king safe = risky_by (λ m may origin small on off none plain.
+        king_spared m may (ap (man_on p.men) origin ∙ here) small (rw origin from) plain king (safe m.to small (denied_on w u m.to fits_u small on off) none))
+
+    pub moves_are_risky : same_kind x.kind King ≡ false → ((t : ℕ) → (bit_at r t == 1) ≡ false → IsSafeMove v.siege s t)
+        → AreRisky rule p s w (bit_and w (bit_or u r))
+    moves_are_risky mortal safe = risky_by (λ m may origin small on off none plain.
+        man_spared m may (ap (man_on p.men) origin ∙ here) small (rw origin from) plain mortal (rw origin (safe m.to none)))

@@ -13,6 +13,7 @@ pub mod lasting_flights;
 pub mod mating_moves;
 mod open_board;
 mod origins;
+mod siege;
 pub mod threats;
 
 pub use crate::aims::aims_at_king;

@@ -1,495 +1,26 @@
-//! Replies that mate, ruled out before the defender's move. All men but his king are hurdles: each square on which one
-//! stands stays occupied, be it that he is captured, but for the squares that the defender and the attacker leave.
-ghost use Rattle.std.specs.Prelude.{◌≡◌, ◌≢◌, ◌<◌, ◌==◌, ◌⊎◌, [], ℕ, IfSome, Some, true, false};
+//! Threats of mate, told before the defender's move: the squares that his men mustn't come to lest a reply may mate.
+ghost use Rattle.std.specs.Prelude.{◌≡◌, ◌<◌, ◌==◌, [], Some, true, false};
 ghost use Rattle.std.specs.Int.{bit_at};
-ghost use Rattle.std.specs.Int.Bits.{bit_or};
-ghost use Rattle.chess_core.specs.Castling.{has_unmoved};
-ghost use Rattle.chess_core.specs.Position.{other};
+ghost use Rattle.chess_core.specs.Position.{king_square};
 ghost use Rattle.chess_core.specs.WellFormed.{IsWellFormed};
-ghost use Rattle.chess_core.specs.declared.man.Man.{Man};
-ghost use Rattle.chess_mates.specs.ties.LastingFlights.{IsLeft};
+ghost use Rattle.chess_core.specs.declared.man.Move.{Move};
 ghost use Rattle.chess_mates.specs.ties.Mates.{mates_behind};
-ghost use Rattle.chess_mates.specs.ties.Threats.{AreArrivals, AreCastlingSquares, AreGuardsWithout, AreHurdles, AreReached, AreThreats, AreWeak, HasNoFairy, IsAttacker, IsCastlingHarmless, IsCheckWord, IsField, IsHarmless, IsLifted, IsMet, IsNoCheck, IsOff, IsPassing, IsPlainMove, IsReached, IsRiskAt, IsRiskBehind, IsSiege, IsSiegeOf, IsTold, IsWeak, LeavesOne, is_leaper, is_rider};
+ghost use Rattle.chess_mates.specs.ties.Threats.{ArePlain, AreRisky, AreThreatsOf, HasNoFairy, IsPassing, IsTold};
 ghost use Rattle.chess_rules.specs.Legal.{is_legal};
-ghost use Rattle.chess_rules.specs.Play.{is_castling, is_double_step, position_after};
-ghost use Rattle.chess_rules.specs.RuleSet.{is_circe};
-ghost use Rattle.chess_rules.specs.ties.Targets.{arrives};
+ghost use Rattle.chess_rules.specs.Play.{position_after};
+ghost use Rattle.chess_rules.specs.RuleSet.{RuleSet};
+ghost use Rattle.chess_rules.specs.ties.Targets.{may_go};
 
-use crate::lasting_flights::open_reach;
-use crate::open_board::{open_targets, pawns_before};
+use crate::open_board::pawns_before;
+use crate::siege::{Risk, Siege, critical_from, is_of, risk_at, risky_steps, siege_of};
 use chess_core::board::Board;
 use chess_core::man::{Colour, Kind, Man, Move};
 use chess_core::square::Square;
-use chess_rules::leaps::king_leaps;
-use chess_rules::lines::straight_lines;
-use chess_rules::play::is_castling;
-use chess_rules::reach::reach_over;
+use chess_rules::leaps::{king_leaps, pawn_advances};
 use chess_rules::rules::Rules;
-use chess_rules::words::{contains, next_bit, only};
+use chess_rules::sift::Sift;
+use chess_rules::words::only;
 use std::marker::Model;
-
-// The squares of a side's men kind by kind, fairy men apart.
-#[derive(Clone, Copy)]
-pub(crate) struct Attackers {
-    colour: Colour,
-    kings: u64,
-    queens: u64,
-    rooks: u64,
-    bishops: u64,
-    knights: u64,
-    pawns: u64,
-}
-
-// The men around the defender's king, who stands on `king`: the squares of the defender's men, of the attackers, and of
-// the hurdles; those to which a rook of theirs may castle.
-#[derive(Clone, Copy)]
-pub(crate) struct Siege {
-    king: Square,
-    own: u64,
-    enemies: u64,
-    hurdles: u64,
-    men: Attackers,
-    castled: u64,
-}
-
-// A king's square, the squares next to it to which he might go, attacks apart, and those of the lines from there.
-#[derive(Clone, Copy)]
-pub(crate) struct Field {
-    king: Square,
-    near: u64,
-    lines: u64,
-}
-
-// The squares that attackers reach, and those that their riders do.
-#[derive(Clone, Copy)]
-pub(crate) struct Guards {
-    ridden: u64,
-    guarded: u64,
-}
-
-// The squares that a defender mustn't come to lest a reply may mate, and those of all lines on which hurdles count.
-#[derive(Clone, Copy)]
-pub(crate) struct Risk {
-    critical: u64,
-    lines: u64,
-}
-
-// The squares that the man on `from` reaches over the hurdles.
-#[tactic(auto, using(crate::proofs::Hurdles::reached_is))]
-fn reach_from(hurdles: u64, man: Man, from: Square) -> u64
-    ensures { IsReached hurdles man from result }
-{
-    reach_over(hurdles, man.colour, man.kind, from)
-}
-
-// Those that such men on the squares of a word reach.
-fn reach_together(hurdles: u64, man: Man, squares: u64) -> u64
-    ensures { (s : ℕ) → s < 64 → (bit_at squares s == 1) ≡ true → IsReached hurdles man s result }
-{
-    let mut reached = 0u64;
-    let mut number = 0u8;
-    while let Some(from) = next_bit(squares, number) {
-        let more = reach_from(hurdles, man, from);
-        reached |= more;
-        number = from.index() + 1;
-    }
-    reached
-}
-
-// The same of the attackers of one kind.
-fn reach_of(hurdles: u64, colour: Colour, kind: Kind, squares: u64) -> u64
-    ensures { (s : ℕ) → s < 64 → (bit_at squares s == 1) ≡ true
-        → IsReached hurdles (record { colour = colour; kind = kind }) s result }
-{
-    reach_together(hurdles, Man { colour, kind }, squares)
-}
-
-// The squares that queens, rooks and bishops reach.
-fn ridden_squares(hurdles: u64, men: &Attackers) -> u64
-    ensures { AreReached hurdles men.now is_rider result }
-{
-    let queens = reach_of(hurdles, men.colour, Kind::Queen, men.queens);
-    let rooks = reach_of(hurdles, men.colour, Kind::Rook, men.rooks);
-    let bishops = reach_of(hurdles, men.colour, Kind::Bishop, men.bishops);
-    queens | rooks | bishops
-}
-
-// Those that knights, pawns and kings reach.
-fn leapt_squares(hurdles: u64, men: &Attackers) -> u64
-    ensures { AreReached hurdles men.now is_leaper result }
-{
-    let knights = reach_of(hurdles, men.colour, Kind::Knight, men.knights);
-    let pawns = reach_of(hurdles, men.colour, Kind::Pawn, men.pawns);
-    let kings = reach_of(hurdles, men.colour, Kind::King, men.kings);
-    knights | pawns | kings
-}
-
-// The squares of a word that are left to the king once the man has come to `to`.
-fn left_squares(near: u64, man: Man, to: Square) -> u64
-    ensures { (f : ℕ) → f < 64 → (bit_at result f == 1) ≡ true → IsLeft near man to f }
-{
-    near & !(open_reach(man, to) | only(Some(to)))
-}
-
-// The squares that a defender mustn't come to lest none is left then. To a square where another attacker stands the man
-// comes only if he recaptures there.
-fn critical_with(near: u64, enemies: u64, man: Man, to: Square) -> u64
-    ensures { LeavesOne near enemies result man to }
-{
-    let left = left_squares(near, man, to);
-    let Some(first) = next_bit(left, 0) else {
-        return if contains(enemies, to) {
-            only(Some(to))
-        } else {
-            !0
-        };
-    };
-    let Some(_second) = next_bit(left, first.index() + 1) else {
-        return only(Some(first));
-    };
-    0
-}
-
-// The same wherever the man comes to a square of the word.
-fn critical_after(near: u64, enemies: u64, man: Man, targets: u64) -> u64
-    ensures { (t : ℕ) → t < 64 → (bit_at targets t == 1) ≡ true
-        → LeavesOne near enemies result man t }
-{
-    let mut critical = 0u64;
-    let mut number = 0u8;
-    while let Some(to) = next_bit(targets, number) {
-        let more = critical_with(near, enemies, man, to);
-        critical |= more;
-        number = to.index() + 1;
-    }
-    critical
-}
-
-// The first rank and the last.
-const LAST_RANKS: u64 = 0xff00_0000_0000_00ff;
-
-// Whether the man may promote on one of the squares.
-#[tactic(auto, using(crate::proofs::LastingFlights::no_last_rank, crate::proofs::Risks::no_pawn_arrives))]
-fn may_promote_on(man: Man, targets: u64) -> bool
-    ensures { result ≡ false → (t : ℕ) → t < 64 → (bit_at targets t == 1) ≡ true
-        → arrives man t ≡ false }
-{
-    if !man.kind.is(Kind::Pawn) {
-        return false;
-    }
-    targets & LAST_RANKS != 0
-}
-
-// The squares to which the man on `from` may go: a piece over the hurdles, a pawn were the others gone.
-fn arrivals(hurdles: u64, man: Man, from: Square) -> u64
-    ensures { AreArrivals hurdles man from result }
-{
-    if man.kind.is(Kind::Pawn) {
-        open_targets(man, from)
-    } else {
-        reach_from(hurdles, man, from)
-    }
-}
-
-// Those of the squares from which he checks or on which he promotes. A king doesn't check.
-fn checking_targets(man: Man, reached: u64, checks: u64) -> u64
-    ensures { (t : ℕ) → t < 64 → (bit_at reached t == 1) ≡ true
-        → (bit_at result t == 1) ≡ false → IsNoCheck checks man t }
-{
-    if man.kind.is(Kind::King) {
-        return 0;
-    }
-    if man.kind.is(Kind::Pawn) {
-        return reached & (checks | LAST_RANKS);
-    }
-    reached & checks
-}
-
-// The squares on the lines of the man, if he rides.
-#[tactic(auto)]
-fn lines_of(man: Man, reached: u64) -> u64
-    ensures { is_rider man.kind ≡ true → result ≡ reached }
-{
-    match man.kind {
-        Kind::Queen | Kind::Rook | Kind::Bishop => reached,
-        _ => 0,
-    }
-}
-
-// The attackers but the one on the square.
-fn without(men: &Attackers, gone: Square) -> Attackers
-    ensures { (s : ℕ) (x : Man) → IsAttacker men.now x s → gone ≢ s → IsAttacker result x s }
-{
-    let others = !only(Some(gone));
-    Attackers {
-        colour: men.colour,
-        kings: men.kings & others,
-        queens: men.queens & others,
-        rooks: men.rooks & others,
-        bishops: men.bishops & others,
-        knights: men.knights & others,
-        pawns: men.pawns & others,
-    }
-}
-
-// What the attackers reach once the one on `from` has gone.
-fn guards_without(siege: &Siege, from: Square) -> Guards
-    ensures { AreGuardsWithout siege.now from result }
-{
-    let hurdles = siege.hurdles & !only(Some(from));
-    let men = without(&siege.men, from);
-    let ridden = ridden_squares(hurdles, &men);
-    Guards {
-        ridden,
-        guarded: ridden | leapt_squares(hurdles, &men),
-    }
-}
-
-// All squares that the man reaches, if another attacker checks once he has gone, else the targets.
-#[tactic(auto)]
-fn watched_squares(guards: &Guards, king: Square, reached: u64, targets: u64) -> u64
-    ensures all { (bit_at guards.now.guarded king == 1) ≡ true → result ≡ reached }
-    ensures some { (bit_at guards.now.guarded king == 1) ≡ false → result ≡ targets }
-{
-    if contains(guards.guarded, king) {
-        reached
-    } else {
-        targets
-    }
-}
-
-// The risk that the man goes from `from` to one of the squares that he reaches: to one of the targets, or to any if
-// another attacker checks once he has gone.
-fn risk_of_going(
-    siege: &Siege,
-    field: &Field,
-    man: Man,
-    from: Square,
-    reached: u64,
-    targets: u64,
-) -> Risk
-    ensures { (a b t : ℕ) → a < 64 → b < 64 → IsOff siege.now.hurdles result a b → t < 64
-        → (bit_at reached t == 1) ≡ true → IsMet siege.now field.now man from targets a b t }
-{
-    let guards = guards_without(siege, from);
-    let watched = watched_squares(&guards, field.king, reached, targets);
-    if may_promote_on(man, watched) {
-        return Risk {
-            critical: !0,
-            lines: 0,
-        };
-    }
-    Risk {
-        critical: critical_after(field.near & !guards.guarded, siege.enemies, man, watched),
-        lines: guards.ridden,
-    }
-}
-
-// The risk of the man on `from`, who checks from the squares of `checks`.
-fn risk_from(siege: &Siege, field: &Field, man: Man, from: Square, checks: u64) -> Risk
-    ensures { IsHarmless siege.now field.now checks result man from }
-{
-    let reached = arrivals(siege.hurdles, man, from);
-    let targets = checking_targets(man, reached, checks);
-    let lines = lines_of(man, reached);
-    if targets == 0 && !contains(field.lines, from) {
-        return Risk { critical: 0, lines };
-    }
-    let going = risk_of_going(siege, field, man, from, reached, targets);
-    Risk {
-        critical: going.critical,
-        lines: going.lines | lines,
-    }
-}
-
-// The same of such men on the squares of a word.
-fn risk_together(siege: &Siege, field: &Field, man: Man, squares: u64, checks: u64) -> Risk
-    ensures { (s : ℕ) → s < 64 → (bit_at squares s == 1) ≡ true
-        → IsHarmless siege.now field.now checks result man s }
-{
-    let mut critical = 0u64;
-    let mut lines = 0u64;
-    let mut number = 0u8;
-    while let Some(from) = next_bit(squares, number) {
-        let more = risk_from(siege, field, man, from, checks);
-        critical |= more.critical;
-        lines |= more.lines;
-        number = from.index() + 1;
-    }
-    Risk { critical, lines }
-}
-
-// The squares from which the man, once he has come there, checks the king over the hurdles.
-fn check_squares_over(hurdles: u64, man: Man, king: Square) -> u64
-    ensures { IsCheckWord hurdles king man result }
-{
-    reach_over(hurdles, man.colour.other(), man.kind, king)
-}
-
-// The risk of the men of this kind, who stand on the squares. Where one of them checks now, nothing is told.
-fn risk_of(siege: &Siege, field: &Field, kind: Kind, squares: u64) -> Risk
-    ensures { (s : ℕ) → s < 64 → (bit_at squares s == 1) ≡ true
-        → IsWeak siege.now field.now result
-        (record { colour = siege.now.men.colour; kind = kind }) s }
-{
-    if squares == 0 {
-        return Risk {
-            critical: 0,
-            lines: 0,
-        };
-    }
-    let man = Man {
-        colour: siege.men.colour,
-        kind,
-    };
-    let checks = check_squares_over(siege.hurdles, man, field.king);
-    if checks & squares != 0 {
-        return Risk {
-            critical: !0,
-            lines: 0,
-        };
-    }
-    risk_together(siege, field, man, squares, checks)
-}
-
-// The risk of all attackers.
-fn risk_of_all(siege: &Siege, field: &Field) -> Risk
-    ensures { AreWeak siege.now field.now result }
-{
-    let men = &siege.men;
-    let kings = risk_of(siege, field, Kind::King, men.kings);
-    let queens = risk_of(siege, field, Kind::Queen, men.queens);
-    let rooks = risk_of(siege, field, Kind::Rook, men.rooks);
-    let bishops = risk_of(siege, field, Kind::Bishop, men.bishops);
-    let knights = risk_of(siege, field, Kind::Knight, men.knights);
-    let pawns = risk_of(siege, field, Kind::Pawn, men.pawns);
-    Risk {
-        critical: kings.critical
-            | queens.critical
-            | rooks.critical
-            | bishops.critical
-            | knights.critical
-            | pawns.critical,
-        lines: kings.lines
-            | queens.lines
-            | rooks.lines
-            | bishops.lines
-            | knights.lines
-            | pawns.lines,
-    }
-}
-
-// The field of a king of the defender on this square.
-#[tactic(auto, using(crate::proofs::Sieges::field_is))]
-fn field_of(siege: &Siege, king: Square) -> Field
-    ensures king { result.king ≡ king }
-    ensures field { IsField siege.now result }
-{
-    Field {
-        king,
-        near: king_leaps(king) & !siege.own & !siege.men.kings,
-        lines: reach_over(siege.hurdles, Colour::White, Kind::Queen, king),
-    }
-}
-
-// Whether no castling of the attackers checks: no rook from his new square, nor another man once their king has gone.
-fn castling_is_harmless(siege: &Siege, field: &Field) -> bool
-    ensures { result ≡ true → IsCastlingHarmless siege.now field.now }
-{
-    let rooks = straight_lines(field.king) & siege.castled;
-    let kings = field.lines & siege.men.kings;
-    (siege.castled == 0) | ((rooks == 0) & (kings == 0))
-}
-
-// The risk of a defender whose king is on the square.
-fn risk_at(siege: &Siege, king: Square) -> Risk
-    ensures { IsRiskAt siege.now king result }
-{
-    let field = field_of(siege, king);
-    if !castling_is_harmless(siege, &field) {
-        return Risk {
-            critical: !0,
-            lines: 0,
-        };
-    }
-    let risk = risk_of_all(siege, &field);
-    Risk {
-        critical: risk.critical,
-        lines: risk.lines | field.lines,
-    }
-}
-
-// The men of the colour, fairy men apart.
-fn attackers_on(board: &Board, colour: Colour) -> Attackers {
-    Attackers {
-        colour,
-        kings: board.squares(colour, Kind::King),
-        queens: board.squares(colour, Kind::Queen),
-        rooks: board.squares(colour, Kind::Rook),
-        bishops: board.squares(colour, Kind::Bishop),
-        knights: board.squares(colour, Kind::Knight),
-        pawns: board.squares(colour, Kind::Pawn),
-    }
-}
-
-// All men but the king, and perhaps without one of his.
-fn hurdles_of(own: u64, enemies: u64, king: Square, lifted: Option<Square>) -> u64
-    ensures are { AreHurdles own enemies king result }
-    ensures lifted { (s : ℕ) → s < 64 → lifted ≡ Some s → (bit_at result s == 1) ≡ false }
-{
-    (own | enemies) & !only(Some(king)) & !only(lifted)
-}
-
-// The siege by the board's men of the king of the side to move, who stands on the square.
-fn siege_of(board: &Board, king: Square) -> Siege
-    ensures siege { IsSiege result }
-    ensures king { result.king ≡ king }
-{
-    let enemy = board.turn().other();
-    let own = board.side(board.turn());
-    let enemies = board.side(enemy);
-    Siege {
-        king,
-        own,
-        enemies,
-        hurdles: hurdles_of(own, enemies, king, None),
-        men: attackers_on(board, enemy),
-        castled: castling_squares(board, enemy),
-    }
-}
-
-// The same without the man on the square.
-fn lifted_from(siege: &Siege, from: Square) -> Siege
-    ensures { IsLifted siege.now from result }
-{
-    // For the proof: a square's number is below 64.
-    let _small = from.index();
-    Siege {
-        hurdles: hurdles_of(siege.own, siege.enemies, siege.king, Some(from)),
-        ..*siege
-    }
-}
-
-// Whether these are the men on the board, the defender to move.
-fn is_of(siege: &Siege, board: &Board) -> bool
-    requires { IsWellFormed board.now }
-    ensures { result ≡ true → IsSiegeOf board.now siege.now }
-{
-    let men = &siege.men;
-    let colour = men.colour;
-    if !colour.is(board.turn().other()) || board.king_of(board.turn()) != Some(siege.king) {
-        return false;
-    }
-    (siege.own == board.side(board.turn()))
-        & (siege.enemies == board.side(colour))
-        & (men.kings == board.squares(colour, Kind::King))
-        & (men.queens == board.squares(colour, Kind::Queen))
-        & (men.rooks == board.squares(colour, Kind::Rook))
-        & (men.bishops == board.squares(colour, Kind::Bishop))
-        & (men.knights == board.squares(colour, Kind::Knight))
-        & (men.pawns == board.squares(colour, Kind::Pawn))
-        & (siege.castled == castling_squares(board, colour))
-}
 
 // Whether the colour has no fairy man.
 fn has_no_fairy(board: &Board, colour: Colour) -> bool
@@ -498,178 +29,79 @@ fn has_no_fairy(board: &Board, colour: Colour) -> bool
     board.squares(colour, Kind::Grasshopper) | board.squares(colour, Kind::Nightrider) == 0
 }
 
-// The square `next`, beside the king, if the side may castle with the rook in the corner: he is unmoved, and no man of
-// its own stands there.
-fn castling_square(board: &Board, own: u64, corner: Square, next: Square) -> u64
-    ensures { (has_unmoved board.now.unmoved corner ≡ false)
-        ⊎ ((bit_at own next == 1) ≡ true) ⊎ ((bit_at result next == 1) ≡ true) }
+// The squares more than a step away, if an enemy pawn might come to the next square ahead of a pawn on `from`: then he
+// might capture who goes past it.
+fn contested_squares(board: &Board, man: Man, from: Square) -> u64
+    ensures { (m : Move) → m.from ≡ from → m.to < 64 → may_go board.now man from m.to ≡ true
+        → (bit_at result m.to == 1) ≡ false → IsPassing board.now man m }
 {
     // For the proof: a square's number is below 64.
-    let _small = next.index();
-    if !board.unmoved().has(corner) {
-        return 0;
-    }
-    if contains(own, next) {
-        return 0;
-    }
-    only(Some(next))
-}
-
-// The squares to which a rook of the colour may castle, whatever the other side plays before, and perhaps more.
-fn castling_squares(board: &Board, colour: Colour) -> u64
-    ensures { IsWellFormed board.now → AreCastlingSquares board.now colour result }
-{
-    let Some(king) = board.king_of(colour) else {
-        return 0;
-    };
-    if !board.unmoved().has(king) {
-        return 0;
-    }
-    let at = king.index();
-    if at < 4 || at > 60 {
-        return !0;
-    }
-    let own = board.side(colour);
-    let long = castling_square(
-        board,
-        own,
-        Square::numbered(at - 4),
-        Square::numbered(at - 1),
-    );
-    let short = castling_square(
-        board,
-        own,
-        Square::numbered(at + 3),
-        Square::numbered(at + 1),
-    );
-    long | short
-}
-
-// Whether it is a double step when this man makes the move.
-#[tactic(auto)]
-fn is_double_step(man: Man, m: &Move) -> bool
-    ensures { result ≡ is_double_step man m.now }
-{
-    man.kind.is(Kind::Pawn)
-        && (m.from.rank() + 2 == m.to.rank() || m.to.rank() + 2 == m.from.rank())
-}
-
-// Whether the move passes no square to which an enemy pawn might come then: it is no double step, or none is near.
-fn passes_freely(board: &Board, man: Man, m: &Move) -> bool
-    ensures { result ≡ true → IsPassing board.now man m.now }
-{
-    if !is_double_step(man, m) {
-        return true;
-    }
+    let _small = from.index();
     let enemy = board.turn().other();
-    let halfway = Square::numbered((m.from.index() + m.to.index()) / 2);
-    pawns_before(enemy, only(Some(halfway))) & board.squares(enemy, Kind::Pawn) == 0
-}
-
-// Whether the man neither castles nor captures en passant, nor may be captured so.
-fn goes_plainly(board: &Board, man: Man, m: &Move) -> bool
-    ensures { result ≡ true → IsPlainMove board.now man m.now }
-{
-    !is_castling(man, m) && board.crossed() != Some(m.to) && passes_freely(board, man, m)
-}
-
-// The risk of a defender who leaves a line on which he is a hurdle.
-fn risk_behind(siege: &Siege, from: Square) -> Risk
-    ensures { IsRiskBehind siege.now from result }
-{
-    let lifted = lifted_from(siege, from);
-    risk_at(&lifted, siege.king)
-}
-
-// The risk of the man on `from`, once he leaves his line.
-#[derive(Clone, Copy)]
-pub(crate) struct Leaving {
-    from: Square,
-    risk: Risk,
-}
-
-// The same, told anew unless it is known.
-fn leaving_from(siege: &Siege, known: &Option<Leaving>, from: Square) -> Leaving
-    ensures { IfSome known.now (λ l. IsRiskBehind siege.now l.from l.risk)
-        → IsRiskBehind siege.now result.from result.risk }
-{
-    if let Some(leaving) = known {
-        if leaving.from == from {
-            return *leaving;
-        }
+    let near = king_leaps(from);
+    let next = pawn_advances(man.colour, from) & near;
+    if pawns_before(enemy, next) & board.squares(enemy, Kind::Pawn) == 0 {
+        return 0;
     }
-    Leaving {
-        from,
-        risk: risk_behind(siege, from),
-    }
+    !near
 }
 
-// Whether no reply to this move mates, told by the risk. Where the king moves, that is looked for anew; if he captures
-// it isn't told.
-fn no_mate_follows<R: Rules>(
-    siege: &Siege,
-    risk: &Risk,
-    leaving: &Option<Leaving>,
-    board: &Board,
-    m: &Move,
-) -> bool
-    requires well_formed { IsWellFormed board.now }
-    requires legal { is_legal R.rule board.now m.now ≡ true }
-    requires told { IsTold R.rule board.now }
-    requires fits { IsSiegeOf board.now siege.now }
-    requires threats { AreThreats siege.now risk.now leaving.now }
-    ensures { result ≡ true → mates_behind R.rule (position_after R.rule board.now m.now) 0 ≡ [] }
+// The squares to which the man on `from` can't go but by castling or capturing en passant, or so that he might be
+// captured so.
+fn unplain_squares(board: &Board, man: Man, from: Square) -> u64
+    ensures { ArePlain board.now man from result }
 {
-    let Some(man) = board.man_at(m.from) else {
-        return false;
-    };
     // For the proof: a square's number is below 64.
-    let _small = (m.from.index(), m.to.index());
-    if !goes_plainly(board, man, m) {
-        return false;
+    let _small = from.index();
+    if man.kind.is(Kind::Pawn) {
+        return only(board.crossed()) | contested_squares(board, man, from);
     }
     if man.kind.is(Kind::King) {
-        return !contains(siege.hurdles | risk_at(siege, m.to).critical, m.to);
+        return !king_leaps(from);
     }
-    if !contains(risk.lines, m.from) {
-        return !contains(risk.critical, m.to);
-    }
-    match leaving {
-        Some(leaving) if leaving.from == m.from => !contains(leaving.risk.critical, m.to),
-        _ => false,
-    }
+    0
+}
+
+// Whether threats can be told: not in Circe, nor where the side that isn't to move has a grasshopper or a nightrider.
+fn can_be_told<R: Rules>(board: &Board) -> bool
+    ensures { result ≡ true → IsTold R.rule board.now }
+{
+    !R::is_circe() && has_no_fairy(board, board.turn().other())
 }
 
 // Against so many men or fewer threats aren't told.
 const FEW_MEN: u32 = 7;
 
-/// What the side that isn't to move threatens: the squares that the defender mustn't come to lest a reply may mate. It
-/// holds of each position with the same men and castlings and the same side to move.
+/// What the side that isn't to move threatens, told once a position: to which squares the other side's men mustn't come
+/// lest a reply may mate.
 #[derive(Drop)]
 pub struct Threats {
     siege: Siege,
     risk: Risk,
-    leaving: Option<Leaving>,
 }
 
 impl Model for Threats {
-    ghost use Rattle.chess_mates.specs.ties.Threats.{AreThreats};
+    ghost use Rattle.chess_mates.specs.ties.Siege.{AreThreats};
+    ghost use Rattle.chess_mates.specs.ties.Threats.{ToldThreats};
 
-    ghost Value = { Unit {0} };
+    ghost Value = { ToldThreats };
 
-    ghost view = { λ t. tt };
+    ghost view = { λ t. record { siege = t.siege; risk = t.risk } };
 
-    ghost invariant = { λ t. AreThreats t.siege t.risk t.leaving };
+    ghost invariant = { λ t. AreThreats t.siege t.risk };
 }
 
 impl Threats {
     /// The threats to the king of the side to move, who stands on the square.
-    pub fn of(board: &Board, king: Square) -> Threats {
+    pub fn of(board: &Board, king: Square) -> Threats
+        ensures { (rule : RuleSet) → IsWellFormed board.now → IsTold rule board.now
+            → king_square board.now.men board.now.turn ≡ Some king
+            → AreThreatsOf rule board.now result }
+    {
         let siege = siege_of(board, king);
         Threats {
             risk: risk_at(&siege, king),
             siege,
-            leaving: None,
         }
     }
 
@@ -678,25 +110,61 @@ impl Threats {
     pub fn are_told<R: Rules>(board: &Board) -> bool
         ensures { result ≡ true → IsTold R.rule board.now }
     {
-        let enemy = board.turn().other();
-        !R::is_circe() && board.side(enemy).count_ones() > FEW_MEN && has_no_fairy(board, enemy)
+        board.side(board.turn().other()).count_ones() > FEW_MEN && can_be_told::<R>(board)
     }
 
-    /// Whether no reply to this move mates. `Some(false)` says nothing: so it answers where kings castle or capture, and
-    /// where a pawn captures en passant or may be captured so. `None`: these are the threats of another position.
-    pub fn rule_out_mate<R: Rules>(&mut self, board: &Board, m: &Move) -> Option<bool>
+    /// Whether these are the threats in the board's position: they hold in each with the same men and castlings and the
+    /// same side to move.
+    pub fn are_of<R: Rules>(&self, board: &Board) -> bool
+        requires { IsWellFormed board.now }
+        ensures { result ≡ true → AreThreatsOf R.rule board.now self.now }
+    {
+        can_be_told::<R>(board) && is_of(&self.siege, board)
+    }
+
+    /// Those of the squares that the man on `from` mustn't come to lest a reply may mate. So he mustn't where kings castle
+    /// or capture, and where a pawn captures en passant or might be captured so.
+    pub fn risky_squares<R: Rules>(&self, board: &Board, from: Square, squares: u64) -> u64
+        requires well_formed { IsWellFormed board.now }
+        requires threats { AreThreatsOf R.rule board.now self.now }
+        ensures { AreRisky R.rule board.now from squares result }
+    {
+        let Some(man) = board.man_at(from) else {
+            return 0;
+        };
+        // For the proof: a square's number is below 64.
+        let _small = from.index();
+        let unplain = unplain_squares(board, man, from);
+        if man.kind.is(Kind::King) {
+            return squares & (unplain | risky_steps(&self.siege, squares & !unplain));
+        }
+        squares & (unplain | critical_from(&self.siege, &self.risk, from))
+    }
+
+    /// Whether the move doesn't come to such a square, so that no reply mates. `false` says nothing.
+    pub fn rule_out_mate<R: Rules>(&self, board: &Board, m: &Move) -> bool
         requires well_formed { IsWellFormed board.now }
         requires legal { is_legal R.rule board.now m.now ≡ true }
-        requires told { IsTold R.rule board.now }
-        ensures { result ≡ Some true
+        requires threats { AreThreatsOf R.rule board.now self.now }
+        ensures { result ≡ true
             → mates_behind R.rule (position_after R.rule board.now m.now) 0 ≡ [] }
     {
-        if !is_of(&self.siege, board) {
-            return None;
-        }
-        if contains(self.risk.lines, m.from) && m.from != self.siege.king {
-            self.leaving = Some(leaving_from(&self.siege, &self.leaving, m.from));
-        }
-        Some(no_mate_follows::<R>(&self.siege, &self.risk, &self.leaving, board, m))
+        // For the proof: a square's number is below 64.
+        let _small = m.to.index();
+        self.risky_squares::<R>(board, m.from, only(Some(m.to))) == 0
+    }
+}
+
+impl Sift for Threats {
+    ghost use Rattle.chess_mates.specs.ties.Mates.{allows_mate};
+    ghost use Rattle.chess_mates.specs.ties.Threats.{AreThreatsOf};
+
+    ghost test = { allows_mate };
+
+    ghost fits = { λ t rule p. AreThreatsOf rule p t };
+
+    #[tactic(auto, using(crate::proofs::Sparing::sifted_by_risk))]
+    fn sift<R: Rules>(&self, board: &Board, from: Square, squares: u64) -> u64 {
+        self.risky_squares::<R>(board, from, squares)
     }
 }

@@ -27,7 +27,8 @@ unfoldable pub use Rattle.chess_rules.specs.Play.{undo_of}
 pub use Rattle.chess_rules.specs.RuleSet.{RuleSet}
 pub use Rattle.chess_rules.specs.ties.Places.{IsPlaceIn, LegalPlace}
 unfoldable pub use Rattle.chess_rules.specs.ties.Places.{moves_behind, moves_between}
-pub use Rattle.chess_mates.specs.ties.Mates.{IsNextMate, MatingPlace, is_mating, mates_between}
+pub use Rattle.chess_rules.specs.ties.Sifting.{IsSifted}
+pub use Rattle.chess_mates.specs.ties.Mates.{IsNextMate, MatingPlace, allows_mate, is_mating, mates_between}
 unfoldable pub use Rattle.chess_mates.specs.ties.Mates.{mates_behind}
 pub use Rattle.pop_input.specs.Posed.{IsSound, Posed}
 pub use Rattle.pop_input.specs.Stipulations.{half_moves, half_moves_of, is_help, may_have}
@@ -70,4 +71,3 @@ pub use Rattle.pop_solve.specs.ties.Values.{decides, join, seeks}
 unfoldable pub use Rattle.pop_solve.specs.ties.Values.{joined_value, value}
 pub use Rattle.pop_solve.specs.ties.Walk.{AreSettled, GoesTo, HaveNoPaths, IsCounted, IsEnded, IsNextOf, IsNextUnsettled, IsWalking, Passes, Opens, Steps, Tries, ends_variation, fewest, fewest_for, seeks_last}
 unfoldable pub use Rattle.pop_solve.specs.ties.Walk.{IsRoomy, IsWhites, fewest_left, fewest_walked, first_from, follows, gives, half_moves_on, open_length, path, shown_paths, to_come, turns}
-pub use Rattle.pop_solve.specs.ties.Standins.{AreThreatsOf, IsSifted, allows_mate}

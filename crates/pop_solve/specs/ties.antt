@@ -5,6 +5,5 @@ pub mod Marks
 pub mod Phases
 pub mod Plans
 pub mod Seen
-pub mod Standins
 pub mod Values
 pub mod Walk

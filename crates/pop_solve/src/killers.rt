@@ -5,18 +5,16 @@ ghost use Rattle.chess_core.specs.WellFormed.{IsWellFormed};
 ghost use Rattle.chess_mates.specs.ties.Mates.{mates_behind};
 ghost use Rattle.chess_rules.specs.Legal.{is_legal};
 ghost use Rattle.chess_rules.specs.Play.{position_after};
-ghost use Rattle.pop_solve.specs.ties.Standins.{AreThreatsOf};
+ghost use Rattle.chess_mates.specs.ties.Threats.{AreThreatsOf};
 ghost use Rattle.pop_solve.specs.declared.aim.Battle.TheVariants.{Direct};
 
 use crate::aim::Battle;
-use crate::standins::{are_of, risky_squares, tell};
 use chess_core::board::Board;
 use chess_core::man::Move;
 use chess_mates::lasting_flights::keeps_flight;
 use chess_mates::threats::Threats;
 use chess_rules::moves::Moves;
 use chess_rules::rules::Rules;
-use chess_rules::words::{contains, only};
 
 /// For each number of half-moves below 32 the places on the last two moves that decided a position with so many
 /// half-moves left. In a direct mate they are tried first in the next such position; that any place may stand here costs
@@ -101,11 +99,11 @@ impl<R: Rules> Killers<R> {
             return;
         }
         if let Some(threats) = &self.threats {
-            if are_of::<R>(threats, board) {
+            if threats.are_of::<R>(board) {
                 return;
             }
         }
-        self.threats = Some(tell::<R>(board, king));
+        self.threats = Some(Threats::of(board, king));
     }
 
     /// Whether no reply to this move mates, told by `keeps_flight` or by the threats in the board's position, which are kept
@@ -123,6 +121,6 @@ impl<R: Rules> Killers<R> {
         let Some(threats) = &self.threats else {
             return false;
         };
-        !contains(risky_squares::<R>(threats, board, m.from, only(Some(m.to))), m.to)
+        threats.rule_out_mate::<R>(board, m)
     }
 }

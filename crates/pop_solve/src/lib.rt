@@ -11,7 +11,6 @@ pub mod phases;
 pub mod plan;
 pub mod search;
 mod showing;
-mod standins;
 mod value;
 pub mod walk;
 

@@ -14,7 +14,7 @@ ghost use Rattle.pop_solve.specs.ties.Calls.{Counts, Evaluates, Restores};
 ghost use Rattle.pop_solve.specs.ties.Plans.{varies};
 ghost use Rattle.pop_solve.specs.ties.Frames.{CameFrom, CameFromAt, opened_frame};
 ghost use Rattle.pop_solve.specs.Chess.{chess};
-ghost use Rattle.pop_solve.specs.ties.Standins.{AreThreatsOf};
+ghost use Rattle.chess_mates.specs.ties.Threats.{AreThreatsOf};
 ghost use Rattle.pop_input.specs.declared.stipulation.Goal.TheVariants.{Mate};
 ghost use Rattle.pop_solve.specs.ties.Marks.{is_for_mate};
 ghost use Rattle.pop_solve.specs.ties.Values.{seeks, value};
@@ -25,7 +25,6 @@ use crate::chess::{is_for_mate, moves_at, next_mate, next_move, reaches_goal, re
 use crate::frame::{Frame, Order, Stretch};
 use crate::history::History;
 use crate::plan::Plan;
-use crate::standins::{count_until, next_sifted};
 use crate::value::{seeking, value_of};
 use arrayvec::ArrayVec;
 use chess_core::board::Board;
@@ -308,8 +307,8 @@ fn next_risky<R: Rules>(
 {
     let before = moves_at::<R>(*known, *place, board);
     let mut moves = before;
-    let found = next_sifted::<R>(&mut moves, threats, board);
-    let count = u64::from(count_until::<R>(&before, moves.place(), board));
+    let found = moves.next_sifted(threats, board);
+    let count = u64::from(before.count_until(moves.place(), board));
     *opened = opened.saturating_add(count_before(&found, count));
     *place = moves.place();
     *known = Some(moves);

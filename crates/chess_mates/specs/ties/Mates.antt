@@ -1,9 +1,9 @@
 -- Moves that mate, and places among them (own).
-use Rattle.std.specs.Prelude.{◌≡◌, ℕ, Bool, true, ◌&&◌, ◌-◌, List, [], ◌∷◌, ◌++◌, filter}
+use Rattle.std.specs.Prelude.{◌≡◌, ℕ, Bool, true, not, ◌&&◌, ◌-◌, List, [], ◌∷◌, ◌++◌, filter}
 use Rattle.chess_core.specs.Position.{Position, other}
 use Rattle.chess_core.specs.declared.man.Move.{Move}
 use Rattle.chess_rules.specs.RuleSet.{RuleSet}
-use Rattle.chess_rules.specs.Legal.{is_legal, is_mate}
+use Rattle.chess_rules.specs.Legal.{is_legal, is_mate, is_nil}
 use Rattle.chess_rules.specs.Play.{position_after}
 use Rattle.chess_rules.specs.ties.Places.{moves_behind, moves_between}
 use Rattle.chess_rules.specs.ties.Targets.{AreKept}
@@ -22,6 +22,10 @@ mates_behind rule p place = filter (is_mating rule p) (moves_behind rule p place
 -- the legal moves behind one place that don't lie behind another and after which the side to move is mated
 unfoldable pub mates_between : RuleSet → Position → ℕ → ℕ → List Move
 mates_between rule p place end = filter (is_mating rule p) (moves_between rule p place end)
+
+-- some reply to the move mates
+abbrev pub allows_mate : RuleSet → Position → Move → Bool
+allows_mate rule p m = not (is_nil (mates_behind rule (position_after rule p m) 0))
 
 -- from one place to another the moves `over`, none of which mates, are passed, and then m, which mates
 pub record IsNextMate (rule : RuleSet) (p : Position) (old new : ℕ) (m : Move) : Type 0 where

@@ -1,263 +1,41 @@
--- Threats of mate, told before the defender's move, over hurdles: the squares of all men but his king (own).
-use Rattle.std.specs.Prelude.{◌≡◌, ◌≢◌, ◌<◌, ◌==◌, ◌⊎◌, ◌+◌, ◌-◌, ℕ, Bool, true, false, List, IfSome, Option, Some, None, map, if◌then◌else◌}
+-- Threats of mate, told before the defender's move (own).
+use Rattle.std.specs.Prelude.{◌≡◌, ◌<◌, ◌==◌, ℕ, true, false, List, [], Option, Some}
 use Rattle.std.specs.Int.{bit_at}
-use Rattle.std.specs.List.{list_any}
-use Rattle.chess_core.specs.Castling.{has_unmoved}
-use Rattle.chess_core.specs.Position.{Position, is_man, is_side, king_square, man_on, other, same_kind}
-use Rattle.chess_core.specs.Squares.{is_square, squares}
-use Rattle.chess_core.specs.Steps.{queen_steps, straight_steps}
+use Rattle.chess_core.specs.Position.{Position, man_on, other, same_kind}
 use Rattle.chess_core.specs.declared.man.Colour.{Colour}
-use Rattle.chess_core.specs.declared.man.Colour.TheVariants.{White}
-use Rattle.chess_core.specs.declared.man.Kind.{Kind}
-use Rattle.chess_core.specs.declared.man.Kind.TheVariants.{King, Queen, Rook, Bishop, Knight, Pawn}
+use Rattle.chess_core.specs.declared.man.Kind.TheVariants.{Pawn}
 use Rattle.chess_core.specs.declared.man.Man.{Man}
 use Rattle.chess_core.specs.declared.man.Move.{Move}
-use Rattle.chess_core.specs.ties.Words.{side_of}
-use Rattle.chess_mates.specs.declared.threats.Attackers.{Attackers}
-use Rattle.chess_mates.specs.declared.threats.Field.{Field}
-use Rattle.chess_mates.specs.declared.threats.Guards.{Guards}
-use Rattle.chess_mates.specs.declared.threats.Leaving.{Leaving}
-use Rattle.chess_mates.specs.declared.threats.Risk.{Risk}
-use Rattle.chess_mates.specs.declared.threats.Siege.{Siege}
-use Rattle.chess_mates.specs.ties.LastingFlights.{IsLeft}
-use Rattle.chess_rules.specs.Play.{halfway, is_castling, is_double_step}
-use Rattle.chess_rules.specs.Reaches.{leaps, reaches_as}
+use Rattle.chess_mates.specs.declared.siege.Risk.{Risk}
+use Rattle.chess_mates.specs.declared.siege.Siege.{Siege}
+use Rattle.chess_mates.specs.ties.Mates.{mates_behind}
+use Rattle.chess_mates.specs.ties.Siege.{AreThreats, IsSiegeOf}
+use Rattle.chess_rules.specs.Legal.{is_legal}
+use Rattle.chess_rules.specs.Play.{capture_square, halfway, is_castling, is_double_step, position_after}
 use Rattle.chess_rules.specs.RuleSet.{RuleSet, is_circe}
-use Rattle.chess_rules.specs.ties.Lines.{is_on_some}
 use Rattle.chess_rules.specs.ties.Shields.{is_fairy}
-use Rattle.chess_rules.specs.ties.Targets.{arrives, may_go}
-
--- a man on each square of the word, and on no other
-abbrev pub men_on : ℕ → List (Option Man)
-men_on d =
-    map (λ s. if bit_at d s == 1 then Some (record { colour = White; kind = Pawn }) else None)
-    squares
-
--- x on s reaches t over such men
-unfoldable pub reached_over : ℕ → Man → ℕ → ℕ → Bool
-reached_over d x s t = reaches_as (men_on d) x.colour x.kind s t
-
--- the word has each square that x on s reaches so
-pub record IsReached (d : ℕ) (x : Man) (s w : ℕ) : Type 0 where
-  pub inside : (t : ℕ) → t < 64 → reached_over d x s t ≡ true → (bit_at w t == 1) ≡ true
-
--- the squares of a kind's men; of fairy men none
-abbrev pub squares_for : Attackers → Kind → ℕ
-squares_for a King = a.kings
-squares_for a Queen = a.queens
-squares_for a Rook = a.rooks
-squares_for a Bishop = a.bishops
-squares_for a Knight = a.knights
-squares_for a Pawn = a.pawns
-squares_for a _ = 0
-
--- x may be one of these men, on s
-pub record IsAttacker (a : Attackers) (x : Man) (s : ℕ) : Type 0 where
-  pub small : s < 64
-  pub mine : x.colour ≡ a.colour
-  pub on : (bit_at (squares_for a x.kind) s == 1) ≡ true
-
--- each man of their colour is, fairy men apart
-pub record AreAttackers (men : List (Option Man)) (a : Attackers) : Type 0 where
-  pub stand : (s : ℕ) (x : Man) → s < 64 → man_on men s ≡ Some x → x.colour ≡ a.colour
-      → is_fairy x.kind ≡ false → IsAttacker a x s
-
--- rides along a queen's lines
-abbrev pub is_rider : Kind → Bool
-is_rider Queen = true
-is_rider Rook = true
-is_rider Bishop = true
-is_rider _ = false
-
--- goes a step or a leap
-abbrev pub is_leaper : Kind → Bool
-is_leaper King = true
-is_leaper Knight = true
-is_leaper Pawn = true
-is_leaper _ = false
-
--- the word has each square that one of the attackers of these kinds reaches over the hurdles
-pub record AreReached (d : ℕ) (a : Attackers) (kinds : Kind → Bool) (w : ℕ) : Type 0 where
-  pub reach : (s : ℕ) (x : Man) → IsAttacker a x s → kinds x.kind ≡ true → IsReached d x s w
-
--- the hurdles are men of both sides, and not the king on k
-pub record AreHurdles (own enemies k d : ℕ) : Type 0 where
-  pub men : (e : ℕ) → e < 64 → (bit_at d e == 1) ≡ true
-      → (((bit_at own e == 1) ≡ true) ⊎ ((bit_at enemies e == 1) ≡ true)) × (k ≢ e)
-
--- so are those of a siege
-pub record IsSiege (v : Siege) : Type 0 where
-  pub hurdles : AreHurdles v.own v.enemies v.king v.hurdles
-
--- the rook in the corner has moved, or a man of the colour stands on the square beside the king, or the word has it
-abbrev pub IsShut : Position → Colour → ℕ → ℕ → ℕ → Type 0
-IsShut p c w corner next =
-    (has_unmoved p.unmoved corner ≡ false)
-    ⊎ (is_side (man_on p.men next) c ≡ true) ⊎ (next < 64 → (bit_at w next == 1) ≡ true)
-
--- the colour's king has moved, or the word has the squares to which a rook may castle
-pub record AreCastlingSquares (p : Position) (c : Colour) (w : ℕ) : Type 0 where
-  pub sides : (s : ℕ) → s < 64 → is_man (man_on p.men s) c King ≡ true
-      → (has_unmoved p.unmoved s ≡ false) ⊎ (IsShut p c w (s + 3) (s + 1) × IsShut p c w (s - 4) (s - 1))
-
--- its men are those of the position, the defender to move
-pub record IsSiegeOf (p : Position) (v : Siege) : Type 0 where
-  pub colour : v.men.colour ≡ other p.turn
-  pub men : AreAttackers p.men v.men
-  pub own : v.own ≡ side_of p.men p.turn
-  pub enemies : v.enemies ≡ side_of p.men (other p.turn)
-  pub king : Some v.king ≡ king_square p.men p.turn
-  pub kings : (s : ℕ) → s < 64 → is_man (man_on p.men s) (other p.turn) King ≡ true
-      → (bit_at v.men.kings s == 1) ≡ true
-  pub castled : AreCastlingSquares p (other p.turn) v.castled
-
--- wherever the defender comes, critical squares apart, another square of the word is left; where an enemy stands, x
--- comes only after a capture there
-pub record LeavesOne (w enemies critical : ℕ) (x : Man) (t : ℕ) : Type 0 where
-  pub left : (b : ℕ) → b < 64 → (bit_at critical b == 1) ≡ false
-      → ((bit_at enemies t == 1) ≡ true → b ≡ t)
-      → (f : ℕ) × IsLeft w x t f × (f ≢ b)
-
--- x may go from s to t, a piece over the hurdles
-pub record IsArrival (d : ℕ) (x : Man) (s t : ℕ) : Type 0 where
-  pub small : t < 64
-  pub position : Position
-  pub goes : may_go position x s t ≡ true
-  pub reaches : same_kind x.kind Pawn ≡ false → reached_over d x s t ≡ true
-
--- the word has each such square, and each that a rider reaches over the hurdles
-pub record AreArrivals (d : ℕ) (x : Man) (s w : ℕ) : Type 0 where
-  pub inside : (t : ℕ) → IsArrival d x s t → (bit_at w t == 1) ≡ true
-  pub rides : is_rider x.kind ≡ true → IsReached d x s w
-
--- x neither checks from t, unless he is a king, nor promotes there
-pub record IsNoCheck (checks : ℕ) (x : Man) (t : ℕ) : Type 0 where
-  pub off : same_kind x.kind King ≡ false → (bit_at checks t == 1) ≡ false
-  pub plain : arrives x t ≡ false
-
--- the word has each square from which x checks the king on k over the hurdles
-pub record IsCheckWord (d k : ℕ) (x : Man) (w : ℕ) : Type 0 where
-  pub inside : (t : ℕ) → t < 64
-      → reached_over d (record { colour = other x.colour; kind = x.kind }) k t ≡ true
-      → (bit_at w t == 1) ≡ true
-
--- the defender leaves a, which is a hurdle on none of the lines, and comes to b, which isn't critical
-pub record IsOff (d : ℕ) (r : Risk) (a b : ℕ) : Type 0 where
-  pub lines : (bit_at d a == 1) ≡ true → (bit_at r.lines a == 1) ≡ false
-  pub critical : (bit_at r.critical b == 1) ≡ false
-
--- what the attackers reach once the one on s has gone
-pub record AreGuardsWithout (v : Siege) (s : ℕ) (g : Guards) : Type 0 where
-  pub hurdles : ℕ
-  pub kept : (e : ℕ) → e < 64 → (bit_at hurdles e == 1) ≡ true
-      → ((bit_at v.hurdles e == 1) ≡ true) × (s ≢ e)
-  pub rides : (q : ℕ) (z : Man) → IsAttacker v.men z q → s ≢ q → is_rider z.kind ≡ true
-      → IsReached hurdles z q g.ridden
-  pub guards : (q : ℕ) (z : Man) → IsAttacker v.men z q → s ≢ q → IsReached hurdles z q g.guarded
-
--- they don't reach t then, and the defender who leaves a opens no line
-pub record IsUnguarded (v : Siege) (s a t : ℕ) : Type 0 where
-  pub guards : Guards
-  pub are : AreGuardsWithout v s guards
-  pub shut : (bit_at v.hurdles a == 1) ≡ true → (bit_at guards.ridden a == 1) ≡ false
-  pub off : (bit_at guards.guarded t == 1) ≡ false
-
--- after x goes from s to t, and the defender from a to b, a square of the field is left
-pub record IsFlight (v : Siege) (g : Field) (x : Man) (s a b t : ℕ) : Type 0 where
-  pub plain : arrives x t ≡ false
-  pub square : ℕ
-  pub left : IsLeft g.near x t square
-  pub unguarded : IsUnguarded v s a square
-  pub elsewhere : square ≢ b
-
--- so it is unless t is none of the targets and no other attacker checks then
-abbrev pub IsMet : Siege → Field → Man → ℕ → ℕ → ℕ → ℕ → ℕ → Type 0
-IsMet v g x s targets a b t =
-    ((bit_at v.enemies t == 1) ≡ true → b ≡ t)
-    → (((bit_at targets t == 1) ≡ false) × IsUnguarded v s a g.king) ⊎ IsFlight v g x s a b t
-
--- x doesn't check from t, nor does he uncover a check
-pub record IsQuiet (v : Siege) (g : Field) (checks : ℕ) (x : Man) (s a t : ℕ) : Type 0 where
-  pub check : IsNoCheck checks x t
-  pub covered : ((bit_at g.lines s == 1) ≡ false) ⊎ IsUnguarded v s a g.king
-
--- wherever x goes from s, he gives no check or leaves a flight, and a defender who leaves a opens him no line
-pub record IsMild (v : Siege) (g : Field) (checks : ℕ) (x : Man) (s a b : ℕ) : Type 0 where
-  pub shut : is_rider x.kind ≡ true → (bit_at v.hurdles a == 1) ≡ true
-      → reached_over v.hurdles x s a ≡ false
-  pub each : (t : ℕ) → IsArrival v.hurdles x s t → ((bit_at v.enemies t == 1) ≡ true → b ≡ t)
-      → IsQuiet v g checks x s a t ⊎ IsFlight v g x s a b t
-
--- so it is after each move without this risk
-pub record IsHarmless (v : Siege) (g : Field) (checks : ℕ) (r : Risk) (x : Man) (s : ℕ) : Type
-    0 where
-  pub mild : (a b : ℕ) → a < 64 → b < 64 → IsOff v.hurdles r a b → IsMild v g checks x s a b
-
--- and x on s, who may check from these squares, doesn't check now
-pub record IsWeakAt (v : Siege) (g : Field) (x : Man) (s a b : ℕ) : Type 0 where
-  pub checks : ℕ
-  pub word : IsCheckWord v.hurdles g.king x checks
-  pub off : (bit_at checks s == 1) ≡ false
-  pub mild : IsMild v g checks x s a b
-
-pub record IsWeak (v : Siege) (g : Field) (r : Risk) (x : Man) (s : ℕ) : Type 0 where
-  pub weak : (a b : ℕ) → a < 64 → b < 64 → IsOff v.hurdles r a b → IsWeakAt v g x s a b
-
--- so is each attacker
-pub record AreWeak (v : Siege) (g : Field) (r : Risk) : Type 0 where
-  pub weak : (s : ℕ) (x : Man) → IsAttacker v.men x s → IsWeak v g r x s
-
--- the field of the king: squares next to him on which no man of his stands, nor the enemy's king; his lines
-pub record IsField (v : Siege) (g : Field) : Type 0 where
-  pub next : (f : ℕ) → f < 64 → (bit_at g.near f == 1) ≡ true
-      → list_any (leaps g.king f) queen_steps ≡ true
-  pub own : (f : ℕ) → f < 64 → (bit_at g.near f == 1) ≡ true → (bit_at v.own f == 1) ≡ false
-  pub kings : (f : ℕ) → f < 64 → (bit_at g.near f == 1) ≡ true → (bit_at v.men.kings f == 1) ≡ false
-  pub lines : (c : Colour) → IsReached v.hurdles (record { colour = c; kind = Queen }) g.king g.lines
-
--- no rook checks from a square to which he may castle, and no king leaves a line of the field
-pub record IsCastlingHarmless (v : Siege) (g : Field) : Type 0 where
-  pub rooks : (h : ℕ) → h < 64 → (bit_at v.castled h == 1) ≡ true
-      → is_on_some straight_steps g.king h ≡ false
-  pub kings : (h s : ℕ) → s < 64 → (bit_at v.castled h == 1) ≡ true
-      → (bit_at v.men.kings s == 1) ≡ true → (bit_at g.lines s == 1) ≡ false
-
--- the risk of a defender whose king is on k: after each move without it no reply mates
-pub record IsRiskAt (v : Siege) (k : ℕ) (r : Risk) : Type 0 where
-  pub field : Field
-  pub king : field.king ≡ k
-  pub is : IsField v field
-  pub castling : (b : ℕ) → b < 64 → (bit_at r.critical b == 1) ≡ false → IsCastlingHarmless v field
-  pub lines : (a b : ℕ) → b < 64 → (bit_at r.critical b == 1) ≡ false
-      → (bit_at r.lines a == 1) ≡ false → (bit_at field.lines a == 1) ≡ false
-  pub weak : (s : ℕ) (x : Man) → IsAttacker v.men x s → IsWeak v field r x s
-
--- the same siege, without a hurdle on this square
-pub record IsLifted (v : Siege) (from : ℕ) (w : Siege) : Type 0 where
-  pub siege : IsSiege w
-  pub king : w.king ≡ v.king
-  pub own : w.own ≡ v.own
-  pub enemies : w.enemies ≡ v.enemies
-  pub men : w.men ≡ v.men
-  pub castled : w.castled ≡ v.castled
-  pub off : (bit_at w.hurdles from == 1) ≡ false
-
--- the risk of the siege's king, told without a hurdle on this square
-pub record IsRiskBehind (v : Siege) (from : ℕ) (r : Risk) : Type 0 where
-  pub siege : Siege
-  pub lifted : IsLifted v from siege
-  pub risk : IsRiskAt siege v.king r
-
--- the same of the siege's king, and of the man who leaves his line
-pub record AreThreats (v : Siege) (r : Risk) (o : Option Leaving) : Type 0 where
-  pub siege : IsSiege v
-  pub risk : IsRiskAt v v.king r
-  pub leaving : IfSome o (λ l. IsRiskBehind v l.from l.risk)
+use Rattle.chess_rules.specs.ties.Targets.{may_go}
 
 -- no man of the colour is a fairy man
 pub record HasNoFairy (men : List (Option Man)) (c : Colour) : Type 0 where
   pub none : (s : ℕ) (x : Man) → s < 64 → man_on men s ≡ Some x → x.colour ≡ c
       → is_fairy x.kind ≡ false
+
+-- threats are told: without Circe, against a side that has no fairy man
+pub record IsTold (rule : RuleSet) (p : Position) : Type 0 where
+  pub circe : is_circe rule ≡ false
+  pub fairies : HasNoFairy p.men (other p.turn)
+
+-- what is told: a siege, and the risk of its king
+pub record ToldThreats : Type 0 where
+  pub siege : Siege
+  pub risk : Risk
+
+-- it is told of this position
+pub record AreThreatsOf (rule : RuleSet) (p : Position) (t : ToldThreats) : Type 0 where
+  pub told : IsTold rule p
+  pub fits : IsSiegeOf p t.siege
+  pub threats : AreThreats t.siege t.risk
 
 -- if x goes two squares as a pawn, no enemy pawn might come to the square between
 pub record IsPassing (p : Position) (x : Man) (m : Move) : Type 0 where
@@ -265,13 +43,19 @@ pub record IsPassing (p : Position) (x : Man) (m : Move) : Type 0 where
       → halfway m < 64 → man_on p.men s ≡ Some z → z.colour ≡ other p.turn
       → same_kind z.kind Pawn ≡ true → may_go q z s (halfway m) ≡ false
 
--- x neither castles nor comes to the crossed square, and passes freely
+-- x doesn't castle, captures only where he arrives, and passes freely
 pub record IsPlainMove (p : Position) (x : Man) (m : Move) : Type 0 where
   pub castling : is_castling x m ≡ false
-  pub crossed : is_square p.crossed m.to ≡ false
+  pub captures : (s : ℕ) → capture_square p x m ≡ Some s → s ≡ m.to
   pub passing : IsPassing p x m
 
--- threats are told: without Circe, against a side that has no fairy man
-pub record IsTold (rule : RuleSet) (p : Position) : Type 0 where
-  pub circe : is_circe rule ≡ false
-  pub fairies : HasNoFairy p.men (other p.turn)
+-- so x moves from s to each square that isn't in the word
+pub record ArePlain (p : Position) (x : Man) (s w : ℕ) : Type 0 where
+  pub plain : (m : Move) → m.from ≡ s → m.to < 64 → may_go p x s m.to ≡ true
+      → (bit_at w m.to == 1) ≡ false → IsPlainMove p x m
+
+-- no reply mates after a legal move from s to one of the squares, but for risky ones
+pub record AreRisky (rule : RuleSet) (p : Position) (s squares risky : ℕ) : Type 0 where
+  pub settled : (m : Move) → is_legal rule p m ≡ true → m.from ≡ s
+      → (bit_at squares m.to == 1) ≡ true → (bit_at risky m.to == 1) ≡ false
+      → mates_behind rule (position_after rule p m) 0 ≡ []

@@ -1,0 +1,85 @@
+-- Moves that are plain: who castles, captures en passant or might be captured so.
+use Rattle.chess_rules.proofs.Basics.{Option, and_from, and_left, and_parts, ap, bit_and, bit_at, bit_not, false, false≢true, list_any, not-true, refl, sym, true, true_from_ne_false, w64, ℕ, ◌&&◌, ◌+◌, ◌||◌, ◌<◌, ◌==◌, ◌^◌, ◌∙◌, ◌≡◌}
+use Rattle.chess_mates.proofs.Chess.{AreApproaches, Colour, King, Man, Move, Pawn, Position, halfway, is_advance, is_man, is_square, leaps, man_on, may_go, other, queen_steps, rank_of, same_colour, same_kind, same_kind-true, word}
+use Rattle.chess_mates.proofs.Chess.{squares_of}
+use Rattle.chess_rules.specs.Play.{is_castling}
+use Rattle.chess_core.specs.Squares.{file_of}
+use Rattle.chess_mates.specs.ties.Threats.{IsPassing, IsPlainMove}
+use Rattle.chess_core.proofs.Kept.{same_colour-refl}
+use Rattle.chess_rules.proofs.Bits.{word_has}
+use Rattle.chess_rules.proofs.listing_moves.Targeting.{false_by}
+use Rattle.chess_rules.proofs.making_moves.Fits.{capture_of_piece, pawn_is_no_king}
+use Rattle.chess_rules.proofs.making_moves.Pseudo.{king_is_no_pawn}
+use Rattle.chess_rules.proofs.rays.Tables.{king_step_is_no_castling}
+use Rattle.chess_mates.proofs.Approaches.{goes_over_next, no_far_step}
+use Rattle.chess_mates.proofs.Hurdles.{man_is}
+use Rattle.chess_mates.proofs.LastingFlights.{on_both}
+use Rattle.chess_mates.proofs.Risks.{bit_denied, none_at}
+use Rattle.chess_mates.proofs.Standing.{captured_there}
+
+on_denied : (w i : ℕ) → w < 2 ^ 64 → i < 64 → (bit_at (bit_not w64 w) i == 1) ≡ false → (bit_at w i == 1) ≡ true
+on_denied w i fits small off = true_from_ne_false _ (λ none. false≢true (sym off ∙ bit_denied w i fits small none))
+
+module _ (p : Position) (x : Man) (m : Move) (from : m.from < 64) (to : m.to < 64) where
+  -- a pawn, by the words of the squares ahead of him and of those a step away
+  module _ (a n : ℕ) (ahead : a ≡ word (is_advance x.colour m.from)) (near : n ≡ word (λ t. list_any (leaps m.from t) queen_steps)) where
+    -- for a pawn that goes a step
+    pub steps_freely : n < 2 ^ 64 → (bit_at (bit_not w64 n) m.to == 1) ≡ false → IsPassing p x m
+    steps_freely fits off = record {
+      freely = λ double. absurd (false≢true (sym (no_far_step m.from m.to from to (and_parts _ _ double).1)
+          ∙ sym (word_has (λ t. list_any (leaps m.from t) queen_steps) n m.to near to) ∙ on_denied n m.to fits to off));
+    }
+
+    -- for a pawn past whom none stands
+    pub passes_freely : (w l : ℕ) → may_go p x m.from m.to ≡ true → AreApproaches (record { colour = other p.turn; kind = Pawn }) (bit_and a n) w
+        → l ≡ squares_of p.men (other p.turn) Pawn → bit_and w l ≡ 0 → IsPassing p x m
+    unfolding squares_of
+    passes_freely w l goes before pawns none = record {
+      freely = λ double q s z small low here enemy pawn. false_by _ (λ comes.
+          let both = and_parts _ _ double in
+          let over = goes_over_next p x.colour m.from m.to from to
+          (rw (← man_is x x.colour Pawn refl (same_kind-true x.kind Pawn both.0)) at goes) both.1 in
+          let there : (bit_at (bit_and a n) (halfway m) == 1) ≡ true = on_both a n (halfway m)
+          (word_has (is_advance x.colour m.from) a (halfway m) ahead low ∙ over.0)
+          (word_has (λ t. list_any (leaps m.from t) queen_steps) n (halfway m) near low ∙ over.1) in
+          let kind : z.kind ≡ Pawn = same_kind-true z.kind Pawn pawn in
+          let comes_from : (bit_at w s == 1) ≡ true = before.approach q s (halfway m) small low (rw (← man_is z (other p.turn) Pawn enemy kind) at comes) there in
+          let stands : (bit_at l s == 1) ≡ true = word_has (λ t. is_man (man_on p.men t) (other p.turn) Pawn) l s pawns small
+          ∙ ap (λ (o : Option Man). is_man o (other p.turn) Pawn) here
+          ∙ and_from _ _ (ap (λ (c : Colour). same_colour c (other p.turn)) enemy ∙ same_colour-refl (other p.turn)) pawn in
+          none_at (bit_and w l) s none (on_both w l s comes_from stands));
+    }
+
+  -- for the squares to which each kind goes plainly
+  pub pawn_plain : (o : ℕ) → o ≡ word (is_square p.crossed) → same_kind x.kind Pawn ≡ true → (bit_at o m.to == 1) ≡ false → IsPassing p x m → IsPlainMove p x m
+  pawn_plain o crossed pawn off passing = record {
+    castling = and_left _ _ (and_left _ _ (pawn_is_no_king x.kind pawn));
+    captures = λ s cap. captured_there p x m s (sym (word_has (is_square p.crossed) o m.to crossed to) ∙ off) cap;
+    passing = passing;
+  }
+
+  pub piece_plain : same_kind x.kind Pawn ≡ false → is_castling x m ≡ false → IsPlainMove p x m
+  piece_plain piece still = record {
+    castling = still;
+    captures = λ s cap. capture_of_piece p x m s piece cap;
+    passing = record { freely = λ double. absurd (false≢true (sym piece ∙ (and_parts _ _ double).0)) };
+  }
+
+  pub man_plain : same_kind x.kind Pawn ≡ false → same_kind x.kind King ≡ false → IsPlainMove p x m
+  man_plain piece mortal = piece_plain piece (and_left _ _ (and_left _ _ mortal))
+
+  no_castling : (n : ℕ) → n ≡ word (λ t. list_any (leaps m.from t) queen_steps) → n < 2 ^ 64 → (bit_at (bit_not w64 n) m.to == 1) ≡ false
+      → is_castling x m ≡ true → ⊥
+  no_castling n near fits off castling =
+      let aside = and_parts (same_kind x.kind King && rank_of m.from == rank_of m.to)
+      (file_of m.from + 2 == file_of m.to || file_of m.to + 2 == file_of m.from) castling in
+      let rank = and_parts (same_kind x.kind King) (rank_of m.from == rank_of m.to) aside.0 in
+      let steps : list_any (leaps m.from m.to) queen_steps ≡ true = sym (word_has (λ t. list_any (leaps m.from t) queen_steps) n m.to near to)
+      ∙ on_denied n m.to fits to off in
+      let table = not-true _ (king_step_is_no_castling m.from m.to from to) in
+      let all = and_from _ _ (and_from _ _ rank.1 aside.1) steps in
+      cc
+
+  pub king_plain : (n : ℕ) → n ≡ word (λ t. list_any (leaps m.from t) queen_steps) → n < 2 ^ 64 → same_kind x.kind King ≡ true
+      → (bit_at (bit_not w64 n) m.to == 1) ≡ false → IsPlainMove p x m
+  king_plain n near fits king off = piece_plain (king_is_no_pawn x.kind king) (false_by _ (no_castling n near fits off))

@@ -1,0 +1,26 @@
+use Rattle.chess_rules.proofs.Basics.{arith, rules, sym, ◌∙◌}
+use Rattle.chess_mates.proofs.Sieges.{king_castles_anywhere, king_castles_to, moved_king_castles, no_king_castles, shut_on}
+use Rattle.chess_mates.proofs.siege.castling_squares.Goals as goal
+
+pub returns-in_default : goal.returns-in_default
+returns-in_default c = λ well. no_king_castles c.args.board.now c.args.colour 0 (sym c.king_of.ensures ∙ c.in_default.is)
+
+pub returns-then-not-has : goal.returns-then-not-has
+returns-then-not-has c = λ well.
+    moved_king_castles c.args.board.now c.args.colour 0 c.in-Some.king (sym c.king_of.ensures ∙ c.in-Some.is)
+    (search (rules, c.has.ensures, c.if-not-has.true, c.unmoved.ensures)) well
+
+pub returns-then-at-lt4 : goal.returns-then-at-lt4
+returns-then-at-lt4 c = λ well. king_castles_anywhere c.args.board.now c.args.colour c.in-Some.king (sym c.king_of.ensures ∙ c.in-Some.is) well
+
+pub returns : goal.returns
+returns c = λ well.
+    let p = c.args.board.now in
+    king_castles_to p c.args.colour c.in-Some.king c.castling_square-long.result c.castling_square-short.result (sym c.king_of.ensures ∙ c.in-Some.is)
+    (shut_on p c.args.colour c.side-own.result c.castling_square-long.result c.numbered.result c.numbered-2.result _ _ c.side-own.ensures
+    (omega (arith, c.numbered-2.ensures, c.index-at.ensures.value)) c.castling_square-long.ensures
+    (omega (arith, c.numbered.ensures, c.index-at.ensures.value)) (omega (arith, c.numbered-2.ensures, c.index-at.ensures.value)))
+    (shut_on p c.args.colour c.side-own.result c.castling_square-short.result c.numbered-3.result c.numbered-4.result _ _ c.side-own.ensures
+    (omega (arith, c.numbered-4.ensures, c.index-at.ensures.value)) c.castling_square-short.ensures
+    (omega (arith, c.numbered-3.ensures, c.index-at.ensures.value)) (omega (arith, c.numbered-4.ensures, c.index-at.ensures.value)))
+    well

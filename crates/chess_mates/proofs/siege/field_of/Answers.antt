@@ -1,0 +1,8 @@
+use Rattle.chess_rules.proofs.Basics.{arith}
+use Rattle.chess_mates.proofs.Sieges.{field_is}
+use Rattle.chess_mates.proofs.siege.field_of.Goals as goal
+
+pub returns-clause-field : goal.returns-clause-field
+returns-clause-field c =
+    field_is c.args.siege.now c.args.king c.king_leaps.result c.reach_over.result c.king_leaps.ensures (omega arith) (omega arith) (omega arith)
+    c.reach_over.ensures

@@ -1,0 +1,16 @@
+use Rattle.chess_rules.proofs.Basics.{ap, arith, ◌==◌, ◌∙◌, ℕ}
+use Rattle.std.specs.Int.{bit_at}
+use Rattle.chess_mates.proofs.Risks.{met_is, never_off}
+use Rattle.chess_mates.proofs.siege.risk_of_going.Goals as goal
+
+pub returns-then-may_promote_on : goal.returns-then-may_promote_on
+returns-then-may_promote_on c = λ a b t inside small off low on there. absurd (never_off c.args.siege.now.hurdles 0 a b small off)
+
+pub returns : goal.returns
+returns c = λ a b t inside small off low on.
+    let watched = c.watched_squares-watched in
+    met_is c.args.siege.now c.args.field.now c.args.man c.args.from c.args.targets watched.result c.critical_after.result
+    c.guards_without-guards.result a b t small low (omega arith) (omega arith) c.guards_without-guards.ensures off
+    (λ every. ap (λ (w : ℕ). bit_at w t == 1) (watched.ensures.all every) ∙ on)
+    (λ shut. watched.ensures.some shut)
+    (c.may_promote_on.ensures c.if-may_promote_on.false) c.critical_after.ensures

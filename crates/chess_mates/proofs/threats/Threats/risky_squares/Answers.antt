@@ -1,0 +1,36 @@
+use Rattle.chess_rules.proofs.Basics.{Some, ap, arith, sym, ◌∙◌, ◌≡◌}
+use Rattle.chess_rules.proofs.listing_moves.Calls.{is_pseudo_legal-from_legal}
+use Rattle.chess_rules.proofs.making_moves.Stays.{maker}
+use Rattle.chess_mates.proofs.Chess.{man_on}
+use Rattle.chess_mates.proofs.Ways.{moves_are_risky, steps_are_risky}
+use Rattle.chess_mates.specs.ties.Threats.{ToldThreats}
+use Rattle.chess_mates.proofs.threats.Threats.risky_squares.Goals as goal
+
+pub returns-in_default : goal.returns-in_default
+returns-in_default g c = record {
+  settled = λ m legal origin on off.
+      let x = maker g.R.Rules.rule c.args.board.now m (is_pseudo_legal-from_legal g.R.Rules.rule c.args.board.now m legal) in
+      let none = sym c.man_at.ensures ∙ c.in_default.is in
+      let some = ap (man_on c.args.board.now.men) (sym origin) ∙ x.1 in
+      absurd (cc);
+}
+
+pub returns-then-is : goal.returns-then-is
+returns-then-is g c =
+    let p = c.args.board.now in
+    let v = c.args.self.now in
+    let siege = ap (λ (t : ToldThreats). t.siege) c.self.view_is in
+    let here : man_on p.men c.args.from ≡ Some c.in-Some.man = sym c.man_at.ensures ∙ c.in-Some.is in
+    steps_are_risky g.R.Rules.rule p c.in-Some.man v c.requires.well_formed c.requires.threats c.args.from c.args.squares c.unplain_squares-unplain.result
+    c.risky_steps.result here (omega (arith, c.index-small.ensures.value, c.index-small.ensures.small)) (omega arith) c.unplain_squares-unplain.ensures
+    (omega arith) (sym c.is.ensures ∙ c.if-is.true) (rw siege at c.risky_steps.ensures)
+
+pub returns : goal.returns
+returns g c =
+    let p = c.args.board.now in
+    let v = c.args.self.now in
+    let siege = ap (λ (t : ToldThreats). t.siege) c.self.view_is in
+    let here : man_on p.men c.args.from ≡ Some c.in-Some.man = sym c.man_at.ensures ∙ c.in-Some.is in
+    moves_are_risky g.R.Rules.rule p c.in-Some.man v c.requires.well_formed c.requires.threats c.args.from c.args.squares c.unplain_squares-unplain.result
+    c.critical_from.result here (omega (arith, c.index-small.ensures.value, c.index-small.ensures.small)) (omega arith) c.unplain_squares-unplain.ensures
+    (sym c.is.ensures ∙ c.if-is.false) (rw siege at c.critical_from.ensures)

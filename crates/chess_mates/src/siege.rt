@@ -1,0 +1,589 @@
+//! A king's siege: the squares that his side mustn't come to lest a reply may mate, told before its move. All men but the
+//! king are hurdles: each square on which one stands stays occupied, be it that he is captured, but for the squares that the
+//! defender and the attacker leave.
+ghost use Rattle.std.specs.Prelude.{◌≡◌, ◌≢◌, ◌<◌, ◌==◌, ◌⊎◌, ℕ, Some, true, false};
+ghost use Rattle.std.specs.Int.{bit_at};
+ghost use Rattle.chess_core.specs.Castling.{has_unmoved};
+ghost use Rattle.chess_core.specs.Position.{king_square, other};
+ghost use Rattle.chess_core.specs.WellFormed.{IsWellFormed};
+ghost use Rattle.chess_core.specs.declared.man.Kind.TheVariants.{King};
+ghost use Rattle.chess_core.specs.declared.man.Man.{Man};
+ghost use Rattle.chess_core.specs.ties.Words.{squares_of};
+ghost use Rattle.chess_mates.specs.ties.LastingFlights.{IsLeft};
+ghost use Rattle.chess_mates.specs.ties.Siege.{AreArrivals, AreAttackers, AreCastlingSquares, AreGuardsWithout, AreHurdles, AreReached, AreThreats, AreWeak, IsAttacker, IsCastlingHarmless, IsCheckWord, IsField, IsHarmless, IsLifted, IsMet, IsNoCheck, IsOff, IsReached, IsRiskAt, IsRiskBehind, IsSafeMove, IsSafeStep, IsSiege, IsSiegeOf, IsWeak, LeavesOne, is_leaper, is_rider};
+ghost use Rattle.chess_rules.specs.ties.Targets.{arrives};
+
+use crate::lasting_flights::open_reach;
+use crate::open_board::open_targets;
+use chess_core::board::Board;
+use chess_core::man::{Colour, Kind, Man};
+use chess_core::square::Square;
+use chess_rules::leaps::king_leaps;
+use chess_rules::lines::straight_lines;
+use chess_rules::reach::reach_over;
+use chess_rules::words::{contains, next_bit, only};
+
+// The squares of a side's men kind by kind, fairy men apart.
+#[derive(Clone, Copy)]
+pub(crate) struct Attackers {
+    colour: Colour,
+    kings: u64,
+    queens: u64,
+    rooks: u64,
+    bishops: u64,
+    knights: u64,
+    pawns: u64,
+}
+
+// The men around the defender's king, who stands on `king`: the squares of the defender's men, of the attackers, and of
+// the hurdles; those to which a rook of theirs may castle.
+#[derive(Clone, Copy)]
+pub(crate) struct Siege {
+    king: Square,
+    own: u64,
+    enemies: u64,
+    hurdles: u64,
+    men: Attackers,
+    castled: u64,
+}
+
+// A king's square, the squares next to it to which he might go, attacks apart, and those of the lines from there.
+#[derive(Clone, Copy)]
+pub(crate) struct Field {
+    king: Square,
+    near: u64,
+    lines: u64,
+}
+
+// The squares that attackers reach, and those that their riders do.
+#[derive(Clone, Copy)]
+pub(crate) struct Guards {
+    ridden: u64,
+    guarded: u64,
+}
+
+// The squares that a defender mustn't come to lest a reply may mate, and those of all lines on which hurdles count.
+#[derive(Clone, Copy)]
+pub(crate) struct Risk {
+    critical: u64,
+    lines: u64,
+}
+
+// The squares that the man on `from` reaches over the hurdles.
+#[tactic(auto, using(crate::proofs::Hurdles::reached_is))]
+fn reach_from(hurdles: u64, man: Man, from: Square) -> u64
+    ensures { IsReached hurdles man from result }
+{
+    reach_over(hurdles, man.colour, man.kind, from)
+}
+
+// Those that such men on the squares of a word reach.
+fn reach_together(hurdles: u64, man: Man, squares: u64) -> u64
+    ensures { (s : ℕ) → s < 64 → (bit_at squares s == 1) ≡ true → IsReached hurdles man s result }
+{
+    let mut reached = 0u64;
+    let mut number = 0u8;
+    while let Some(from) = next_bit(squares, number) {
+        let more = reach_from(hurdles, man, from);
+        reached |= more;
+        number = from.index() + 1;
+    }
+    reached
+}
+
+// The same of the attackers of one kind.
+fn reach_of(hurdles: u64, colour: Colour, kind: Kind, squares: u64) -> u64
+    ensures { (s : ℕ) → s < 64 → (bit_at squares s == 1) ≡ true
+        → IsReached hurdles (record { colour = colour; kind = kind }) s result }
+{
+    reach_together(hurdles, Man { colour, kind }, squares)
+}
+
+// The squares that queens, rooks and bishops reach.
+fn ridden_squares(hurdles: u64, men: &Attackers) -> u64
+    ensures { AreReached hurdles men.now is_rider result }
+{
+    let queens = reach_of(hurdles, men.colour, Kind::Queen, men.queens);
+    let rooks = reach_of(hurdles, men.colour, Kind::Rook, men.rooks);
+    let bishops = reach_of(hurdles, men.colour, Kind::Bishop, men.bishops);
+    queens | rooks | bishops
+}
+
+// Those that knights, pawns and kings reach.
+fn leapt_squares(hurdles: u64, men: &Attackers) -> u64
+    ensures { AreReached hurdles men.now is_leaper result }
+{
+    let knights = reach_of(hurdles, men.colour, Kind::Knight, men.knights);
+    let pawns = reach_of(hurdles, men.colour, Kind::Pawn, men.pawns);
+    let kings = reach_of(hurdles, men.colour, Kind::King, men.kings);
+    knights | pawns | kings
+}
+
+// The squares of a word that are left to the king once the man has come to `to`.
+fn left_squares(near: u64, man: Man, to: Square) -> u64
+    ensures { (f : ℕ) → f < 64 → (bit_at result f == 1) ≡ true → IsLeft near man to f }
+{
+    near & !(open_reach(man, to) | only(Some(to)))
+}
+
+// The squares that a defender mustn't come to lest none is left then. To a square where another attacker stands the man
+// comes only if he recaptures there.
+fn critical_with(near: u64, enemies: u64, man: Man, to: Square) -> u64
+    ensures { LeavesOne near enemies result man to }
+{
+    let left = left_squares(near, man, to);
+    let Some(first) = next_bit(left, 0) else {
+        return if contains(enemies, to) {
+            only(Some(to))
+        } else {
+            !0
+        };
+    };
+    let Some(_second) = next_bit(left, first.index() + 1) else {
+        return only(Some(first));
+    };
+    0
+}
+
+// The same wherever the man comes to a square of the word.
+fn critical_after(near: u64, enemies: u64, man: Man, targets: u64) -> u64
+    ensures { (t : ℕ) → t < 64 → (bit_at targets t == 1) ≡ true
+        → LeavesOne near enemies result man t }
+{
+    let mut critical = 0u64;
+    let mut number = 0u8;
+    while let Some(to) = next_bit(targets, number) {
+        let more = critical_with(near, enemies, man, to);
+        critical |= more;
+        number = to.index() + 1;
+    }
+    critical
+}
+
+// The first rank and the last.
+const LAST_RANKS: u64 = 0xff00_0000_0000_00ff;
+
+// Whether the man may promote on one of the squares.
+#[tactic(auto, using(crate::proofs::LastingFlights::no_last_rank, crate::proofs::Risks::no_pawn_arrives))]
+fn may_promote_on(man: Man, targets: u64) -> bool
+    ensures { result ≡ false → (t : ℕ) → t < 64 → (bit_at targets t == 1) ≡ true
+        → arrives man t ≡ false }
+{
+    if !man.kind.is(Kind::Pawn) {
+        return false;
+    }
+    targets & LAST_RANKS != 0
+}
+
+// The squares to which the man on `from` may go: a piece over the hurdles, a pawn were the others gone.
+fn arrivals(hurdles: u64, man: Man, from: Square) -> u64
+    ensures { AreArrivals hurdles man from result }
+{
+    if man.kind.is(Kind::Pawn) {
+        open_targets(man, from)
+    } else {
+        reach_from(hurdles, man, from)
+    }
+}
+
+// Those of the squares from which he checks or on which he promotes. A king doesn't check.
+fn checking_targets(man: Man, reached: u64, checks: u64) -> u64
+    ensures { (t : ℕ) → t < 64 → (bit_at reached t == 1) ≡ true
+        → (bit_at result t == 1) ≡ false → IsNoCheck checks man t }
+{
+    if man.kind.is(Kind::King) {
+        return 0;
+    }
+    if man.kind.is(Kind::Pawn) {
+        return reached & (checks | LAST_RANKS);
+    }
+    reached & checks
+}
+
+// The squares on the lines of the man, if he rides.
+#[tactic(auto)]
+fn lines_of(man: Man, reached: u64) -> u64
+    ensures { is_rider man.kind ≡ true → result ≡ reached }
+{
+    match man.kind {
+        Kind::Queen | Kind::Rook | Kind::Bishop => reached,
+        _ => 0,
+    }
+}
+
+// The attackers but the one on the square.
+fn without(men: &Attackers, gone: Square) -> Attackers
+    ensures { (s : ℕ) (x : Man) → IsAttacker men.now x s → gone ≢ s → IsAttacker result x s }
+{
+    let others = !only(Some(gone));
+    Attackers {
+        colour: men.colour,
+        kings: men.kings & others,
+        queens: men.queens & others,
+        rooks: men.rooks & others,
+        bishops: men.bishops & others,
+        knights: men.knights & others,
+        pawns: men.pawns & others,
+    }
+}
+
+// What the attackers reach once the one on `from` has gone.
+fn guards_without(siege: &Siege, from: Square) -> Guards
+    ensures { AreGuardsWithout siege.now from result }
+{
+    let hurdles = siege.hurdles & !only(Some(from));
+    let men = without(&siege.men, from);
+    let ridden = ridden_squares(hurdles, &men);
+    Guards {
+        ridden,
+        guarded: ridden | leapt_squares(hurdles, &men),
+    }
+}
+
+// All squares that the man reaches, if another attacker checks once he has gone, else the targets.
+#[tactic(auto)]
+fn watched_squares(guards: &Guards, king: Square, reached: u64, targets: u64) -> u64
+    ensures all { (bit_at guards.now.guarded king == 1) ≡ true → result ≡ reached }
+    ensures some { (bit_at guards.now.guarded king == 1) ≡ false → result ≡ targets }
+{
+    if contains(guards.guarded, king) {
+        reached
+    } else {
+        targets
+    }
+}
+
+// The risk that the man goes from `from` to one of the squares that he reaches: to one of the targets, or to any if
+// another attacker checks once he has gone.
+fn risk_of_going(
+    siege: &Siege,
+    field: &Field,
+    man: Man,
+    from: Square,
+    reached: u64,
+    targets: u64,
+) -> Risk
+    ensures { (a b t : ℕ) → a < 64 → b < 64 → IsOff siege.now.hurdles result a b → t < 64
+        → (bit_at reached t == 1) ≡ true → IsMet siege.now field.now man from targets a b t }
+{
+    let guards = guards_without(siege, from);
+    let watched = watched_squares(&guards, field.king, reached, targets);
+    if may_promote_on(man, watched) {
+        return Risk {
+            critical: !0,
+            lines: 0,
+        };
+    }
+    Risk {
+        critical: critical_after(field.near & !guards.guarded, siege.enemies, man, watched),
+        lines: guards.ridden,
+    }
+}
+
+// The risk of the man on `from`, who checks from the squares of `checks`.
+fn risk_from(siege: &Siege, field: &Field, man: Man, from: Square, checks: u64) -> Risk
+    ensures { IsHarmless siege.now field.now checks result man from }
+{
+    let reached = arrivals(siege.hurdles, man, from);
+    let targets = checking_targets(man, reached, checks);
+    let lines = lines_of(man, reached);
+    if targets == 0 && !contains(field.lines, from) {
+        return Risk { critical: 0, lines };
+    }
+    let going = risk_of_going(siege, field, man, from, reached, targets);
+    Risk {
+        critical: going.critical,
+        lines: going.lines | lines,
+    }
+}
+
+// The same of such men on the squares of a word.
+fn risk_together(siege: &Siege, field: &Field, man: Man, squares: u64, checks: u64) -> Risk
+    ensures { (s : ℕ) → s < 64 → (bit_at squares s == 1) ≡ true
+        → IsHarmless siege.now field.now checks result man s }
+{
+    let mut critical = 0u64;
+    let mut lines = 0u64;
+    let mut number = 0u8;
+    while let Some(from) = next_bit(squares, number) {
+        let more = risk_from(siege, field, man, from, checks);
+        critical |= more.critical;
+        lines |= more.lines;
+        number = from.index() + 1;
+    }
+    Risk { critical, lines }
+}
+
+// The squares from which the man, once he has come there, checks the king over the hurdles.
+fn check_squares_over(hurdles: u64, man: Man, king: Square) -> u64
+    ensures { IsCheckWord hurdles king man result }
+{
+    reach_over(hurdles, man.colour.other(), man.kind, king)
+}
+
+// The risk of the men of this kind, who stand on the squares. Where one of them checks now, nothing is told.
+fn risk_of(siege: &Siege, field: &Field, kind: Kind, squares: u64) -> Risk
+    ensures { (s : ℕ) → s < 64 → (bit_at squares s == 1) ≡ true
+        → IsWeak siege.now field.now result
+        (record { colour = siege.now.men.colour; kind = kind }) s }
+{
+    if squares == 0 {
+        return Risk {
+            critical: 0,
+            lines: 0,
+        };
+    }
+    let man = Man {
+        colour: siege.men.colour,
+        kind,
+    };
+    let checks = check_squares_over(siege.hurdles, man, field.king);
+    if checks & squares != 0 {
+        return Risk {
+            critical: !0,
+            lines: 0,
+        };
+    }
+    risk_together(siege, field, man, squares, checks)
+}
+
+// The risk of all attackers.
+fn risk_of_all(siege: &Siege, field: &Field) -> Risk
+    ensures { AreWeak siege.now field.now result }
+{
+    let men = &siege.men;
+    let kings = risk_of(siege, field, Kind::King, men.kings);
+    let queens = risk_of(siege, field, Kind::Queen, men.queens);
+    let rooks = risk_of(siege, field, Kind::Rook, men.rooks);
+    let bishops = risk_of(siege, field, Kind::Bishop, men.bishops);
+    let knights = risk_of(siege, field, Kind::Knight, men.knights);
+    let pawns = risk_of(siege, field, Kind::Pawn, men.pawns);
+    Risk {
+        critical: kings.critical
+            | queens.critical
+            | rooks.critical
+            | bishops.critical
+            | knights.critical
+            | pawns.critical,
+        lines: kings.lines
+            | queens.lines
+            | rooks.lines
+            | bishops.lines
+            | knights.lines
+            | pawns.lines,
+    }
+}
+
+// The field of a king of the defender on this square.
+#[tactic(auto, using(crate::proofs::Sieges::field_is))]
+fn field_of(siege: &Siege, king: Square) -> Field
+    ensures king { result.king ≡ king }
+    ensures field { IsField siege.now result }
+{
+    Field {
+        king,
+        near: king_leaps(king) & !siege.own & !siege.men.kings,
+        lines: reach_over(siege.hurdles, Colour::White, Kind::Queen, king),
+    }
+}
+
+// Whether no castling of the attackers checks: no rook from his new square, nor another man once their king has gone.
+fn castling_is_harmless(siege: &Siege, field: &Field) -> bool
+    ensures { result ≡ true → IsCastlingHarmless siege.now field.now }
+{
+    let rooks = straight_lines(field.king) & siege.castled;
+    let kings = field.lines & siege.men.kings;
+    (siege.castled == 0) | ((rooks == 0) & (kings == 0))
+}
+
+// The risk of a defender whose king is on the square.
+pub(crate) fn risk_at(siege: &Siege, king: Square) -> Risk
+    ensures { IsRiskAt siege.now king result }
+{
+    let field = field_of(siege, king);
+    if !castling_is_harmless(siege, &field) {
+        return Risk {
+            critical: !0,
+            lines: 0,
+        };
+    }
+    let risk = risk_of_all(siege, &field);
+    Risk {
+        critical: risk.critical,
+        lines: risk.lines | field.lines,
+    }
+}
+
+// The square `next`, beside the king, if the side may castle with the rook in the corner: he is unmoved, and no man of
+// its own stands there.
+fn castling_square(board: &Board, own: u64, corner: Square, next: Square) -> u64
+    ensures { (has_unmoved board.now.unmoved corner ≡ false)
+        ⊎ ((bit_at own next == 1) ≡ true) ⊎ ((bit_at result next == 1) ≡ true) }
+{
+    // For the proof: a square's number is below 64.
+    let _small = next.index();
+    if !board.unmoved().has(corner) {
+        return 0;
+    }
+    if contains(own, next) {
+        return 0;
+    }
+    only(Some(next))
+}
+
+// The squares to which a rook of the colour may castle, whatever the other side plays before, and perhaps more.
+fn castling_squares(board: &Board, colour: Colour) -> u64
+    ensures { IsWellFormed board.now → AreCastlingSquares board.now colour result }
+{
+    let Some(king) = board.king_of(colour) else {
+        return 0;
+    };
+    if !board.unmoved().has(king) {
+        return 0;
+    }
+    let at = king.index();
+    if at < 4 || at > 60 {
+        return !0;
+    }
+    let own = board.side(colour);
+    let long = castling_square(
+        board,
+        own,
+        Square::numbered(at - 4),
+        Square::numbered(at - 1),
+    );
+    let short = castling_square(
+        board,
+        own,
+        Square::numbered(at + 3),
+        Square::numbered(at + 1),
+    );
+    long | short
+}
+
+// The men of the colour, fairy men apart.
+fn attackers_on(board: &Board, colour: Colour) -> Attackers
+    ensures colour { result.colour ≡ colour }
+    ensures kings { result.kings ≡ squares_of board.now.men colour King }
+    ensures men { AreAttackers board.now.men result }
+{
+    Attackers {
+        colour,
+        kings: board.squares(colour, Kind::King),
+        queens: board.squares(colour, Kind::Queen),
+        rooks: board.squares(colour, Kind::Rook),
+        bishops: board.squares(colour, Kind::Bishop),
+        knights: board.squares(colour, Kind::Knight),
+        pawns: board.squares(colour, Kind::Pawn),
+    }
+}
+
+// All men but the king, and perhaps without one of his.
+fn hurdles_of(own: u64, enemies: u64, king: Square, lifted: Option<Square>) -> u64
+    ensures are { AreHurdles own enemies king result }
+    ensures lifted { (s : ℕ) → s < 64 → lifted ≡ Some s → (bit_at result s == 1) ≡ false }
+{
+    (own | enemies) & !only(Some(king)) & !only(lifted)
+}
+
+// The siege by the board's men of the king of the side to move, who stands on the square.
+pub(crate) fn siege_of(board: &Board, king: Square) -> Siege
+    ensures siege { IsSiege result }
+    ensures king { result.king ≡ king }
+    ensures of { IsWellFormed board.now → king_square board.now.men board.now.turn ≡ Some king
+        → IsSiegeOf board.now result }
+{
+    let enemy = board.turn().other();
+    let own = board.side(board.turn());
+    let enemies = board.side(enemy);
+    Siege {
+        king,
+        own,
+        enemies,
+        hurdles: hurdles_of(own, enemies, king, None),
+        men: attackers_on(board, enemy),
+        castled: castling_squares(board, enemy),
+    }
+}
+
+// The same without the man on the square.
+fn lifted_from(siege: &Siege, from: Square) -> Siege
+    ensures { IsLifted siege.now from result }
+{
+    // For the proof: a square's number is below 64.
+    let _small = from.index();
+    Siege {
+        hurdles: hurdles_of(siege.own, siege.enemies, siege.king, Some(from)),
+        ..*siege
+    }
+}
+
+// Whether these are the men on the board, the defender to move.
+pub(crate) fn is_of(siege: &Siege, board: &Board) -> bool
+    requires { IsWellFormed board.now }
+    ensures { result ≡ true → IsSiegeOf board.now siege.now }
+{
+    let men = &siege.men;
+    let colour = men.colour;
+    if !colour.is(board.turn().other()) || board.king_of(board.turn()) != Some(siege.king) {
+        return false;
+    }
+    (siege.own == board.side(board.turn()))
+        & (siege.enemies == board.side(colour))
+        & (men.kings == board.squares(colour, Kind::King))
+        & (men.queens == board.squares(colour, Kind::Queen))
+        & (men.rooks == board.squares(colour, Kind::Rook))
+        & (men.bishops == board.squares(colour, Kind::Bishop))
+        & (men.knights == board.squares(colour, Kind::Knight))
+        & (men.pawns == board.squares(colour, Kind::Pawn))
+        & (siege.castled == castling_squares(board, colour))
+}
+
+// The risk of a defender who leaves a line on which he is a hurdle.
+fn risk_behind(siege: &Siege, from: Square) -> Risk
+    ensures { IsRiskBehind siege.now from result }
+{
+    let lifted = lifted_from(siege, from);
+    risk_at(&lifted, siege.king)
+}
+
+// The squares that the man on `from`, who isn't the king, mustn't come to: told by the siege's own risk, unless he leaves
+// a line on which he is a hurdle.
+pub(crate) fn critical_from(siege: &Siege, risk: &Risk, from: Square) -> u64
+    requires { AreThreats siege.now risk.now }
+    ensures { (t : ℕ) → (bit_at result t == 1) ≡ false → IsSafeMove siege.now from t }
+{
+    if contains(risk.lines, from) {
+        risk_behind(siege, from).critical
+    } else {
+        risk.critical
+    }
+}
+
+// The square, if the king mustn't step there: a man stands on it, or a reply may mate him there.
+fn risky_step(siege: &Siege, to: Square) -> u64
+    ensures { (bit_at result to == 1) ≡ false → IsSafeStep siege.now to }
+{
+    // For the proof: a square's number is below 64.
+    let _small = to.index();
+    let step = only(Some(to));
+    if contains(siege.hurdles, to) {
+        return step;
+    }
+    step & risk_at(siege, to).critical
+}
+
+// Those of the squares to which he mustn't step.
+pub(crate) fn risky_steps(siege: &Siege, steps: u64) -> u64
+    ensures { (t : ℕ) → t < 64 → (bit_at steps t == 1) ≡ true → (bit_at result t == 1) ≡ false
+        → IsSafeStep siege.now t }
+{
+    let mut risky = 0u64;
+    let mut number = 0u8;
+    while let Some(to) = next_bit(steps, number) {
+        let more = risky_step(siege, to);
+        risky |= more;
+        number = to.index() + 1;
+    }
+    risky
+}
