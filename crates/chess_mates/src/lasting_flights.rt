@@ -11,7 +11,7 @@ ghost use Rattle.chess_mates.specs.ties.LastingFlights.{AreApproached, AreGuarde
 ghost use Rattle.chess_mates.specs.ties.Mates.{mates_behind};
 ghost use Rattle.chess_rules.specs.Legal.{is_legal};
 ghost use Rattle.chess_rules.specs.Play.{is_castling, position_after};
-ghost use Rattle.chess_rules.specs.RuleSet.{is_circe};
+ghost use Rattle.chess_rules.specs.RuleSet.{captures_do_more};
 ghost use Rattle.chess_rules.specs.ties.Sight.{king_after};
 ghost use Rattle.chess_rules.specs.ties.Targets.{arrives};
 
@@ -218,10 +218,10 @@ const MOST_MEN: u32 = 7;
 
 // Whether such flights are looked for: not in Circe, nor beside many enemies or their fairy men.
 fn are_looked_for<R: Rules>(board: &Board) -> bool
-    ensures { result ≡ true → is_circe R.rule ≡ false }
+    ensures { result ≡ true → captures_do_more R.rule ≡ false }
 {
     let enemy = board.turn().other();
-    !R::is_circe()
+    !R::captures_do_more()
         && board.side(enemy).count_ones() <= MOST_MEN
         && board.squares(enemy, Kind::Grasshopper) | board.squares(enemy, Kind::Nightrider) == 0
 }
