@@ -7,7 +7,9 @@ use Rattle.chess_mates.specs.ties.Flights.{has_flight, is_flight, is_flight_from
 use Rattle.std.proofs.Common.{IfSome}
 use Rattle.chess_mates.specs.ties.LastingFlights.{AreApproached, AreGuarded, AreNear, AreReached, IsLeft, KeepsOne, LeaveOne, LeavesOne}
 use Rattle.chess_rules.proofs.Bits.{off_left, off_right, on_left, on_right, word_has}
+use Rattle.chess_core.specs.Steps.{gait_of, is_hopper}
 use Rattle.chess_rules.proofs.rays.Ends.{square_is}
+use Rattle.chess_rules.proofs.rays.Flips.{reaches_back}
 use Rattle.chess_rules.proofs.attacks.Exposing.{king_is_after}
 use Rattle.chess_rules.proofs.attacks.Seeing.{king_stands}
 use Rattle.chess_rules.proofs.attacks.Shielding.{arriving_colour, other_differs, other_twice, simple_after}
@@ -22,7 +24,6 @@ use Rattle.chess_rules.proofs.listing_moves.Walks.{off_second, off_zero, on_firs
 use Rattle.chess_mates.proofs.Fleeing.{IsKingOn, IsKingStep, king_on, no_king_free, no_mate_with_flight, no_strike, step_is_legal, step_to, unseen_bit}
 use Rattle.chess_mates.proofs.Mating.{mates_behind-end, mates_behind-none, not_mating, turn_after}
 use Rattle.chess_mates.proofs.OpenBoard.{rides_on}
-use Rattle.chess_mates.proofs.Hurdles.{reaches_back}
 use Rattle.chess_mates.proofs.Standing.{arrival_small, free_man, not_mine, stood, unnamed}
 
 -- what a man reaches, he would reach on an empty board
@@ -124,10 +125,10 @@ pub left_first : (squares r o t : ℕ) (x : Man) → AreReached x t r → r < 2 
 left_first squares r o t x are rfits ofits only None e = search rules
 left_first squares r o t x are rfits ofits only (Some f) e = left_there squares r o t f x are rfits ofits only (sym e)
 
-pub come_back : (x : Man) (t w : ℕ) → t < 64 → same_kind x.kind Grasshopper ≡ false → AreReached (record { colour = other x.colour; kind = x.kind }) t w
+pub come_back : (x : Man) (t w : ℕ) → t < 64 → is_hopper (gait_of x.kind) ≡ false → AreReached (record { colour = other x.colour; kind = x.kind }) t w
     → AreApproached x t w
-come_back x t w small piece are = record {
-  inside = λ men s inside h. are.inside men s inside (sym (reaches_back men x.colour x.kind s t inside small piece) ∙ h);
+come_back x t w small plain are = record {
+  inside = λ men s inside h. are.inside men s inside (sym (reaches_back men x.colour x.kind s t plain inside small) ∙ h);
 }
 
 -- where the man neither stands on the first square nor reaches it, that one is left

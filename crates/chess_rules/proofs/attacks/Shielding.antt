@@ -367,9 +367,9 @@ cannot_expose_own rule p m well may small h =
     })
 
 -- a fairy man by the words of the two kinds
-pub some_grasshopper : (men : List (Option Man)) (c : Colour) (w : ℕ) → w ≡ squares_of men c Grasshopper → (w ≡ 0 → ⊥) → not (w == 0) ≡ has_fairy men c
+pub some_hopper : (men : List (Option Man)) (c : Colour) (w : ℕ) → w ≡ squares_of men c Grasshopper → (w ≡ 0 → ⊥) → not (w == 0) ≡ has_fairy men c
 unfolding has_fairy squares_of
-some_grasshopper men c w h some = search (rules, differs, or_left, not_zero)
+some_hopper men c w h some = search (rules, differs, or_left, not_zero)
 
 -- and where no grasshopper stands, by that of the nightriders
 pub some_nightrider : (men : List (Option Man)) (c : Colour) (w n : ℕ) → w ≡ squares_of men c Grasshopper → w ≡ 0 → n ≡ squares_of men c Nightrider
