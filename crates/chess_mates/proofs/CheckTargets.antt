@@ -1,6 +1,6 @@
 -- A move that goes to no square from which its man may give check gives none.
 use Rattle.chess_rules.proofs.Basics.{None, Option, Some, agree_below_at, and_parts, ap, arith, bit_and, bit_at, bit_not, bit_or, cases_Bool, false, false≢true, inl, inr, is_some, not, refl, rules, sym, true, w64, ℕ, ◌+◌, ◌/◌, ◌<◌, ◌==◌, ◌||◌, ◌∙◌, ◌≡◌}
-use Rattle.chess_mates.proofs.Chess.{AreCastlingTargets, AreCheckSquares, AreCheckTargets, Black, CheckSquares, Colour, IsWellFormed, Kind, King, Man, Move, Pawn, Position, Rook, RuleSet, White, are_rebirths_quiet, arrives, arriving_man, check_squares_for, circe, halfway, in_check, is_aside, is_castling, is_circe, is_legal, is_pseudo_legal, is_square, last_rank, man_on, may_check_from, may_expose, may_go, may_stand_between, orthodox, other, position_after, rank_of, same_colour, same_kind, word}
+use Rattle.chess_mates.proofs.Chess.{AreCastlingTargets, AreCheckSquares, AreCheckTargets, Black, CheckSquares, Colour, IsWellFormed, Kind, King, Man, Move, Pawn, Position, Rook, RuleSet, White, are_rebirths_quiet, arrives, arriving_man, check_squares_for, circe, halfway, in_check, is_aside, is_castling, captures_do_more, is_legal, is_pseudo_legal, is_square, last_rank, man_on, may_check_from, may_expose, may_go, may_stand_between, orthodox, other, position_after, rank_of, same_colour, same_kind, word}
 use Rattle.chess_mates.specs.ties.CheckSquares.{enemy}
 use Rattle.chess_rules.specs.ties.Shields.{cannot_expose}
 use Rattle.chess_rules.proofs.listing_moves.Arrivals.{may_go_aimed}
@@ -38,7 +38,7 @@ module _ (rule : RuleSet) (p : Position) (x : Man) (s : CheckSquares) (f : ℕ) 
     (checked_from : a ≡ check_squares_for s x.kind) (crossed : b ≡ word (λ t. is_square p.crossed t))
     (promotes : same_kind x.kind Pawn ≡ true → c ≡ 18374686479671623935)
     (castles : same_kind x.kind King ≡ true → AreCastlingTargets s f c)
-    (reborn : is_circe rule ≡ true → d ≡ word (λ t. is_some (man_on p.men t))) (lines : e ≡ word (may_stand_between p.men (other p.turn))) where
+    (reborn : captures_do_more rule ≡ true → d ≡ word (λ t. is_some (man_on p.men t))) (lines : e ≡ word (may_stand_between p.men (other p.turn))) where
   module _ (m : Move) (at : m.from ≡ f) (small : m.to < 64) (may : is_pseudo_legal rule p m ≡ true)
       (apart : same_kind x.kind King ≡ true → may_check_from p.men (other p.turn) x m.to ≡ false)
       (off-lines : (bit_at (bit_or (bit_or (bit_or (bit_or a b) c) d) e) m.to == 1) ≡ false) where
@@ -107,7 +107,7 @@ module _ (rule : RuleSet) (p : Position) (x : Man) (s : CheckSquares) (f : ℕ) 
     (checked_from : a ≡ check_squares_for s x.kind) (crossed : b ≡ word (λ t. is_square p.crossed t))
     (promotes : same_kind x.kind Pawn ≡ true → c ≡ 18374686479671623935)
     (castles : same_kind x.kind King ≡ true → AreCastlingTargets s f c)
-    (reborn : are_rebirths_quiet rule p.men p.turn ≡ false → is_circe rule ≡ true → d ≡ word (λ t. is_some (man_on p.men t)))
+    (reborn : are_rebirths_quiet rule p.men p.turn ≡ false → captures_do_more rule ≡ true → d ≡ word (λ t. is_some (man_on p.men t)))
     (lines : e ≡ word (may_stand_between p.men (other p.turn))) where
   by_rule : (m : Move) → m.from ≡ f → m.to < 64 → is_pseudo_legal rule p m ≡ true
       → (same_kind x.kind King ≡ true → may_check_from p.men (other p.turn) x m.to ≡ false)

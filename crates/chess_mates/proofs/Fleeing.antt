@@ -1,6 +1,6 @@
 -- A flight after a move, told by the men that an attack on it sees.
 use Rattle.chess_rules.proofs.Basics.{Bool, List, None, Option, Some, and_from, and_left, and_parts, and_right, ap, arith, bit_and, bit_at, bit_at-lt, bit_at-zero, bit_at_and, bit_not, bit_or, cases_Bool, cases_eq, cond-false, cond-true, eq-eqb, eqb-true, false, false_from_ne_true, false≢true, inl, inr, is_some, length, list_any, not, not-true, or_left, or_parts, refl, rules, suc, sym, true, w64, zero, ℕ, ◌&&◌, ◌*◌, ◌+◌, ◌<◌, ◌==◌, ◌||◌, ◌∙◌, ◌≡◌, ◌≢◌}
-use Rattle.chess_mates.proofs.Chess.{AreOpen, AreSeen, Colour, IsWellFormed, King, Man, Move, Pawn, Position, RuleSet, any_range_cases, any_range_false, arriving_man, capture_square, differs, first_of_and, is_arrival_free, is_attacked, is_circe, is_legal, is_man, is_mate, is_nil, is_side, is_square, king_after, king_square, leaps, man_on, mates, moves, position_after}
+use Rattle.chess_mates.proofs.Chess.{AreOpen, AreSeen, Colour, IsWellFormed, King, Man, Move, Pawn, Position, RuleSet, any_range_cases, any_range_false, arriving_man, capture_square, differs, first_of_and, is_arrival_free, is_attacked, captures_do_more, is_legal, is_man, is_mate, is_nil, is_side, is_square, king_after, king_square, leaps, man_on, mates, moves, position_after}
 use Rattle.chess_mates.proofs.Chess.{is_paralysed, is_pseudo_legal, moves_behind, occupied_squares, other, queen_steps, reaches, reaches_as, reaches_of, same_colour, same_colour-true, same_kind, side_of, sight_lifted, sight_with, some_square, some_square_false, some_square_true, squares, squares_both, squares_either, squares_not}
 use Rattle.chess_mates.proofs.Chess.{squares_of, strikes, triple_at, without_man, word}
 use Rattle.std.proofs.Common.{IfSome}
@@ -125,7 +125,7 @@ module _ (rule : RuleSet) (p : Position) (m : Move) (x : Man) (k : ℕ) (i : IsS
     free_there t at =
         grind (arith, cases_eq t m.to, there_now, arrived_free, no_own_arrives, no_king_arrives, cases_Bool, left_now, or_parts, unless, kept_now, free_of)
 
-    pub open_squares : (w l h : ℕ) → is_circe rule ≡ false → w ≡ word (λ t. list_any (leaps k t) queen_steps)
+    pub open_squares : (w l h : ℕ) → captures_do_more rule ≡ false → w ≡ word (λ t. list_any (leaps k t) queen_steps)
         → l ≡ (sight_lifted p.men m.from (capture_square p x m) m.to k).standing
         → h ≡ bit_or (bit_and (side_of p.men (other p.turn)) l) (squares_of p.men p.turn King)
         → AreOpen rule (position_after rule p m).men (other p.turn) k (bit_and w (bit_not w64 h))
@@ -137,7 +137,7 @@ module _ (rule : RuleSet) (p : Position) (m : Move) (x : Man) (k : ℕ) (i : IsS
               and_from _ _ (and_from _ _ (reached_near (position_after rule p m).men (other p.turn) k w t near lt (on_first w _ t on))
               (ap (λ (l : List (Option Man)). is_arrival_free (other p.turn) (man_on l t)) after_seen
               ∙ free_there t (sym (word_has _ h t closed lt) ∙ unseen_bit _ w h t closed lt on)))
-              (ap not (and_left (is_circe rule) _ circe));
+              (ap not (and_left (captures_do_more rule) _ circe));
         }
 
     pub open_squares_in_circe : (w l : ℕ) → w ≡ word (λ t. list_any (leaps k t) queen_steps)
@@ -223,7 +223,7 @@ pub record IsKingStep (rule : RuleSet) (q : Position) (x : Man) (k t : ℕ) : Ty
 pub record IsOpenTo (rule : RuleSet) (men : List (Option Man)) (c : Colour) (k t : ℕ) : Type 0 where
   pub reached : reaches_as men c King k t ≡ true
   pub free : is_arrival_free c (man_on men t) ≡ true
-  pub nobody : is_circe rule ≡ true → man_on men t ≡ None
+  pub nobody : captures_do_more rule ≡ true → man_on men t ≡ None
 
 open_parts : (rule : RuleSet) (men : List (Option Man)) (c : Colour) (k t : ℕ) → is_open rule men c k t ≡ true → IsOpenTo rule men c k t
 unfolding is_open

@@ -1,6 +1,6 @@
 -- What a man reaches doesn't depend on who stands on the square that it reaches.
 use Rattle.chess_rules.proofs.Basics.{Bool, List, Option, Some, and_left, arith, cases_Bool, false, false_from_ne_true, inl, inr, is_some, list_all, list_any, range_with_len, refl, rules, suc, zero, ℕ, ◌&&◌, ◌+◌, ◌-◌, ◌<◌, ◌||◌, ◌≡◌, ◌≢◌, ◌≤◌}
-use Rattle.chess_mates.proofs.Chess.{Colour, Direction, East, EastNorthEast, EastSouthEast, Kind, King, Man, North, NorthEast, NorthNorthEast, NorthNorthWest, NorthWest, South, SouthEast, SouthSouthEast, SouthSouthWest, SouthWest, Step, West, WestNorthWest, WestSouthWest, along, any_range_same, diagonal_steps, hops, is_clear, is_occupied, is_square, knight_steps, leaps, man_on, place, queen_steps, reaches_as, rides, step_of, straight_steps}
+use Rattle.chess_mates.proofs.Chess.{Bishop, Colour, Direction, East, EastNorthEast, EastSouthEast, Grasshopper, Kind, King, Man, Nightrider, North, NorthEast, NorthNorthEast, NorthNorthWest, NorthWest, South, SouthEast, SouthSouthEast, SouthSouthWest, Queen, Rook, SouthWest, Step, West, WestNorthWest, WestSouthWest, along, any_range_same, diagonal_steps, hops, is_clear, is_occupied, is_square, knight_steps, leaps, man_on, place, queen_steps, reaches_as, rides, step_of, straight_steps}
 use Rattle.chess_rules.proofs.rays.Ahead.{Ordered, ordered}
 use Rattle.chess_rules.proofs.rays.Ends.{square_is, stays}
 
@@ -63,7 +63,12 @@ knight_same f g h =
 pub reaches_alike : (men others : List (Option Man)) (c : Colour) (j : Kind) (s t : ℕ) → StandAlike men others t
     → reaches_as men c j s t ≡ reaches_as others c j s t
 unfolding reaches_as
-reaches_alike men others c j s t a = grind (arith, ordered, queen_same, ride_alike, straight_same, diagonal_same, hop_alike, knight_same)
+reaches_alike men others c Queen s t a = queen_same (rides men s t) (rides others s t) (λ x. ride_alike men others s t (step_of x) (ordered x) a)
+reaches_alike men others c Rook s t a = straight_same (rides men s t) (rides others s t) (λ x. ride_alike men others s t (step_of x) (ordered x) a)
+reaches_alike men others c Bishop s t a = diagonal_same (rides men s t) (rides others s t) (λ x. ride_alike men others s t (step_of x) (ordered x) a)
+reaches_alike men others c Grasshopper s t a = queen_same (hops men s t) (hops others s t) (λ x. hop_alike men others s t (step_of x) (ordered x) a)
+reaches_alike men others c Nightrider s t a = knight_same (rides men s t) (rides others s t) (λ x. ride_alike men others s t (step_of x) (ordered x) a)
+reaches_alike men others c j s t a = refl
 
 -- a king doesn't step where it stands
 no_step_off : (s : ℕ) (d : Step) → Ordered d → s < 64 → leaps s s d ≡ false

@@ -1,13 +1,15 @@
 -- Flights that one move can't take.
 use Rattle.chess_core.proofs.Kept.{same_colour-refl}
 use Rattle.chess_rules.proofs.Basics.{List, None, Option, Some, [], and_from, and_left, and_parts, and_right, ap, arith, bit_and, bit_at, bit_at_and, bit_not, bit_or, cases_Bool, eq-eqb, eqb-true, false, false_from_ne_true, false≢true, find, inl, inr, list_any, list_any-append, not, or_cases, or_lt, range_with_len, refl, rules, sym, true, w64, ℕ, ◌&&◌, ◌<◌, ◌==◌, ◌^◌, ◌∙◌, ◌≡◌, ◌≢◌, ◌⊎◌}
-use Rattle.chess_mates.proofs.Chess.{Bishop, Colour, Grasshopper, IsWellFormed, King, Knight, Man, Move, Pawn, Position, Queen, Rook, RuleSet, arrives, arriving_man, capture_square, diagonal_steps, find_first, is_arrival_free, is_attacked, is_castling, is_circe, is_man, is_on_some, is_pseudo_legal, is_side, is_square, king_after, king_square, knight_steps, leaps, man_on, mates, mates_behind, may_go, other, pawn_captures, position_after, queen_steps}
+use Rattle.chess_mates.proofs.Chess.{Bishop, Colour, Grasshopper, IsWellFormed, King, Knight, Man, Move, Pawn, Position, Queen, Rook, RuleSet, arrives, arriving_man, capture_square, diagonal_steps, find_first, is_arrival_free, is_attacked, is_castling, captures_do_more, is_man, is_on_some, is_pseudo_legal, is_side, is_square, king_after, king_square, knight_steps, leaps, man_on, mates, mates_behind, may_go, other, pawn_captures, position_after, queen_steps}
 use Rattle.chess_mates.proofs.Chess.{reaches, reaches_as, reaches_of, rides, same_colour, same_colour-true, same_kind, side_of, some_square_false, some_square_true, squares_of, straight_steps, strikes, triple_at, word}
 use Rattle.chess_mates.specs.ties.Flights.{has_flight, is_flight, is_flight_from, is_open}
 use Rattle.std.proofs.Common.{IfSome}
 use Rattle.chess_mates.specs.ties.LastingFlights.{AreApproached, AreGuarded, AreNear, AreReached, IsLeft, KeepsOne, LeaveOne, LeavesOne}
 use Rattle.chess_rules.proofs.Bits.{off_left, off_right, on_left, on_right, word_has}
+use Rattle.chess_core.specs.Steps.{gait_of, is_hopper}
 use Rattle.chess_rules.proofs.rays.Ends.{square_is}
+use Rattle.chess_rules.proofs.rays.Flips.{reaches_back}
 use Rattle.chess_rules.proofs.attacks.Exposing.{king_is_after}
 use Rattle.chess_rules.proofs.attacks.Seeing.{king_stands}
 use Rattle.chess_rules.proofs.attacks.Shielding.{arriving_colour, other_differs, other_twice, simple_after}
@@ -22,7 +24,6 @@ use Rattle.chess_rules.proofs.listing_moves.Walks.{off_second, off_zero, on_firs
 use Rattle.chess_mates.proofs.Fleeing.{IsKingOn, IsKingStep, king_on, no_king_free, no_mate_with_flight, no_strike, step_is_legal, step_to, unseen_bit}
 use Rattle.chess_mates.proofs.Mating.{mates_behind-end, mates_behind-none, not_mating, turn_after}
 use Rattle.chess_mates.proofs.OpenBoard.{rides_on}
-use Rattle.chess_mates.proofs.Hurdles.{reaches_back}
 use Rattle.chess_mates.proofs.Standing.{arrival_small, free_man, not_mine, stood, unnamed}
 
 -- what a man reaches, he would reach on an empty board
@@ -124,10 +125,10 @@ pub left_first : (squares r o t : ℕ) (x : Man) → AreReached x t r → r < 2 
 left_first squares r o t x are rfits ofits only None e = search rules
 left_first squares r o t x are rfits ofits only (Some f) e = left_there squares r o t f x are rfits ofits only (sym e)
 
-pub come_back : (x : Man) (t w : ℕ) → t < 64 → same_kind x.kind Grasshopper ≡ false → AreReached (record { colour = other x.colour; kind = x.kind }) t w
+pub come_back : (x : Man) (t w : ℕ) → t < 64 → is_hopper (gait_of x.kind) ≡ false → AreReached (record { colour = other x.colour; kind = x.kind }) t w
     → AreApproached x t w
-come_back x t w small piece are = record {
-  inside = λ men s inside h. are.inside men s inside (sym (reaches_back men x.colour x.kind s t inside small piece) ∙ h);
+come_back x t w small plain are = record {
+  inside = λ men s inside h. are.inside men s inside (sym (reaches_back men x.colour x.kind s t plain inside small) ∙ h);
 }
 
 -- where the man neither stands on the first square nor reaches it, that one is left
@@ -174,7 +175,7 @@ mine_is x c e = ap (λ (d : Colour). same_colour d (other c)) e ∙ other_differ
 
 -- the king's move keeps a flight behind each move of the enemy
 module _ (rule : RuleSet) (p : Position) (m : Move) (x : Man) (k w : ℕ) (well : IsWellFormed p) (may : is_pseudo_legal rule p m ≡ true)
-    (here : man_on p.men m.from ≡ Some x) (circe : is_circe rule ≡ false) (plain : is_castling x m ≡ false) (small : m.to < 64)
+    (here : man_on p.men m.from ≡ Some x) (circe : captures_do_more rule ≡ false) (plain : is_castling x m ≡ false) (small : m.to < 64)
     (king : king_after p x m ≡ Some k) (near : AreNear p m k w) (keeps : KeepsOne p w) where
   is : IsMade rule p x m
   is = made rule p m x may here
@@ -334,7 +335,7 @@ module _ (rule : RuleSet) (p : Position) (m : Move) (x : Man) (k w : ℕ) (well 
         king = stands.king;
         small = left.small;
         near = and_from _ _ (and_from _ _ (near.next f left.small within.0) (ap (λ (c : Colour). is_arrival_free c (man_on r.men f)) turn_r ∙ free_f))
-            (ap not (and_left (is_circe rule) _ circe));
+            (ap not (and_left (captures_do_more rule) _ circe));
       }
 
       flees : has_flight rule r ≡ true

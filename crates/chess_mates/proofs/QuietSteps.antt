@@ -1,6 +1,6 @@
 -- Steps of the king that give no check, told without playing them.
 use Rattle.chess_rules.proofs.Basics.{[], Bool, List, Option, Some, and_from, and_left, ap, arith, bit_and, bit_at, bit_at-lt, bit_at-zero, bit_at_and, cond-true, eq-eqb, eqb-true, false, false≢true, inl, inr, is_some, list_all, list_any, not, refl, rules, sym, true, ℕ, ◌&&◌, ◌<◌, ◌==◌, ◌∙◌, ◌∷◌, ◌≡◌}
-use Rattle.chess_mates.proofs.Chess.{AreOpen, Colour, IsWellFormed, King, Man, Move, Position, RuleSet, is_circe, is_legal, is_mating, is_paralysed, king_after, king_square, leaps, man_on, may_go, moves, queen_steps, reaches_as, same_colour, same_kind, some_square_false, word}
+use Rattle.chess_mates.proofs.Chess.{AreOpen, Colour, IsWellFormed, King, Man, Move, Position, RuleSet, captures_do_more, is_legal, is_mating, is_paralysed, king_after, king_square, leaps, man_on, may_go, moves, queen_steps, reaches_as, same_colour, same_kind, some_square_false, word}
 use Rattle.chess_mates.proofs.Fleeing.{IsKingStep, king_on, may_step, reached_near, simple_step, step_to}
 use Rattle.chess_mates.specs.ties.Flights.{IsUnreached, is_open}
 use Rattle.chess_rules.proofs.Bits.{word_has}
@@ -15,17 +15,17 @@ use Rattle.std.specs.List.{Contains}
 arrival_free : (a b c d : Bool) → (((a && b) && c) && d) ≡ true → c ≡ true
 arrival_free a b c d h = grind arith
 
-open_at : (rule : RuleSet) (p : Position) (x : Man) (k t : ℕ) → is_circe rule ≡ false → man_on p.men k ≡ Some x → reaches_as p.men p.turn King k t ≡ true
+open_at : (rule : RuleSet) (p : Position) (x : Man) (k t : ℕ) → captures_do_more rule ≡ false → man_on p.men k ≡ Some x → reaches_as p.men p.turn King k t ≡ true
     → is_arrival rule p k t ≡ true → is_open rule p.men p.turn k t ≡ true
 unfolding is_open is_arrival
 open_at rule p x k t circe here near at =
     let free = arrival_free (same_colour x.colour p.turn) (not (is_paralysed rule p.men k)) _ (may_go p x k t) (rw here at at) in
-    and_from _ _ (and_from _ _ near free) (ap not (and_left (is_circe rule) _ circe))
+    and_from _ _ (and_from _ _ near free) (ap not (and_left (captures_do_more rule) _ circe))
 
 on_second : (a b i : ℕ) → (bit_at (bit_and a b) i == 1) ≡ true → (bit_at b i == 1) ≡ true
 on_second a b i h = search (rules, bit_at-lt, bit_at_and, eq-eqb, eqb-true)
 
-pub open_steps : (rule : RuleSet) (p : Position) (k n w : ℕ) → is_circe rule ≡ false → n ≡ word (λ t. list_any (leaps k t) queen_steps)
+pub open_steps : (rule : RuleSet) (p : Position) (k n w : ℕ) → captures_do_more rule ≡ false → n ≡ word (λ t. list_any (leaps k t) queen_steps)
     → w ≡ word (is_arrival rule p k) → (x : Man) → man_on p.men k ≡ Some x → same_kind x.kind King ≡ true → AreOpen rule p.men p.turn k (bit_and n w)
 open_steps rule p k n w circe near at x here king = record {
   inside = λ t lt on.

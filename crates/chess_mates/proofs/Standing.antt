@@ -1,6 +1,6 @@
 -- Who stands where after a move.
 use Rattle.chess_rules.proofs.Basics.{List, None, Option, Some, and_left, and_parts, and_right, ap, arith, cases_Bool, cases_eq, cond-true, cond-false, eq-eqb, false, false≢true, inl, inr, is_some, length, not-true, or_cases, or_parts, refl, rules, sym, true, ℕ, ◌&&◌, ◌<◌, ◌||◌, ◌∙◌, ◌≡◌, ◌≢◌, ◌⊎◌}
-use Rattle.chess_mates.proofs.Chess.{Colour, Grasshopper, IsWellFormed, Kind, King, Man, Move, Pawn, Position, RuleSet, arrives, arriving_man, capture_square, corner, is_arrival_free, is_attacked, is_castling, is_circe, is_fairy, is_man, is_side, is_square, man_on, may_castle, other, position_after}
+use Rattle.chess_mates.proofs.Chess.{Colour, Grasshopper, IsWellFormed, Kind, King, Man, Move, Pawn, Position, RuleSet, arrives, arriving_man, capture_square, corner, is_arrival_free, is_attacked, is_castling, captures_do_more, is_fairy, is_man, is_side, is_square, man_on, may_castle, other, position_after}
 use Rattle.chess_mates.proofs.Chess.{after_by, castles, reaches, reaches_as, reaches_of, reborn_square, same_colour, same_colour-true, same_kind, some_square_false, strikes, triple_at}
 use Rattle.chess_core.proofs.Castlings.{has_unmoved-parts}
 use Rattle.chess_core.specs.Castling.{has_unmoved, without_unmoved}
@@ -82,7 +82,7 @@ pub some_side : (o : Option Man) (c : Colour) → is_side o c ≡ true → is_so
 some_side o c h = grind (arith, false≢true)
 
 -- a square that isn't unmoved isn't after a move without rebirth
-pub no_rebirth : (rule : RuleSet) (p : Position) (x : Man) (m : Move) → is_circe rule ≡ false → reborn_square rule p x m ≡ None
+pub no_rebirth : (rule : RuleSet) (p : Position) (x : Man) (m : Move) → captures_do_more rule ≡ false → reborn_square rule p x m ≡ None
 unfolding reborn_square
 no_rebirth rule p x m circe = grind arith
 
@@ -91,7 +91,7 @@ pub unmoved_before : (p : Position) (x : Man) (m : Move) (t : ℕ)
     → has_unmoved p.unmoved t ≡ true
 unmoved_before p x m t h = search (rules, has_unmoved-parts)
 
-pub moved_stays : (rule : RuleSet) (p : Position) (x : Man) (m : Move) (s : ℕ) → is_circe rule ≡ false → is_castling x m ≡ false
+pub moved_stays : (rule : RuleSet) (p : Position) (x : Man) (m : Move) (s : ℕ) → captures_do_more rule ≡ false → is_castling x m ≡ false
     → man_on p.men m.from ≡ Some x → has_unmoved p.unmoved s ≡ false → has_unmoved (position_after rule p m).unmoved s ≡ false
 unfolding position_after after_by unmoved_after
 moved_stays rule p x m s circe plain here moved =
@@ -158,7 +158,7 @@ unfolding is_attacked strikes
 nobody_strikes rule men t c none = search (rules, no_strike, reach_none men t c none, some_square_false)
 
 -- the king flees to a free square next to him that no enemy reaches once he stands there
-module _ (rule : RuleSet) (p : Position) (c : Colour) (k f : ℕ) (well : IsWellFormed p) (circe : is_circe rule ≡ false) (turn : p.turn ≡ c)
+module _ (rule : RuleSet) (p : Position) (c : Colour) (k f : ℕ) (well : IsWellFormed p) (circe : captures_do_more rule ≡ false) (turn : p.turn ≡ c)
     (king : king_square p.men c ≡ Some k) (small : f < 64) (near : list_any (leaps k f) queen_steps ≡ true)
     (free : is_arrival_free c (man_on p.men f) ≡ true)
     (unreached : (z : Man) → IsKingOn p.men c k z → (s : ℕ) (u : Man) → s < 64 → man_on (arrived p z (step_to k f)) s ≡ Some u → u.colour ≡ other c
@@ -171,7 +171,7 @@ module _ (rule : RuleSet) (p : Position) (c : Colour) (k f : ℕ) (well : IsWell
     mine = ap (same_colour z.colour) turn ∙ stands.mine;
     king = stands.king;
     small = small;
-    near = and_from _ _ (and_from _ _ near (ap (λ (c : Colour). is_arrival_free c (man_on p.men f)) turn ∙ free)) (ap not (and_left (is_circe rule) _ circe));
+    near = and_from _ _ (and_from _ _ near (ap (λ (c : Colour). is_arrival_free c (man_on p.men f)) turn ∙ free)) (ap not (and_left (captures_do_more rule) _ circe));
   }
 
   flees : (z : Man) → IsKingOn p.men c k z → has_flight rule p ≡ true

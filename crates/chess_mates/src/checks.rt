@@ -10,18 +10,18 @@ ghost use Rattle.chess_mates.specs.ties.CheckSquares.{AreCastlingTargets, AreChe
 ghost use Rattle.chess_rules.specs.ties.Shields.{cannot_expose, may_stand_between};
 ghost use Rattle.chess_rules.specs.Legal.{is_legal, is_pseudo_legal};
 ghost use Rattle.chess_rules.specs.Play.{position_after};
-ghost use Rattle.chess_rules.specs.RuleSet.{is_circe};
+ghost use Rattle.chess_rules.specs.RuleSet.{captures_do_more};
 
 use crate::open_board::open_targets;
 use chess_core::board::Board;
 use chess_core::man::{Colour, Kind, Man, Move};
 use chess_core::square::Square;
-use chess_rules::evasions::rebirth_captures;
+use chess_rules::evasions::eventful_captures;
 use chess_rules::leaps::squares_aside;
 use chess_rules::lines::occupied;
 use chess_rules::outward::comes_as;
 use chess_rules::rules::{Orthodox, Rules};
-use chess_rules::shields::{cannot_expose, fairy_lines, is_fairy, shield_squares};
+use chess_rules::shields::{cannot_expose, fairy_lines, shield_squares};
 use chess_rules::words::{contains, only};
 
 /// The squares from which a move may give check in a position: by exposing the king, or by a man of
@@ -41,7 +41,7 @@ pub(crate) struct CheckSquares {
 fn is_absent(board: &Board, colour: Colour, kind: Kind) -> bool
     ensures { result ≡ is_absent board.now.men (record { colour = colour; kind = kind }) }
 {
-    is_fairy(kind) && board.squares(colour, kind) == 0
+    kind.is_fairy() && board.squares(colour, kind) == 0
 }
 
 // The squares from which an enemy of this kind may give check to the colour's king: all of them for fairy men
@@ -98,25 +98,25 @@ fn check_squares_for(squares: &CheckSquares, kind: Kind) -> u64
 fn are_rebirths_quiet<R: Rules>(board: &Board) -> bool
     ensures { result ≡ are_rebirths_quiet R.rule board.now.men board.now.turn }
 {
-    R::is_circe() && is_absent(board, board.turn(), Kind::Grasshopper)
+    R::captures_are_reborn() && is_absent(board, board.turn(), Kind::Grasshopper)
 }
 
 // The squares on which a man may be captured and reborn, where that may give check.
 #[inline(always)]
 fn checking_rebirths<R: Rules>(board: &Board) -> u64
     ensures { are_rebirths_quiet R.rule board.now.men board.now.turn ≡ false
-        → is_circe R.rule ≡ true → result ≡ word (λ s. is_some (man_on board.now.men s)) }
+        → captures_do_more R.rule ≡ true → result ≡ word (λ s. is_some (man_on board.now.men s)) }
 {
     if are_rebirths_quiet::<R>(board) {
         return 0;
     }
-    rebirth_captures::<R>(board)
+    eventful_captures::<R>(board)
 }
 
 // Whether every square is a check square to each man, as far as is told here: he exposes the king from
 // wherever he goes, or many captures are followed by a rebirth that may give check.
 pub(crate) fn are_all_near<R: Rules>(board: &Board, squares: &CheckSquares) -> bool {
-    squares.shield_squares == !0 || R::is_circe() && !are_rebirths_quiet::<R>(board)
+    squares.shield_squares == !0 || R::captures_do_more() && !are_rebirths_quiet::<R>(board)
 }
 
 // The first rank and the last.

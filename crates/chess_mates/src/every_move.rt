@@ -52,7 +52,7 @@ fn step_squares<R: Rules>(board: &Board, king: Square) -> u64
     ensures { (x : Man) → man_on board.now.men king ≡ Some x → same_kind x.kind King ≡ true
         → AreOpen R.rule board.now.men board.now.turn king result }
 {
-    if R::is_circe() {
+    if R::captures_do_more() {
         return 0;
     }
     king_leaps(king) & arrivals::<R>(board, king)

@@ -85,7 +85,7 @@ fn open_squares<R: Rules>(board: &Board, sight: Sight, king: Square) -> u64
         → AreOpen R.rule (position_after R.rule board.now m).men (other board.now.turn) king result }
 {
     let near = king_leaps(king);
-    if R::is_circe() {
+    if R::captures_do_more() {
         return near & !sight.occupied;
     }
     near & !held_squares(board, sight.standing)

@@ -4,14 +4,15 @@ ghost use Rattle.std.specs.Prelude.{◌≡◌, ◌≢◌, ◌<◌, ◌==◌, [],
 ghost use Rattle.std.specs.Int.{bit_at};
 ghost use Rattle.chess_core.specs.Position.{man_on, same_kind};
 ghost use Rattle.chess_core.specs.SquareNames.{e1, e8};
+ghost use Rattle.chess_core.specs.Steps.{gait_of, is_hopper};
 ghost use Rattle.chess_core.specs.WellFormed.{IsWellFormed};
-ghost use Rattle.chess_core.specs.declared.man.Kind.TheVariants.{Grasshopper, King};
+ghost use Rattle.chess_core.specs.declared.man.Kind.TheVariants.{King};
 ghost use Rattle.chess_core.specs.declared.man.Man.{Man};
 ghost use Rattle.chess_mates.specs.ties.LastingFlights.{AreApproached, AreGuarded, AreNear, AreReached, IsLeft, KeepsOne, LeaveOne, LeavesOne};
 ghost use Rattle.chess_mates.specs.ties.Mates.{mates_behind};
 ghost use Rattle.chess_rules.specs.Legal.{is_legal};
 ghost use Rattle.chess_rules.specs.Play.{is_castling, position_after};
-ghost use Rattle.chess_rules.specs.RuleSet.{is_circe};
+ghost use Rattle.chess_rules.specs.RuleSet.{captures_do_more};
 ghost use Rattle.chess_rules.specs.ties.Sight.{king_after};
 ghost use Rattle.chess_rules.specs.ties.Targets.{arrives};
 
@@ -37,7 +38,7 @@ pub(crate) fn open_reach(man: Man, from: Square) -> u64
         Kind::Knight => knight_leaps(from),
         Kind::Pawn => pawn_leaps(man.colour, from),
         Kind::King => king_leaps(from),
-        Kind::Grasshopper | Kind::Nightrider => !0,
+        _ => !0,
     }
 }
 
@@ -92,20 +93,20 @@ fn goes_plainly(man: Man, from: Square, targets: u64) -> bool
     ensures unpromoted { result ≡ true → (t : ℕ) → t < 64 → (bit_at targets t == 1) ≡ true
         → arrives man t ≡ false }
     ensures away { result ≡ true → same_kind man.kind King ≡ true → (from ≢ e1) × (from ≢ e8) }
-    ensures orthodox { result ≡ true → same_kind man.kind Grasshopper ≡ false }
+    ensures plain { result ≡ true → is_hopper (gait_of man.kind) ≡ false }
 {
     match man.kind {
         Kind::Pawn => targets & LAST_RANKS == 0,
         Kind::King => !contains(KINGS_HOMES, from),
-        Kind::Grasshopper | Kind::Nightrider => false,
-        _ => true,
+        Kind::Queen | Kind::Rook | Kind::Bishop | Kind::Knight => true,
+        _ => false,
     }
 }
 
-// The squares from which the man, who is no fairy man, reaches `to`, were the others gone.
+// The squares from which the man, who is no hopper, reaches `to`, were the others gone.
 #[tactic(auto, using(crate::proofs::LastingFlights::come_back))]
 fn open_approaches(man: Man, to: Square) -> u64
-    requires { same_kind man.kind Grasshopper ≡ false }
+    requires { is_hopper (gait_of man.kind) ≡ false }
     ensures { AreApproached man to result }
 {
     // For the proof: a square's number is below 64.
@@ -218,10 +219,10 @@ const MOST_MEN: u32 = 7;
 
 // Whether such flights are looked for: not in Circe, nor beside many enemies or their fairy men.
 fn are_looked_for<R: Rules>(board: &Board) -> bool
-    ensures { result ≡ true → is_circe R.rule ≡ false }
+    ensures { result ≡ true → captures_do_more R.rule ≡ false }
 {
     let enemy = board.turn().other();
-    !R::is_circe()
+    !R::captures_do_more()
         && board.side(enemy).count_ones() <= MOST_MEN
         && board.squares(enemy, Kind::Grasshopper) | board.squares(enemy, Kind::Nightrider) == 0
 }

@@ -25,7 +25,7 @@ pub(crate) fn open_targets(man: Man, from: Square) -> u64
         Kind::Knight => knight_leaps(from),
         Kind::Pawn => pawn_leaps(man.colour, from) | pawn_advances(man.colour, from),
         Kind::King => king_leaps(from) | steps_to(man, from),
-        Kind::Grasshopper | Kind::Nightrider => !0,
+        _ => !0,
     }
 }
 

@@ -11,7 +11,7 @@ pub use Rattle.chess_core.specs.Position.{AtMostOneKing, HasNoKing, Position, is
 unfoldable pub use Rattle.chess_core.specs.Position.{king_square}
 pub use Rattle.chess_core.specs.Squares.{file_of, is_on_board, is_square, rank_of, square_at}
 unfoldable pub use Rattle.chess_core.specs.Squares.{some_square, squares}
-pub use Rattle.chess_core.specs.Steps.{diagonal_steps, knight_steps, pawn_captures, queen_steps, step_by, straight_steps}
+pub use Rattle.chess_core.specs.Steps.{diagonal_steps, gait_of, is_hopper, is_leaper, kind_steps, knight_steps, pawn_captures, queen_steps, step_by, straight_steps}
 unfoldable pub use Rattle.chess_core.specs.Steps.{along}
 pub use Rattle.chess_core.specs.WellFormed.{IsWellFormed, is_pawn_inside, is_vacant_at, was_passed}
 unfoldable pub use Rattle.chess_core.specs.WellFormed.{is_crossed_right, is_home}
@@ -31,9 +31,9 @@ pub use Rattle.chess_rules.specs.Legal.{forward, goes, is_arrival_free, is_nil, 
 unfoldable pub use Rattle.chess_rules.specs.Legal.{castles, is_legal, is_mate, is_pseudo_legal, may_castle, moves, triples}
 pub use Rattle.chess_rules.specs.Play.{arriving_man, by_shade, captured_man, corner, halfway, if_empty, is_castling, is_diagonal, is_double_step, man_on_at, move_man, put_at, reborn_at, unmoved_with_rook, unmoved_without_at, without_at}
 unfoldable pub use Rattle.chess_rules.specs.Play.{after_by, capture_square, moved_men, position_after, rebirth, reborn_square, undo_by, undo_of, unmoved_after}
-pub use Rattle.chess_rules.specs.Reaches.{is_occupied, is_vacant, reaches_of}
+pub use Rattle.chess_rules.specs.Reaches.{goes_by, is_occupied, is_vacant, reaches_of}
 unfoldable pub use Rattle.chess_rules.specs.Reaches.{hops, is_clear, leaps, reaches, reaches_as, rides}
-pub use Rattle.chess_rules.specs.RuleSet.{RuleSet, circe, is_circe, is_madrasi, orthodox}
+pub use Rattle.chess_rules.specs.RuleSet.{RuleSet, captures_are_reborn, captures_do_more, circe, faced_men_stand_still, is_circe, orthodox}
 pub use Rattle.chess_rules.specs.declared.lines.Direction.{Direction}
 pub use Rattle.chess_rules.specs.declared.lines.Direction.TheVariants.{East, EastNorthEast, EastSouthEast, North, NorthEast, NorthNorthEast, NorthNorthWest, NorthWest, South, SouthEast, SouthSouthEast, SouthSouthWest, SouthWest, West, WestNorthWest, WestSouthWest}
 pub use Rattle.chess_rules.specs.declared.shields.RiderLines.TheVariants.{Straight}
@@ -44,7 +44,7 @@ unfoldable pub use Rattle.chess_rules.specs.ties.Outward.{hopped_from, rides_on}
 pub use Rattle.chess_rules.specs.ties.Places.{HaveNone, IsBarrenFrom, IsNamed, IsPlaceIn, promotion_at}
 unfoldable pub use Rattle.chess_rules.specs.ties.Places.{first_behind, moves_behind, moves_between, place_of, triple_at}
 pub use Rattle.chess_rules.specs.ties.Playing.{CanCastle, CanMove}
-pub use Rattle.chess_rules.specs.ties.Shields.{is_fairy, is_lined, is_on_fairy_line_to, may_expose_on, rider_along, steps_along}
+pub use Rattle.chess_rules.specs.ties.Shields.{has_fairy_lines, is_fairy, is_lined, is_on_fairy_line_to, may_expose_on, rider_along, steps_along}
 unfoldable pub use Rattle.chess_rules.specs.ties.Shields.{has_fairy, is_behind, is_on_fairy_line, is_plain, is_reached, is_shut, may_expose, may_stand_between}
 pub use Rattle.chess_rules.specs.ties.Sight.{AreArrived, AreOthers, AreSeen, is_simple, king_after, sight_after}
 pub use Rattle.chess_rules.specs.ties.Targets.{AreCandidates, AreKept, AreOrigins, IsAimed, arrives, is_arrival_of, pawn_goes}

@@ -1,7 +1,7 @@
 -- Moves of all sorts, computed from the definitions.
-use Rattle.std.proofs.Common.{true, false, [], ◌∷◌, Some, None, ◌≡◌, refl}
+use Rattle.std.proofs.Common.{true, false, [], ◌∷◌, Some, None, map, ◌≡◌, refl}
 use Rattle.chess_core.specs.Castling.{none_unmoved, has_unmoved, mark_unmoved, with_unmoved}
-use Rattle.chess_core.specs.Position.{Position, king_square, man_on}
+use Rattle.chess_core.specs.Position.{Position, king_square, kinds, man_on, same_kind}
 use Rattle.chess_core.specs.Squares.{squares, some_square}
 use Rattle.chess_core.specs.Steps.{along}
 use Rattle.chess_core.specs.declared.man.Colour.TheVariants.{White, Black}
@@ -116,7 +116,7 @@ rook_vanishes = refl
 -- White Kf2 Pe7, Black Kh2 Bh1 Ph3 Na8: a nightrider stands in the diagram
 abbrev promotion : Position
 promotion = record (position (on White King f2 ∷ on White Pawn e7 ∷ on Black King h2 ∷ on Black Bishop h1 ∷ on Black Pawn h3 ∷ on Black Nightrider a8 ∷ [])
-    White) { nightriders = true }
+    White) { in_diagram = map (λ k. same_kind k Nightrider) kinds }
 
 -- promotion to a nightrider is legal and mates
 nightrider_mates : (is_legal orthodox promotion (promoting e7 e8 Nightrider) ≡ true)
@@ -127,7 +127,7 @@ unfolding reaches reaches_as rides hops leaps is_clear along squares some_square
 nightrider_mates = (refl, refl)
 
 -- without one in the diagram there is no such promotion, and a king there is never
-no_nightrider_without_one : (is_legal orthodox (record promotion { nightriders = false }) (promoting e7 e8 Nightrider) ≡ false)
+no_nightrider_without_one : (is_legal orthodox (record promotion { in_diagram = [] }) (promoting e7 e8 Nightrider) ≡ false)
     × (is_legal orthodox promotion (promoting e7 e8 King) ≡ false)
 unfolding reaches reaches_as rides hops leaps is_clear along squares some_square king_square faces_its_like faces strikes is_paralysed is_attacked in_check
     position_after after_by unmoved_after moved_men capture_square reborn_square rebirth castles may_castle is_pseudo_legal is_legal none_unmoved has_unmoved

@@ -14,7 +14,7 @@ use Rattle.chess_core.specs.declared.man.Kind.TheVariants.{King, Queen, Rook, Bi
 use Rattle.chess_core.specs.declared.man.Kind.{Kind}
 use Rattle.chess_core.specs.declared.man.Man.{Man}
 use Rattle.chess_rules.specs.Attacks.{faces, faces_its_like, in_check, is_attacked, is_paralysed, strikes}
-use Rattle.chess_rules.specs.ties.Evasions.{is_fairy_man, AreEvasions, AreEvasionsFrom, is_evasion}
+use Rattle.chess_rules.specs.ties.Evasions.{has_fairy_lines_of, AreEvasions, AreEvasionsFrom, is_evasion}
 use Rattle.chess_rules.specs.Legal.{castles, goes, is_arrival_free, is_legal, is_pseudo_legal, may_castle, triples}
 use Rattle.chess_rules.specs.ties.Outward.{hopped_from, is_met, rides_on}
 use Rattle.chess_rules.specs.Play.{position_after, after_by, capture_square, moved_men, reborn_square, rebirth, unmoved_after}
@@ -203,7 +203,7 @@ grasshopper_checks = (refl, refl)
 -- a Black man other than a fairy man gives check: there is none
 abbrev orthodox_checker : ℕ → Bool
 orthodox_checker s =
-    (is_side (man_on grasshopper_check s) Black && reaches grasshopper_check s a1) && not (is_fairy_man (man_on grasshopper_check s))
+    (is_side (man_on grasshopper_check s) Black && reaches grasshopper_check s a1) && not (has_fairy_lines_of (man_on grasshopper_check s))
 
 -- so a grasshopper's check may be met everywhere
 pub any_square_may_meet_a_fairy_check : (w t : ℕ) → t < 64 → AreEvasions orthodox grasshopper_check White w → (bit_at w t == 1) ≡ true

@@ -1,5 +1,5 @@
 -- Positions and moves typed in for the examples.
-use Rattle.chess_rules.proofs.Basics.{List, None, Option, Some, [], false, repeat, ℕ, ◌∷◌}
+use Rattle.chess_rules.proofs.Basics.{List, None, Option, Some, [], repeat, ℕ, ◌∷◌}
 use Rattle.chess_rules.proofs.Chess.{Colour, Kind, Man, Move, Position, none_unmoved, with_man}
 
 -- a man of this colour and kind
@@ -27,8 +27,7 @@ position xs c = record {
   turn = c;
   unmoved = none_unmoved;
   crossed = None;
-  grasshoppers = false;
-  nightriders = false;
+  in_diagram = [];
 }
 
 -- the move from one square to another

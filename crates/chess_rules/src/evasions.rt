@@ -4,29 +4,29 @@ ghost use Rattle.chess_core.specs.Position.{man_on, other};
 ghost use Rattle.chess_core.specs.WellFormed.{IsWellFormed};
 ghost use Rattle.chess_core.specs.ties.Words.{word};
 ghost use Rattle.chess_rules.specs.Attacks.{in_check};
-ghost use Rattle.chess_rules.specs.ties.Evasions.{AreEvasionsFrom, AreEvasions, is_fairy_man};
+ghost use Rattle.chess_rules.specs.ties.Evasions.{AreEvasionsFrom, AreEvasions, has_fairy_lines_of};
 ghost use Rattle.chess_rules.specs.ties.Shields.{cannot_expose, is_plain, may_expose};
 ghost use Rattle.chess_rules.specs.Legal.{is_pseudo_legal};
 ghost use Rattle.chess_rules.specs.Play.{position_after};
-ghost use Rattle.chess_rules.specs.RuleSet.{is_circe};
+ghost use Rattle.chess_rules.specs.RuleSet.{captures_do_more};
 
 use crate::exposure::exposes;
 use crate::lines::occupied;
 use crate::outward::attackers;
 use crate::reach::reach_as;
 use crate::rules::Rules;
-use crate::shields::{cannot_expose, is_fairy, is_plain};
+use crate::shields::{cannot_expose, has_fairy_lines, is_plain};
 use crate::words::{contains, next_bit, only};
 use chess_core::board::Board;
 use chess_core::man::{Colour, Kind, Move};
 use chess_core::square::Square;
 
-// Whether a fairy man stands on the square.
-fn is_fairy_on(board: &Board, square: Square) -> bool
-    ensures { result ≡ is_fairy_man (man_on board.now.men square) }
+// Whether a fairy man that goes along lines stands on the square.
+fn has_fairy_lines_on(board: &Board, square: Square) -> bool
+    ensures { result ≡ has_fairy_lines_of (man_on board.now.men square) }
 {
     match board.man_at(square) {
-        Some(man) => is_fairy(man.kind),
+        Some(man) => has_fairy_lines(man.kind),
         None => false,
     }
 }
@@ -43,13 +43,13 @@ pub(crate) fn evasion_squares<R: Rules>(board: &Board, colour: Colour, shield_sq
     let Some(king) = board.king_of(colour) else {
         return !0;
     };
-    if R::is_madrasi() {
+    if R::faced_men_stand_still() {
         return !0;
     }
     let Some(checker) = next_bit(attackers(board, king, colour.other()), 0) else {
         return !0;
     };
-    if is_fairy_on(board, checker) {
+    if has_fairy_lines_on(board, checker) {
         return !0;
     }
     only(Some(checker))
@@ -78,12 +78,12 @@ fn leaves_check<R: Rules>(board: &Board, evasion_squares: u64, m: &Move) -> bool
     }
 }
 
-/// The squares on which a man may be captured and reborn: in Circe all that are occupied, else none.
-pub fn rebirth_captures<R: Rules>(board: &Board) -> u64
-    ensures { result ≡ (if is_circe R.rule then word (λ s. is_some (man_on board.now.men s))
+/// The squares on which a capture does more than take a man off the board: all that are occupied, or none.
+pub fn eventful_captures<R: Rules>(board: &Board) -> u64
+    ensures { result ≡ (if captures_do_more R.rule then word (λ s. is_some (man_on board.now.men s))
         else 0) }
 {
-    if R::is_circe() { occupied(board) } else { 0 }
+    if R::captures_do_more() { occupied(board) } else { 0 }
 }
 
 // The squares to which the man on `from` must go to leave no check to its king: all of them where none is
@@ -104,7 +104,7 @@ pub(crate) fn evasions_from<R: Rules>(board: &Board, evasion_squares: u64, from:
     if man.kind.is(Kind::King) {
         return !0;
     }
-    evasion_squares | only(board.crossed()) | rebirth_captures::<R>(board)
+    evasion_squares | only(board.crossed()) | eventful_captures::<R>(board)
 }
 
 // Whether the mover isn't in check after the move; `squares` are those from which one may expose its

@@ -36,7 +36,7 @@ fn king_after(board: &Board, man: Man, m: &Move) -> Option<Square>
 pub fn is_simple<R: Rules>(man: Man, m: &Move, captures: bool) -> bool
     ensures { result ≡ is_simple R.rule man m.now captures }
 {
-    !is_castling(man, m) && !(R::is_circe() && captures)
+    !is_castling(man, m) && !(R::captures_do_more() && captures)
 }
 
 // The arrival, where the man is of this kind once it stands there.
@@ -88,7 +88,7 @@ fn is_paralysed_after<R: Rules>(
         → is_side (man_on men square) (other man.colour) ≡ true
         → result ≡ is_paralysed R.rule men square }
 {
-    if !R::is_madrasi() {
+    if !R::faced_men_stand_still() {
         return false;
     }
     match board.man_at(square) {

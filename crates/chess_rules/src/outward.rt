@@ -1,5 +1,5 @@
 //! Attack looked for outward from the square.
-ghost use Rattle.std.specs.Prelude.{◌≡◌, ℕ, ◌&&◌, ◌||◌, ◌==◌, not, List, Option};
+ghost use Rattle.std.specs.Prelude.{◌≡◌, ℕ, ◌&&◌, ◌==◌, not, List, Option};
 ghost use Rattle.std.specs.Int.{bit_at};
 ghost use Rattle.chess_core.specs.Position.{is_man, is_side, man_on};
 ghost use Rattle.chess_core.specs.declared.man.Man.{Man};
@@ -8,11 +8,11 @@ ghost use Rattle.chess_rules.specs.ties.Sight.{AreSeen};
 ghost use Rattle.chess_core.specs.Squares.{some_square};
 ghost use Rattle.chess_core.specs.ties.Words.{squares_of, word};
 ghost use Rattle.chess_rules.specs.Attacks.{is_paralysed};
-ghost use Rattle.chess_rules.specs.ties.Outward.{is_met};
+ghost use Rattle.chess_rules.specs.ties.Outward.{is_fairy_man, is_met};
 ghost use Rattle.chess_rules.specs.ties.Shields.{is_reached};
 ghost use Rattle.chess_rules.specs.Reaches.{reaches, reaches_as};
 ghost use Rattle.chess_core.specs.Steps.{diagonal_steps, straight_steps};
-ghost use Rattle.chess_core.specs.declared.man.Kind.TheVariants.{Bishop, Grasshopper, Nightrider, Rook};
+ghost use Rattle.chess_core.specs.declared.man.Kind.TheVariants.{Bishop, Rook};
 
 use crate::lines::{
     diagonal_lines, diagonal_rides, queen_hops_back, straight_lines, straight_rides,
@@ -22,19 +22,19 @@ use crate::rules::Rules;
 use crate::sight::{Sight, sight_now, squares_seen};
 use crate::words::next_bit;
 use chess_core::board::Board;
-use chess_core::man::{Colour, Kind};
+use chess_core::man::{Colour, Gait, Kind};
 use chess_core::square::Square;
 
 /// The squares from which a man of this colour and kind could go to `to` if an enemy stood there: those to which
-/// one of the other colour could from there, but for a grasshopper.
+/// one of the other colour could from there, but for a hopper.
 pub fn comes_as(occupied: u64, colour: Colour, kind: Kind, to: Square) -> u64
     ensures { (men : List (Option Man)) → occupied ≡ occupied_squares men
         → result ≡ word (λ s. reaches_as men colour kind s to) }
 {
     // For the proof: a square's number is below 64.
     let _small = to.index();
-    match kind {
-        Kind::Grasshopper => queen_hops_back(occupied, to),
+    match kind.gait() {
+        Gait::Hopper => queen_hops_back(occupied, to),
         _ => reach_over(occupied, colour.other(), kind, to),
     }
 }
@@ -111,12 +111,11 @@ fn leaping_attackers(board: &Board, sight: Sight, square: Square, colour: Colour
     squares_seen(board, sight, colour, kind) & comes_as(sight.occupied, colour, kind, square)
 }
 
-// The squares of its grasshoppers and nightriders that reach the square. Mostly there is none.
+// The squares of its fairy men that reach the square. Mostly there is none.
 #[inline(always)]
 fn fairy_attackers(board: &Board, sight: Sight, square: Square, colour: Colour) -> u64
     ensures { (men : List (Option Man)) → AreSeen board.now.men men colour sight
-        → result ≡ word (λ s. (is_man (man_on men s) colour Grasshopper && reaches men s square)
-        || (is_man (man_on men s) colour Nightrider && reaches men s square)) }
+        → result ≡ word (λ s. is_fairy_man (man_on men s) colour && reaches men s square) }
 {
     let hoppers = squares_seen(board, sight, colour, Kind::Grasshopper);
     let nightriders = squares_seen(board, sight, colour, Kind::Nightrider);

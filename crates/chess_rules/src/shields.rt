@@ -11,8 +11,8 @@ ghost use Rattle.chess_core.specs.declared.man.Kind.TheVariants.{Bishop, Queen, 
 ghost use Rattle.chess_rules.specs.ties.Lines.{is_on_some, occupied_squares};
 ghost use Rattle.chess_rules.specs.Reaches.{rides};
 ghost use Rattle.chess_core.specs.ties.Words.{squares_of, word};
-ghost use Rattle.chess_rules.specs.ties.Shields.{cannot_expose, has_fairy, is_fairy, is_shut, is_plain, may_expose, may_stand_between, rider_along, steps_along};
-ghost use Rattle.chess_rules.specs.RuleSet.{is_circe};
+ghost use Rattle.chess_rules.specs.ties.Shields.{cannot_expose, has_fairy, has_fairy_lines, is_shut, is_plain, may_expose, may_stand_between, rider_along, steps_along};
+ghost use Rattle.chess_rules.specs.RuleSet.{captures_do_more};
 
 use crate::lines::{
     diagonal_lines, diagonal_rides, knight_lines_with, occupied, queen_lines_with, straight_lines,
@@ -26,14 +26,11 @@ use chess_core::board::Board;
 use chess_core::man::{Colour, Kind, Man, Move};
 use chess_core::square::Square;
 
-/// Whether it is a grasshopper or a nightrider.
-pub fn is_fairy(kind: Kind) -> bool
-    ensures { result ≡ is_fairy kind }
+// Whether it is a fairy man that goes along lines: a rider or a hopper.
+pub(crate) fn has_fairy_lines(kind: Kind) -> bool
+    ensures { result ≡ has_fairy_lines kind }
 {
-    match kind {
-        Kind::Grasshopper | Kind::Nightrider => true,
-        _ => false,
-    }
+    kind.is_fairy() && !kind.gait().is_leaper()
 }
 
 // Whether a grasshopper or a nightrider of the colour stands on the board.
@@ -186,7 +183,7 @@ pub(crate) fn is_plain<R: Rules>(board: &Board, man: Man, m: &Move) -> bool
 {
     !is_castling(man, m)
         && board.crossed() != Some(m.to)
-        && !(R::is_circe() && board.man_at(m.to).is_some())
+        && !(R::captures_do_more() && board.man_at(m.to).is_some())
 }
 
 // Whether the man arrives on no line to the colour's king with a fairy man of the other colour, and its move

@@ -1,22 +1,16 @@
 -- What is kept beside the men on the squares, so that they needn't be looked for (own).
 use Rattle.std.specs.Prelude.{◌≡◌, ℕ, List, [], ◌∷◌, Option, map}
 use Rattle.chess_core.specs.Diagrams.{is_kind}
-use Rattle.chess_core.specs.Position.{is_side}
+use Rattle.chess_core.specs.Position.{is_side, kinds}
 use Rattle.chess_core.specs.ties.Words.{word_of}
 use Rattle.chess_core.specs.declared.man.Man.{Man}
 use Rattle.chess_core.specs.declared.man.Colour.{Colour}
 use Rattle.chess_core.specs.declared.man.Colour.TheVariants.{White, Black}
-use Rattle.chess_core.specs.declared.man.Kind.{Kind}
-use Rattle.chess_core.specs.declared.man.Kind.TheVariants.{King, Queen, Rook, Bishop, Knight, Pawn, Grasshopper, Nightrider}
 
 -- the place of a colour in the order of colours
 abbrev pub colour_number : Colour → ℕ
 colour_number White = 0
 colour_number Black = 1
-
--- the kinds in order
-abbrev pub kinds : List Kind
-kinds = King ∷ Queen ∷ Rook ∷ Bishop ∷ Knight ∷ Pawn ∷ Grasshopper ∷ Nightrider ∷ []
 
 -- the colours in order
 abbrev pub colours : List Colour

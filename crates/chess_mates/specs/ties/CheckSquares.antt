@@ -2,7 +2,7 @@
 use Rattle.std.specs.Prelude.{◌≡◌, ℕ, ◌+◌, ◌/◌, ◌<◌, Bool, true, false, ◌&&◌, ◌||◌, ◌==◌, not, List, Option, Some, None, if◌then◌else◌}
 use Rattle.std.specs.Int.{bit_at}
 use Rattle.std.specs.Int.Bits.{bit_or}
-use Rattle.chess_core.specs.Position.{Position, is_man, king_square, man_on, other}
+use Rattle.chess_core.specs.Position.{Position, is_fairy, is_man, king_square, man_on, other}
 use Rattle.chess_core.specs.Squares.{some_square}
 use Rattle.chess_core.specs.ties.Words.{word}
 use Rattle.chess_core.specs.declared.man.Man.{Man}
@@ -15,9 +15,9 @@ use Rattle.chess_rules.specs.Attacks.{in_check}
 use Rattle.chess_rules.specs.Legal.{is_legal}
 use Rattle.chess_rules.specs.Play.{position_after}
 use Rattle.chess_rules.specs.Reaches.{reaches_as}
-use Rattle.chess_rules.specs.RuleSet.{RuleSet, is_circe, orthodox}
+use Rattle.chess_rules.specs.RuleSet.{RuleSet, captures_are_reborn, orthodox}
 use Rattle.chess_rules.specs.ties.Lines.{is_aside}
-use Rattle.chess_rules.specs.ties.Shields.{is_fairy, may_expose}
+use Rattle.chess_rules.specs.ties.Shields.{may_expose}
 use Rattle.chess_rules.specs.ties.Targets.{may_go}
 
 -- it is a fairy man, and none of its colour and kind stands on the board
@@ -38,7 +38,7 @@ may_check_from men c x t = may_check_from_on men (king_square men c) x t
 -- grasshopper to which he might be a hurdle
 unfoldable pub are_rebirths_quiet : RuleSet → List (Option Man) → Colour → Bool
 are_rebirths_quiet rule men e =
-    is_circe rule && is_absent men (record { colour = e; kind = Grasshopper })
+    captures_are_reborn rule && is_absent men (record { colour = e; kind = Grasshopper })
 
 -- the rules by which it is told what moves of colour e uncover: the orthodox ones, where rebirths are quiet
 abbrev pub rule_of_checks : RuleSet → List (Option Man) → Colour → RuleSet

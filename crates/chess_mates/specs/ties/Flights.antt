@@ -13,7 +13,7 @@ use Rattle.chess_core.specs.declared.man.Move.{Move}
 use Rattle.chess_rules.specs.Legal.{is_arrival_free, is_legal, is_pseudo_legal}
 use Rattle.chess_rules.specs.Play.{capture_square}
 use Rattle.chess_rules.specs.Reaches.{reaches, reaches_as}
-use Rattle.chess_rules.specs.RuleSet.{RuleSet, is_circe}
+use Rattle.chess_rules.specs.RuleSet.{RuleSet, captures_do_more}
 use Rattle.chess_rules.specs.ties.Sight.{AreSeen, is_simple, sight_after}
 use Rattle.chess_rules.specs.declared.sight.Sight.{Sight}
 
@@ -35,7 +35,7 @@ has_flight rule p = some_square (is_flight rule p)
 unfoldable pub is_open : RuleSet → List (Option Man) → Colour → ℕ → ℕ → Bool
 is_open rule men c k t =
     reaches_as men c King k t && is_arrival_free c (man_on men t)
-    && not (is_circe rule && is_some (man_on men t))
+    && not (captures_do_more rule && is_some (man_on men t))
 
 -- the king of colour c on k may step so to each square of the word
 pub record AreOpen (rule : RuleSet) (men : List (Option Man)) (c : Colour) (k w : ℕ) : Type 0 where

@@ -1,9 +1,10 @@
 -- Attack looked for outward from the square.
 use Rattle.chess_rules.proofs.Basics.{Bool, List, None, Option, Some, [], and_left, ap, arith, bit_and, bit_at, bit_or, false, false_from_ne_true, false≢true, inl, inr, list_any, list_any-append, not, refl, rules, sym, true, ℕ, ◌&&◌, ◌<◌, ◌==◌, ◌||◌, ◌∙◌, ◌∷◌, ◌≡◌}
-use Rattle.chess_rules.proofs.Chess.{Bishop, Colour, Grasshopper, Kind, King, Knight, Man, Nightrider, Pawn, Queen, Rook, RuleSet, Step, any_range_cases, diagonal_steps, faces, faces_its_like, first_of_and, hopped_from, is_ahead, is_attacked, is_man, is_on_some, is_paralysed, is_reached, is_side, man_on, other, queen_steps, reaches, reaches_as, reaches_of, rides, same_colour-true, same_kind, same_kind-true, second_of_and, some_square, some_square_false, some_square_true, squares_both, squares_either, squares_of, squares_same, straight_steps, strikes, word}
-use Rattle.chess_rules.specs.ties.Outward.{is_met}
+use Rattle.chess_rules.proofs.Chess.{Bishop, Colour, Grasshopper, Kind, King, Knight, Man, Nightrider, Pawn, Queen, Rook, RuleSet, Step, any_range_cases, diagonal_steps, faces, faces_its_like, first_of_and, gait_of, hopped_from, is_ahead, is_attacked, is_fairy, is_man, is_on_some, is_paralysed, is_reached, is_side, man_on, other, queen_steps, reaches, reaches_as, reaches_of, rides, same_colour-true, same_kind, same_kind-true, second_of_and, some_square, some_square_false, some_square_true, squares_both, squares_either, squares_of, squares_same, straight_steps, strikes, word}
+use Rattle.chess_core.specs.declared.man.Gait.TheVariants.{Hopper}
+use Rattle.chess_rules.specs.ties.Outward.{is_fairy_man, is_met}
 use Rattle.chess_rules.proofs.Bits.{not_zero, word_empty, word_has}
-use Rattle.chess_rules.proofs.rays.Flips.{diagonal-back, grasshopper-back, king-back, knight-back, nightrider-back, pawn-back, queen_rides-back, straight-back}
+use Rattle.chess_rules.proofs.rays.Flips.{diagonal-back, hops-turned, queen_rides-back, reaches_back, straight-back}
 use Rattle.chess_rules.proofs.Tests.{any_kept}
 
 -- tests that agree on the squares
@@ -15,22 +16,16 @@ some_square_same p q h = elim (any_range_cases p 0 64) [
       ∙ sym (some_square_false q 64 (omega arith) (record { fails = λ s b. sym (h s b) ∙ none s (omega arith) b }))
 ]
 
--- the squares from which a man comes: those to which one of the other colour goes, but for a grasshopper
-turned : (men : List (Option Man)) (c : Colour) (j : Kind) (s t : ℕ) → (j ≡ Grasshopper → ⊥) → s < 64 → t < 64
-    → reaches_as men (other c) j t s ≡ reaches_as men c j s t
-unfolding reaches_as
-turned men c j s t piece p q = grind (arith, king-back, queen_rides-back, straight-back, diagonal-back, knight-back, pawn-back, nightrider-back)
-
--- a man, grasshoppers apart, reaches t from where its like of the other colour on t reaches
-pub comes_back : (men : List (Option Man)) (c e : Colour) (j : Kind) (t w : ℕ) → (j ≡ Grasshopper → ⊥) → t < 64 → w ≡ word (reaches_as men e j t)
+-- a man, hoppers apart, reaches t from where its like of the other colour on t reaches
+pub comes_back : (men : List (Option Man)) (c e : Colour) (j : Kind) (t w : ℕ) → (gait_of j ≡ Hopper → ⊥) → t < 64 → w ≡ word (reaches_as men e j t)
     → e ≡ other c → w ≡ word (λ s. reaches_as men c j s t)
-comes_back men c e j t w piece q h enemy = grind (arith, squares_same, turned)
+comes_back men c e j t w plain q h enemy = grind (arith, squares_same, reaches_back)
 
--- a grasshopper reaches t from the squares found by looking back from t
-pub comes_grasshopper : (men : List (Option Man)) (c : Colour) (t : ℕ) → t < 64
-    → word (λ s. list_any (hopped_from men t s) queen_steps) ≡ word (λ s. reaches_as men c Grasshopper s t)
+-- a hopper reaches t from the squares found by looking back from t
+pub comes_hopper : (men : List (Option Man)) (c : Colour) (j : Kind) (t : ℕ) → gait_of j ≡ Hopper → t < 64
+    → word (λ s. list_any (hopped_from men t s) queen_steps) ≡ word (λ s. reaches_as men c j s t)
 unfolding reaches_as
-comes_grasshopper men c t q = squares_same _ _ (λ s p. sym (grasshopper-back men s t p q))
+comes_hopper men c j t hops q = grind (arith, squares_same, hops-turned)
 
 -- a man of this colour and kind goes as such men go
 reaches_of_man : (men : List (Option Man)) (o : Option Man) (c : Colour) (k : Kind) (s t : ℕ) → is_man o c k ≡ true
@@ -60,13 +55,10 @@ unfolding squares_of
 reached_none men c k t w h z =
     word_empty _ (λ s b. and_left (is_man (man_on men s) c k) (reaches men s t) (word_lacks (λ s. is_man (man_on men s) c k) (sym h ∙ z) s b))
 
--- the men that ride along lines, and the others
-abbrev others : List Kind
-others = King ∷ Knight ∷ Pawn ∷ Grasshopper ∷ Nightrider ∷ []
-
+-- a man of colour b reaches by what its kind says
 by_lines : (b : Bool) (k : Kind) (r s d : Bool) → (k ≡ Rook → r ≡ s) → (k ≡ Bishop → r ≡ d) → (k ≡ Queen → r ≡ (s || d))
-    → (((((b && same_kind k Rook) || (b && same_kind k Queen)) && s) || (((b && same_kind k Bishop) || (b && same_kind k Queen)) && d))
-    || list_any (λ j. (b && same_kind k j) && r) others) ≡ (b && r)
+    → (((((((b && same_kind k Rook) || (b && same_kind k Queen)) && s) || (((b && same_kind k Bishop) || (b && same_kind k Queen)) && d))
+    || ((b && same_kind k King) && r)) || ((b && same_kind k Knight) && r) || ((b && same_kind k Pawn) && r)) || ((b && is_fairy k) && r)) ≡ (b && r)
 by_lines b k r s d rook bishop queen = grind arith
 
 rook_reaches : (men : List (Option Man)) (c : Colour) (k : Kind) (s t : ℕ) → s < 64 → t < 64 → k ≡ Rook
@@ -87,7 +79,8 @@ queen_reaches men c k s t p q e = search (rules, list_any-append, queen_rides-ba
 -- on one square
 at_square : (men : List (Option Man)) (c : Colour) (o : Option Man) (s t : ℕ) → s < 64 → t < 64
     → ((((is_man o c Rook || is_man o c Queen) && list_any (rides men t s) straight_steps)
-    || ((is_man o c Bishop || is_man o c Queen) && list_any (rides men t s) diagonal_steps)) || list_any (λ k. is_man o c k && reaches_of men o s t) others)
+    || ((is_man o c Bishop || is_man o c Queen) && list_any (rides men t s) diagonal_steps)) || (is_man o c King && reaches_of men o s t)
+    || (is_man o c Knight && reaches_of men o s t) || (is_man o c Pawn && reaches_of men o s t) || (is_fairy_man o c && reaches_of men o s t))
     ≡ (is_side o c && reaches_of men o s t)
 at_square men c None s t p q = refl
 at_square men c (Some x) s t p q = search (rules, bishop_reaches, by_lines, queen_reaches, rook_reaches)
@@ -132,41 +125,47 @@ met_none men c k t m n l ds h i j z =
 abbrev pub comer : List (Option Man) → Colour → ℕ → Kind → ℕ → Bool
 comer men c t k s = is_man (man_on men s) c k && reaches men s t
 
-one_by_one : (x a b c d e : Bool) → ((((x || a) || b) || c) || (d || e)) ≡ (x || (a || (b || (c || (d || (e || false))))))
-one_by_one x a b c d e = grind arith
+-- the square of a fairy man of this colour from which it reaches t
+abbrev pub fairy_comer : List (Option Man) → Colour → ℕ → ℕ → Bool
+fairy_comer men c t s = is_fairy_man (man_on men s) c && reaches men s t
 
--- the men that reach t: riders on straight lines, on diagonals, and the others by kind
+-- the men that reach t: riders on straight lines, on diagonals, the others by kind, and fairy men
 pub attackers_are : (men : List (Option Man)) (c : Colour) (t r b k n p f : ℕ) → t < 64
     → r ≡ word (is_met men c Rook straight_steps t)
     → b ≡ word (is_met men c Bishop diagonal_steps t)
     → k ≡ word (comer men c t King)
     → n ≡ word (comer men c t Knight)
     → p ≡ word (comer men c t Pawn)
-    → f ≡ word (λ s. comer men c t Grasshopper s || comer men c t Nightrider s)
+    → f ≡ word (fairy_comer men c t)
     → bit_or (bit_or (bit_or (bit_or (bit_or r b) k) n) p) f ≡ word (λ s. is_side (man_on men s) c && reaches men s t)
 unfolding reaches is_met
 attackers_are men c t r b k n p f q hr hb hk hn hp hf =
     let rook : ℕ → Bool = is_met men c Rook straight_steps t in
     let bishop : ℕ → Bool = is_met men c Bishop diagonal_steps t in
     let by : Kind → ℕ → Bool = comer men c t in
-    let fairy : ℕ → Bool = λ s. by Grasshopper s || by Nightrider s in
+    let fairy : ℕ → Bool = fairy_comer men c t in
     (λ a. bit_or (bit_or (bit_or (bit_or (bit_or (hr a) (hb a)) (hk a)) (hn a)) (hp a)) (hf a))
     ∙ (λ a. bit_or (bit_or (bit_or (bit_or (squares_either rook bishop a) (word (by King))) (word (by Knight))) (word (by Pawn))) (word fairy))
     ∙ (λ a. bit_or (bit_or (bit_or (squares_either (λ s. rook s || bishop s) (by King) a) (word (by Knight))) (word (by Pawn))) (word fairy))
     ∙ (λ a. bit_or (bit_or (squares_either (λ s. (rook s || bishop s) || by King s) (by Knight) a) (word (by Pawn))) (word fairy))
     ∙ (λ a. bit_or (squares_either (λ s. ((rook s || bishop s) || by King s) || by Knight s) (by Pawn) a) (word fairy))
     ∙ squares_either (λ s. (((rook s || bishop s) || by King s) || by Knight s) || by Pawn s) fairy
-    ∙ squares_same _ _ (λ s z. one_by_one (rook s || bishop s) (by King s) (by Knight s) (by Pawn s) (by Grasshopper s) (by Nightrider s)
-    ∙ at_square men c (man_on men s) s t z q)
+    ∙ squares_same _ _ (λ s z. at_square men c (man_on men s) s t z q)
 
--- grasshoppers and nightriders together
+-- a fairy man is of one of the fairy kinds
+fairy_by_kind : (o : Option Man) (c : Colour) (r : Bool) → ((is_man o c Grasshopper && r) || (is_man o c Nightrider && r)) ≡ (is_fairy_man o c && r)
+fairy_by_kind o c r = grind arith
+
+-- the fairy men kind by kind
 pub fairy_are : (men : List (Option Man)) (c : Colour) (t g f : ℕ) → g ≡ word (comer men c t Grasshopper) → f ≡ word (comer men c t Nightrider)
-    → bit_or g f ≡ word (λ s. comer men c t Grasshopper s || comer men c t Nightrider s)
-fairy_are men c t g f hg hf = (λ a. bit_or (hg a) (hf a)) ∙ squares_either (comer men c t Grasshopper) (comer men c t Nightrider)
+    → bit_or g f ≡ word (fairy_comer men c t)
+fairy_are men c t g f hg hf =
+    (λ a. bit_or (hg a) (hf a)) ∙ squares_either (comer men c t Grasshopper) (comer men c t Nightrider)
+    ∙ squares_same _ _ (λ s z. fairy_by_kind (man_on men s) c (reaches men s t))
 
 -- where there are neither, no fairy man reaches t
 pub fairy_none : (men : List (Option Man)) (c : Colour) (t g f : ℕ) → g ≡ squares_of men c Grasshopper → f ≡ squares_of men c Nightrider → g ≡ 0 → f ≡ 0
-    → 0 ≡ word (λ s. comer men c t Grasshopper s || comer men c t Nightrider s)
+    → 0 ≡ word (fairy_comer men c t)
 fairy_none men c t g f hg hf zg zf = fairy_are men c t 0 0 (reached_none men c Grasshopper t g hg zg) (reached_none men c Nightrider t f hf zf)
 
 last_two : (a b c : Bool) → ((a && b) && c) ≡ ((a && c) && b)

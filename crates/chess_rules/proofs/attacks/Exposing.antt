@@ -1,6 +1,6 @@
 -- Whether a move leaves its mover in check, told by the men that an attack sees after it.
 use Rattle.chess_rules.proofs.Basics.{Bool, List, None, Option, Some, and_from, and_left, and_parts, and_right, ap, arith, bit_at, cases_Bool, cases_eq, cond-false, cond-true, eq-eqb, false, false_from_ne_true, false≢true, inl, inr, is_some, not, not-true, or_parts, rules, sym, true, ℕ, ◌&&◌, ◌<◌, ◌==◌, ◌||◌, ◌∙◌, ◌≡◌}
-use Rattle.chess_rules.proofs.Chess.{AreArrived, AreOthers, AreSeen, Colour, IsWellFormed, Kind, King, Man, Move, Position, RuleSet, arriving_man, capture_square, differs, faces, faces_its_like, in_check, is_arrival_free, is_attacked_at, is_castling, is_circe, is_faced, is_madrasi, is_man, is_paralysed, is_promotion_right, is_pseudo_legal, is_side, is_simple, is_square, king_after, king_square, man_on, other, position_after, reaches, same_colour, same_colour-true, same_kind, sight_after, some_square, squares_both, squares_either, squares_not, squares_of, squares_same, word}
+use Rattle.chess_rules.proofs.Chess.{AreArrived, AreOthers, AreSeen, Colour, IsWellFormed, Kind, King, Man, Move, Position, RuleSet, arriving_man, capture_square, differs, faces, faces_its_like, in_check, is_arrival_free, is_attacked_at, is_castling, captures_do_more, is_faced, faced_men_stand_still, is_man, is_paralysed, is_promotion_right, is_pseudo_legal, is_side, is_simple, is_square, king_after, king_square, man_on, other, position_after, reaches, same_colour, same_colour-true, same_kind, sight_after, some_square, squares_both, squares_either, squares_not, squares_of, squares_same, word}
 use Rattle.chess_rules.specs.ties.Sight.{is_arriving_as, own_after}
 use Rattle.chess_rules.specs.declared.sight.Sight.{Sight}
 use Rattle.chess_core.proofs.Kept.{same_colour-refl}
@@ -17,7 +17,7 @@ use Rattle.chess_rules.proofs.making_moves.Stays.{moved_sound}
 -- the parts of a simple move
 pub record IsSimple (rule : RuleSet) (p : Position) (x : Man) (m : Move) : Type 0 where
   pub castling : is_castling x m ≡ false
-  pub rebirth : is_circe rule ≡ true → capture_square p x m ≡ None
+  pub rebirth : captures_do_more rule ≡ true → capture_square p x m ≡ None
 
 none_there : (b : Bool) (o : Option ℕ) → (b && is_some o) ≡ false → b ≡ true → o ≡ None
 none_there b o p q = grind arith
@@ -50,7 +50,7 @@ pub faced_king : (king f : Bool) → king ≡ true → not king ≡ (not king &&
 faced_king king f h = (λ i. not (h i)) ∙ sym (ap (λ (k : Bool). not k && f) h)
 
 -- an enemy man, if no king, is paralysed exactly if a mover's man of its kind reaches it
-pub paralysed_by : (rule : RuleSet) (before men : List (Option Man)) (x : Man) (m : Move) (v : Sight) (s : ℕ) (y : Man) (b : Bool) → is_madrasi rule ≡ true
+pub paralysed_by : (rule : RuleSet) (before men : List (Option Man)) (x : Man) (m : Move) (v : Sight) (s : ℕ) (y : Man) (b : Bool) → faced_men_stand_still rule ≡ true
     → AreArrived before men x m v → is_side (man_on men s) (other x.colour) ≡ true → man_on before s ≡ Some y
     → b ≡ (not (same_kind y.kind King) && some_square (λ q. is_man (man_on men q) x.colour y.kind && reaches men q s))
     → b ≡ is_paralysed rule men s
@@ -63,9 +63,9 @@ paralysed_by rule before men x m v s y b is are side at h =
     ∙ sym (ap (λ (a : Bool). a && is_faced men (man_on men s) s) is)
 
 -- outside Madrasi nobody is paralysed
-pub none_paralysed : (rule : RuleSet) (men : List (Option Man)) (s : ℕ) → is_madrasi rule ≡ false → false ≡ is_paralysed rule men s
+pub none_paralysed : (rule : RuleSet) (men : List (Option Man)) (s : ℕ) → faced_men_stand_still rule ≡ false → false ≡ is_paralysed rule men s
 unfolding is_paralysed
-none_paralysed rule men s off = sym (and_left (is_madrasi rule) _ off)
+none_paralysed rule men s off = sym (and_left (faced_men_stand_still rule) _ off)
 
 -- who goes and who is captured
 captures_arrival : (p : Position) (x : Man) (m : Move) → is_some (man_on p.men m.to) ≡ true → is_square (capture_square p x m) m.to ≡ true

@@ -1,7 +1,7 @@
 -- A plain move from a square that a queen on the king's doesn't see opens no line to the king.
 use Rattle.chess_rules.proofs.Basics.{Bool, List, None, Option, Some, [], and_from, and_parts, and_right, ap, arith, bit_at, bit_not, bit_or, cases_Bool, cases_eq, cond-false, cond-true, eq-eqb, false, false_from_ne_true, false≢true, inl, inr, is_some, length, list_any, list_any-append, not, not-true, or_cases, or_left, or_parts, or_right, refl, rules, sym, true, w64, ℕ, ◌&&◌, ◌<◌, ◌==◌, ◌||◌, ◌∙◌, ◌∷◌, ◌≡◌, ◌≢◌}
 use Rattle.chess_rules.proofs.Chess.{AtMostOneKing, Bishop, Colour, Direction, East, Grasshopper, IsWellFormed, Kind, King, Man, Move, Nightrider, North, NorthEast, NorthWest, Position, Queen, Rook, RuleSet, South, SouthEast, SouthWest, Step, Straight, West, after_by, arriving_man, capture_square, is_attacked, is_attacked_at, position_after}
-use Rattle.chess_rules.proofs.Chess.{diagonal_steps, differs, find_first, has_fairy, hops, in_check, is_behind, is_castling, is_circe, is_man, is_on_fairy_line, is_on_fairy_line_to, is_on_some, is_plain, is_promotion_right, is_reached, is_shut, is_side, is_square, is_vacant, king_square, knight_steps, man_on, man_on_at}
+use Rattle.chess_rules.proofs.Chess.{diagonal_steps, differs, find_first, has_fairy, hops, in_check, is_behind, is_castling, captures_do_more, is_man, is_on_fairy_line, is_on_fairy_line_to, is_on_some, is_plain, is_promotion_right, is_reached, is_shut, is_side, is_square, is_vacant, king_square, knight_steps, man_on, man_on_at}
 use Rattle.chess_rules.proofs.Chess.{is_paralysed, is_pseudo_legal, may_expose, may_expose_on, may_stand_between, moved_men, other, queen_steps, reaches, reaches_as, reborn_at, reborn_square, rider_along, rides, same_colour, same_kind, some_square_false, some_square_true, squares, squares_either, squares_of, squares_same, step_of, steps_along, straight_steps, strikes, word}
 use Rattle.chess_core.proofs.Ranges.{second_fails, find_square_some}
 use Rattle.chess_rules.specs.ties.Shields.{cannot_expose}
@@ -277,7 +277,7 @@ captures_nobody p x m off e = search (rules, cond-false, and_right)
 pub record IsPlain (rule : RuleSet) (p : Position) (x : Man) (m : Move) : Type 0 where
   pub castling : is_castling x m ≡ false
   pub crossed : is_square p.crossed m.to ≡ false
-  pub rebirth : is_circe rule ≡ true → capture_square p x m ≡ None
+  pub rebirth : captures_do_more rule ≡ true → capture_square p x m ≡ None
 
 -- a plain move has them
 pub plain_parts : (rule : RuleSet) (p : Position) (x : Man) (m : Move) → is_plain rule p x m ≡ true → IsPlain rule p x m
@@ -290,14 +290,14 @@ unfolding moved_men
 moved_plainly p x m h = rw h refl
 
 -- where nobody is reborn
-pub unreborn_after : (rule : RuleSet) (p : Position) (x : Man) (m : Move) → man_on p.men m.from ≡ Some x → (is_circe rule ≡ true → capture_square p x m ≡ None)
+pub unreborn_after : (rule : RuleSet) (p : Position) (x : Man) (m : Move) → man_on p.men m.from ≡ Some x → (captures_do_more rule ≡ true → capture_square p x m ≡ None)
     → (position_after rule p m).men ≡ moved_men p x m
 unfolding position_after after_by reborn_square
 unreborn_after rule p x m here rebirth = search (rules, nobody_reborn)
 
 -- and nobody castles
 pub simple_after : (rule : RuleSet) (p : Position) (x : Man) (m : Move) → man_on p.men m.from ≡ Some x → is_castling x m ≡ false
-    → (is_circe rule ≡ true → capture_square p x m ≡ None) → (position_after rule p m).men ≡ arrived p x m
+    → (captures_do_more rule ≡ true → capture_square p x m ≡ None) → (position_after rule p m).men ≡ arrived p x m
 simple_after rule p x m here castling rebirth = unreborn_after rule p x m here rebirth ∙ moved_plainly p x m castling
 
 -- so it is after a plain move
@@ -367,9 +367,9 @@ cannot_expose_own rule p m well may small h =
     })
 
 -- a fairy man by the words of the two kinds
-pub some_grasshopper : (men : List (Option Man)) (c : Colour) (w : ℕ) → w ≡ squares_of men c Grasshopper → (w ≡ 0 → ⊥) → not (w == 0) ≡ has_fairy men c
+pub some_hopper : (men : List (Option Man)) (c : Colour) (w : ℕ) → w ≡ squares_of men c Grasshopper → (w ≡ 0 → ⊥) → not (w == 0) ≡ has_fairy men c
 unfolding has_fairy squares_of
-some_grasshopper men c w h some = search (rules, differs, or_left, not_zero)
+some_hopper men c w h some = search (rules, differs, or_left, not_zero)
 
 -- and where no grasshopper stands, by that of the nightriders
 pub some_nightrider : (men : List (Option Man)) (c : Colour) (w n : ℕ) → w ≡ squares_of men c Grasshopper → w ≡ 0 → n ≡ squares_of men c Nightrider

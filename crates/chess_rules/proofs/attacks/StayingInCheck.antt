@@ -1,7 +1,7 @@
 -- A check that isn't met stays.
 use Rattle.chess_rules.proofs.Basics.{Bool, List, Option, Some, and_from, and_left, and_parts, ap, arith, bit_and, bit_at, bit_not, bit_or, eq-eqb, false, false≢true, list_any, list_any-append, not, or_left, or_parts, or_right, refl, rules, subst, sym, true, w64, ℕ, ◌&&◌, ◌<◌, ◌==◌, ◌∙◌, ◌≡◌, ◌≢◌}
-use Rattle.chess_rules.proofs.Chess.{AreEvasions, AtMostOneKing, Bishop, Colour, Grasshopper, IsWellFormed, Kind, King, Man, Move, Nightrider, Position, Queen, Rook, RuleSet, Step, arriving_man, find_first, first_of_and, in_check, is_arrival_free, is_attacked, is_attacked_at, is_fairy, is_madrasi, is_man, is_paralysed, is_plain, is_pseudo_legal, is_side, is_square, is_vacant, king_square, man_on, other, position_after, queen_steps, reaches, reaches_as, rides, same_colour, same_kind, second_of_and, some_square_true, squares, squares_both, squares_either, strikes, word}
-use Rattle.chess_rules.specs.ties.Evasions.{is_fairy_man, IsNoEvasion}
+use Rattle.chess_rules.proofs.Chess.{AreEvasions, AtMostOneKing, Bishop, Colour, Grasshopper, IsWellFormed, Kind, King, Man, Move, Nightrider, Position, Queen, Rook, RuleSet, Step, arriving_man, find_first, first_of_and, in_check, is_arrival_free, is_attacked, is_attacked_at, has_fairy_lines, faced_men_stand_still, is_man, is_paralysed, is_plain, is_pseudo_legal, is_side, is_square, is_vacant, king_square, man_on, other, position_after, queen_steps, reaches, reaches_as, rides, same_colour, same_kind, second_of_and, some_square_true, squares, squares_both, squares_either, strikes, word}
+use Rattle.chess_rules.specs.ties.Evasions.{has_fairy_lines_of, IsNoEvasion}
 use Rattle.chess_rules.proofs.Bits.{word_has, every_square}
 use Rattle.chess_rules.proofs.attacks.Shielding.{IsPlain, IsShift, arrived_shift, king_is, man_there, men_after, other_differs, plain_parts}
 use Rattle.chess_rules.proofs.making_moves.Fits.{arrived}
@@ -21,7 +21,7 @@ stays_free : (men position_after : List (Option Man)) (a b : ℕ) (z : Man) (o :
     → is_vacant position_after o ≡ true
 stays_free men position_after a b z o i h ne = grind (arith, eq-eqb)
 
--- an orthodox man that reached k and isn't met reaches it
+-- a man without fairy lines that reached k and isn't met reaches it
 module _ (men position_after : List (Option Man)) (a b : ℕ) (z : Man) (c : Colour) (k s : ℕ) (i : IsShift men position_after a b z) (p : s < 64) (q : k < 64)
     (ne : (reaches_as men c Queen k b && reaches_as men c Queen s b) ≡ false) where
   -- a line of the queen's that is open and isn't shut on b stays open
@@ -34,7 +34,7 @@ module _ (men position_after : List (Option Man)) (a b : ℕ) (z : Man) (c : Col
       (rides_turned ds men k s o q p ∙ h)
       (λ x y. let both = and_from _ _ (seen (rides men k b) x) (seen (rides men s b) (sym (backward ds (rides men s b) o) ∙ y)) in false≢true (sym ne ∙ both))
 
-  reaches_after : (e : Colour) (j : Kind) → is_fairy j ≡ false → reaches_as men e j s k ≡ true → reaches_as position_after e j s k ≡ true
+  reaches_after : (e : Colour) (j : Kind) → has_fairy_lines j ≡ false → reaches_as men e j s k ≡ true → reaches_as position_after e j s k ≡ true
   unfolding reaches_as
   reaches_after e Queen f h = line_after queen_steps refl (λ g y. y) h
   reaches_after e Rook f h = search (rules, line_after, list_any-append, or_left)
@@ -79,7 +79,7 @@ no_evasion_stays rule men position_after a b z c i one away u =
     let free = or_parts (u.checker == b) (reaches_as men c Queen u.king b && reaches_as men c Queen u.checker b) u.no_evasion in
     let off : u.checker ≢ b = λ e. (let yes : (u.checker == b) ≡ true = eq-eqb u.checker b e in let no = free.0 in cc) in
     let y_stays : man_on position_after u.checker ≡ Some y.0 = keeps men position_after a b z u.checker y.0 i y.1.0 (away.enemy u.checker u.enemy) off in
-    let plain : is_fairy y.0.kind ≡ false = ap is_fairy_man (sym y.1.0) ∙ u.plain in
+    let plain : has_fairy_lines y.0.kind ≡ false = ap has_fairy_lines_of (sym y.1.0) ∙ u.plain in
     let hit = rw y.1.0 at u.check in
     let hits : reaches_as position_after y.0.colour y.0.kind u.checker u.king ≡ true =
     reaches_after men position_after a b z c u.king u.checker i small king.0 free.1 y.0.colour y.0.kind plain hit in
@@ -87,7 +87,7 @@ no_evasion_stays rule men position_after a b z c i one away u =
     let reach : reaches position_after u.checker u.king ≡ true = rw y_stays hits in
     ap (λ (o : Option ℕ). is_attacked_at rule position_after o (other c)) at
     ∙ some_square_true (strikes rule position_after u.king (other c)) u.checker small
-    (and_from _ _ (and_from _ _ mine (ap not (and_left (is_madrasi rule) _ u.orthodox))) reach)
+    (and_from _ _ (and_from _ _ mine (ap not (and_left (faced_men_stand_still rule) _ u.moving))) reach)
 
 not_king : (x : Man) (c : Colour) → same_kind x.kind King ≡ false → is_man (Some x) c King ≡ true → ⊥
 not_king x c piece h = let king = (and_parts (same_colour x.colour c) (same_kind x.kind King) h).1 in cc
@@ -130,11 +130,11 @@ evasion_squares_all rule men c = record {
 }
 
 -- the squares that meet one check
-pub evasion_squares_one : (rule : RuleSet) (men : List (Option Man)) (c : Colour) (k s w n r t : ℕ) → king_square men c ≡ Some k → is_madrasi rule ≡ false
-    → is_fairy_man (man_on men s) ≡ false → t ≡ word (λ q. is_side (man_on men q) (other c) && reaches men q k) → s < 64 → (bit_at t s == 1) ≡ true
+pub evasion_squares_one : (rule : RuleSet) (men : List (Option Man)) (c : Colour) (k s w n r t : ℕ) → king_square men c ≡ Some k → faced_men_stand_still rule ≡ false
+    → has_fairy_lines_of (man_on men s) ≡ false → t ≡ word (λ q. is_side (man_on men q) (other c) && reaches men q k) → s < 64 → (bit_at t s == 1) ≡ true
     → w ≡ word (λ q. is_square (Some s) q) → n ≡ word (λ q. reaches_as men c Queen k q) → r ≡ word (λ q. reaches_as men c Queen s q)
     → AreEvasions rule men c (bit_or w (bit_and n r))
-evasion_squares_one rule men c k s w n r t at orthodox plain all small set h i j =
+evasion_squares_one rule men c k s w n r t at moving plain all small set h i j =
     search (rules, first_of_and, second_of_and, squares_both, squares_either, word_has)
 
 -- the same, for a word

@@ -1,6 +1,8 @@
 -- The triples: which moves they are, in which order they stand, and that each legal move is one of them.
 use Rattle.chess_rules.proofs.Basics.{AllPairs, Bool, Contains, List, Option, Some, [], and_parts, ap, arith, false≢true, flat_map, inl, inr, length, list_any, map, or_cases, range_with_len, refl, rules, suc, true, zero, ℕ, ◌+◌, ◌-◌, ◌<◌, ◌↔◌, ◌∷◌, ◌≡◌, ◌⊎◌}
-use Rattle.chess_rules.proofs.Chess.{Bishop, Colour, Grasshopper, Kind, King, Knight, Man, Move, Nightrider, Pawn, Position, Queen, Rook, RuleSet, Step, along, along-is, castles, hops, is_nil, is_promotion_right, is_pseudo_legal, is_square, leaps, man_on, may_castle, may_promote, promotions, reaches, reaches_as, reaches_of, rides, squares, triple_at, triples}
+use Rattle.chess_rules.proofs.Chess.{Bishop, Colour, Grasshopper, Kind, King, Knight, Man, Move, Nightrider, Pawn, Position, Queen, Rook, RuleSet, Step, along, along-is, castles, gait_of, goes_by, hops, is_nil, is_promotion_right, is_pseudo_legal, is_square, kind_steps, leaps, man_on, may_castle, may_promote, promotions, reaches, reaches_as, reaches_of, rides, squares, triple_at, triples}
+use Rattle.chess_core.specs.declared.man.Gait.{Gait}
+use Rattle.chess_core.specs.declared.man.Gait.TheVariants.{Hopper, Leaper, Rider}
 use Rattle.chess_core.specs.MoveOrder.{promotion_place, triple_number}
 use Rattle.chess_rules.proofs.listing_moves.Members.{first_in, none_in_nil, from_flat_map, from_map, from_range, in_flat_map, in_map, in_range, pairs_map, pairs_nil, pairs_of}
 use Rattle.chess_rules.proofs.listing_moves.Places.{triples_numbered}
@@ -68,21 +70,15 @@ some_passes test (x ∷ xs) give h = elim (or_cases (test x) (list_any test xs) 
 stays_on_board : (s : ℕ) (d : Step) (k t : ℕ) → is_square (along s d k) t ≡ true → t < 64
 stays_on_board s d k t h = (along-is s d k t h).small
 
-leap_on_board : (s t : ℕ) (d : Step) → leaps s t d ≡ true → t < 64
-unfolding leaps
-leap_on_board s t d h = stays_on_board s d 1 t h
-
-ride_on_board : (men : List (Option Man)) (s t : ℕ) (d : Step) → rides men s t d ≡ true → t < 64
-unfolding rides
-ride_on_board men s t d h = search (rules, some_passes, stays_on_board)
-
-hop_on_board : (men : List (Option Man)) (s t : ℕ) (d : Step) → hops men s t d ≡ true → t < 64
-unfolding hops
-hop_on_board men s t d h = search (rules, some_passes, stays_on_board)
+goes_on_board : (g : Gait) (men : List (Option Man)) (s t : ℕ) (d : Step) → goes_by g men s t d ≡ true → t < 64
+unfolding leaps rides hops
+goes_on_board Leaper men s t d h = stays_on_board s d 1 t h
+goes_on_board Rider men s t d h = search (rules, some_passes, stays_on_board)
+goes_on_board Hopper men s t d h = search (rules, some_passes, stays_on_board)
 
 reach_as_on_board : (men : List (Option Man)) (c : Colour) (k : Kind) (s t : ℕ) → reaches_as men c k s t ≡ true → t < 64
 unfolding reaches_as
-reach_as_on_board men c k s t h = grind (arith, some_passes, leap_on_board, ride_on_board, hop_on_board)
+reach_as_on_board men c k s t h = some_passes (goes_by (gait_of k) men s t) (kind_steps c k) (λ d. goes_on_board (gait_of k) men s t d) h
 
 reach_of_on_board : (men : List (Option Man)) (o : Option Man) (s t : ℕ) → reaches_of men o s t ≡ true → t < 64
 reach_of_on_board men o s t h = grind (arith, false≢true, reach_as_on_board)

@@ -1,6 +1,8 @@
 -- Lists of steps that hold each step with its opposite.
-use Rattle.chess_rules.proofs.Basics.{arith, Bool, List, Option, [], and_parts, ap, eqb-true, inl, inr, list_all, list_any, or_cases, or_left, or_right, refl, rules, sym, true, ℕ, ◌&&◌, ◌<◌, ◌==◌, ◌∙◌, ◌∷◌, ◌≡◌}
-use Rattle.chess_rules.proofs.Chess.{Colour, Man, Step, diagonal_steps, hopped_from, hops, knight_steps, leaps, other, pawn_captures, queen_steps, rides, same_Bool, straight_steps}
+use Rattle.chess_rules.proofs.Basics.{arith, Bool, List, Option, [], and_parts, ap, eqb-true, false, false≢true, inl, inr, list_all, list_any, or_cases, or_left, or_right, refl, rules, sym, true, ℕ, ◌&&◌, ◌<◌, ◌==◌, ◌∙◌, ◌∷◌, ◌≡◌}
+use Rattle.chess_core.specs.declared.man.Gait.{Gait}
+use Rattle.chess_core.specs.declared.man.Gait.TheVariants.{Hopper, Leaper, Rider}
+use Rattle.chess_rules.proofs.Chess.{Colour, Kind, Man, Step, diagonal_steps, gait_of, goes_by, hopped_from, hops, is_hopper, kind_steps, knight_steps, leaps, other, pawn_captures, queen_steps, reaches_as, rides, same_Bool, straight_steps}
 use Rattle.chess_rules.proofs.rays.Ends.{back, rides-back, returns_to}
 use Rattle.chess_rules.proofs.rays.Hops.{hops-back}
 
@@ -61,6 +63,21 @@ pub diagonal-back : (men : List (Option Man)) (s t : ℕ) → s < 64 → t < 64
     → list_any (rides men s t) diagonal_steps ≡ list_any (rides men t s) diagonal_steps
 diagonal-back men s t = rides_turned diagonal_steps men s t refl
 
+-- the steps of a kind lead back by those of its like of the other colour
+steps_oppose : (c : Colour) (k : Kind) → (opposed (kind_steps c k) (kind_steps (other c) k) ≡ true) × (opposed (kind_steps (other c) k) (kind_steps c k) ≡ true)
+steps_oppose c k = grind arith
+
+-- but for hoppers, a man goes from s to t where its like of the other colour goes from t to s
+pub reaches_back : (men : List (Option Man)) (c : Colour) (k : Kind) (s t : ℕ) → is_hopper (gait_of k) ≡ false → s < 64 → t < 64
+    → reaches_as men c k s t ≡ reaches_as men (other c) k t s
+unfolding reaches_as
+reaches_back men c k s t plain p q = by (gait_of k) plain where
+  by : (g : Gait) → is_hopper g ≡ false → list_any (goes_by g men s t) (kind_steps c k) ≡ list_any (goes_by g men t s) (kind_steps (other c) k)
+  by Leaper e = leaps_turned (kind_steps c k) (kind_steps (other c) k) s t (steps_oppose c k).0 (steps_oppose c k).1 p q
+  by Rider e = flip (kind_steps c k) (kind_steps (other c) k) (rides men s t) (rides men t s) (steps_oppose c k).0 (steps_oppose c k).1
+      (λ d. rides-back men s t d p q)
+  by Hopper e = absurd (false≢true (sym e))
+
 -- so does a nightrider
 pub nightrider-back : (men : List (Option Man)) (s t : ℕ) → s < 64 → t < 64 → list_any (rides men s t) knight_steps ≡ list_any (rides men t s) knight_steps
 nightrider-back men s t = rides_turned knight_steps men s t refl
@@ -77,6 +94,6 @@ king-back s t = leaps_turned queen_steps queen_steps s t refl refl
 pub pawn-back : (c : Colour) (s t : ℕ) → s < 64 → t < 64 → list_any (leaps s t) (pawn_captures c) ≡ list_any (leaps t s) (pawn_captures (other c))
 pawn-back c s t = grind (arith, leaps_turned)
 
--- a grasshopper's hop is found by looking back from where it lands
-pub grasshopper-back : (men : List (Option Man)) (s t : ℕ) → s < 64 → t < 64 → list_any (hops men s t) queen_steps ≡ list_any (hopped_from men t s) queen_steps
-grasshopper-back men s t p q = search (rules, flip, hops-back)
+-- a hop along a queen's line is found by looking back from where it lands
+pub hops-turned : (men : List (Option Man)) (s t : ℕ) → s < 64 → t < 64 → list_any (hops men s t) queen_steps ≡ list_any (hopped_from men t s) queen_steps
+hops-turned men s t p q = search (rules, flip, hops-back)

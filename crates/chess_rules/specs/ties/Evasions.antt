@@ -10,27 +10,27 @@ use Rattle.chess_rules.specs.Attacks.{in_check}
 use Rattle.chess_rules.specs.Legal.{is_pseudo_legal}
 use Rattle.chess_rules.specs.Play.{position_after}
 use Rattle.chess_rules.specs.Reaches.{reaches, reaches_as}
-use Rattle.chess_rules.specs.ties.Shields.{is_fairy}
-use Rattle.chess_rules.specs.RuleSet.{RuleSet, is_madrasi}
+use Rattle.chess_rules.specs.ties.Shields.{has_fairy_lines}
+use Rattle.chess_rules.specs.RuleSet.{RuleSet, faced_men_stand_still}
 
 -- a move to t answers the check that the man on q gives to the king of colour c on k: it takes that man, or
 -- comes between them, where a queen on either square sees it
 abbrev pub is_evasion : List (Option Man) → Colour → ℕ → ℕ → ℕ → Bool
 is_evasion men c k q t = q == t || (reaches_as men c Queen k t && reaches_as men c Queen q t)
 
--- the man, if there is one, is a grasshopper or a nightrider
-abbrev pub is_fairy_man : Option Man → Bool
-is_fairy_man None = false
-is_fairy_man (Some y) = is_fairy y.kind
+-- the man, if there is one, is a fairy man that goes along lines
+abbrev pub has_fairy_lines_of : Option Man → Bool
+has_fairy_lines_of None = false
+has_fairy_lines_of (Some y) = has_fairy_lines y.kind
 
--- a check of an orthodox man to the king of colour c that a move to t doesn't meet
+-- a check of another man to the king of colour c that a move to t doesn't meet
 pub record IsNoEvasion (rule : RuleSet) (men : List (Option Man)) (c : Colour) (t : ℕ) : Type
     0 where
   pub king : ℕ
   pub checker : ℕ
   pub here : king_square men c ≡ Some king
-  pub orthodox : is_madrasi rule ≡ false
-  pub plain : is_fairy_man (man_on men checker) ≡ false
+  pub moving : faced_men_stand_still rule ≡ false
+  pub plain : has_fairy_lines_of (man_on men checker) ≡ false
   pub enemy : is_side (man_on men checker) (other c) ≡ true
   pub check : reaches men checker king ≡ true
   pub no_evasion : is_evasion men c king checker t ≡ false

@@ -1,7 +1,7 @@
 -- Lines looked at from the square of arrival, and the ways along them (own).
-use Rattle.std.specs.Prelude.{ℕ, ◌-◌, Bool, ◌&&◌, ◌||◌, List, Option}
+use Rattle.std.specs.Prelude.{ℕ, ◌-◌, Bool, false, ◌&&◌, ◌||◌, List, Option, Some, None}
 use Rattle.std.specs.List.{list_any, list_all, range_with_len}
-use Rattle.chess_core.specs.Position.{is_man, man_on}
+use Rattle.chess_core.specs.Position.{is_fairy, is_man, man_on, same_colour}
 use Rattle.chess_core.specs.Squares.{is_square}
 use Rattle.chess_core.specs.Steps.{along}
 use Rattle.chess_core.specs.declared.man.Man.{Man}
@@ -10,6 +10,11 @@ use Rattle.chess_core.specs.declared.man.Kind.{Kind}
 use Rattle.chess_core.specs.declared.man.Kind.TheVariants.{Queen}
 use Rattle.chess_core.specs.declared.step.Step.{Step}
 use Rattle.chess_rules.specs.Reaches.{is_occupied, is_vacant, rides}
+
+-- the man, if there is one, is a fairy man of this colour
+abbrev pub is_fairy_man : Option Man → Colour → Bool
+is_fairy_man None c = false
+is_fairy_man (Some x) c = same_colour x.colour c && is_fairy x.kind
 
 -- a queen or a man of kind k, of this colour, stands on s, and a rider on t gets there by one of the steps
 unfoldable pub is_met : List (Option Man) → Colour → Kind → List Step → ℕ → ℕ → Bool

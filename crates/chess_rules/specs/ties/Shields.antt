@@ -1,32 +1,26 @@
 -- Squares that shield a king along the lines to it, and moves that can't expose it (own).
 use Rattle.std.specs.Prelude.{ℕ, Bool, true, false, ◌&&◌, ◌||◌, ◌==◌, not, List, Option, Some, None, is_some}
 use Rattle.chess_core.specs.Squares.{is_square, some_square}
+pub use Rattle.chess_core.specs.Position.{is_fairy}
 use Rattle.chess_core.specs.Position.{Position, is_man, is_side, king_square, man_on, other}
 use Rattle.chess_core.specs.declared.man.Man.{Man}
 use Rattle.chess_core.specs.declared.man.Move.{Move}
 use Rattle.chess_core.specs.declared.man.Colour.{Colour}
 use Rattle.chess_core.specs.declared.man.Kind.{Kind}
-use Rattle.chess_core.specs.declared.man.Kind.TheVariants.{King, Queen, Rook, Bishop, Knight, Pawn, Grasshopper, Nightrider}
+use Rattle.chess_core.specs.declared.man.Kind.TheVariants.{Queen, Rook, Bishop, Grasshopper, Nightrider}
 use Rattle.chess_rules.specs.Play.{is_castling}
 use Rattle.std.specs.List.{list_any}
-use Rattle.chess_core.specs.Steps.{diagonal_steps, knight_steps, queen_steps, straight_steps}
+use Rattle.chess_core.specs.Steps.{diagonal_steps, gait_of, is_leaper, knight_steps, queen_steps, straight_steps}
 use Rattle.chess_core.specs.declared.step.Step.{Step}
 use Rattle.chess_rules.specs.ties.Lines.{is_ahead, is_on_some}
 use Rattle.chess_rules.specs.Reaches.{reaches, rides}
 use Rattle.chess_rules.specs.declared.shields.RiderLines.{RiderLines}
 use Rattle.chess_rules.specs.declared.shields.RiderLines.TheVariants.{Straight, Diagonal}
-use Rattle.chess_rules.specs.RuleSet.{RuleSet, is_circe}
+use Rattle.chess_rules.specs.RuleSet.{RuleSet, captures_do_more}
 
--- whether it is one of the two fairy kinds
-abbrev pub is_fairy : Kind → Bool
-is_fairy King = false
-is_fairy Queen = false
-is_fairy Rook = false
-is_fairy Bishop = false
-is_fairy Knight = false
-is_fairy Pawn = false
-is_fairy Grasshopper = true
-is_fairy Nightrider = true
+-- whether it is a fairy man that goes along lines: a rider or a hopper
+abbrev pub has_fairy_lines : Kind → Bool
+has_fairy_lines k = is_fairy k && not (is_leaper (gait_of k))
 
 -- a grasshopper or a nightrider of colour c stands on the board
 unfoldable pub has_fairy : List (Option Man) → Colour → Bool
@@ -98,7 +92,7 @@ rider_along Diagonal = Bishop
 unfoldable pub is_plain : RuleSet → Position → Man → Move → Bool
 is_plain rule p x m =
     not (is_castling x m) && not (is_square p.crossed m.to)
-    && not (is_circe rule && is_some (man_on p.men m.to))
+    && not (captures_do_more rule && is_some (man_on p.men m.to))
 
 -- the move of this man, if there is one, can't uncover the king of colour c
 abbrev pub cannot_expose_of : RuleSet → Position → Option Man → Colour → Move → Bool

@@ -12,7 +12,7 @@ use Rattle.chess_core.specs.declared.man.Man.{Man}
 use Rattle.chess_core.specs.declared.man.Move.{Move}
 use Rattle.chess_rules.specs.ties.Lines.{occupied_squares}
 use Rattle.chess_rules.specs.Play.{arriving_man, is_castling}
-use Rattle.chess_rules.specs.RuleSet.{RuleSet, is_circe}
+use Rattle.chess_rules.specs.RuleSet.{RuleSet, captures_do_more}
 use Rattle.chess_rules.specs.declared.sight.Sight.{Sight}
 
 -- the words are those of these men: of colour c stand just those of the men before whose squares are in a word
@@ -31,7 +31,7 @@ sight_after men a o b = record {
 
 -- nothing more changes by the move of x than that it goes and, if it captures, one man is gone
 abbrev pub is_simple : RuleSet → Man → Move → Bool → Bool
-is_simple rule x m captures = not (is_castling x m) && not (is_circe rule && captures)
+is_simple rule x m captures = not (is_castling x m) && not (captures_do_more rule && captures)
 
 -- x arrives on s by the move m, as a man of kind k
 abbrev pub is_arriving_as : Man → Move → Kind → ℕ → Bool

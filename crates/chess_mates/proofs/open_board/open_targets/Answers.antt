@@ -21,5 +21,5 @@ returns-in-Pawn c = search (rules, pawn_squares)
 pub returns-in-King : goal.returns-in-King
 returns-in-King c = search (rules, king_squares)
 
-pub returns-in-Grasshopper : goal.returns-in-Grasshopper
-returns-in-Grasshopper c = search (rules, every_square_on)
+pub returns-in_default : goal.returns-in_default
+returns-in_default c = search (rules, every_square_on)

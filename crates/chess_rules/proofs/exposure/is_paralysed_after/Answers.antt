@@ -3,8 +3,8 @@ use Rattle.chess_rules.proofs.Chess.{is_paralysed}
 use Rattle.chess_rules.proofs.attacks.Exposing.{faced_king, none_paralysed, paralysed_by}
 use Rattle.chess_rules.proofs.exposure.is_paralysed_after.Goals as goal
 
-pub returns-then-not-is_madrasi : goal.returns-then-not-is_madrasi
-returns-then-not-is_madrasi g c = search (rules, none_paralysed)
+pub returns-then-not-faced_men_stand_still : goal.returns-then-not-faced_men_stand_still
+returns-then-not-faced_men_stand_still g c = search (rules, none_paralysed)
 
 pub returns-then-not-is : goal.returns-then-not-is
 returns-then-not-is g c = λ men are side.
