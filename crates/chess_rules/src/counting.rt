@@ -10,7 +10,7 @@ ghost use Rattle.chess_rules.specs.ties.Places.{moves_between};
 ghost use Rattle.chess_rules.specs.ties.Shields.{may_expose};
 ghost use Rattle.chess_rules.specs.ties.Targets.{AreCandidates, AreKept, arrives};
 
-use crate::evasions::rebirth_captures;
+use crate::evasions::eventful_captures;
 use crate::legal::is_legal;
 use crate::legal_moves::{Known, candidates, own_origins};
 use crate::moves::triple;
@@ -59,7 +59,7 @@ fn unsure_squares<R: Rules>(board: &Board, man: Man) -> u64
 {
     fairy_lines(board, board.turn())
         | only(board.crossed())
-        | rebirth_captures::<R>(board)
+        | eventful_captures::<R>(board)
         | promoting_squares(man)
 }
 

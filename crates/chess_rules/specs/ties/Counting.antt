@@ -5,7 +5,7 @@ use Rattle.chess_core.specs.Position.{Position, man_on}
 use Rattle.chess_core.specs.Squares.{is_square}
 use Rattle.chess_core.specs.declared.man.Man.{Man}
 use Rattle.chess_rules.specs.Legal.{is_legal}
-use Rattle.chess_rules.specs.RuleSet.{RuleSet, is_circe}
+use Rattle.chess_rules.specs.RuleSet.{RuleSet, captures_do_more}
 use Rattle.chess_rules.specs.ties.Shields.{may_stand_between}
 use Rattle.chess_rules.specs.ties.Targets.{arrives}
 
@@ -14,7 +14,7 @@ use Rattle.chess_rules.specs.ties.Targets.{arrives}
 unfoldable pub is_unsure : RuleSet → Position → Man → ℕ → Bool
 is_unsure rule p x t =
     may_stand_between p.men p.turn t || is_square p.crossed t
-    || (is_circe rule && is_some (man_on p.men t)) || arrives x t
+    || (captures_do_more rule && is_some (man_on p.men t)) || arrives x t
 
 -- the man on s goes to each square of the word by a legal move, without a promotion
 pub record AreLegal (rule : RuleSet) (p : Position) (s w : ℕ) : Type 0 where
