@@ -109,6 +109,7 @@ pub(crate) fn evasions_from<R: Rules>(board: &Board, evasion_squares: u64, from:
 
 // Whether the mover isn't in check after the move; `squares` are those from which one may expose its
 // king, and `evasion_squares` those to which one may go that ends a check. The board is unchanged after it.
+#[inline(always)]
 pub(crate) fn is_safe<R: Rules>(
     board: &mut Board,
     squares: u64,

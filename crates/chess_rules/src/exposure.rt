@@ -141,6 +141,7 @@ fn exposes_unplayed<R: Rules>(board: &Board, m: &Move) -> Option<bool>
 }
 
 // Whether the move leaves its mover in check. The board is unchanged after it.
+#[inline(always)]
 pub(crate) fn exposes<R: Rules>(board: &mut Board, m: Move) -> bool
     requires well_formed { IsWellFormed board.old }
     requires pseudo { is_pseudo_legal R.rule board.old m ≡ true }

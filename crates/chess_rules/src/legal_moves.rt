@@ -293,6 +293,7 @@ impl Sought for Known {
         candidates::<R>(board, self.evasion_squares, from)
     }
 
+    #[inline(always)]
     fn is_found<R: Rules>(&self, board: &mut Board, m: Move) -> bool {
         is_legal::<R>(board, self.shield_squares, self.evasion_squares, m)
     }
@@ -322,14 +323,18 @@ impl<'a, S: Sift> Sought for Sifted<'a, S> {
         own_origins::<R>(board)
     }
 
-    #[tactic(auto, using(crate::proofs::listing_moves::Sifting::wanted_candidates))]
+    #[tactic(auto, using(crate::proofs::listing_moves::Sifting::wanted_candidates, std::proofs::lemmas::Bool::and_left))]
     fn candidates<R: Rules>(&self, board: &Board, from: Square) -> u64 {
         let squares = candidates::<R>(board, self.known.evasion_squares, from);
+        if squares == 0 {
+            return 0;
+        }
         squares & self.sift.sift::<R>(board, from, squares)
     }
 
     fn is_found<R: Rules>(&self, board: &mut Board, m: Move) -> bool {
-        self.known.is_found::<R>(board, m)
+        let known = &self.known;
+        is_legal::<R>(board, known.shield_squares, known.evasion_squares, m)
     }
 
     ghost idle = { λ rule p m h. is_wanted-idle rule p (S.test rule p) m h };
