@@ -1,5 +1,5 @@
 -- Moves of which it is known without a look that they are legal (own).
-use Rattle.std.specs.Prelude.{◌≡◌, ◌<◌, ◌==◌, ◌&&◌, ◌||◌, ℕ, Bool, None, is_some, true}
+use Rattle.std.specs.Prelude.{◌≡◌, ◌<◌, ◌==◌, ◌&&◌, ◌||◌, ℕ, Bool, None, Some, false, is_some, true}
 use Rattle.std.specs.Int.{bit_at}
 use Rattle.chess_core.specs.Position.{Position, man_on}
 use Rattle.chess_core.specs.Squares.{is_square}
@@ -16,7 +16,10 @@ is_unsure rule p x t =
     may_stand_between p.men p.turn t || is_square p.crossed t
     || (is_circe rule && is_some (man_on p.men t)) || arrives x t
 
--- the man on s goes to each square of the word by a legal move, without a promotion
+-- the man on s goes to each square of the word by a legal move, and isn't promoted there
 pub record AreLegal (rule : RuleSet) (p : Position) (s w : ℕ) : Type 0 where
+  pub man : Man
+  pub here : man_on p.men s ≡ Some man
+  pub unpromoted : (t : ℕ) → t < 64 → (bit_at w t == 1) ≡ true → arrives man t ≡ false
   pub to : (t : ℕ) → t < 64 → (bit_at w t == 1) ≡ true
       → is_legal rule p (record { from = s; to = t; promo = None }) ≡ true
