@@ -5,8 +5,7 @@ ghost use Rattle.chess_core.specs.WellFormed.{IsWellFormed};
 ghost use Rattle.chess_core.specs.ties.Words.{word};
 ghost use Rattle.chess_core.specs.Squares.{rank_of};
 ghost use Rattle.chess_rules.specs.Legal.{is_legal, last_rank};
-ghost use Rattle.chess_rules.specs.ties.Counting.{AreLegal, is_unsure};
-ghost use Rattle.chess_rules.specs.ties.Evasions.{AreEvasions};
+ghost use Rattle.chess_rules.specs.ties.Counting.{AreLegal, IsKnownIn, is_unsure};
 ghost use Rattle.chess_rules.specs.ties.Places.{moves_between};
 ghost use Rattle.chess_rules.specs.ties.Shields.{may_expose};
 ghost use Rattle.chess_rules.specs.ties.Targets.{AreCandidates, AreKept, arrives};
@@ -111,8 +110,7 @@ fn count_one_by_one<R: Rules>(
     end: u16,
 ) -> u16
     requires well_formed { IsWellFormed board.old }
-    requires shield_squares { known.shield_squares ≡ word (may_expose board.old.men board.old.turn) }
-    requires evasion_squares { AreEvasions R.rule board.old.men board.old.turn known.evasion_squares }
+    requires known { IsKnownIn R.rule board.old known }
     requires squares { AreCandidates R.rule board.old (is_legal R.rule board.old) from squares }
     requires start { start ≤ end }
     requires end { end ≤ 448 }
@@ -142,8 +140,7 @@ fn count_origin<R: Rules>(
     end: u16,
 ) -> u16
     requires well_formed { IsWellFormed board.old }
-    requires shield_squares { known.shield_squares ≡ word (may_expose board.old.men board.old.turn) }
-    requires evasion_squares { AreEvasions R.rule board.old.men board.old.turn known.evasion_squares }
+    requires known { IsKnownIn R.rule board.old known }
     requires squares { AreCandidates R.rule board.old (is_legal R.rule board.old) from squares }
     requires start { start ≤ end }
     requires end { end ≤ 448 }
@@ -161,7 +158,7 @@ fn count_origin<R: Rules>(
 // The squares to which the man on `from` may go by a legal move, and perhaps more: as kept, if they are.
 fn squares_from<R: Rules>(board: &Board, known: Known, kept: &Kept, from: Square) -> u64
     requires well_formed { IsWellFormed board.now }
-    requires evasion_squares { AreEvasions R.rule board.now.men board.now.turn known.evasion_squares }
+    requires known { IsKnownIn R.rule board.now known }
     requires kept { AreKept R.rule board.now (is_legal R.rule board.now) kept.now }
     ensures { AreCandidates R.rule board.now (is_legal R.rule board.now) from result }
 {
@@ -183,8 +180,7 @@ pub(crate) fn count_between<R: Rules>(
     end: u16,
 ) -> u16
     requires well_formed { IsWellFormed board.old }
-    requires shield_squares { known.shield_squares ≡ word (may_expose board.old.men board.old.turn) }
-    requires evasion_squares { AreEvasions R.rule board.old.men board.old.turn known.evasion_squares }
+    requires known { IsKnownIn R.rule board.old known }
     requires kept { AreKept R.rule board.old (is_legal R.rule board.old) kept.now }
     ensures count { result ≡ length (moves_between R.rule board.old start end) }
     ensures board { board.new ≡ board.old }

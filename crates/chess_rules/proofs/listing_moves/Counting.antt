@@ -20,7 +20,8 @@ bit_is n less = grind arith
 -- the squares of a word from one on: that one, if the word has it, and those behind it
 ones_from : (w t : ℕ) → count_ones (w / 2 ^ t) ≡ from_bool (bit_at w t == 1) + count_ones (w / 2 ^ (t + 1))
 ones_from w t =
-    ones_step (w / 2 ^ t) ∙ ap (λ n. bit_at w t + count_ones n) (shr-shr w t 1) ∙ ap (λ n. n + count_ones (w / 2 ^ (t + 1))) (bit_is (bit_at w t) (bit_at-lt w t))
+    ones_step (w / 2 ^ t) ∙ ap (λ n. bit_at w t + count_ones n) (shr-shr w t 1)
+    ∙ ap (λ n. n + count_ones (w / 2 ^ (t + 1))) (bit_is (bit_at w t) (bit_at-lt w t))
 
 -- behind the last square there is none
 pub none_from : (w t : ℕ) → w < 2 ^ 64 → 64 ≤ t → 0 ≡ count_ones (w / 2 ^ t)
@@ -124,7 +125,8 @@ module _ (rule : RuleSet) (p : Position) where
         | inr ne ↦ let t : (a + 1 + 6) / 7 ≡ (a + 6) / 7 = omega (arith, ne) in rw (t, differs (a % 7) 0 ne) (omega arith)
       ]
 
-      counted : (n a b : ℕ) → b ≡ a + n → b ≤ 448 → between (448 * s + a) (448 * s + b) + count_ones (w / 2 ^ ((b + 6) / 7)) ≡ count_ones (w / 2 ^ ((a + 6) / 7))
+      counted : (n a b : ℕ) → b ≡ a + n → b ≤ 448
+          → between (448 * s + a) (448 * s + b) + count_ones (w / 2 ^ ((b + 6) / 7)) ≡ count_ones (w / 2 ^ ((a + 6) / 7))
       counted zero a b e le = let same : b ≡ a = omega (arith, e) in rw same (omega (arith, none_left (448 * s + a) (448 * s + a) (omega arith)))
       counted (suc n) a b e le =
           omega (
@@ -136,7 +138,8 @@ module _ (rule : RuleSet) (p : Position) where
           )
 
       -- where all are legal, the squares of the word are counted
-      pub count_by_word : (a b : ℕ) → a ≤ b → b ≤ 448 → between (448 * s + a) (448 * s + b) + count_ones (w / 2 ^ ((b + 6) / 7)) ≡ count_ones (w / 2 ^ ((a + 6) / 7))
+      pub count_by_word : (a b : ℕ) → a ≤ b → b ≤ 448
+          → between (448 * s + a) (448 * s + b) + count_ones (w / 2 ^ ((b + 6) / 7)) ≡ count_ones (w / 2 ^ ((a + 6) / 7))
       count_by_word a b le hi = counted (b - a) a b (omega (arith, le)) hi
 
 -- for the walk from origin to origin

@@ -3,11 +3,19 @@ use Rattle.std.specs.Prelude.{◌≡◌, ◌<◌, ◌==◌, ◌&&◌, ◌||◌, 
 use Rattle.std.specs.Int.{bit_at}
 use Rattle.chess_core.specs.Position.{Position, man_on}
 use Rattle.chess_core.specs.Squares.{is_square}
+use Rattle.chess_core.specs.ties.Words.{word}
 use Rattle.chess_core.specs.declared.man.Man.{Man}
 use Rattle.chess_rules.specs.Legal.{is_legal}
 use Rattle.chess_rules.specs.RuleSet.{RuleSet, is_circe}
-use Rattle.chess_rules.specs.ties.Shields.{may_stand_between}
+use Rattle.chess_rules.specs.declared.legal_moves.Known.{Known}
+use Rattle.chess_rules.specs.ties.Evasions.{AreEvasions}
+use Rattle.chess_rules.specs.ties.Shields.{may_expose, may_stand_between}
 use Rattle.chess_rules.specs.ties.Targets.{arrives}
+
+-- what is known of a position is so of this one
+pub record IsKnownIn (rule : RuleSet) (p : Position) (k : Known) : Type 0 where
+  pub shield_squares : k.shield_squares ≡ word (may_expose p.men p.turn)
+  pub evasion_squares : AreEvasions rule p.men p.turn k.evasion_squares
 
 -- what another man than the king does on t may be more than to stand there: he comes on a line to his king with an
 -- enemy fairy man, captures en passant, or in Circe captures a man who is reborn, or is promoted
