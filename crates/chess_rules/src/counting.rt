@@ -3,9 +3,9 @@ ghost use Rattle.std.specs.Prelude.{◌≡◌, ◌*◌, ◌+◌, ◌/◌, ◌^�
 ghost use Rattle.std.specs.Int.{bit_at};
 ghost use Rattle.chess_core.specs.WellFormed.{IsWellFormed};
 ghost use Rattle.chess_core.specs.ties.Words.{word};
-ghost use Rattle.chess_rules.specs.Legal.{is_legal};
-ghost use Rattle.chess_rules.specs.ties.Counting.{AreLegal, is_unsure};
-ghost use Rattle.chess_rules.specs.ties.Evasions.{AreEvasions};
+ghost use Rattle.chess_core.specs.Squares.{rank_of};
+ghost use Rattle.chess_rules.specs.Legal.{is_legal, last_rank};
+ghost use Rattle.chess_rules.specs.ties.Counting.{AreLegal, IsKnownIn, is_unsure};
 ghost use Rattle.chess_rules.specs.ties.Places.{moves_between};
 ghost use Rattle.chess_rules.specs.ties.Shields.{may_expose};
 ghost use Rattle.chess_rules.specs.ties.Targets.{AreCandidates, AreKept, arrives};
@@ -23,6 +23,7 @@ use chess_core::man::{Colour, Kind, Man};
 use chess_core::square::Square;
 
 // How many squares the word has from the one with this number on.
+#[tactic(auto, using(crate::proofs::listing_moves::Counting::none_from))]
 fn count_from(word: u64, from: u8) -> u16
     ensures value { result ≡ count_ones (word / 2 ^ from) }
     ensures small { result ≤ 64 }
@@ -33,21 +34,26 @@ fn count_from(word: u64, from: u8) -> u16
     (word >> from).count_ones() as u16
 }
 
-const FIRST_RANK: u64 = 0xff;
-
-const EIGHTH_RANK: u64 = 0xff00_0000_0000_0000;
+// The rank on which the colour's pawns are promoted.
+#[tactic(auto, unfolding(chess_core::specs::Squares::squares, chess_core::specs::ties::Words::word, chess_core::specs::ties::Words::word_of))]
+fn last_rank_squares(colour: Colour) -> u64
+    ensures { result ≡ word (λ t. rank_of t == last_rank colour) }
+{
+    match colour {
+        Colour::White => 0xff00_0000_0000_0000,
+        Colour::Black => 0xff,
+    }
+}
 
 // The squares on which this man is promoted, if he is a pawn.
-#[tactic(auto, using(crate::proofs::listing_moves::SurelyLegal::promoting_black, crate::proofs::listing_moves::SurelyLegal::promoting_none, crate::proofs::listing_moves::SurelyLegal::promoting_white))]
+#[tactic(auto, using(crate::proofs::listing_moves::SurelyLegal::promotion_words))]
 fn promoting_squares(man: Man) -> u64
     ensures { result ≡ word (arrives man) }
 {
-    if !man.kind.is(Kind::Pawn) {
-        return 0;
-    }
-    match man.colour {
-        Colour::White => EIGHTH_RANK,
-        Colour::Black => FIRST_RANK,
+    if man.kind.is(Kind::Pawn) {
+        last_rank_squares(man.colour)
+    } else {
+        0
     }
 }
 
@@ -65,6 +71,7 @@ fn unsure_squares<R: Rules>(board: &Board, man: Man) -> u64
 
 // Whether each move of the man on `from` to one of these squares is surely legal, without a promotion.
 // `shield_squares` are those from which a move may expose the mover's king.
+#[tactic(auto, using(crate::proofs::listing_moves::SurelyLegal::surely_legal))]
 fn are_surely_legal<R: Rules>(
     board: &Board,
     shield_squares: u64,
@@ -93,6 +100,7 @@ fn are_surely_legal<R: Rules>(
 // How many legal moves the man on `from` has among his triples numbered from `start` on and below `end`, each
 // counted from the origin's first; each is looked at. `squares` are those to which he may go. The board is
 // unchanged.
+#[tactic(auto, using(crate::proofs::listing_moves::Counting::by_triples))]
 fn count_one_by_one<R: Rules>(
     board: &mut Board,
     known: Known,
@@ -102,8 +110,7 @@ fn count_one_by_one<R: Rules>(
     end: u16,
 ) -> u16
     requires well_formed { IsWellFormed board.old }
-    requires shield_squares { known.shield_squares ≡ word (may_expose board.old.men board.old.turn) }
-    requires evasion_squares { AreEvasions R.rule board.old.men board.old.turn known.evasion_squares }
+    requires known { IsKnownIn R.rule board.old known }
     requires squares { AreCandidates R.rule board.old (is_legal R.rule board.old) from squares }
     requires start { start ≤ end }
     requires end { end ≤ 448 }
@@ -123,6 +130,7 @@ fn count_one_by_one<R: Rules>(
 }
 
 // The same, where all are surely legal without looking at them.
+#[tactic(auto, using(crate::proofs::listing_moves::Counting::count_by_word))]
 fn count_origin<R: Rules>(
     board: &mut Board,
     known: Known,
@@ -132,8 +140,7 @@ fn count_origin<R: Rules>(
     end: u16,
 ) -> u16
     requires well_formed { IsWellFormed board.old }
-    requires shield_squares { known.shield_squares ≡ word (may_expose board.old.men board.old.turn) }
-    requires evasion_squares { AreEvasions R.rule board.old.men board.old.turn known.evasion_squares }
+    requires known { IsKnownIn R.rule board.old known }
     requires squares { AreCandidates R.rule board.old (is_legal R.rule board.old) from squares }
     requires start { start ≤ end }
     requires end { end ≤ 448 }
@@ -142,8 +149,8 @@ fn count_origin<R: Rules>(
     ensures board { board.new ≡ board.old }
 {
     if are_surely_legal::<R>(board, known.shield_squares, from, squares) {
-        return count_from(squares, ((start + 6) / 7) as u8)
-            - count_from(squares, ((end + 6) / 7) as u8);
+        let behind = count_from(squares, ((end + 6) / 7) as u8);
+        return count_from(squares, ((start + 6) / 7) as u8).saturating_sub(behind);
     }
     count_one_by_one::<R>(board, known, squares, from, start, end)
 }
@@ -151,7 +158,7 @@ fn count_origin<R: Rules>(
 // The squares to which the man on `from` may go by a legal move, and perhaps more: as kept, if they are.
 fn squares_from<R: Rules>(board: &Board, known: Known, kept: &Kept, from: Square) -> u64
     requires well_formed { IsWellFormed board.now }
-    requires evasion_squares { AreEvasions R.rule board.now.men board.now.turn known.evasion_squares }
+    requires known { IsKnownIn R.rule board.now known }
     requires kept { AreKept R.rule board.now (is_legal R.rule board.now) kept.now }
     ensures { AreCandidates R.rule board.now (is_legal R.rule board.now) from result }
 {
@@ -164,6 +171,7 @@ fn squares_from<R: Rules>(board: &Board, known: Known, kept: &Kept, from: Square
 
 // How many legal moves there are among the triples numbered from `start` on and below `end`. The board is
 // unchanged.
+#[tactic(auto, using(crate::proofs::listing_moves::Counting::by_origins))]
 pub(crate) fn count_between<R: Rules>(
     board: &mut Board,
     known: Known,
@@ -172,10 +180,8 @@ pub(crate) fn count_between<R: Rules>(
     end: u16,
 ) -> u16
     requires well_formed { IsWellFormed board.old }
-    requires shield_squares { known.shield_squares ≡ word (may_expose board.old.men board.old.turn) }
-    requires evasion_squares { AreEvasions R.rule board.old.men board.old.turn known.evasion_squares }
+    requires known { IsKnownIn R.rule board.old known }
     requires kept { AreKept R.rule board.old (is_legal R.rule board.old) kept.now }
-    requires end { end ≤ 28672 }
     ensures count { result ≡ length (moves_between R.rule board.old start end) }
     ensures board { board.new ≡ board.old }
 {
@@ -187,12 +193,9 @@ pub(crate) fn count_between<R: Rules>(
             return count;
         };
         let first = u16::from(from.index()) * PER_ORIGIN;
-        if end <= first {
-            return count;
-        }
         let squares = squares_from::<R>(board, known, kept, from);
         let begin = number.saturating_sub(first);
-        let stop = (end - first).min(PER_ORIGIN);
+        let stop = end.saturating_sub(first).min(PER_ORIGIN);
         count += count_origin::<R>(board, known, squares, from, begin, stop);
         number = first + PER_ORIGIN;
     }

@@ -227,8 +227,7 @@ impl<R: Rules> LegalMoves<R> {
             shield_squares: self.shield_squares,
             evasion_squares: self.evasion_squares,
         };
-        let stop = end.number().min(TRIPLES);
-        count_between::<R>(board, known, &self.targets, self.passed, stop)
+        count_between::<R>(board, known, &self.targets, self.passed, end.number())
     }
 }
 

@@ -1,6 +1,6 @@
 -- Moves that are legal without a look.
 use Rattle.chess_rules.proofs.Basics.{Bool, None, Some, and_from, ap, if◌then◌else◌, refl, bit_or, and_left, bit_and, bit_at, eqb-true, false, is_some, not, or_parts, rules, sym, true, ℕ, ◌&&◌, ◌<◌, ◌==◌, ◌∙◌, ◌≡◌}
-use Rattle.chess_rules.proofs.Chess.{AreCandidates, IsAimed, IsWellFormed, King, Man, Move, Pawn, Position, RuleSet, arrives, is_circe, is_legal, is_plain, is_square, man_on, may_expose, may_stand_between, rank_of, same_kind, squares, squares_either, squares_same, word, word_of, Black, White}
+use Rattle.chess_rules.proofs.Chess.{AreCandidates, IsAimed, IsWellFormed, King, Man, Move, Pawn, Position, RuleSet, arrives, is_circe, is_legal, is_plain, is_square, last_rank, man_on, may_expose, may_stand_between, rank_of, same_kind, squares_either, squares_same, word}
 use Rattle.chess_rules.proofs.Bits.{word_empty, word_has}
 use Rattle.chess_rules.proofs.attacks.Shielding.{cannot_expose_own}
 use Rattle.chess_rules.proofs.listing_moves.Arrivals.{aimed_plain, goes_on, may_go_aimed}
@@ -20,18 +20,22 @@ pub surely_legal : (rule : RuleSet) (p : Position) (x : Man) (s w v u : ℕ) →
     → AreCandidates rule p (is_legal rule p) s w → same_kind x.kind King ≡ false → v ≡ word (may_expose p.men p.turn) → (bit_at v s == 1) ≡ false
     → u ≡ word (is_unsure rule p x) → (bit_and w u == 0) ≡ true → AreLegal rule p s w
 unfolding is_legal
-surely_legal rule p x s w v u well here small are piece shields unshielding unsure none = record {
-  to = λ t lt on.
-      let m : Move = record { from = s; to = t; promo = None } in
-      let zero : bit_and w u ≡ 0 = eqb-true (bit_and w u) 0 none in
-      let off = off_second w u t (rw zero (off_zero t)) on in
-      let parts = sure_unexposed rule p x m here piece (sym (word_has (may_expose p.men p.turn) v s shields small) ∙ unshielding)
-      (sym (word_has (is_unsure rule p x) u t unsure lt) ∙ off) in
-      let aimed : IsAimed rule p m = record { man = x; here = here; arrival = are.inside t lt on; promotion = sym parts.1 } in
-      let goes = goes_on rule p x m here (may_go_aimed rule p x m here (are.inside t lt on)) (and_left _ _ piece) in
-      let may = sym (goes ∙ aimed_plain rule p m x aimed refl here) in
-      and_from _ _ may (ap not (cannot_expose_own rule p m well may lt parts.0));
-}
+surely_legal rule p x s w v u well here small are piece shields unshielding unsure none =
+    let zero : bit_and w u ≡ 0 = eqb-true (bit_and w u) 0 none in
+    let parts = λ (t : ℕ) (lt : t < 64) (on : (bit_at w t == 1) ≡ true). sure_unexposed rule p x (record { from = s; to = t; promo = None }) here piece
+    (sym (word_has (may_expose p.men p.turn) v s shields small) ∙ unshielding)
+    (sym (word_has (is_unsure rule p x) u t unsure lt) ∙ off_second w u t (rw zero (off_zero t)) on) in
+    record {
+      man = x;
+      here = here;
+      unpromoted = λ t lt on. (parts t lt on).1;
+      to = λ t lt on.
+          let m : Move = record { from = s; to = t; promo = None } in
+          let aimed : IsAimed rule p m = record { man = x; here = here; arrival = are.inside t lt on; promotion = sym (parts t lt on).1 } in
+          let goes = goes_on rule p x m here (may_go_aimed rule p x m here (are.inside t lt on)) (and_left _ _ piece) in
+          let may = sym (goes ∙ aimed_plain rule p m x aimed refl here) in
+          and_from _ _ may (ap not (cannot_expose_own rule p m well may lt (parts t lt on).0));
+    }
 
 reborn_word : (b : Bool) (test : ℕ → Bool) → (if b then word test else 0) ≡ word (λ t. b && test t)
 reborn_word true test = refl
@@ -44,22 +48,13 @@ pub unsure_word : (rule : RuleSet) (p : Position) (x : Man) (f c r l : ℕ) → 
 unfolding is_unsure
 unsure_word rule p x f c r l hf hc hr hl = search (rules, reborn_word, squares_either)
 
-eighth_rank : 18374686479671623680 ≡ word (λ t. rank_of t == 8)
-unfolding word squares word_of
-eighth_rank = refl
-
-first_rank : 255 ≡ word (λ t. rank_of t == 1)
-unfolding word squares word_of
-first_rank = refl
-
--- the squares on which a white pawn is promoted
-pub promoting_white : (x : Man) → same_kind x.kind Pawn ≡ true → x.colour ≡ White → 18374686479671623680 ≡ word (arrives x)
-promoting_white x pawn white = eighth_rank ∙ squares_same _ _ (λ t lt. rw (pawn, white) refl)
-
--- and a black one
-pub promoting_black : (x : Man) → same_kind x.kind Pawn ≡ true → x.colour ≡ Black → 255 ≡ word (arrives x)
-promoting_black x pawn black = first_rank ∙ squares_same _ _ (λ t lt. rw (pawn, black) refl)
+-- the squares on which a pawn is promoted
+pub promoting_word : (x : Man) (n : ℕ) → same_kind x.kind Pawn ≡ true → n ≡ word (λ t. rank_of t == last_rank x.colour) → n ≡ word (arrives x)
+promoting_word x n pawn h = h ∙ squares_same _ _ (λ t lt. rw pawn refl)
 
 -- another man is promoted nowhere
 pub promoting_none : (x : Man) → same_kind x.kind Pawn ≡ false → 0 ≡ word (arrives x)
 promoting_none x none = word_empty (arrives x) (λ t lt. no_pawn_arrives x t none)
+
+-- for the word of these squares
+pub ruleset promotion_words = (promoting_none, promoting_word)

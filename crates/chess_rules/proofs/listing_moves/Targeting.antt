@@ -70,8 +70,7 @@ pub no_promotion_here : (rule : RuleSet) (p : Position) (x : Man) (m : Move) (k 
 no_promotion_here rule p x m k here e h =
     false_by (is_pseudo_legal rule p m) (λ y. let t = unpromoted p x m m.promo k (made rule p m x y here).promotion e in cc)
 
--- on the last one must be
-pub promotion_missing : (rule : RuleSet) (p : Position) (x : Man) (m : Move) → man_on p.men m.from ≡ Some x → m.promo ≡ None → arrives x m.to ≡ true
+promotion_missing : (rule : RuleSet) (p : Position) (x : Man) (m : Move) → man_on p.men m.from ≡ Some x → m.promo ≡ None → arrives x m.to ≡ true
     → is_pseudo_legal rule p m ≡ false
 promotion_missing rule p x m here e h =
     false_by (is_pseudo_legal rule p m) (λ y. let t = promoted p x m m.promo (made rule p m x y here).promotion e in cc)

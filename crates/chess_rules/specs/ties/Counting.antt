@@ -1,13 +1,21 @@
 -- Moves of which it is known without a look that they are legal (own).
-use Rattle.std.specs.Prelude.{◌≡◌, ◌<◌, ◌==◌, ◌&&◌, ◌||◌, ℕ, Bool, None, is_some, true}
+use Rattle.std.specs.Prelude.{◌≡◌, ◌<◌, ◌==◌, ◌&&◌, ◌||◌, ℕ, Bool, None, Some, false, is_some, true}
 use Rattle.std.specs.Int.{bit_at}
 use Rattle.chess_core.specs.Position.{Position, man_on}
 use Rattle.chess_core.specs.Squares.{is_square}
+use Rattle.chess_core.specs.ties.Words.{word}
 use Rattle.chess_core.specs.declared.man.Man.{Man}
 use Rattle.chess_rules.specs.Legal.{is_legal}
 use Rattle.chess_rules.specs.RuleSet.{RuleSet, captures_do_more}
-use Rattle.chess_rules.specs.ties.Shields.{may_stand_between}
+use Rattle.chess_rules.specs.declared.legal_moves.Known.{Known}
+use Rattle.chess_rules.specs.ties.Evasions.{AreEvasions}
+use Rattle.chess_rules.specs.ties.Shields.{may_expose, may_stand_between}
 use Rattle.chess_rules.specs.ties.Targets.{arrives}
+
+-- what is known of a position is so of this one
+pub record IsKnownIn (rule : RuleSet) (p : Position) (k : Known) : Type 0 where
+  pub shield_squares : k.shield_squares ≡ word (may_expose p.men p.turn)
+  pub evasion_squares : AreEvasions rule p.men p.turn k.evasion_squares
 
 -- what another man than the king does on t may be more than to stand there: he comes on a line to his king with an
 -- enemy fairy man, captures en passant, or in Circe captures a man who is reborn, or is promoted
@@ -16,7 +24,10 @@ is_unsure rule p x t =
     may_stand_between p.men p.turn t || is_square p.crossed t
     || (captures_do_more rule && is_some (man_on p.men t)) || arrives x t
 
--- the man on s goes to each square of the word by a legal move, without a promotion
+-- the man on s goes to each square of the word by a legal move, and isn't promoted there
 pub record AreLegal (rule : RuleSet) (p : Position) (s w : ℕ) : Type 0 where
+  pub man : Man
+  pub here : man_on p.men s ≡ Some man
+  pub unpromoted : (t : ℕ) → t < 64 → (bit_at w t == 1) ≡ true → arrives man t ≡ false
   pub to : (t : ℕ) → t < 64 → (bit_at w t == 1) ≡ true
       → is_legal rule p (record { from = s; to = t; promo = None }) ≡ true

@@ -1,4 +1,4 @@
-use Rattle.chess_rules.proofs.Basics.{length, ◌+◌, ◌-◌, ◌≡◌}
+use Rattle.chess_rules.proofs.Basics.{length, ◌+◌, ◌-◌, ◌≡◌, ◌≤◌}
 use Rattle.chess_rules.proofs.Chess.{moves_between}
 use Rattle.chess_rules.proofs.counting.count_between.Given as goal
 
@@ -6,6 +6,7 @@ use Rattle.chess_rules.proofs.counting.count_between.Given as goal
 abbrev pub invariant-loop-number : goal.invariant-loop-number
 invariant-loop-number g l = record {
   board : l.board ≡ l.fn.board;
+  few : l.count ≤ l.number;
   all : l.count + length (moves_between g.R.Rules.rule l.fn.board l.number l.end) ≡ length (moves_between g.R.Rules.rule l.fn.board l.fn.start l.end);
 }
 

@@ -1,11 +1,8 @@
-use Rattle.chess_rules.proofs.Basics.{arith, sym, ◌*◌, ◌+◌, ◌∙◌, ◌≡◌}
+use Rattle.chess_rules.proofs.Basics.{arith, refl, sym, ◌*◌, ◌+◌, ◌∙◌, ◌≡◌}
 use Rattle.chess_rules.proofs.Chess.{is_legal}
-use Rattle.chess_rules.proofs.listing_moves.Counting.{count_barren, count_here, few_between, none_left}
+use Rattle.chess_rules.proofs.listing_moves.Counting.{count_barren, count_here}
 use Rattle.chess_rules.proofs.listing_moves.Walks.{aimed_from}
 use Rattle.chess_rules.proofs.counting.count_one_by_one.Goals as goal
-
-pub loop-at-init : goal.loop-at-init
-loop-at-init g c = grind (arith, count_barren)
 
 pub is_legal-requires-clause-aimed : goal.is_legal-requires-clause-aimed
 is_legal-requires-clause-aimed g c =
@@ -13,14 +10,12 @@ is_legal-requires-clause-aimed g c =
     rw (c.loop-at.invariant.board, c.triple-m.ensures, at) (aimed_from g.R.Rules.rule c.args.board.now (is_legal g.R.Rules.rule c.args.board.now)
     c.args.from c.args.squares c.loop-at.at (omega arith) c.requires.squares (c.loop-at.invariant.named (omega arith)))
 
-pub overflow_add-count : goal.overflow_add-count
-overflow_add-count g c = grind (arith, count_here, few_between)
-
 pub loop-at-preserved : goal.loop-at-preserved
 loop-at-preserved g c =
     let rule = g.R.Rules.rule in
     let p = c.args.board.now in
     let s = c.args.from in
+    let end = 448 * s + c.args.end in
     let at : c.from-first.result * 448 ≡ 448 * s = omega (arith, c.from-first.ensures, c.index.ensures.value) in
     let answer = rw (c.loop-at.invariant.board, c.triple-m.ensures, at) at c.is_legal.ensures.answer in
     let next = rw (c.is_legal.ensures.board, c.loop-at.invariant.board) at c.next_from-at-in-loop-at.ensures in
@@ -30,12 +25,8 @@ loop-at-preserved g c =
       named = next.named;
       all = omega (
         arith,
-        count_here rule p s c.args.squares (omega arith) c.requires.squares c.loop-at.at (448 * s + c.args.end) c.is_legal.result (omega arith)
-            (omega arith) (sym answer),
-        count_barren rule p s c.args.squares (omega arith) c.requires.squares (c.loop-at.at + 1) c.next_from-at-in-loop-at.result
-            (448 * s + c.args.end) next.low next.high next.barren,
+        count_here rule p s c.args.squares (omega arith) c.requires.squares c.loop-at.at _ end c.is_legal.result (omega arith) refl (omega arith) (sym answer),
+        count_barren rule p s c.args.squares (omega arith) c.requires.squares (c.loop-at.at + 1) c.next_from-at-in-loop-at.result end next.low next.high
+            next.barren,
       );
     }
-
-pub returns-clause-count : goal.returns-clause-count
-returns-clause-count g c = grind (arith, none_left)
