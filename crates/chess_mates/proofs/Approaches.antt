@@ -12,6 +12,7 @@ use Rattle.chess_rules.proofs.Bits.{on_left, on_right}
 pub bit_down : (w k s : ℕ) → bit_at (w / 2 ^ k) s ≡ bit_at w (k + s)
 bit_down w k s = ap (λ x. x % 2) (shr-shr w k s)
 
+-- the same word moved up: its squares are so much higher
 pub bit_up : (w k s : ℕ) → k ≤ s → s < 64 → bit_at (w * 2 ^ k % 2 ^ 64) s ≡ bit_at w (s - k)
 bit_up w k s from small =
     let all = w * 2 ^ k in
@@ -81,6 +82,7 @@ unfolding along leaps
 over_next White s t p q = implied _ _ (pairs (λ s t. not (pawn_way White s t && is_far s t) || goes_over White s t) refl s t p q)
 over_next Black s t p q = implied _ _ (pairs (λ s t. not (pawn_way Black s t && is_far s t) || goes_over Black s t) refl s t p q)
 
+-- for double steps: the square halfway is the next one ahead
 pub goes_over_next : (p : Position) (c : Colour) (s t : ℕ) → s < 64 → t < 64 → may_go p (record { colour = c; kind = Pawn }) s t ≡ true → is_far s t ≡ true
     → (is_advance c s ((s + t) / 2) ≡ true) × (list_any (leaps s ((s + t) / 2)) queen_steps ≡ true)
 goes_over_next p c s t low high goes far = and_parts _ _ (over_next c s t low high (and_from _ _ (pawn_goes_so p c s t goes) far))
@@ -100,12 +102,14 @@ module _ (w s t : ℕ) (small : s < 64) (on : (bit_at w t == 1) ≡ true) where
       → (bit_at (bit_or (bit_or (bit_or (w * 2 ^ 7 % 2 ^ 64) (w * 2 ^ 8 % 2 ^ 64)) (w * 2 ^ 9 % 2 ^ 64)) (w * 2 ^ 16 % 2 ^ 64)) s == 1) ≡ true
   black_steps = on_either _ _ _ _ s (on_either _ _ _ _ s (on_either _ _ _ _ s (up 7) (up 8)) (up 9)) (up 16)
 
+-- for `pawns_before`, by the word moved down
 pub white_pawns_before : (w : ℕ) → AreApproaches (record { colour = White; kind = Pawn }) w
     (bit_or (bit_or (bit_or (w / 2 ^ 7) (w / 2 ^ 8)) (w / 2 ^ 9)) (w / 2 ^ 16))
 white_pawns_before w = record {
   approach = λ p s t small inside goes on. white_steps w s t small on (pawns_far White s t small inside (pawn_goes_so p White s t goes));
 }
 
+-- by the word moved up
 pub black_pawns_before : (w : ℕ) → AreApproaches (record { colour = Black; kind = Pawn }) w
     (bit_or (bit_or (bit_or (w * 2 ^ 7 % 2 ^ 64) (w * 2 ^ 8 % 2 ^ 64)) (w * 2 ^ 9 % 2 ^ 64)) (w * 2 ^ 16 % 2 ^ 64))
 black_pawns_before w = record {

@@ -346,6 +346,7 @@ module _ (rule : RuleSet) (p : Position) (x : Man) (m : Move) (well : IsWellForm
         false≢true (sym enemy_of ∙ ap (λ (w : Man). same_colour w.colour c) (sym same) ∙ (and_parts _ _ is_one).0) in
         ap (λ (o : Option Man). is_man o c King) (king_shift.others k y.0 one off_to) ∙ is_one
 
+    -- for castlings told by words: neither king nor rook gives check, nor is one uncovered
     pub castling_gives_no_check : in_check rule (position_after rule p m).men c ≡ false
     unfolding in_check king_square squares
     castling_gives_no_check = ap (λ (men : List (Option Man)). in_check rule men c) after_is ∙ by (king_square castled c) refl where
@@ -379,6 +380,7 @@ crossed_aside w s a t small are lt aside off =
           grind (arith, bit_down w 1 t, off_right up (w / 2 ^ 1) t off_both)
     ]
 
+-- for the word of castlings that may give check
 pub castling_targets_are : (v : CheckSquares) (s a : ℕ) → s < 64 → a ≡ word (is_aside s)
     → AreCastlingTargets v s (bit_and a (bit_or (v.straight * 2 ^ 1 % 2 ^ 64) (v.straight / 2 ^ 1)))
 castling_targets_are v s a small are = record { elsewhere = λ t lt aside off. crossed_aside v.straight s a t small are lt aside off }

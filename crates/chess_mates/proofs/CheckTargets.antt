@@ -125,6 +125,7 @@ module _ (rule : RuleSet) (p : Position) (x : Man) (s : CheckSquares) (f : ℕ) 
         grind (arith, no_check_elsewhere, off)
   ]
 
+  -- for a man who may check, uncover a check, castle, capture en passant or be followed by a rebirth: each by its own word
   pub check_targets_some : AreCheckTargets rule p f (bit_or (bit_or (bit_or (bit_or a b) c) d) e)
   check_targets_some = grind (arith, by_rule, is_pseudo_legal-from_legal, kings_apart)
 

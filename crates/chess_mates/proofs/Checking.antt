@@ -8,7 +8,7 @@ use Rattle.chess_rules.proofs.attacks.Shielding.{other_twice, arriving_colour, c
 use Rattle.chess_rules.proofs.making_moves.Pseudo.{made, on_board}
 
 -- a move that can't expose the enemy's king, and whose man doesn't strike him where he arrives, gives no check
-pub gives_no_check : (rule : RuleSet) (p : Position) (x : Man) (m : Move) → IsWellFormed p → is_pseudo_legal rule p m ≡ true → m.to < 64
+gives_no_check : (rule : RuleSet) (p : Position) (x : Man) (m : Move) → IsWellFormed p → is_pseudo_legal rule p m ≡ true → m.to < 64
     → man_on p.men m.from ≡ Some x
     → m.promo ≡ None → cannot_expose rule p (other p.turn) m ≡ true → may_check_from p.men (other p.turn) (arriving_man x m.promo) m.to ≡ false
     → in_check rule (position_after rule p m).men (other p.turn) ≡ false
@@ -17,15 +17,18 @@ gives_no_check rule p x m well may small here unpromoted h off =
     let parts = cannot_expose_parts rule p x (other p.turn) m here h in
     plain_safe rule p x m (other p.turn) well (made rule p m x may here) small parts.plain parts.origin parts.aside (grind (arith, or_parts, on_board))
 
+-- for `check_squares_of`: without a king nobody checks
 pub check_squares_of_none : (men : List (Option Man)) (c : Colour) (j : Kind) → king_square men c ≡ None → 0 ≡ word (may_check_from men c (enemy c j))
 unfolding may_check_from
 check_squares_of_none men c j h = word_empty (may_check_from men c (enemy c j)) (λ s b. ap (λ (o : Option ℕ). may_check_from_on men o (enemy c j) s) h)
 
+-- a fairy man of whom none stands there may check from everywhere
 pub check_squares_of_all : (men : List (Option Man)) (c : Colour) (j : Kind) (k : ℕ) → king_square men c ≡ Some k → is_absent men (enemy c j) ≡ true
     → bit_not w64 0 ≡ word (may_check_from men c (enemy c j))
 unfolding may_check_from
 check_squares_of_all men c j k at absent = grind (arith, every_square, or_left)
 
+-- another checks from where he would be reached from the king
 pub check_squares_of_some : (men : List (Option Man)) (c : Colour) (j : Kind) (k w : ℕ) → king_square men c ≡ Some k → is_absent men (enemy c j) ≡ false
     → w ≡ word (λ s. reaches_as men (other c) j s k) → w ≡ word (may_check_from men c (enemy c j))
 unfolding may_check_from
@@ -67,6 +70,7 @@ off_check_squares men e s y w t a colour h small off apart = elim (cases_Bool (s
       grind (arith, is_enemy, word_has)
 ]
 
+-- for moves that may uncover nothing, to a square off the words of check squares
 pub no_check : (rule : RuleSet) (p : Position) (x : Man) (m : Move) (s : CheckSquares) (y : Man) (w t : ℕ) → IsWellFormed p → is_pseudo_legal rule p m ≡ true
     → man_on p.men m.from ≡ Some x → AreCheckSquares p.men (other p.turn) s → y ≡ arriving_man x m.promo → w ≡ check_squares_for s y.kind → t ≡ m.to → t < 64
     → (bit_at w t == 1) ≡ false → (same_kind y.kind King ≡ true → may_check_from p.men (other p.turn) y t ≡ false) → m.promo ≡ None

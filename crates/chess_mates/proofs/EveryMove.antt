@@ -1,6 +1,6 @@
 -- Lists of legal moves of which one doesn't mate.
 use Rattle.chess_core.proofs.Ranges.{second_fails}
-use Rattle.chess_rules.proofs.Basics.{Bool, List, arith, false, list_all, not, refl, sym, true, ◌&&◌, ◌∷◌, ◌≡◌}
+use Rattle.chess_rules.proofs.Basics.{Bool, arith, false, not, sym, true, ◌&&◌, ◌≡◌}
 use Rattle.chess_mates.proofs.Chess.{Move, Position, RuleSet, in_check, is_legal, is_mating, mates, other, position_after}
 use Rattle.chess_rules.proofs.listing_moves.Calls.{is_pseudo_legal-from_legal}
 use Rattle.chess_mates.proofs.Mating.{no_mate_quietly}
@@ -11,9 +11,7 @@ pub quiet : (rule : RuleSet) (p : Position) (m : Move) → is_legal rule p m ≡
 unfolding mates
 quiet rule p m lawful calm = second_fails (is_legal rule p m) (is_mating rule p m) (sym (no_mate_quietly rule p m (λ h. calm))) lawful
 
-pub fails-here : (test : Move → Bool) (ms more : List Move) (m : Move) → ms ≡ m ∷ more → test m ≡ false → list_all test ms ≡ false
-fails-here test ms more m e h = rw (e, h) refl
-
+-- where all have not passed, it is not so that there are some and all pass
 pub none-all : (none all : Bool) → all ≡ false → false ≡ (not none && all)
 none-all none all p = grind arith
 

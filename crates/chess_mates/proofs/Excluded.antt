@@ -55,6 +55,7 @@ captures_with_rebirth_may_give_check w are = true_from_ne_false _ (λ e. false�
 abbrev hop_to_a_king : List (Option Man)
 hop_to_a_king = set_up (on Black King a1 ∷ on Black Pawn a2 ∷ on White Grasshopper h7 ∷ [])
 
+-- a grasshopper checks over a hurdle, and not without
 pub grasshopper_checks_over_a_hurdle : (may_check_from hop_to_a_king Black (enemy Black Grasshopper) a3 ≡ true)
     × (may_check_from hop_to_a_king Black (enemy Black Queen) a3 ≡ false)
     × (may_check_from hop_to_a_king Black (enemy Black Grasshopper) h1 ≡ false)

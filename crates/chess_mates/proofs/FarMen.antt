@@ -14,6 +14,7 @@ use Rattle.chess_rules.proofs.listing_moves.Calls.{is_pseudo_legal-from_legal}
 man_is : (o : Option Man) (c : Colour) (k : Kind) → is_man o c k ≡ true → o ≡ Some (record { colour = c; kind = k })
 man_is o c k h = search (rules, same_colour-true, same_kind-true)
 
+-- for men who are told by the word of their kind
 pub man_of_word : (men : _) (c : Colour) (k : Kind) (w s : ℕ) → w ≡ squares_of men c k → s < 64 → (bit_at w s == 1) ≡ true
     → man_on men s ≡ Some (record { colour = c; kind = k })
 unfolding squares_of
@@ -23,6 +24,7 @@ man_of_word men c k w s h small on = man_is (man_on men s) c k (sym (word_has (�
 pub record AreFar (rule : RuleSet) (p : Position) (w : ℕ) : Type 0 where
   pub far : (s : ℕ) → s < 64 → (bit_at w s == 1) ≡ true → AreCheckTargets rule p s 0
 
+-- to begin with: no man is far
 pub far_none : (rule : RuleSet) (p : Position) → AreFar rule p 0
 far_none rule p = record { far = λ s small on. absurd (let never = off_zero s in cc) }
 
@@ -38,6 +40,7 @@ on_either a b i h off = grind (arith, eqb-true, bit_at_or, unset, bit_at-lt, eq-
 pub off_denied : (a b i : ℕ) → b < 2 ^ 64 → i < 64 → (bit_at (bit_and a (bit_not w64 b)) i == 1) ≡ true → (bit_at b i == 1) ≡ false
 off_denied a b i fits small on = grind (arith, false_by, eqb-true _ _ on, eqb-true, bit_at_not w64 b i fits small, bit_at_and a (bit_not w64 b) i)
 
+-- to join words of men who are far
 pub far_either : (rule : RuleSet) (p : Position) (a b : ℕ) → AreFar rule p a → AreFar rule p b → AreFar rule p (bit_or a b)
 far_either rule p a b x y = grind (arith, cases_Bool, on_either)
 
@@ -46,6 +49,7 @@ pub far_by : (rule : RuleSet) (p : Position) (x : Man) (s o w : ℕ) → man_on 
     → ((q : Position) (t : ℕ) → t < 64 → may_go q x s t ≡ true → (bit_at o t == 1) ≡ true) → (bit_and o w == 0) ≡ true → AreCheckTargets rule p s 0
 far_by rule p x s o w here are goes none = grind (arith, eqb-true, check_targets_there)
 
+-- for one man who is far
 pub far_one : (rule : RuleSet) (p : Position) (s o : ℕ) → o ≡ word (λ t. is_square (Some s) t) → AreCheckTargets rule p s 0 → AreFar rule p o
 far_one rule p s o h are = grind (arith, eqb-true, word_has)
 
@@ -80,11 +84,13 @@ from_own : (rule : RuleSet) (p : Position) (o : ℕ) (m : Move) → o ≡ side_o
 unfolding side_of
 from_own rule p o m own inside may = grind (arith, cases_Bool, own_moves, word_has)
 
+-- for `check_origins`: each man of the mover, where nothing more is known
 pub check_origins_own : (rule : RuleSet) (p : Position) (o : ℕ) → o ≡ side_of p.men p.turn → AreCheckOrigins rule p o
 check_origins_own rule p o own = record {
   elsewhere = λ m inside small lawful off. absurd (let mine = from_own rule p o m own inside (is_pseudo_legal-from_legal rule p m lawful) in cc);
 }
 
+-- or those who are not far
 pub check_origins_are : (rule : RuleSet) (p : Position) (o f : ℕ) → o ≡ side_of p.men p.turn → f < 2 ^ 64 → AreFar rule p f
     → AreCheckOrigins rule p (bit_and o (bit_not w64 f))
 check_origins_are rule p o f own fits are = record {

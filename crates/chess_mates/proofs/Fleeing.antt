@@ -50,10 +50,12 @@ flight_there rule p h = elim (any_range_cases (λ t. is_flight_from rule p (king
   | inr none ↦ absurd (false≢true (sym (any_range_false (λ t. is_flight_from rule p (king_square p.men p.turn) t) 0 64 none) ∙ h))
 ]
 
+-- for moves behind which a flight is left
 pub no_mate_with_flight : (rule : RuleSet) (p : Position) (m : Move) → has_flight rule (position_after rule p m) ≡ true → false ≡ mates rule p m
 unfolding mates is_mate
 no_mate_with_flight rule p m h = search (rules, flight_there)
 
+-- no king stands where a man may arrive
 pub no_king_free : (c d : Colour) (o : Option Man) → is_arrival_free c o ≡ true → is_man o d King ≡ false
 no_king_free c d o h = grind (arith, and_parts, and_right, not-true)
 
@@ -64,6 +66,7 @@ no_own_free c o h = grind (arith, not-true, and_parts)
 on_second : (a b i : ℕ) → (bit_at (bit_and a b) i == 1) ≡ true → (bit_at b i == 1) ≡ true
 on_second a b i h = search (rules, bit_at-lt, bit_at_and, eq-eqb, eqb-true)
 
+-- for a square of a difference of words, of which the second is told by a test
 pub unseen_bit : (test : ℕ → Bool) (n w t : ℕ) → w ≡ word test → t < 64 → (bit_at (bit_and n (bit_not w64 w)) t == 1) ≡ true → (bit_at w t == 1) ≡ false
 unseen_bit test n w t h small on = search (rules, on_second, squares_not, word_has)
 
@@ -83,6 +86,7 @@ closed_words : (p : Position) (a : ℕ) (o : Option ℕ) (c : Colour) (w n : ℕ
 unfolding side_of squares_of
 closed_words p a o c w n side kings l standing = search (rules, squares_both, squares_either, squares_not)
 
+-- a king reaches the squares of his leaps
 pub reached_near : (men : List (Option Man)) (c : Colour) (k w t : ℕ) → w ≡ word (λ t. list_any (leaps k t) queen_steps) → t < 64 → (bit_at w t == 1) ≡ true
     → reaches_as men c King k t ≡ true
 unfolding reaches_as
@@ -125,6 +129,7 @@ module _ (rule : RuleSet) (p : Position) (m : Move) (x : Man) (k : ℕ) (i : IsS
     free_there t at =
         grind (arith, cases_eq t m.to, there_now, arrived_free, no_own_arrives, no_king_arrives, cases_Bool, left_now, or_parts, unless, kept_now, free_of)
 
+    -- for the word of squares open to the king: without Circe
     pub open_squares : (w l h : ℕ) → captures_do_more rule ≡ false → w ≡ word (λ t. list_any (leaps k t) queen_steps)
         → l ≡ (sight_lifted p.men m.from (capture_square p x m) m.to k).standing
         → h ≡ bit_or (bit_and (side_of p.men (other p.turn)) l) (squares_of p.men p.turn King)
@@ -140,6 +145,7 @@ module _ (rule : RuleSet) (p : Position) (m : Move) (x : Man) (k : ℕ) (i : IsS
               (ap not (and_left (captures_do_more rule) _ circe));
         }
 
+    -- in Circe, where he mayn't capture
     pub open_squares_in_circe : (w l : ℕ) → w ≡ word (λ t. list_any (leaps k t) queen_steps)
         → l ≡ (sight_lifted p.men m.from (capture_square p x m) m.to k).occupied
         → AreOpen rule (position_after rule p m).men (other p.turn) k (bit_and w (bit_not w64 l))
@@ -166,6 +172,7 @@ pub record IsSafeStep (men : List (Option Man)) (a : ℕ) (o : Option ℕ) (b : 
 reaches_alike_of : (men others : List (Option Man)) (o : Option Man) (s t : ℕ) → StandAlike men others t → reaches_of men o s t ≡ reaches_of others o s t
 reaches_alike_of men others o s t a = grind (arith, reaches_alike)
 
+-- who doesn't reach a square doesn't attack it, paralysed or not
 pub no_strike : (a p r : Bool) → (a && r) ≡ false → ((a && p) && r) ≡ false
 no_strike a p r q = grind arith
 
@@ -206,11 +213,13 @@ module _ (men : List (Option Man)) (a : ℕ) (o : Option ℕ) (b : ℕ) (z : Man
 other_side : (o : Option Man) (c : Colour) → is_man o (other c) King ≡ true → is_side o c ≡ false
 other_side o c h = grind (arith, same_colour-true, first_of_and)
 
+-- once the king has stepped, he stands there
 pub steps_there : (men : List (Option Man)) (x : Man) (c : Colour) (k t : ℕ) → man_on men k ≡ Some x → same_colour x.colour c ≡ true
     → same_kind x.kind King ≡ true → reaches_as men c King k t ≡ true → reaches men k t ≡ true
 unfolding reaches
 steps_there men x c k t here mine king h = search rules
 
+-- a step of the king to an open square
 pub record IsKingStep (rule : RuleSet) (q : Position) (x : Man) (k t : ℕ) : Type 0 where
   pub well_formed : IsWellFormed q
   pub here : man_on q.men k ≡ Some x
@@ -240,10 +249,12 @@ unfolding is_paralysed
 king_is_able rule men x k here king = search (rules, and_right, and_left)
 
 module _ (rule : RuleSet) (q : Position) (x : Man) (k t : ℕ) (i : IsKingStep rule q x k t) where
+  -- for a step of the king to an open square: it may be made
   pub may_step : is_pseudo_legal rule q (step_to k t) ≡ true
   unfolding is_pseudo_legal
   may_step = grind (arith, open_parts, king_is_no_pawn, king_is_able, and_left, cond-false, or_left, steps_there, and_from)
 
+  -- and nobody is reborn by it
   pub simple_step : IsSimple rule q x (step_to k t)
   simple_step =
       let way = open_parts rule q.men q.turn k t i.near in
@@ -252,6 +263,7 @@ module _ (rule : RuleSet) (q : Position) (x : Man) (k t : ℕ) (i : IsKingStep r
         rebirth = λ circe. no_capture q x (step_to k t) (way.nobody circe) (and_left (same_kind x.kind Pawn) _ (king_is_no_pawn x.kind i.king));
       }
 
+  -- and it is legal where nobody attacks the square then
   pub step_is_legal : is_attacked rule (arrived q x (step_to k t)) t (other q.turn) ≡ false → is_legal rule q (step_to k t) ≡ true
   unfolding is_legal
   step_is_legal safe =
@@ -266,12 +278,14 @@ pub record IsKingOn (men : List (Option Man)) (c : Colour) (k : ℕ) (x : Man) :
   pub mine : same_colour x.colour c ≡ true
   pub king : same_kind x.kind King ≡ true
 
+-- the king who stands on his square
 pub king_on : (men : List (Option Man)) (c : Colour) (k : ℕ) → king_square men c ≡ Some k → (x : Man) × IsKingOn men c k x
 king_on men c k at = grind (arith, king_there men c k, man_there, and_parts)
 
 king_is_other : (x : Man) (c : Colour) → same_colour x.colour (other c) ≡ true → same_colour x.colour c ≡ false
 king_is_other x c h = search rules
 
+-- no king stands where a man has arrived
 pub no_king_square : (men : List (Option Man)) (c d : Colour) (k b : ℕ) → king_square men d ≡ Some k → is_arrival_free c (man_on men b) ≡ true → b ≢ k
 no_king_square men c d k b at free e = grind (arith, false≢true, no_king_free c d (man_on men b) free, king_there men d k)
 
@@ -318,6 +332,7 @@ module _ (rule : RuleSet) (p : Position) (m : Move) (x : Man) (k : ℕ) (i : IsS
         ∙ ap (is_attacked rule (stepped p.men m.from (capture_square p x m) m.to (arriving_man x m.promo) k u t king.0) t) (ap other turn ∙ other_twice p.turn)
         ∙ not_attacked p.men m.from (capture_square p x m) m.to (arriving_man x m.promo) k u t king.0 p.turn r safe rule))
 
+    -- for `has_flight_from`: the first square that nobody guards is a flight
     pub has_flight_first : (o : Option ℕ) → IfSome o (λ t. (t < 64) × ((bit_at (bit_and n (bit_not w64 r)) t == 1) ≡ true))
         → IfSome o (λ t. (l : List (Option Man)) → AreSeen p.men l p.turn (sight_with (sight_lifted p.men m.from (capture_square p x m) m.to k) t)
         → 0 ≡ word (λ s. is_side (man_on l s) p.turn && reaches l s t))

@@ -7,9 +7,11 @@ use Rattle.chess_rules.proofs.Tests.{find_no}
 pub record HoldBelow (w : ℕ) (P : ℕ → Type 0) (n : ℕ) : Type 0 where
   pub holds : (s : ℕ) → s < n → (bit_at w s == 1) ≡ true → P s
 
+-- for a loop's beginning: nothing lies below 0
 pub hold_none : (w : ℕ) (P : ℕ → Type 0) → HoldBelow w P 0
 hold_none w P = record { holds = λ s lt on. absurd (omega arith) }
 
+-- for its next square
 pub hold_next : (w : ℕ) (P : ℕ → Type 0) (n k : ℕ) → HoldBelow w P n → find (λ s. bit_at w s == 1) (range_with_len n (64 - n)) ≡ Some k → P k
     → HoldBelow w P (k + 1)
 hold_next w P n k h found here =
@@ -24,6 +26,7 @@ hold_next w P n k h found here =
       ];
     }
 
+-- for its end: what holds of each square that was found holds of all
 pub hold_all : (w : ℕ) (P : ℕ → Type 0) (n : ℕ) → HoldBelow w P n → find (λ s. bit_at w s == 1) (range_with_len n (64 - n)) ≡ None → (s : ℕ) → s < 64
     → (bit_at w s == 1) ≡ true → P s
 hold_all w P n h none s small on = elim (cases_lt s n) [
@@ -31,9 +34,6 @@ hold_all w P n h none s small on = elim (cases_lt s n) [
   | inr ge ↦ absurd (false≢true (sym (find_no (λ s. bit_at w s == 1) n (64 - n) s none ge (omega arith)) ∙ on))
 ]
 
+-- for a word that grows meanwhile
 pub hold_map : (w : ℕ) (P Q : ℕ → Type 0) (n : ℕ) → ((s : ℕ) → P s → Q s) → HoldBelow w P n → HoldBelow w Q n
 hold_map w P Q n f h = record { holds = λ s lt on. f s (h.holds s lt on) }
-
--- the square that was found is one of the word's
-pub found_small : (w n k : ℕ) → find (λ s. bit_at w s == 1) (range_with_len n (64 - n)) ≡ Some k → n < 64 → k < 64
-found_small w n k found lt = let first = find_first (λ s. bit_at w s == 1) n (64 - n) k found in omega (arith, first.high)

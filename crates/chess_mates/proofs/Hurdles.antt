@@ -7,16 +7,18 @@ use Rattle.chess_core.proofs.Ranges.{all_range_true, any_range_true}
 use Rattle.chess_core.proofs.Words.{square_word}
 use Rattle.chess_core.specs.ties.Words.{bit_of}
 use Rattle.chess_mates.specs.declared.siege.Attackers.{Attackers}
-use Rattle.chess_mates.specs.ties.Siege.{AreReached, IsAttacker, IsReached, is_leaper, is_rider, men_on, squares_for}
+use Rattle.chess_mates.specs.ties.Siege.{AreReached, IsAttacker, IsNear, IsReached, is_leaper, is_rider, men_on, squares_for}
 use Rattle.chess_mates.specs.ties.Siege.{reached_over}
 use Rattle.chess_rules.proofs.Bits.{on_left, on_right, word_has}
 use Rattle.chess_rules.proofs.rays.Flips.{diagonal-back, king-back, knight-back, nightrider-back, pawn-back, queen_rides-back, straight-back}
 use Rattle.chess_rules.proofs.making_moves.Pseudo.{on_board}
 use Rattle.chess_rules.proofs.listing_moves.Walks.{off_zero}
 
+-- for words that are joined: the first has what it reached
 pub reached_left : (d : ℕ) (x : Man) (s a b : ℕ) → IsReached d x s a → IsReached d x s (bit_or a b)
 reached_left d x s a b h = record { inside = λ t small r. on_left a b t (h.inside t small r) }
 
+-- the second has
 pub reached_right : (d : ℕ) (x : Man) (s a b : ℕ) → IsReached d x s b → IsReached d x s (bit_or a b)
 reached_right d x s a b h = record { inside = λ t small r. on_right a b t (h.inside t small r) }
 
@@ -40,13 +42,15 @@ is_one b = grind arith
 one_on : (d s : ℕ) → s < 64 → is_some (man_on (men_on d) s) ≡ (bit_at d s == 1)
 one_on d s small = ap (λ (o : Option Man). is_some o) (on_word d s small) ∙ is_one (bit_at d s == 1)
 
-pub occupied_on : (d : ℕ) → d < 2 ^ 64 → d ≡ occupied_squares (men_on d)
+-- the squares of men on the squares of a word are that word
+occupied_on : (d : ℕ) → d < 2 ^ 64 → d ≡ occupied_squares (men_on d)
 occupied_on d fits = square_word (λ s. is_some (man_on (men_on d) s)) d fits (λ s small. bit_small d s ∙ ap bit_of (sym (one_on d s small)))
 
 size_on : (d : ℕ) → length (men_on d) ≡ 64
 unfolding squares
 size_on d = length-map-range_with_len (placed d) 0 64
 
+-- for reach told over a word of hurdles
 pub reached_is : (d : ℕ) (x : Man) (s r : ℕ) → d < 2 ^ 64 → ((men : List (Option Man)) → d ≡ occupied_squares men → r ≡ word (reaches_as men x.colour x.kind s))
     → IsReached d x s r
 unfolding reached_over
@@ -59,41 +63,46 @@ pub man_is : (x : Man) (c : Colour) (k : Kind) → x.colour ≡ c → x.kind ≡
 man_is x c k colour kind = rw (← colour, ← kind) refl
 
 -- those that the attackers reach, kind by kind
-module _ (d : ℕ) (a : Attackers) where
+module _ (d : ℕ) (a : Attackers) (region : ℕ) where
   abbrev ReachAs : Kind → ℕ → Type 0
-  ReachAs k w = (s : ℕ) → s < 64 → (bit_at (squares_for a k) s == 1) ≡ true → IsReached d (record { colour = a.colour; kind = k }) s w
+  ReachAs k w = (s : ℕ) → s < 64 → (bit_at (squares_for a k) s == 1) ≡ true → IsNear (record { colour = a.colour; kind = k }) s region
+      → IsReached d (record { colour = a.colour; kind = k }) s w
 
-  by_kind : (k : Kind) (w s : ℕ) (x : Man) → ReachAs k w → IsAttacker a x s → x.kind ≡ k → IsReached d x s w
-  by_kind k w s x h i kind = subst (λ (y : Man). IsReached d y s w) (man_is x a.colour k i.mine kind)
-      (h s i.small (ap (λ (j : Kind). bit_at (squares_for a j) s == 1) (sym kind) ∙ i.on))
+  by_kind : (k : Kind) (w s : ℕ) (x : Man) → ReachAs k w → IsAttacker a x s → x.kind ≡ k → IsNear x s region → IsReached d x s w
+  by_kind k w s x h i kind near =
+      let same = man_is x a.colour k i.mine kind in
+      subst (λ (y : Man). IsReached d y s w) same (h s i.small (ap (λ (j : Kind). bit_at (squares_for a j) s == 1) (sym kind) ∙ i.on)
+      (subst (λ (y : Man). IsNear y s region) (sym same) near))
 
-  pub riders_reach : (q r b : ℕ) → ReachAs Queen q → ReachAs Rook r → ReachAs Bishop b → AreReached d a is_rider (bit_or (bit_or q r) b)
+  -- for `ridden_squares`: what queens, rooks and bishops reach
+  pub riders_reach : (q r b : ℕ) → ReachAs Queen q → ReachAs Rook r → ReachAs Bishop b → AreReached d a region is_rider (bit_or (bit_or q r) b)
   riders_reach q r b queens rooks bishops = record {
-    reach = λ s x i rider. by s x i x.kind refl (rider);
+    reach = λ s x i rider near. by s x i x.kind refl rider near;
   } where
-    by : (s : ℕ) (x : Man) → IsAttacker a x s → (k : Kind) → x.kind ≡ k → is_rider k ≡ true → IsReached d x s (bit_or (bit_or q r) b)
-    by s x i Queen kind e = reached_left d x s (bit_or q r) b (reached_left d x s q r (by_kind Queen q s x queens i kind))
-    by s x i Rook kind e = reached_left d x s (bit_or q r) b (reached_right d x s q r (by_kind Rook r s x rooks i kind))
-    by s x i Bishop kind e = reached_right d x s (bit_or q r) b (by_kind Bishop b s x bishops i kind)
-    by s x i King kind e = absurd (false≢true e)
-    by s x i Knight kind e = absurd (false≢true e)
-    by s x i Pawn kind e = absurd (false≢true e)
-    by s x i Grasshopper kind e = absurd (false≢true e)
-    by s x i Nightrider kind e = absurd (false≢true e)
+    by : (s : ℕ) (x : Man) → IsAttacker a x s → (k : Kind) → x.kind ≡ k → is_rider k ≡ true → IsNear x s region → IsReached d x s (bit_or (bit_or q r) b)
+    by s x i Queen kind e near = reached_left d x s (bit_or q r) b (reached_left d x s q r (by_kind Queen q s x queens i kind near))
+    by s x i Rook kind e near = reached_left d x s (bit_or q r) b (reached_right d x s q r (by_kind Rook r s x rooks i kind near))
+    by s x i Bishop kind e near = reached_right d x s (bit_or q r) b (by_kind Bishop b s x bishops i kind near)
+    by s x i King kind e near = absurd (false≢true e)
+    by s x i Knight kind e near = absurd (false≢true e)
+    by s x i Pawn kind e near = absurd (false≢true e)
+    by s x i Grasshopper kind e near = absurd (false≢true e)
+    by s x i Nightrider kind e near = absurd (false≢true e)
 
-  pub leapers_reach : (n p k : ℕ) → ReachAs Knight n → ReachAs Pawn p → ReachAs King k → AreReached d a is_leaper (bit_or (bit_or n p) k)
+  -- for `leapt_squares`: what knights, pawns and kings reach
+  pub leapers_reach : (n p k : ℕ) → ReachAs Knight n → ReachAs Pawn p → ReachAs King k → AreReached d a region is_leaper (bit_or (bit_or n p) k)
   leapers_reach n p k knights pawns kings = record {
-    reach = λ s x i leaper. by s x i x.kind refl leaper;
+    reach = λ s x i leaper near. by s x i x.kind refl leaper near;
   } where
-    by : (s : ℕ) (x : Man) → IsAttacker a x s → (j : Kind) → x.kind ≡ j → is_leaper j ≡ true → IsReached d x s (bit_or (bit_or n p) k)
-    by s x i Knight kind e = reached_left d x s (bit_or n p) k (reached_left d x s n p (by_kind Knight n s x knights i kind))
-    by s x i Pawn kind e = reached_left d x s (bit_or n p) k (reached_right d x s n p (by_kind Pawn p s x pawns i kind))
-    by s x i King kind e = reached_right d x s (bit_or n p) k (by_kind King k s x kings i kind)
-    by s x i Queen kind e = absurd (false≢true e)
-    by s x i Rook kind e = absurd (false≢true e)
-    by s x i Bishop kind e = absurd (false≢true e)
-    by s x i Grasshopper kind e = absurd (false≢true e)
-    by s x i Nightrider kind e = absurd (false≢true e)
+    by : (s : ℕ) (x : Man) → IsAttacker a x s → (j : Kind) → x.kind ≡ j → is_leaper j ≡ true → IsNear x s region → IsReached d x s (bit_or (bit_or n p) k)
+    by s x i Knight kind e near = reached_left d x s (bit_or n p) k (reached_left d x s n p (by_kind Knight n s x knights i kind near))
+    by s x i Pawn kind e near = reached_left d x s (bit_or n p) k (reached_right d x s n p (by_kind Pawn p s x pawns i kind near))
+    by s x i King kind e near = reached_right d x s (bit_or n p) k (by_kind King k s x kings i kind near)
+    by s x i Queen kind e near = absurd (false≢true e)
+    by s x i Rook kind e near = absurd (false≢true e)
+    by s x i Bishop kind e near = absurd (false≢true e)
+    by s x i Grasshopper kind e near = absurd (false≢true e)
+    by s x i Nightrider kind e near = absurd (false≢true e)
 
   -- a fairy man is none of them
   rides_or_leaps : (s : ℕ) (x : Man) → IsAttacker a x s → (is_rider x.kind ≡ true) ⊎ (is_leaper x.kind ≡ true)
@@ -108,11 +117,12 @@ module _ (d : ℕ) (a : Attackers) where
     by Grasshopper e = absurd (false≢true (sym (off_zero s) ∙ ap (λ (j : Kind). bit_at (squares_for a j) s == 1) (sym e) ∙ i.on))
     by Nightrider e = absurd (false≢true (sym (off_zero s) ∙ ap (λ (j : Kind). bit_at (squares_for a j) s == 1) (sym e) ∙ i.on))
 
-  pub all_reach : (r l : ℕ) → AreReached d a is_rider r → AreReached d a is_leaper l → AreReached d a (λ k. true) (bit_or r l)
+  -- for both together
+  pub all_reach : (r l : ℕ) → AreReached d a region is_rider r → AreReached d a region is_leaper l → AreReached d a region (λ k. true) (bit_or r l)
   all_reach r l rides leaps = record {
-    reach = λ s x i all. elim (rides_or_leaps s x i) [
-      | inl e ↦ reached_left d x s r l (rides.reach s x i e)
-      | inr e ↦ reached_right d x s r l (leaps.reach s x i e)
+    reach = λ s x i all near. elim (rides_or_leaps s x i) [
+      | inl e ↦ reached_left d x s r l (rides.reach s x i e near)
+      | inr e ↦ reached_right d x s r l (leaps.reach s x i e near)
     ];
   }
 

@@ -60,6 +60,7 @@ knight_same f g h =
     (λ j. h NorthNorthEast j || (h SouthSouthEast j || (h NorthNorthWest
     j || (h SouthSouthWest j || (h EastNorthEast j || (h EastSouthEast j || (h WestNorthWest j || (h WestSouthWest j || false))))))))
 
+-- for two boards that differ in who stands on the target
 pub reaches_alike : (men others : List (Option Man)) (c : Colour) (j : Kind) (s t : ℕ) → StandAlike men others t
     → reaches_as men c j s t ≡ reaches_as others c j s t
 unfolding reaches_as
@@ -76,6 +77,7 @@ unfolding leaps
 no_step_off s d o small = false_from_ne_true _ (λ y. let less : place d s < place d s =
     o.in_order s 0 1 s s (stays s d small) (square_is _ s y) (omega arith) in omega arith)
 
+-- nor does a king reach where he stands
 pub no_step_there : (men : List (Option Man)) (c : Colour) (s : ℕ) → s < 64 → reaches_as men c King s s ≡ false
 unfolding reaches_as
 no_step_there men c s small = queen_same (leaps s s) (λ d. false) (λ x. no_step_off s (step_of x) (ordered x) small)

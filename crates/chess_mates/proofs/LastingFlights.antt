@@ -12,7 +12,7 @@ use Rattle.chess_rules.proofs.rays.Ends.{square_is}
 use Rattle.chess_rules.proofs.rays.Flips.{reaches_back}
 use Rattle.chess_rules.proofs.attacks.Exposing.{king_is_after}
 use Rattle.chess_rules.proofs.attacks.Seeing.{king_stands}
-use Rattle.chess_rules.proofs.attacks.Shielding.{arriving_colour, other_differs, other_twice, simple_after}
+use Rattle.chess_rules.proofs.attacks.Shielding.{arriving_colour, other_twice, simple_after}
 use Rattle.chess_rules.proofs.listing_moves.Arrivals.{may_go_aimed}
 use Rattle.chess_rules.proofs.listing_moves.Targeting.{arrival_needed, every_square_on, false_by}
 use Rattle.chess_rules.proofs.making_moves.Fits.{arrived, castle_of, taken}
@@ -28,12 +28,14 @@ use Rattle.chess_mates.proofs.Standing.{arrival_small, free_man, not_mine, stood
 
 -- what a man reaches, he would reach on an empty board
 module _ (x : Man) (s : ℕ) where
+  -- for `open_reach`, kind by kind: a rook's lines
   pub rook_reach : (l : ℕ) → x.kind ≡ Rook → l ≡ word (is_on_some straight_steps s) → AreReached x s l
   unfolding reaches_as
   rook_reach l kind lines = record {
     inside = λ men t small h. word_has (is_on_some straight_steps s) l t lines small ∙ rides_on men s t straight_steps (rw kind at h);
   }
 
+  -- a bishop's
   pub bishop_reach : (l : ℕ) → x.kind ≡ Bishop → l ≡ word (is_on_some diagonal_steps s) → AreReached x s l
   unfolding reaches_as
   bishop_reach l kind lines = record {
@@ -47,36 +49,45 @@ module _ (x : Man) (s : ℕ) where
     | inr y ↦ on_right l d t (word_has (is_on_some diagonal_steps s) d t slants small ∙ rides_on men s t diagonal_steps y)
   ]
 
+  -- a queen's
   pub queen_reach : (l d : ℕ) → x.kind ≡ Queen → l ≡ word (is_on_some straight_steps s) → d ≡ word (is_on_some diagonal_steps s) → AreReached x s (bit_or l d)
   unfolding reaches_as
   queen_reach l d kind lines slants = record { inside = λ men t small h. queen_on men t l d lines slants small (rw kind at h) }
 
+  -- a knight's leaps
   pub knight_reach : (l : ℕ) → x.kind ≡ Knight → l ≡ word (λ q. list_any (leaps s q) knight_steps) → AreReached x s l
   unfolding reaches_as
   knight_reach l kind squares = record { inside = λ men t small h. word_has (λ q. list_any (leaps s q) knight_steps) l t squares small ∙ (rw kind at h) }
 
+  -- a king's steps
   pub king_reach : (l : ℕ) → x.kind ≡ King → l ≡ word (λ q. list_any (leaps s q) queen_steps) → AreReached x s l
   unfolding reaches_as
   king_reach l kind squares = record { inside = λ men t small h. word_has (λ q. list_any (leaps s q) queen_steps) l t squares small ∙ (rw kind at h) }
 
+  -- a pawn's captures
   pub pawn_reach : (l : ℕ) → x.kind ≡ Pawn → l ≡ word (λ q. list_any (leaps s q) (pawn_captures x.colour)) → AreReached x s l
   unfolding reaches_as
   pawn_reach l kind squares = record {
     inside = λ men t small h. word_has (λ q. list_any (leaps s q) (pawn_captures x.colour)) l t squares small ∙ (rw kind at h);
   }
 
+  -- all squares, for a fairy man
   pub any_reach : AreReached x s (bit_not w64 0)
   any_reach = record { inside = λ men t small h. every_square_on t small }
 
+-- for words that are joined: the first has what it reached
 pub reached_left : (x : Man) (s a b : ℕ) → AreReached x s a → AreReached x s (bit_or a b)
 reached_left x s a b h = record { inside = λ men t small r. on_left a b t (h.inside men t small r) }
 
+-- the second has
 pub reached_right : (x : Man) (s a b : ℕ) → AreReached x s b → AreReached x s (bit_or a b)
 reached_right x s a b h = record { inside = λ men t small r. on_right a b t (h.inside men t small r) }
 
+-- for the man on a square, if there is one: what he reaches
 pub some_reach : (o : Option Man) (s r : ℕ) (y : Man) → o ≡ Some y → AreReached y s r → (x : Man) → o ≡ Some x → AreReached x s r
 some_reach o s r y here h x there = let same : x ≡ y = (let e : Some x ≡ Some y = sym there ∙ here in cc) in rw same h
 
+-- what he leaves
 pub some_leaves : (o : Option Man) (s w : ℕ) (y : Man) → o ≡ Some y → LeavesOne w y s → (x : Man) → o ≡ Some x → LeavesOne w x s
 some_leaves o s w y here h x there = let same : x ≡ y = (let e : Some x ≡ Some y = sym there ∙ here in cc) in rw same h
 
@@ -91,6 +102,7 @@ on_own men c w s x own small here mine =
 pub on_both : (a b t : ℕ) → (bit_at a t == 1) ≡ true → (bit_at b t == 1) ≡ true → (bit_at (bit_and a b) t == 1) ≡ true
 on_both a b t on too = grind (arith, eqb-true, bit_at_and, eq-eqb)
 
+-- for targets off the last ranks: no pawn promotes there
 pub no_last_rank : (x : Man) (w t : ℕ) → (bit_and w 18374686479671623935 == 0) ≡ true → t < 64 → (bit_at w t == 1) ≡ true → arrives x t ≡ false
 no_last_rank x w t none small on = false_by (arrives x t) (λ last.
     let both = on_both w 18374686479671623935 t on (last_rank_on x.colour t small (and_parts _ _ last).1) in
@@ -98,6 +110,7 @@ no_last_rank x w t none small on = false_by (arrives x t) (λ last.
     let never = off_zero t in
     false≢true (sym never ∙ ap (λ n. bit_at n t == 1) (sym zero) ∙ both))
 
+-- for squares that aren't e1 or e8
 pub off_homes : (s : ℕ) → not (bit_at 1152921504606846992 s == 1) ≡ true → (s ≢ 4) × (s ≢ 60)
 off_homes s off = ((λ e. false≢true (rw e at off)), (λ e. false≢true (rw e at off)))
 
@@ -113,18 +126,21 @@ left_on squares r o t f x are rfits ofits only small here =
       unreached = λ men. false_from_ne_true _ (λ h. false≢true (sym (off_left r o f off) ∙ are.inside men f small h));
     }
 
-pub left_there : (squares r o t f : ℕ) (x : Man) → AreReached x t r → r < 2 ^ 64 → o < 2 ^ 64 → o ≡ word (λ q. is_square (Some t) q)
+-- a square of the word that is left over is left
+left_there : (squares r o t f : ℕ) (x : Man) → AreReached x t r → r < 2 ^ 64 → o < 2 ^ 64 → o ≡ word (λ q. is_square (Some t) q)
     → find (λ s. bit_at (bit_and squares (bit_not w64 (bit_or r o))) s == 1) (range_with_len 0 64) ≡ Some f → IsLeft squares x t f
 left_there squares r o t f x are rfits ofits only found =
     let first = find_first (λ s. bit_at (bit_and squares (bit_not w64 (bit_or r o))) s == 1) 0 64 f found in
     left_on squares r o t f x are rfits ofits only (omega (arith, first.high)) first.here
 
+-- for `first_left`
 pub left_first : (squares r o t : ℕ) (x : Man) → AreReached x t r → r < 2 ^ 64 → o < 2 ^ 64 → o ≡ word (λ q. is_square (Some t) q)
     → (found : Option ℕ) → found ≡ find (λ s. bit_at (bit_and squares (bit_not w64 (bit_or r o))) s == 1) (range_with_len 0 64)
     → IfSome found (λ f. IsLeft squares x t f)
 left_first squares r o t x are rfits ofits only None e = search rules
 left_first squares r o t x are rfits ofits only (Some f) e = left_there squares r o t f x are rfits ofits only (sym e)
 
+-- who reaches a square is reached from there by one of the other colour
 pub come_back : (x : Man) (t w : ℕ) → t < 64 → is_hopper (gait_of x.kind) ≡ false → AreReached (record { colour = other x.colour; kind = x.kind }) t w
     → AreApproached x t w
 come_back x t w small plain are = record {
@@ -160,6 +176,7 @@ near_are p m k n s y o near own king only = record {
       ∙ unseen_bit (λ t. is_man (man_on p.men t) (other p.turn) King) _ y f king small (on_first _ _ f on);
 }
 
+-- for `keeps_one`: the squares that nobody guards can't all be taken
 pub keeps_one : (p : Position) (w g : ℕ) → g < 2 ^ 64 → AreGuarded p.men (other p.turn) g → LeaveOne p.men (other p.turn) (bit_and w (bit_not w64 g))
     → KeepsOne p w
 keeps_one p w g fits guards leave = record {
@@ -169,9 +186,6 @@ keeps_one p w g fits guards leave = record {
   leave = leave;
   within = λ f small on. (on_first w _ f on, off_denied w g f fits small on);
 }
-
-mine_is : (x : Man) (c : Colour) → x.colour ≡ c → same_colour x.colour (other c) ≡ false
-mine_is x c e = ap (λ (d : Colour). same_colour d (other c)) e ∙ other_differs c
 
 -- the king's move keeps a flight behind each move of the enemy
 module _ (rule : RuleSet) (p : Position) (m : Move) (x : Man) (k w : ℕ) (well : IsWellFormed p) (may : is_pseudo_legal rule p m ≡ true)
@@ -358,6 +372,7 @@ module _ (rule : RuleSet) (p : Position) (m : Move) (x : Man) (k w : ℕ) (well 
     | inr not ↦ not_mating rule q (triple_at i) not
   ]
 
+  -- for `keeps_flight`
   pub no_mate_behind : mates_behind rule q 0 ≡ []
   no_mate_behind =
       mates_behind-none rule q 0 28672 (λ lt. omega arith) (omega arith) (record { fails = λ i lo hi. none_mates i })

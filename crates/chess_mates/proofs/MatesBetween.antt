@@ -31,15 +31,18 @@ until-mate rule p a n e low before fits none h =
     append_cancel_right (mates_between rule p a e) (triple_at n ∷ mates_between rule p (n + 1) e) (mates_behind rule p e)
     (grind (arith, cut_mates, mates_numbered, mates_behind-none))
 
+-- and where no move mates
 pub until-mateless : (rule : RuleSet) (p : Position) (a n e : ℕ) → a < n → n ≤ 28672 → n ≤ e → (n < 28672 → e ≤ n) → HaveNone (mates rule p) a n
     → mates_between rule p a e ≡ []
 until-mateless rule p a n e lt fits before all none =
     grind (arith, none_before, cut_mates rule p a e (omega (arith, lt, before)), mates_behind-none, cases_lt n 28672, mates_behind-end)
 
+-- between a place and one before it there is none
 pub mates_between-none : (rule : RuleSet) (p : Position) (a b : ℕ) → b ≤ a → mates_between rule p a b ≡ []
 unfolding mates_between
 mates_between-none rule p a b le = rw (between-none rule p a b le) refl
 
+-- nor behind all triples
 pub mates_between-past : (rule : RuleSet) (p : Position) (a b : ℕ) → 28672 ≤ a → mates_between rule p a b ≡ []
 unfolding mates_between
 mates_between-past rule p a b ge = rw (between-past rule p a b ge) refl

@@ -12,6 +12,7 @@ pub reached : (p : Position) (x : Man) (s t : ℕ) → same_kind x.kind Pawn ≡
 unfolding may_go
 reached p x s t none piece h = search (rules, cond-false, no_steps)
 
+-- who rides to a square is on a line with it
 pub rides_on : (men : List (Option Man)) (s t : ℕ) (ds : List _) → list_any (rides men s t) ds ≡ true → is_on_some ds s t ≡ true
 unfolding is_on_some
 rides_on men s t ds h = goes_on men s t ds h
@@ -25,14 +26,17 @@ module _ (p : Position) (x : Man) (s t : ℕ) (small : t < 64) (h : may_go p x s
   as_piece : (k : Kind) → x.kind ≡ k → same_kind k Pawn ≡ false → same_kind k King ≡ false → reaches_as p.men x.colour k s t ≡ true
   as_piece k kind none piece = rw kind at (reached p x s t (rw kind none) (rw kind piece) h)
 
+  -- for `open_targets`, kind by kind: a rook's lines
   pub rook_lines : (l : ℕ) → x.kind ≡ Rook → l ≡ word (is_on_some straight_steps s) → (bit_at l t == 1) ≡ true
   unfolding reaches_as
   rook_lines l kind lines = word_has (is_on_some straight_steps s) l t lines small ∙ rides_on p.men s t straight_steps (as_piece Rook kind refl refl)
 
+  -- a bishop's
   pub bishop_lines : (l : ℕ) → x.kind ≡ Bishop → l ≡ word (is_on_some diagonal_steps s) → (bit_at l t == 1) ≡ true
   unfolding reaches_as
   bishop_lines l kind lines = word_has (is_on_some diagonal_steps s) l t lines small ∙ rides_on p.men s t diagonal_steps (as_piece Bishop kind refl refl)
 
+  -- a queen's
   pub queen_lines : (l d : ℕ) → x.kind ≡ Queen → l ≡ word (is_on_some straight_steps s) → d ≡ word (is_on_some diagonal_steps s)
       → (bit_at (bit_or l d) t == 1) ≡ true
   unfolding reaches_as
@@ -42,10 +46,12 @@ module _ (p : Position) (x : Man) (s t : ℕ) (small : t < 64) (h : may_go p x s
         | inr y ↦ on_right l d t (word_has (is_on_some diagonal_steps s) d t slants small ∙ rides_on p.men s t diagonal_steps y)
       ]
 
+  -- a knight's leaps
   pub knight_squares : (l : ℕ) → x.kind ≡ Knight → l ≡ word (λ q. list_any (leaps s q) knight_steps) → (bit_at l t == 1) ≡ true
   unfolding reaches_as
   knight_squares l kind squares = word_has (λ q. list_any (leaps s q) knight_steps) l t squares small ∙ as_piece Knight kind refl refl
 
+  -- a pawn's captures and steps
   pub pawn_squares : (l a : ℕ) → x.kind ≡ Pawn → l ≡ word (λ q. list_any (leaps s q) (pawn_captures x.colour)) → a ≡ word (is_advance x.colour s)
       → (bit_at (bit_or l a) t == 1) ≡ true
   unfolding may_go reaches_as

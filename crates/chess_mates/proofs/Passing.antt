@@ -58,13 +58,15 @@ module _ (p : Position) (x : Man) (m : Move) (from : m.from < 64) (to : m.to < 6
     passing = passing;
   }
 
-  pub piece_plain : same_kind x.kind Pawn ≡ false → is_castling x m ≡ false → IsPlainMove p x m
+  -- a piece that doesn't castle
+  piece_plain : same_kind x.kind Pawn ≡ false → is_castling x m ≡ false → IsPlainMove p x m
   piece_plain piece still = record {
     castling = still;
     captures = λ s cap. capture_of_piece p x m s piece cap;
     passing = record { freely = λ double. absurd (false≢true (sym piece ∙ (and_parts _ _ double).0)) };
   }
 
+  -- for a man who is neither pawn nor king
   pub man_plain : same_kind x.kind Pawn ≡ false → same_kind x.kind King ≡ false → IsPlainMove p x m
   man_plain piece mortal = piece_plain piece (and_left _ _ (and_left _ _ mortal))
 
@@ -80,6 +82,7 @@ module _ (p : Position) (x : Man) (m : Move) (from : m.from < 64) (to : m.to < 6
       let all = and_from _ _ (and_from _ _ rank.1 aside.1) steps in
       cc
 
+  -- for a king who goes a step
   pub king_plain : (n : ℕ) → n ≡ word (λ t. list_any (leaps m.from t) queen_steps) → n < 2 ^ 64 → same_kind x.kind King ≡ true
       → (bit_at (bit_not w64 n) m.to == 1) ≡ false → IsPlainMove p x m
   king_plain n near fits king off = piece_plain (king_is_no_pawn x.kind king) (false_by _ (no_castling n near fits off))

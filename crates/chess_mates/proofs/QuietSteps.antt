@@ -25,6 +25,7 @@ open_at rule p x k t circe here near at =
 on_second : (a b i : ℕ) → (bit_at (bit_and a b) i == 1) ≡ true → (bit_at b i == 1) ≡ true
 on_second a b i h = search (rules, bit_at-lt, bit_at_and, eq-eqb, eqb-true)
 
+-- for the word of a king's steps
 pub open_steps : (rule : RuleSet) (p : Position) (k n w : ℕ) → captures_do_more rule ≡ false → n ≡ word (λ t. list_any (leaps k t) queen_steps)
     → w ≡ word (is_arrival rule p k) → (x : Man) → man_on p.men k ≡ Some x → same_kind x.kind King ≡ true → AreOpen rule p.men p.turn k (bit_and n w)
 open_steps rule p k n w circe near at x here king = record {
@@ -33,6 +34,7 @@ open_steps rule p k n w circe near at x here king = record {
       (sym (word_has (is_arrival rule p k) w t at lt) ∙ on_second n w t on);
 }
 
+-- for kings without one, in Circe too
 pub no_steps : (rule : RuleSet) (men : List (Option Man)) (c : Colour) (k : ℕ) → AreOpen rule men c k 0
 no_steps rule men c k = record { inside = λ t lt on. absurd (false≢true (sym (ap (λ (n : ℕ). n == 1) (bit_at-zero t)) ∙ on)) }
 
@@ -56,6 +58,7 @@ on_king : (men : List (Option Man)) (c : Colour) (k : ℕ) (x : Man) → king_sq
     → (same_colour x.colour c ≡ true) × (same_kind x.kind King ≡ true)
 on_king men c k x at here = grind (arith, king_on men c k at)
 
+-- for steps told by a word of what enemies reach
 pub step_legal : (rule : RuleSet) (p : Position) (x : Man) (k t w : ℕ) → IsWellFormed p → king_square p.men p.turn ≡ Some k → man_on p.men k ≡ Some x
     → ((y : Man) → man_on p.men k ≡ Some y → same_kind y.kind King ≡ true → AreOpen rule p.men p.turn k w)
     → (t < 64) × ((bit_at w t == 1) ≡ true) → IsUnreached p x k t → is_legal rule p (step_to k t) ≡ true
@@ -78,6 +81,7 @@ fails_in test (x ∷ ms) m c e = elim (in_cases x ms m c) [
   | inr r ↦ grind (arith, fails_in test ms m r e)
 ]
 
+-- for one quiet step: not every move mates
 pub one_fails : (rule : RuleSet) (p : Position) (m : Move) → IsWellFormed p → is_legal rule p m ≡ true → is_mating rule p m ≡ false
     → list_all (is_mating rule p) (moves rule p) ≡ false
 one_fails rule p m well lawful none = fails_in (is_mating rule p) (moves rule p) m ((moves_are_the_legal_moves rule p m well).1 lawful) none

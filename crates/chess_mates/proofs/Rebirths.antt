@@ -66,7 +66,7 @@ module _ (men : List (Option Man)) (r : ℕ) (y : Man) where
           })
 
 -- rebirths apart, Circe is as orthodox chess
-pub same_check : (men : List (Option Man)) (c : Colour) → in_check circe men c ≡ in_check orthodox men c
+same_check : (men : List (Option Man)) (c : Colour) → in_check circe men c ≡ in_check orthodox men c
 unfolding in_check is_attacked strikes is_paralysed
 same_check men c = grind arith
 
@@ -74,6 +74,7 @@ same_castles : (p : Position) (x : Man) (m : Move) → castles circe p x m ≡ c
 unfolding castles may_castle is_paralysed
 same_castles p x m = grind (arith, same_check)
 
+-- what may be played in Circe may be played in orthodox chess
 pub pseudo_so : (p : Position) (m : Move) → is_pseudo_legal circe p m ≡ true → is_pseudo_legal orthodox p m ≡ true
 unfolding is_pseudo_legal is_paralysed
 pseudo_so p m h = grind (arith, same_castles)
@@ -106,6 +107,7 @@ absent_lacks : (men : List (Option Man)) (e : Colour) → length men ≡ 64 → 
 absent_lacks men e size absent = λ s. false_from_ne_true _ (λ h.
     search (rules, man_there (man_on men s) e Grasshopper h, false≢true, not-true _ absent, some_square_true, on_board))
 
+-- the position after a move, by the man who makes it
 pub after_is : (rule : RuleSet) (p : Position) (x : Man) (m : Move) → man_on p.men m.from ≡ Some x
     → (position_after rule p m).men ≡ put_at (moved_men p x m) (reborn_square rule p x m) (man_on_at p.men (capture_square p x m))
 unfolding position_after after_by
@@ -138,6 +140,7 @@ rebirth_gives_no_check p x m well may here unpromoted absent safe =
           (λ s. ap (λ (e : Colour). is_man (man_on (moved_men p x m) s) e Grasshopper) (other_twice p.turn) ∙ lacks s)
           (moved_sound circe p x m well is).kings before
 
+-- what quiet rebirths ask: Circe, and no grasshopper
 pub quiet_parts : (rule : RuleSet) (men : List (Option Man)) (e : Colour) → are_rebirths_quiet rule men e ≡ true
     → (rule ≡ circe) × (is_absent men (record { colour = e; kind = Grasshopper }) ≡ true)
 unfolding are_rebirths_quiet

@@ -1,15 +1,14 @@
 -- The words of risks: what a defender must avoid lest a reply may mate.
 use Rattle.chess_rules.proofs.Basics.{List, Option, Some, and_left, and_parts, ap, arith, bit_and, bit_at, bit_at-lt, bit_not, bit_or, cases_Bool, cases_eq, eq-eqb, eqb-true, false, false≢true, find, inl, inr, not, range_with_len, refl, subst, sym, true, true_from_ne_false, w64, ℕ, ◌+◌, ◌-◌, ◌<◌, ◌==◌, ◌^◌, ◌∙◌, ◌≡◌, ◌≢◌, ◌⊎◌}
-use Rattle.chess_mates.proofs.Chess.{Bishop, Grasshopper, Kind, King, Knight, Man, Nightrider, Pawn, Position, Queen, Rook, arrives, find_first, is_square, leaps, may_go, occupied_squares, other}
-use Rattle.chess_mates.proofs.Chess.{reaches_as, rides, same_kind, squares, word}
+use Rattle.chess_mates.proofs.Chess.{Bishop, Colour, Grasshopper, Kind, King, Knight, Man, Nightrider, Pawn, Position, Queen, Rook, arrives, find_first, is_square, leaps, may_go, occupied_squares, other}
+use Rattle.chess_mates.proofs.Chess.{reaches_as, rides, same_kind, same_kind-true, squares, word}
 use Rattle.chess_mates.specs.declared.siege.Attackers.{Attackers}
 use Rattle.chess_mates.specs.declared.siege.Field.{Field}
 use Rattle.chess_mates.specs.declared.siege.Guards.{Guards}
 use Rattle.chess_mates.specs.declared.siege.Risk.{Risk}
 use Rattle.chess_mates.specs.declared.siege.Siege.{Siege}
-use Rattle.chess_mates.specs.ties.Siege.{AreArrivals, AreGuardsWithout, AreReached, AreWeak, IsAttacker, IsCheckWord, IsHarmless, IsMet, IsNoCheck, IsOff, IsReached, IsWeak, LeavesOne, is_leaper, is_rider, squares_for}
-use Rattle.chess_mates.specs.ties.Siege.{reached_over}
-use Rattle.chess_rules.proofs.Bits.{off_left, off_right, word_has}
+use Rattle.chess_mates.specs.ties.Siege.{AreArrivals, AreGuardsWithout, AreReached, AreWeak, IsAttacker, IsCheckWord, IsHarmless, IsMet, IsNear, IsNoCheck, IsOff, IsReached, IsWeak, LeavesOne, is_leaper, is_rider, squares_for}
+use Rattle.chess_rules.proofs.Bits.{off_left, off_right, on_left, on_right, word_has}
 use Rattle.chess_rules.proofs.listing_moves.Targeting.{every_square_on, false_by}
 use Rattle.chess_rules.proofs.making_moves.Pseudo.{king_is_no_pawn}
 use Rattle.chess_mates.proofs.Hurdles.{all_reach, man_is, reached_is}
@@ -19,12 +18,14 @@ use Rattle.chess_mates.proofs.CheckTargets.{last_rank_on}
 use Rattle.chess_mates.proofs.FarMen.{off_denied, on_either}
 use Rattle.chess_rules.proofs.listing_moves.Walks.{off_zero, on_first}
 use Rattle.chess_mates.proofs.LastingFlights.{no_last_rank, on_both}
+use Rattle.chess_mates.specs.ties.LastingFlights as Flights
 use Rattle.chess_mates.specs.ties.LastingFlights.{IsLeft}
 
 -- squares off the last ranks
 pub no_last_rank_on : (x : Man) (w t : ℕ) → not (bit_and w 18374686479671623935 == 0) ≡ false → t < 64 → (bit_at w t == 1) ≡ true → arrives x t ≡ false
 no_last_rank_on x w t none small on = no_last_rank x w t (true_from_ne_false _ (λ e. false≢true (sym none ∙ ap not e))) small on
 
+-- who is no pawn doesn't arrive on his last rank
 pub no_pawn_arrives : (x : Man) (t : ℕ) → same_kind x.kind Pawn ≡ false → arrives x t ≡ false
 no_pawn_arrives x t piece = and_left _ _ piece
 
@@ -32,6 +33,7 @@ no_pawn_arrives x t piece = and_left _ _ piece
 pub bit_denied : (b i : ℕ) → b < 2 ^ 64 → i < 64 → (bit_at b i == 1) ≡ false → (bit_at (bit_not w64 b) i == 1) ≡ true
 bit_denied b i fits small off = grind (arith, bit_at_not w64 b i fits small, bit_at-lt b i, eq-eqb, false≢true)
 
+-- for a square of the first of two words alone
 pub denied_on : (a b i : ℕ) → b < 2 ^ 64 → i < 64 → (bit_at a i == 1) ≡ true → (bit_at b i == 1) ≡ false → (bit_at (bit_and a (bit_not w64 b)) i == 1) ≡ true
 denied_on a b i fits small on off = on_both a (bit_not w64 b) i on (bit_denied b i fits small off)
 
@@ -44,6 +46,7 @@ on_one a b i h = elim (cases_Bool (bit_at a i == 1)) [
 
 -- squares that are left
 module _ (near enemies w : ℕ) (x : Man) (t : ℕ) (all : (f : ℕ) → f < 64 → (bit_at w f == 1) ≡ true → IsLeft near x t f) where
+  -- for `critical_with`: where two squares are left, none is critical
   pub leaves_second : (f g : ℕ) → find (λ s. bit_at w s == 1) (range_with_len 0 64) ≡ Some f
       → find (λ s. bit_at w s == 1) (range_with_len (f + 1) (64 - (f + 1))) ≡ Some g → LeavesOne near enemies 0 x t
   leaves_second f g first second =
@@ -56,6 +59,7 @@ module _ (near enemies w : ℕ) (x : Man) (t : ℕ) (all : (f : ℕ) → f < 64 
         ];
       }
 
+  -- where one is left, that one is critical
   pub leaves_first : (f o : ℕ) → find (λ s. bit_at w s == 1) (range_with_len 0 64) ≡ Some f → o ≡ word (λ q. is_square (Some f) q)
       → LeavesOne near enemies o x t
   leaves_first f o first only =
@@ -68,37 +72,32 @@ module _ (near enemies w : ℕ) (x : Man) (t : ℕ) (all : (f : ℕ) → f < 64 
         );
       }
 
+-- where none is left, all are
 pub leaves_none : (near enemies : ℕ) (x : Man) (t : ℕ) → LeavesOne near enemies (bit_not w64 0) x t
 leaves_none near enemies x t = record { left = λ b small off there. absurd (false≢true (sym off ∙ every_square_on b small)) }
 
+-- but where a man has to be captured first, only his square is
 pub leaves_recapture : (near enemies o : ℕ) (x : Man) (t : ℕ) → o ≡ word (λ q. is_square (Some t) q) → (bit_at enemies t == 1) ≡ true
     → LeavesOne near enemies o x t
 leaves_recapture near enemies o x t only on = record {
   left = λ b small off there. absurd (false≢true (sym off ∙ word_has (λ q. is_square (Some t) q) o b only small ∙ eq-eqb t b (sym (there on))));
 }
 
+-- for words that are joined: the first has what is critical
 pub leaves_left : (near enemies a b : ℕ) (x : Man) (t : ℕ) → LeavesOne near enemies a x t → LeavesOne near enemies (bit_or a b) x t
 leaves_left near enemies a b x t h = record { left = λ c small off there. h.left c small (off_left a b c off) there }
 
+-- the second has
 pub leaves_right : (near enemies a b : ℕ) (x : Man) (t : ℕ) → LeavesOne near enemies b x t → LeavesOne near enemies (bit_or a b) x t
 leaves_right near enemies a b x t h = record { left = λ c small off there. h.left c small (off_right a b c off) there }
 
 -- where a man may go
-rides_no_pawn : (k : Kind) → is_rider k ≡ true → same_kind k Pawn ≡ false
-rides_no_pawn k h = grind (arith, false≢true)
+pub open_arrivals : (d : ℕ) (x : Man) (s w : ℕ) → ((p : Position) (t : ℕ) → t < 64 → may_go p x s t ≡ true → (bit_at w t == 1) ≡ true) → AreArrivals d x s w
+open_arrivals d x s w ways = record { inside = λ t i. ways i.position t i.small i.goes }
 
-pub pawn_arrivals : (d : ℕ) (x : Man) (s w : ℕ) → ((p : Position) (t : ℕ) → t < 64 → may_go p x s t ≡ true → (bit_at w t == 1) ≡ true)
-    → same_kind x.kind Pawn ≡ true → AreArrivals d x s w
-pawn_arrivals d x s w ways pawn = record {
-  inside = λ t i. ways i.position t i.small i.goes;
-  rides = λ rider. absurd (false≢true (sym (rides_no_pawn x.kind rider) ∙ pawn));
-}
-
+-- or over the hurdles
 pub piece_arrivals : (d : ℕ) (x : Man) (s w : ℕ) → IsReached d x s w → same_kind x.kind Pawn ≡ false → AreArrivals d x s w
-piece_arrivals d x s w reached piece = record {
-  inside = λ t i. reached.inside t i.small (i.reaches piece);
-  rides = λ rider. reached;
-}
+piece_arrivals d x s w reached piece = record { inside = λ t i. reached.inside t i.small (i.reaches piece) }
 
 -- where he doesn't check
 pub king_targets : (x : Man) (checks t : ℕ) → same_kind x.kind King ≡ true → IsNoCheck checks x t
@@ -107,6 +106,7 @@ king_targets x checks t king = record {
   plain = no_pawn_arrives x t (king_is_no_pawn x.kind king);
 }
 
+-- a pawn checks or promotes
 pub pawn_targets : (x : Man) (reached checks t : ℕ) → t < 64 → (bit_at reached t == 1) ≡ true
     → (bit_at (bit_and reached (bit_or checks 18374686479671623935)) t == 1) ≡ false → IsNoCheck checks x t
 pawn_targets x reached checks t small on off =
@@ -117,6 +117,7 @@ pawn_targets x reached checks t small on off =
           ∙ last_rank_on x.colour t small (and_parts _ _ last).1));
     }
 
+-- a piece checks from the check squares
 pub piece_targets : (x : Man) (reached checks t : ℕ) → same_kind x.kind Pawn ≡ false → (bit_at reached t == 1) ≡ true
     → (bit_at (bit_and reached checks) t == 1) ≡ false → IsNoCheck checks x t
 piece_targets x reached checks t piece on off = record {
@@ -136,6 +137,7 @@ Without a o = record {
   pawns = bit_and a.pawns (bit_not w64 o);
 }
 
+-- for `without`: who isn't the one who has gone is still there
 pub kept_without : (a : Attackers) (g o s : ℕ) (x : Man) → o ≡ word (λ t. is_square (Some g) t) → o < 2 ^ 64 → IsAttacker a x s → g ≢ s
     → IsAttacker (Without a o) x s
 kept_without a g o s x only fits i ne = record { small = i.small; mine = i.mine; on = by x.kind i.on } where
@@ -155,21 +157,23 @@ kept_without a g o s x only fits i ne = record { small = i.small; mine = i.mine;
   by Grasshopper on = on
   by Nightrider on = on
 
+-- a square of the first of two words alone isn't in the second
 pub off_word : (w n s : ℕ) → n < 2 ^ 64 → s < 64 → (bit_at (bit_and w (bit_not w64 n)) s == 1) ≡ true → (bit_at n s == 1) ≡ false
 off_word w n s fits small on = off_denied w n s fits small on
 
-pub guards_are : (v : Siege) (s o r l : ℕ) (a : Attackers) → o ≡ word (λ t. is_square (Some s) t) → o < 2 ^ 64
+-- for `guards_without`, by what riders and leapers reach
+pub guards_are : (v : Siege) (s region o r l : ℕ) (a : Attackers) → o ≡ word (λ t. is_square (Some s) t) → o < 2 ^ 64
     → ((q : ℕ) (z : Man) → IsAttacker v.men z q → s ≢ q → IsAttacker a z q)
-    → AreReached (bit_and v.hurdles (bit_not w64 o)) a is_rider r → AreReached (bit_and v.hurdles (bit_not w64 o)) a is_leaper l
-    → AreGuardsWithout v s (record { ridden = r; guarded = bit_or r l })
-guards_are v s o r l a only fits others rides leaps = record {
+    → AreReached (bit_and v.hurdles (bit_not w64 o)) a region is_rider r → AreReached (bit_and v.hurdles (bit_not w64 o)) a region is_leaper l
+    → AreGuardsWithout v s region (record { ridden = r; guarded = bit_or r l })
+guards_are v s region o r l a only fits others rides leaps = record {
   hurdles = bit_and v.hurdles (bit_not w64 o);
   kept = λ e small on. (
     on_first v.hurdles _ e on,
     λ same. false≢true (sym (off_word v.hurdles o e fits small on) ∙ word_has (λ t. is_square (Some s) t) o e only small ∙ eq-eqb s e same),
   );
-  rides = λ q z i ne rider. rides.reach q z (others q z i ne) rider;
-  guards = λ q z i ne. (all_reach (bit_and v.hurdles (bit_not w64 o)) a r l rides leaps).reach q z (others q z i ne) refl;
+  rides = λ q z i ne rider near. rides.reach q z (others q z i ne) rider near;
+  guards = λ q z i ne near. (all_reach (bit_and v.hurdles (bit_not w64 o)) a region r l rides leaps).reach q z (others q z i ne) refl near;
 }
 
 -- where everything is critical
@@ -177,39 +181,51 @@ pub never_off : (d l a b : ℕ) → b < 64 → IsOff d (record { critical = bit_
 never_off d l a b small off = false≢true (sym off.critical ∙ every_square_on b small)
 
 -- one attacker goes
-pub met_is : (v : Siege) (g : Field) (x : Man) (s targets watched c : ℕ) (gs : Guards) (a b t : ℕ) → b < 64 → t < 64 → g.near < 2 ^ 64 → gs.guarded < 2 ^ 64
-    → AreGuardsWithout v s gs → IsOff v.hurdles (record { critical = c; lines = gs.ridden }) a b
+pub met_is : (v : Siege) (g : Field) (x : Man) (s targets watched c o : ℕ) (gs : Guards) (a b t : ℕ) → o ≡ word (λ q. is_square (Some g.king) q) → g.king < 64 → b < 64 → t < 64 → g.near < 2 ^ 64 → gs.guarded < 2 ^ 64
+    → AreGuardsWithout v s (bit_or g.near o) gs → IsOff v.hurdles (record { critical = c; lines = gs.ridden }) a b
     → ((bit_at gs.guarded g.king == 1) ≡ true → (bit_at watched t == 1) ≡ true)
     → ((bit_at gs.guarded g.king == 1) ≡ false → watched ≡ targets)
     → ((q : ℕ) → q < 64 → (bit_at watched q == 1) ≡ true → arrives x q ≡ false)
     → ((q : ℕ) → q < 64 → (bit_at watched q == 1) ≡ true → LeavesOne (bit_and g.near (bit_not w64 gs.guarded)) v.enemies c x q)
     → IsMet v g x s targets a b t
-met_is v g x s targets watched c gs a b t inside small near fits are off every shut plain leaves there = elim (cases_Bool (bit_at watched t == 1)) [
+met_is v g x s targets watched c o gs a b t only at_king inside small near fits are off every shut plain leaves there = elim (cases_Bool (bit_at watched t == 1)) [
   | inl on ↦
       let one = (leaves t small on).left b inside off.critical there in
       inr (record {
         plain = plain t small on;
         square = one.0;
         left = record { small = one.1.small; on = on_first g.near _ one.0 one.1.on; off = one.1.off; unreached = one.1.unreached };
-        unguarded = record { guards = gs; are = are; shut = off.lines; off = off_denied g.near gs.guarded one.0 fits one.1.small one.1.on };
+        unguarded = record {
+          region = bit_or g.near o;
+          near = on_left g.near o one.0 (on_first g.near _ one.0 one.1.on);
+          guards = gs;
+          are = are;
+          shut = off.lines;
+          off = off_denied g.near gs.guarded one.0 fits one.1.small one.1.on;
+        };
         elsewhere = one.2;
       })
   | inr none ↦
       let unchecked : (bit_at gs.guarded g.king == 1) ≡ false = false_by _ (λ on. false≢true (sym none ∙ every on)) in
-      inl (ap (λ (w : ℕ). bit_at w t == 1) (sym (shut unchecked)) ∙ none, record { guards = gs; are = are; shut = off.lines; off = unchecked })
+      inl (
+        ap (λ (w : ℕ). bit_at w t == 1) (sym (shut unchecked)) ∙ none,
+        record {
+          region = bit_or g.near o;
+          near = on_right g.near o g.king (word_has (λ q. is_square (Some g.king) q) o g.king only at_king ∙ eq-eqb g.king g.king refl);
+          guards = gs;
+          are = are;
+          shut = off.lines;
+          off = unchecked;
+        },
+      )
 ]
 
-module _ (v : Siege) (g : Field) (checks : ℕ) (x : Man) (s reached targets l : ℕ) (are : AreArrivals v.hurdles x s reached)
-    (quiet : (t : ℕ) → t < 64 → (bit_at reached t == 1) ≡ true → (bit_at targets t == 1) ≡ false → IsNoCheck checks x t)
-    (lines : is_rider x.kind ≡ true → l ≡ reached) where
-  shut_off : (a : ℕ) → a < 64 → (bit_at l a == 1) ≡ false → is_rider x.kind ≡ true → reached_over v.hurdles x s a ≡ false
-  shut_off a small off rider = false_by _ (λ h. false≢true (sym off ∙ ap (λ (w : ℕ). bit_at w a == 1) (lines rider)
-      ∙ (are.rides rider).inside a small h))
-
-  pub harmless_quietly : targets ≡ 0 → (bit_at g.lines s == 1) ≡ false → IsHarmless v g checks (record { critical = 0; lines = l }) x s
+module _ (v : Siege) (g : Field) (checks : ℕ) (x : Man) (s reached targets : ℕ) (are : AreArrivals v.hurdles x s reached)
+    (quiet : (t : ℕ) → t < 64 → (bit_at reached t == 1) ≡ true → (bit_at targets t == 1) ≡ false → IsNoCheck checks x t) where
+  -- for a man who goes to no target and uncovers nothing
+  pub harmless_quietly : targets ≡ 0 → (bit_at g.lines s == 1) ≡ false → IsHarmless v g checks (record { critical = 0; lines = 0 }) x s
   harmless_quietly none hidden = record {
     mild = λ a b small inside off. record {
-      shut = λ rider on. shut_off a small (off.lines on) rider;
       each = λ t i there. inl (record {
         check = quiet t i.small (are.inside t i) (ap (λ (w : ℕ). bit_at w t == 1) none ∙ off_zero t);
         covered = inl hidden;
@@ -217,19 +233,17 @@ module _ (v : Siege) (g : Field) (checks : ℕ) (x : Man) (s reached targets l :
     };
   }
 
+  -- for one who might
   pub harmless_going : (r : Risk)
       → ((a b t : ℕ) → a < 64 → b < 64 → IsOff v.hurdles r a b → t < 64 → (bit_at reached t == 1) ≡ true → IsMet v g x s targets a b t)
-      → IsHarmless v g checks (record { critical = r.critical; lines = bit_or r.lines l }) x s
+      → IsHarmless v g checks r x s
   harmless_going r met = record {
-    mild = λ a b small inside off.
-        let off_going : IsOff v.hurdles r a b = record { lines = λ on. off_left r.lines l a (off.lines on); critical = off.critical } in
-        record {
-          shut = λ rider on. shut_off a small (off_right r.lines l a (off.lines on)) rider;
-          each = λ t i there. elim (met a b t small inside off_going i.small (are.inside t i) there) [
-            | inl calm ↦ inl (record { check = quiet t i.small (are.inside t i) calm.0; covered = inr calm.1 })
-            | inr flight ↦ inr flight
-          ];
-        };
+    mild = λ a b small inside off. record {
+      each = λ t i there. elim (met a b t small inside off i.small (are.inside t i) there) [
+        | inl calm ↦ inl (record { check = quiet t i.small (are.inside t i) calm.0; covered = inr calm.1 })
+        | inr flight ↦ inr flight
+      ];
+    };
   }
 
 -- risks together
@@ -242,10 +256,12 @@ off_one d q r a b off = record { lines = λ on. off_left q.lines r.lines a (off.
 off_other : (d : ℕ) (q r : Risk) (a b : ℕ) → IsOff d (Both q r) a b → IsOff d r a b
 off_other d q r a b off = record { lines = λ on. off_right q.lines r.lines a (off.lines on); critical = off_right q.critical r.critical b off.critical }
 
+-- for risks that are joined: off both a man is harmless by the first
 pub harmless_left : (v : Siege) (g : Field) (checks : ℕ) (q r : Risk) (x : Man) (s : ℕ) → IsHarmless v g checks q x s
     → IsHarmless v g checks (record { critical = bit_or q.critical r.critical; lines = bit_or q.lines r.lines }) x s
 harmless_left v g checks q r x s h = record { mild = λ a b small inside off. h.mild a b small inside (off_one v.hurdles q r a b off) }
 
+-- or by the second
 pub harmless_right : (v : Siege) (g : Field) (checks : ℕ) (q r : Risk) (x : Man) (s : ℕ) → IsHarmless v g checks r x s
     → IsHarmless v g checks (record { critical = bit_or q.critical r.critical; lines = bit_or q.lines r.lines }) x s
 harmless_right v g checks q r x s h = record { mild = λ a b small inside off. h.mild a b small inside (off_other v.hurdles q r a b off) }
@@ -254,12 +270,20 @@ harmless_right v g checks q r x s h = record { mild = λ a b small inside off. h
 pub none_at : (w s : ℕ) → w ≡ 0 → (bit_at w s == 1) ≡ true → ⊥
 none_at w s empty on = false≢true (sym (off_zero s) ∙ ap (λ (n : ℕ). bit_at n s == 1) (sym empty) ∙ on)
 
+-- the same by a test
 pub none_on : (w s : ℕ) → (w == 0) ≡ true → (bit_at w s == 1) ≡ true → ⊥
 none_on w s empty on = none_at w s (eqb-true w 0 empty) on
 
+-- a man who doesn't reach the region on the empty board
+pub not_near : (x : Man) (s o region : ℕ) → Flights.AreReached x s o → bit_and o region ≡ 0 → IsNear x s region → ⊥
+not_near x s o region reached none near =
+    none_at (bit_and o region) near.square none (on_both o region near.square (reached.inside near.men near.square near.small near.reaches) near.on)
+
+-- where everything is critical, nothing is claimed
 pub weak_never : (v : Siege) (g : Field) (l : ℕ) (x : Man) (s : ℕ) → IsWeak v g (record { critical = bit_not w64 0; lines = l }) x s
 weak_never v g l x s = record { weak = λ a b small inside off. absurd (never_off v.hurdles l a b inside off) }
 
+-- for men who are harmless and don't check now
 pub weak_is : (v : Siege) (g : Field) (r : Risk) (x : Man) (checks squares s : ℕ) → IsCheckWord v.hurdles g.king x checks
     → bit_and checks squares ≡ 0 → (bit_at squares s == 1) ≡ true → IsHarmless v g checks r x s → IsWeak v g r x s
 weak_is v g r x checks squares s word none on harmless = record {
@@ -271,10 +295,18 @@ weak_is v g r x checks squares s word none on harmless = record {
   };
 }
 
+-- for check squares told from the king's square
 pub check_word : (d k w : ℕ) (x : Man) → d < 2 ^ 64
     → ((men : List (Option Man)) → d ≡ occupied_squares men → w ≡ word (reaches_as men (other x.colour) x.kind k)) → IsCheckWord d k x w
 check_word d k w x fits h = record {
   inside = λ t small reached. (reached_is d (record { colour = other x.colour; kind = x.kind }) k w fits h).inside t small reached;
+}
+
+-- or by the lines of his field
+pub check_lines : (d k w : ℕ) (x : Man) (j : Kind) → same_kind x.kind j ≡ true → ((c : Colour) → IsReached d (record { colour = c; kind = j }) k w)
+    → IsCheckWord d k x w
+check_lines d k w x j kind h = record {
+  inside = λ t small reached. (h (other x.colour)).inside t small (rw (same_kind-true x.kind j kind) at reached);
 }
 
 -- each attacker, kind by kind
@@ -292,6 +324,7 @@ module _ (v : Siege) (g : Field) where
   right : (q r : Risk) (s : ℕ) (x : Man) → IsWeak v g r x s → IsWeak v g (Both q r) x s
   right q r s x h = record { weak = λ a b small inside off. h.weak a b small inside (off_other v.hurdles q r a b off) }
 
+  -- for `risk_of_all`
   pub all_weak : (K Q R B N P : Risk) → WeakAs King K → WeakAs Queen Q → WeakAs Rook R → WeakAs Bishop B → WeakAs Knight N → WeakAs Pawn P
       → AreWeak v g (Both (Both (Both (Both (Both K Q) R) B) N) P)
   all_weak K Q R B N P kings queens rooks bishops knights pawns = record { weak = λ s x i. by s x i x.kind refl } where

@@ -1,13 +1,13 @@
 -- The men of a siege, its castlings and the king's field.
-use Rattle.chess_rules.proofs.Basics.{List, None, Option, Some, and_parts, ap, arith, bit_and, bit_at, bit_not, bit_or, eq-eqb, false, false≢true, inl, inr, list_any, or_cases, refl, subst, sym, true, w64, ℕ, ◌&&◌, ◌+◌, ◌-◌, ◌<◌, ◌==◌, ◌^◌, ◌||◌, ◌∙◌, ◌≡◌, ◌⊎◌}
+use Rattle.chess_rules.proofs.Basics.{List, None, Option, Some, and_parts, ap, arith, bit_and, bit_at, bit_not, bit_or, eq-eqb, false, false≢true, inl, inr, list_any, list_any-append, or_cases, refl, subst, sym, true, w64, ℕ, ◌&&◌, ◌+◌, ◌-◌, ◌<◌, ◌==◌, ◌^◌, ◌||◌, ◌∙◌, ◌≡◌, ◌⊎◌}
 use Rattle.chess_mates.proofs.Chess.{Bishop, Colour, Grasshopper, IsWellFormed, Kind, King, Knight, Man, Nightrider, Pawn, Position, Queen, Rook, White, corner, is_fairy, is_man, is_on_some, is_side, is_square, king_square, leaps, man_on, occupied_squares, other, queen_steps}
-use Rattle.chess_mates.proofs.Chess.{reaches_as, same_colour, same_kind, side_of, squares, squares_of, straight_steps, word}
+use Rattle.chess_mates.proofs.Chess.{diagonal_steps, reaches_as, rides, same_colour, same_kind, side_of, squares, squares_of, straight_steps, word}
 use Rattle.chess_core.specs.Castling.{has_unmoved}
 use Rattle.chess_mates.specs.declared.siege.Attackers.{Attackers}
 use Rattle.chess_mates.specs.declared.siege.Field.{Field}
 use Rattle.chess_mates.specs.declared.siege.Risk.{Risk}
 use Rattle.chess_mates.specs.declared.siege.Siege.{Siege}
-use Rattle.chess_mates.specs.ties.Siege.{AreAttackers, AreCastlingSquares, AreHurdles, AreWeak, IsCastlingHarmless, IsField, IsRiskAt, IsShut, IsSiegeOf, squares_for}
+use Rattle.chess_mates.specs.ties.Siege.{AreAttackers, AreCastlingSquares, AreHurdles, AreReached, AreThreats, AreWeak, IsCastlingHarmless, IsField, IsNear, IsRiskAt, IsShut, IsSiege, IsSiegeOf, is_rider, men_on, squares_for}
 use Rattle.chess_mates.specs.ties.Threats.{HasNoFairy}
 use Rattle.chess_mates.specs.ties.Siege.{reached_over}
 use Rattle.chess_rules.proofs.Bits.{off_left, off_right, on_left, on_right, word_has}
@@ -20,19 +20,31 @@ use Rattle.chess_mates.proofs.Risks.{on_one, off_word, none_on, weak_never}
 use Rattle.chess_mates.proofs.LastingFlights.{on_both}
 
 -- the king's field
-pub field_is : (v : Siege) (k n r : ℕ) → n ≡ word (λ t. list_any (leaps k t) queen_steps) → v.hurdles < 2 ^ 64 → v.own < 2 ^ 64 → v.men.kings < 2 ^ 64
-    → ((men : List (Option Man)) → v.hurdles ≡ occupied_squares men → r ≡ word (reaches_as men White Queen k))
-    → IsField v (record { king = k; near = bit_and (bit_and n (bit_not w64 v.own)) (bit_not w64 v.men.kings); lines = r })
+pub field_is : (v : Siege) (k n r b : ℕ) → n ≡ word (λ t. list_any (leaps k t) queen_steps) → v.hurdles < 2 ^ 64 → v.own < 2 ^ 64 → v.men.kings < 2 ^ 64
+    → ((men : List (Option Man)) → v.hurdles ≡ occupied_squares men → r ≡ word (reaches_as men White Rook k))
+    → ((men : List (Option Man)) → v.hurdles ≡ occupied_squares men → b ≡ word (reaches_as men White Bishop k))
+    → IsField v (record { king = k; near = bit_and (bit_and n (bit_not w64 v.own)) (bit_not w64 v.men.kings); straight = r; diagonal = b; lines = bit_or r b })
 unfolding reached_over reaches_as
-field_is v k n r near hurdles own kings lines = record {
+field_is v k n r b near hurdles own kings rook bishop = record {
   next = λ f small on. sym (word_has (λ t. list_any (leaps k t) queen_steps) n f near small) ∙ on_first n _ f (on_first _ _ f on);
   own = λ f small on. off_word n v.own f own small (on_first _ _ f on);
   kings = λ f small on. off_word _ v.men.kings f kings small on;
+  straight = λ c. record { inside = straight };
+  diagonal = λ c. record { inside = diagonal };
   lines = λ c. record {
-    inside = λ t small reached. (reached_is v.hurdles (record { colour = White; kind = Queen }) k r hurdles lines).inside t small reached;
+    inside = λ t small reached. elim (or_cases _ _ (sym (list_any-append (rides (men_on v.hurdles) k t) straight_steps diagonal_steps) ∙ reached)) [
+      | inl y ↦ on_left r b t (straight t small y)
+      | inr y ↦ on_right r b t (diagonal t small y)
+    ];
   };
-}
+} where
+  straight : (t : ℕ) → t < 64 → list_any (rides (men_on v.hurdles) k t) straight_steps ≡ true → (bit_at r t == 1) ≡ true
+  straight t small reached = (reached_is v.hurdles (record { colour = White; kind = Rook }) k r hurdles rook).inside t small reached
 
+  diagonal : (t : ℕ) → t < 64 → list_any (rides (men_on v.hurdles) k t) diagonal_steps ≡ true → (bit_at b t == 1) ≡ true
+  diagonal t small reached = (reached_is v.hurdles (record { colour = White; kind = Bishop }) k b hurdles bishop).inside t small reached
+
+-- for `castling_is_harmless`, by the words of rooks and kings
 pub harmless_castling : (v : Siege) (g : Field) (l : ℕ) → l ≡ word (is_on_some straight_steps g.king)
     → (v.castled == 0 || (bit_and l v.castled == 0 && bit_and g.lines v.men.kings == 0)) ≡ true → IsCastlingHarmless v g
 harmless_castling v g l lines h = elim (or_cases _ _ h) [
@@ -60,6 +72,7 @@ risk_never v k g king field = record {
   nowhere : (b : ℕ) → b < 64 → (bit_at (bit_not w64 0) b == 1) ≡ false → ⊥
   nowhere b small off = false≢true (sym off ∙ every_square_on b small)
 
+-- for the risk told of all attackers
 pub risk_is : (v : Siege) (k : ℕ) (g : Field) (r : Risk) → g.king ≡ k → IsField v g → IsCastlingHarmless v g → AreWeak v g r
     → IsRiskAt v k (record { critical = r.critical; lines = bit_or r.lines g.lines })
 risk_is v k g r king field castling all = record {
@@ -74,6 +87,30 @@ risk_is v k g r king field castling all = record {
   };
 }
 
+-- with the lines of all riders
+pub threats_are : (v : Siege) (r : Risk) (w : ℕ) → IsSiege v → IsRiskAt v v.king r → AreReached v.hurdles v.men (bit_not w64 0) is_rider w
+    → AreThreats v (record { critical = r.critical; lines = bit_or r.lines w })
+unfolding reached_over
+threats_are v r w siege risk ridden = record {
+  siege = siege;
+  risk = record {
+    field = risk.field;
+    king = risk.king;
+    is = risk.is;
+    castling = risk.castling;
+    lines = λ a b small critical off. risk.lines a b small critical (off_left r.lines w a off);
+    weak = λ s x i. record {
+      weak = λ a b small inside off. (risk.weak s x i).weak a b small inside
+          (record { lines = λ on. off_left r.lines w a (off.lines on); critical = off.critical });
+    };
+  };
+  rides = λ s x i rider. record {
+    inside = λ t small reached. on_right r.lines w t ((ridden.reach s x i rider (near s x t small reached)).inside t small reached);
+  };
+} where
+  near : (s : ℕ) (x : Man) (t : ℕ) → t < 64 → reached_over v.hurdles x s t ≡ true → IsNear x s (bit_not w64 0)
+  near s x t small reached = record { square = t; small = small; on = every_square_on t small; men = men_on v.hurdles; reaches = reached }
+
 -- the men of the siege
 pub hurdles_are : (own enemies k o w : ℕ) → o ≡ word (λ t. is_square (Some k) t) → o < 2 ^ 64
     → AreHurdles own enemies k (bit_and (bit_and (bit_or own enemies) (bit_not w64 o)) (bit_not w64 w))
@@ -85,6 +122,7 @@ hurdles_are own enemies k o w only fits = record {
       );
 }
 
+-- for a man who is lifted: his square isn't a hurdle
 pub lifted_off : (a w s : ℕ) (o : Option ℕ) → w ≡ word (λ t. is_square o t) → w < 2 ^ 64 → s < 64 → o ≡ Some s
     → (bit_at (bit_and a (bit_not w64 w)) s == 1) ≡ false
 lifted_off a w s o only fits small e = false_by _ (λ on. false≢true (sym (off_word a w s fits small on) ∙ word_has (λ t. is_square o t) w s only small
@@ -119,6 +157,7 @@ attackers_are men a kings queens rooks bishops knights pawns = record {
   by s x small here mine plain Grasshopper e = absurd (false≢true (sym plain ∙ ap is_fairy e))
   by s x small here mine plain Nightrider e = absurd (false≢true (sym plain ∙ ap is_fairy e))
 
+-- for `has_no_fairy`
 pub no_fairies : (men : List (Option Man)) (c : Colour) (g n : ℕ) → g ≡ squares_of men c Grasshopper → n ≡ squares_of men c Nightrider
     → (bit_or g n == 0) ≡ true → HasNoFairy men c
 unfolding squares_of
@@ -140,6 +179,7 @@ no_fairies men c g n hoppers riders none = record { none = λ s x small here min
   by s x small here mine Knight e = rw e refl
   by s x small here mine Pawn e = rw e refl
 
+-- for `castling_square`: one side, by numbers
 pub shut_on : (p : Position) (c : Colour) (own w corner next a b : ℕ) → own ≡ side_of p.men c → next < 64
     → (has_unmoved p.unmoved corner ≡ false) ⊎ ((bit_at own next == 1) ≡ true) ⊎ ((bit_at w next == 1) ≡ true) → corner ≡ a → next ≡ b → IsShut p c w a b
 unfolding side_of
@@ -153,6 +193,7 @@ shut_in p c v w a b more (inl moved) = inl moved
 shut_in p c v w a b more (inr (inl on)) = inr (inl on)
 shut_in p c v w a b more (inr (inr on)) = inr (inr (λ low. more b (on low)))
 
+-- for `castling_squares`: without a king
 pub no_king_castles : (p : Position) (c : Colour) (w : ℕ) → king_square p.men c ≡ None → AreCastlingSquares p c w
 unfolding king_square squares
 no_king_castles p c w none = record {
@@ -165,14 +206,17 @@ king_castles p c w k well king sides = record {
   sides = λ s small is. rw (well.kings.same c s k is (king_there p.men c k king).1) sides;
 }
 
+-- with one who has moved
 pub moved_king_castles : (p : Position) (c : Colour) (w k : ℕ) → king_square p.men c ≡ Some k → has_unmoved p.unmoved k ≡ false → IsWellFormed p
     → AreCastlingSquares p c w
 moved_king_castles p c w k king moved well = king_castles p c w k well king (inl moved)
 
+-- with one whose squares aside aren't on the board
 pub king_castles_anywhere : (p : Position) (c : Colour) (k : ℕ) → king_square p.men c ≡ Some k → IsWellFormed p → AreCastlingSquares p c (bit_not w64 0)
 king_castles_anywhere p c k king well =
     king_castles p c (bit_not w64 0) k well king (inr (inr (inr (λ low. every_square_on (k + 1) low)), inr (inr (λ low. every_square_on (k - 1) low))))
 
+-- on both sides
 pub king_castles_to : (p : Position) (c : Colour) (k long short : ℕ) → king_square p.men c ≡ Some k → IsShut p c long (k - 4) (k - 1)
     → IsShut p c short (k + 3) (k + 1) → IsWellFormed p → AreCastlingSquares p c (bit_or long short)
 king_castles_to p c k long short king far near well = king_castles p c (bit_or long short) k well king (inr (
@@ -180,6 +224,7 @@ king_castles_to p c k long short king far near well = king_castles p c (bit_or l
   shut_in p c long (bit_or long short) (k - 4) (k - 1) (λ q on. on_left long short q on) far,
 ))
 
+-- for a siege by the board's men
 pub siege_fits : (p : Position) (v : Siege) → v.men.colour ≡ other p.turn → king_square p.men p.turn ≡ Some v.king → v.own ≡ side_of p.men p.turn
     → v.enemies ≡ side_of p.men v.men.colour → AreAttackers p.men v.men → v.men.kings ≡ squares_of p.men v.men.colour King
     → AreCastlingSquares p v.men.colour v.castled → IsSiegeOf p v

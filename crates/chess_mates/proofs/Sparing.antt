@@ -8,7 +8,7 @@ use Rattle.chess_mates.specs.declared.siege.Field.{Field}
 use Rattle.chess_mates.specs.declared.siege.Risk.{Risk}
 use Rattle.chess_mates.specs.declared.siege.Siege.{Siege}
 use Rattle.chess_mates.specs.ties.Flights.{has_flight}
-use Rattle.chess_mates.specs.ties.Siege.{IsArrival, IsAttacker, IsCastlingHarmless, IsCheckWord, IsFlight, IsOff, IsQuiet, IsRiskAt, IsShut, IsSiege, IsSiegeOf, IsUnguarded, IsWeakAt, is_rider, men_on, squares_for}
+use Rattle.chess_mates.specs.ties.Siege.{IsArrival, IsAttacker, IsCastlingHarmless, IsCheckWord, IsFlight, IsNear, IsOff, IsQuiet, IsRiskAt, IsShut, IsShutAt, IsSiege, IsSiegeOf, IsUnguarded, IsWeakAt, is_rider, men_on, squares_for}
 use Rattle.chess_mates.specs.ties.Mates.{allows_mate}
 use Rattle.chess_mates.specs.ties.Threats.{AreRisky, HasNoFairy, IsPlainMove}
 use Rattle.chess_rules.specs.ties.Sifting.{AreSifted}
@@ -42,6 +42,7 @@ pub record IsSpared (p : Position) (m : Move) (x : Man) (v : Siege) (k : ℕ) (r
   pub fairies : HasNoFairy p.men (other p.turn)
   pub at : IsRiskAt v k r
   pub off : IsOff v.hurdles r m.from m.to
+  pub shut : IsShutAt v m.from
   pub off_king : (e : ℕ) → e < 64 → (bit_at v.hurdles e == 1) ≡ true → e ≢ k
 
 module _ (rule : RuleSet) (p : Position) (m : Move) (x : Man) (v : Siege) (k : ℕ) (risk : Risk) (well : IsWellFormed p)
@@ -296,7 +297,7 @@ module _ (rule : RuleSet) (p : Position) (m : Move) (x : Man) (v : Siege) (k : �
       comes_over : reaches_as q.men y.colour y.kind n.from n.to ≡ true → reached_over v.hurdles y n.from n.to ≡ true
       unfolding reached_over
       comes_over h = later v.hurdles q.men y.colour y.kind n.from n.to plain_y (λ rider e inside on h. elim (cases_eq e m.from) [
-        | inl same ↦ absurd (false≢true (sym (w.mild.shut rider (rw same at on)) ∙ (rw same at h)))
+        | inl same ↦ absurd (false≢true (sym (i.shut.shut n.from y is_y rider (rw same at on)) ∙ (rw same at h)))
         | inr left ↦ stays_q e inside on left
       ]) h
 
@@ -332,9 +333,10 @@ module _ (rule : RuleSet) (p : Position) (m : Move) (x : Man) (v : Siege) (k : �
               → reaches_as men z.colour z.kind s t ≡ false
           unfolding reached_over
           unguarded_off s t z inside a ne plain u = false_from_ne_true _ (λ h.
-              false≢true (sym u.off ∙ (u.are.guards s z a (λ e. ne (sym e))).inside t inside
+              let near : IsNear z s u.region = record { square = t; small = inside; on = u.near; men = men; reaches = h } in
+              false≢true (sym u.off ∙ (u.are.guards s z a (λ e. ne (sym e)) near).inside t inside
               (later_but u.are.hurdles men m.from n.from z.colour z.kind s t plain (λ e low on left off. stays e low (u.are.kept e low on).0 left off)
-              (λ rider on reach. false≢true (sym (u.shut (u.are.kept m.from from on).0) ∙ (u.are.rides s z a (λ e. ne (sym e)) rider).inside m.from from reach))
+              (λ rider on reach. false≢true (sym (u.shut (u.are.kept m.from from on).0) ∙ (u.are.rides s z a (λ e. ne (sym e)) rider near).inside m.from from reach))
               (λ rider on reach. (u.are.kept n.from from_small on).1 refl) h)))
 
           -- nor the king, unless y stood on one of his lines
@@ -478,6 +480,7 @@ module _ (rule : RuleSet) (p : Position) (m : Move) (x : Man) (v : Siege) (k : �
     | inr not ↦ not_mating rule q (triple_at j) not
   ]
 
+  -- for each way of the defender
   pub no_mate_behind : mates_behind rule q 0 ≡ []
   no_mate_behind =
       mates_behind-none rule q 0 28672 (λ lt. omega arith) (omega arith) (record { fails = λ j lo hi. none_mates j })

@@ -39,21 +39,27 @@ stood p x m t z size there = elim (cases_eq t m.to) [
   ]
 ]
 
+-- the other colour is another
 pub apart : (c : Colour) → same_colour (other c) c ≡ false
 apart c = grind arith
 
+-- for men of the other side
 pub not_mine : (x : Man) (c : Colour) → x.colour ≡ other c → same_colour x.colour c ≡ false
 not_mine x c e = ap (λ (d : Colour). same_colour d c) e ∙ apart c
 
+-- a man may arrive where neither his side nor a king stands
 pub free_man : (c : Colour) (o : Option Man) → is_side o c ≡ false → is_man o (other c) King ≡ false → is_arrival_free c o ≡ true
 free_man c o side king = grind (arith, false≢true)
 
+-- but not where his side stands
 pub unfree : (c : Colour) (o : Option Man) → is_arrival_free c o ≡ true → is_side o c ≡ true → ⊥
 unfree c o free side = grind (arith, and_parts, not-true, false≢true)
 
+-- off the last rank no promotion is named
 pub unnamed : (p : Position) (x : Man) (m : Move) (o : Option Kind) → arrives x m.to ≡ false → is_promotion_right p x m o ≡ true → o ≡ None
 unnamed p x m o off right = grind (arith, and_parts)
 
+-- each triple arrives on the board
 pub arrival_small : (i : ℕ) → (triple_at i).to < 64
 unfolding triple_at
 arrival_small i = omega arith
@@ -78,31 +84,37 @@ some_stays p x m b here size from some = elim (cases_eq b m.to) [
   | inr ne ↦ ap (λ (o : Option Man). is_some o) (stays_there p x m b here from ne) ∙ some
 ]
 
+-- where a side stands somebody stands
 pub some_side : (o : Option Man) (c : Colour) → is_side o c ≡ true → is_some o ≡ true
 some_side o c h = grind (arith, false≢true)
 
 -- a square that isn't unmoved isn't after a move without rebirth
-pub no_rebirth : (rule : RuleSet) (p : Position) (x : Man) (m : Move) → captures_do_more rule ≡ false → reborn_square rule p x m ≡ None
+no_rebirth : (rule : RuleSet) (p : Position) (x : Man) (m : Move) → captures_do_more rule ≡ false → reborn_square rule p x m ≡ None
 unfolding reborn_square
 no_rebirth rule p x m circe = grind arith
 
-pub unmoved_before : (p : Position) (x : Man) (m : Move) (t : ℕ)
+-- who is unmoved after a capture was so before
+unmoved_before : (p : Position) (x : Man) (m : Move) (t : ℕ)
     → has_unmoved (unmoved_without_at (without_unmoved (without_unmoved p.unmoved m.from) m.to) (capture_square p x m)) t ≡ true
     → has_unmoved p.unmoved t ≡ true
 unmoved_before p x m t h = search (rules, has_unmoved-parts)
 
+-- who has moved stays so
 pub moved_stays : (rule : RuleSet) (p : Position) (x : Man) (m : Move) (s : ℕ) → captures_do_more rule ≡ false → is_castling x m ≡ false
     → man_on p.men m.from ≡ Some x → has_unmoved p.unmoved s ≡ false → has_unmoved (position_after rule p m).unmoved s ≡ false
 unfolding position_after after_by unmoved_after
 moved_stays rule p x m s circe plain here moved =
     false_by _ (λ h. false≢true (sym moved ∙ unmoved_before p x m s (rw (here, plain, no_rebirth rule p x m circe) at h)))
 
+-- who is no fairy man is no grasshopper
 pub no_hopper : (k : Kind) → is_fairy k ≡ false → same_kind k Grasshopper ≡ false
 no_hopper k plain = grind (arith, false≢true)
 
+-- a man of the mover is none of the other side
 pub not_mine_enemy : (x : Man) (c : Colour) → x.colour ≡ c → same_colour x.colour (other c) ≡ false
 not_mine_enemy x c e = ap (λ (d : Colour). same_colour d (other c)) e ∙ other_differs c
 
+-- a king is no pawn
 pub and_left_king : (z : Man) → same_kind z.kind King ≡ true → same_kind z.kind Pawn ≡ false
 and_left_king z king = king_is_no_pawn z.kind king
 
@@ -151,6 +163,7 @@ reach_none men t c none s inside = by (man_on men s) refl where
     | inr off ↦ and_left _ (reaches_of men (Some z) s t) off
   ]
 
+-- for squares that no enemy reaches
 pub nobody_strikes : (rule : RuleSet) (men : List (Option Man)) (t : ℕ) (c : Colour)
     → ((s : ℕ) (z : Man) → s < 64 → man_on men s ≡ Some z → z.colour ≡ other c → reaches_as men z.colour z.kind s t ≡ false)
     → is_attacked rule men t (other c) ≡ false

@@ -39,6 +39,7 @@ on_others : (men : List (Option Man)) (a : ℕ) (o : Option ℕ) (b : ℕ) (z : 
     → man_on (stepped men a o b z k u t x) q ≡ man_on (gone_to men a o b z) q
 on_others men a o b z k u t x q h ne off = search (rules, gone_to, kept_now, or_from, taken_nowhere)
 
+-- who stands on a square once the man has arrived
 pub stands_arrived : (men : List (Option Man)) (a : ℕ) (o : Option ℕ) (b : ℕ) (z : Man) (k : ℕ) (u : Option ℕ) (t : ℕ) (x : Man) (q : ℕ) → b < length men
     → ((s : ℕ) → is_square u s ≡ true → s ≡ t) → q ≡ b → q ≢ t → b ≢ k
     → man_on (stepped men a o b z k u t x) q ≡ Some z
@@ -48,11 +49,13 @@ stands_arrived men a o b z k u t x q arrival h e ne off = search (rules, gone_to
 without_taken : (h i j e : Bool) → (j ≡ true → e ≡ true) → ((h && not i) || e) ≡ ((h && not (i || j)) || e)
 without_taken h i j e p = grind arith
 
+-- and once the king has stepped
 pub stands : (men : List (Option Man)) (a : ℕ) (o : Option ℕ) (b : ℕ) (z : Man) (k : ℕ) (u : Option ℕ) (t : ℕ) (x : Man) (q : ℕ) → b < length men
     → t < length men → ((s : ℕ) → is_square u s ≡ true → s ≡ t)
     → ((is_occupied_after men a o b q && not (k == q)) || t == q) ≡ is_some (man_on (stepped men a o b z k u t x) q)
 stands men a o b z k u t x q arrival flight h = search (rules, gone_to, length-gone, occupied_now, without_taken)
 
+-- the words of men with the king lifted
 pub lifted_words : (men : List (Option Man)) (a : ℕ) (o : Option ℕ) (b k : ℕ)
     → (sight_lifted men a o b k).occupied ≡ word (λ s. is_occupied_after men a o b s && not (k == s))
 lifted_words men a o b k = search (rules, occupied_words, squares_both, squares_not)
@@ -70,10 +73,12 @@ lifted_one : (men : List (Option Man)) (a : ℕ) (o : Option ℕ) (b : ℕ) (z :
     → (is_occupied_after men a o b q && not (k == q)) ≡ is_some (man_on (without_man (gone_to men a o b z) k) q)
 lifted_one men a o b z k q arrival = grind (arith, and_right, cases_eq, differs, eq-eqb, man_on-without_other, man_on-without_same, occupied_now)
 
+-- for the word of occupied squares then
 pub occupied_lifted : (men : List (Option Man)) (a : ℕ) (o : Option ℕ) (b : ℕ) (z : Man) (k : ℕ) → b < length men
     → (sight_lifted men a o b k).occupied ≡ occupied_squares (without_man (gone_to men a o b z) k)
 occupied_lifted men a o b z k arrival = search (rules, lifted_one, lifted_words, squares_same)
 
+-- that board and the one after the step differ on the flight alone
 pub lifted_alike : (men : List (Option Man)) (a : ℕ) (o : Option ℕ) (b : ℕ) (z : Man) (k : ℕ) (u : Option ℕ) (t : ℕ) (x : Man) → b < length men
     → t < length men → ((s : ℕ) → is_square u s ≡ true → s ≡ t)
     → StandAlike (stepped men a o b z k u t x) (without_man (gone_to men a o b z) k) t
@@ -85,6 +90,7 @@ pub arrival_alike : (men : List (Option Man)) (a : ℕ) (o : Option ℕ) (b : �
     → StandAlike (stepped men a o b z k u t x) (stepped men a o b y k u t x) t
 arrival_alike men a o b z y k u t x arrival flight h = search (rules, stands)
 
+-- so they do for each kind of arriving man
 pub same_elsewhere : (men : List (Option Man)) (a : ℕ) (o : Option ℕ) (b : ℕ) (z y : Man) (k : ℕ) (u : Option ℕ) (t : ℕ) (x : Man) (q : ℕ) → t < length men
     → ((s : ℕ) → is_square u s ≡ true → s ≡ t) → (q ≡ b → q ≡ t)
     → man_on (stepped men a o b z k u t x) q ≡ man_on (stepped men a o b y k u t x) q

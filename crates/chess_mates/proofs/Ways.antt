@@ -35,6 +35,7 @@ module _ (rule : RuleSet) (p : Position) (x : Man) (v : ToldThreats) (well : IsW
           fairies = threats.told.fairies;
           at = safe.at;
           off = record { lines = λ on. absurd ((siege.hurdles.men m.from from on).1 same); critical = safe.off };
+          shut = record { shut = λ s z a rider on. absurd ((siege.hurdles.men m.from from on).1 same) };
           off_king = λ e inside on same. false≢true (sym safe.free ∙ (rw same at on));
         })
 
@@ -58,6 +59,7 @@ module _ (rule : RuleSet) (p : Position) (x : Man) (v : ToldThreats) (well : IsW
           fairies = threats.told.fairies;
           at = safe.at;
           off = safe.off;
+          shut = safe.shut;
           off_king = λ e inside on same. (l.siege.hurdles.men e inside on).1 (l.king ∙ sym same);
         })
 
@@ -82,14 +84,18 @@ module _ (rule : RuleSet) (p : Position) (x : Man) (v : ToldThreats) (well : IsW
           spares m may origin small on (off_left u r m.to both) (off_right u r m.to both) (plain.plain m origin small goes (off_left u r m.to both));
     }
 
-    -- for the king's steps, and for another man's moves
-    pub steps_are_risky : u < 2 ^ 64 → same_kind x.kind King ≡ true
-        → ((t : ℕ) → t < 64 → (bit_at (bit_and w (bit_not w64 u)) t == 1) ≡ true → (bit_at r t == 1) ≡ false → IsSafeStep v.siege t)
-        → AreRisky rule p s w (bit_and w (bit_or u r))
-    steps_are_risky fits_u king safe = risky_by (λ m may origin small on off none plain.
-        king_spared m may (ap (man_on p.men) origin ∙ here) small (rw origin from) plain king (safe m.to small (denied_on w u m.to fits_u small on off) none))
+    module _ (fits_u : u < 2 ^ 64) where
+      -- for the king's steps
+      pub steps_are_risky : same_kind x.kind King ≡ true
+          → ((t : ℕ) → t < 64 → (bit_at (bit_and w (bit_not w64 u)) t == 1) ≡ true → (bit_at r t == 1) ≡ false → IsSafeStep v.siege t)
+          → AreRisky rule p s w (bit_and w (bit_or u r))
+      steps_are_risky king safe = risky_by (λ m may origin small on off none plain.
+          king_spared m may (ap (man_on p.men) origin ∙ here) small (rw origin from) plain king (safe m.to small (denied_on w u m.to fits_u small on off) none))
 
-    pub moves_are_risky : same_kind x.kind King ≡ false → ((t : ℕ) → (bit_at r t == 1) ≡ false → IsSafeMove v.siege s t)
-        → AreRisky rule p s w (bit_and w (bit_or u r))
-    moves_are_risky mortal safe = risky_by (λ m may origin small on off none plain.
-        man_spared m may (ap (man_on p.men) origin ∙ here) small (rw origin from) plain mortal (rw origin (safe m.to none)))
+      -- for another man's moves
+      pub moves_are_risky : same_kind x.kind King ≡ false
+          → ((t : ℕ) → (bit_at (bit_and w (bit_not w64 u)) t == 1) ≡ true → (bit_at r t == 1) ≡ false → IsSafeMove v.siege s t)
+          → AreRisky rule p s w (bit_and w (bit_or u r))
+      moves_are_risky mortal safe = risky_by (λ m may origin small on off none plain.
+          man_spared m may (ap (man_on p.men) origin ∙ here) small (rw origin from) plain mortal
+          (rw origin (safe m.to (denied_on w u m.to fits_u small on off) none)))

@@ -10,7 +10,7 @@ ghost use Rattle.chess_core.specs.declared.man.Kind.TheVariants.{King};
 ghost use Rattle.chess_core.specs.declared.man.Man.{Man};
 ghost use Rattle.chess_core.specs.ties.Words.{squares_of};
 ghost use Rattle.chess_mates.specs.ties.LastingFlights.{IsLeft};
-ghost use Rattle.chess_mates.specs.ties.Siege.{AreArrivals, AreAttackers, AreCastlingSquares, AreGuardsWithout, AreHurdles, AreReached, AreThreats, AreWeak, IsAttacker, IsCastlingHarmless, IsCheckWord, IsField, IsHarmless, IsLifted, IsMet, IsNoCheck, IsOff, IsReached, IsRiskAt, IsRiskBehind, IsSafeMove, IsSafeStep, IsSiege, IsSiegeOf, IsWeak, LeavesOne, is_leaper, is_rider};
+ghost use Rattle.chess_mates.specs.ties.Siege.{AreArrivals, AreAttackers, AreCastlingSquares, AreGuardsWithout, AreHurdles, AreReached, AreThreats, AreWeak, IsAttacker, IsCastlingHarmless, IsCheckWord, IsField, IsHarmless, IsLifted, IsMet, IsNear, IsNoCheck, IsOff, IsReached, IsRiskAt, IsRiskBehind, IsSafeMove, IsSafeStep, IsSiege, IsSiegeOf, IsWeak, LeavesOne, is_leaper, is_rider};
 ghost use Rattle.chess_rules.specs.ties.Targets.{arrives};
 
 use crate::lasting_flights::open_reach;
@@ -47,11 +47,14 @@ pub(crate) struct Siege {
     castled: u64,
 }
 
-// A king's square, the squares next to it to which he might go, attacks apart, and those of the lines from there.
+// A king's square, the squares next to it to which he might go, attacks apart, and those of the lines from there: the
+// straight ones, the diagonals, and all.
 #[derive(Clone, Copy)]
 pub(crate) struct Field {
     king: Square,
     near: u64,
+    straight: u64,
+    diagonal: u64,
     lines: u64,
 }
 
@@ -77,14 +80,25 @@ fn reach_from(hurdles: u64, man: Man, from: Square) -> u64
     reach_over(hurdles, man.colour, man.kind, from)
 }
 
+// The same, but none if he reaches no square of the region, whoever stands on the board.
+fn reach_towards(hurdles: u64, man: Man, from: Square, region: u64) -> u64
+    ensures { IsNear man from region → IsReached hurdles man from result }
+{
+    if open_reach(man, from) & region == 0 {
+        return 0;
+    }
+    reach_from(hurdles, man, from)
+}
+
 // Those that such men on the squares of a word reach.
-fn reach_together(hurdles: u64, man: Man, squares: u64) -> u64
-    ensures { (s : ℕ) → s < 64 → (bit_at squares s == 1) ≡ true → IsReached hurdles man s result }
+fn reach_together(hurdles: u64, man: Man, squares: u64, region: u64) -> u64
+    ensures { (s : ℕ) → s < 64 → (bit_at squares s == 1) ≡ true
+        → IsNear man s region → IsReached hurdles man s result }
 {
     let mut reached = 0u64;
     let mut number = 0u8;
     while let Some(from) = next_bit(squares, number) {
-        let more = reach_from(hurdles, man, from);
+        let more = reach_towards(hurdles, man, from, region);
         reached |= more;
         number = from.index() + 1;
     }
@@ -92,30 +106,31 @@ fn reach_together(hurdles: u64, man: Man, squares: u64) -> u64
 }
 
 // The same of the attackers of one kind.
-fn reach_of(hurdles: u64, colour: Colour, kind: Kind, squares: u64) -> u64
+fn reach_of(hurdles: u64, colour: Colour, kind: Kind, squares: u64, region: u64) -> u64
     ensures { (s : ℕ) → s < 64 → (bit_at squares s == 1) ≡ true
+        → IsNear (record { colour = colour; kind = kind }) s region
         → IsReached hurdles (record { colour = colour; kind = kind }) s result }
 {
-    reach_together(hurdles, Man { colour, kind }, squares)
+    reach_together(hurdles, Man { colour, kind }, squares, region)
 }
 
 // The squares that queens, rooks and bishops reach.
-fn ridden_squares(hurdles: u64, men: &Attackers) -> u64
-    ensures { AreReached hurdles men.now is_rider result }
+fn ridden_squares(hurdles: u64, men: &Attackers, region: u64) -> u64
+    ensures { AreReached hurdles men.now region is_rider result }
 {
-    let queens = reach_of(hurdles, men.colour, Kind::Queen, men.queens);
-    let rooks = reach_of(hurdles, men.colour, Kind::Rook, men.rooks);
-    let bishops = reach_of(hurdles, men.colour, Kind::Bishop, men.bishops);
+    let queens = reach_of(hurdles, men.colour, Kind::Queen, men.queens, region);
+    let rooks = reach_of(hurdles, men.colour, Kind::Rook, men.rooks, region);
+    let bishops = reach_of(hurdles, men.colour, Kind::Bishop, men.bishops, region);
     queens | rooks | bishops
 }
 
 // Those that knights, pawns and kings reach.
-fn leapt_squares(hurdles: u64, men: &Attackers) -> u64
-    ensures { AreReached hurdles men.now is_leaper result }
+fn leapt_squares(hurdles: u64, men: &Attackers, region: u64) -> u64
+    ensures { AreReached hurdles men.now region is_leaper result }
 {
-    let knights = reach_of(hurdles, men.colour, Kind::Knight, men.knights);
-    let pawns = reach_of(hurdles, men.colour, Kind::Pawn, men.pawns);
-    let kings = reach_of(hurdles, men.colour, Kind::King, men.kings);
+    let knights = reach_of(hurdles, men.colour, Kind::Knight, men.knights, region);
+    let pawns = reach_of(hurdles, men.colour, Kind::Pawn, men.pawns, region);
+    let kings = reach_of(hurdles, men.colour, Kind::King, men.kings, region);
     knights | pawns | kings
 }
 
@@ -200,17 +215,6 @@ fn checking_targets(man: Man, reached: u64, checks: u64) -> u64
     reached & checks
 }
 
-// The squares on the lines of the man, if he rides.
-#[tactic(auto)]
-fn lines_of(man: Man, reached: u64) -> u64
-    ensures { is_rider man.kind ≡ true → result ≡ reached }
-{
-    match man.kind {
-        Kind::Queen | Kind::Rook | Kind::Bishop => reached,
-        _ => 0,
-    }
-}
-
 // The attackers but the one on the square.
 fn without(men: &Attackers, gone: Square) -> Attackers
     ensures { (s : ℕ) (x : Man) → IsAttacker men.now x s → gone ≢ s → IsAttacker result x s }
@@ -227,16 +231,16 @@ fn without(men: &Attackers, gone: Square) -> Attackers
     }
 }
 
-// What the attackers reach once the one on `from` has gone.
-fn guards_without(siege: &Siege, from: Square) -> Guards
-    ensures { AreGuardsWithout siege.now from result }
+// What the attackers who may reach a square of the region reach once the one on `from` has gone.
+fn guards_without(siege: &Siege, from: Square, region: u64) -> Guards
+    ensures { AreGuardsWithout siege.now from region result }
 {
     let hurdles = siege.hurdles & !only(Some(from));
     let men = without(&siege.men, from);
-    let ridden = ridden_squares(hurdles, &men);
+    let ridden = ridden_squares(hurdles, &men, region);
     Guards {
         ridden,
-        guarded: ridden | leapt_squares(hurdles, &men),
+        guarded: ridden | leapt_squares(hurdles, &men, region),
     }
 }
 
@@ -266,7 +270,9 @@ fn risk_of_going(
     ensures { (a b t : ℕ) → a < 64 → b < 64 → IsOff siege.now.hurdles result a b → t < 64
         → (bit_at reached t == 1) ≡ true → IsMet siege.now field.now man from targets a b t }
 {
-    let guards = guards_without(siege, from);
+    // For the proof: a square's number is below 64.
+    let _small = field.king.index();
+    let guards = guards_without(siege, from, field.near | only(Some(field.king)));
     let watched = watched_squares(&guards, field.king, reached, targets);
     if may_promote_on(man, watched) {
         return Risk {
@@ -280,21 +286,28 @@ fn risk_of_going(
     }
 }
 
-// The risk of the man on `from`, who checks from the squares of `checks`.
+// The risk of the man on `from`, who checks from the squares of `checks`. Mostly he can't come there, were the others
+// gone.
 fn risk_from(siege: &Siege, field: &Field, man: Man, from: Square, checks: u64) -> Risk
     ensures { IsHarmless siege.now field.now checks result man from }
 {
+    let open = open_targets(man, from);
+    let most = checking_targets(man, open, checks);
+    if most == 0 && !contains(field.lines, from) {
+        return Risk {
+            critical: 0,
+            lines: 0,
+        };
+    }
     let reached = arrivals(siege.hurdles, man, from);
     let targets = checking_targets(man, reached, checks);
-    let lines = lines_of(man, reached);
     if targets == 0 && !contains(field.lines, from) {
-        return Risk { critical: 0, lines };
+        return Risk {
+            critical: 0,
+            lines: 0,
+        };
     }
-    let going = risk_of_going(siege, field, man, from, reached, targets);
-    Risk {
-        critical: going.critical,
-        lines: going.lines | lines,
-    }
+    risk_of_going(siege, field, man, from, reached, targets)
 }
 
 // The same of such men on the squares of a word.
@@ -314,15 +327,26 @@ fn risk_together(siege: &Siege, field: &Field, man: Man, squares: u64, checks: u
     Risk { critical, lines }
 }
 
-// The squares from which the man, once he has come there, checks the king over the hurdles.
-fn check_squares_over(hurdles: u64, man: Man, king: Square) -> u64
-    ensures { IsCheckWord hurdles king man result }
+// The squares from which the man, once he has come there, checks the king of the field over the hurdles.
+fn check_squares_over(siege: &Siege, field: &Field, man: Man) -> u64
+    requires { IsField siege.now field.now }
+    ensures { IsCheckWord siege.now.hurdles field.now.king man result }
 {
-    reach_over(hurdles, man.colour.other(), man.kind, king)
+    if man.kind.is(Kind::Queen) {
+        return field.lines;
+    }
+    if man.kind.is(Kind::Rook) {
+        return field.straight;
+    }
+    if man.kind.is(Kind::Bishop) {
+        return field.diagonal;
+    }
+    reach_over(siege.hurdles, man.colour.other(), man.kind, field.king)
 }
 
 // The risk of the men of this kind, who stand on the squares. Where one of them checks now, nothing is told.
 fn risk_of(siege: &Siege, field: &Field, kind: Kind, squares: u64) -> Risk
+    requires { IsField siege.now field.now }
     ensures { (s : ℕ) → s < 64 → (bit_at squares s == 1) ≡ true
         → IsWeak siege.now field.now result
         (record { colour = siege.now.men.colour; kind = kind }) s }
@@ -337,7 +361,7 @@ fn risk_of(siege: &Siege, field: &Field, kind: Kind, squares: u64) -> Risk
         colour: siege.men.colour,
         kind,
     };
-    let checks = check_squares_over(siege.hurdles, man, field.king);
+    let checks = check_squares_over(siege, field, man);
     if checks & squares != 0 {
         return Risk {
             critical: !0,
@@ -349,6 +373,7 @@ fn risk_of(siege: &Siege, field: &Field, kind: Kind, squares: u64) -> Risk
 
 // The risk of all attackers.
 fn risk_of_all(siege: &Siege, field: &Field) -> Risk
+    requires { IsField siege.now field.now }
     ensures { AreWeak siege.now field.now result }
 {
     let men = &siege.men;
@@ -380,10 +405,14 @@ fn field_of(siege: &Siege, king: Square) -> Field
     ensures king { result.king ≡ king }
     ensures field { IsField siege.now result }
 {
+    let straight = reach_over(siege.hurdles, Colour::White, Kind::Rook, king);
+    let diagonal = reach_over(siege.hurdles, Colour::White, Kind::Bishop, king);
     Field {
         king,
         near: king_leaps(king) & !siege.own & !siege.men.kings,
-        lines: reach_over(siege.hurdles, Colour::White, Kind::Queen, king),
+        straight,
+        diagonal,
+        lines: straight | diagonal,
     }
 }
 
@@ -539,7 +568,19 @@ pub(crate) fn is_of(siege: &Siege, board: &Board) -> bool
         & (siege.castled == castling_squares(board, colour))
 }
 
-// The risk of a defender who leaves a line on which he is a hurdle.
+// The risk of the siege's own king. On the lines of all riders hurdles count too.
+pub(crate) fn risk_of_siege(siege: &Siege) -> Risk
+    requires { IsSiege siege.now }
+    ensures { AreThreats siege.now result }
+{
+    let risk = risk_at(siege, siege.king);
+    Risk {
+        critical: risk.critical,
+        lines: risk.lines | ridden_squares(siege.hurdles, &siege.men, !0),
+    }
+}
+
+// That of a defender who leaves a line on which he is a hurdle.
 fn risk_behind(siege: &Siege, from: Square) -> Risk
     ensures { IsRiskBehind siege.now from result }
 {
@@ -547,12 +588,18 @@ fn risk_behind(siege: &Siege, from: Square) -> Risk
     risk_at(&lifted, siege.king)
 }
 
-// The squares that the man on `from`, who isn't the king, mustn't come to: told by the siege's own risk, unless he leaves
-// a line on which he is a hurdle.
-pub(crate) fn critical_from(siege: &Siege, risk: &Risk, from: Square) -> u64
+// Those of the squares that the man on `from`, who isn't the king, mustn't come to, and perhaps more: told by the siege's
+// own risk, unless he leaves a line on which he is a hurdle. Nothing gets better by that.
+pub(crate) fn critical_from(siege: &Siege, risk: &Risk, from: Square, squares: u64) -> u64
     requires { AreThreats siege.now risk.now }
-    ensures { (t : ℕ) → (bit_at result t == 1) ≡ false → IsSafeMove siege.now from t }
+    ensures { (t : ℕ) → (bit_at squares t == 1) ≡ true → (bit_at result t == 1) ≡ false
+        → IsSafeMove siege.now from t }
 {
+    // For the proof: a square's number is below 64.
+    let _small = from.index();
+    if squares & !risk.critical == 0 {
+        return squares;
+    }
     if contains(risk.lines, from) {
         risk_behind(siege, from).critical
     } else {

@@ -12,7 +12,7 @@ ghost use Rattle.chess_rules.specs.RuleSet.{RuleSet};
 ghost use Rattle.chess_rules.specs.ties.Targets.{may_go};
 
 use crate::open_board::pawns_before;
-use crate::siege::{Risk, Siege, critical_from, is_of, risk_at, risky_steps, siege_of};
+use crate::siege::{Risk, Siege, critical_from, is_of, risk_of_siege, risky_steps, siege_of};
 use chess_core::board::Board;
 use chess_core::man::{Colour, Kind, Man, Move};
 use chess_core::square::Square;
@@ -100,7 +100,7 @@ impl Threats {
     {
         let siege = siege_of(board, king);
         Threats {
-            risk: risk_at(&siege, king),
+            risk: risk_of_siege(&siege),
             siege,
         }
     }
@@ -136,9 +136,11 @@ impl Threats {
         let _small = from.index();
         let unplain = unplain_squares(board, man, from);
         if man.kind.is(Kind::King) {
-            return squares & (unplain | risky_steps(&self.siege, squares & !unplain));
+            let steps = squares & !unplain;
+            return squares & (unplain | risky_steps(&self.siege, steps));
         }
-        squares & (unplain | critical_from(&self.siege, &self.risk, from))
+        let others = squares & !unplain;
+        squares & (unplain | critical_from(&self.siege, &self.risk, from, others))
     }
 
     /// Whether the move doesn't come to such a square, so that no reply mates. `false` says nothing.

@@ -72,9 +72,19 @@ is_leaper Knight = true
 is_leaper Pawn = true
 is_leaper _ = false
 
--- the word has each square that one of the attackers of these kinds reaches over the hurdles
-pub record AreReached (d : ℕ) (a : Attackers) (kinds : Kind → Bool) (w : ℕ) : Type 0 where
-  pub reach : (s : ℕ) (x : Man) → IsAttacker a x s → kinds x.kind ≡ true → IsReached d x s w
+-- x on s may reach a square of the region
+pub record IsNear (x : Man) (s region : ℕ) : Type 0 where
+  pub square : ℕ
+  pub small : square < 64
+  pub on : (bit_at region square == 1) ≡ true
+  pub men : List (Option Man)
+  pub reaches : reaches_as men x.colour x.kind s square ≡ true
+
+-- the word has each square that the attackers of these kinds reach over the hurdles, those who may reach the region
+pub record AreReached (d : ℕ) (a : Attackers) (region : ℕ) (kinds : Kind → Bool) (w : ℕ) : Type
+    0 where
+  pub reach : (s : ℕ) (x : Man) → IsAttacker a x s → kinds x.kind ≡ true → IsNear x s region
+      → IsReached d x s w
 
 -- the hurdles are men of both sides, and not the king on k
 pub record AreHurdles (own enemies k d : ℕ) : Type 0 where
@@ -121,10 +131,9 @@ pub record IsArrival (d : ℕ) (x : Man) (s t : ℕ) : Type 0 where
   pub goes : may_go position x s t ≡ true
   pub reaches : same_kind x.kind Pawn ≡ false → reached_over d x s t ≡ true
 
--- the word has each such square, and each that a rider reaches over the hurdles
+-- the word has each such square
 pub record AreArrivals (d : ℕ) (x : Man) (s w : ℕ) : Type 0 where
   pub inside : (t : ℕ) → IsArrival d x s t → (bit_at w t == 1) ≡ true
-  pub rides : is_rider x.kind ≡ true → IsReached d x s w
 
 -- x neither checks from t, unless he is a king, nor promotes there
 pub record IsNoCheck (checks : ℕ) (x : Man) (t : ℕ) : Type 0 where
@@ -142,19 +151,22 @@ pub record IsOff (d : ℕ) (r : Risk) (a b : ℕ) : Type 0 where
   pub lines : (bit_at d a == 1) ≡ true → (bit_at r.lines a == 1) ≡ false
   pub critical : (bit_at r.critical b == 1) ≡ false
 
--- what the attackers reach once the one on s has gone
-pub record AreGuardsWithout (v : Siege) (s : ℕ) (g : Guards) : Type 0 where
+-- what the attackers who may reach the region reach once the one on s has gone
+pub record AreGuardsWithout (v : Siege) (s region : ℕ) (g : Guards) : Type 0 where
   pub hurdles : ℕ
   pub kept : (e : ℕ) → e < 64 → (bit_at hurdles e == 1) ≡ true
       → ((bit_at v.hurdles e == 1) ≡ true) × (s ≢ e)
   pub rides : (q : ℕ) (z : Man) → IsAttacker v.men z q → s ≢ q → is_rider z.kind ≡ true
-      → IsReached hurdles z q g.ridden
-  pub guards : (q : ℕ) (z : Man) → IsAttacker v.men z q → s ≢ q → IsReached hurdles z q g.guarded
+      → IsNear z q region → IsReached hurdles z q g.ridden
+  pub guards : (q : ℕ) (z : Man) → IsAttacker v.men z q → s ≢ q → IsNear z q region
+      → IsReached hurdles z q g.guarded
 
 -- they don't reach t then, and the defender who leaves a opens no line
 pub record IsUnguarded (v : Siege) (s a t : ℕ) : Type 0 where
+  pub region : ℕ
+  pub near : (bit_at region t == 1) ≡ true
   pub guards : Guards
-  pub are : AreGuardsWithout v s guards
+  pub are : AreGuardsWithout v s region guards
   pub shut : (bit_at v.hurdles a == 1) ≡ true → (bit_at guards.ridden a == 1) ≡ false
   pub off : (bit_at guards.guarded t == 1) ≡ false
 
@@ -177,10 +189,8 @@ pub record IsQuiet (v : Siege) (g : Field) (checks : ℕ) (x : Man) (s a t : ℕ
   pub check : IsNoCheck checks x t
   pub covered : ((bit_at g.lines s == 1) ≡ false) ⊎ IsUnguarded v s a g.king
 
--- wherever x goes from s, he gives no check or leaves a flight, and a defender who leaves a opens him no line
+-- wherever x goes from s, he gives no check or leaves a flight
 pub record IsMild (v : Siege) (g : Field) (checks : ℕ) (x : Man) (s a b : ℕ) : Type 0 where
-  pub shut : is_rider x.kind ≡ true → (bit_at v.hurdles a == 1) ≡ true
-      → reached_over v.hurdles x s a ≡ false
   pub each : (t : ℕ) → IsArrival v.hurdles x s t → ((bit_at v.enemies t == 1) ≡ true → b ≡ t)
       → IsQuiet v g checks x s a t ⊎ IsFlight v g x s a b t
 
@@ -209,6 +219,10 @@ pub record IsField (v : Siege) (g : Field) : Type 0 where
       → list_any (leaps g.king f) queen_steps ≡ true
   pub own : (f : ℕ) → f < 64 → (bit_at g.near f == 1) ≡ true → (bit_at v.own f == 1) ≡ false
   pub kings : (f : ℕ) → f < 64 → (bit_at g.near f == 1) ≡ true → (bit_at v.men.kings f == 1) ≡ false
+  pub straight : (c : Colour)
+      → IsReached v.hurdles (record { colour = c; kind = Rook }) g.king g.straight
+  pub diagonal : (c : Colour)
+      → IsReached v.hurdles (record { colour = c; kind = Bishop }) g.king g.diagonal
   pub lines : (c : Colour) → IsReached v.hurdles (record { colour = c; kind = Queen }) g.king g.lines
 
 -- no rook checks from a square to which he may castle, and no king leaves a line of the field
@@ -248,10 +262,17 @@ pub record IsRiskBehind (v : Siege) (from : ℕ) (r : Risk) : Type 0 where
   pub lifted : IsLifted v from siege
   pub risk : IsRiskAt siege v.king r
 
--- the risk of the siege's king
+-- the risk of the siege's king, told with the lines of all riders
 pub record AreThreats (v : Siege) (r : Risk) : Type 0 where
   pub siege : IsSiege v
   pub risk : IsRiskAt v v.king r
+  pub rides : (s : ℕ) (x : Man) → IsAttacker v.men x s → is_rider x.kind ≡ true
+      → IsReached v.hurdles x s r.lines
+
+-- a defender who leaves a opens no rider's line
+pub record IsShutAt (v : Siege) (a : ℕ) : Type 0 where
+  pub shut : (s : ℕ) (x : Man) → IsAttacker v.men x s → is_rider x.kind ≡ true
+      → (bit_at v.hurdles a == 1) ≡ true → reached_over v.hurdles x s a ≡ false
 
 -- another man than the king may go from s to t: a siege of the same men tells no risk of that
 pub record IsSafeMove (v : Siege) (s t : ℕ) : Type 0 where
@@ -260,6 +281,7 @@ pub record IsSafeMove (v : Siege) (s t : ℕ) : Type 0 where
   pub risk : Risk
   pub at : IsRiskAt siege v.king risk
   pub off : IsOff siege.hurdles risk s t
+  pub shut : IsShutAt siege s
 
 -- the king may step to t: nobody stands there, and there is no risk there
 pub record IsSafeStep (v : Siege) (t : ℕ) : Type 0 where

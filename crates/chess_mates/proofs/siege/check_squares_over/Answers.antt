@@ -1,6 +1,16 @@
-use Rattle.chess_rules.proofs.Basics.{arith}
-use Rattle.chess_mates.proofs.Risks.{check_word}
+use Rattle.chess_rules.proofs.Basics.{arith, sym, ◌∙◌}
+use Rattle.chess_mates.proofs.Chess.{Bishop, Queen, Rook}
+use Rattle.chess_mates.proofs.Risks.{check_lines, check_word}
 use Rattle.chess_mates.proofs.siege.check_squares_over.Goals as goal
 
+pub returns-then-is : goal.returns-then-is
+returns-then-is c = check_lines _ _ _ c.args.man Queen (sym c.is.ensures ∙ c.if-is.true) c.requires.lines
+
+pub returns-then-is-2 : goal.returns-then-is-2
+returns-then-is-2 c = check_lines _ _ _ c.args.man Rook (sym c.is-2.ensures ∙ c.if-is-2.true) c.requires.straight
+
+pub returns-then-is-3 : goal.returns-then-is-3
+returns-then-is-3 c = check_lines _ _ _ c.args.man Bishop (sym c.is-3.ensures ∙ c.if-is-3.true) c.requires.diagonal
+
 pub returns : goal.returns
-returns c = check_word c.args.hurdles c.args.king c.reach_over.result c.args.man (omega arith) (rw c.other.ensures at c.reach_over.ensures)
+returns c = check_word c.args.siege.now.hurdles c.args.field.now.king c.reach_over.result c.args.man (omega arith) (rw c.other.ensures at c.reach_over.ensures)

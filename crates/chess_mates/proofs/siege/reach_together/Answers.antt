@@ -1,7 +1,7 @@
 use Rattle.chess_rules.proofs.Basics.{sym, ◌∙◌, ℕ}
 use Rattle.chess_mates.proofs.HoldBelow.{hold_all, hold_map, hold_next, hold_none}
 use Rattle.chess_mates.proofs.Hurdles.{reached_left, reached_right}
-use Rattle.chess_mates.specs.ties.Siege.{IsReached}
+use Rattle.chess_mates.specs.ties.Siege.{IsNear, IsReached}
 use Rattle.chess_mates.proofs.siege.reach_together.Goals as goal
 
 pub loop-from-init : goal.loop-from-init
@@ -11,15 +11,15 @@ pub loop-from-preserved : goal.loop-from-preserved
 loop-from-preserved c =
     let d = c.args.hurdles in
     let x = c.args.man in
-    let P : ℕ → ℕ → Type 0 = λ w s. IsReached d x s w in
+    let P : ℕ → ℕ → Type 0 = λ w s. IsNear x s c.args.region → IsReached d x s w in
     let r = c.loop-from.reached in
-    let more = c.reach_from-more in
+    let more = c.reach_towards-more in
     rw c.index-number.ensures.value
     (hold_next c.args.squares (P _) c.loop-from.number c.in-Some.from
-    (hold_map c.args.squares (P r) (P _) c.loop-from.number (λ s h. reached_left d x s r more.result h) c.loop-from.invariant)
-    (sym c.next_bit.ensures.value ∙ c.in-Some.is) (reached_right d x c.in-Some.from r more.result more.ensures))
+    (hold_map c.args.squares (P r) (P _) c.loop-from.number (λ s h near. reached_left d x s r more.result (h near)) c.loop-from.invariant)
+    (sym c.next_bit.ensures.value ∙ c.in-Some.is) (λ near. reached_right d x c.in-Some.from r more.result (more.ensures near)))
 
 pub returns : goal.returns
-returns c = λ s small on.
-    hold_all c.args.squares (λ s. IsReached c.args.hurdles c.args.man s c.loop-from.reached) c.loop-from.number c.loop-from.invariant
-    (sym c.next_bit.ensures.value ∙ c.in_default.is) s small on
+returns c = λ s small on near.
+    hold_all c.args.squares (λ s. IsNear c.args.man s c.args.region → IsReached c.args.hurdles c.args.man s c.loop-from.reached) c.loop-from.number
+    c.loop-from.invariant (sym c.next_bit.ensures.value ∙ c.in_default.is) s small on near

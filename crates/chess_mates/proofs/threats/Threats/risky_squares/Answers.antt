@@ -33,4 +33,4 @@ returns g c =
     let here : man_on p.men c.args.from ≡ Some c.in-Some.man = sym c.man_at.ensures ∙ c.in-Some.is in
     moves_are_risky g.R.Rules.rule p c.in-Some.man v c.requires.well_formed c.requires.threats c.args.from c.args.squares c.unplain_squares-unplain.result
     c.critical_from.result here (omega (arith, c.index-small.ensures.value, c.index-small.ensures.small)) (omega arith) c.unplain_squares-unplain.ensures
-    (sym c.is.ensures ∙ c.if-is.false) (rw siege at c.critical_from.ensures)
+    (omega arith) (sym c.is.ensures ∙ c.if-is.false) (rw siege at c.critical_from.ensures)
