@@ -29,14 +29,14 @@ pub struct Session {
     so_far: Status,
     last: Last,
     has_stopped: bool,
-    check: bool,
-    no_board: bool,
+    settings: Settings,
 }
 
 impl Model for Session {
     ghost use Rattle.std.specs.Prelude.{◌≡◌, ◌≤◌, ◌+◌, ◌^◌, length};
     ghost use Rattle.pop_text.specs.Words.{limit};
     ghost use Rattle.pop_input.specs.ties.Standing.{work_left};
+    ghost use Rattle.pop_run.specs.Report.{choice_of};
     ghost use Rattle.pop_run.specs.ties.Sessions.{RunState, ends, says_last};
 
     ghost Value = { RunState };
@@ -46,7 +46,7 @@ impl Model for Session {
       number = s.next_number;
       status = s.so_far;
       stopped = s.has_stopped;
-      choice = record { check = s.check; no_board = s.no_board };
+      choice = choice_of s.settings;
     } };
 
     ghost invariant = { λ s. (s.next_number + work_left s.reader ≤ 2 ^ 31)
@@ -66,8 +66,7 @@ impl Session {
             so_far: Status::Sound,
             last: Last::No,
             has_stopped: false,
-            check: settings.check,
-            no_board: settings.no_board,
+            settings: *settings,
         }
     }
 
@@ -114,7 +113,7 @@ impl Session {
             Item::Sound(problem, last) => {
                 self.next_number += 1;
                 self.last = *last;
-                let printed = print_sound(sink, number, problem, self.check, self.no_board);
+                let printed = print_sound(sink, number, problem, &self.settings);
                 self.answer(printed, true)
             }
             Item::Faulty(fault, last) => {
