@@ -83,7 +83,11 @@ pub fn eventful_captures<R: Rules>(board: &Board) -> u64
     ensures { result ≡ (if captures_do_more R.rule then word (λ s. is_some (man_on board.now.men s))
         else 0) }
 {
-    if R::captures_do_more() { occupied(board) } else { 0 }
+    if R::captures_do_more() {
+        occupied(board)
+    } else {
+        0
+    }
 }
 
 // The squares to which the man on `from` must go to leave no check to its king: all of them where none is
