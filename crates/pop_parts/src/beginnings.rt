@@ -157,40 +157,6 @@ pub(crate) fn seek_numbered<R: Rules, const N: usize>(
     None
 }
 
-/// Goes to the part with a number, counted from 1, among those of a phase that `depth` moves tell apart. Answers the last
-/// of its first moves, which isn't played yet; the path to the top frame has those before it.
-pub(crate) fn go_to_part<R: Rules, const N: usize>(
-    problem: &Problem,
-    phase: Phase,
-    depth: usize,
-    number: u64,
-    board: &mut Board,
-    frames: &mut ArrayVec<Frame<R>, N>,
-) -> Option<Move>
-    requires sound { IsSound problem.now }
-    requires room { half_moves problem.now.stipulation < N }
-    requires depth { 1 ≤ depth }
-    requires board { board.old ≡ play_start problem.now }
-    requires none { frames.old.items ≡ [] }
-    ensures found { MatchOption result (part_numbered R.rule problem.now phase depth number ≡ None)
-        (λ m. (part_numbered R.rule problem.now phase depth number
-        ≡ Some (path (reverse frames.new.items) ++ m ∷ []))
-        × IsSeeking R.rule (half_moves_of_phase problem.now phase)
-        (depth_of_parts problem.now phase depth) (phase_start problem.now phase)
-        (reverse frames.new.items) board.new
-        × (is_legal R.rule board.new m ≡ true)
-        × (array_vec_len frames.new ≡ depth_of_parts problem.now phase depth)) }
-{
-    if number == 0 {
-        return None;
-    }
-    if !set_out::<R, N>(problem, phase, board, frames) {
-        return None;
-    }
-    let depth = part_depth(problem, phase, depth);
-    seek_numbered::<R, N>(problem, phase, depth, number, board, frames)
-}
-
 /// How many beginnings of `depth` moves are to come, up to the greatest u64.
 fn count_to_come<R: Rules, const N: usize>(
     problem: &Problem,

@@ -17,7 +17,7 @@ ghost use Rattle.pop_solve.specs.ties.Phases.{Gives};
 ghost use Rattle.pop_solve.specs.ties.Walk.{IsMatedAtLast, path, seeks_last};
 ghost use Rattle.pop_parts.specs.declared.part_search.PartStage.TheVariants.{First, Within, Behind};
 
-use crate::beginnings::go_to_part;
+use crate::parts_left::PartsLeft;
 use arrayvec::ArrayVec;
 use chess_core::board::Board;
 use chess_core::man::Move;
@@ -263,10 +263,11 @@ impl<R: Rules, const N: usize> PartSearch<R, N> {
             × (s.problem ≡ problem.now) × (s.phase ≡ phase)
             × (s.left ≡ part_events R.rule problem.now phase s.front)) }
     {
-        let mut board = Board::of(&problem.diagram());
-        let mut frames = ArrayVec::new();
-        let by = go_to_part::<R, N>(problem, phase, depth, number, &mut board, &mut frames)?;
-        Some(PartSearch::at(problem, phase, by, board, frames, killers))
+        if number == 0 {
+            return None;
+        }
+        let mut parts = PartsLeft::<R, N>::of(problem, phase, depth)?;
+        parts.search(number, killers)
     }
 
     /// A search of the part of which `by` is the last of its first moves and the path to the top frame has those before it.
