@@ -1,5 +1,5 @@
 -- The words kept beside the men keep step with them.
-use Rattle.chess_core.proofs.Basics.{arith, Colour, IsInStep, Kind, List, Man, None, Option, Some, bit_and, bit_not, bit_or, colour_number, eqb-true, get_or, is_kind, is_man, is_side, kind_number, kind_words, length, man_on, rules, same_colour, same_kind, set, side_words, true, w64, word_of, ℕ, ◌%◌, ◌*◌, ◌<◌, ◌^◌, ◌≡◌}
+use Rattle.chess_core.proofs.Basics.{arith, Colour, IsInStep, Kind, List, Man, None, Option, Some, bit_and, bit_not, bit_or, colour_number, eqb-true, get_or, is_kind, is_man, is_of_colour, kind_number, kind_words, length, man_on, rules, same_colour, same_kind, set, side_words, true, w64, word_of, ℕ, ◌%◌, ◌*◌, ◌<◌, ◌^◌, ◌≡◌}
 use Rattle.chess_core.proofs.Words.{word_with, word_without, word_same, word_both}
 
 -- ---- lists by kind and by colour
@@ -33,7 +33,7 @@ lifted men ks ss s x is l p held = grind (arith, word_without, word_same)
 -- ---- what is read
 
 -- a colour's kept word is that of its men's squares
-pub side_kept : (men : List (Option Man)) (ks ss : List ℕ) (c : Colour) → IsInStep men ks ss → get_or ss (colour_number c) 0 ≡ word_of (λ x. is_side x c) men
+pub side_kept : (men : List (Option Man)) (ks ss : List ℕ) (c : Colour) → IsInStep men ks ss → get_or ss (colour_number c) 0 ≡ word_of (λ x. is_of_colour x c) men
 unfolding side_words
 side_kept men ks ss c is = grind arith
 

@@ -5,10 +5,10 @@ use Rattle.chess_core.specs.Move.{Move}
 use Rattle.chess_core.specs.declared.man.Kind.{Kind}
 
 -- the place of a promotion: none, and then the kinds in order
-abbrev pub promotion_place : Option Kind → ℕ
-promotion_place None = 0
-promotion_place (Some k) = kind_number k + 1
+abbrev pub promotion_order : Option Kind → ℕ
+promotion_order None = 0
+promotion_order (Some k) = kind_number k + 1
 
 -- the number of a triple among all: 64 arrivals for each origin, 9 promotions for each arrival
-abbrev pub triple_number : Move → ℕ
-triple_number m = (m.from * 64 + m.to) * 9 + promotion_place m.promo
+abbrev pub order_number : Move → ℕ
+order_number m = (m.from * 64 + m.to) * 9 + promotion_order m.promo

@@ -1,6 +1,6 @@
 -- From where pawns come to a square: so many squares before it, or behind it.
 use Rattle.chess_rules.proofs.Basics.{Bool, agree_below, agree_below_at, and_from, and_parts, ap, arith, bit_at, bit_or, eqb-true, false, inl, inr, list_any, not, not-true, or_cases, or_left, or_right, refl, rules, sym, true, ℕ, ◌%◌, ◌&&◌, ◌*◌, ◌+◌, ◌-◌, ◌/◌, ◌<◌, ◌==◌, ◌^◌, ◌||◌, ◌∙◌, ◌≡◌, ◌≤◌}
-use Rattle.chess_mates.proofs.Chess.{AreApproaches, Black, Colour, Pawn, Position, White, along, is_advance, leaps, may_go, pawn_captures, queen_steps, rank_of, reaches_as}
+use Rattle.chess_mates.proofs.Chess.{AreApproaches, Black, Colour, Pawn, Position, White, along, is_advance, leaps, may_go, pawn_capture_steps, queen_steps, rank_of, reaches_as}
 use Rattle.std.proofs.Math.Nat.{div-add-mod}
 use Rattle.std.proofs.lemmas.Nat.{pow_pos, shr-shr}
 use Rattle.std.proofs.lemmas.Nat.Bits.{bit_at_cat_high, bit_at_cat_low}
@@ -40,7 +40,7 @@ on_either u v a b i f g h = elim (or_cases u v h) [
 
 -- where a pawn might go on an empty board
 abbrev pawn_way : Colour → ℕ → ℕ → Bool
-pawn_way c s t = list_any (leaps s t) (pawn_captures c) || is_advance c s t
+pawn_way c s t = list_any (leaps s t) (pawn_capture_steps c) || is_advance c s t
 
 pawn_goes_so : (p : Position) (c : Colour) (s t : ℕ) → may_go p (record { colour = c; kind = Pawn }) s t ≡ true → pawn_way c s t ≡ true
 unfolding may_go reaches_as

@@ -1,13 +1,13 @@
 -- Castling that uncovers no king gives check by its rook alone.
 use Rattle.chess_rules.proofs.Basics.{Bool, List, None, Option, Some, [], agree_below, agree_below_at, and_from, and_left, and_parts, ap, arith, bit_and, bit_at, bit_or, cases_eq, cond-false, cond-true, eq-eqb, eqb-true, false, false_from_ne_true, false≢true, inl, inr, is_some, length, length-set, list_all, list_any, not, or_cases, or_left, or_parts, range_with_len, refl, rules, sym, true, ℕ, ◌%◌, ◌&&◌, ◌*◌, ◌+◌, ◌-◌, ◌/◌, ◌<◌, ◌==◌, ◌^◌, ◌||◌, ◌∙◌, ◌∷◌, ◌≡◌, ◌≢◌, ◌≤◌, ◌⊎◌}
-use Rattle.chess_mates.proofs.Chess.{same_kind-true, AreCastlingTargets, Bishop, CheckSquares, Colour, Direction, East, Grasshopper, IsWellFormed, Kind, King, Man, Move, Nightrider, North, NorthEast, NorthWest, Pawn, Position, Queen, Rook, RuleSet, South, SouthEast, SouthWest, Step, Straight, West, all_at, along, along-is, capture_square, castles, is_attacked_at, position_after}
-use Rattle.chess_mates.proofs.Chess.{corner, find_first, halfway, hops, in_check, is_ahead, is_aside, is_castling, is_clear, is_diagonal, is_man, is_on_fairy_line, is_on_fairy_line_to, is_on_some, is_reached, is_side, is_square, is_vacant_at, king_square, man_on, man_on-with_same, may_castle, may_check_from, may_expose}
-use Rattle.chess_mates.proofs.Chess.{may_expose_on, may_stand_between, moved_men, other, queen_steps, reaches, reaches_as, rides, same_colour, same_kind, some_square_false, some_square_true, squares, squares_between, step_of, steps_to, straight_steps, with_man, without_man, word}
+use Rattle.chess_mates.proofs.Chess.{same_kind-true, AreCastlingTargets, Bishop, CheckSquares, Colour, Direction, East, Grasshopper, IsWellFormed, Kind, King, Man, Move, Nightrider, North, NorthEast, NorthWest, Pawn, Position, Queen, Rook, RuleSet, South, SouthEast, SouthWest, Step, Straight, West, all_at, along, along-is, capture_square, can_castle, is_attacked_at, position_after}
+use Rattle.chess_mates.proofs.Chess.{corner, find_first, halfway, hops, in_check, is_ahead, is_two_files_aside, is_castling, is_clear, is_diagonal, is_man, is_on_fairy_line, is_on_fairy_line_at, is_on_some, is_reached, is_of_colour, is_square, is_vacant, king_square, man_on, man_on-with_same, may_castle, may_check_from, may_expose}
+use Rattle.chess_mates.proofs.Chess.{may_expose_at, may_stand_between, moved_men, other, queen_steps, reaches, reaches_as, rides, same_colour, same_kind, some_square_false, some_square_true, squares, squares_between, step_of, steps_to, straight_steps, with_man, without_man, word}
 use Rattle.chess_mates.specs.ties.CheckSquares.{enemy}
 use Rattle.chess_rules.proofs.rays.Ahead.{onward, passes}
 use Rattle.chess_rules.proofs.Bits.{word_has, off_left, off_right}
 use Rattle.chess_rules.proofs.making_moves.Castles.{no_man}
-use Rattle.chess_rules.proofs.rays.Ends.{back, returns_to, square_is}
+use Rattle.chess_rules.proofs.rays.Ends.{back, return_square, square_is}
 use Rattle.chess_rules.proofs.attacks.FairyLines.{Holds, IsBeside, IsNoHurdle, hop_kept, knight_directions, queen_directions, ride_kept}
 use Rattle.chess_rules.proofs.making_moves.Fits.{arrived, castle_of, corner_stays, king_no_step, no_capture}
 use Rattle.chess_rules.proofs.rays.Parting.{Frees}
@@ -46,7 +46,7 @@ corner_beside x b s k h inside small = λ n i at low lt le. false_from_ne_true _
     let here : along s (step_of x) i ≡ Some b = square_is _ b y in
     let rest : i + (n - i) ≡ n = omega arith in
     let on : along b (step_of x) (n - i) ≡ Some k = onward s b (step_of x) i (n - i) here ∙ ap (along s (step_of x)) rest ∙ at in
-    let came : along b (back (step_of x)) i ≡ Some s = square_is _ s (returns_to s b (step_of x) i small y) in
+    let came : along b (back (step_of x)) i ≡ Some s = square_is _ s (return_square s b (step_of x) i small y) in
     elim (or_cases (not (is_corner b) || is_end b (step_of x)) (is_end b (back (step_of x))) (corner_ends x b inside)) [
       | inl first ↦ search (rules, or_cases, false≢true, end_none)
       | inr e ↦ end_none b (back (step_of x)) i s e low (omega arith) came
@@ -72,19 +72,19 @@ half_no_hurdle x h s k half inside small ne1 ne2 = λ n at low le. false_from_ne
     let here : along s (step_of x) (n - 1) ≡ Some h = square_is _ h y in
     let rest : n - 1 + 1 ≡ n = omega arith in
     let on : along h (step_of x) 1 ≡ Some k = onward s h (step_of x) (n - 1) 1 here ∙ ap (along s (step_of x)) rest ∙ at in
-    let came : along h (back (step_of x)) (n - 1) ≡ Some s = square_is _ s (returns_to s h (step_of x) (n - 1) small y) in
+    let came : along h (back (step_of x)) (n - 1) ≡ Some s = square_is _ s (return_square s h (step_of x) (n - 1) small y) in
     let before = passes h s (back (step_of x)) (n - 1) 1 inside (omega arith) came in
     grind (arith, implied (is_half h) (is_beside_alone h (step_of x)) (half_alone x h inside) half, half_alone x h inside, or_cases, false≢true, eqb-true))
 
 -- when a man has left a corner, riders get where they got
-module _ (men position_after : List (Option Man)) (b s k : ℕ) (free : Frees position_after men b) (edge : is_corner b ≡ true) (inside : b < 64) (small : s < 64)
+module _ (men after : List (Option Man)) (b s k : ℕ) (free : Frees after men b) (edge : is_corner b ≡ true) (inside : b < 64) (small : s < 64)
   where
-    rode : (xs : List Direction) → list_any (λ x. rides position_after s k (step_of x)) xs ≡ true → list_any (λ x. rides men s k (step_of x)) xs ≡ true
+    rode : (xs : List Direction) → list_any (λ x. rides after s k (step_of x)) xs ≡ true → list_any (λ x. rides men s k (step_of x)) xs ≡ true
     rode xs h = grind (arith, any_kept, ride_kept, corner_beside)
 
     reached : (e : Colour) (j : Kind)
-        → (same_kind j Grasshopper ≡ true → list_any (hops position_after s k) queen_steps ≡ true → list_any (hops men s k) queen_steps ≡ true)
-        → reaches_as position_after e j s k ≡ true → reaches_as men e j s k ≡ true
+        → (same_kind j Grasshopper ≡ true → list_any (hops after s k) queen_steps ≡ true → list_any (hops men s k) queen_steps ≡ true)
+        → reaches_as after e j s k ≡ true → reaches_as men e j s k ≡ true
     unfolding reaches_as
     reached e Queen hop h = rode queen_directions h
     reached e Rook hop h = rode (East ∷ West ∷ North ∷ South ∷ []) h
@@ -94,11 +94,11 @@ module _ (men position_after : List (Option Man)) (b s k : ℕ) (free : Frees po
     reached e j hop h = h
 
     -- and grasshoppers too, if the man went to no square right before k
-    hopped : (t : ℕ) → Holds position_after men t → ((x : Direction) → IsNoHurdle t s k (step_of x))
-        → list_any (hops position_after s k) queen_steps ≡ true → list_any (hops men s k) queen_steps ≡ true
+    hopped : (t : ℕ) → Holds after men t → ((x : Direction) → IsNoHurdle t s k (step_of x))
+        → list_any (hops after s k) queen_steps ≡ true → list_any (hops men s k) queen_steps ≡ true
     hopped t holds none h =
-        any_kept (λ x. hops position_after s k (step_of x)) (λ x. hops men s k (step_of x)) queen_directions
-        (λ x hop. hop_kept men position_after b t s k (step_of x) free holds (corner_beside x b s k edge inside small) (none x) hop) h
+        any_kept (λ x. hops after s k (step_of x)) (λ x. hops men s k (step_of x)) queen_directions
+        (λ x hop. hop_kept men after b t s k (step_of x) free holds (corner_beside x b s k edge inside small) (none x) hop) h
 
 -- king and rook castle: a king on a goes to t, the rook from c to h
 abbrev CastlingSquares : ℕ → ℕ → ℕ → ℕ → Type 0
@@ -141,48 +141,48 @@ is_way men a t c h place inside beside empty ride =
       lined = λ k lt. lined_up a c h k (agree_below_at (is_lined_up a c h) (λ k. true) 64 k parts.1 lt);
     }
 
-white_short : (men : List (Option Man)) → list_all (is_vacant_at men) (squares_between 4 7) ≡ true → IsWay men 4 6 7 5
+white_short : (men : List (Option Man)) → list_all (is_vacant men) (squares_between 4 7) ≡ true → IsWay men 4 6 7 5
 unfolding rides is_clear along is_on_some is_ahead
 white_short men v =
-    let v5 = and_parts (is_vacant_at men 5) _ v in
+    let v5 = and_parts (is_vacant men 5) _ v in
     let e5 : man_on men 5 ≡ None = no_man men 5 v5.0 in
-    let e6 : man_on men 6 ≡ None = no_man men 6 (and_parts (is_vacant_at men 6) _ v5.1).0 in
+    let e6 : man_on men 6 ≡ None = no_man men 6 (and_parts (is_vacant men 6) _ v5.1).0 in
     is_way men 4 6 7 5 refl (omega arith) (λ k p q. (q, p)) e6 (rw (e5, e6) refl)
 
-white_long : (men : List (Option Man)) → list_all (is_vacant_at men) (squares_between 4 0) ≡ true → IsWay men 4 2 0 3
+white_long : (men : List (Option Man)) → list_all (is_vacant men) (squares_between 4 0) ≡ true → IsWay men 4 2 0 3
 unfolding rides is_clear along is_on_some is_ahead
 white_long men v =
-    let v1 = and_parts (is_vacant_at men 1) _ v in
-    let v2 = and_parts (is_vacant_at men 2) _ v1.1 in
+    let v1 = and_parts (is_vacant men 1) _ v in
+    let v2 = and_parts (is_vacant men 2) _ v1.1 in
     let e1 : man_on men 1 ≡ None = no_man men 1 v1.0 in
     let e2 : man_on men 2 ≡ None = no_man men 2 v2.0 in
-    let e3 : man_on men 3 ≡ None = no_man men 3 (and_parts (is_vacant_at men 3) _ v2.1).0 in
+    let e3 : man_on men 3 ≡ None = no_man men 3 (and_parts (is_vacant men 3) _ v2.1).0 in
     is_way men 4 2 0 3 refl (omega arith) (λ k p q. (p, q)) e2 (rw (e1, e2, e3) refl)
 
-black_short : (men : List (Option Man)) → list_all (is_vacant_at men) (squares_between 60 63) ≡ true → IsWay men 60 62 63 61
+black_short : (men : List (Option Man)) → list_all (is_vacant men) (squares_between 60 63) ≡ true → IsWay men 60 62 63 61
 unfolding rides is_clear along is_on_some is_ahead
 black_short men v =
-    let v61 = and_parts (is_vacant_at men 61) _ v in
+    let v61 = and_parts (is_vacant men 61) _ v in
     let e61 : man_on men 61 ≡ None = no_man men 61 v61.0 in
-    let e62 : man_on men 62 ≡ None = no_man men 62 (and_parts (is_vacant_at men 62) _ v61.1).0 in
+    let e62 : man_on men 62 ≡ None = no_man men 62 (and_parts (is_vacant men 62) _ v61.1).0 in
     is_way men 60 62 63 61 refl (omega arith) (λ k p q. (q, p)) e62 (rw (e61, e62) refl)
 
-black_long : (men : List (Option Man)) → list_all (is_vacant_at men) (squares_between 60 56) ≡ true → IsWay men 60 58 56 59
+black_long : (men : List (Option Man)) → list_all (is_vacant men) (squares_between 60 56) ≡ true → IsWay men 60 58 56 59
 unfolding rides is_clear along is_on_some is_ahead
 black_long men v =
-    let v57 = and_parts (is_vacant_at men 57) _ v in
-    let v58 = and_parts (is_vacant_at men 58) _ v57.1 in
+    let v57 = and_parts (is_vacant men 57) _ v in
+    let v58 = and_parts (is_vacant men 58) _ v57.1 in
     let e57 : man_on men 57 ≡ None = no_man men 57 v57.0 in
     let e58 : man_on men 58 ≡ None = no_man men 58 v58.0 in
-    let e59 : man_on men 59 ≡ None = no_man men 59 (and_parts (is_vacant_at men 59) _ v58.1).0 in
+    let e59 : man_on men 59 ≡ None = no_man men 59 (and_parts (is_vacant men 59) _ v58.1).0 in
     is_way men 60 58 56 59 refl (omega arith) (λ k p q. (p, q)) e58 (rw (e57, e58, e59) refl)
 
 at_squares : (men : List (Option Man)) (a t c h i u d j : ℕ) → a ≡ i → t ≡ u → c ≡ d → h ≡ j
-    → (list_all (is_vacant_at men) (squares_between i d) ≡ true → IsWay men i u d j) → list_all (is_vacant_at men) (squares_between a c) ≡ true
+    → (list_all (is_vacant men) (squares_between i d) ≡ true → IsWay men i u d j) → list_all (is_vacant men) (squares_between a c) ≡ true
     → IsWay men a t c h
 at_squares men a t c h i u d j from to rook half f v = rw (from, to, rook, half) (f (rw (from, rook) at v))
 
-way : (men : List (Option Man)) (a t c h : ℕ) → CastlingSquares a t c h → list_all (is_vacant_at men) (squares_between a c) ≡ true → IsWay men a t c h
+way : (men : List (Option Man)) (a t c h : ℕ) → CastlingSquares a t c h → list_all (is_vacant men) (squares_between a c) ≡ true → IsWay men a t c h
 way men a t c h s v = elim s.0 [
   | inl e ↦ elim s.1 [
     | inl f ↦ at_squares men a t c h 4 6 7 5 e (omega arith) (omega arith) (omega arith) (white_short men) v
@@ -209,11 +209,11 @@ module _ (rule : RuleSet) (p : Position) (x : Man) (m : Move) (well : IsWellForm
   castle : (same_kind x.kind Pawn ≡ false) × IsCastle p m
   castle = castle_of rule p x m well is castling
 
-  castles_so : castles rule p x m ≡ true
+  castles_so : can_castle rule p x m ≡ true
   castles_so = search (rules, ways, false≢true, castle, king_no_step, king)
 
-  all_empty : list_all (is_vacant_at p.men) (squares_between m.from (corner m)) ≡ true
-  unfolding castles may_castle
+  all_empty : list_all (is_vacant p.men) (squares_between m.from (corner m)) ≡ true
+  unfolding can_castle may_castle
   all_empty = grind (arith, and_parts, castles_so)
 
   on : CastlingSquares m.from m.to (corner m) (halfway m)
@@ -269,11 +269,11 @@ module _ (rule : RuleSet) (p : Position) (x : Man) (m : Move) (well : IsWellForm
     module _ (k : ℕ) (at : king_square p.men c ≡ Some k) (stands : is_man (man_on p.men k) c King ≡ true) (inside : k < 64) where
       parts : IsCovered p.men c m.from k
       unfolding may_expose
-      parts = covered_parts p.men c m.from k (ap (λ (o : Option ℕ). may_expose_on p.men o c m.from) (sym at) ∙ covered)
+      parts = covered_parts p.men c m.from k (ap (λ (o : Option ℕ). may_expose_at p.men o c m.from) (sym at) ∙ covered)
 
       off_lines : (t : ℕ) → may_stand_between p.men c t ≡ false → is_on_fairy_line p.men (other c) k t ≡ false
       unfolding may_stand_between
-      off_lines t h = ap (λ (o : Option ℕ). is_on_fairy_line_to p.men o c t) (sym at) ∙ h
+      off_lines t h = ap (λ (o : Option ℕ). is_on_fairy_line_at p.men o c t) (sym at) ∙ h
 
       from_there : (y : Man) (t : ℕ) → may_check_from p.men c y t ≡ false → reaches_as p.men y.colour y.kind t k ≡ false
       unfolding may_check_from
@@ -293,7 +293,7 @@ module _ (rule : RuleSet) (p : Position) (x : Man) (m : Move) (well : IsWellForm
           the_way.beside k off_from off_to
 
       -- nor does the rook from halfway
-      rook_strikes : is_side (man_on castled (halfway m)) (other c) ≡ true → reaches castled (halfway m) k ≡ true → ⊥
+      rook_strikes : is_of_colour (man_on castled (halfway m)) (other c) ≡ true → reaches castled (halfway m) k ≡ true → ⊥
       unfolding reaches reaches_as is_on_some
       rook_strikes side hit =
           let mine : same_colour rook.0.colour (other c) ≡ true = rw rook_there at side in
@@ -312,7 +312,7 @@ module _ (rule : RuleSet) (p : Position) (x : Man) (m : Move) (well : IsWellForm
           false≢true (sym (from_there (enemy c Rook) (halfway m) rook_off) ∙ rode)
 
       -- nor another man, who would have reached him before the rook went
-      others_strike : (s : ℕ) (o : Option Man) → man_on castled s ≡ o → s < 64 → s ≢ halfway m → is_side o (other c) ≡ true → reaches castled s k ≡ true → ⊥
+      others_strike : (s : ℕ) (o : Option Man) → man_on castled s ≡ o → s < 64 → s ≢ halfway m → is_of_colour o (other c) ≡ true → reaches castled s k ≡ true → ⊥
       unfolding reaches is_reached
       others_strike s None there lt ne side hit = false≢true side
       others_strike s (Some y) there lt ne side hit =
@@ -324,7 +324,7 @@ module _ (rule : RuleSet) (p : Position) (x : Man) (m : Move) (well : IsWellForm
           (λ hopper hop. hopped stepped castled (corner m) s k frees_corner the_way.edge the_way.inside lt (halfway m)
           (stood stepped castled (corner m) (halfway m) rook.0 rook_shift)
           (λ w. half_no_hurdle w (halfway m) s k the_way.half small.2 lt apart.0 apart.1) hop) now in
-          let mine : is_side (man_on stepped s) (other c) ≡ true = rw stood_so side in
+          let mine : is_of_colour (man_on stepped s) (other c) ≡ true = rw stood_so side in
           let then : reaches stepped s k ≡ true = rw stood_so before in
           false≢true (search (rules, king_steps, some_square_true, and_from))
 
@@ -357,20 +357,20 @@ module _ (rule : RuleSet) (p : Position) (x : Man) (m : Move) (well : IsWellForm
           search (rules, king_stood, king_is, not_attacked, castled_unreached)
 
 -- the words of the squares over which a king castles
-pub castling_aside : (x : Man) (m : Move) → m.to < 64 → is_castling x m ≡ true → is_aside m.from m.to ≡ true
+pub castling_aside : (x : Man) (m : Move) → m.to < 64 → is_castling x m ≡ true → is_two_files_aside m.from m.to ≡ true
 unfolding steps_to
 castling_aside x m small h =
     let king : same_kind x.kind King ≡ true = (and_parts _ _ (and_parts _ _ h).0).0 in
     sym (cond-false (same_kind x.kind Pawn) _ _ (king_is_no_pawn x.kind king) ∙ cond-true (same_kind x.kind King) _ _ king)
     ∙ castling_steps x m small h
 
-two_aside : (s t : ℕ) → is_aside s t ≡ true → (t ≡ s + 2) ⊎ (s ≡ t + 2)
+two_aside : (s t : ℕ) → is_two_files_aside s t ≡ true → (t ≡ s + 2) ⊎ (s ≡ t + 2)
 two_aside s t h = search (rules, along-is, or_cases)
 
-crossed_aside : (w s a t : ℕ) → s < 64 → a ≡ word (is_aside s) → t < 64 → is_aside s t ≡ true
+crossed_aside : (w s a t : ℕ) → s < 64 → a ≡ word (is_two_files_aside s) → t < 64 → is_two_files_aside s t ≡ true
     → (bit_at (bit_and a (bit_or (w * 2 ^ 1 % 2 ^ 64) (w / 2 ^ 1))) t == 1) ≡ false → (bit_at w ((s + t) / 2) == 1) ≡ false
 crossed_aside w s a t small are lt aside off =
-    let on : (bit_at a t == 1) ≡ true = word_has (is_aside s) a t are lt ∙ aside in
+    let on : (bit_at a t == 1) ≡ true = word_has (is_two_files_aside s) a t are lt ∙ aside in
     let up : ℕ = w * 2 ^ 1 % 2 ^ 64 in
     let off_both : (bit_at (bit_or up (w / 2 ^ 1)) t == 1) ≡ false = off_second a (bit_or up (w / 2 ^ 1)) t off on in
     elim (two_aside s t aside) [
@@ -381,6 +381,6 @@ crossed_aside w s a t small are lt aside off =
     ]
 
 -- for the word of castlings that may give check
-pub castling_targets_are : (v : CheckSquares) (s a : ℕ) → s < 64 → a ≡ word (is_aside s)
+pub castling_targets_are : (v : CheckSquares) (s a : ℕ) → s < 64 → a ≡ word (is_two_files_aside s)
     → AreCastlingTargets v s (bit_and a (bit_or (v.straight * 2 ^ 1 % 2 ^ 64) (v.straight / 2 ^ 1)))
 castling_targets_are v s a small are = record { elsewhere = λ t lt aside off. crossed_aside v.straight s a t small are lt aside off }

@@ -1,6 +1,6 @@
 -- A move that goes to no square from which its man may give check gives none.
 use Rattle.chess_rules.proofs.Basics.{None, Option, Some, agree_below_at, and_parts, ap, arith, bit_and, bit_at, bit_not, bit_or, cases_Bool, false, false≢true, inl, inr, is_some, not, refl, rules, sym, true, w64, ℕ, ◌+◌, ◌/◌, ◌<◌, ◌==◌, ◌||◌, ◌∙◌, ◌≡◌}
-use Rattle.chess_mates.proofs.Chess.{AreCastlingTargets, AreCheckSquares, AreCheckTargets, Black, CheckSquares, Colour, IsWellFormed, Kind, King, Man, Move, Pawn, Position, Rook, RuleSet, White, are_rebirths_quiet, arrives, arriving_man, check_squares_for, circe, halfway, in_check, is_aside, is_castling, captures_do_more, is_legal, is_pseudo_legal, is_square, last_rank, man_on, may_check_from, may_expose, may_go, may_stand_between, orthodox, other, position_after, rank_of, same_colour, same_kind, word}
+use Rattle.chess_mates.proofs.Chess.{AreCastlingTargets, AreCheckSquares, AreCheckTargets, Black, CheckSquares, Colour, IsWellFormed, Kind, King, Man, Move, Pawn, Position, Rook, RuleSet, White, are_rebirths_quiet, is_promoting, arriving_man, check_squares_for, circe, halfway, in_check, is_two_files_aside, is_castling, captures_do_more, is_legal, is_pseudo_legal, is_square, last_rank, man_on, may_check_from, may_expose, may_go, may_stand_between, orthodox, other, position_after, rank_of, same_colour, same_kind, word}
 use Rattle.chess_mates.specs.ties.CheckSquares.{enemy}
 use Rattle.chess_rules.specs.ties.Shields.{cannot_expose}
 use Rattle.chess_rules.proofs.listing_moves.Arrivals.{may_go_aimed}
@@ -61,7 +61,7 @@ module _ (rule : RuleSet) (p : Position) (x : Man) (s : CheckSquares) (f : ℕ) 
     off-ab = off_left (bit_or a b) c m.to off-abc
 
     -- nobody promotes
-    unturned : arrives x m.to ≡ false
+    unturned : is_promoting x m.to ≡ false
     unturned = search (rules, and_parts, false_by, last_rank_on, off-c)
 
     unnamed : (o : Option Kind) → m.promo ≡ o → o ≡ None
@@ -83,7 +83,7 @@ module _ (rule : RuleSet) (p : Position) (x : Man) (s : CheckSquares) (f : ℕ) 
         let enemy_of : same_colour x.colour (other p.turn) ≡ false =
         ap (λ (c : Colour). same_colour c (other p.turn)) (made rule p m x may stands).mine ∙ other_differs p.turn in
         let half : (m.from + m.to) / 2 < 64 = omega (arith, small, inside, at) in
-        let beside : is_aside f m.to ≡ true = ap (λ n. is_aside n m.to) (sym at) ∙ castling_aside x m small y in
+        let beside : is_two_files_aside f m.to ≡ true = ap (λ n. is_two_files_aside n m.to) (sym at) ∙ castling_aside x m small y in
         let rook_off : (bit_at s.straight (halfway m) == 1) ≡ false =
         ap (λ n. bit_at s.straight ((n + m.to) / 2) == 1) at ∙ (castles king).elsewhere m.to small beside off-c in
         castling_gives_no_check rule p x m well (made rule p m x may stands) y (other p.turn) enemy_of origin_stays aside (apart king)

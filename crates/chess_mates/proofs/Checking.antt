@@ -1,6 +1,6 @@
 -- The squares from which a move may give check, by kinds.
 use Rattle.chess_rules.proofs.Basics.{or_parts, rules, List, None, Option, Some, ap, arith, bit_at, bit_not, bit_or, cases_Bool, false, false≢true, inl, inr, list_any-append, or_left, sym, true, w64, ℕ, ◌&&◌, ◌<◌, ◌==◌, ◌||◌, ◌∙◌, ◌≡◌}
-use Rattle.chess_mates.proofs.Chess.{AreCheckSquares, Bishop, CheckSquares, Colour, IsWellFormed, Kind, King, Man, Move, Position, Queen, Rook, RuleSet, arriving_man, check_squares_for, in_check, is_absent, is_fairy, is_pseudo_legal, king_square, man_on, may_check_from, may_check_from_on, other, position_after, reaches_as, same_kind, squares_either, squares_of, squares_same, word}
+use Rattle.chess_mates.proofs.Chess.{AreCheckSquares, Bishop, CheckSquares, Colour, IsWellFormed, Kind, King, Man, Move, Position, Queen, Rook, RuleSet, arriving_man, check_squares_for, in_check, is_absent, is_fairy, is_pseudo_legal, king_square, man_on, may_check_from, may_check_from_at, other, position_after, reaches_as, same_kind, squares_either, squares_of, squares_same, word}
 use Rattle.chess_mates.specs.ties.CheckSquares.{enemy}
 use Rattle.chess_rules.specs.ties.Shields.{cannot_expose}
 use Rattle.chess_rules.proofs.Bits.{not_zero, word_empty, word_has, every_square}
@@ -20,7 +20,7 @@ gives_no_check rule p x m well may small here unpromoted h off =
 -- for `check_squares_of`: without a king nobody checks
 pub check_squares_of_none : (men : List (Option Man)) (c : Colour) (j : Kind) → king_square men c ≡ None → 0 ≡ word (may_check_from men c (enemy c j))
 unfolding may_check_from
-check_squares_of_none men c j h = word_empty (may_check_from men c (enemy c j)) (λ s b. ap (λ (o : Option ℕ). may_check_from_on men o (enemy c j) s) h)
+check_squares_of_none men c j h = word_empty (may_check_from men c (enemy c j)) (λ s b. ap (λ (o : Option ℕ). may_check_from_at men o (enemy c j) s) h)
 
 -- a fairy man of whom none stands there may check from everywhere
 pub check_squares_of_all : (men : List (Option Man)) (c : Colour) (j : Kind) (k : ℕ) → king_square men c ≡ Some k → is_absent men (enemy c j) ≡ true
@@ -42,7 +42,7 @@ absent_is men c j w h = grind (arith, not_zero)
 
 -- a queen's squares are a rook's and a bishop's
 queen_on : (men : List (Option Man)) (c : Colour) (o : Option ℕ) (s : ℕ)
-    → (may_check_from_on men o (enemy c Rook) s || may_check_from_on men o (enemy c Bishop) s) ≡ may_check_from_on men o (enemy c Queen) s
+    → (may_check_from_at men o (enemy c Rook) s || may_check_from_at men o (enemy c Bishop) s) ≡ may_check_from_at men o (enemy c Queen) s
 unfolding reaches_as
 queen_on men c o s = grind (arith, list_any-append)
 

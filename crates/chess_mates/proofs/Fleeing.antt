@@ -1,10 +1,10 @@
 -- A flight after a move, told by the men that an attack on it sees.
 use Rattle.chess_rules.proofs.Basics.{Bool, List, None, Option, Some, and_from, and_left, and_parts, and_right, ap, arith, bit_and, bit_at, bit_at-lt, bit_at-zero, bit_at_and, bit_not, bit_or, cases_Bool, cases_eq, cond-false, cond-true, eq-eqb, eqb-true, false, false_from_ne_true, false≢true, inl, inr, is_some, length, list_any, not, not-true, or_left, or_parts, refl, rules, suc, sym, true, w64, zero, ℕ, ◌&&◌, ◌*◌, ◌+◌, ◌<◌, ◌==◌, ◌||◌, ◌∙◌, ◌≡◌, ◌≢◌}
-use Rattle.chess_mates.proofs.Chess.{AreOpen, AreSeen, Colour, IsWellFormed, King, Man, Move, Pawn, Position, RuleSet, any_range_cases, any_range_false, arriving_man, capture_square, differs, first_of_and, is_arrival_free, is_attacked, captures_do_more, is_legal, is_man, is_mate, is_nil, is_side, is_square, king_after, king_square, leaps, man_on, mates, moves, position_after}
+use Rattle.chess_mates.proofs.Chess.{AreOpen, AreSeen, Colour, IsWellFormed, King, Man, Move, Pawn, Position, RuleSet, any_range_cases, any_range_false, arriving_man, capture_square, differs, first_of_and, is_arrival_free, is_attacked, captures_do_more, is_legal, is_man, is_mate, is_nil, is_of_colour, is_square, king_after, king_square, leaps, man_on, mates, moves, position_after}
 use Rattle.chess_mates.proofs.Chess.{is_paralysed, is_pseudo_legal, moves_behind, occupied_squares, other, queen_steps, reaches, reaches_as, reaches_of, same_colour, same_colour-true, same_kind, side_of, sight_lifted, sight_with, some_square, some_square_false, some_square_true, squares, squares_both, squares_either, squares_not}
-use Rattle.chess_mates.proofs.Chess.{squares_of, strikes, triple_at, without_man, word}
+use Rattle.chess_mates.proofs.Chess.{squares_of, is_attacker, triple_at, without_man, word}
 use Rattle.std.proofs.Common.{IfSome}
-use Rattle.chess_mates.specs.ties.Flights.{IsSeenFrom, has_flight, is_flight, is_flight_from, is_open}
+use Rattle.chess_mates.specs.ties.Flights.{IsSeenFrom, has_flight, is_flight, is_flight_at, is_open}
 use Rattle.chess_rules.proofs.Bits.{word_has}
 use Rattle.chess_rules.proofs.rays.Ends.{square_is}
 use Rattle.chess_rules.proofs.attacks.Exposing.{IsSimple, check_is}
@@ -38,16 +38,16 @@ some_legal rule p k t small there h =
     ∙ some_left rule p (k * 448 + t * 7) (omega (arith, small, there)) (ap (is_legal rule p) (triple_there k t there) ∙ h) (k * 448 + t * 7) 0 (omega arith)
 
 -- a side with a flight isn't mated
-flight_is_legal : (rule : RuleSet) (p : Position) (o : Option ℕ) (t : ℕ) → king_square p.men p.turn ≡ o → t < 64 → is_flight_from rule p o t ≡ true
+flight_is_legal : (rule : RuleSet) (p : Position) (o : Option ℕ) (t : ℕ) → king_square p.men p.turn ≡ o → t < 64 → is_flight_at rule p o t ≡ true
     → is_nil (moves rule p) ≡ false
 flight_is_legal rule p None t at small h = absurd (false≢true h)
 flight_is_legal rule p (Some k) t at small h = some_legal rule p k t (king_there p.men p.turn k at).0 small h
 
 flight_there : (rule : RuleSet) (p : Position) → has_flight rule p ≡ true → is_nil (moves rule p) ≡ false
 unfolding has_flight is_flight some_square squares
-flight_there rule p h = elim (any_range_cases (λ t. is_flight_from rule p (king_square p.men p.turn) t) 0 64) [
+flight_there rule p h = elim (any_range_cases (λ t. is_flight_at rule p (king_square p.men p.turn) t) 0 64) [
   | inl w ↦ flight_is_legal rule p (king_square p.men p.turn) w.0 refl (omega (arith, w.2)) w.3
-  | inr none ↦ absurd (false≢true (sym (any_range_false (λ t. is_flight_from rule p (king_square p.men p.turn) t) 0 64 none) ∙ h))
+  | inr none ↦ absurd (false≢true (sym (any_range_false (λ t. is_flight_at rule p (king_square p.men p.turn) t) 0 64 none) ∙ h))
 ]
 
 -- for moves behind which a flight is left
@@ -59,7 +59,7 @@ no_mate_with_flight rule p m h = search (rules, flight_there)
 pub no_king_free : (c d : Colour) (o : Option Man) → is_arrival_free c o ≡ true → is_man o d King ≡ false
 no_king_free c d o h = grind (arith, and_parts, and_right, not-true)
 
-no_own_free : (c : Colour) (o : Option Man) → is_arrival_free c o ≡ true → is_side o c ≡ false
+no_own_free : (c : Colour) (o : Option Man) → is_arrival_free c o ≡ true → is_of_colour o c ≡ false
 no_own_free c o h = grind (arith, not-true, and_parts)
 
 -- squares of one word that aren't in another
@@ -71,7 +71,7 @@ pub unseen_bit : (test : ℕ → Bool) (n w t : ℕ) → w ≡ word test → t <
 unseen_bit test n w t h small on = search (rules, on_second, squares_not, word_has)
 
 -- the squares to which a king may step, attacks apart
-pub free_of : (c : Colour) (o : Option Man) → is_side o (other c) ≡ false → is_man o c King ≡ false → is_arrival_free (other c) o ≡ true
+pub free_of : (c : Colour) (o : Option Man) → is_of_colour o (other c) ≡ false → is_man o c King ≡ false → is_arrival_free (other c) o ≡ true
 free_of c o side king = grind (arith, false≢true)
 
 arrived_free : (c : Colour) (z : Man) → same_colour z.colour (other c) ≡ false → same_kind z.kind King ≡ false → is_arrival_free (other c) (Some z) ≡ true
@@ -82,7 +82,7 @@ unless i p q m h w y = grind arith
 
 closed_words : (p : Position) (a : ℕ) (o : Option ℕ) (c : Colour) (w n : ℕ) → w ≡ side_of p.men (other c) → n ≡ squares_of p.men c King → (l : ℕ)
     → l ≡ bit_and (bit_not w64 (word (is_square o))) (bit_not w64 (word (is_square (Some a))))
-    → bit_or (bit_and w l) n ≡ word (λ s. (is_side (man_on p.men s) (other c) && (not (is_square o s) && not (a == s))) || is_man (man_on p.men s) c King)
+    → bit_or (bit_and w l) n ≡ word (λ s. (is_of_colour (man_on p.men s) (other c) && (not (is_square o s) && not (a == s))) || is_man (man_on p.men s) c King)
 unfolding side_of squares_of
 closed_words p a o c w n side kings l standing = search (rules, squares_both, squares_either, squares_not)
 
@@ -124,7 +124,7 @@ module _ (rule : RuleSet) (p : Position) (m : Move) (x : Man) (k : ℕ) (i : IsS
         })
         ∙ i.king
 
-    free_there : (t : ℕ) → (is_side (man_on p.men t) (other p.turn) && (not (is_square (capture_square p x m) t) && not (m.from == t))
+    free_there : (t : ℕ) → (is_of_colour (man_on p.men t) (other p.turn) && (not (is_square (capture_square p x m) t) && not (m.from == t))
         || is_man (man_on p.men t) p.turn King) ≡ false → is_arrival_free (other p.turn) (man_on (arrived p x m) t) ≡ true
     free_there t at =
         grind (arith, cases_eq t m.to, there_now, arrived_free, no_own_arrives, no_king_arrives, cases_Bool, left_now, or_parts, unless, kept_now, free_of)
@@ -167,7 +167,7 @@ pub record IsSafeStep (men : List (Option Man)) (a : ℕ) (o : Option ℕ) (b : 
     pub size : length men ≡ 64
     pub arrived : (l : List (Option Man)) → (sight_lifted men a o b k).occupied ≡ occupied_squares l → r ≡ word (reaches_as l z.colour z.kind b)
     pub unseen : (bit_at r t == 1) ≡ false
-    pub others : (l : List (Option Man)) → AreSeen men l c (sight_with (sight_lifted men a o b k) t) → 0 ≡ word (λ s. is_side (man_on l s) c && reaches l s t)
+    pub others : (l : List (Option Man)) → AreSeen men l c (sight_with (sight_lifted men a o b k) t) → 0 ≡ word (λ s. is_of_colour (man_on l s) c && reaches l s t)
 
 reaches_alike_of : (men others : List (Option Man)) (o : Option Man) (s t : ℕ) → StandAlike men others t → reaches_of men o s t ≡ reaches_of others o s t
 reaches_alike_of men others o s t a = grind (arith, reaches_alike)
@@ -194,23 +194,23 @@ module _ (men : List (Option Man)) (a : ℕ) (o : Option ℕ) (b : ℕ) (z : Man
       ∙ sym (grind (arith, word_has, occupied_lifted))
       ∙ i.unseen
 
-  elsewhere : (s : ℕ) → s < 64 → (s ≡ b → s ≡ t) → (is_side (man_on now s) c && reaches_of now (man_on now s) s t) ≡ false
+  elsewhere : (s : ℕ) → s < 64 → (s ≡ b → s ≡ t) → (is_of_colour (man_on now s) c && reaches_of now (man_on now s) s t) ≡ false
   unfolding reaches
   elsewhere s small off =
-      ap (λ (y : Option Man). is_side y c && reaches_of now y s t) (same_elsewhere men a o b z x k u t x s i.step.flight i.step.taken off)
-      ∙ ap (λ (y : Bool). is_side (man_on then s) c && y) (grind (arith, reaches_alike_of, arrival_alike))
-      ∙ zero_false (λ s. is_side (man_on then s) c && reaches then s t) s (i.others then (seen_stepped men a o b k u t x c i.step)) small
+      ap (λ (y : Option Man). is_of_colour y c && reaches_of now y s t) (same_elsewhere men a o b z x k u t x s i.step.flight i.step.taken off)
+      ∙ ap (λ (y : Bool). is_of_colour (man_on then s) c && y) (grind (arith, reaches_alike_of, arrival_alike))
+      ∙ zero_false (λ s. is_of_colour (man_on then s) c && reaches then s t) s (i.others then (seen_stepped men a o b k u t x c i.step)) small
 
-  nobody_strikes : (s : ℕ) → s < 64 → (is_side (man_on now s) c && reaches now s t) ≡ false
+  nobody_strikes : (s : ℕ) → s < 64 → (is_of_colour (man_on now s) c && reaches now s t) ≡ false
   unfolding reaches
   nobody_strikes s small = grind (arith, cases_eq, elsewhere, stands_arrived, taken, and_right, arrival_unseen)
 
   not_attacked : (rule : RuleSet) → is_attacked rule now t c ≡ false
-  unfolding is_attacked strikes
+  unfolding is_attacked is_attacker
   not_attacked rule = search (rules, no_strike, nobody_strikes, some_square_false)
 
 -- the step itself
-other_side : (o : Option Man) (c : Colour) → is_man o (other c) King ≡ true → is_side o c ≡ false
+other_side : (o : Option Man) (c : Colour) → is_man o (other c) King ≡ true → is_of_colour o c ≡ false
 other_side o c h = grind (arith, same_colour-true, first_of_and)
 
 -- once the king has stepped, he stands there
@@ -301,7 +301,7 @@ module _ (rule : RuleSet) (p : Position) (m : Move) (x : Man) (k : ℕ) (i : IsS
       → r ≡ word (reaches_as l (arriving_man x m.promo).colour (arriving_man x m.promo).kind m.to)) where
     has_flight_to : (t : ℕ) → t < 64 → (bit_at (bit_and n (bit_not w64 r)) t == 1) ≡ true
         → ((l : List (Option Man)) → AreSeen p.men l p.turn (sight_with (sight_lifted p.men m.from (capture_square p x m) m.to k) t)
-        → 0 ≡ word (λ s. is_side (man_on l s) p.turn && reaches l s t))
+        → 0 ≡ word (λ s. is_of_colour (man_on l s) p.turn && reaches l s t))
         → has_flight rule (position_after rule p m) ≡ true
     unfolding has_flight is_flight
     has_flight_to t there on others =
@@ -326,7 +326,7 @@ module _ (rule : RuleSet) (p : Position) (m : Move) (x : Man) (k : ℕ) (i : IsS
           unseen_bit _ n r t seen there on,
         ) in
         some_square_true (is_flight rule (position_after rule p m)) t there
-        (ap (λ (o : Option ℕ). is_flight_from rule (position_after rule p m) o t) (ap (king_square (position_after rule p m).men) turn ∙ at)
+        (ap (λ (o : Option ℕ). is_flight_at rule (position_after rule p m) o t) (ap (king_square (position_after rule p m).men) turn ∙ at)
         ∙ step_is_legal rule (position_after rule p m) king.0 k t step
         (ap (λ (l : List (Option Man)). is_attacked rule (gone_to l k u t king.0) t (other (position_after rule p m).turn)) (after_seen rule p m x k i)
         ∙ ap (is_attacked rule (stepped p.men m.from (capture_square p x m) m.to (arriving_man x m.promo) k u t king.0) t) (ap other turn ∙ other_twice p.turn)
@@ -335,6 +335,6 @@ module _ (rule : RuleSet) (p : Position) (m : Move) (x : Man) (k : ℕ) (i : IsS
     -- for `has_flight_from`: the first square that nobody guards is a flight
     pub has_flight_first : (o : Option ℕ) → IfSome o (λ t. (t < 64) × ((bit_at (bit_and n (bit_not w64 r)) t == 1) ≡ true))
         → IfSome o (λ t. (l : List (Option Man)) → AreSeen p.men l p.turn (sight_with (sight_lifted p.men m.from (capture_square p x m) m.to k) t)
-        → 0 ≡ word (λ s. is_side (man_on l s) p.turn && reaches l s t))
+        → 0 ≡ word (λ s. is_of_colour (man_on l s) p.turn && reaches l s t))
         → is_some o ≡ true → has_flight rule (position_after rule p m) ≡ true
     has_flight_first o within safe h = grind (arith, false≢true, has_flight_to)

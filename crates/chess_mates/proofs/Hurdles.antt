@@ -1,7 +1,7 @@
 -- What men reach over hurdles, the squares of a word, and later on the board.
 use Rattle.chess_rules.proofs.Basics.{Bool, List, None, Option, Some, [], ◌∷◌, and_from, and_parts, ap, arith, bit_at, bit_at-lt, bit_or, cases_lt, eq-eqb, false, false≢true, if◌then◌else◌, get_or-map-range_with_len, inl, inr, is_some, length, length-map-range_with_len, list_any, list_any-append, not, not-true, or_cases, or_left, or_right, refl, subst, suc, sym, true, zero, ℕ, ◌&&◌, ◌+◌, ◌-◌, ◌<◌, ◌≤◌, ◌==◌, ◌^◌, ◌||◌, ◌∙◌, ◌≡◌, ◌⊎◌}
 use Rattle.chess_rules.proofs.Basics.{cases_eq, ◌≢◌}
-use Rattle.chess_mates.proofs.Chess.{Bishop, Colour, Grasshopper, Kind, King, Knight, Man, Nightrider, Pawn, Queen, Rook, Step, White, all_at, along, any_range_cases, any_range_false, diagonal_steps, is_clear, is_fairy, is_square, is_vacant, leaps, man_on, occupied_squares, other, queen_steps}
+use Rattle.chess_mates.proofs.Chess.{Bishop, Colour, Grasshopper, Kind, King, Knight, Man, Nightrider, Pawn, Queen, Rook, Step, White, all_at, along, any_range_cases, any_range_false, diagonal_steps, is_clear, is_fairy, is_square, is_vacant_at, leaps, man_on, occupied_squares, other, queen_steps}
 use Rattle.chess_mates.proofs.Chess.{reaches_as, rides, same_kind, squares, straight_steps, word}
 use Rattle.chess_core.proofs.Ranges.{all_range_true, any_range_true}
 use Rattle.chess_core.proofs.Words.{square_word}
@@ -128,7 +128,7 @@ module _ (d : ℕ) (a : Attackers) (region : ℕ) where
 
 -- on a board where each hurdle that a man reaches over the hurdles still stands, he reaches no more than over them
 module _ (d : ℕ) (men : List (Option Man)) where
-  empty_on : (q : ℕ) → ((bit_at d q == 1) ≡ true → q < 64 → ⊥) → is_vacant (men_on d) (Some q) ≡ true
+  empty_on : (q : ℕ) → ((bit_at d q == 1) ≡ true → q < 64 → ⊥) → is_vacant_at (men_on d) (Some q) ≡ true
   empty_on q none = by (man_on (men_on d) q) refl where
     by : (o : Option Man) → man_on (men_on d) q ≡ o → not (is_some o) ≡ true
     by None e = refl
@@ -141,7 +141,7 @@ module _ (d : ℕ) (men : List (Option Man)) where
   Stand s st = (b : ℕ) → b < 64 → (bit_at d b == 1) ≡ true → rides (men_on d) s b st ≡ true → is_some (man_on men b) ≡ true
 
   vacant_over : (st : Step) (s n : ℕ) (o : Option ℕ) → along s st (n + 1) ≡ o → n ≤ 6 → Stand s st
-      → is_clear (men_on d) s st n ≡ true → is_vacant men o ≡ true → is_vacant (men_on d) o ≡ true
+      → is_clear (men_on d) s st n ≡ true → is_vacant_at men o ≡ true → is_vacant_at (men_on d) o ≡ true
   unfolding rides
   vacant_over st s n None at le stand clear vacant = absurd (false≢true vacant)
   vacant_over st s n (Some q) at le stand clear vacant = empty_on q (λ on small. false≢true (sym (not-true _ vacant) ∙ stand q small on
@@ -153,11 +153,11 @@ module _ (d : ℕ) (men : List (Option Man)) where
   unfolding is_clear
   clear_over st s zero le stand clear = refl
   clear_over st s (suc n) le stand clear =
-      let at = all_at (λ i. is_vacant men (along s st i)) 1 (suc n) in
+      let at = all_at (λ i. is_vacant_at men (along s st i)) 1 (suc n) in
       let before : is_clear (men_on d) s st n ≡ true = clear_over st s n (omega (arith, le)) stand
-      (all_range_true (λ i. is_vacant men (along s st i)) 1 n (λ i lo hi. at i clear lo (omega (arith, hi)))) in
-      all_range_true (λ i. is_vacant (men_on d) (along s st i)) 1 (suc n) (λ i lo hi. elim (cases_lt i (n + 1)) [
-        | inl lt ↦ all_at (λ i. is_vacant (men_on d) (along s st i)) 1 n i before lo (omega (arith, lt))
+      (all_range_true (λ i. is_vacant_at men (along s st i)) 1 n (λ i lo hi. at i clear lo (omega (arith, hi)))) in
+      all_range_true (λ i. is_vacant_at (men_on d) (along s st i)) 1 (suc n) (λ i lo hi. elim (cases_lt i (n + 1)) [
+        | inl lt ↦ all_at (λ i. is_vacant_at (men_on d) (along s st i)) 1 n i before lo (omega (arith, lt))
         | inr ge ↦
             let last : i ≡ n + 1 = omega (arith, ge, hi) in
             rw last (vacant_over st s n (along s st (n + 1)) refl (omega (arith, le)) stand before (at (n + 1) clear (omega arith) (omega arith)))

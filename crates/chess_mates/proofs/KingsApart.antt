@@ -1,6 +1,6 @@
 -- A king who goes next to the other king is in check there: no legal move does so.
 use Rattle.chess_rules.proofs.Basics.{Bool, List, None, Option, Some, and_from, and_left, and_parts, ap, arith, cases_Bool, false, false_from_ne_true, false≢true, inl, inr, not-true, refl, sym, true, ℕ, ◌<◌, ◌||◌, ◌∙◌, ◌≡◌, ◌≢◌}
-use Rattle.chess_mates.proofs.Chess.{same_kind-true, CanCastle, Colour, IsWellFormed, King, Man, Move, Position, RuleSet, capture_square, corner, halfway, in_check, is_absent, is_attacked, is_attacked_at, is_castling, is_fairy, is_legal, is_man, is_pseudo_legal, king_square, man_on, man_on-with_other, man_on-without_other, man_on_at, may_check_from, may_check_from_on, moved_men, other, position_after, put_at, reaches_as, reborn_square, same_colour, same_kind, some_square_true, strikes}
+use Rattle.chess_mates.proofs.Chess.{same_kind-true, CanCastle, Colour, IsWellFormed, King, Man, Move, Position, RuleSet, capture_square, corner, halfway, in_check, is_absent, is_attacked, is_attacked_at, is_castling, is_fairy, is_legal, is_man, is_pseudo_legal, king_square, man_on, man_on-with_other, man_on-without_other, man_on_at, may_check_from, may_check_from_at, moved_men, other, position_after, put_at, reaches_as, reborn_square, same_colour, same_kind, some_square_true, is_attacker}
 use Rattle.chess_core.proofs.Kept.{same_colour-refl}
 use Rattle.chess_rules.proofs.listing_moves.Calls.{is_pseudo_legal-from_legal}
 use Rattle.chess_rules.proofs.attacks.Exposing.{king_stays_king}
@@ -63,8 +63,8 @@ module _ (rule : RuleSet) (p : Position) (x : Man) (m : Move) (well : IsWellForm
           let kind : x.kind ≡ King = same_kind-true x.kind King king in
           grind (arith, king-back)
 
-      strikes_him : strikes rule (position_after rule p m).men m.to (other p.turn) k ≡ true
-      unfolding strikes
+      strikes_him : is_attacker rule (position_after rule p m).men m.to (other p.turn) k ≡ true
+      unfolding is_attacker
       strikes_him =
           let there = stays_after k y moved_there in
           grind (arith, and_from, king_is_able, steps_there, back)
@@ -78,7 +78,7 @@ module _ (rule : RuleSet) (p : Position) (x : Man) (m : Move) (well : IsWellForm
           king_is (position_after rule p m).men p.turn m.to (after_well_formed rule p m well may).kings small
           (ap (λ (o : Option Man). is_man o p.turn King) came ∙ own) in
           ap (λ (o : Option ℕ). is_attacked_at rule (position_after rule p m).men o (other p.turn)) square
-          ∙ some_square_true (strikes rule (position_after rule p m).men m.to (other p.turn)) k stood.small strikes_him
+          ∙ some_square_true (is_attacker rule (position_after rule p m).men m.to (other p.turn)) k stood.small strikes_him
 
 -- a king gives no check himself by a legal move
 pub kings_apart : (rule : RuleSet) (p : Position) (x : Man) (m : Move) → IsWellFormed p → man_on p.men m.from ≡ Some x → m.to < 64 → is_legal rule p m ≡ true
@@ -88,7 +88,7 @@ kings_apart rule p x m well here small lawful king = by (king_square p.men (othe
   may : is_pseudo_legal rule p m ≡ true
   may = is_pseudo_legal-from_legal rule p m lawful
 
-  by : (o : Option ℕ) → king_square p.men (other p.turn) ≡ o → may_check_from_on p.men o x m.to ≡ false
+  by : (o : Option ℕ) → king_square p.men (other p.turn) ≡ o → may_check_from_at p.men o x m.to ≡ false
   by None at = refl
   by (Some k) at =
       let kind : x.kind ≡ King = same_kind-true x.kind King king in

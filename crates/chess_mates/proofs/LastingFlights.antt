@@ -1,9 +1,9 @@
 -- Flights that one move can't take.
 use Rattle.chess_core.proofs.Kept.{same_colour-refl}
 use Rattle.chess_rules.proofs.Basics.{List, None, Option, Some, [], and_from, and_left, and_parts, and_right, ap, arith, bit_and, bit_at, bit_at_and, bit_not, bit_or, cases_Bool, eq-eqb, eqb-true, false, false_from_ne_true, false≢true, find, inl, inr, list_any, list_any-append, not, or_cases, or_lt, range_with_len, refl, rules, sym, true, w64, ℕ, ◌&&◌, ◌<◌, ◌==◌, ◌^◌, ◌∙◌, ◌≡◌, ◌≢◌, ◌⊎◌}
-use Rattle.chess_mates.proofs.Chess.{Bishop, Colour, Grasshopper, IsWellFormed, King, Knight, Man, Move, Pawn, Position, Queen, Rook, RuleSet, arrives, arriving_man, capture_square, diagonal_steps, find_first, is_arrival_free, is_attacked, is_castling, captures_do_more, is_man, is_on_some, is_pseudo_legal, is_side, is_square, king_after, king_square, knight_steps, leaps, man_on, mates, mates_behind, may_go, other, pawn_captures, position_after, queen_steps}
-use Rattle.chess_mates.proofs.Chess.{reaches, reaches_as, reaches_of, rides, same_colour, same_colour-true, same_kind, side_of, some_square_false, some_square_true, squares_of, straight_steps, strikes, triple_at, word}
-use Rattle.chess_mates.specs.ties.Flights.{has_flight, is_flight, is_flight_from, is_open}
+use Rattle.chess_mates.proofs.Chess.{Bishop, Colour, Grasshopper, IsWellFormed, King, Knight, Man, Move, Pawn, Position, Queen, Rook, RuleSet, is_promoting, arriving_man, capture_square, diagonal_steps, find_first, is_arrival_free, is_attacked, is_castling, captures_do_more, is_man, is_on_some, is_pseudo_legal, is_of_colour, is_square, king_after, king_square, knight_steps, leaps, man_on, mates, mates_behind, may_go, other, pawn_capture_steps, position_after, queen_steps}
+use Rattle.chess_mates.proofs.Chess.{reaches, reaches_as, reaches_of, rides, same_colour, same_colour-true, same_kind, side_of, some_square_false, some_square_true, squares_of, straight_steps, is_attacker, triple_at, word}
+use Rattle.chess_mates.specs.ties.Flights.{has_flight, is_flight, is_flight_at, is_open}
 use Rattle.std.proofs.Common.{IfSome}
 use Rattle.chess_mates.specs.ties.LastingFlights.{AreApproached, AreGuarded, AreNear, AreReached, IsLeft, KeepsOne, LeaveOne, LeavesOne}
 use Rattle.chess_rules.proofs.Bits.{off_left, off_right, on_left, on_right, word_has}
@@ -65,10 +65,10 @@ module _ (x : Man) (s : ℕ) where
   king_reach l kind squares = record { inside = λ men t small h. word_has (λ q. list_any (leaps s q) queen_steps) l t squares small ∙ (rw kind at h) }
 
   -- a pawn's captures
-  pub pawn_reach : (l : ℕ) → x.kind ≡ Pawn → l ≡ word (λ q. list_any (leaps s q) (pawn_captures x.colour)) → AreReached x s l
+  pub pawn_reach : (l : ℕ) → x.kind ≡ Pawn → l ≡ word (λ q. list_any (leaps s q) (pawn_capture_steps x.colour)) → AreReached x s l
   unfolding reaches_as
   pawn_reach l kind squares = record {
-    inside = λ men t small h. word_has (λ q. list_any (leaps s q) (pawn_captures x.colour)) l t squares small ∙ (rw kind at h);
+    inside = λ men t small h. word_has (λ q. list_any (leaps s q) (pawn_capture_steps x.colour)) l t squares small ∙ (rw kind at h);
   }
 
   -- all squares, for a fairy man
@@ -96,15 +96,15 @@ pub on_own : (men : List (Option Man)) (c : Colour) (w s : ℕ) (x : Man) → w 
     → (bit_at w s == 1) ≡ true
 unfolding side_of
 on_own men c w s x own small here mine =
-    word_has (λ q. is_side (man_on men q) c) w s own small ∙ ap (λ (o : Option Man). is_side o c) here ∙ ap (λ (d : Colour). same_colour d c) mine ∙ same_colour-refl c
+    word_has (λ q. is_of_colour (man_on men q) c) w s own small ∙ ap (λ (o : Option Man). is_of_colour o c) here ∙ ap (λ (d : Colour). same_colour d c) mine ∙ same_colour-refl c
 
 -- neither on a last rank nor on a king's home
 pub on_both : (a b t : ℕ) → (bit_at a t == 1) ≡ true → (bit_at b t == 1) ≡ true → (bit_at (bit_and a b) t == 1) ≡ true
 on_both a b t on too = grind (arith, eqb-true, bit_at_and, eq-eqb)
 
 -- for targets off the last ranks: no pawn promotes there
-pub no_last_rank : (x : Man) (w t : ℕ) → (bit_and w 18374686479671623935 == 0) ≡ true → t < 64 → (bit_at w t == 1) ≡ true → arrives x t ≡ false
-no_last_rank x w t none small on = false_by (arrives x t) (λ last.
+pub no_last_rank : (x : Man) (w t : ℕ) → (bit_and w 18374686479671623935 == 0) ≡ true → t < 64 → (bit_at w t == 1) ≡ true → is_promoting x t ≡ false
+no_last_rank x w t none small on = false_by (is_promoting x t) (λ last.
     let both = on_both w 18374686479671623935 t on (last_rank_on x.colour t small (and_parts _ _ last).1) in
     let zero : bit_and w 18374686479671623935 ≡ 0 = eqb-true _ _ none in
     let never = off_zero t in
@@ -170,8 +170,8 @@ near_are p m k n s y o near own king only = record {
   next = λ f small on. sym (word_has (λ t. list_any (leaps k t) queen_steps) n f near small) ∙ on_first n _ f (on_first _ _ f (on_first _ _ f on));
   arrival = λ f small on e. false≢true (sym (unseen_bit (λ t. is_square (Some m.to) t) _ o f only small on)
       ∙ word_has (λ t. is_square (Some m.to) t) o f only small ∙ eq-eqb m.to f (sym e));
-  own = λ f small on. sym (word_has (λ t. is_side (man_on p.men t) p.turn) s f own small)
-      ∙ unseen_bit (λ t. is_side (man_on p.men t) p.turn) n s f own small (on_first _ _ f (on_first _ _ f on));
+  own = λ f small on. sym (word_has (λ t. is_of_colour (man_on p.men t) p.turn) s f own small)
+      ∙ unseen_bit (λ t. is_of_colour (man_on p.men t) p.turn) n s f own small (on_first _ _ f (on_first _ _ f on));
   king = λ f small on. sym (word_has (λ t. is_man (man_on p.men t) (other p.turn) King) y f king small)
       ∙ unseen_bit (λ t. is_man (man_on p.men t) (other p.turn) King) _ y f king small (on_first _ _ f on);
 }
@@ -301,7 +301,7 @@ module _ (rule : RuleSet) (p : Position) (m : Move) (x : Man) (k w : ℕ) (well 
         | inr kept ↦ elim (stood_q f v kept.1.1) [
           | inl came ↦ absurd (near.arrival f left.small within.0 came.0)
           | inr stays ↦
-              free_man p.turn (Some v) (ap (λ (o : Option Man). is_side o p.turn) (sym stays.1.1) ∙ near.own f left.small within.0)
+              free_man p.turn (Some v) (ap (λ (o : Option Man). is_of_colour o p.turn) (sym stays.1.1) ∙ near.own f left.small within.0)
               (ap (λ (o : Option Man). is_man o (other p.turn) King) (sym stays.1.1) ∙ near.king f left.small within.0)
         ]
       ]
@@ -326,10 +326,10 @@ module _ (rule : RuleSet) (p : Position) (m : Move) (x : Man) (k w : ℕ) (well 
         ]
       ]
 
-      nobody : (s : ℕ) → s < 64 → (is_side (man_on then s) (other p.turn) && reaches then s f) ≡ false
+      nobody : (s : ℕ) → s < 64 → (is_of_colour (man_on then s) (other p.turn) && reaches then s f) ≡ false
       unfolding reaches
       nobody s inside = by (man_on then s) refl where
-        by : (o : Option Man) → man_on then s ≡ o → (is_side o (other p.turn) && reaches_of then o s f) ≡ false
+        by : (o : Option Man) → man_on then s ≡ o → (is_of_colour o (other p.turn) && reaches_of then o s f) ≡ false
         by None e = refl
         by (Some v) e = elim (cases_Bool (same_colour v.colour (other p.turn))) [
           | inl enemy ↦ and_right (same_colour v.colour (other p.turn)) _ (unreached s v inside e (same_colour-true _ _ enemy))
@@ -337,7 +337,7 @@ module _ (rule : RuleSet) (p : Position) (m : Move) (x : Man) (k w : ℕ) (well 
         ]
 
       not_attacked : is_attacked rule then f (other p.turn) ≡ false
-      unfolding is_attacked strikes
+      unfolding is_attacked is_attacker
       not_attacked = search (rules, no_strike, nobody, some_square_false)
 
       king_step : IsKingStep rule r z k f
@@ -355,7 +355,7 @@ module _ (rule : RuleSet) (p : Position) (m : Move) (x : Man) (k w : ℕ) (well 
       flees : has_flight rule r ≡ true
       unfolding has_flight is_flight
       flees =
-          some_square_true (is_flight rule r) f left.small (ap (λ (o : Option ℕ). is_flight_from rule r o f) (ap (king_square r.men) turn_r ∙ king_r)
+          some_square_true (is_flight rule r) f left.small (ap (λ (o : Option ℕ). is_flight_at rule r o f) (ap (king_square r.men) turn_r ∙ king_r)
           ∙ step_is_legal rule r z k f king_step (ap (is_attacked rule then f) (ap other turn_r) ∙ not_attacked))
 
     has_one : has_flight rule r ≡ true

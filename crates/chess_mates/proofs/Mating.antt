@@ -1,7 +1,7 @@
 -- The moves that mate, by their numbers.
 use Rattle.chess_core.proofs.Ranges.{second_fails}
 use Rattle.chess_rules.proofs.Basics.{[], and_left, and_right, ap, arith, cases_Bool, cases_lt, false, inl, inr, not, refl, rules, suc, sym, true, zero, ℕ, ◌&&◌, ◌+◌, ◌-◌, ◌<◌, ◌∙◌, ◌∷◌, ◌≡◌, ◌≤◌}
-use Rattle.chess_mates.proofs.Chess.{HaveNone, Move, Position, RuleSet, after_by, first_of_and, in_check, is_legal, is_mate, is_pseudo_legal, mates, mates_behind, other, position_after, second_of_and, triple_at}
+use Rattle.chess_mates.proofs.Chess.{HaveNone, Move, Position, RuleSet, position_after_by, first_of_and, in_check, is_legal, is_mate, is_pseudo_legal, mates, mates_behind, other, position_after, second_of_and, triple_at}
 use Rattle.chess_rules.proofs.listing_moves.Places.{moves_behind-end, moves_behind-here, moves_behind-skip}
 use Rattle.chess_rules.specs.ties.Idle.{is_legal-idle}
 use Rattle.chess_rules.proofs.making_moves.Stays.{maker}
@@ -50,7 +50,7 @@ no_mate rule p m h = sym (not_mating rule p m (sym h))
 
 -- after a move the other side is to move
 pub turn_after : (rule : RuleSet) (p : Position) (m : Move) → is_pseudo_legal rule p m ≡ true → (position_after rule p m).turn ≡ other p.turn
-unfolding position_after after_by
+unfolding position_after position_after_by
 turn_after rule p m h = let x = maker rule p m h in rw x.1 refl
 
 -- for moves that give no check if they are legal

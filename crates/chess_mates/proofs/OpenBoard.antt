@@ -1,7 +1,7 @@
 -- Where a man goes, he might go on an empty board.
 use Rattle.std.proofs.Common.{arith}
 use Rattle.chess_rules.proofs.Basics.{Bool, List, Option, and_parts, bit_at, bit_or, cond-false, cond-true, false, false≢true, inl, inr, list_any, list_any-append, or_cases, refl, rules, sym, true, ℕ, ◌&&◌, ◌<◌, ◌==◌, ◌||◌, ◌∙◌, ◌≡◌}
-use Rattle.chess_mates.proofs.Chess.{Bishop, Kind, King, Knight, Man, Pawn, Position, Queen, Rook, diagonal_steps, is_advance, is_on_some, knight_steps, leaps, may_go, pawn_captures, queen_steps, reaches_as, rides, same_kind, steps_to, straight_steps, word}
+use Rattle.chess_mates.proofs.Chess.{Bishop, Kind, King, Knight, Man, Pawn, Position, Queen, Rook, diagonal_steps, is_advance, is_on_some, knight_steps, leaps, may_go, pawn_capture_steps, queen_steps, reaches_as, rides, same_kind, steps_to, straight_steps, word}
 use Rattle.chess_rules.proofs.listing_moves.Arrivals.{no_steps}
 use Rattle.chess_rules.proofs.Bits.{on_left, on_right, word_has}
 use Rattle.chess_rules.proofs.attacks.Attacking.{goes_on}
@@ -52,7 +52,7 @@ module _ (p : Position) (x : Man) (s t : ℕ) (small : t < 64) (h : may_go p x s
   knight_squares l kind squares = word_has (λ q. list_any (leaps s q) knight_steps) l t squares small ∙ as_piece Knight kind refl refl
 
   -- a pawn's captures and steps
-  pub pawn_squares : (l a : ℕ) → x.kind ≡ Pawn → l ≡ word (λ q. list_any (leaps s q) (pawn_captures x.colour)) → a ≡ word (is_advance x.colour s)
+  pub pawn_squares : (l a : ℕ) → x.kind ≡ Pawn → l ≡ word (λ q. list_any (leaps s q) (pawn_capture_steps x.colour)) → a ≡ word (is_advance x.colour s)
       → (bit_at (bit_or l a) t == 1) ≡ true
   unfolding may_go reaches_as
   pawn_squares l a kind squares steps = search (rules, advances, and_parts, cond-true, on_left, on_right, or_cases, word_has)

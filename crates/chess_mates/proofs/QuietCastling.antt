@@ -1,6 +1,6 @@
 -- Castling gives no check where the rook doesn't see the enemy king from his new square, and the king leaves no line to him.
 use Rattle.chess_rules.proofs.Basics.{Bool, List, Option, Some, [], ◌∷◌, and_left, and_right, ap, arith, eqb-true, false, false≢true, list_any, refl, sym, true, ℕ, ◌<◌, ◌==◌, ◌∙◌, ◌≡◌}
-use Rattle.chess_mates.proofs.Chess.{Bishop, Colour, Grasshopper, IsWellFormed, Kind, King, Man, Move, Nightrider, Position, Rook, RuleSet, Step, halfway, in_check, is_castling, is_fairy, is_man, is_on_some, king_square, knight_steps, man_on, may_check_from, may_check_from_on, other, position_after, queen_steps}
+use Rattle.chess_mates.proofs.Chess.{Bishop, Colour, Grasshopper, IsWellFormed, Kind, King, Man, Move, Nightrider, Position, Rook, RuleSet, Step, halfway, in_check, is_castling, is_fairy, is_man, is_on_some, king_square, knight_steps, man_on, may_check_from, may_check_from_at, other, position_after, queen_steps}
 use Rattle.chess_mates.proofs.Chess.{reaches_as, same_colour, same_kind, some_square_false, straight_steps}
 use Rattle.chess_mates.specs.ties.Siege.{is_rider}
 use Rattle.chess_rules.proofs.rays.Flips.{straight-back}
@@ -9,7 +9,7 @@ use Rattle.chess_rules.proofs.listing_moves.Targeting.{false_by}
 use Rattle.chess_rules.proofs.making_moves.Pseudo.{IsMade}
 use Rattle.chess_mates.proofs.OpenBoard.{rides_on}
 use Rattle.chess_mates.proofs.CastlingChecks.{castling_gives_no_check}
-use Rattle.chess_mates.proofs.Chess.{halfway, is_ahead, is_on_fairy_line, is_on_fairy_line_to, may_expose, may_expose_on, may_stand_between}
+use Rattle.chess_mates.proofs.Chess.{halfway, is_ahead, is_on_fairy_line, is_on_fairy_line_at, may_expose, may_expose_at, may_stand_between}
 use Rattle.chess_rules.proofs.Chess.{is_lined, is_reached, is_shut}
 use Rattle.chess_rules.proofs.Basics.{or_from}
 use Rattle.chess_mates.proofs.Standing.{not_mine, reach_none}
@@ -37,7 +37,7 @@ module _ (rule : RuleSet) (p : Position) (x : Man) (m : Move) (c : Colour) (k : 
   rook_off : may_check_from p.men c (record { colour = other c; kind = Rook }) (halfway m) ≡ false
   unfolding may_check_from reaches_as
   rook_off =
-      ap (λ (o : Option ℕ). may_check_from_on p.men o (record { colour = other c; kind = Rook }) (halfway m)) king
+      ap (λ (o : Option ℕ). may_check_from_at p.men o (record { colour = other c; kind = Rook }) (halfway m)) king
       ∙ false_by _ (λ h. false≢true (sym rook ∙ rides_on p.men k (halfway m) straight_steps (sym (straight-back p.men (halfway m) k half small) ∙ h)))
 
   elsewhere : (k == m.from) ≡ false
@@ -51,14 +51,14 @@ module _ (rule : RuleSet) (p : Position) (x : Man) (m : Move) (c : Colour) (k : 
   covered : may_expose p.men c m.from ≡ false
   unfolding may_expose is_shut is_reached reaches_as
   covered =
-      ap (λ (o : Option ℕ). may_expose_on p.men o c m.from) king
+      ap (λ (o : Option ℕ). may_expose_at p.men o c m.from) king
       ∙ or_from _ _ (or_from _ _ (or_from _ _ (or_from _ _ (some_square_false _ 64 (omega arith)
       (record { fails = λ s inside. reach_none p.men k c calm s inside })) elsewhere)
       (and_left _ _ (unseen Rook refl refl))) (and_left _ _ (unseen Bishop refl refl))) (unlined m.from)
 
   aside : may_stand_between p.men c m.to ≡ false
   unfolding may_stand_between
-  aside = ap (λ (o : Option ℕ). is_on_fairy_line_to p.men o c m.to) king ∙ unlined m.to
+  aside = ap (λ (o : Option ℕ). is_on_fairy_line_at p.men o c m.to) king ∙ unlined m.to
 
   -- for castlings told by squares
   pub castles_quietly : in_check rule (position_after rule p m).men c ≡ false

@@ -1,8 +1,8 @@
 -- A man who is reborn gives his own king no check, but as a grasshopper's hurdle.
 use Rattle.chess_rules.proofs.Basics.{List, None, Option, Some, and_from, and_parts, ap, arith, bit_at, cases_Bool, cond-false, cond-true, false, false_from_ne_true, false≢true, inl, inr, length, list_all, list_any, not-true, range_with_len, refl, sym, true, ℕ, ◌&&◌, ◌-◌, ◌<◌, ◌==◌, ◌∙◌, ◌≡◌, rules}
-use Rattle.chess_mates.proofs.Chess.{AreCheckSquares, AtMostOneKing, CheckSquares, Colour, Grasshopper, IsWellFormed, Kind, King, Man, Move, Position, Queen, RuleSet, Step, after_by, along, are_rebirths_quiet, arriving_man, capture_square, castles, check_squares_for, circe, corner, find_first, halfway, is_attacked, is_attacked_at, position_after}
-use Rattle.chess_mates.proofs.Chess.{in_check, is_absent, is_castling, is_clear, is_man, is_man-without, is_paralysed, is_pseudo_legal, is_side, is_square, is_vacant, king_square, man_on, man_on_at, may_castle, may_check_from, move_man, moved_men, orthodox, other, put_at, queen_steps, reaches, reaches_as, reaches_of, reborn_square}
-use Rattle.chess_mates.proofs.Chess.{rides, same_colour, same_kind, some_square_false, some_square_true, squares, strikes, with_man, without_at, without_man}
+use Rattle.chess_mates.proofs.Chess.{AreCheckSquares, AtMostOneKing, CheckSquares, Colour, Grasshopper, IsWellFormed, Kind, King, Man, Move, Position, Queen, RuleSet, Step, position_after_by, along, are_rebirths_quiet, arriving_man, capture_square, can_castle, check_squares_for, circe, corner, find_first, halfway, is_attacked, is_attacked_at, position_after}
+use Rattle.chess_mates.proofs.Chess.{in_check, is_absent, is_castling, is_clear, is_man, is_man-without, is_paralysed, is_pseudo_legal, is_of_colour, is_square, is_vacant_at, king_square, man_on, man_on_at, may_castle, may_check_from, move_man, moved_men, orthodox, other, put_at, queen_steps, reaches, reaches_as, reaches_of, reborn_square}
+use Rattle.chess_mates.proofs.Chess.{rides, same_colour, same_kind, some_square_false, some_square_true, squares, is_attacker, with_man, without_at, without_man}
 use Rattle.chess_mates.specs.ties.CheckSquares.{rule_of_checks}
 use Rattle.chess_rules.specs.ties.Shields.{cannot_expose}
 use Rattle.chess_mates.proofs.Checking.{no_check}
@@ -18,14 +18,14 @@ LacksGrasshopper men e = (s : ℕ) → is_man (man_on men s) e Grasshopper ≡ f
 
 -- once y stands on r too, lines are shut and none is opened
 module _ (men : List (Option Man)) (r : ℕ) (y : Man) where
-  was_vacant : (o : Option ℕ) → is_vacant (with_man men r y) o ≡ true → is_vacant men o ≡ true
+  was_vacant : (o : Option ℕ) → is_vacant_at (with_man men r y) o ≡ true → is_vacant_at men o ≡ true
   was_vacant o h = grind (arith, man_on-with_cases, false≢true)
 
   rode : (s t : ℕ) (d : Step) → rides (with_man men r y) s t d ≡ true → rides men s t d ≡ true
   unfolding rides is_clear
   rode s t d h =
-      any_kept (λ k. is_square (along s d k) t && list_all (λ i. is_vacant (with_man men r y) (along s d i)) (range_with_len 1 (k - 1)))
-      (λ k. is_square (along s d k) t && list_all (λ i. is_vacant men (along s d i)) (range_with_len 1 (k - 1))) (range_with_len 1 7)
+      any_kept (λ k. is_square (along s d k) t && list_all (λ i. is_vacant_at (with_man men r y) (along s d i)) (range_with_len 1 (k - 1)))
+      (λ k. is_square (along s d k) t && list_all (λ i. is_vacant_at men (along s d i)) (range_with_len 1 (k - 1))) (range_with_len 1 7)
       (grind (arith, and_parts, and_from, all_kept, was_vacant)) h
 
   rode_so : (ds : List Step) (s t : ℕ) → list_any (rides (with_man men r y) s t) ds ≡ true → list_any (rides men s t) ds ≡ true
@@ -39,13 +39,13 @@ module _ (men : List (Option Man)) (r : ℕ) (y : Man) where
   -- so y gives the king of his colour no check
   module _ (c : Colour) (own : same_colour y.colour (other c) ≡ false) (mortal : same_kind y.kind King ≡ false) (lacks : LacksGrasshopper men (other c))
       (one : AtMostOneKing men) where
-    struck_by : (k s : ℕ) (o : Option Man) → man_on men s ≡ o → is_side o (other c) ≡ true → reaches_of (with_man men r y) o s k ≡ true
-        → strikes orthodox men k (other c) s ≡ true
-    unfolding strikes reaches is_paralysed
+    struck_by : (k s : ℕ) (o : Option Man) → man_on men s ≡ o → is_of_colour o (other c) ≡ true → reaches_of (with_man men r y) o s k ≡ true
+        → is_attacker orthodox men k (other c) s ≡ true
+    unfolding is_attacker reaches is_paralysed
     struck_by k s o here side h = grind (arith, false≢true, false_from_ne_true, and_from, reached)
 
-    struck : (k s : ℕ) → strikes circe (with_man men r y) k (other c) s ≡ true → strikes orthodox men k (other c) s ≡ true
-    unfolding strikes reaches
+    struck : (k s : ℕ) → is_attacker circe (with_man men r y) k (other c) s ≡ true → is_attacker orthodox men k (other c) s ≡ true
+    unfolding is_attacker reaches
     struck k s h = grind (arith, and_parts, man_on-with_cases, false≢true, struck_by)
 
     king_stood : (k : ℕ) → is_man (man_on (with_man men r y) k) c King ≡ true → is_man (man_on men k) c King ≡ true
@@ -61,17 +61,17 @@ module _ (men : List (Option Man)) (r : ℕ) (y : Man) where
           let inside : k < 64 = omega (arith, f.high) in
           let at : king_square men c ≡ Some k = king_is men c k one inside (king_stood k f.here) in
           let none : is_attacked_at orthodox men (Some k) (other c) ≡ false = ap (λ (o : Option ℕ). is_attacked_at orthodox men o (other c)) (sym at) ∙ safe in
-          some_square_false (strikes circe (with_man men r y) k (other c)) 64 (omega arith) (record {
+          some_square_false (is_attacker circe (with_man men r y) k (other c)) 64 (omega arith) (record {
             fails = λ s lt. false_from_ne_true _ (search (rules, false≢true, some_square_true, struck));
           })
 
 -- rebirths apart, Circe is as orthodox chess
 same_check : (men : List (Option Man)) (c : Colour) → in_check circe men c ≡ in_check orthodox men c
-unfolding in_check is_attacked strikes is_paralysed
+unfolding in_check is_attacked is_attacker is_paralysed
 same_check men c = grind arith
 
-same_castles : (p : Position) (x : Man) (m : Move) → castles circe p x m ≡ castles orthodox p x m
-unfolding castles may_castle is_paralysed
+same_castles : (p : Position) (x : Man) (m : Move) → can_castle circe p x m ≡ can_castle orthodox p x m
+unfolding can_castle may_castle is_paralysed
 same_castles p x m = grind (arith, same_check)
 
 -- what may be played in Circe may be played in orthodox chess
@@ -110,7 +110,7 @@ absent_lacks men e size absent = λ s. false_from_ne_true _ (λ h.
 -- the position after a move, by the man who makes it
 pub after_is : (rule : RuleSet) (p : Position) (x : Man) (m : Move) → man_on p.men m.from ≡ Some x
     → (position_after rule p m).men ≡ put_at (moved_men p x m) (reborn_square rule p x m) (man_on_at p.men (capture_square p x m))
-unfolding position_after after_by
+unfolding position_after position_after_by
 after_is rule p x m here = rw here refl
 
 -- where the mover has no grasshopper, a move that gives no check in orthodox chess gives none in Circe, promotions apart

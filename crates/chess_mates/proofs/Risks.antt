@@ -1,6 +1,6 @@
 -- The words of risks: what a defender must avoid lest a reply may mate.
 use Rattle.chess_rules.proofs.Basics.{List, Option, Some, and_left, and_parts, ap, arith, bit_and, bit_at, bit_at-lt, bit_not, bit_or, cases_Bool, cases_eq, eq-eqb, eqb-true, false, false≢true, find, inl, inr, not, range_with_len, refl, subst, sym, true, true_from_ne_false, w64, ℕ, ◌+◌, ◌-◌, ◌<◌, ◌==◌, ◌^◌, ◌∙◌, ◌≡◌, ◌≢◌, ◌⊎◌}
-use Rattle.chess_mates.proofs.Chess.{Bishop, Colour, Grasshopper, Kind, King, Knight, Man, Nightrider, Pawn, Position, Queen, Rook, arrives, find_first, is_square, leaps, may_go, occupied_squares, other}
+use Rattle.chess_mates.proofs.Chess.{Bishop, Colour, Grasshopper, Kind, King, Knight, Man, Nightrider, Pawn, Position, Queen, Rook, is_promoting, find_first, is_square, leaps, may_go, occupied_squares, other}
 use Rattle.chess_mates.proofs.Chess.{reaches_as, rides, same_kind, same_kind-true, squares, word}
 use Rattle.chess_mates.specs.declared.siege.Attackers.{Attackers}
 use Rattle.chess_mates.specs.declared.siege.Field.{Field}
@@ -22,11 +22,11 @@ use Rattle.chess_mates.specs.ties.LastingFlights as Flights
 use Rattle.chess_mates.specs.ties.LastingFlights.{IsLeft}
 
 -- squares off the last ranks
-pub no_last_rank_on : (x : Man) (w t : ℕ) → not (bit_and w 18374686479671623935 == 0) ≡ false → t < 64 → (bit_at w t == 1) ≡ true → arrives x t ≡ false
+pub no_last_rank_on : (x : Man) (w t : ℕ) → not (bit_and w 18374686479671623935 == 0) ≡ false → t < 64 → (bit_at w t == 1) ≡ true → is_promoting x t ≡ false
 no_last_rank_on x w t none small on = no_last_rank x w t (true_from_ne_false _ (λ e. false≢true (sym none ∙ ap not e))) small on
 
 -- who is no pawn doesn't arrive on his last rank
-pub no_pawn_arrives : (x : Man) (t : ℕ) → same_kind x.kind Pawn ≡ false → arrives x t ≡ false
+pub no_pawn_arrives : (x : Man) (t : ℕ) → same_kind x.kind Pawn ≡ false → is_promoting x t ≡ false
 no_pawn_arrives x t piece = and_left _ _ piece
 
 -- a square that isn't one of a word, or one of the first of two words alone
@@ -113,7 +113,7 @@ pawn_targets x reached checks t small on off =
     let both = off_second reached (bit_or checks 18374686479671623935) t off on in
     record {
       off = λ mortal. off_left checks 18374686479671623935 t both;
-      plain = false_by (arrives x t) (λ last. false≢true (sym (off_right checks 18374686479671623935 t both)
+      plain = false_by (is_promoting x t) (λ last. false≢true (sym (off_right checks 18374686479671623935 t both)
           ∙ last_rank_on x.colour t small (and_parts _ _ last).1));
     }
 
@@ -185,7 +185,7 @@ pub met_is : (v : Siege) (g : Field) (x : Man) (s targets watched c o : ℕ) (gs
     → AreGuardsWithout v s (bit_or g.near o) gs → IsOff v.hurdles (record { critical = c; lines = gs.ridden }) a b
     → ((bit_at gs.guarded g.king == 1) ≡ true → (bit_at watched t == 1) ≡ true)
     → ((bit_at gs.guarded g.king == 1) ≡ false → watched ≡ targets)
-    → ((q : ℕ) → q < 64 → (bit_at watched q == 1) ≡ true → arrives x q ≡ false)
+    → ((q : ℕ) → q < 64 → (bit_at watched q == 1) ≡ true → is_promoting x q ≡ false)
     → ((q : ℕ) → q < 64 → (bit_at watched q == 1) ≡ true → LeavesOne (bit_and g.near (bit_not w64 gs.guarded)) v.enemies c x q)
     → IsMet v g x s targets a b t
 met_is v g x s targets watched c o gs a b t only at_king inside small near fits are off every shut plain leaves there = elim (cases_Bool (bit_at watched t == 1)) [

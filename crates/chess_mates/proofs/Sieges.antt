@@ -1,6 +1,6 @@
 -- The men of a siege, its castlings and the king's field.
 use Rattle.chess_rules.proofs.Basics.{List, None, Option, Some, and_parts, ap, arith, bit_and, bit_at, bit_not, bit_or, eq-eqb, false, false≢true, inl, inr, list_any, list_any-append, or_cases, refl, subst, sym, true, w64, ℕ, ◌&&◌, ◌+◌, ◌-◌, ◌<◌, ◌==◌, ◌^◌, ◌||◌, ◌∙◌, ◌≡◌, ◌⊎◌}
-use Rattle.chess_mates.proofs.Chess.{Bishop, Colour, Grasshopper, IsWellFormed, Kind, King, Knight, Man, Nightrider, Pawn, Position, Queen, Rook, White, corner, is_fairy, is_man, is_on_some, is_side, is_square, king_square, leaps, man_on, occupied_squares, other, queen_steps}
+use Rattle.chess_mates.proofs.Chess.{Bishop, Colour, Grasshopper, IsWellFormed, Kind, King, Knight, Man, Nightrider, Pawn, Position, Queen, Rook, White, corner, is_fairy, is_man, is_on_some, is_of_colour, is_square, king_square, leaps, man_on, occupied_squares, other, queen_steps}
 use Rattle.chess_mates.proofs.Chess.{diagonal_steps, reaches_as, rides, same_colour, same_kind, side_of, squares, squares_of, straight_steps, word}
 use Rattle.chess_core.specs.Castling.{has_unmoved}
 use Rattle.chess_mates.specs.declared.siege.Attackers.{Attackers}
@@ -185,7 +185,7 @@ pub shut_on : (p : Position) (c : Colour) (own w corner next a b : ℕ) → own 
 unfolding side_of
 shut_on p c own w corner next a b side small (inl moved) e f = inl (rw (← e) moved)
 shut_on p c own w corner next a b side small (inr (inl on)) e f =
-    inr (inl (rw (← f) (sym (word_has (λ q. is_side (man_on p.men q) c) own next side small) ∙ on)))
+    inr (inl (rw (← f) (sym (word_has (λ q. is_of_colour (man_on p.men q) c) own next side small) ∙ on)))
 shut_on p c own w corner next a b side small (inr (inr on)) e f = inr (inr (λ low. rw (← f) on))
 
 shut_in : (p : Position) (c : Colour) (v w a b : ℕ) → ((q : ℕ) → (bit_at v q == 1) ≡ true → (bit_at w q == 1) ≡ true) → IsShut p c v a b → IsShut p c w a b

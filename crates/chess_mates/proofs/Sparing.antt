@@ -1,7 +1,7 @@
 -- No reply mates after a defender's move without risk.
 use Rattle.chess_rules.proofs.Basics.{Bool, List, None, Option, Some, [], and_from, and_left, and_parts, and_right, ap, arith, bit_at, cases_Bool, cases_eq, eqb-true, false, false_from_ne_true, false≢true, if◌then◌else◌, inl, inr, is_some, list_any, not, or_parts, refl, subst, sym, true, ℕ, ◌-◌, ◌<◌, ◌==◌, ◌∙◌, ◌≡◌, ◌≢◌, ◌⊎◌}
-use Rattle.chess_mates.proofs.Chess.{Colour, IsWellFormed, Kind, King, Man, Move, Pawn, Position, RuleSet, arriving_man, capture_square, corner, halfway, in_check, is_absent, is_arrival_free, is_attacked, is_attacked_at, is_castling, is_circe, is_fairy, is_legal, is_man, is_on_some, is_pseudo_legal, is_side, is_square, king_after, king_square, leaps, man_on, mates, mates_behind, may_check_from, may_go, other, position_after, queen_steps}
-use Rattle.chess_mates.proofs.Chess.{after_by, reaches_as, same_colour, same_colour-true, same_kind, side_of, straight_steps, strikes, triple_at, word}
+use Rattle.chess_mates.proofs.Chess.{Colour, IsWellFormed, Kind, King, Man, Move, Pawn, Position, RuleSet, arriving_man, capture_square, corner, halfway, in_check, is_absent, is_arrival_free, is_attacked, is_attacked_at, is_castling, is_circe, is_fairy, is_legal, is_man, is_on_some, is_pseudo_legal, is_of_colour, is_square, king_after, king_square, leaps, man_on, mates, mates_behind, may_check_from, may_go, other, position_after, queen_steps}
+use Rattle.chess_mates.proofs.Chess.{position_after_by, reaches_as, same_colour, same_colour-true, same_kind, side_of, straight_steps, is_attacker, triple_at, word}
 use Rattle.chess_core.specs.Castling.{has_unmoved}
 use Rattle.chess_rules.specs.Play.{is_double_step}
 use Rattle.chess_mates.specs.declared.siege.Field.{Field}
@@ -70,7 +70,7 @@ module _ (rule : RuleSet) (p : Position) (m : Move) (x : Man) (v : Siege) (k : �
   king_q = ap (λ (l : List (Option Man)). king_square l p.turn) men_q ∙ king_is_after rule p x m well is small i.plain.castling ∙ king
 
   crossed_q : q.crossed ≡ (if is_double_step x m then Some (halfway m) else None)
-  unfolding position_after after_by
+  unfolding position_after position_after_by
   crossed_q = rw here refl
 
   captures_p : (s : ℕ) → capture_square p x m ≡ Some s → s ≡ m.to
@@ -96,8 +96,8 @@ module _ (rule : RuleSet) (p : Position) (m : Move) (x : Man) (v : Siege) (k : �
   some_p : (e : ℕ) → e < 64 → (bit_at v.hurdles e == 1) ≡ true → is_some (man_on p.men e) ≡ true
   unfolding side_of
   some_p e inside on = elim (i.siege.hurdles.men e inside on).0 [
-    | inl own ↦ some_side _ p.turn (sym (word_has (λ s. is_side (man_on p.men s) p.turn) v.own e i.fits.own inside) ∙ own)
-    | inr enemy ↦ some_side _ (other p.turn) (sym (word_has (λ s. is_side (man_on p.men s) (other p.turn)) v.enemies e i.fits.enemies inside) ∙ enemy)
+    | inl own ↦ some_side _ p.turn (sym (word_has (λ s. is_of_colour (man_on p.men s) p.turn) v.own e i.fits.own inside) ∙ own)
+    | inr enemy ↦ some_side _ (other p.turn) (sym (word_has (λ s. is_of_colour (man_on p.men s) (other p.turn)) v.enemies e i.fits.enemies inside) ∙ enemy)
   ]
 
   stays_q : (e : ℕ) → e < 64 → (bit_at v.hurdles e == 1) ≡ true → e ≢ m.from → is_some (man_on q.men e) ≡ true
@@ -187,7 +187,7 @@ module _ (rule : RuleSet) (p : Position) (m : Move) (x : Man) (v : Siege) (k : �
         absurd (false≢true (sym (moved_stays rule p x m corner circe i.plain.castling here moved) ∙ unmoved))
     shuts corner next (inr (inl stands)) unmoved none low =
         let off : next ≢ m.from = λ e. false≢true (sym (not_mine_enemy x p.turn is.mine)
-        ∙ sym (ap (λ (o : Option Man). is_side o (other p.turn)) (ap (man_on p.men) e ∙ here)) ∙ stands) in
+        ∙ sym (ap (λ (o : Option Man). is_of_colour o (other p.turn)) (ap (man_on p.men) e ∙ here)) ∙ stands) in
         absurd (false≢true (sym (ap (λ (o : Option Man). is_some o) none) ∙ ap (λ (l : List (Option Man)). is_some (man_on l next)) men_q
         ∙ some_stays p x m next captures_p (omega (arith, small, well.size)) off (some_side _ (other p.turn) stands)))
     shuts corner next (inr (inr on)) unmoved none low = on low
@@ -309,14 +309,14 @@ module _ (rule : RuleSet) (p : Position) (m : Move) (x : Man) (v : Siege) (k : �
       recaptures on = elim (cases_eq m.to n.to) [
         | inl e ↦ e
         | inr ne ↦
-            let enemy : is_side (man_on p.men n.to) (other p.turn) ≡ true =
-            sym (word_has (λ s. is_side (man_on p.men s) (other p.turn)) v.enemies n.to i.fits.enemies to) ∙ on in
+            let enemy : is_of_colour (man_on p.men n.to) (other p.turn) ≡ true =
+            sym (word_has (λ s. is_of_colour (man_on p.men s) (other p.turn)) v.enemies n.to i.fits.enemies to) ∙ on in
             let left : n.to ≢ m.from = λ e. false≢true (sym (not_mine_enemy x p.turn is.mine)
-            ∙ sym (ap (λ (o : Option Man). is_side o (other p.turn)) (ap (man_on p.men) e ∙ here)) ∙ enemy) in
+            ∙ sym (ap (λ (o : Option Man). is_of_colour o (other p.turn)) (ap (man_on p.men) e ∙ here)) ∙ enemy) in
             let kept : man_on q.men n.to ≡ man_on p.men n.to =
             ap (λ (l : List (Option Man)). man_on l n.to) men_q ∙ stays_there p x m n.to captures_p left (λ e. ne (sym e)) in
             absurd (unfree (other p.turn) (man_on q.men n.to) (ap (λ (c : Colour). is_arrival_free c (man_on q.men n.to)) (sym turn_q) ∙ is_n.arrival)
-            (ap (λ (o : Option Man). is_side o (other p.turn)) kept ∙ enemy))
+            (ap (λ (o : Option Man). is_of_colour o (other p.turn)) kept ∙ enemy))
       ]
 
       -- hurdles stay, or the man who captures stands there
@@ -391,7 +391,7 @@ module _ (rule : RuleSet) (p : Position) (m : Move) (x : Man) (v : Siege) (k : �
         ]
 
         no_check : in_check rule r.men p.turn ≡ false
-        unfolding in_check is_attacked strikes
+        unfolding in_check is_attacked is_attacker
         no_check = ap (λ (o : Option ℕ). is_attacked_at rule r.men o (other p.turn)) king_r ∙ nobody_strikes rule r.men k p.turn unseen
 
       -- a flight that is left
@@ -405,9 +405,9 @@ module _ (rule : RuleSet) (p : Position) (m : Move) (x : Man) (v : Siege) (k : �
         on_f : (bit_at g.near f == 1) ≡ true
         on_f = flight.left.on
 
-        own_f : is_side (man_on p.men f) p.turn ≡ false
+        own_f : is_of_colour (man_on p.men f) p.turn ≡ false
         unfolding side_of
-        own_f = sym (word_has (λ s. is_side (man_on p.men s) p.turn) v.own f i.fits.own in_f) ∙ i.at.is.own f in_f on_f
+        own_f = sym (word_has (λ s. is_of_colour (man_on p.men s) p.turn) v.own f i.fits.own in_f) ∙ i.at.is.own f in_f on_f
 
         no_king_f : is_man (man_on p.men f) (other p.turn) King ≡ false
         no_king_f = false_by _ (λ king. false≢true (sym (i.at.is.kings f in_f on_f) ∙ i.fits.kings f in_f king))
@@ -421,7 +421,7 @@ module _ (rule : RuleSet) (p : Position) (m : Move) (x : Man) (v : Siege) (k : �
             | inr kept ↦ elim (stood_q f z kept.1.1) [
               | inl came ↦ absurd (flight.elsewhere came.0)
               | inr stays ↦
-                  free_man p.turn (Some z) (ap (λ (o : Option Man). is_side o p.turn) (sym stays.1.1) ∙ own_f)
+                  free_man p.turn (Some z) (ap (λ (o : Option Man). is_of_colour o p.turn) (sym stays.1.1) ∙ own_f)
                   (ap (λ (o : Option Man). is_man o (other p.turn) King) (sym stays.1.1) ∙ no_king_f)
             ]
           ]

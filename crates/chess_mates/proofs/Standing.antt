@@ -1,7 +1,7 @@
 -- Who stands where after a move.
 use Rattle.chess_rules.proofs.Basics.{List, None, Option, Some, and_left, and_parts, and_right, ap, arith, cases_Bool, cases_eq, cond-true, cond-false, eq-eqb, false, false≢true, inl, inr, is_some, length, not-true, or_cases, or_parts, refl, rules, sym, true, ℕ, ◌&&◌, ◌<◌, ◌||◌, ◌∙◌, ◌≡◌, ◌≢◌, ◌⊎◌}
-use Rattle.chess_mates.proofs.Chess.{Colour, Grasshopper, IsWellFormed, Kind, King, Man, Move, Pawn, Position, RuleSet, arrives, arriving_man, capture_square, corner, is_arrival_free, is_attacked, is_castling, captures_do_more, is_fairy, is_man, is_side, is_square, man_on, may_castle, other, position_after}
-use Rattle.chess_mates.proofs.Chess.{after_by, castles, reaches, reaches_as, reaches_of, reborn_square, same_colour, same_colour-true, same_kind, some_square_false, strikes, triple_at}
+use Rattle.chess_mates.proofs.Chess.{Colour, Grasshopper, IsWellFormed, Kind, King, Man, Move, Pawn, Position, RuleSet, is_promoting, arriving_man, capture_square, corner, is_arrival_free, is_attacked, is_castling, captures_do_more, is_fairy, is_man, is_of_colour, is_square, man_on, may_castle, other, position_after}
+use Rattle.chess_mates.proofs.Chess.{position_after_by, can_castle, reaches, reaches_as, reaches_of, reborn_square, same_colour, same_colour-true, same_kind, some_square_false, is_attacker, triple_at}
 use Rattle.chess_core.proofs.Castlings.{has_unmoved-parts}
 use Rattle.chess_core.specs.Castling.{has_unmoved, without_unmoved}
 use Rattle.chess_rules.specs.Legal.{is_promotion_right}
@@ -13,7 +13,7 @@ use Rattle.chess_rules.proofs.listing_moves.Targeting.{false_by}
 use Rattle.chess_rules.proofs.making_moves.Fits.{arrived, arrived_other, king_no_step}
 use Rattle.chess_rules.proofs.making_moves.Pseudo.{IsMade, king_is_no_pawn, made}
 use Rattle.chess_mates.proofs.Fleeing.{IsKingOn, IsKingStep, king_on, no_strike, step_is_legal, step_to}
-use Rattle.chess_mates.specs.ties.Flights.{has_flight, is_flight, is_flight_from, is_open}
+use Rattle.chess_mates.specs.ties.Flights.{has_flight, is_flight, is_flight_at, is_open}
 use Rattle.chess_mates.proofs.Chess.{king_square, leaps, queen_steps, some_square_true}
 use Rattle.chess_rules.proofs.Basics.{and_from, list_any, not, ◌<◌}
 
@@ -48,15 +48,15 @@ pub not_mine : (x : Man) (c : Colour) → x.colour ≡ other c → same_colour x
 not_mine x c e = ap (λ (d : Colour). same_colour d c) e ∙ apart c
 
 -- a man may arrive where neither his side nor a king stands
-pub free_man : (c : Colour) (o : Option Man) → is_side o c ≡ false → is_man o (other c) King ≡ false → is_arrival_free c o ≡ true
+pub free_man : (c : Colour) (o : Option Man) → is_of_colour o c ≡ false → is_man o (other c) King ≡ false → is_arrival_free c o ≡ true
 free_man c o side king = grind (arith, false≢true)
 
 -- but not where his side stands
-pub unfree : (c : Colour) (o : Option Man) → is_arrival_free c o ≡ true → is_side o c ≡ true → ⊥
+pub unfree : (c : Colour) (o : Option Man) → is_arrival_free c o ≡ true → is_of_colour o c ≡ true → ⊥
 unfree c o free side = grind (arith, and_parts, not-true, false≢true)
 
 -- off the last rank no promotion is named
-pub unnamed : (p : Position) (x : Man) (m : Move) (o : Option Kind) → arrives x m.to ≡ false → is_promotion_right p x m o ≡ true → o ≡ None
+pub unnamed : (p : Position) (x : Man) (m : Move) (o : Option Kind) → is_promoting x m.to ≡ false → is_promotion_right p x m o ≡ true → o ≡ None
 unnamed p x m o off right = grind (arith, and_parts)
 
 -- each triple arrives on the board
@@ -85,7 +85,7 @@ some_stays p x m b here size from some = elim (cases_eq b m.to) [
 ]
 
 -- where a side stands somebody stands
-pub some_side : (o : Option Man) (c : Colour) → is_side o c ≡ true → is_some o ≡ true
+pub some_side : (o : Option Man) (c : Colour) → is_of_colour o c ≡ true → is_some o ≡ true
 some_side o c h = grind (arith, false≢true)
 
 -- a square that isn't unmoved isn't after a move without rebirth
@@ -102,7 +102,7 @@ unmoved_before p x m t h = search (rules, has_unmoved-parts)
 -- who has moved stays so
 pub moved_stays : (rule : RuleSet) (p : Position) (x : Man) (m : Move) (s : ℕ) → captures_do_more rule ≡ false → is_castling x m ≡ false
     → man_on p.men m.from ≡ Some x → has_unmoved p.unmoved s ≡ false → has_unmoved (position_after rule p m).unmoved s ≡ false
-unfolding position_after after_by unmoved_after
+unfolding position_after position_after_by unmoved_after
 moved_stays rule p x m s circe plain here moved =
     false_by _ (λ h. false≢true (sym moved ∙ unmoved_before p x m s (rw (here, plain, no_rebirth rule p x m circe) at h)))
 
@@ -121,7 +121,7 @@ and_left_king z king = king_is_no_pawn z.kind king
 -- a king castles from a square where he is unmoved, and the rook too
 pub castle_unmoved : (rule : RuleSet) (p : Position) (x : Man) (m : Move) → IsWellFormed p → IsMade rule p x m → is_castling x m ≡ true
     → (has_unmoved p.unmoved m.from ≡ true) × (has_unmoved p.unmoved (corner m) ≡ true)
-unfolding castles may_castle
+unfolding can_castle may_castle
 castle_unmoved rule p x m well made castling =
     let king = (and_parts _ _ (and_parts _ _ castling).0).0 in
     let goes = sym (cond-false (same_kind x.kind Pawn) _ _ (king_is_no_pawn x.kind king)) ∙ made.goes in
@@ -135,7 +135,7 @@ castle_unmoved rule p x m well made castling =
 -- a piece that doesn't castle reaches where it goes
 pub piece_reaches : (rule : RuleSet) (p : Position) (x : Man) (m : Move) → IsMade rule p x m → same_kind x.kind Pawn ≡ false → is_castling x m ≡ false
     → reaches_as p.men x.colour x.kind m.from m.to ≡ true
-unfolding castles may_castle reaches
+unfolding can_castle may_castle reaches
 piece_reaches rule p x m made piece plain =
     let goes = sym (cond-false (same_kind x.kind Pawn) _ _ piece) ∙ made.goes in
     elim (or_cases _ _ goes) [
@@ -153,10 +153,10 @@ king_reaches men others c k s t e = rw e refl
 -- where nobody of the other side reaches a square, it isn't attacked
 pub reach_none : (men : List (Option Man)) (t : ℕ) (c : Colour)
     → ((s : ℕ) (z : Man) → s < 64 → man_on men s ≡ Some z → z.colour ≡ other c → reaches_as men z.colour z.kind s t ≡ false)
-    → (s : ℕ) → s < 64 → (is_side (man_on men s) (other c) && reaches men s t) ≡ false
+    → (s : ℕ) → s < 64 → (is_of_colour (man_on men s) (other c) && reaches men s t) ≡ false
 unfolding reaches
 reach_none men t c none s inside = by (man_on men s) refl where
-  by : (o : Option Man) → man_on men s ≡ o → (is_side o (other c) && reaches_of men o s t) ≡ false
+  by : (o : Option Man) → man_on men s ≡ o → (is_of_colour o (other c) && reaches_of men o s t) ≡ false
   by None e = refl
   by (Some z) e = elim (cases_Bool (same_colour z.colour (other c))) [
     | inl enemy ↦ and_right (same_colour z.colour (other c)) _ (none s z inside e (same_colour-true _ _ enemy))
@@ -167,7 +167,7 @@ reach_none men t c none s inside = by (man_on men s) refl where
 pub nobody_strikes : (rule : RuleSet) (men : List (Option Man)) (t : ℕ) (c : Colour)
     → ((s : ℕ) (z : Man) → s < 64 → man_on men s ≡ Some z → z.colour ≡ other c → reaches_as men z.colour z.kind s t ≡ false)
     → is_attacked rule men t (other c) ≡ false
-unfolding is_attacked strikes
+unfolding is_attacked is_attacker
 nobody_strikes rule men t c none = search (rules, no_strike, reach_none men t c none, some_square_false)
 
 -- the king flees to a free square next to him that no enemy reaches once he stands there
@@ -190,7 +190,7 @@ module _ (rule : RuleSet) (p : Position) (c : Colour) (k f : ℕ) (well : IsWell
   flees : (z : Man) → IsKingOn p.men c k z → has_flight rule p ≡ true
   unfolding has_flight is_flight
   flees z stands =
-      some_square_true (is_flight rule p) f small (ap (λ (o : Option ℕ). is_flight_from rule p o f) (ap (king_square p.men) turn ∙ king)
+      some_square_true (is_flight rule p) f small (ap (λ (o : Option ℕ). is_flight_at rule p o f) (ap (king_square p.men) turn ∙ king)
       ∙ step_is_legal rule p z k f (king_step z stands) (ap (is_attacked rule (arrived p z (step_to k f)) f) (ap other turn)
       ∙ nobody_strikes rule (arrived p z (step_to k f)) f c (unreached z stands)))
 

@@ -1,6 +1,6 @@
 -- The men once a man has made a move and the enemy king a step, and what an attack then sees.
 use Rattle.chess_rules.proofs.Basics.{Bool, List, None, Option, Some, and_left, and_right, ap, arith, bit_or, cases_Bool, cases_eq, eq-eqb, eqb-true, false, false_from_ne_true, inl, inr, is_some, length, length-set, not, or_from, or_left, rules, sym, true, ℕ, ◌&&◌, ◌<◌, ◌==◌, ◌||◌, ◌∙◌, ◌≡◌, ◌≢◌}
-use Rattle.chess_mates.proofs.Chess.{sight_lifted, sight_with, AreSeen, Colour, Kind, Man, differs, is_man, is_side, is_square, man_on, man_on-with_other, man_on-without_other, man_on-without_same, occupied_squares, same_colour, squares_both, squares_either, squares_not, squares_of, squares_same, without_man, word}
+use Rattle.chess_mates.proofs.Chess.{sight_lifted, sight_with, AreSeen, Colour, Kind, Man, differs, is_man, is_of_colour, is_square, man_on, man_on-with_other, man_on-without_other, man_on-without_same, occupied_squares, same_colour, squares_both, squares_either, squares_not, squares_of, squares_same, without_man, word}
 use Rattle.chess_mates.proofs.Landing.{StandAlike}
 use Rattle.chess_rules.proofs.making_moves.Plays.{length-without_at}
 use Rattle.chess_rules.proofs.attacks.Seeing.{gone_to, is_occupied_after, kept_now, left_now, no_man, occupied_now, occupied_words, there_now}
@@ -15,8 +15,8 @@ pub record IsStep (men : List (Option Man)) (a : ℕ) (o : Option ℕ) (b k : �
   pub flight : t < length men
   pub taken : (s : ℕ) → is_square u s ≡ true → s ≡ t
   pub king : same_colour x.colour c ≡ false
-  pub lifted : is_side (man_on men k) c ≡ false
-  pub entered : is_side (man_on men b) c ≡ false
+  pub lifted : is_of_colour (man_on men k) c ≡ false
+  pub entered : is_of_colour (man_on men b) c ≡ false
   pub apart : b ≢ k
 
 length-gone : (men : List (Option Man)) (a : ℕ) (o : Option ℕ) (b : ℕ) (z : Man) → length (gone_to men a o b z) ≡ length men

@@ -2,7 +2,7 @@
 ghost use Rattle.std.specs.Prelude.{◌≡◌, ◌<◌, ◌==◌, ◌&&◌, ℕ, IfSome, List, Option, is_some, not, true};
 ghost use Rattle.std.specs.Int.{bit_at};
 ghost use Rattle.std.specs.Int.Bits.{bit_and, bit_or};
-ghost use Rattle.chess_core.specs.Position.{is_side, man_on, other, same_kind};
+ghost use Rattle.chess_core.specs.Position.{is_of_colour, man_on, other, same_kind};
 ghost use Rattle.chess_core.specs.WellFormed.{IsWellFormed};
 ghost use Rattle.chess_core.specs.ties.Words.{side_of, squares_of, word};
 ghost use Rattle.chess_core.specs.declared.man.Man.{Man};
@@ -97,7 +97,7 @@ fn first_safe(board: &Board, sight: Sight, squares: u64, colour: Colour) -> Opti
     ensures within { IfSome result (λ t. (t < 64) × ((bit_at squares t == 1) ≡ true)) }
     ensures safe { IfSome result (λ t. (men : List (Option Man))
         → AreSeen board.now.men men colour (sight_with sight t)
-        → 0 ≡ word (λ s. is_side (man_on men s) colour && reaches men s t)) }
+        → 0 ≡ word (λ s. is_of_colour (man_on men s) colour && reaches men s t)) }
 {
     let mut number = 0u8;
     while let Some(square) = next_bit(squares, number) {

@@ -14,7 +14,7 @@ ghost use Rattle.chess_rules.specs.Legal.{is_legal};
 ghost use Rattle.chess_rules.specs.Play.{is_castling, position_after};
 ghost use Rattle.chess_rules.specs.RuleSet.{captures_do_more};
 ghost use Rattle.chess_rules.specs.ties.Sight.{king_after};
-ghost use Rattle.chess_rules.specs.ties.Targets.{arrives};
+ghost use Rattle.chess_rules.specs.ties.Targets.{is_promoting};
 
 use crate::open_board::open_targets;
 use chess_core::board::Board;
@@ -91,7 +91,7 @@ const KINGS_HOMES: u64 = 0x1000_0000_0000_0010;
 #[tactic(auto, using(crate::proofs::LastingFlights::no_last_rank, chess_rules::proofs::listing_moves::Targeting::no_pawn_arrives, crate::proofs::LastingFlights::off_homes))]
 fn goes_plainly(man: Man, from: Square, targets: u64) -> bool
     ensures unpromoted { result ≡ true → (t : ℕ) → t < 64 → (bit_at targets t == 1) ≡ true
-        → arrives man t ≡ false }
+        → is_promoting man t ≡ false }
     ensures away { result ≡ true → same_kind man.kind King ≡ true → (from ≢ e1) × (from ≢ e8) }
     ensures plain { result ≡ true → is_hopper (gait_of man.kind) ≡ false }
 {

@@ -28,7 +28,7 @@ use std::marker::{Model, PhantomData};
 /// move of that position may give check, and the targets of the origin on which the place stands.
 #[derive_where(Copy)]
 pub struct MatingMoves<R> {
-    passed: u16,
+    number: u16,
     checks: CheckSquares,
     targets: Kept,
     rules: PhantomData<R>,
@@ -39,10 +39,10 @@ impl<R> Model for MatingMoves<R> {
 
     ghost Value = { MatingPlace };
 
-    ghost view = { λ m. record { place = m.passed; checks = m.checks; kept = m.targets } };
+    ghost view = { λ m. record { place = m.number; checks = m.checks; kept = m.targets } };
 
     ghost inverse = { λ v. record {
-      passed = v.place;
+      number = v.place;
       checks = v.checks;
       targets = v.kept;
       rules = record {};
@@ -56,7 +56,7 @@ impl<R> Clone for MatingMoves<R> {
 
     fn clone(&self) -> Result<Self, AllocError> {
         Ok(MatingMoves {
-            passed: self.passed,
+            number: self.number,
             checks: self.checks,
             targets: self.targets,
             rules: PhantomData,
@@ -71,7 +71,7 @@ impl<R: Rules> MatingMoves<R> {
         ensures place { IsMatingPlaceIn R.rule board.now result }
     {
         MatingMoves {
-            passed: 0,
+            number: 0,
             checks: check_squares(board, board.turn().other()),
             targets: Kept {
                 origin: None,
@@ -85,14 +85,14 @@ impl<R: Rules> MatingMoves<R> {
     pub fn place(&self) -> Moves<R>
         ensures { result ≡ self.now.place }
     {
-        Moves::at(self.passed)
+        Moves::at(self.number)
     }
 
     /// Goes to another place in the same position.
     pub fn go_to(&mut self, place: Moves<R>)
         ensures { self.new ≡ record self.old { place = place } }
     {
-        self.passed = place.number();
+        self.number = place.number();
     }
 
     /// The first legal move behind the place after which the side to move is mated; the place then stands
@@ -116,12 +116,12 @@ impl<R: Rules> MatingMoves<R> {
         ensures onward { IfSome result (λ m. self.old.place < self.new.place) }
         ensures board { board.new ≡ board.old }
     {
-        let number = next_mating::<R>(board, &self.checks, &mut self.targets, self.passed, TRIPLES);
+        let number = next_mating::<R>(board, &self.checks, &mut self.targets, self.number, TRIPLES);
         if number < TRIPLES {
-            self.passed = number + 1;
+            self.number = number + 1;
             return Some(triple(number));
         }
-        self.passed = TRIPLES;
+        self.number = TRIPLES;
         None
     }
 
@@ -144,12 +144,12 @@ impl<R: Rules> MatingMoves<R> {
         ensures board { board.new ≡ board.old }
     {
         let last = end.number().min(TRIPLES);
-        if self.passed >= last {
+        if self.number >= last {
             return None;
         }
-        let number = next_mating::<R>(board, &self.checks, &mut self.targets, self.passed, last);
+        let number = next_mating::<R>(board, &self.checks, &mut self.targets, self.number, last);
         if number < last {
-            self.passed = number + 1;
+            self.number = number + 1;
             return Some(triple(number));
         }
         None

@@ -8,7 +8,7 @@ ghost use Rattle.chess_core.specs.declared.man.Kind.TheVariants.{King};
 ghost use Rattle.chess_mates.specs.ties.CheckSquares.{AreCheckOrigins, AreCheckSquares, AreCheckTargets, own_man};
 ghost use Rattle.chess_rules.specs.ties.Shields.{may_stand_between};
 
-use crate::checks::{CheckSquares, are_all_near, targets_off_shields};
+use crate::checks::{CheckSquares, may_check_from_everywhere, targets_off_shields};
 use crate::open_board::{open_targets, pawns_before};
 use chess_core::board::Board;
 use chess_core::man::{Kind, Man};
@@ -121,7 +121,7 @@ pub(crate) fn check_origins<R: Rules>(board: &Board, squares: &CheckSquares) -> 
     ensures { AreCheckOrigins R.rule board.now result }
 {
     let own = own_squares(board);
-    if are_all_near::<R>(board, squares) {
+    if may_check_from_everywhere::<R>(board, squares) {
         return own;
     }
     let lines = fairy_lines(board, board.turn().other());

@@ -11,7 +11,7 @@ ghost use Rattle.chess_core.specs.declared.man.Man.{Man};
 ghost use Rattle.chess_core.specs.ties.Words.{squares_of};
 ghost use Rattle.chess_mates.specs.ties.LastingFlights.{IsLeft};
 ghost use Rattle.chess_mates.specs.ties.Siege.{AreArrivals, AreAttackers, AreCastlingSquares, AreGuardsWithout, AreHurdles, AreReached, AreThreats, AreWeak, IsAttacker, IsCastlingHarmless, IsCheckWord, IsField, IsHarmless, IsLifted, IsMet, IsNear, IsNoCheck, IsOff, IsReached, IsRiskAt, IsRiskBehind, IsSafeMove, IsSafeStep, IsSiege, IsSiegeOf, IsWeak, LeavesOne, is_leaper, is_rider};
-ghost use Rattle.chess_rules.specs.ties.Targets.{arrives};
+ghost use Rattle.chess_rules.specs.ties.Targets.{is_promoting};
 
 use crate::lasting_flights::open_reach;
 use crate::open_board::open_targets;
@@ -182,7 +182,7 @@ const LAST_RANKS: u64 = 0xff00_0000_0000_00ff;
 #[tactic(auto, using(crate::proofs::LastingFlights::no_last_rank, crate::proofs::Risks::no_pawn_arrives))]
 fn may_promote_on(man: Man, targets: u64) -> bool
     ensures { result ≡ false → (t : ℕ) → t < 64 → (bit_at targets t == 1) ≡ true
-        → arrives man t ≡ false }
+        → is_promoting man t ≡ false }
 {
     if !man.kind.is(Kind::Pawn) {
         return false;

@@ -6,7 +6,7 @@ use Rattle.chess_core.specs.Steps.{along}
 use Rattle.chess_core.specs.declared.man.Colour.TheVariants.{White, Black}
 use Rattle.chess_core.specs.declared.man.Man.{Man}
 use Rattle.chess_core.specs.declared.man.Kind.TheVariants.{King, Rook, Knight, Pawn, Grasshopper, Nightrider}
-use Rattle.chess_rules.specs.Attacks.{faces, faces_its_like, in_check, is_attacked, is_paralysed, strikes}
+use Rattle.chess_rules.specs.Attacks.{faces, faces_its_like, in_check, is_attacked, is_paralysed, is_attacker}
 use Rattle.chess_rules.specs.Reaches.{hops, is_clear, leaps, reaches, reaches_as, rides}
 use Rattle.chess_rules.specs.RuleSet.{madrasi, orthodox}
 use Rattle.chess_rules.proofs.Typed.{man, on, set_up}
@@ -40,10 +40,10 @@ pawn_captures_forward = (refl, refl, refl, refl)
 
 -- the rook gives check to the king; in Madrasi too where a black rook on b8 is far from it
 rook_checks : (in_check orthodox three Black ≡ true) × (in_check madrasi (with_man three b8 (man Black Rook)) Black ≡ true)
-unfolding reaches reaches_as rides hops leaps is_clear along squares some_square king_square faces_its_like faces strikes is_paralysed is_attacked in_check
+unfolding reaches reaches_as rides hops leaps is_clear along squares some_square king_square faces_its_like faces is_attacker is_paralysed is_attacked in_check
 rook_checks = (refl, refl)
 
 -- but not where a black rook on a3 paralyses it
 paralysed_rook : in_check madrasi (with_man (with_man three a4 (man White Knight)) a3 (man Black Rook)) Black ≡ false
-unfolding reaches reaches_as rides hops leaps is_clear along squares some_square king_square faces_its_like faces strikes is_paralysed is_attacked in_check
+unfolding reaches reaches_as rides hops leaps is_clear along squares some_square king_square faces_its_like faces is_attacker is_paralysed is_attacked in_check
 paralysed_rook = refl

@@ -6,18 +6,18 @@ use Rattle.std.specs.List.{range_with_len}
 use Rattle.chess_rules.specs.ties.Places.{IsBarrenFrom, moves_between, promotion_at, triple_at}
 use Rattle.std.proofs.lemmas.Bool.{agree_below_at, and_from, cases_lt, true_from_ne_false, true≢false, false≢true}
 use Rattle.chess_core.specs.Castling.{none_unmoved, has_unmoved, mark_unmoved, with_unmoved}
-use Rattle.chess_core.specs.Position.{Position, is_man, is_side, king_square, man_on, may_promote, without_man}
+use Rattle.chess_core.specs.Position.{Position, is_man, is_of_colour, king_square, man_on, may_promote, without_man}
 use Rattle.chess_core.specs.Squares.{squares, some_square}
 use Rattle.chess_core.specs.Steps.{along, step_by, straight_steps}
 use Rattle.chess_core.specs.declared.man.Colour.TheVariants.{White, Black}
 use Rattle.chess_core.specs.declared.man.Kind.TheVariants.{King, Queen, Rook, Bishop, Knight, Grasshopper, Nightrider, Pawn}
 use Rattle.chess_core.specs.declared.man.Kind.{Kind}
 use Rattle.chess_core.specs.declared.man.Man.{Man}
-use Rattle.chess_rules.specs.Attacks.{faces, faces_its_like, in_check, is_attacked, is_paralysed, strikes}
+use Rattle.chess_rules.specs.Attacks.{faces, faces_its_like, in_check, is_attacked, is_paralysed, is_attacker}
 use Rattle.chess_rules.specs.ties.Evasions.{has_fairy_lines_of, AreEvasions, AreEvasionsFrom, is_evasion}
-use Rattle.chess_rules.specs.Legal.{castles, goes, is_arrival_free, is_legal, is_pseudo_legal, may_castle, triples}
+use Rattle.chess_rules.specs.Legal.{can_castle, can_go, is_arrival_free, is_legal, is_pseudo_legal, may_castle, triples}
 use Rattle.chess_rules.specs.ties.Outward.{hopped_from, is_met, rides_on}
-use Rattle.chess_rules.specs.Play.{position_after, after_by, capture_square, moved_men, reborn_square, rebirth, unmoved_after}
+use Rattle.chess_rules.specs.Play.{position_after, position_after_by, capture_square, moved_men, reborn_square, rebirth, unmoved_after}
 use Rattle.chess_rules.specs.Reaches.{hops, is_clear, leaps, reaches, reaches_as, rides}
 use Rattle.chess_rules.specs.RuleSet.{RuleSet, madrasi, orthodox}
 use Rattle.chess_rules.specs.ties.Shields.{cannot_expose, has_fairy, is_behind, is_plain, is_reached, is_shut, may_expose, may_stand_between, is_on_fairy_line}
@@ -59,8 +59,8 @@ grasshopper_lands_behind_its_hurdle = (refl, refl)
 
 -- what these examples compute with
 unfoldable pub check_after_a_move : Unit {0}
-unfolding reaches reaches_as rides hops leaps is_clear along squares some_square king_square faces_its_like faces strikes is_paralysed is_attacked in_check
-    position_after after_by unmoved_after moved_men capture_square reborn_square rebirth castles may_castle is_pseudo_legal none_unmoved has_unmoved
+unfolding reaches reaches_as rides hops leaps is_clear along squares some_square king_square faces_its_like faces is_attacker is_paralysed is_attacked in_check
+    position_after position_after_by unmoved_after moved_men capture_square reborn_square rebirth can_castle may_castle is_pseudo_legal none_unmoved has_unmoved
     mark_unmoved
 check_after_a_move = tt
 
@@ -155,9 +155,9 @@ crossing_a_line =
 
 -- he doesn't castle, and would without that rook
 pub no_castling_through_an_attack : (may_go crossing_a_line (man White King) e1 g1 ≡ true)
-    × (castles orthodox crossing_a_line (man White King) (go e1 g1) ≡ false)
-    × (goes orthodox crossing_a_line (man White King) (go e1 g1) ≡ false)
-    × (castles orthodox (record crossing_a_line { men = without_man crossing_a_line.men f8 }) (man White King) (go e1 g1) ≡ true)
+    × (can_castle orthodox crossing_a_line (man White King) (go e1 g1) ≡ false)
+    × (can_go orthodox crossing_a_line (man White King) (go e1 g1) ≡ false)
+    × (can_castle orthodox (record crossing_a_line { men = without_man crossing_a_line.men f8 }) (man White King) (go e1 g1) ≡ true)
 unfolding may_go steps_to check_after_a_move
 no_castling_through_an_attack = (refl, refl, refl, refl)
 
@@ -203,7 +203,7 @@ grasshopper_checks = (refl, refl)
 -- a Black man other than a fairy man gives check: there is none
 abbrev orthodox_checker : ℕ → Bool
 orthodox_checker s =
-    (is_side (man_on grasshopper_check s) Black && reaches grasshopper_check s a1) && not (has_fairy_lines_of (man_on grasshopper_check s))
+    (is_of_colour (man_on grasshopper_check s) Black && reaches grasshopper_check s a1) && not (has_fairy_lines_of (man_on grasshopper_check s))
 
 -- so a grasshopper's check may be met everywhere
 pub any_square_may_meet_a_fairy_check : (w t : ℕ) → t < 64 → AreEvasions orthodox grasshopper_check White w → (bit_at w t == 1) ≡ true
@@ -219,7 +219,7 @@ any_square_may_meet_a_fairy_check w t small are = true_from_ne_false _ (λ e.
 
 -- an enemy on s gives check to the king on a1, and a man that goes to t doesn't meet it
 abbrev unmet : ℕ → ℕ → Bool
-unmet t s = (is_side (man_on rook_check.men s) Black && reaches rook_check.men s a1) && not (is_evasion rook_check.men White a1 s t)
+unmet t s = (is_of_colour (man_on rook_check.men s) Black && reaches rook_check.men s a1) && not (is_evasion rook_check.men White a1 s t)
 
 -- the rook's check is met where no such enemy is
 met_there : (w t : ℕ) → t < 64 → ((s : ℕ) → s < 64 → unmet t s ≡ false) → AreEvasions orthodox rook_check.men White w → (bit_at w t == 1) ≡ true
@@ -241,7 +241,7 @@ captures_and_shuts_meet_a_check w are = (
 )
 
 -- a rook on a8 alone attacks a1, which is no flight then
-pub attacked_square_is_no_flight : (word (λ s. is_side (man_on (set_up (on Black Rook a8 ∷ [])) s) Black && reaches (set_up (on Black Rook a8 ∷ [])) s a1)
+pub attacked_square_is_no_flight : (word (λ s. is_of_colour (man_on (set_up (on Black Rook a8 ∷ [])) s) Black && reaches (set_up (on Black Rook a8 ∷ [])) s a1)
     ≡ 2 ^ 56) × (is_reached (set_up (on Black Rook a8 ∷ [])) a1 Black ≡ true)
 unfolding word word_of squares some_square is_reached reaches reaches_as rides hops leaps is_clear along
 attacked_square_is_no_flight = (refl, refl)

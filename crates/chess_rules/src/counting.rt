@@ -8,7 +8,7 @@ ghost use Rattle.chess_rules.specs.Legal.{is_legal, last_rank};
 ghost use Rattle.chess_rules.specs.ties.Counting.{AreLegal, IsKnownIn, is_unsure};
 ghost use Rattle.chess_rules.specs.ties.Places.{moves_between};
 ghost use Rattle.chess_rules.specs.ties.Shields.{may_expose};
-ghost use Rattle.chess_rules.specs.ties.Targets.{AreCandidates, AreKept, arrives};
+ghost use Rattle.chess_rules.specs.ties.Targets.{AreCandidates, AreKept, is_promoting};
 
 use crate::evasions::eventful_captures;
 use crate::legal::is_legal;
@@ -48,7 +48,7 @@ fn last_rank_squares(colour: Colour) -> u64
 // The squares on which this man is promoted, if he is a pawn.
 #[tactic(auto, using(crate::proofs::listing_moves::SurelyLegal::promotion_words))]
 fn promoting_squares(man: Man) -> u64
-    ensures { result ≡ word (arrives man) }
+    ensures { result ≡ word (is_promoting man) }
 {
     if man.kind.is(Kind::Pawn) {
         last_rank_squares(man.colour)

@@ -1,7 +1,7 @@
 //! Whether a move leaves its mover in check.
 ghost use Rattle.std.specs.Prelude.{◌≡◌, ◌==◌, ◌&&◌, IfSome, List, Option, not, true};
 ghost use Rattle.std.specs.Int.{bit_at};
-ghost use Rattle.chess_core.specs.Position.{is_man, is_side, man_on, other};
+ghost use Rattle.chess_core.specs.Position.{is_man, is_of_colour, man_on, other};
 ghost use Rattle.chess_core.specs.Squares.{some_square};
 ghost use Rattle.chess_core.specs.ties.Words.{word};
 ghost use Rattle.chess_core.specs.declared.man.Man.{Man};
@@ -85,7 +85,7 @@ fn is_paralysed_after<R: Rules>(
     square: Square,
 ) -> bool
     ensures { (men : List (Option Man)) → AreArrived board.now.men men man m.now sight
-        → is_side (man_on men square) (other man.colour) ≡ true
+        → is_of_colour (man_on men square) (other man.colour) ≡ true
         → result ≡ is_paralysed R.rule men square }
 {
     if !R::faced_men_stand_still() {

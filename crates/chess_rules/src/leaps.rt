@@ -1,9 +1,9 @@
 //! Leaps and short steps: squares a step or two away.
 ghost use Rattle.std.specs.Prelude.{◌≡◌, ℕ};
 ghost use Rattle.std.specs.List.{list_any};
-ghost use Rattle.chess_core.specs.Steps.{knight_steps, pawn_captures, queen_steps};
+ghost use Rattle.chess_core.specs.Steps.{knight_steps, pawn_capture_steps, queen_steps};
 ghost use Rattle.chess_core.specs.ties.Words.{word};
-ghost use Rattle.chess_rules.specs.ties.Lines.{is_advance, is_aside};
+ghost use Rattle.chess_rules.specs.ties.Lines.{is_advance, is_two_files_aside};
 ghost use Rattle.chess_rules.specs.Reaches.{leaps};
 
 use crate::geometry::{
@@ -28,7 +28,7 @@ pub fn knight_leaps(from: Square) -> u64
 
 /// The squares on which a pawn of this colour captures from here.
 pub fn pawn_leaps(colour: Colour, from: Square) -> u64
-    ensures { result ≡ word (λ t. list_any (leaps from t) (pawn_captures colour)) }
+    ensures { result ≡ word (λ t. list_any (leaps from t) (pawn_capture_steps colour)) }
 {
     let index = from.index() as usize;
     match colour {
@@ -50,7 +50,7 @@ pub fn pawn_advances(colour: Colour, from: Square) -> u64
 
 /// The squares two files to the right and to the left: where a king arrives in castling.
 pub fn squares_aside(from: Square) -> u64
-    ensures { result ≡ word (is_aside from) }
+    ensures { result ≡ word (is_two_files_aside from) }
 {
     ASIDE[from.index() as usize]
 }

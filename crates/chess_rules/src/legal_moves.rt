@@ -29,7 +29,7 @@ use std::marker::{Model, PhantomData};
 /// the targets of the origin on which the place stands.
 #[derive_where(Copy)]
 pub struct LegalMoves<R> {
-    passed: u16,
+    number: u16,
     shield_squares: u64,
     evasion_squares: u64,
     targets: Kept,
@@ -42,14 +42,14 @@ impl<R> Model for LegalMoves<R> {
     ghost Value = { LegalPlace };
 
     ghost view = { λ m. record {
-      place = m.passed;
+      place = m.number;
       shield_squares = m.shield_squares;
       evasion_squares = m.evasion_squares;
       kept = m.targets;
     } };
 
     ghost inverse = { λ v. record {
-      passed = v.place;
+      number = v.place;
       shield_squares = v.shield_squares;
       evasion_squares = v.evasion_squares;
       targets = v.kept;
@@ -64,7 +64,7 @@ impl<R> Clone for LegalMoves<R> {
 
     fn clone(&self) -> Result<Self, AllocError> {
         Ok(LegalMoves {
-            passed: self.passed,
+            number: self.number,
             shield_squares: self.shield_squares,
             evasion_squares: self.evasion_squares,
             targets: self.targets,
@@ -81,7 +81,7 @@ impl<R: Rules> LegalMoves<R> {
     {
         let squares = shield_squares(board, board.turn());
         LegalMoves {
-            passed: 0,
+            number: 0,
             shield_squares: squares,
             evasion_squares: evasion_squares::<R>(board, board.turn(), squares),
             targets: Kept {
@@ -96,14 +96,14 @@ impl<R: Rules> LegalMoves<R> {
     pub fn place(&self) -> Moves<R>
         ensures { result ≡ self.now.place }
     {
-        Moves::at(self.passed)
+        Moves::at(self.number)
     }
 
     /// Goes to another place in the same position.
     pub fn go_to(&mut self, place: Moves<R>)
         ensures { self.new ≡ record self.old { place = place } }
     {
-        self.passed = place.number();
+        self.number = place.number();
     }
 
     /// The first legal move of the board's position behind the place, which then stands on it. Where
@@ -130,14 +130,14 @@ impl<R: Rules> LegalMoves<R> {
             self.shield_squares,
             self.evasion_squares,
             &mut self.targets,
-            self.passed,
+            self.number,
             TRIPLES,
         );
         if number < TRIPLES {
-            self.passed = number + 1;
+            self.number = number + 1;
             return Some(triple(number));
         }
-        self.passed = TRIPLES;
+        self.number = TRIPLES;
         None
     }
 
@@ -164,11 +164,11 @@ impl<R: Rules> LegalMoves<R> {
             self.shield_squares,
             self.evasion_squares,
             &mut self.targets,
-            self.passed,
+            self.number,
             last,
         );
         if number < last {
-            self.passed = number + 1;
+            self.number = number + 1;
             return Some(triple(number));
         }
         None
@@ -206,12 +206,12 @@ impl<R: Rules> LegalMoves<R> {
             origin: None,
             squares: 0,
         };
-        let number = next_passing::<R, Sifted<S>>(board, &sifted, &mut kept, self.passed, TRIPLES);
+        let number = next_passing::<R, Sifted<S>>(board, &sifted, &mut kept, self.number, TRIPLES);
         if number < TRIPLES {
-            self.passed = number + 1;
+            self.number = number + 1;
             return Some(triple(number));
         }
-        self.passed = TRIPLES;
+        self.number = TRIPLES;
         None
     }
 
@@ -227,7 +227,7 @@ impl<R: Rules> LegalMoves<R> {
             shield_squares: self.shield_squares,
             evasion_squares: self.evasion_squares,
         };
-        count_between::<R>(board, known, &self.targets, self.passed, end.number())
+        count_between::<R>(board, known, &self.targets, self.number, end.number())
     }
 }
 

@@ -1,7 +1,7 @@
 //! Attack looked for outward from the square.
 ghost use Rattle.std.specs.Prelude.{◌≡◌, ℕ, ◌&&◌, ◌==◌, not, List, Option};
 ghost use Rattle.std.specs.Int.{bit_at};
-ghost use Rattle.chess_core.specs.Position.{is_man, is_side, man_on};
+ghost use Rattle.chess_core.specs.Position.{is_man, is_of_colour, man_on};
 ghost use Rattle.chess_core.specs.declared.man.Man.{Man};
 ghost use Rattle.chess_rules.specs.ties.Lines.{occupied_squares};
 ghost use Rattle.chess_rules.specs.ties.Sight.{AreSeen};
@@ -135,7 +135,7 @@ fn fairy_attackers(board: &Board, sight: Sight, square: Square, colour: Colour) 
 /// The squares of the men of this colour that reach the square.
 pub fn attackers_seen(board: &Board, sight: Sight, square: Square, colour: Colour) -> u64
     ensures { (men : List (Option Man)) → AreSeen board.now.men men colour sight
-        → result ≡ word (λ s. is_side (man_on men s) colour && reaches men s square) }
+        → result ≡ word (λ s. is_of_colour (man_on men s) colour && reaches men s square) }
 {
     // For the proof: a square's number is below 64.
     let _small = square.index();
@@ -149,7 +149,7 @@ pub fn attackers_seen(board: &Board, sight: Sight, square: Square, colour: Colou
 
 // The same on the board as it stands.
 pub(crate) fn attackers(board: &Board, square: Square, colour: Colour) -> u64
-    ensures { result ≡ word (λ s. is_side (man_on board.now.men s) colour
+    ensures { result ≡ word (λ s. is_of_colour (man_on board.now.men s) colour
         && reaches board.now.men s square) }
 {
     attackers_seen(board, sight_now(board), square, colour)

@@ -6,7 +6,7 @@ ghost use Rattle.chess_core.specs.declared.man.Kind.TheVariants.{Pawn};
 ghost use Rattle.chess_core.specs.ties.Words.{word};
 ghost use Rattle.chess_rules.specs.Legal.{is_arrival_free};
 ghost use Rattle.chess_rules.specs.ties.Places.{IsBarrenFrom, IsNamed};
-ghost use Rattle.chess_rules.specs.ties.Targets.{arrives, is_arrival, may_go, pawn_goes, steps_to};
+ghost use Rattle.chess_rules.specs.ties.Targets.{is_promoting, is_arrival, may_go, pawn_goes, steps_to};
 
 use crate::leaps::{king_leaps, pawn_advances, squares_aside};
 use crate::legal::{last_rank, second_rank};
@@ -108,8 +108,8 @@ pub fn arrivals<R: Rules>(board: &Board, from: Square) -> u64
 }
 
 // Whether a pawn arrives on its last rank.
-fn arrives(man: Man, to: Square) -> bool
-    ensures { result ≡ arrives man to }
+fn is_promoting(man: Man, to: Square) -> bool
+    ensures { result ≡ is_promoting man to }
 {
     man.kind.is(Kind::Pawn) && to.rank() == last_rank(man.colour)
 }
@@ -151,7 +151,7 @@ pub(crate) fn next_from(board: &Board, from: Square, word: u64, start: u16) -> u
     let mut at = start;
     while let Some(to) = next_bit(word, (at / 7) as u8) {
         let first = u16::from(to.index()) * 7;
-        if arrives(man, to) {
+        if is_promoting(man, to) {
             return if at <= first { first + 1 } else { at };
         }
         if at <= first {

@@ -308,12 +308,12 @@ impl Plain {
         if self.reaches(m.from, m.to) {
             !self.is_empty(m.to) || self.crossed == Some(m.to)
         } else {
-            self.pawn_steps(colour, m)
+            self.is_pawn_step(colour, m)
         }
     }
 
     // Whether it may go one step ahead, or two from its first square.
-    fn pawn_steps(&self, colour: Colour, m: &Move) -> bool {
+    fn is_pawn_step(&self, colour: Colour, m: &Move) -> bool {
         let Some(one) = next(m.from, (0, up(colour))) else {
             return false;
         };

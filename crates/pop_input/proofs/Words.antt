@@ -18,7 +18,7 @@ pub use Rattle.chess_core.specs.declared.man.Colour.{Colour}
 pub use Rattle.chess_core.specs.declared.man.Kind.{Kind}
 pub use Rattle.chess_core.specs.declared.man.Kind.TheVariants.{King, Rook}
 pub use Rattle.chess_core.specs.declared.man.Man.{Man}
-unfoldable pub use Rattle.chess_rules.specs.Attacks.{faces, faces_its_like, in_check, is_attacked, is_paralysed, strikes}
+unfoldable pub use Rattle.chess_rules.specs.Attacks.{faces, faces_its_like, in_check, is_attacked, is_paralysed, is_attacker}
 pub use Rattle.pop_text.proofs.Left.{longer, no_short_form}
 pub use Rattle.pop_text.proofs.Plain.{plain_no_closing, takes_none}
 pub use Rattle.pop_text.proofs.Using.{asks_none, asks_then, consumes_then, uses_none, uses_then}
@@ -42,7 +42,7 @@ pub use Rattle.pop_input.specs.Posed.{rule_of}
 pub use Rattle.pop_input.specs.Drafts.{Draft, no_men, nothing_said, put_men, draft_after, draft_of}
 pub use Rattle.pop_input.specs.Stipulations.{has_king_to_mate, starting_side}
 pub use Rattle.pop_input.specs.Values.{before_squares, is_digit, most_solutions, square_by, squares_from, stipulation_in_small_letters, value_of}
-unfoldable pub use Rattle.pop_input.specs.Values.{limit_of, squares_of, stipulation_of}
+unfoldable pub use Rattle.pop_input.specs.Values.{limit_of, squares_named, stipulation_of}
 pub use Rattle.pop_input.specs.WordFaults.{barred_fault, begin_fault, condition_fault, control_fault, fault_if, fault_of, letter_fault, man_fault, men_fault, pieces_fault, put_fault, role_fault, stipulation_fault}
 pub use Rattle.pop_input.specs.declared.block.Block.{Block}
 pub use Rattle.pop_input.specs.declared.fault_kind.FaultKind.{FaultKind}

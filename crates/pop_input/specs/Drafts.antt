@@ -8,7 +8,7 @@ use Rattle.chess_core.specs.declared.man.Kind.{Kind}
 use Rattle.chess_core.specs.declared.man.Man.{Man}
 use Rattle.chess_core.specs.declared.man.Unmoved.{Unmoved}
 use Rattle.pop_input.specs.Names.{command_of, colour_of, kind_of, condition_of, option_of, or_else}
-use Rattle.pop_input.specs.Values.{squares_of, only_square, limit_of, most_solutions, stipulation_of}
+use Rattle.pop_input.specs.Values.{squares_named, only_square, limit_of, most_solutions, stipulation_of}
 use Rattle.pop_input.specs.declared.condition.Condition.{Condition}
 use Rattle.pop_input.specs.declared.place.Role.{Role}
 use Rattle.pop_input.specs.declared.place.Role.TheVariants.{Limit, CrossedSquare, BarredSquares, Control, Within}
@@ -36,7 +36,7 @@ abbrev pub role_by : Option Awaited → Place → List ℕ → Role
 role_by (Some Number) place text = Limit
 role_by (Some OneSquare) place text = CrossedSquare
 role_by (Some Squares) place text = BarredSquares
-role_by (Some MoreSquares) place text = if is_some (squares_of text) then BarredSquares
+role_by (Some MoreSquares) place text = if is_some (squares_named text) then BarredSquares
     else plain_role (command_of text) place.section
 role_by None place text = plain_role (command_of text) place.section
 
@@ -90,7 +90,7 @@ put_kind _ _ squares men = men
 abbrev pub put_word : Option Colour → List ℕ → List (Option Man) → List (Option Man)
 put_word colour [] men = men
 put_word colour (letter ∷ text) men = if is_some (colour_of (letter ∷ text)) then men
-    else put_kind colour (kind_of letter) (unwrap_or (squares_of text) []) men
+    else put_kind colour (kind_of letter) (unwrap_or (squares_named text) []) men
 
 -- the men behind one more word
 abbrev pub men_after : Role → Option Colour → List ℕ → List (Option Man) → List (Option Man)
@@ -131,12 +131,12 @@ limit_after _ text old = old
 
 -- the crossed square behind one more word
 abbrev pub crossed_after : Role → List ℕ → Option ℕ → Option ℕ
-crossed_after CrossedSquare text old = or_else (only_square (squares_of text)) old
+crossed_after CrossedSquare text old = or_else (only_square (squares_named text)) old
 crossed_after _ text old = old
 
 -- the squares of NoCastling behind one more word
 abbrev pub barred_after : Role → List ℕ → Unmoved → Unmoved
-barred_after BarredSquares text old = fold with_unmoved old (unwrap_or (squares_of text) [])
+barred_after BarredSquares text old = fold with_unmoved old (unwrap_or (squares_named text) [])
 barred_after _ text old = old
 
 -- All that words say.

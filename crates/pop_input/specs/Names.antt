@@ -22,8 +22,8 @@ use Rattle.pop_input.specs.declared.names.TextWord.{TextWord}
 use Rattle.pop_input.specs.declared.names.TextWord.TheVariants.{Title, Author, Origin, Remark}
 
 -- the entry of a table of which the word is a short form
-abbrev pub look_up : {A : Type 0} → List (List ℕ × A) → List ℕ → Option A
-look_up table text = option_map (λ entry. entry.1)
+abbrev pub entry_named : {A : Type 0} → List (List ℕ × A) → List ℕ → Option A
+entry_named table text = option_map (λ entry. entry.1)
     (find (λ entry. is_short_form entry.0 text) table)
 
 -- the first of two, if it is there
@@ -33,31 +33,31 @@ or_else (Some a) later = Some a
 
 -- the section that a command opens
 unfoldable pub section_of : List ℕ → Option Section
-section_of text = look_up ((codes "pieces", Pieces) ∷ (codes "stipulation", Stipulation)
+section_of text = entry_named ((codes "pieces", Pieces) ∷ (codes "stipulation", Stipulation)
     ∷ (codes "condition", Conditions) ∷ (codes "option", Options) ∷ []) text
 
 -- the command that a word is, if it is one
 unfoldable pub command_of : List ℕ → Option Command
-command_of text = or_else (look_up ((codes "beginproblem", Begin) ∷ (codes "nextproblem", Next)
+command_of text = or_else (entry_named ((codes "beginproblem", Begin) ∷ (codes "nextproblem", Next)
     ∷ (codes "endproblem", Last) ∷ []) text) (option_map Enter (section_of text))
 
 -- the text word that a word is, if it is one
 unfoldable pub text_word_of : List ℕ → Option TextWord
-text_word_of text = look_up ((codes "title", Title) ∷ (codes "author", Author)
+text_word_of text = entry_named ((codes "title", Title) ∷ (codes "author", Author)
     ∷ (codes "origin", Origin) ∷ (codes "remark", Remark) ∷ []) text
 
 -- the condition that a word names
 unfoldable pub condition_of : List ℕ → Option Condition
-condition_of text = look_up ((codes "circe", Circe) ∷ (codes "madrasi", Madrasi) ∷ []) text
+condition_of text = entry_named ((codes "circe", Circe) ∷ (codes "madrasi", Madrasi) ∷ []) text
 
 -- what the options that await a value await
 unfoldable pub awaited_of : List ℕ → Option Awaited
-awaited_of text = look_up ((codes "maxsolutions", Number) ∷ (codes "enpassant", OneSquare)
+awaited_of text = entry_named ((codes "maxsolutions", Number) ∷ (codes "enpassant", OneSquare)
     ∷ (codes "nocastling", Squares) ∷ []) text
 
 -- the option that a word names
 unfoldable pub option_of : List ℕ → Option OptionWord
-option_of text = or_else (look_up ((codes "setplay", SetPlay) ∷ (codes "variation", Variation)
+option_of text = or_else (entry_named ((codes "setplay", SetPlay) ∷ (codes "variation", Variation)
     ∷ (codes "noboard", NoBoard) ∷ []) text) (option_map Awaits (awaited_of text))
 
 -- one letter or more with which the colour's name begins, in capitals or not

@@ -14,7 +14,7 @@ use Rattle.chess_core.specs.declared.man.Kind.TheVariants.{King}
 use Rattle.chess_core.specs.declared.man.Man.{Man}
 use Rattle.pop_input.specs.Letters.{mate_sign, stalemate_sign}
 use Rattle.pop_input.specs.Names.{command_of, colour_of, kind_of, condition_of, option_of, or_else}
-use Rattle.pop_input.specs.Values.{squares_of, only_square, is_digit, limit_of, stipulation_of}
+use Rattle.pop_input.specs.Values.{squares_named, only_square, is_digit, limit_of, stipulation_of}
 use Rattle.pop_input.specs.Drafts.{Draft, role_of}
 use Rattle.pop_input.specs.declared.condition.Condition.{Condition}
 use Rattle.pop_input.specs.declared.place.Role.{Role}
@@ -69,8 +69,8 @@ is_foreign text = nat_le 2 (length text) && not (list_any is_digit text)
 abbrev pub letter_fault : Draft → Option Kind → List ℕ → Option FaultKind
 letter_fault draft None text = Some WordMisplaced
 letter_fault draft (Some letter) text =
-    if not (is_some (squares_of text)) && is_foreign text then Some WordMisplaced
-    else put_fault draft.men draft.colour letter (squares_of text)
+    if not (is_some (squares_named text)) && is_foreign text then Some WordMisplaced
+    else put_fault draft.men draft.colour letter (squares_named text)
 
 -- of a word in Pieces: a colour, or a letter and squares
 abbrev pub pieces_fault : Draft → List ℕ → Option FaultKind
@@ -102,9 +102,9 @@ section_fault draft (Some Options) text = fault_if (not (is_some (option_of text
 -- of a word that is this
 abbrev pub role_fault : Draft → Role → List ℕ → Option FaultKind
 role_fault draft Limit text = fault_if (not (is_some (limit_of text))) BadLimit
-role_fault draft CrossedSquare text = fault_if (not (is_some (only_square (squares_of text))))
+role_fault draft CrossedSquare text = fault_if (not (is_some (only_square (squares_named text))))
     SquareMissing
-role_fault draft BarredSquares text = barred_fault (squares_of text)
+role_fault draft BarredSquares text = barred_fault (squares_named text)
 role_fault draft (Control command) text = control_fault command
 role_fault draft (Within section) text = section_fault draft section text
 

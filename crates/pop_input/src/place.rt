@@ -4,7 +4,7 @@ ghost use Rattle.pop_input.specs.Drafts.{role_of, plain_role};
 
 use crate::names::{Awaited, Command, Section};
 use crate::short_word::ShortWord;
-use crate::values::squares_of;
+use crate::values::squares_named;
 
 /// The section, and what an option awaits.
 #[derive(Clone, Copy)]
@@ -40,7 +40,7 @@ impl Place {
             Some(Awaited::OneSquare) => Role::CrossedSquare,
             Some(Awaited::Squares) => Role::BarredSquares,
             Some(Awaited::MoreSquares) => {
-                if squares_of(word.bytes()).is_some() {
+                if squares_named(word.bytes()).is_some() {
                     Role::BarredSquares
                 } else {
                     self.plain_role_of(word.command())

@@ -1,6 +1,6 @@
 //! What a problem asks for.
 ghost use Rattle.std.specs.Prelude.{◌≡◌};
-ghost use Rattle.pop_input.specs.Stipulations.{first_half, half_moves, is_for_stalemate, is_help, mated_side, starting_side};
+ghost use Rattle.pop_input.specs.Stipulations.{first_half, half_moves, is_for_stalemate, is_help, goal_side, starting_side};
 
 use chess_core::man::Colour;
 
@@ -10,7 +10,7 @@ pub enum Form {
     /// `#n`: White starts and reaches the goal against every defence.
     Direct,
     /// `s#n`: White starts and forces Black to reach it against White.
-    SelfMate,
+    Selfmate,
     /// `h#n`: Black starts, both help, and White reaches it with his last move.
     Help,
     /// `h#n.5`: as `h#n`, with one half-move of White more at its front.
@@ -39,7 +39,7 @@ pub struct Stipulation {
 
 impl Goal {
     /// Whether it is stalemate.
-    pub fn is_stalemate(self) -> bool
+    pub fn is_for_stalemate(self) -> bool
         ensures { result ≡ is_for_stalemate self }
     {
         match self {
@@ -55,7 +55,7 @@ impl Form {
         ensures { result ≡ is_help self }
     {
         match self {
-            Form::Direct | Form::SelfMate => false,
+            Form::Direct | Form::Selfmate => false,
             Form::Help | Form::HelpHalf => true,
         }
     }
@@ -65,7 +65,7 @@ impl Form {
         ensures { result ≡ first_half self }
     {
         match self {
-            Form::Direct | Form::SelfMate | Form::Help => 1,
+            Form::Direct | Form::Selfmate | Form::Help => 1,
             Form::HelpHalf => 2,
         }
     }
@@ -76,16 +76,16 @@ impl Form {
     {
         match self {
             Form::Help => Colour::Black,
-            Form::Direct | Form::SelfMate | Form::HelpHalf => Colour::White,
+            Form::Direct | Form::Selfmate | Form::HelpHalf => Colour::White,
         }
     }
 
     /// The side that is to be mated or stalemated.
-    pub fn mated_side(self) -> Colour
-        ensures { result ≡ mated_side self }
+    pub fn goal_side(self) -> Colour
+        ensures { result ≡ goal_side self }
     {
         match self {
-            Form::SelfMate => Colour::White,
+            Form::Selfmate => Colour::White,
             Form::Direct | Form::Help | Form::HelpHalf => Colour::Black,
         }
     }
@@ -99,7 +99,7 @@ impl Stipulation {
         let n = self.n as usize;
         match self.form {
             Form::Direct => (2 * n).saturating_sub(1),
-            Form::SelfMate | Form::Help => 2 * n,
+            Form::Selfmate | Form::Help => 2 * n,
             Form::HelpHalf => 2 * n + 1,
         }
     }

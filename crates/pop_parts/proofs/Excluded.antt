@@ -12,7 +12,7 @@ use Rattle.pop_run.specs.Run.{closings}
 use Rattle.pop_run.specs.declared.status.Status.TheVariants.{OutputFailed as ListCut}
 use Rattle.pop_solve.proofs.Words.{Move, Posed, RuleSet, ap, eqb, slice_get, ◌∷◌}
 use Rattle.pop_events.specs.declared.event.Phase.{Phase}
-use Rattle.chess_core.specs.MoveOrder.{triple_number}
+use Rattle.chess_core.specs.MoveOrder.{order_number}
 use Rattle.pop_parts.specs.PhaseParts.{begins_path, begins_so, part_numbered, parts}
 use Rattle.pop_parts.specs.Parts.{entry_numbered, outcome_at, text_at}
 unfoldable use Rattle.pop_parts.specs.Parts.{text_in}
@@ -72,7 +72,7 @@ module _ (rule : RuleSet) (problem : Posed) (phase : Phase) (depth : ℕ) where
   first_part_is_numbered_1 front fronts are = ap (λ all. slice_get all 0) are
 
 -- a solution that begins with another move than the part's first isn't the part's
-pub no_other_first_move : (m n : Move) (front path : List Move) (paths : List (List Move)) → eqb (triple_number m) (triple_number n) ≡ false
+pub no_other_first_move : (m n : Move) (front path : List Move) (paths : List (List Move)) → eqb (order_number m) (order_number n) ≡ false
     → begins_so (m ∷ front) ((n ∷ path) ∷ paths) ≡ false
 unfolding begins_path
 no_other_first_move m n front path paths other = rw other refl

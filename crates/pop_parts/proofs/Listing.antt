@@ -14,14 +14,14 @@ use Rattle.pop_run.proofs.Reached.{Reached, Stopped, item_reached, item_stops, r
 use Rattle.pop_run.proofs.Running.{grew_broken, reads_then, status_more}
 use Rattle.pop_run.specs.Report.{is_faulty, tells_failure}
 unfoldable use Rattle.pop_run.specs.Report.{status_of}
-use Rattle.pop_run.specs.Run.{grew, input_met}
+use Rattle.pop_run.specs.Run.{has_grown, input_met}
 use Rattle.pop_run.specs.declared.status.Status.{Status}
 use Rattle.pop_run.specs.declared.status.Status.TheVariants.{OutputFailed, Sound}
 use Rattle.pop_run.specs.ties.Sessions.{status_with}
 use Rattle.pop_parts.proofs.Reading.{all_met, failure_is_told, item_read, items_met, kept_is_told, last_read, took}
-use Rattle.pop_parts.specs.Parts.{line_of, lines_from}
+use Rattle.pop_parts.specs.Parts.{parts_line, lines_from}
 use Rattle.pop_parts.specs.Runs.{Lists}
-use Rattle.pop_parts.specs.ties.Items.{entry_in, item_line, status_after}
+use Rattle.pop_parts.specs.ties.Items.{entry_in, parts_line_if, status_after}
 
 -- From the beginning to now these items were read, and their lines were written.
 pub record Listed (depth : ℕ) (now : Standing) (number : ℕ) (so_far : Status) (had left before taken : Option (List ℕ)) : Type 0 where
@@ -51,7 +51,7 @@ lines-append depth n (x ∷ xs) ys = grind (arith, append_assoc, lines-append de
 -- one more item
 pub listed_step : (depth : ℕ) (old new : Standing) (number : ℕ) (so_far : Status) (had mid left before t now : Option (List ℕ)) (item : Item) (entry : Entry)
     → Listed depth old number so_far had mid before t → NextItem old new mid left item → UsesItem old new mid left item → entry_in item ≡ Some entry
-    → Appends t now (item_line number depth (entry_in item))
+    → Appends t now (parts_line_if number depth (entry_in item))
     → Listed depth new (number + 1) (status_after so_far (entry_in item)) had left before now
 listed_step depth old new number so_far had mid left before t now item entry p q u is w = rw is (record {
   items = p.items ++ entry ∷ [];
@@ -65,7 +65,7 @@ listed_step depth old new number so_far had mid left before t now item entry p q
 -- the list is whole behind the last item
 pub list_ends : (depth : ℕ) (old new : Standing) (number : ℕ) (so_far : Status) (had mid left before t : Option (List ℕ)) (item : Item) (n m v w : ℕ)
     → Listed depth old number so_far had mid before t → NextItem old new mid left item → entry_in item ≡ None → IsSeen new.at.end left
-    → m ≡ failures_after Open new.at.end n → w ≡ v → IfSome had (λ r. Lists depth (input_met (grew n m) r left) before t (grew v w) so_far)
+    → m ≡ failures_after Open new.at.end n → w ≡ v → IfSome had (λ r. Lists depth (input_met (has_grown n m) r left) before t (has_grown v w) so_far)
 list_ends depth old new number so_far None mid left before t item n m v w p q is seen reads writes = tt
 list_ends depth old new number so_far (Some r) mid left before t item n m v w p q is seen reads writes =
     let items = all_met old new mid left r p.items item p.reads q is seen in
@@ -74,13 +74,13 @@ list_ends depth old new number so_far (Some r) mid left before t item n m v w p 
 -- the sink cuts the list off
 pub list_cut : (depth : ℕ) (old new : Standing) (number : ℕ) (so_far : Status) (had mid left before t now : Option (List ℕ)) (item : Item) (entry : Entry)
     (n m v w : ℕ) → Listed depth old number so_far had mid before t → NextItem old new mid left item → entry_in item ≡ Some entry
-    → IsSeen new.at.end left → Begins t now (item_line number depth (entry_in item)) → m ≡ failures_after Open new.at.end n → w ≡ v + 1
-    → IfSome had (λ r. Lists depth (input_met (grew n m) r left) before now (grew v w) OutputFailed)
+    → IsSeen new.at.end left → Begins t now (parts_line_if number depth (entry_in item)) → m ≡ failures_after Open new.at.end n → w ≡ v + 1
+    → IfSome had (λ r. Lists depth (input_met (has_grown n m) r left) before now (has_grown v w) OutputFailed)
 list_cut depth old new number so_far None mid left before t now item entry n m v w p q is seen begun reads writes = tt
 list_cut depth old new number so_far (Some r) mid left before t now item entry n m v w p q is seen begun reads writes =
     let all = reads_then first_standing old new (Some r) mid left p.items (entry ∷ []) p.reads (item_read old new mid left item entry q is) in
     let met_items = items_met new left r (p.items ++ entry ∷ []) all seen in
-    let text = line_of (1 + length p.items) depth entry in
+    let text = parts_line (1 + length p.items) depth entry in
     rw (grew_broken new.at.end n m reads, failure_is_told v w writes) (
       rw (
         met_items.1,

@@ -1,11 +1,11 @@
 -- How a part begins: behind its first moves stand its solutions.
-use Rattle.pop_solve.proofs.Words.{AreKnown, BareEvent, Bool, Counts, Frame, Game, IsCounted, IsLinked, IsRoomy, IsSound, IsWalking, List, Mate, Move, Posed, Position, RuleSet, [], after_well_formed, ap, append-nil, arith, eqb, false, false≢true, follows, get_or, gives, half_moves_on, inl, inr, is_for_mate, is_help, is_legal, is_mate, is_pseudo_legal-from_legal, length, length-append, length-reverse, map, min, moves_behind, nat_tests, path, path_end, phase_half_moves, phase_paths, phase_start, plan_of, position, refl, reverse, rules, seeks_last, shown_paths, suc, sym, take, to_come, to_open, true, undo_of, varies, walk_count, ℕ, ◌++◌, ◌+◌, ◌-◌, ◌<◌, ◌^◌, ◌∙◌, ◌∷◌, ◌≡◌, ◌≤◌}
+use Rattle.pop_solve.proofs.Words.{AreKnown, BareEvent, Bool, Counts, Frame, Game, IsCounted, IsLinked, IsRoomy, IsSound, IsWalking, List, Mate, Move, Posed, Position, RuleSet, [], after_well_formed, ap, append-nil, arith, eqb, false, false≢true, is_followed, get_or, is_given, walk_length, inl, inr, is_for_mate, is_help, is_legal, is_mate, is_pseudo_legal-from_legal, length, length-append, length-reverse, map, min, moves_behind, nat_tests, path, path_end, phase_half_moves, phase_paths, phase_start, plan_of, position, refl, reverse, rules, seeks_last, shown_paths, suc, sym, take, to_come, to_open, true, undo_of, has_variations, walk_count, ℕ, ◌++◌, ◌+◌, ◌-◌, ◌<◌, ◌^◌, ◌∙◌, ◌∷◌, ◌≡◌, ◌≤◌}
 use Rattle.pop_events.specs.declared.event.Phase.{Phase}
 use Rattle.pop_solve.specs.declared.plan.Plan.{Plan}
 use Rattle.chess_rules.specs.Legal.{moves as legal_moves}
 use Rattle.chess_rules.specs.Play.{position_after}
 use Rattle.pop_solve.proofs.Boards.{behind_start, for_mate}
-use Rattle.pop_solve.proofs.GoingOn.{cases, ended-reached, follows-help, half_moves_on-help, half_moves_on-most}
+use Rattle.pop_solve.proofs.GoingOn.{cases, ended-reached, follows-help, walk_length-help, walk_length-most}
 use Rattle.pop_solve.proofs.Outcomes.{counted_by}
 use Rattle.pop_parts.proofs.Parts.{part_cut}
 use Rattle.pop_solve.proofs.Paths.{cut-at, path-length, path-more, position-more, path_end-append, path_end-path, some-taken}
@@ -206,16 +206,16 @@ module _ (rule : RuleSet) (problem : Posed) (sound : IsSound problem) (phase : P
       (λ help full. rw (walk-is, none, z, idle-open rule plan p old s.idle) (record { within = omega arith; counts = omega arith })))
 
   -- the move is not followed
-  begun-passed : (opened : ℕ) → follows plan.play game root left q ≡ false → HasBegun rule problem phase front (Within 0) old board opened
+  begun-passed : (opened : ℕ) → is_followed plan.play game root left q ≡ false → HasBegun rule problem phase front (Within 0) old board opened
   unfolding shown_paths
   begun-passed opened passed = begun-none opened (rw passed refl) (λ help full.
       absurd (false≢true (sym passed ∙ follows-help plan game root left q (help-play problem.stipulation.form help))))
 
   -- it is followed
   abbrev entered : List Frame
-  entered = opened_frame m (undo_of rule board m) (half_moves_on plan.play (varies plan) game left q) ∷ old
+  entered = opened_frame m (undo_of rule board m) (walk_length plan.play (has_variations plan.tree) game left q) ∷ old
 
-  come-entered : follows plan.play game root left q ≡ true → come ≡ given_path (gives plan.play game left q) front ++ to_come rule plan h p entered
+  come-entered : is_followed plan.play game root left q ≡ true → come ≡ given_path (is_given plan.play game left q) front ++ to_come rule plan h p entered
   unfolding shown_paths to_come
   come-entered followed =
       let more : eqb (length old) 0 ≡ false = grind (arith, nat_tests, deep) in
@@ -229,13 +229,13 @@ module _ (rule : RuleSet) (problem : Posed) (sound : IsSound problem) (phase : P
         ← s.walking.board_at,
         behind_start rule q,
       )
-      (sym (append-nil _) ∙ turn (gives plan.play game left q) (path old) m (shown_paths plan game false left (half_moves_on plan.play
-      (varies plan) game left q) q
+      (sym (append-nil _) ∙ turn (is_given plan.play game left q) (path old) m (shown_paths plan game false left (walk_length plan.play
+      (has_variations plan.tree) game left q) q
       (legal_moves rule q)) [] [])
 
   walking-entered : IsWalking rule h p entered q
   walking-entered = walking-opened rule h p old board m _ deep s.walking lawful
-      (omega (arith, half_moves_on-most game plan.play (varies plan) left q, size, s.room))
+      (omega (arith, walk_length-most game plan.play (has_variations plan.tree) left q, size, s.room))
 
   opens-entered : (opened : ℕ) → Counts rule plan root left q 0 opened → IsPartOpened rule problem phase front entered opened
   unfolding to_open
@@ -244,7 +244,7 @@ module _ (rule : RuleSet) (problem : Posed) (sound : IsSound problem) (phase : P
       record { within = omega arith; counts = omega arith } in
       rw (
         walk-is,
-        half_moves_on-help plan game left q (help-play problem.stipulation.form help),
+        walk_length-help plan game left q (help-play problem.stipulation.form help),
         idle-open rule plan p old s.idle,
         position-more rule p _ old deep,
         ← s.walking.board_at,
@@ -252,14 +252,14 @@ module _ (rule : RuleSet) (problem : Posed) (sound : IsSound problem) (phase : P
       (counted_by rule plan left _ 0 opened _ _ (walk_count-start rule plan left q ∙ omega arith) (c.more (help-play problem.stipulation.form help))
       (c.none (help-play problem.stipulation.form help)) start)
 
-  begun-entered : (opened : ℕ) (given : Bool) → given ≡ gives plan.play game left q → follows plan.play game root left q ≡ true
+  begun-entered : (opened : ℕ) (given : Bool) → given ≡ is_given plan.play game left q → is_followed plan.play game root left q ≡ true
       → Counts rule plan root left q 0 opened → HasBegun rule problem phase front (begins_at given) entered q opened
   unfolding StandsInPart part_left part_paths
   begun-entered opened true g followed c =
       let e : part_paths rule problem phase First entered ≡ come =
       rw (path-more _ old deep) (sym (come-entered followed ∙ rw (← g) refl)) in
       record {
-        stands = (in-part First entered q refl e walking-entered, omega (arith, deep), ended-reached game plan.play (varies plan) root left q followed);
+        stands = (in-part First entered q refl e walking-entered, omega (arith, deep), ended-reached game plan.play (has_variations plan.tree) root left q followed);
         left = rw e events-begun;
         opens = opens-entered opened c;
       }
@@ -269,12 +269,12 @@ module _ (rule : RuleSet) (problem : Posed) (sound : IsSound problem) (phase : P
 
   -- what `enter` leaves
   pub begun-by : (opened opened2 : ℕ) (low given : Bool) (last : List Frame) (after : Position) → opened ≡ 0
-      → (follows plan.play game low left q ≡ false → (given ≡ false) × (after ≡ board) × (last ≡ frames))
-      → (follows plan.play game low left q ≡ true → (given ≡ gives plan.play game left q) × (after ≡ q)
-      × (last ≡ frames ++ opened_frame m (undo_of rule board m) (half_moves_on plan.play (varies plan) game left q) ∷ []))
+      → (is_followed plan.play game low left q ≡ false → (given ≡ false) × (after ≡ board) × (last ≡ frames))
+      → (is_followed plan.play game low left q ≡ true → (given ≡ is_given plan.play game left q) × (after ≡ q)
+      × (last ≡ frames ++ opened_frame m (undo_of rule board m) (walk_length plan.play (has_variations plan.tree) game left q) ∷ []))
       → Counts rule plan low left q opened opened2 → low ≡ root → HasBegun rule problem phase front (begins_at given) (reverse last) after opened2
   begun-by opened opened2 low given last after z passes enters counts lowest =
-      elim (cases (follows plan.play game low left q)) [
+      elim (cases (is_followed plan.play game low left q)) [
         | inl passed ↦ let x = passes passed in rw (x.0, x.1, ap reverse x.2) (begun-passed opened2 (rw lowest at passed))
         | inr followed ↦
             let x = enters followed in

@@ -1,5 +1,5 @@
 -- What a search of one part gives at a call, and what it opens.
-use Rattle.pop_solve.proofs.Words.{BareEvent, Bool, Frame, Gives, IsCounted, IsEnded, IsSound, IsWalking, List, Move, Opens, Posed, Position, RuleSet, StandsOn, Walks, [], arith, beginning_count, begins, cond, eqb, event_of, false, half_moves, is_help, is_set, keep, length, length-reverse, nat_tests, path, path_event, phase_half_moves, phase_paths, phase_start, plan_of, refl, reverse, rules, subst, to_open, true, ℕ, ◌+◌, ◌-◌, ◌<◌, ◌||◌, ◌∙◌, ◌∷◌, ◌≡◌, ◌≤◌}
+use Rattle.pop_solve.proofs.Words.{BareEvent, Bool, Frame, Gives, IsCounted, IsEnded, IsSound, IsWalking, List, Move, Opens, Posed, Position, RuleSet, StandsOn, Walks, [], arith, beginning_count, begins_solution, cond, eqb, event_of, false, half_moves, is_help, is_set, kept_paths, length, length-reverse, nat_tests, path, path_event, phase_half_moves, phase_paths, phase_start, plan_of, refl, reverse, rules, subst, to_open, true, ℕ, ◌+◌, ◌-◌, ◌<◌, ◌||◌, ◌∙◌, ◌∷◌, ◌≡◌, ◌≤◌}
 use Rattle.pop_events.specs.declared.event.Event.{Event}
 use Rattle.pop_events.specs.declared.event.Event.TheVariants.{Total}
 use Rattle.pop_events.specs.declared.event.Phase.{Phase}
@@ -36,7 +36,7 @@ module _ (rule : RuleSet) (problem : Posed) (phase : Phase) where
   more depth = cond (help || eqb depth 2) 1 0
 
   abbrev here : List Frame → ℕ
-  here frames = cond (begins help (top frames)) 1 0
+  here frames = cond (begins_solution help (top frames)) 1 0
 
   few : (frames : List Frame) (board : Position) → IsSound problem → Walking frames board → length frames ≤ 33
   few frames board s r = omega (arith, room-length _ (reverse frames) r.roomy, at_most phase, length-reverse frames)
@@ -47,7 +47,7 @@ module _ (rule : RuleSet) (problem : Posed) (phase : Phase) where
 
   -- a path is given: the events to come lose their first, and the solutions come to as many as before
   module _ (count : ℕ) (paths rest : List (List Move)) (frames : List Frame) (board : Position) (deep : 2 ≤ length frames)
-      (kept : keep help (problem.max_solutions - count) paths ≡ top frames ∷ keep help (problem.max_solutions - count - here frames) rest)
+      (kept : kept_paths help (problem.max_solutions - count) paths ≡ top frames ∷ kept_paths help (problem.max_solutions - count - here frames) rest)
       (begun : beginning_count help (problem.max_solutions - count) paths
       ≡ here frames + beginning_count help (problem.max_solutions - count - here frames) rest)
       (r : Walking frames board) (next : ℕ) (n : next ≡ count + more (length frames)) where
@@ -82,8 +82,8 @@ module _ (rule : RuleSet) (problem : Posed) (phase : Phase) where
     some : 0 < problem.max_solutions - 0
     some = omega (arith, sound.some_solution)
 
-    kept-first : keep help (problem.max_solutions - 0) (top frames ∷ phase_paths rule problem phase (reverse frames))
-        ≡ top frames ∷ keep help (problem.max_solutions - 0 - here frames) (phase_paths rule problem phase (reverse frames))
+    kept-first : kept_paths help (problem.max_solutions - 0) (top frames ∷ phase_paths rule problem phase (reverse frames))
+        ≡ top frames ∷ kept_paths help (problem.max_solutions - 0 - here frames) (phase_paths rule problem phase (reverse frames))
     kept-first = keep-next help _ _ _ _ refl (λ b. some)
 
     begun-first : beginning_count help (problem.max_solutions - 0) (top frames ∷ phase_paths rule problem phase (reverse frames))

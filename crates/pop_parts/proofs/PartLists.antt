@@ -2,7 +2,7 @@
 use Rattle.pop_solve.proofs.Words.{AllPairs, Bool, Contains, Game, List, Move, Position, Precedes, [], ap, append-nil, arith, cond, eqb, false, filter, filter-append, first_in, flat_map, flat_map-append, from_flat_map, from_map, in_cases, in_flat_map, in_map, inl, inr, later_in, length, lines_to_goal, map, map-append, nat_tests, none_in_nil, pairs_flat_map, pairs_map, pairs_nil, pairs_of, path_end, refl, rules, subst, suc, sym, take, true, zero, ℕ, ◌&&◌, ◌++◌, ◌-◌, ◌<◌, ◌∙◌, ◌∷◌, ◌≡◌, ◌≤◌}
 use Rattle.std.proofs.lemmas.List.Folds.{flat_map-map}
 use Rattle.std.proofs.lemmas.Simd.{map-map}
-use Rattle.chess_core.specs.MoveOrder.{triple_number}
+use Rattle.chess_core.specs.MoveOrder.{order_number}
 use Rattle.chess_rules.proofs.listing_moves.Members.{pairs_first, pairs_later}
 use Rattle.pop_solve.proofs.Kept.{map-same}
 use Rattle.pop_solve.proofs.theorems.Lists.{IsPlayable, StandsBefore}
@@ -40,8 +40,8 @@ module _ {A B : Type 0} where
   map-each f g (x ∷ xs) same = rw (same x, map-each f g xs same) refl
 
 -- of what is joined over moves in order, that of one, where that of every other is empty
-module _ {B : Type 0} (F : Move → List B) (m : Move) (apart : (x : Move) → eqb (triple_number m) (triple_number x) ≡ false → F x ≡ []) where
-  behind-none : (ms : List Move) → ((x : Move) → Contains ms x → triple_number m < triple_number x) → flat_map F ms ≡ []
+module _ {B : Type 0} (F : Move → List B) (m : Move) (apart : (x : Move) → eqb (order_number m) (order_number x) ≡ false → F x ≡ []) where
+  behind-none : (ms : List Move) → ((x : Move) → Contains ms x → order_number m < order_number x) → flat_map F ms ≡ []
   behind-none [] less = refl
   behind-none (x ∷ ms) less =
       let l = less x (first_in x ms) in
@@ -52,7 +52,7 @@ module _ {B : Type 0} (F : Move → List B) (m : Move) (apart : (x : Move) → e
   one-of [] order c = absurd (none_in_nil m c)
   one-of (x ∷ ms) order c = elim (in_cases x ms m c) [
     | inl same ↦
-        rw (behind-none ms (λ y d. subst (λ z. triple_number z < triple_number y) same (pairs_first Precedes x ms order y d)))
+        rw (behind-none ms (λ y d. subst (λ z. order_number z < order_number y) same (pairs_first Precedes x ms order y d)))
         (append-nil (F x) ∙ ap F same)
     | inr later ↦
         let l = pairs_first Precedes x ms order m later in
@@ -61,7 +61,7 @@ module _ {B : Type 0} (F : Move → List B) (m : Move) (apart : (x : Move) → e
   ]
 
 -- a line behind a first move begins as a part does where that move is the part's first and the rest begins as the part goes on
-fronts-under : (m : Move) (front : List Move) (x : Move) (b : Bool) → eqb (triple_number m) (triple_number x) ≡ b → (lines : List (List Move))
+fronts-under : (m : Move) (front : List Move) (x : Move) (b : Bool) → eqb (order_number m) (order_number x) ≡ b → (lines : List (List Move))
     → filter (begins_path (m ∷ front)) (map (λ line. x ∷ line) lines) ≡ cond b (map (λ line. x ∷ line) (filter (begins_path front) lines)) []
 unfolding begins_path
 fronts-under m front x true e [] = refl
@@ -69,7 +69,7 @@ fronts-under m front x false e [] = refl
 fronts-under m front x true e (line ∷ lines) = search (rules, fronts-under m front x true e lines)
 fronts-under m front x false e (line ∷ lines) = search (rules, fronts-under m front x false e lines)
 
-same-number : (m : Move) → eqb (triple_number m) (triple_number m) ≡ true
+same-number : (m : Move) → eqb (order_number m) (order_number m) ≡ true
 same-number m = grind (arith, nat_tests)
 
 front-all : (lines : List (List Move)) → filter (begins_path []) lines ≡ lines
@@ -177,13 +177,13 @@ module _ (game : Game Position Move) (order : (p : Position) → AllPairs Preced
       ∙ filter-map T (λ rest. x ∷ rest) (beginnings game d (game.after p x))
       ∙ ap (map (λ rest. x ∷ rest)) (here (beginnings game d (game.after p x)) ∙ beginnings-one d (game.after p x) line are.1 (omega (arith, most)))
     where
-      none : (m : Move) → eqb (triple_number m) (triple_number x) ≡ false → (rests : List (List Move))
-          → map (λ rest. m ∷ rest) (filter (λ rest. eqb (triple_number m) (triple_number x) && begins_path rest line) rests) ≡ []
+      none : (m : Move) → eqb (order_number m) (order_number x) ≡ false → (rests : List (List Move))
+          → map (λ rest. m ∷ rest) (filter (λ rest. eqb (order_number m) (order_number x) && begins_path rest line) rests) ≡ []
       none m e [] = refl
       none m e (r ∷ rests) = search (rules, none m e rests)
 
       here : (rests : List (List Move))
-          → filter (λ rest. eqb (triple_number x) (triple_number x) && begins_path rest line) rests ≡ filter (λ rest. begins_path rest line) rests
+          → filter (λ rest. eqb (order_number x) (order_number x) && begins_path rest line) rests ≡ filter (λ rest. begins_path rest line) rests
       here rests = rw (same-number x) refl
 
 -- solutions of battle play: those of one move of the root
@@ -201,7 +201,7 @@ root-part other G m ms order c =
     joined [] = refl
     joined (x ∷ xs) = search (rules, joined xs)
 
-    apart : (x : Move) (b : Bool) → eqb (triple_number m) (triple_number x) ≡ false
+    apart : (x : Move) (b : Bool) → eqb (order_number m) (order_number x) ≡ false
         → filter (begins_so (m ∷ [])) (cond b (((x ∷ []) ∷ G x) ∷ []) []) ≡ []
     apart x b e = search rules
 

@@ -1,5 +1,5 @@
 -- What the walk shows behind a part's first moves is the part's solutions.
-use Rattle.pop_solve.proofs.Words.{Bool, Contains, IsSound, IsWellFormed, List, Move, Posed, Position, RuleSet, [], after_well_formed, and_parts, ap, append-nil, append_assoc, arith, chess, eqb, false, filter, game_of, help_lines, helps, is_help, is_legal, is_pseudo_legal-from_legal, length, length-append, lines_to_goal, map, moves_are_the_legal_moves, moves_in_order, path_end, phase_half_moves, phase_start, plan_of, play_of, refl, set_tree, shown_paths, solutions, subst, suc, sym, tree, true, zero, ℕ, ◌++◌, ◌+◌, ◌-◌, ◌∙◌, ◌∷◌, ◌≡◌, ◌≤◌}
+use Rattle.pop_solve.proofs.Words.{Bool, Contains, IsSound, IsWellFormed, List, Move, Posed, Position, RuleSet, [], after_well_formed, and_parts, ap, append-nil, append_assoc, arith, chess, eqb, false, filter, game_of, help_lines, is_help_play, is_help, is_legal, is_pseudo_legal-from_legal, length, length-append, lines_to_goal, map, moves_are_the_legal_moves, moves_in_order, path_end, phase_half_moves, phase_start, plan_of, play_of, refl, set_tree, shown_paths, solutions, subst, suc, sym, tree, true, zero, ℕ, ◌++◌, ◌+◌, ◌-◌, ◌∙◌, ◌∷◌, ◌≡◌, ◌≤◌}
 use Rattle.pop_solve.specs.declared.aim.Battle.{Battle}
 use Rattle.pop_solve.specs.declared.aim.Play.{Play as PlayOfSides}
 use Rattle.pop_solve.specs.declared.aim.Play.TheVariants.{Help as HelpPlay, Battle as BattlePlay}
@@ -162,7 +162,7 @@ part_cut rule problem sound phase front m room alone may =
     rw (← helps-form problem.stipulation.form) (by_play (play_of problem.stipulation.form) refl)
   where
     by_play : (play : PlayOfSides) → play_of problem.stipulation.form ≡ play
-        → IsCutInto (helps play) problem.max_solutions
+        → IsCutInto (is_help_play play) problem.max_solutions
         (map (λ line. front ++ line) (shown_paths (plan_of problem) (chess problem.stipulation.goal rule) (eqb (length front) 0)
         (phase_half_moves problem phase - length front) (phase_half_moves problem phase - length front)
         (path_end (position_after rule) (phase_start problem phase) front) (m ∷ [])))

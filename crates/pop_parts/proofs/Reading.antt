@@ -16,7 +16,7 @@ use Rattle.pop_run.proofs.Meeting.{is_broken, met_after}
 use Rattle.pop_run.proofs.Reached.{Stopped, still_more, stopped_reads, stopped_reads_words}
 use Rattle.pop_run.proofs.Running.{all_to_come, grew_broken, grew_more, grew_same, reads_then}
 use Rattle.pop_run.specs.Report.{entries_in}
-use Rattle.pop_run.specs.Run.{ReadsUpTo, closings, grew, input_met, taken_of}
+use Rattle.pop_run.specs.Run.{ReadsUpTo, closings, has_grown, input_met, taken_of}
 use Rattle.pop_run.specs.ties.Sessions.{ends}
 use Rattle.pop_parts.specs.Runs.{ReadsItems}
 use Rattle.pop_parts.specs.ties.Items.{entry_in}
@@ -49,11 +49,11 @@ all_met old now mid left r items (Sound posed last) all p none seen = absurd (le
 all_met old now mid left r items (Faulty fault last) all p none seen = absurd (let no : Some (FaultyEntry fault) ≡ None = none in cc)
 
 -- a count that stayed tells of no failure
-pub kept_is_told : (n m : ℕ) → m ≡ n → grew n m ≡ false
+pub kept_is_told : (n m : ℕ) → m ≡ n → has_grown n m ≡ false
 kept_is_told n m is = rw (is, grew_same) refl
 
 -- one that grew tells of one
-pub failure_is_told : (n m : ℕ) → m ≡ n + 1 → grew n m ≡ true
+pub failure_is_told : (n m : ℕ) → m ≡ n + 1 → has_grown n m ≡ true
 failure_is_told n m is = rw (is, grew_more) refl
 
 -- How far a call reads.
@@ -75,14 +75,14 @@ last_read old new mid left (Faulty fault last) p u none = absurd (let no : Some 
 -- a call that stops has read as a run does
 pub reads_as_a_run : (new : Standing) (had left : Option (List ℕ)) (n m : ℕ) → Stopped new had left → IsSeen new.at.end left
     → length new.at.window ≤ 4096 → m ≡ failures_after Open new.at.end n
-    → IfSome had (λ r. ReadsUpTo (input_met (grew n m) r left) (taken_of r left))
+    → IfSome had (λ r. ReadsUpTo (input_met (has_grown n m) r left) (taken_of r left))
 reads_as_a_run new None left n m s seen few reads = tt
 reads_as_a_run new (Some r) left n m s seen few reads = rw (grew_broken new.at.end n m reads) (stopped_reads new r left s seen few)
 
 -- and no further than an item, where no more of the words used close one
 pub reads_items : (number : ℕ) (new : Standing) (had left : Option (List ℕ)) (n m : ℕ) (s : Stopped new had left) → (1 ≤ number → closings s.tokens ≤ number)
     → IsSeen new.at.end left → length new.at.window ≤ 4096 → m ≡ failures_after Open new.at.end n
-    → IfSome had (λ r. ReadsItems number (input_met (grew n m) r left) (taken_of r left))
+    → IfSome had (λ r. ReadsItems number (input_met (has_grown n m) r left) (taken_of r left))
 reads_items number new None left n m s closed seen few reads = tt
 reads_items number new (Some r) left n m s closed seen few reads =
     let w = stopped_reads_words (λ tokens. 1 ≤ number → closings tokens ≤ number) new r left s closed seen few in

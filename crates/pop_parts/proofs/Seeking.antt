@@ -1,5 +1,5 @@
 -- The walk over beginnings: what a step leaves of those still to come.
-use Rattle.pop_solve.proofs.Words.{AreKnown, CameFrom, CameFromAt, Frame, IfSome, IsLinked, IsPlaceIn, IsRoomy, IsWalking, IsWellFormed, LegalPlace, List, Move, None, Option, Position, RuleSet, Some, Undo, [], after_well_formed, ap, append-nil, append_assoc, arith, drop, false, is_legal, is_pseudo_legal-from_legal, is_some, length, length-append, length-reverse, map, map-append, min, moves_behind, path, position, refl, reverse, rules, slice_get, subst, suc, sym, true, turns, undo_of, zero, ℕ, ◌++◌, ◌+◌, ◌-◌, ◌<◌, ◌^◌, ◌∙◌, ◌∷◌, ◌≡◌, ◌≢◌, ◌≤◌}
+use Rattle.pop_solve.proofs.Words.{AreKnown, CameFrom, CameFromAt, Frame, IfSome, IsLinked, IsPlaceIn, IsRoomy, IsWalking, IsWellFormed, LegalPlace, List, Move, None, Option, Position, RuleSet, Some, Undo, [], after_well_formed, ap, append-nil, append_assoc, arith, drop, false, is_legal, is_pseudo_legal-from_legal, is_some, length, length-append, length-reverse, map, map-append, min, moves_behind, path, position, refl, reverse, rules, slice_get, subst, suc, sym, true, walk_work, undo_of, zero, ℕ, ◌++◌, ◌+◌, ◌-◌, ◌<◌, ◌^◌, ◌∙◌, ◌∷◌, ◌≡◌, ◌≢◌, ◌≤◌}
 use Rattle.std.proofs.Math.Seq.{drop-nil}
 use Rattle.chess_rules.specs.Play.{position_after}
 use Rattle.pop_input.specs.declared.stipulation.Goal.{Goal}
@@ -7,7 +7,7 @@ use Rattle.pop_solve.proofs.Boards.{behind_start}
 use Rattle.pop_solve.proofs.Outcomes.{CameFrom-deep, walking-close, walking-learned, walking-moved}
 use Rattle.pop_solve.proofs.Tests.{learned, moved}
 use Rattle.pop_solve.proofs.Walking.{popped}
-use Rattle.pop_solve.proofs.ToCome.{map-path, steps-start, steps_behind-next}
+use Rattle.pop_solve.proofs.ToCome.{map-path, steps-start, work_behind-next}
 use Rattle.pop_solve.specs.Chess.{chess}
 use Rattle.pop_parts.specs.PhaseParts.{beginnings}
 use Rattle.pop_solve.specs.ties.Frames.{opened_frame}
@@ -60,23 +60,23 @@ come-closed goal rule d p f below e = rw e refl
 
 turns-found : (rule : RuleSet) (h : ℕ) (p : Position) (f : Frame) (next : ℕ) (m : Move) (below : List Frame) → length below < h
     → moves_behind rule (position rule p (f ∷ below)) f.place ≡ m ∷ moves_behind rule (position rule p (f ∷ below)) next
-    → turns rule h p (moved f next ∷ below) < turns rule h p (f ∷ below)
-unfolding turns position
+    → walk_work rule h p (moved f next ∷ below) < walk_work rule h p (f ∷ below)
+unfolding walk_work position
 turns-found rule h p f next m below less e =
     let fuel : h - length below ≡ suc (h - length below - 1) = omega (arith, less) in
-    rw (fuel, steps_behind-next rule (h - length below - 1) (position rule p (f ∷ below)) f.place next m e) (omega arith)
+    rw (fuel, work_behind-next rule (h - length below - 1) (position rule p (f ∷ below)) f.place next m e) (omega arith)
 
 turns-deeper : (rule : RuleSet) (h : ℕ) (p : Position) (f : Frame) (next : ℕ) (m : Move) (below : List Frame) (undo : Undo) → length below + 1 < h
     → moves_behind rule (position rule p (f ∷ below)) f.place ≡ m ∷ moves_behind rule (position rule p (f ∷ below)) next
-    → turns rule h p (opened_frame m undo 0 ∷ (moved f next ∷ below)) < turns rule h p (f ∷ below)
-unfolding turns position
+    → walk_work rule h p (opened_frame m undo 0 ∷ (moved f next ∷ below)) < walk_work rule h p (f ∷ below)
+unfolding walk_work position
 turns-deeper rule h p f next m below undo less e =
     let k : h - length below ≡ suc (h - length below - 1) = omega (arith, less) in
     let l : h - suc (length below) ≡ h - length below - 1 = omega (arith, less) in
     rw (
       k,
       l,
-      steps_behind-next rule (h - length below - 1) (position rule p (f ∷ below)) f.place next m e,
+      work_behind-next rule (h - length below - 1) (position rule p (f ∷ below)) f.place next m e,
       steps-start rule (h - length below - 1) (position_after rule (position rule p (f ∷ below)) m),
     ) (omega arith)
 
@@ -106,16 +106,16 @@ module _ (goal : Goal) (rule : RuleSet) (d : ℕ) (p : Position) (f : Frame) (kn
   come-learned = search rules
 
 turns-learned : (rule : RuleSet) (h : ℕ) (p : Position) (f : Frame) (known : Option LegalPlace) (below : List Frame)
-    → turns rule h p (learned f known ∷ below) ≡ turns rule h p (f ∷ below)
-unfolding turns position
+    → walk_work rule h p (learned f known ∷ below) ≡ walk_work rule h p (f ∷ below)
+unfolding walk_work position
 turns-learned rule h p f known below = search rules
 
 idle-learned : (f : Frame) (known : Option LegalPlace) (below : List Frame) → are_idle (f ∷ below) ≡ true → are_idle (learned f known ∷ below) ≡ true
 unfolding are_idle
 idle-learned f known below e = e
 
-turns-closed : (rule : RuleSet) (h : ℕ) (p : Position) (f : Frame) (below : List Frame) → turns rule h p below < turns rule h p (f ∷ below)
-unfolding turns
+turns-closed : (rule : RuleSet) (h : ℕ) (p : Position) (f : Frame) (below : List Frame) → walk_work rule h p below < walk_work rule h p (f ∷ below)
+unfolding walk_work
 turns-closed rule h p f below = omega arith
 
 less_than : (a b : ℕ) → a ≤ b → a ≢ b → a < b

@@ -15,7 +15,7 @@ use Rattle.pop_run.proofs.Meeting.{is_broken}
 use Rattle.pop_run.proofs.Reached.{Reached, item_reached, item_stops, last_few, reached_few, reached_start, start_few, stopped_last, stops_few}
 use Rattle.pop_run.proofs.Running.{any_more, grew_broken, reads_then}
 use Rattle.pop_run.specs.Report.{entries_in, tells_failure}
-use Rattle.pop_run.specs.Run.{closings, grew, input_met, taken_of}
+use Rattle.pop_run.specs.Run.{closings, has_grown, input_met, taken_of}
 use Rattle.pop_parts.proofs.Reading.{all_met, failure_is_told, item_read, items_met, kept_is_told, last_read, reads_items, took}
 use Rattle.pop_parts.specs.Parts.{entry_numbered, outcome_at, text_at}
 use Rattle.pop_parts.specs.Runs.{ReadsItems, Shows}
@@ -77,7 +77,7 @@ found_there items entry more wanted is = grind (arith, get_seam items entry more
 pub item_missing : (asked : Asked) (old new : Standing) (number : ℕ) (failed : Bool) (had mid left before : Option (List ℕ)) (item : Item) (answer : Outcome)
     (n m v w : ℕ) → Passed asked.item old number failed had mid → NextItem old new mid left item → entry_in item ≡ None → IsSeen new.at.end left
     → answer ≡ outcome_at asked failed None → m ≡ failures_after Open new.at.end n → w ≡ v
-    → IfSome had (λ r. Shows asked (input_met (grew n m) r left) before before (grew v w) answer)
+    → IfSome had (λ r. Shows asked (input_met (has_grown n m) r left) before before (has_grown v w) answer)
 item_missing asked old new number failed None mid left before item answer n m v w p q is seen told reads writes = tt
 item_missing asked old new number failed (Some r) mid left before item answer n m v w p q is seen told reads writes =
     let items = all_met old new mid left r p.items item p.reads q is seen in
@@ -104,7 +104,7 @@ pub item_shown : (asked : Asked) (old new : Standing) (number : ℕ) (failed : B
     (answer : Outcome) (n m v w : ℕ) → Passed asked.item old number failed had mid → NextItem old new mid left item → entry_in item ≡ Some entry
     → IsSeen new.at.end left → number ≡ asked.item → Appends before now (text_at asked (entry_in item))
     → answer ≡ outcome_at asked false (entry_in item) → m ≡ failures_after Open new.at.end n → w ≡ v
-    → IfSome had (λ r. Shows asked (input_met (grew n m) r left) before now (grew v w) answer)
+    → IfSome had (λ r. Shows asked (input_met (has_grown n m) r left) before now (has_grown v w) answer)
 item_shown asked old new number failed None mid left before now item entry answer n m v w p q is seen one written told reads writes = tt
 item_shown asked old new number failed (Some r) mid left before now item entry answer n m v w p q is seen one written told reads writes =
     let there = entry_met asked old new number failed mid left r item entry p q is seen one in
@@ -116,7 +116,7 @@ pub item_cut : (asked : Asked) (old new : Standing) (number : ℕ) (failed : Boo
     (n m v w : ℕ) → Passed asked.item old number failed had mid → NextItem old new mid left item → entry_in item ≡ Some entry
     → IsSeen new.at.end left → number ≡ asked.item → Begins before now (text_at asked (entry_in item))
     → m ≡ failures_after Open new.at.end n → w ≡ v + 1
-    → IfSome had (λ r. Shows asked (input_met (grew n m) r left) before now (grew v w) OutputFailed)
+    → IfSome had (λ r. Shows asked (input_met (has_grown n m) r left) before now (has_grown v w) OutputFailed)
 item_cut asked old new number failed None mid left before now item entry n m v w p q is seen one begun reads writes = tt
 item_cut asked old new number failed (Some r) mid left before now item entry n m v w p q is seen one begun reads writes =
     let there = entry_met asked old new number failed mid left r item entry p q is seen one in
@@ -127,7 +127,7 @@ item_cut asked old new number failed (Some r) mid left before now item entry n m
 pub missing_reads : (wanted : ℕ) (old new : Standing) (number : ℕ) (failed : Bool) (had mid left : Option (List ℕ)) (item : Item) (n m : ℕ)
     → Passed wanted old number failed had mid → NextItem old new mid left item → UsesItem old new mid left item → entry_in item ≡ None
     → IsSeen new.at.end left → length new.at.window ≤ 4096 → m ≡ failures_after Open new.at.end n
-    → IfSome had (λ r. ReadsItems wanted (input_met (grew n m) r left) (taken_of r left))
+    → IfSome had (λ r. ReadsItems wanted (input_met (has_grown n m) r left) (taken_of r left))
 missing_reads wanted old new number failed had mid left item n m p q u is =
     let l = last_read old new mid left item q u is in
     rw (l.1, l.2) (reads_items wanted old had mid n m (stopped_last p.reached l.0)
@@ -136,7 +136,7 @@ missing_reads wanted old new number failed had mid left item n m p q u is =
 pub found_reads : (wanted : ℕ) (old new : Standing) (number : ℕ) (failed : Bool) (had mid left : Option (List ℕ)) (item : Item) (entry : Entry) (n m : ℕ)
     → Passed wanted old number failed had mid → NextItem old new mid left item → UsesItem old new mid left item → entry_in item ≡ Some entry → number ≡ wanted
     → IsSeen new.at.end left → length new.at.window ≤ 4096 → m ≡ failures_after Open new.at.end n
-    → IfSome had (λ r. ReadsItems wanted (input_met (grew n m) r left) (taken_of r left))
+    → IfSome had (λ r. ReadsItems wanted (input_met (has_grown n m) r left) (taken_of r left))
 found_reads wanted old new number failed had mid left item entry n m p q u is one =
     let t = took old new mid left item entry q u is in
     reads_items wanted new had left n m (item_stops old new had mid left p.reached t.0 entry t.1)

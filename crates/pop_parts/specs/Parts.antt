@@ -35,15 +35,15 @@ set_text posed depth =
     if posed.set_play then codes "set " ++ count_text (count_of posed Set depth) ++ codes ", " else []
 
 -- the line of an item
-unfoldable pub line_of : ℕ → ℕ → Entry → List ℕ
-line_of number depth (Sound posed) = decimal number ++ codes ": " ++ set_text posed depth
+unfoldable pub parts_line : ℕ → ℕ → Entry → List ℕ
+parts_line number depth (Sound posed) = decimal number ++ codes ": " ++ set_text posed depth
     ++ codes "play " ++ count_text (count_of posed Play depth) ++ codes "\n"
-line_of number depth (Faulty fault) = decimal number ++ codes ": faulty\n"
+parts_line number depth (Faulty fault) = decimal number ++ codes ": faulty\n"
 
 -- the lines of items, the first with this number
 abbrev pub lines_from : ℕ → ℕ → List Entry → List ℕ
 lines_from depth number [] = []
-lines_from depth number (entry ∷ entries) = line_of number depth entry
+lines_from depth number (entry ∷ entries) = parts_line number depth entry
     ++ lines_from depth (number + 1) entries
 
 -- the list of an input: the lines of its items, numbered from 1

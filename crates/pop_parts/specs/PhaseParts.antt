@@ -2,7 +2,7 @@
 -- itself, on any machine (own).
 use Rattle.std.specs.Prelude.{ℕ, zero, suc, ◌-◌, ◌==◌, min, Bool, true, false, ◌&&◌, ◌||◌, if◌then◌else◌, List, [], ◌∷◌, ◌++◌, map, take, filter, length, Option, None, slice_get}
 use Rattle.std.specs.List.{flat_map}
-use Rattle.chess_core.specs.MoveOrder.{triple_number}
+use Rattle.chess_core.specs.MoveOrder.{order_number}
 use Rattle.chess_rules.specs.RuleSet.{RuleSet}
 use Rattle.pop_input.specs.Posed.{Posed}
 use Rattle.pop_input.specs.Stipulations.{is_help}
@@ -41,7 +41,7 @@ part_numbered rule problem phase depth number =
 unfoldable pub begins_path : Path → Path → Bool
 begins_path [] path = true
 begins_path (m ∷ front) [] = false
-begins_path (m ∷ front) (n ∷ path) = triple_number m == triple_number n && begins_path front path
+begins_path (m ∷ front) (n ∷ path) = order_number m == order_number n && begins_path front path
 
 -- the solution begins so: its first path does
 abbrev pub begins_so : Path → Solution → Bool

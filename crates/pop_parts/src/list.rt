@@ -5,10 +5,10 @@ ghost use Rattle.pop_input.specs.Blocks.{Sound as SoundEntry};
 ghost use Rattle.pop_input.specs.Posed.{rule_of};
 ghost use Rattle.pop_solve.specs.Events.{is_barred as barred};
 ghost use Rattle.pop_print.specs.ties.Room.{room};
-ghost use Rattle.pop_run.specs.Run.{FailsOnce, ReadsUpTo, grew, input_met, taken_of};
-ghost use Rattle.pop_parts.specs.Parts.{count_of, count_text, line_of, set_text, told_count};
+ghost use Rattle.pop_run.specs.Run.{FailsOnce, ReadsUpTo, has_grown, input_met, taken_of};
+ghost use Rattle.pop_parts.specs.Parts.{count_of, count_text, parts_line, set_text, told_count};
 ghost use Rattle.pop_parts.specs.Runs.{Lists};
-ghost use Rattle.pop_parts.specs.ties.Items.{entry_in, item_line};
+ghost use Rattle.pop_parts.specs.ties.Items.{entry_in, parts_line_if};
 
 use crate::items::{is_end, status_after};
 use crate::searching::parts_in;
@@ -36,12 +36,12 @@ pub fn list_parts<S: Source, W: Sink>(depth: usize, source: &mut S, sink: &mut W
     requires source { S.failures source.old < greatest_count }
     requires sink { W.failures sink.old < greatest_count }
     ensures headline { IfSome (S.remaining source.old) (λ had.
-        Lists depth (input_met (grew (S.failures source.old) (S.failures source.new)) had
+        Lists depth (input_met (has_grown (S.failures source.old) (S.failures source.new)) had
         (S.remaining source.new))
         (W.taken sink.old) (W.taken sink.new)
-        (grew (W.failures sink.old) (W.failures sink.new)) result) }
+        (has_grown (W.failures sink.old) (W.failures sink.new)) result) }
     ensures reads { IfSome (S.remaining source.old) (λ had.
-        ReadsUpTo (input_met (grew (S.failures source.old) (S.failures source.new)) had
+        ReadsUpTo (input_met (has_grown (S.failures source.old) (S.failures source.new)) had
         (S.remaining source.new)) (taken_of had (S.remaining source.new))) }
     ensures once { FailsOnce (S.failures source.old) (S.failures source.new)
         × FailsOnce (W.failures sink.old) (W.failures sink.new) }
@@ -73,7 +73,7 @@ fn print_item<W: Sink>(
     requires depth { 1 ≤ depth }
     requires sink { W.failures sink.old < greatest_count }
     ensures bytes { Writes (W.taken sink.old) (W.taken sink.new)
-        (item_line number depth (entry_in item.now)) result }
+        (parts_line_if number depth (entry_in item.now)) result }
     ensures counted { W.failures sink.new ≡ count_after result (W.failures sink.old) }
 {
     let mut line = LineBuffer::new();
@@ -82,11 +82,11 @@ fn print_item<W: Sink>(
 }
 
 // Adds the line of an item.
-#[tactic(auto, unfolding(crate::specs::Parts::line_of))]
+#[tactic(auto, unfolding(crate::specs::Parts::parts_line))]
 fn add_item(line: &mut LineBuffer, number: u64, depth: usize, item: &Item)
     requires depth { 1 ≤ depth }
     requires room { length line.old + 100 ≤ room }
-    ensures { line.new ≡ line.old ++ item_line number depth (entry_in item.now) }
+    ensures { line.new ≡ line.old ++ parts_line_if number depth (entry_in item.now) }
 {
     match item {
         Item::End => {}
@@ -99,11 +99,11 @@ fn add_item(line: &mut LineBuffer, number: u64, depth: usize, item: &Item)
 }
 
 // Adds the line of a sound problem.
-#[tactic(auto, unfolding(crate::specs::Parts::line_of))]
+#[tactic(auto, unfolding(crate::specs::Parts::parts_line))]
 fn add_sound(line: &mut LineBuffer, number: u64, depth: usize, problem: &Problem)
     requires depth { 1 ≤ depth }
     requires room { length line.old + 100 ≤ room }
-    ensures { line.new ≡ line.old ++ line_of number depth (SoundEntry problem.now) }
+    ensures { line.new ≡ line.old ++ parts_line number depth (SoundEntry problem.now) }
 {
     line.add_number(number);
     line.add(b": ");

@@ -8,7 +8,7 @@ ghost use Rattle.pop_parts.specs.declared.asked.Outcome.TheVariants.{FaultyItem,
 ghost use Rattle.pop_input.specs.Posed.{rule_of};
 ghost use Rattle.pop_solve.specs.Events.{event_of};
 ghost use Rattle.pop_print.specs.Events.{event_text};
-ghost use Rattle.pop_run.specs.Run.{FailsOnce, grew, input_met, taken_of};
+ghost use Rattle.pop_run.specs.Run.{FailsOnce, has_grown, input_met, taken_of};
 ghost use Rattle.pop_parts.specs.Parts.{has_parts as has_the_parts, has_phase as has_the_phase, outcome_at, outcome_in, part_text, parts_asked, text_at, text_in};
 ghost use Rattle.pop_parts.specs.Runs.{ReadsItems, Shows};
 ghost use Rattle.pop_parts.specs.ties.Items.{entry_in, text_if};
@@ -39,12 +39,12 @@ pub fn show_parts<S: Source, W: Sink>(asked: &Asked, source: &mut S, sink: &mut 
     requires source { S.failures source.old < greatest_count }
     requires sink { W.failures sink.old < greatest_count }
     ensures headline { IfSome (S.remaining source.old) (λ had.
-        Shows asked.now (input_met (grew (S.failures source.old) (S.failures source.new)) had
+        Shows asked.now (input_met (has_grown (S.failures source.old) (S.failures source.new)) had
         (S.remaining source.new))
         (W.taken sink.old) (W.taken sink.new)
-        (grew (W.failures sink.old) (W.failures sink.new)) result) }
+        (has_grown (W.failures sink.old) (W.failures sink.new)) result) }
     ensures reads { IfSome (S.remaining source.old) (λ had. ReadsItems asked.now.item
-        (input_met (grew (S.failures source.old) (S.failures source.new)) had
+        (input_met (has_grown (S.failures source.old) (S.failures source.new)) had
         (S.remaining source.new)) (taken_of had (S.remaining source.new))) }
     ensures once { FailsOnce (S.failures source.old) (S.failures source.new)
         × FailsOnce (W.failures sink.old) (W.failures sink.new) }

@@ -20,7 +20,7 @@ pub use Rattle.pop_text.specs.ties.Left.{MayFollow, onto_input, put_before}
 pub use Rattle.pop_text.specs.ties.Reading.{IsSeen, failures_after}
 pub use Rattle.pop_run.specs.Report.{Choice, choice_of, is_faulty, report, report_from, tells_failure}
 unfoldable pub use Rattle.pop_run.specs.Report.{entries_in, entry_text, status_of}
-pub use Rattle.pop_run.specs.Run.{Runs, grew, input_met, taken_of}
+pub use Rattle.pop_run.specs.Run.{Runs, has_grown, input_met, taken_of}
 pub use Rattle.pop_run.specs.declared.status.Status.TheVariants.{Faulty, InputFailed, OutputFailed, Sound}
 pub use Rattle.pop_run.specs.declared.status.StepOutcome.TheVariants.{Finished, Problem}
 pub use Rattle.pop_run.specs.ties.Sessions.{RunState, Steps, TakesItem, first_state, status_with, step_outcome}

@@ -11,7 +11,7 @@ use Rattle.pop_text.proofs.Using.{uses_none, uses_then}
 use Rattle.pop_text.specs.Words.{Token, Word}
 use Rattle.pop_text.specs.declared.read_fault.ReadFault.TheVariants.{TooLong, InputTooLong, Device}
 use Rattle.pop_text.specs.ties.Left.{among, words_left}
-use Rattle.pop_text.specs.ties.Reading.{Reading, beginning}
+use Rattle.pop_text.specs.ties.Reading.{Reading, first_reading}
 use Rattle.pop_input.proofs.Taking.{takes_then}
 use Rattle.pop_input.specs.Blocks.{Faulty as FaultyEntry, Sound as SoundEntry, closes_none}
 use Rattle.pop_input.specs.Names.{closes, command_of}
@@ -23,7 +23,7 @@ use Rattle.pop_input.specs.ties.Closings.{last_of}
 use Rattle.pop_input.specs.ties.Standing.{first_standing, next_behind}
 use Rattle.pop_input.specs.ties.Used.{IsClosed, IsInputOver, IsUnclosed, UsesEntry, UsesTokens}
 use Rattle.pop_run.proofs.Meeting.{is_broken, met_after, taken_front}
-use Rattle.pop_run.specs.Run.{EndsWithInput, EndsWithItem, ReadsUpTo, closings, goes_on, is_no_end, words_behind}
+use Rattle.pop_run.specs.Run.{EndsWithInput, EndsWithItem, ReadsUpTo, closings, is_no_end_problem_token, is_no_end_problem, words_behind}
 use Rattle.pop_run.specs.ties.Sessions.{ends}
 
 -- Words and text lines.
@@ -36,21 +36,21 @@ used_then {a} {b} {c} {had} {mid} {left} {ts = ts} {us = us} p q = record {
 }
 
 -- what closes no block isn't EndProblem
-open_goes_on : (command : Option Command) → not (closes command) ≡ true → is_no_end command ≡ true
+open_goes_on : (command : Option Command) → not (closes command) ≡ true → is_no_end_problem command ≡ true
 open_goes_on command h = grind arith
 
-all_go_on : (tokens : List Token) → list_all closes_none tokens ≡ true → list_all goes_on tokens ≡ true
+all_go_on : (tokens : List Token) → list_all closes_none tokens ≡ true → list_all is_no_end_problem_token tokens ≡ true
 all_go_on [] h = refl
 all_go_on (token ∷ tokens) h = grind (arith, open_goes_on, all_go_on tokens)
 
-both_go_on : (ts us : List Token) → list_all goes_on ts ≡ true → list_all goes_on us ≡ true → list_all goes_on (ts ++ us) ≡ true
-both_go_on ts us p q = list_all-append goes_on ts us ∙ rw (p, q) refl
+both_go_on : (ts us : List Token) → list_all is_no_end_problem_token ts ≡ true → list_all is_no_end_problem_token us ≡ true → list_all is_no_end_problem_token (ts ++ us) ≡ true
+both_go_on ts us p q = list_all-append is_no_end_problem_token ts us ∙ rw (p, q) refl
 
 last_closes : (command : Option Command) (last : Last) → last_of command ≡ Some last → closes command ≡ true
 last_closes command last is = grind arith
 
 -- NextProblem isn't EndProblem
-next_goes_on : (command : Option Command) (last : Last) → last_of command ≡ Some last → ends (next_behind last) ≡ false → is_no_end command ≡ true
+next_goes_on : (command : Option Command) (last : Last) → last_of command ≡ Some last → ends (next_behind last) ≡ false → is_no_end_problem command ≡ true
 next_goes_on command last is h = grind arith
 
 none_close : (tokens : List Token) → list_all closes_none tokens ≡ true → closings tokens ≡ 0
@@ -70,21 +70,21 @@ one_closes ts front token plain =
 
 -- what a run used where it stops: the bytes up to a closing word's end, or up to the end of the input
 abbrev pub Stops : Reading → List ℕ → List Token → Type 0
-Stops place bytes tokens = EndsWithItem bytes tokens ⊎ ((list_all goes_on tokens ≡ true) × IsInputOver place)
+Stops place bytes tokens = EndsWithItem bytes tokens ⊎ ((list_all is_no_end_problem_token tokens ≡ true) × IsInputOver place)
 
 -- From the beginning to now these bytes were used and these words taken, and a run may stop there.
 pub record Stopped (now : Standing) (had left : Option (List ℕ)) : Type 0 where
   pub bytes : List ℕ
   pub tokens : List Token
-  pub used : UsesTokens beginning now.at had left bytes tokens
+  pub used : UsesTokens first_reading now.at had left bytes tokens
   pub stops : Stops now.at bytes tokens
 
 -- The same where items are still to come, and EndProblem wasn't read; behind the last item a run may stop.
 pub record Reached (now : Standing) (had left : Option (List ℕ)) : Type 0 where
   pub bytes : List ℕ
   pub tokens : List Token
-  pub used : UsesTokens beginning now.at had left bytes tokens
-  pub goes : ends now.next ≡ false → list_all goes_on tokens ≡ true
+  pub used : UsesTokens first_reading now.at had left bytes tokens
+  pub goes : ends now.next ≡ false → list_all is_no_end_problem_token tokens ≡ true
   pub stops : ends now.next ≡ true → Stops now.at bytes tokens
 
 -- at its beginning a run has used nothing
@@ -92,7 +92,7 @@ pub reached_start : (had : Option (List ℕ)) → Reached first_standing had had
 reached_start had = record {
   bytes = [];
   tokens = [];
-  used = record { uses = uses_none beginning had; takes = takes_none beginning had };
+  used = record { uses = uses_none first_reading had; takes = takes_none first_reading had };
   goes = λ more. refl;
   stops = λ over. absurd (let no : false ≡ true = over in cc);
 }
@@ -151,7 +151,7 @@ module _ (old new : Standing) (had mid left : Option (List ℕ)) (p : Reached ol
     used = (closed_stops c).used;
     goes = λ on. both_go_on p.tokens (c.front ++ Word c.line c.word ∷ []) (p.goes more)
         (both_go_on c.front (Word c.line c.word ∷ []) (all_go_on c.front c.plain)
-        (let word : is_no_end (command_of c.word) ≡ true = next_goes_on (command_of c.word) c.last c.closes (rw c.next at on) in grind arith));
+        (let word : is_no_end_problem (command_of c.word) ≡ true = next_goes_on (command_of c.word) c.last c.closes (rw c.next at on) in grind arith));
     stops = λ over. (closed_stops c).stops;
   }
 
@@ -195,7 +195,7 @@ still_more old new had left entry rest may r = by_next old.next refl
 
 -- The end of a run.
 
-at_beginning : (input : Input) → words_left None beginning input ≡ words_of input
+at_beginning : (input : Input) → words_left None first_reading input ≡ words_of input
 at_beginning input = grind arith
 
 -- what stands behind the bytes used
@@ -235,7 +235,7 @@ module _ (new : Standing) (r ys : List ℕ) (s : Stopped new (Some r) (Some ys))
       let begin = s.used.takes.begin rest may in
       let behind = behind_is new.at taken s.bytes rest s.used.uses.unread s.used.uses.used s.used.uses.line in
       let first = at_beginning (onto_input taken rest) in
-      ap (λ (w : Words). w.tokens) (sym first ∙ ap (λ bytes. words_left None beginning (onto_input bytes rest)) (sym same_taken) ∙ begin)
+      ap (λ (w : Words). w.tokens) (sym first ∙ ap (λ bytes. words_left None first_reading (onto_input bytes rest)) (sym same_taken) ∙ begin)
       ∙ ap (λ (w : Words). s.tokens ++ w.tokens) behind
 
   stops_are : (rest : Input) → MayFollow new.at.end rest → EndsWithItem s.bytes s.tokens ⊎ EndsWithInput (onto_input taken rest) s.bytes s.tokens

@@ -1,6 +1,6 @@
 -- A run, step by step.
 use Rattle.pop_run.proofs.Basics.{Appends, Begins, Bool, Choice, End, Entry, Err, Finished, IfSome, Input, IsSeen, List, None, Ok, Open, Option, OutputFailed, Problem, Reads, Result, RunState, Runs, Some, Standing, Steps, TakesItem, Writes, [], ap, append-nil, append_assoc, appends_kept, appends_none, appends_then, arith, begins_later}
-use Rattle.pop_run.proofs.Basics.{begins_longer, consumes_then, entries_in, entries_left, entry_text, failures_after, false, first_state, grew, input_met, is_err, is_faulty, length, length-append, length-take, limit, list_any, not, refl, report_from, status_of, status_with, step_outcome, sym, taken_of, tells_failure, true, ℕ, ◌++◌, ◌+◌, ◌^◌, ◌||◌, ◌∙◌, ◌∷◌, ◌≡◌, ◌≤◌}
+use Rattle.pop_run.proofs.Basics.{begins_longer, consumes_then, entries_in, entries_left, entry_text, failures_after, false, first_state, has_grown, input_met, is_err, is_faulty, length, length-append, length-take, limit, list_any, not, refl, report_from, status_of, status_with, step_outcome, sym, taken_of, tells_failure, true, ℕ, ◌++◌, ◌+◌, ◌^◌, ◌||◌, ◌∙◌, ◌∷◌, ◌≡◌, ◌≤◌}
 use Rattle.std.proofs.lemmas.Bool.{lt-ltb}
 use Rattle.pop_text.specs.declared.sink.SinkFault.{SinkFault}
 use Rattle.pop_input.specs.ties.Standing.{first_standing}
@@ -133,21 +133,21 @@ progress_cut choice old new mid left before t now r fault p q seen =
     (rw items (cut_begins choice p.items q.0 _ before t now p.written (rw (p.number, p.choice_is) at q.2)), refl)
 
 -- a count that stays hasn't grown
-pub grew_same : (n : ℕ) → grew n n ≡ false
+pub grew_same : (n : ℕ) → has_grown n n ≡ false
 grew_same n = grind arith
 
 -- a count with one more has grown
-pub grew_more : (n : ℕ) → grew n (n + 1) ≡ true
+pub grew_more : (n : ℕ) → has_grown n (n + 1) ≡ true
 grew_more n = lt-ltb n (n + 1) (omega arith)
 
 -- the count of failures says whether the input broke off
-pub grew_broken : (e : End) (n m : ℕ) → m ≡ failures_after Open e n → grew n m ≡ is_broken e
+pub grew_broken : (e : End) (n m : ℕ) → m ≡ failures_after Open e n → has_grown n m ≡ is_broken e
 grew_broken e n m is = grind (arith, grew_same, grew_more)
 
 -- a run that meets the end of its input writes the whole report, and its status is the report's
 pub run_ends : (choice : Choice) (old new : RunState) (had mid left before t now : Option (List ℕ)) (answer : Status) (n m v w : ℕ)
     → Progress choice old had mid before t → Steps old new mid left t now (Ok (Finished answer)) → IsSeen new.at.at.end left
-    → m ≡ failures_after Open new.at.at.end n → w ≡ v → IfSome had (λ r. Runs choice (input_met (grew n m) r left) before now (grew v w) answer)
+    → m ≡ failures_after Open new.at.at.end n → w ≡ v → IfSome had (λ r. Runs choice (input_met (has_grown n m) r left) before now (has_grown v w) answer)
 run_ends choice old new None mid left before t now answer n m v w p q seen reads writes = tt
 run_ends choice old new (Some r) mid left before t now answer n m v w p q seen reads writes =
     rw (grew_broken new.at.at.end n m reads, writes, grew_same v) (progress_end choice old new mid left before t now r answer p q seen)
@@ -155,7 +155,7 @@ run_ends choice old new (Some r) mid left before t now answer n m v w p q seen r
 -- a run whose sink fails writes a beginning of the report, and its status says so
 pub run_cut : (choice : Choice) (old new : RunState) (had mid left before t now : Option (List ℕ)) (fault : SinkFault) (n m v w : ℕ)
     → Progress choice old had mid before t → Steps old new mid left t now (Err fault) → IsSeen new.at.at.end left → m ≡ failures_after Open new.at.at.end n
-    → w ≡ v + 1 → IfSome had (λ r. Runs choice (input_met (grew n m) r left) before now (grew v w) OutputFailed)
+    → w ≡ v + 1 → IfSome had (λ r. Runs choice (input_met (has_grown n m) r left) before now (has_grown v w) OutputFailed)
 run_cut choice old new None mid left before t now fault n m v w p q seen reads writes = tt
 run_cut choice old new (Some r) mid left before t now fault n m v w p q seen reads writes =
     rw (grew_broken new.at.at.end n m reads, writes, grew_more v) (progress_cut choice old new mid left before t now r fault p q seen)
@@ -191,7 +191,7 @@ cut_most choice old new (Some r) mid left before t now fault p q within waits = 
 -- a run that ends reads up to an item's end or the input's, and at most a window more
 pub ended_reads : (choice : Choice) (old new : RunState) (had mid left before t now : Option (List ℕ)) (answer : Status) (n m : ℕ)
     → Progress choice old had mid before t → Steps old new mid left t now (Ok (Finished answer)) → IsSeen new.at.at.end left
-    → length new.at.at.window ≤ 4096 → m ≡ failures_after Open new.at.at.end n → IfSome had (λ r. ReadsUpTo (input_met (grew n m) r left) (taken_of r left))
+    → length new.at.at.window ≤ 4096 → m ≡ failures_after Open new.at.at.end n → IfSome had (λ r. ReadsUpTo (input_met (has_grown n m) r left) (taken_of r left))
 ended_reads choice old new None mid left before t now answer n m p q seen few reads = tt
 ended_reads choice old new (Some r) mid left before t now answer n m p q seen few reads =
     rw (grew_broken new.at.at.end n m reads) (stopped_reads new.at r left (last_stops choice old new (Some r) mid left before t now answer p q) seen few)
@@ -199,7 +199,7 @@ ended_reads choice old new (Some r) mid left before t now answer n m p q seen fe
 -- so does one whose sink fails
 pub cut_reads : (choice : Choice) (old new : RunState) (had mid left before t now : Option (List ℕ)) (fault : SinkFault) (n m : ℕ)
     → Progress choice old had mid before t → Steps old new mid left t now (Err fault) → IsSeen new.at.at.end left → length new.at.at.window ≤ 4096
-    → m ≡ failures_after Open new.at.at.end n → IfSome had (λ r. ReadsUpTo (input_met (grew n m) r left) (taken_of r left))
+    → m ≡ failures_after Open new.at.at.end n → IfSome had (λ r. ReadsUpTo (input_met (has_grown n m) r left) (taken_of r left))
 cut_reads choice old new None mid left before t now fault n m p q seen few reads = tt
 cut_reads choice old new (Some r) mid left before t now fault n m p q seen few reads =
     let stops = item_stops old.at new.at (Some r) mid left p.reached (more_left old new mid left q.0 q.1) q.0 q.1.used in

@@ -27,20 +27,20 @@ abbrev pub FailsOnce : ℕ → ℕ → Type 0
 FailsOnce before now = now ≤ before + 1
 
 -- whether a count grew
-abbrev pub grew : ℕ → ℕ → Bool
-grew old new = nat_lt old new
+abbrev pub has_grown : ℕ → ℕ → Bool
+has_grown old new = nat_lt old new
 
 -- whether a command is another one than EndProblem, or none
-abbrev pub is_no_end : Option Command → Bool
-is_no_end (Some Last) = false
-is_no_end (Some Next) = true
-is_no_end (Some Begin) = true
-is_no_end (Some (Enter section)) = true
-is_no_end None = true
+abbrev pub is_no_end_problem : Option Command → Bool
+is_no_end_problem (Some Last) = false
+is_no_end_problem (Some Next) = true
+is_no_end_problem (Some Begin) = true
+is_no_end_problem (Some (Enter section)) = true
+is_no_end_problem None = true
 
 -- a token that is no EndProblem
-abbrev pub goes_on : Token → Bool
-goes_on token = is_no_end (closing_of token)
+abbrev pub is_no_end_problem_token : Token → Bool
+is_no_end_problem_token token = is_no_end_problem (closing_of token)
 
 -- how many of these words close an item
 abbrev pub closings : List Token → ℕ
@@ -55,12 +55,12 @@ pub record EndsWithItem (used : List ℕ) (tokens : List Token) : Type 0 where
   pub line : ℕ
   pub last : tokens ≡ front ++ Word line word ∷ []
   pub closes_one : closes (command_of word) ≡ true
-  pub none : list_all goes_on front ≡ true
+  pub none : list_all is_no_end_problem_token front ≡ true
 
 -- The bytes used are all of the input, up to its limit, and none of these words is EndProblem.
 pub record EndsWithInput (input : Input) (used : List ℕ) (tokens : List Token) : Type 0 where
   pub all : used ≡ take limit input.bytes
-  pub none : list_all goes_on tokens ≡ true
+  pub none : list_all is_no_end_problem_token tokens ≡ true
 
 -- the words of what stands behind bytes of an input
 abbrev pub words_behind : List ℕ → Input → Words

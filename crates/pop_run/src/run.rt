@@ -2,7 +2,7 @@
 ghost use Rattle.std.specs.Prelude.{◌<◌, ◌≤◌, ◌+◌, ◌^◌, IfSome, length};
 ghost use Rattle.pop_text.specs.Bytes.{greatest_count};
 ghost use Rattle.pop_run.specs.Report.{choice_of};
-ghost use Rattle.pop_run.specs.Run.{FailsOnce, ReadsUpTo, Runs, grew, input_met, taken_of};
+ghost use Rattle.pop_run.specs.Run.{FailsOnce, ReadsUpTo, Runs, has_grown, input_met, taken_of};
 
 use crate::session::Session;
 use crate::settings::Settings;
@@ -20,11 +20,11 @@ pub fn run<S: Source, W: Sink>(settings: &Settings, source: &mut S, sink: &mut W
     requires sink { W.failures sink.old < greatest_count }
     ensures headline { IfSome (S.remaining source.old) (λ had.
         Runs (choice_of settings.now)
-        (input_met (grew (S.failures source.old) (S.failures source.new)) had (S.remaining source.new))
+        (input_met (has_grown (S.failures source.old) (S.failures source.new)) had (S.remaining source.new))
         (W.taken sink.old) (W.taken sink.new)
-        (grew (W.failures sink.old) (W.failures sink.new)) result) }
+        (has_grown (W.failures sink.old) (W.failures sink.new)) result) }
     ensures reads { IfSome (S.remaining source.old) (λ had.
-        ReadsUpTo (input_met (grew (S.failures source.old) (S.failures source.new))
+        ReadsUpTo (input_met (has_grown (S.failures source.old) (S.failures source.new))
         had (S.remaining source.new)) (taken_of had (S.remaining source.new))) }
     ensures once { FailsOnce (S.failures source.old) (S.failures source.new)
         × FailsOnce (W.failures sink.old) (W.failures sink.new) }

@@ -8,7 +8,7 @@ ghost use Rattle.pop_input.specs.FaultKinds.{number_of};
 ghost use Rattle.pop_input.specs.declared.fault_kind.FaultKind.TheVariants.{DeviceFailed};
 ghost use Rattle.pop_input.specs.ties.Standing.{work_left};
 ghost use Rattle.pop_run.specs.Report.{choice_of};
-ghost use Rattle.pop_run.specs.ties.Sessions.{GoesOn, Steps, first_state, is_problem, status_with as with_item, step_outcome};
+ghost use Rattle.pop_run.specs.ties.Sessions.{HasMore, Steps, first_state, is_problem, status_with as with_item, step_outcome};
 
 use crate::settings::Settings;
 use crate::solutions::print_sound;
@@ -80,9 +80,9 @@ impl Session {
         source: &mut S,
         sink: &mut W,
     ) -> Result<StepOutcome, SinkFault>
-        requires source { GoesOn self.old → self.old.at.at.end ≡ End.Open
+        requires source { HasMore self.old → self.old.at.at.end ≡ End.Open
             → S.failures source.old < greatest_count }
-        requires sink { GoesOn self.old → W.failures sink.old < greatest_count }
+        requires sink { HasMore self.old → W.failures sink.old < greatest_count }
         ensures does { self.old.stopped ≡ false
             → Steps self.old self.new (S.remaining source.old) (S.remaining source.new)
             (W.taken sink.old) (W.taken sink.new) result }

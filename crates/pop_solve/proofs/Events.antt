@@ -1,19 +1,19 @@
 -- What a call gives.
-use Rattle.pop_solve.proofs.Words.{AreKnown, ArrayVec, BareEvent, Barred, Before, Behind, Event, Frame, Gives, IsGiven, IsLinked, IsRoomy, IsSound, IsStanding, IsWalking, IsWellFormed, Line, List, MatchOption, Node, None, Option, Phase, Play, Posed, Position, RuleSet, Set, Shown, Stage, StandsOn, Total, Walks, Within, [], append_assoc, arith, begins, cond, drop, eqb, event_of, events, events_from, false, flat_map, half_moves, is_barred, phase_count}
-use Rattle.pop_solve.proofs.Words.{beginning_count, is_help, is_set, is_some, keep, left_of, length, length-reverse, min, nat_tests, opening, option_map, path, path_event, phase_events, phase_half, phase_half_moves, phase_paths, phase_start, plan_of, play_start, position, refl, reverse, rules, shown_along, shown_last, slice_get, solutions, suc, take, total, true, zero, ℕ, ◌+◌, ◌-◌, ◌^◌, ◌||◌, ◌∷◌, ◌≡◌, ◌≤◌}
+use Rattle.pop_solve.proofs.Words.{AreKnown, ArrayVec, BareEvent, Barred, Before, Behind, Event, Frame, Gives, IsGiven, IsLinked, IsRoomy, IsSound, IsStanding, IsWalking, IsWellFormed, Line, List, MatchOption, Node, None, Option, Phase, Play, Posed, Position, RuleSet, Set, Shown, Stage, StandsOn, Total, Walks, Within, [], append_assoc, arith, begins_solution, cond, drop, eqb, event_of, events, events_from, false, flat_map, half_moves, is_barred, phase_count}
+use Rattle.pop_solve.proofs.Words.{beginning_count, is_help, is_set, is_some, kept_paths, left_of, length, length-reverse, min, nat_tests, opening, option_map, path, path_event, phase_events, phase_half, phase_half_moves, phase_paths, phase_start, plan_of, play_start, position, refl, reverse, rules, moves_shown, last_shown, slice_get, solutions, suc, take, total, true, zero, ℕ, ◌+◌, ◌-◌, ◌^◌, ◌||◌, ◌∷◌, ◌≡◌, ◌≤◌}
 use Rattle.pop_solve.proofs.Sound.{in_range}
 use Rattle.pop_solve.proofs.Paths.{path-length, path_end-path}
 
 -- the event of a line
 pub line-event : (problem : Posed) (phase : Phase) (frames : List Frame) (half : ℕ) (moves : ArrayVec Shown) → is_help problem.stipulation.form ≡ true
-    → half ≡ phase_half problem phase → (rule : RuleSet) → moves.items ≡ shown_along problem.stipulation.goal rule (phase_start problem phase) (path frames)
+    → half ≡ phase_half problem phase → (rule : RuleSet) → moves.items ≡ moves_shown problem.stipulation.goal rule (phase_start problem phase) (path frames)
     → Line half moves ≡ event_of rule problem (path_event problem phase (path frames))
 line-event problem phase frames half moves help h rule m = grind arith
 
 -- the event of a node
 pub node-event : (problem : Posed) (phase : Phase) (frames : List Frame) (half depth : ℕ) (shown : Shown) → is_help problem.stipulation.form ≡ false
     → half ≡ phase_half problem phase → depth + 2 ≡ length frames → (rule : RuleSet)
-    → shown ≡ shown_last problem.stipulation.goal rule (phase_start problem phase) (path (reverse frames))
+    → shown ≡ last_shown problem.stipulation.goal rule (phase_start problem phase) (path (reverse frames))
     → Node depth (half + depth) shown ≡ event_of rule problem (path_event problem phase (path (reverse frames)))
 node-event problem phase frames half depth shown help h e rule s = grind (arith, path-length, length-reverse)
 
@@ -35,7 +35,7 @@ module _ (rule : RuleSet) (problem : Posed) (phase : Phase) (count : ℕ) (old n
     (w : Walks rule (plan_of problem) (is_help problem.stipulation.form) (phase_half_moves problem phase) (phase_start problem phase)
     (problem.max_solutions - count) old new board true) where
   abbrev more : ℕ
-  more = cond (begins (is_help problem.stipulation.form) (path new)) 1 0
+  more = cond (begins_solution (is_help problem.stipulation.form) (path new)) 1 0
 
   left-given : (next : ℕ) → next ≡ count + more
       → left_of rule problem (Within phase count) old ≡ path_event problem phase (path new) ∷ left_of rule problem (Within phase next) new
@@ -134,7 +134,7 @@ left-barred rule problem phase frames e = search rules
 
 -- a phase begins
 pub left-begun : (rule : RuleSet) (problem : Posed) (phase : Phase) (old new : List Frame) → is_barred rule problem phase ≡ false
-    → keep (is_help problem.stipulation.form) problem.max_solutions (phase_paths rule problem phase new) ≡ flat_map (λ solution. solution)
+    → kept_paths (is_help problem.stipulation.form) problem.max_solutions (phase_paths rule problem phase new) ≡ flat_map (λ solution. solution)
     (take problem.max_solutions (solutions rule problem phase)) → beginning_count (is_help problem.stipulation.form) problem.max_solutions
     (phase_paths rule problem phase new) ≡ phase_count rule problem phase → left_of rule problem (Before phase) old ≡ opening phase ∷ left_of rule problem
     (Within phase 0) new

@@ -1,6 +1,6 @@
 -- What the clauses of a search exclude: events given after the board was taken back or given twice, totals that say the wrong thing or come too early,
 -- mates passed over, and counts of events and frames that begin or grow otherwise.
-use Rattle.pop_solve.proofs.Words.{ArrayVec, BareEvent, Barred, Before, Bool, Event, Frame, Gives, GoesTo, IsGiven, IsOpened, Line, List, Move, Node, Phase, Plan, Posed, Position, RuleSet, Shown, Total, Within, [], allows_mate, ap, arith, eqb, event_of, false, filter, filter-append, first_phase, helps, is_help, is_mating, is_walked_once, keep, left_of, length, length-append, map, min, moves_behind, path_event, phase_paths, rest_open, total, true, ℕ, ◌++◌, ◌+◌, ◌-◌, ◌^◌, ◌<◌, ◌∷◌, ◌≡◌, ◌⊎◌}
+use Rattle.pop_solve.proofs.Words.{ArrayVec, BareEvent, Barred, Before, Bool, Event, Frame, Gives, GoesTo, IsGiven, IsOpened, Line, List, Move, Node, Phase, Plan, Posed, Position, RuleSet, Shown, Total, Within, [], allows_mate, ap, arith, eqb, event_of, false, filter, filter-append, first_phase, is_help_play, is_help, is_mating, is_walked_once, kept_paths, left_of, length, length-append, map, min, moves_behind, path_event, phase_paths, rest_open, total, true, ℕ, ◌++◌, ◌+◌, ◌-◌, ◌^◌, ◌<◌, ◌∷◌, ◌≡◌, ◌⊎◌}
 
 use Rattle.pop_input.specs.declared.stipulation.Goal.TheVariants.{Stalemate}
 
@@ -29,7 +29,7 @@ module _ (rule : RuleSet) (problem : Posed) (phase : Phase) (count : ℕ) (frame
 
   -- no total is given while a path is still to come
   pub no_total_before_the_last_path : (x : List Move) (xs : List (List Move))
-      → keep (is_help problem.stipulation.form) (problem.max_solutions - count) (phase_paths rule problem phase frames) ≡ x ∷ xs
+      → kept_paths (is_help problem.stipulation.form) (problem.max_solutions - count) (phase_paths rule problem phase frames) ≡ x ∷ xs
       → Gives rule problem (left_of rule problem (Within phase count) frames) new (Total c s) board depth → ⊥
   unfolding left_of
   no_total_before_the_last_path x xs k g = grind arith
@@ -73,7 +73,7 @@ module _ (rule : RuleSet) (plan : Plan) (p : Position) (place before after : ℕ
   moves_passed_over_count_once range t = grind (arith, length-append t.over)
 
   -- with more none is passed over, nor before the last half-move of battle play, nor in play for stalemate
-  pub none_is_passed_over : (left : ℕ) → (2 < left) ⊎ (((left ≡ 2) × (helps plan.play ≡ false)) ⊎ (plan.goal ≡ Stalemate))
+  pub none_is_passed_over : (left : ℕ) → (2 < left) ⊎ (((left ≡ 2) × (is_help_play plan.play ≡ false)) ⊎ (plan.goal ≡ Stalemate))
       → GoesTo rule plan left p place rest before after → moves_behind rule p place ≡ rest
   none_is_passed_over left early t = grind arith
 

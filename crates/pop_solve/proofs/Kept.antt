@@ -1,5 +1,5 @@
 -- The first solutions of a phase, by the paths that begin them.
-use Rattle.pop_solve.proofs.Words.{Battle, BattlePlay, Bool, Frame, Game, HelpPlay, IsWalking, List, Plan, PlayOfSides, Position, RuleSet, Steps, Walks, [], ap, append-nil, arith, beginning_count, begins, chess, cond, eqb, false, gives, helps, keep, length, map, moves_behind, nat_tests, path, position, refl, rules, shown_paths, suc, to_come, true, zero, ℕ, ◌&&◌, ◌++◌, ◌+◌, ◌-◌, ◌<◌, ◌||◌, ◌∙◌, ◌∷◌, ◌≡◌}
+use Rattle.pop_solve.proofs.Words.{Battle, BattlePlay, Bool, Frame, Game, HelpPlay, IsWalking, List, Plan, PlayOfSides, Position, RuleSet, Steps, Walks, [], ap, append-nil, arith, beginning_count, begins_solution, chess, cond, eqb, false, is_given, is_help_play, kept_paths, length, map, moves_behind, nat_tests, path, position, refl, rules, shown_paths, suc, to_come, true, zero, ℕ, ◌&&◌, ◌++◌, ◌+◌, ◌-◌, ◌<◌, ◌||◌, ◌∙◌, ◌∷◌, ◌≡◌}
 use Rattle.pop_solve.proofs.Paths.{path-length}
 
 -- where no path is to come no solution begins
@@ -9,25 +9,25 @@ beginning_count-nil M help n = search rules
 
 module _ {M : Type 0} where
   -- nor is one kept
-  pub keep-nil : (help : Bool) (n : ℕ) → keep {M = M} help n [] ≡ []
-  unfolding keep
+  pub keep-nil : (help : Bool) (n : ℕ) → kept_paths {M = M} help n [] ≡ []
+  unfolding kept_paths
   keep-nil help n = search rules
 
   -- the next path is kept, and of the others those of the solutions that may still begin
-  pub keep-next : (help : Bool) (n : ℕ) (x : List M) (xs : List (List M)) (b : Bool) → begins help x ≡ b → (b ≡ true → 0 < n)
-      → keep help n (x ∷ xs) ≡ x ∷ keep help (n - cond b 1 0) xs
-  unfolding keep
+  pub keep-next : (help : Bool) (n : ℕ) (x : List M) (xs : List (List M)) (b : Bool) → begins_solution help x ≡ b → (b ≡ true → 0 < n)
+      → kept_paths help n (x ∷ xs) ≡ x ∷ kept_paths help (n - cond b 1 0) xs
+  unfolding kept_paths
   keep-next help n x xs b e some = search rules
 
   -- the solutions that begin with it and behind it
-  pub beginning_count-next : (help : Bool) (n : ℕ) (x : List M) (xs : List (List M)) (b : Bool) → begins help x ≡ b → (b ≡ true → 0 < n)
+  pub beginning_count-next : (help : Bool) (n : ℕ) (x : List M) (xs : List (List M)) (b : Bool) → begins_solution help x ≡ b → (b ≡ true → 0 < n)
       → beginning_count help n (x ∷ xs) ≡ cond b 1 0 + beginning_count help (n - cond b 1 0) xs
   unfolding beginning_count
   beginning_count-next help n x xs b e some = search rules
 
   -- where every path begins a solution, none is kept with none to begin
-  keep-help : (xs : List (List M)) → keep true 0 xs ≡ []
-  unfolding keep
+  keep-help : (xs : List (List M)) → kept_paths true 0 xs ≡ []
+  unfolding kept_paths
   keep-help [] = refl
   keep-help (x ∷ xs) = refl
 
@@ -46,12 +46,12 @@ module _ {M : Type 0} where
 
 -- the first path by the moves of a root in battle play begins a solution
 module _ {P M : Type 0} (plan : Plan) (game : Game P M) (battle : Battle) (fought : plan.play ≡ BattlePlay battle) where
-  gives-battle : (t : ℕ) (q : P) → gives plan.play game t q ≡ true
-  unfolding gives
+  gives-battle : (t : ℕ) (q : P) → is_given plan.play game t q ≡ true
+  unfolding is_given
   gives-battle t q = rw fought refl
 
-  keep-shown_paths : (root : Bool) (k left : ℕ) (p : P) (ms : List M) → keep false 0 (shown_paths plan game root k left p ms) ≡ []
-  unfolding shown_paths keep
+  keep-shown_paths : (root : Bool) (k left : ℕ) (p : P) (ms : List M) → kept_paths false 0 (shown_paths plan game root k left p ms) ≡ []
+  unfolding shown_paths kept_paths
   keep-shown_paths root zero left p ms = search (rules, keep-nil)
   keep-shown_paths root (suc k) zero p ms = search (rules, keep-nil)
   keep-shown_paths root (suc k) (suc t) p [] = search (rules, keep-nil)
@@ -80,8 +80,8 @@ module _ (rule : RuleSet) (plan : Plan) (h : ℕ) (p : Position) where
   to_come-root f = root-same _
 
   -- with none to begin, and none on the way
-  full : (play : PlayOfSides) → plan.play ≡ play → (frames : List Frame) → (helps play || eqb (length frames) 1) ≡ true
-      → (keep (helps play) 0 (to_come rule plan h p frames) ≡ []) × (beginning_count (helps play) 0 (to_come rule plan h p frames) ≡ 0)
+  full : (play : PlayOfSides) → plan.play ≡ play → (frames : List Frame) → (is_help_play play || eqb (length frames) 1) ≡ true
+      → (kept_paths (is_help_play play) 0 (to_come rule plan h p frames) ≡ []) × (beginning_count (is_help_play play) 0 (to_come rule plan h p frames) ≡ 0)
   full HelpPlay same frames e = (keep-help _, beginning_count-help _)
   full (BattlePlay battle) same frames e =
       let game = chess plan.goal rule in
@@ -97,16 +97,16 @@ module _ (rule : RuleSet) (plan : Plan) (h : ℕ) (p : Position) where
   module _ (old mid : List Frame) (same : to_come rule plan h p old ≡ to_come rule plan h p mid) where
     -- the walk ends once no frame is left
     pub walks_none : (limit : ℕ) (board : Position) → IsWalking rule h p mid board → length mid ≡ 0
-        → Walks rule plan (helps plan.play) h p limit old mid board false
+        → Walks rule plan (is_help_play plan.play) h p limit old mid board false
     walks_none limit board r e = search (rules, none, keep-nil, no_frame, beginning_count-nil)
 
     both_true : (a b : Bool) → (a && b) ≡ true → (a ≡ true) × (b ≡ true)
     both_true a b e = search rules
 
     -- it ends where the limit is reached and no solution is on the way
-    pub walks_full : (limit : ℕ) (board : Position) → IsWalking rule h p mid board → (eqb limit 0 && (helps plan.play || eqb (length mid) 1)) ≡ true
-        → Walks rule plan (helps plan.play) h p limit old mid board false
-    walks_full limit board r e = let x = both_true (eqb limit 0) (helps plan.play || eqb (length mid) 1) e in grind
+    pub walks_full : (limit : ℕ) (board : Position) → IsWalking rule h p mid board → (eqb limit 0 && (is_help_play plan.play || eqb (length mid) 1)) ≡ true
+        → Walks rule plan (is_help_play plan.play) h p limit old mid board false
+    walks_full limit board r e = let x = both_true (eqb limit 0) (is_help_play plan.play || eqb (length mid) 1) e in grind
         (arith, nat_tests, full plan.play refl mid x.1, none)
 
     room : (n : ℕ) (b : Bool) → (eqb n 0 && b) ≡ false → b ≡ true → 0 < n
@@ -114,6 +114,6 @@ module _ (rule : RuleSet) (plan : Plan) (h : ℕ) (p : Position) where
 
     -- a step that gives a path ends it too
     pub walks_given : (limit : ℕ) (new : List Frame) (board : Position) (before after : ℕ) (given : Bool) → Steps rule plan h p mid new board before after given
-        → given ≡ true → 0 < length mid → (eqb limit 0 && (helps plan.play || eqb (length mid) 1)) ≡ false
-        → Walks rule plan (helps plan.play) h p limit old new board true
+        → given ≡ true → 0 < length mid → (eqb limit 0 && (is_help_play plan.play || eqb (length mid) 1)) ≡ false
+        → Walks rule plan (is_help_play plan.play) h p limit old new board true
     walks_given limit new board before after given made is some e = grind (arith, path-length, room, keep-next, beginning_count-next, none)

@@ -1,5 +1,5 @@
 -- The least length by half-moves is the least number of moves.
-use Rattle.pop_solve.proofs.Words.{Bool, Game, Selfmate, arith, cond, false, first_from, least_moves, position_or_len, range_with_len, refl, rules, self_wins, suc, wins, zero, ℕ, ◌*◌, ◌+◌, ◌≡◌}
+use Rattle.pop_solve.proofs.Words.{Bool, Game, Selfmate, arith, cond, false, least_length_from, least_moves, position_or_len, range_with_len, refl, rules, self_wins, suc, wins, zero, ℕ, ◌*◌, ◌+◌, ◌≡◌}
 use Rattle.pop_solve.specs.declared.aim.Battle.TheVariants.{Direct}
 use Rattle.pop_solve.proofs.Battles.{value-wins, value-self_wins}
 
@@ -19,8 +19,8 @@ first_number-shift test zero k = search rules
 first_number-shift test (suc n) k = search (rules, first_number-shift test n (suc k))
 
 module _ {P M : Type 0} (game : Game P M) (q : P) where
-  by_twos : (n k : ℕ) → first_from Direct game q n (suc (2 * k)) ≡ suc (2 * (first_number (λ i. wins game (suc i) q) n k))
-  unfolding first_from first_number
+  by_twos : (n k : ℕ) → least_length_from Direct game q n (suc (2 * k)) ≡ suc (2 * (first_number (λ i. wins game (suc i) q) n k))
+  unfolding least_length_from first_number
   by_twos zero k = search rules
   by_twos (suc n) k = search (rules, value-wins, by_twos n (k + 1))
 
@@ -29,13 +29,13 @@ module _ {P M : Type 0} (game : Game P M) (q : P) where
   zero_loses n = refl
 
   -- the half-moves of the first test that holds are those of the least number of moves
-  pub least_moves-direct : (n : ℕ) → first_from Direct game q n 1 + 1 ≡ 2 * least_moves Direct game (suc n) q
+  pub least_moves-direct : (n : ℕ) → least_length_from Direct game q n 1 + 1 ≡ 2 * least_moves Direct game (suc n) q
   least_moves-direct n = search (rules, first_number, by_twos n 0, first_number-shift, first_number-is, zero_loses n)
 
   -- the same in selfmates, where the goal isn't reached
   module _ (open_yet : game.goal q ≡ false) where
-    by_twos_self : (n k : ℕ) → first_from Selfmate game q n (2 * k) ≡ 2 * (first_number (λ i. self_wins game i q) n k)
-    unfolding first_from first_number
+    by_twos_self : (n k : ℕ) → least_length_from Selfmate game q n (2 * k) ≡ 2 * (first_number (λ i. self_wins game i q) n k)
+    unfolding least_length_from first_number
     by_twos_self zero k = search rules
     by_twos_self (suc n) k = grind (arith, by_twos_self n (k + 1), value-self_wins)
 
@@ -44,5 +44,5 @@ module _ {P M : Type 0} (game : Game P M) (q : P) where
     zero_loses_self n = refl
 
     -- the same of a selfmate
-    pub least_moves-selfmate : (n : ℕ) → first_from Selfmate game q n 2 ≡ 2 * least_moves Selfmate game (suc n) q
+    pub least_moves-selfmate : (n : ℕ) → least_length_from Selfmate game q n 2 ≡ 2 * least_moves Selfmate game (suc n) q
     least_moves-selfmate n = search (rules, first_number, by_twos_self n 1, first_number-is, zero_loses_self n)

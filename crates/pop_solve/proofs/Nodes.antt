@@ -1,5 +1,5 @@
 -- The paths of trees.
-use Rattle.pop_solve.proofs.Words.{AllPairs, AllPairs-filter, Battle, Bool, Contains, Game, List, [], answers, ap, arith, best_moves, cond, false, false≢true, filter, first_in, flat_map, from_filter, from_flat_map, from_map, in_cases, in_filter, in_flat_map, in_map, inl, inr, keeps, later_in, least_moves, list_any, map, node, nodes_below, none_in_nil, or_cases, or_left, or_right, pairs_flat_map, pairs_map, pairs_nil, pairs_of, refl, rules, set_shows, set_tree, subst, suc, sym, take, take-map, tree, true, zero, ℕ, ◌++◌, ◌-◌, ◌↔◌, ◌∙◌, ◌∷◌, ◌≡◌, ◌≢◌, ◌⊎◌}
+use Rattle.pop_solve.proofs.Words.{AllPairs, AllPairs-filter, Battle, Bool, Contains, Game, List, [], continuations, ap, arith, best_moves, cond, false, false≢true, filter, first_in, flat_map, from_filter, from_flat_map, from_map, in_cases, in_filter, in_flat_map, in_map, inl, inr, keeps_win, later_in, least_moves, list_any, map, node, nodes_below, none_in_nil, or_cases, or_left, or_right, pairs_flat_map, pairs_map, pairs_nil, pairs_of, refl, rules, is_in_set_play, set_tree, subst, suc, sym, take, take-map, tree, true, zero, ℕ, ◌++◌, ◌-◌, ◌↔◌, ◌∙◌, ◌∷◌, ◌≡◌, ◌≢◌, ◌⊎◌}
 use Rattle.pop_solve.proofs.theorems.Lists.{HasBeginnings, StandsBefore}
 
 -- some element passes a test
@@ -149,57 +149,57 @@ module _ {M : Type 0} where
 module _ {P M : Type 0} (battle : Battle) (game : Game P M) (n : ℕ) where
   -- no half-move left: nothing stands below Black's position
   pub below_zero : (q : P) → nodes_below battle game n zero q ≡ []
-  unfolding nodes_below answers
+  unfolding nodes_below continuations
   below_zero q = refl
 
   -- nor below White's
-  pub answers_zero : (r : P) → answers battle game n zero r ≡ []
-  unfolding nodes_below answers
+  pub answers_zero : (r : P) → continuations battle game n zero r ≡ []
+  unfolding nodes_below continuations
   answers_zero r = refl
 
   -- Black's defences, each over White's answers
   pub below_more : (h : ℕ) (q : P)
-      → nodes_below battle game n (suc h) q ≡ cond (game.goal q) [] (flat_map (λ d. node d (answers battle game n h (game.after q d))) (game.moves q))
-  unfolding nodes_below answers
+      → nodes_below battle game n (suc h) q ≡ cond (game.goal q) [] (flat_map (λ d. node d (continuations battle game n h (game.after q d))) (game.moves q))
+  unfolding nodes_below continuations
   below_more h q = refl
 
   -- White's best moves, each over Black's defences
   pub answers_more : (h : ℕ) (r : P)
-      → answers battle game n (suc h) r ≡ cond (game.goal r) [] (flat_map (λ m. node m (nodes_below battle game n h (game.after r m)))
+      → continuations battle game n (suc h) r ≡ cond (game.goal r) [] (flat_map (λ m. node m (nodes_below battle game n h (game.after r m)))
       (best_moves battle game n r))
-  unfolding nodes_below answers
+  unfolding nodes_below continuations
   answers_more h r = refl
 
-  trees_not_empty : (h : ℕ) → ((q : P) → HasNoEmpty (nodes_below battle game n h q)) × ((r : P) → HasNoEmpty (answers battle game n h r))
+  trees_not_empty : (h : ℕ) → ((q : P) → HasNoEmpty (nodes_below battle game n h q)) × ((r : P) → HasNoEmpty (continuations battle game n h r))
   trees_not_empty zero = (λ q. rw (below_zero q) nil_not_empty, λ r. rw (answers_zero r) nil_not_empty)
   trees_not_empty (suc h) = (
-    λ q. rw (below_more h q) (unless_not_empty (game.goal q) _ (nodes_not_empty (λ d. answers battle game n h (game.after q d)) (game.moves q))),
+    λ q. rw (below_more h q) (unless_not_empty (game.goal q) _ (nodes_not_empty (λ d. continuations battle game n h (game.after q d)) (game.moves q))),
     λ r. rw (answers_more h r) (unless_not_empty (game.goal r) _ (nodes_not_empty (λ m. nodes_below battle game n h (game.after r m))
         (best_moves battle game n r))),
   )
 
-  trees_have_beginnings : (h : ℕ) → ((q : P) → HasBeginnings (nodes_below battle game n h q)) × ((r : P) → HasBeginnings (answers battle game n h r))
+  trees_have_beginnings : (h : ℕ) → ((q : P) → HasBeginnings (nodes_below battle game n h q)) × ((r : P) → HasBeginnings (continuations battle game n h r))
   trees_have_beginnings zero = (λ q. rw (below_zero q) nil_has_beginnings, λ r. rw (answers_zero r) nil_has_beginnings)
   trees_have_beginnings (suc h) =
       let both = trees_have_beginnings h in (
         λ q. rw (below_more h q) (unless_has_beginnings (game.goal q) _
-            (nodes_have_beginnings (λ d. answers battle game n h (game.after q d)) (λ d. both.1 (game.after q d)) (game.moves q))),
+            (nodes_have_beginnings (λ d. continuations battle game n h (game.after q d)) (λ d. both.1 (game.after q d)) (game.moves q))),
         λ r. rw (answers_more h r) (unless_has_beginnings (game.goal r) _
             (nodes_have_beginnings (λ m. nodes_below battle game n h (game.after r m)) (λ m. both.0 (game.after r m)) (best_moves battle game n r))),
       )
 
   module _ (before : M → M → Type 0) (order : (p : P) → AllPairs before (game.moves p)) where
     best_stand : (r : P) → AllPairs before (best_moves battle game n r)
-    best_stand r = AllPairs-filter before (λ m. keeps battle game (least_moves battle game n r) (game.after r m)) (game.moves r) (order r)
+    best_stand r = AllPairs-filter before (λ m. keeps_win battle game (least_moves battle game n r) (game.after r m)) (game.moves r) (order r)
 
     trees_stand : (h : ℕ) → ((q : P) → AllPairs (StandsBefore before) (nodes_below battle game n h q))
-        × ((r : P) → AllPairs (StandsBefore before) (answers battle game n h r))
+        × ((r : P) → AllPairs (StandsBefore before) (continuations battle game n h r))
     trees_stand zero = (λ q. rw (below_zero q) (pairs_nil (StandsBefore before)), λ r. rw (answers_zero r) (pairs_nil (StandsBefore before)))
     trees_stand (suc h) =
         let both = trees_stand h in
         let full = trees_not_empty h in (
           λ q. rw (below_more h q) (unless_stands (StandsBefore before) (game.goal q) _
-              (nodes_stand (λ d. answers battle game n h (game.after q d)) before (game.moves q) (order q)
+              (nodes_stand (λ d. continuations battle game n h (game.after q d)) before (game.moves q) (order q)
               (λ d. both.1 (game.after q d)) (λ d. full.1 (game.after q d)))),
           λ r. rw (answers_more h r) (unless_stands (StandsBefore before) (game.goal r) _
               (nodes_stand (λ m. nodes_below battle game n h (game.after r m)) before (best_moves battle game n r) (best_stand r)
@@ -208,11 +208,11 @@ module _ {P M : Type 0} (battle : Battle) (game : Game P M) (n : ℕ) where
 
   -- the keys, and the moves that set play shows
   abbrev pub kept : P → List M
-  kept p = filter (λ m. keeps battle game n (game.after p m)) (game.moves p)
+  kept p = filter (λ m. keeps_win battle game n (game.after p m)) (game.moves p)
 
   -- the first moves that set play shows
   abbrev pub set_moves : P → List M
-  set_moves p = filter (λ d. set_shows battle game n (game.after p d)) (game.moves p)
+  set_moves p = filter (λ d. is_in_set_play battle game n (game.after p d)) (game.moves p)
 
   -- the answers of set play without variations
   abbrev single_answers : P → List (List M)
@@ -226,7 +226,7 @@ module _ {P M : Type 0} (battle : Battle) (game : Game P M) (n : ℕ) where
 
     -- what stands below a first move of set play
     unfoldable pub below_set : ℕ → P → M → List (List M)
-    below_set h p d = cond variation (answers battle game n h (game.after p d)) (single_answers (game.after p d))
+    below_set h p d = cond variation (continuations battle game n h (game.after p d)) (single_answers (game.after p d))
 
     -- no path below a key is empty
     pub below_key_not_empty : (h : ℕ) (p : P) (m : M) → HasNoEmpty (below_key h p m)
@@ -240,7 +240,7 @@ module _ {P M : Type 0} (battle : Battle) (game : Game P M) (n : ℕ) where
     unfolding below_set
     below_set_not_empty h p d =
         let r = game.after p d in
-        either_way (HasNoEmpty {M = M}) variation (answers battle game n h r) (single_answers r) ((trees_not_empty h).1 r)
+        either_way (HasNoEmpty {M = M}) variation (continuations battle game n h r) (single_answers r) ((trees_not_empty h).1 r)
         (unless_not_empty (game.goal r) (map (λ m. m ∷ []) (best_moves battle game n r)) (singles_not_empty (best_moves battle game n r)))
 
     -- the paths below a key have their beginnings
@@ -256,7 +256,7 @@ module _ {P M : Type 0} (battle : Battle) (game : Game P M) (n : ℕ) where
     unfolding below_set
     below_set_has_beginnings h p d =
         let r = game.after p d in
-        either_way (HasBeginnings {M = M}) variation (answers battle game n h r) (single_answers r) ((trees_have_beginnings h).1 r)
+        either_way (HasBeginnings {M = M}) variation (continuations battle game n h r) (single_answers r) ((trees_have_beginnings h).1 r)
         (unless_has_beginnings (game.goal r) (map (λ m. m ∷ []) (best_moves battle game n r)) (singles_have_beginnings (best_moves battle game n r)))
 
     module _ (before : M → M → Type 0) (order : (p : P) → AllPairs before (game.moves p)) where
@@ -271,7 +271,7 @@ module _ {P M : Type 0} (battle : Battle) (game : Game P M) (n : ℕ) where
       unfolding below_set
       below_set_stands h p d =
           let r = game.after p d in
-          either_way (AllPairs (StandsBefore before)) variation (answers battle game n h r) (single_answers r) ((trees_stand before order h).1 r)
+          either_way (AllPairs (StandsBefore before)) variation (continuations battle game n h r) (single_answers r) ((trees_stand before order h).1 r)
           (search (rules, unless_stands, singles_stand, best_stand))
 
     -- all paths of a play and of set play

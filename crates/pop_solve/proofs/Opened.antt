@@ -1,6 +1,6 @@
 -- How many frames a search opens.
-use Rattle.pop_solve.proofs.Words.{BareEvent, Barred, Battle, BattlePlay, Before, Behind, Bool, Form, Frame, IsCounted, IsGiven, IsKeys, IsNarrow, IsOpened, IsSound, IsWhites, List, Opens, OpensOn, Phase, Plan, Play, Posed, Position, RuleSet, Set, Stage, Tries, Within, [], ap, arith, cond, drop, eqb, false, fewest_from, fewest_left, first_phase, half_moves_of, inl, inr, HelpPlay}
-use Rattle.pop_solve.proofs.Words.{is_barred, is_set, is_stop, is_unstopped, left_of, min, not, phase_events, phase_fewest, phase_half_moves, phase_start, phase_walk, plan_of, play_of, position, refl, rest_fewest, rest_open, rules, seeks, shows_variations, suc, to_open, total, tree_shown, true, varies, walk_from, zero, ℕ, ◌&&◌, ◌++◌, ◌+◌, ◌-◌, ◌<◌, ◌^◌, ◌∷◌, ◌≡◌, ◌≤◌, ◌⊎◌}
+use Rattle.pop_solve.proofs.Words.{BareEvent, Barred, Battle, BattlePlay, Before, Behind, Bool, Form, Frame, IsCounted, IsGiven, IsKeys, IsNarrow, IsOpened, IsSound, are_whites, List, Opens, OpensOn, Phase, Plan, Play, Posed, Position, RuleSet, Set, Stage, Tries, Within, [], ap, arith, cond, drop, eqb, false, fewest_from, fewest_left, first_phase, half_moves_of, inl, inr, HelpPlay}
+use Rattle.pop_solve.proofs.Words.{is_barred, is_set, is_stop, is_unstopped, left_of, min, not, phase_events, phase_fewest, phase_half_moves, phase_start, phase_walk, plan_of, play_of, position, refl, rest_fewest, rest_open, rules, seeks, has_variations, suc, to_open, total, tree_with, true, walk_from, zero, ℕ, ◌&&◌, ◌++◌, ◌+◌, ◌-◌, ◌<◌, ◌^◌, ◌∷◌, ◌≡◌, ◌≤◌, ◌⊎◌}
 use Rattle.pop_solve.proofs.Boards.{behind_start}
 use Rattle.pop_solve.proofs.Sound.{battle-play, help-play, some_way}
 use Rattle.pop_solve.proofs.ToCome.{one, walk_count-start}
@@ -37,8 +37,8 @@ white-starts : (form : Form) (n : ℕ) (battle : Battle) → play_of form ≡ Ba
     → seeks battle (half_moves_of form n) ≡ true
 white-starts form n battle e some = search rules
 
-whites-root : (battle : Battle) (f : Frame) → seeks battle f.left ≡ true → IsWhites battle (f ∷ []) ≡ true
-unfolding IsWhites
+whites-root : (battle : Battle) (f : Frame) → seeks battle f.left ≡ true → are_whites battle (f ∷ []) ≡ true
+unfolding are_whites
 whites-root battle f e = search rules
 
 module _ (rule : RuleSet) (problem : Posed) where
@@ -78,7 +78,7 @@ module _ (rule : RuleSet) (problem : Posed) where
     from-fewest = search (rules, root-fewest)
 
     narrow-begun : (play_of problem.stipulation.form ≡ HelpPlay) ⊎ IsKeys problem phase
-        → (play_of problem.stipulation.form ≡ HelpPlay) ⊎ ((keys : IsKeys problem phase) × (IsWhites keys.battle (f ∷ []) ≡ true))
+        → (play_of problem.stipulation.form ≡ HelpPlay) ⊎ ((keys : IsKeys problem phase) × (are_whites keys.battle (f ∷ []) ≡ true))
     narrow-begun (inl help) = inl help
     narrow-begun (inr keys) = inr (keys, search (rules, whites-root, white-starts, some_way))
 
@@ -98,10 +98,10 @@ module _ (rule : RuleSet) (problem : Posed) where
     walked-counted h walk c = search (rules, counted-along, counted-apart)
 
     abbrev Narrow : List Frame → Type 0
-    Narrow frames = (play_of problem.stipulation.form ≡ HelpPlay) ⊎ ((keys : IsKeys problem phase) × (IsWhites keys.battle frames ≡ true))
+    Narrow frames = (play_of problem.stipulation.form ≡ HelpPlay) ⊎ ((keys : IsKeys problem phase) × (are_whites keys.battle frames ≡ true))
 
-    keys_alone : IsKeys problem phase → varies (plan_of problem) ≡ false
-    keys_alone keys = ap (λ variation. shows_variations (tree_shown variation)) keys.keys
+    keys_alone : IsKeys problem phase → has_variations (plan_of problem).tree ≡ false
+    keys_alone keys = ap (λ variation. has_variations (tree_with variation)) keys.keys
 
     narrowed : Narrow old → Narrow new
     narrowed (inl help) = inl help
@@ -156,7 +156,7 @@ module _ (rule : RuleSet) (problem : Posed) where
         fewest-is Set = refl
         fewest-is Play = refl
 
-        behind : (b : Phase) → (play_of problem.stipulation.form ≡ HelpPlay) ⊎ ((keys : IsKeys problem b) × (IsWhites keys.battle old ≡ true))
+        behind : (b : Phase) → (play_of problem.stipulation.form ≡ HelpPlay) ⊎ ((keys : IsKeys problem b) × (are_whites keys.battle old ≡ true))
             → IsNarrow problem (cond (is_set b) (Before Play) Behind) last
         behind Set (inl h) = inl h
         behind Set (inr k) = let f : true ≡ false = k.0.play in absurd cc

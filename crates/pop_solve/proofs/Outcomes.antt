@@ -1,8 +1,8 @@
 -- The outcomes of a step, for frames listed from the top down.
-use Rattle.pop_solve.proofs.Words.{AreKnown, Battle, Bool, CameFrom, CameFromAt, Counts, Frame, GoesTo, HelpPlay, IfSome, IsCounted, IsLinked, IsPlaceIn, IsRoomy, IsWalking, IsWhites, LegalPlace, List, Move, Option, Plan, Position, RuleSet, Steps, Undo, [], after_well_formed, ap, arith, chess, eqb, false, fewest_left, follows, gives, half_moves_on, inl, inr, is_legal, is_pseudo_legal-from_legal, length, min, moves_behind, opened_frame, path, position, refl, rules, seeks, suc, to_come, to_open, true, turns, undo_of, varies, walk_behind, ℕ, ◌+◌, ◌-◌, ◌<◌, ◌^◌, ◌∷◌, ◌≡◌, ◌≤◌, ◌⊎◌}
+use Rattle.pop_solve.proofs.Words.{AreKnown, Battle, Bool, CameFrom, CameFromAt, Counts, Frame, GoesTo, HelpPlay, IfSome, IsCounted, IsLinked, IsPlaceIn, IsRoomy, IsWalking, are_whites, LegalPlace, List, Move, Option, Plan, Position, RuleSet, Steps, Undo, [], after_well_formed, ap, arith, chess, eqb, false, fewest_left, is_followed, is_given, walk_length, inl, inr, is_legal, is_pseudo_legal-from_legal, length, min, moves_behind, opened_frame, path, position, refl, rules, seeks, suc, to_come, to_open, true, walk_work, undo_of, has_variations, walk_behind, ℕ, ◌+◌, ◌-◌, ◌<◌, ◌^◌, ◌∷◌, ◌≡◌, ◌≤◌, ◌⊎◌}
 use Rattle.chess_rules.specs.Play.{position_after}
 use Rattle.pop_solve.proofs.Tests.{learned, moved}
-use Rattle.pop_solve.proofs.GoingOn.{no_zero, half_moves_on-help, follows-help, half_moves_on-keys, half_moves_on-most, ended-reached}
+use Rattle.pop_solve.proofs.GoingOn.{no_zero, walk_length-help, follows-help, walk_length-keys, walk_length-most, ended-reached}
 use Rattle.pop_solve.proofs.ToCome.{one, walk_count-start, walk_behind-none, come-pass, come-enter, tries-pass, tries-enter, turns-pass, turns-enter, open-next, open-enter, come-close, tries-close, turns-close, open-close, steps-skip}
 
 module _ (rule : RuleSet) (plan : Plan) where
@@ -62,22 +62,22 @@ module _ (rule : RuleSet) (h : ℕ) (p : Position) where
       grind (arith, after_well_formed rule board m r.sound (is_pseudo_legal-from_legal rule board m lawful), is_pseudo_legal-from_legal rule board m lawful)
 
 -- where keys alone are shown
-whites-cut : (battle : Battle) (f : Frame) (below : List Frame) → IsWhites battle (f ∷ below) ≡ true → IsWhites battle below ≡ true
-unfolding IsWhites
+whites-cut : (battle : Battle) (f : Frame) (below : List Frame) → are_whites battle (f ∷ below) ≡ true → are_whites battle below ≡ true
+unfolding are_whites
 whites-cut battle f below e = search rules
 
-whites-top : (battle : Battle) (f : Frame) (below : List Frame) (t : ℕ) → f.left ≡ suc t → IsWhites battle (f ∷ below) ≡ true → seeks battle (t + 1) ≡ true
-unfolding IsWhites
+whites-top : (battle : Battle) (f : Frame) (below : List Frame) (t : ℕ) → f.left ≡ suc t → are_whites battle (f ∷ below) ≡ true → seeks battle (t + 1) ≡ true
+unfolding are_whites
 whites-top battle f below t left e = search (rules, no_zero)
 
-whites-moved : (battle : Battle) (f : Frame) (place : ℕ) (below : List Frame) → IsWhites battle (f ∷ below) ≡ true
-    → IsWhites battle (moved f place ∷ below) ≡ true
-unfolding IsWhites
+whites-moved : (battle : Battle) (f : Frame) (place : ℕ) (below : List Frame) → are_whites battle (f ∷ below) ≡ true
+    → are_whites battle (moved f place ∷ below) ≡ true
+unfolding are_whites
 whites-moved battle f place below e = e
 
-whites-none : (battle : Battle) (m : Move) (undo : Undo) (tried : ℕ) (below : List Frame) → tried ≡ 0 → IsWhites battle below ≡ true
-    → IsWhites battle (opened_frame m undo tried ∷ below) ≡ true
-unfolding IsWhites
+whites-none : (battle : Battle) (m : Move) (undo : Undo) (tried : ℕ) (below : List Frame) → tried ≡ 0 → are_whites battle below ≡ true
+    → are_whites battle (opened_frame m undo tried ∷ below) ≡ true
+unfolding are_whites
 whites-none battle m undo tried below z e = rw z e
 
 -- the count stays exact where one frame is opened
@@ -119,7 +119,7 @@ module _ (rule : RuleSet) (plan : Plan) (h : ℕ) (p : Position) (f : Frame) (be
     fuel = omega (arith, top_room rule h p f below board r, left)
 
     -- its next move is passed over
-    pub steps-pass : (after : Position) (opened opened2 : ℕ) → follows plan.play (chess plan.goal rule) (eqb (length below) 0) t (position_after rule board m)
+    pub steps-pass : (after : Position) (opened opened2 : ℕ) → is_followed plan.play (chess plan.goal rule) (eqb (length below) 0) t (position_after rule board m)
         ≡ false
         → after ≡ board → Counts rule plan (eqb (length below) 0) t (position_after rule board m) opened opened2
         → Steps rule plan h p (f ∷ below) (moved f next ∷ below) after opened opened2 false
@@ -137,29 +137,29 @@ module _ (rule : RuleSet) (plan : Plan) (h : ℕ) (p : Position) (f : Frame) (be
 
     -- its next move is followed
     pub steps-enter : (after : Position) (opened opened2 : ℕ) → is_legal rule board m ≡ true
-        → follows plan.play (chess plan.goal rule) (eqb (length below) 0) t (position_after rule board m) ≡ true → after ≡ position_after rule board m
+        → is_followed plan.play (chess plan.goal rule) (eqb (length below) 0) t (position_after rule board m) ≡ true → after ≡ position_after rule board m
         → Counts rule plan (eqb (length below) 0) t (position_after rule board m) opened opened2
         → Steps rule plan h p (f ∷ below) (opened_frame m (undo_of rule board m)
-        (half_moves_on plan.play (varies plan) (chess plan.goal rule) t (position_after rule board m)) ∷ (moved f next ∷
-        below)) after opened opened2 (gives plan.play (chess plan.goal rule) t (position_after rule board m))
+        (walk_length plan.play (has_variations plan.tree) (chess plan.goal rule) t (position_after rule board m)) ∷ (moved f next ∷
+        below)) after opened opened2 (is_given plan.play (chess plan.goal rule) t (position_after rule board m))
     steps-enter after opened opened2 lawful b at x =
         let o = open-next rule plan h p f next m below _ t fuel left here in
         let u = undo_of rule board m in
         let q = position_after rule (position rule p (f ∷ below)) m in
-        let tried = half_moves_on plan.play (varies plan) (chess plan.goal rule) t (position_after rule board m) in
+        let tried = walk_length plan.play (has_variations plan.tree) (chess plan.goal rule) t (position_after rule board m) in
         let n = open-enter rule plan h p f next m below _ t fuel left here u tried in
         let helped : plan.play ≡ HelpPlay
         → to_open rule p (f ∷ below) ≡ one rule plan t + to_open rule p (opened_frame m u tried ∷ (moved f next ∷ below)) = λ a.
-        let w : walk_behind rule tried q 0 ≡ walk_behind rule t q 0 = ap (λ x. walk_behind rule x q 0) (half_moves_on-help plan (chess plan.goal rule) t _ a) in
+        let w : walk_behind rule tried q 0 ≡ walk_behind rule t q 0 = ap (λ x. walk_behind rule x q 0) (walk_length-help plan (chess plan.goal rule) t _ a) in
         omega (arith, o, n, w, walk_count-start rule plan t q) in
         record {
           walking = walking-enter rule h p plan f next m tried below board after r
-              (omega (arith, left, half_moves_on-most (chess plan.goal rule) plan.play (varies plan) t (position_after rule board m))) lawful at;
+              (omega (arith, left, walk_length-most (chess plan.goal rule) plan.play (has_variations plan.tree) t (position_after rule board m))) lawful at;
           come = rw after_here (come-enter rule plan h p f next m below _ t fuel left here u (rw (← after_here) b));
           deep = λ g. omega arith;
-          ended = λ g e. rw at (ended-reached (chess plan.goal rule) plan.play (varies plan) (eqb (length below) 0) t (position_after rule board m) b e);
+          ended = λ g e. rw at (ended-reached (chess plan.goal rule) plan.play (has_variations plan.tree) (eqb (length below) 0) t (position_after rule board m) b e);
           falls = turns-enter rule plan h p f next m below _ t fuel left here u tried;
-          opens = grind (arith, whites-none, half_moves_on-keys, whites-top, whites-moved, walk_behind-none, after_here, counted_by);
+          opens = grind (arith, whites-none, walk_length-keys, whites-top, whites-moved, walk_behind-none, after_here, counted_by);
           tries = record {
             grows = omega (arith, x.tries);
             fewest = λ battle fought. rw after_here
@@ -182,5 +182,5 @@ skips-close rule plan h p f below board r after before count (inr g) lowest back
 pub steps-learned : (rule : RuleSet) (plan : Plan) (h : ℕ) (p : Position) (f : Frame) (known : Option LegalPlace) (below new : List Frame)
     (after : Position) (opened opened2 : ℕ) (given : Bool) → Steps rule plan h p (learned f known ∷ below) new after opened opened2 given
     → Steps rule plan h p (f ∷ below) new after opened opened2 given
-unfolding to_come path position turns to_open fewest_left IsWhites
+unfolding to_come path position walk_work to_open fewest_left are_whites
 steps-learned rule plan h p f known below new after opened opened2 given s = search rules

@@ -1,5 +1,5 @@
 -- The path to the top frame, and what is shown of it.
-use Rattle.pop_solve.proofs.Words.{CameFrom, CameFromAt, Frame, Goal, IsEnded, IsLinked, IsWalking, List, Move, Plan, Position, RuleSet, [], ap, arith, chess, cond, drop, ends_variation, get_or, is_legal, length, length-append, length-reverse, length-take, path, path_end, position, refl, reverse, reverse-append, rules, shown_along, shown_last, shown_move, subst, sym, take, take-append-drop, take_all, take_more, true, varies, ℕ, ◌++◌, ◌+◌, ◌-◌, ◌<◌, ◌∙◌, ◌∷◌, ◌≡◌, ◌≤◌}
+use Rattle.pop_solve.proofs.Words.{CameFrom, CameFromAt, Frame, Goal, IsEnded, IsLinked, IsWalking, List, Move, Plan, Position, RuleSet, [], ap, arith, chess, cond, drop, ends_variation, get_or, is_legal, length, length-append, length-reverse, length-take, path, path_end, position, refl, reverse, reverse-append, rules, moves_shown, last_shown, shown_move, subst, sym, take, take-append-drop, take_all, take_more, true, has_variations, ℕ, ◌++◌, ◌+◌, ◌-◌, ◌<◌, ◌∙◌, ◌∷◌, ◌≡◌, ◌≤◌}
 use Rattle.chess_rules.specs.Play.{position_after}
 use Rattle.pop_solve.proofs.Outcomes.{CameFrom-deep, walking-close}
 use Rattle.pop_solve.specs.declared.chess.Reached.{Reached}
@@ -30,11 +30,11 @@ module _ (goal : Goal) (rule : RuleSet) where
   path_end-append p (x ∷ xs) m = path_end-append (position_after rule p x) xs m
 
   along-append : (p : Position) (xs : List Move) (m : Move)
-      → shown_along goal rule p (xs ++ m ∷ []) ≡ shown_along goal rule p xs ++ shown_move goal rule (path_end (position_after rule) p xs) m ∷ []
+      → moves_shown goal rule p (xs ++ m ∷ []) ≡ moves_shown goal rule p xs ++ shown_move goal rule (path_end (position_after rule) p xs) m ∷ []
   along-append p [] m = refl
   along-append p (x ∷ xs) m = ap (λ ys. shown_move goal rule p x ∷ ys) (along-append (position_after rule p x) xs m)
 
-  last-append : (p : Position) (xs : List Move) (m : Move) → shown_last goal rule p (xs ++ m ∷ [])
+  last-append : (p : Position) (xs : List Move) (m : Move) → last_shown goal rule p (xs ++ m ∷ [])
       ≡ shown_move goal rule (path_end (position_after rule) p xs) m
   last-append p [] m = refl
   last-append p (x ∷ []) m = refl
@@ -48,11 +48,11 @@ module _ (goal : Goal) (rule : RuleSet) where
   path_end-path p (f ∷ (g ∷ below)) = search (rules, path_end-append, path_end-path p (g ∷ below))
 
   along-more : (p : Position) (f : Frame) (fs : List Frame) → 0 < length fs
-      → shown_along goal rule p (path (f ∷ fs)) ≡ shown_along goal rule p (path fs) ++ shown_move goal rule (position rule p fs) f.by ∷ []
+      → moves_shown goal rule p (path (f ∷ fs)) ≡ moves_shown goal rule p (path fs) ++ shown_move goal rule (position rule p fs) f.by ∷ []
   along-more p f fs some = search (rules, path-more, along-append, path_end-path)
 
   last-more : (p : Position) (f : Frame) (fs : List Frame) → 0 < length fs
-      → shown_last goal rule p (path (f ∷ fs)) ≡ shown_move goal rule (position rule p fs) f.by
+      → last_shown goal rule p (path (f ∷ fs)) ≡ shown_move goal rule (position rule p fs) f.by
   last-more p f fs some = rw (path-more f fs some, last-append p (path fs) f.by, path_end-path p fs) refl
 
 module _ (rule : RuleSet) where
@@ -107,18 +107,18 @@ module _ (rule : RuleSet) where
     -- where it ends a variation it reaches the goal
     pub forth-ended : (plan : Plan) (h : ℕ) (p board after : Position) → IsWalking rule h p (reverse upper) board
         → IsWalking rule h p (reverse lower) after → IsEnded rule plan (reverse upper) board → (b : Reached)
-        → b ≡ cond (ends_variation plan.play (varies plan) f.left) Surely Perhaps → b ≡ Surely
+        → b ≡ cond (ends_variation plan.play (has_variations plan.tree) f.left) Surely Perhaps → b ≡ Surely
         → (chess plan.goal rule).goal (position_after rule after f.by) ≡ true
     forth-ended plan h p board after r s ended b e here = search (rules, forth-again, stacked)
 
     -- it is the last of the moves that are shown
     pub forth-along : (goal : Goal) (p : Position)
-        → shown_along goal rule p (path (reverse upper)) ≡ shown_along goal rule p (path (reverse lower)) ++ shown_move goal rule
+        → moves_shown goal rule p (path (reverse upper)) ≡ moves_shown goal rule p (path (reverse lower)) ++ shown_move goal rule
         (position rule p (reverse lower)) f.by ∷ []
     forth-along goal p = grind (arith, stacked, along-more, length-reverse)
 
     -- shown alone it is the same
-    pub forth-last : (goal : Goal) (p : Position) → shown_last goal rule p (path (reverse upper)) ≡ shown_move goal rule (position rule p (reverse lower)) f.by
+    pub forth-last : (goal : Goal) (p : Position) → last_shown goal rule p (path (reverse upper)) ≡ shown_move goal rule (position rule p (reverse lower)) f.by
     forth-last goal p = grind (arith, stacked, last-more, length-reverse)
 
   -- with one frame left, or none, the board stands on the first position
@@ -132,7 +132,7 @@ module _ (rule : RuleSet) where
   first-position p frames k few = search (rules, one-position, length-reverse)
 
   -- no move leads there
-  pub first-path : (goal : Goal) (p : Position) (frames : List Frame) → shown_along goal rule p (path (reverse (take 1 frames))) ≡ []
+  pub first-path : (goal : Goal) (p : Position) (frames : List Frame) → moves_shown goal rule p (path (reverse (take 1 frames))) ≡ []
   unfolding path
   first-path goal p frames = search rules
 

@@ -1,6 +1,6 @@
 -- The paths of a phase's solutions.
 use Rattle.pop_solve.proofs.Words.{AllPairs, Battle, BattlePlay, HelpPlay, List, Move, Phase, Play, Posed, RuleSet, Set, [], ap, arith, drop, flat_map, flat_map-append, game_of, help_lines, map, pairs_front, phase_half_moves, phase_start, play_of, refl, set_tree, solutions, take, take-append-drop, tree, ℕ, ◌<◌, ◌∷◌, ◌≡◌}
-use Rattle.chess_core.specs.MoveOrder.{triple_number}
+use Rattle.chess_core.specs.MoveOrder.{order_number}
 
 -- each list by itself, joined
 singles : {X : Type 0} (xs : List X) → flat_map (λ s. s) (map (λ x. x ∷ []) xs) ≡ xs
@@ -14,7 +14,7 @@ first_joined R n xss pairs = pairs_front R (flat_map (λ s. s) (take n xss)) (fl
     (rw (← flat_map-append (λ s. s) (take n xss) (drop n xss), take-append-drop n xss) pairs)
 
 -- no move comes before itself
-pub never_itself : (m : Move) → triple_number m < triple_number m → ⊥
+pub never_itself : (m : Move) → order_number m < order_number m → ⊥
 never_itself m less = omega (arith, less)
 
 module _ (rule : RuleSet) (problem : Posed) where

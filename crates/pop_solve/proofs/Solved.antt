@@ -1,5 +1,5 @@
 -- What is to come from the root frame of a phase is the phase's solutions.
-use Rattle.pop_solve.proofs.Words.{Battle, BattlePlay, Bool, Direct, Form, Frame, Game, HelpPlay, IsSound, List, Phase, Plan, Play, PlayOfSides, Posed, RuleSet, Selfmate, Set, [], answers, ap, arith, beginning_count, best_moves, cond, false, filter, flat_map, game_of, half_moves_of, help_lines, helps, is_help, keep, keeps, length, list_all, map, moves_behind, nat_tests, node, nodes_below, phase_half_moves, phase_paths, phase_start, plan_of, play_of, refl, rules, seeks, set_shows, set_tree, shown_paths, shows_variations, solutions, solutions_by, suc, sym, take, tree_shown, true, value, varies, zero, ℕ, ◌++◌, ◌+◌, ◌-◌, ◌∙◌, ◌∷◌, ◌≡◌}
+use Rattle.pop_solve.proofs.Words.{Battle, BattlePlay, Bool, Direct, Form, Frame, Game, HelpPlay, IsSound, List, Phase, Plan, Play, PlayOfSides, Posed, RuleSet, Selfmate, Set, [], continuations, ap, arith, beginning_count, best_moves, cond, false, filter, flat_map, game_of, half_moves_of, help_lines, is_help_play, is_help, kept_paths, keeps_win, length, list_all, map, moves_behind, nat_tests, node, nodes_below, phase_half_moves, phase_paths, phase_start, plan_of, play_of, refl, rules, seeks, is_in_set_play, set_tree, shown_paths, has_variations, solutions, solutions_by, suc, sym, take, tree_with, true, value, zero, ℕ, ◌++◌, ◌+◌, ◌-◌, ◌∙◌, ◌∷◌, ◌≡◌}
 use Rattle.chess_rules.specs.Legal.{moves as legal_moves}
 use Rattle.pop_solve.proofs.Sound.{helps-form, some_way}
 use Rattle.pop_solve.proofs.Battles.{value-wins, value-self_wins}
@@ -8,12 +8,12 @@ use Rattle.pop_solve.proofs.Kept.{keep-nil, beginning_count-nil, to_come-root}
 
 -- what is kept of a list of paths, and the solutions begun: `sols` are its solutions
 pub record IsCutInto {M : Type 0} (help : Bool) (n : ℕ) (paths : List (List M)) (sols : List (List (List M))) : Type 0 where
-  pub kept : keep help n paths ≡ flat_map (λ solution. solution) (take n sols)
+  pub kept : kept_paths help n paths ≡ flat_map (λ solution. solution) (take n sols)
   pub begun : beginning_count help n paths ≡ length (take n sols)
 
 -- help play: each path is a solution
-pub lines-kept : {M : Type 0} (n : ℕ) (xs : List (List M)) → keep true n xs ≡ flat_map (λ solution. solution) (take n (map (λ x. x ∷ []) xs))
-unfolding keep
+pub lines-kept : {M : Type 0} (n : ℕ) (xs : List (List M)) → kept_paths true n xs ≡ flat_map (λ solution. solution) (take n (map (λ x. x ∷ []) xs))
+unfolding kept_paths
 lines-kept zero [] = refl
 lines-kept zero (x ∷ xs) = refl
 lines-kept (suc n) [] = refl
@@ -34,8 +34,8 @@ some (x ∷ xs) = true
 
 module _ {M : Type 0} where
   over-kept : (n : ℕ) (m : M) (ys rest : List (List M)) → list_all some ys ≡ true
-      → keep false n (map (λ path. m ∷ path) ys ++ rest) ≡ map (λ path. m ∷ path) ys ++ keep false n rest
-  unfolding keep
+      → kept_paths false n (map (λ path. m ∷ path) ys ++ rest) ≡ map (λ path. m ∷ path) ys ++ kept_paths false n rest
+  unfolding kept_paths
   over-kept n m [] rest a = search rules
   over-kept n m (y ∷ ys) rest a = search (rules, nat_tests, over-kept n m ys rest)
 
@@ -46,8 +46,8 @@ module _ {M : Type 0} where
   over-begun n m (y ∷ ys) rest a = search (rules, nat_tests, over-begun n m ys rest)
 
   nodes-kept : (X : M → List (List M)) → ((m : M) → list_all some (X m) ≡ true) → (n : ℕ) (ms : List M)
-      → keep false n (flat_map (λ m. node m (X m)) ms) ≡ flat_map (λ solution. solution) (take n (map (λ m. node m (X m)) ms))
-  unfolding keep
+      → kept_paths false n (flat_map (λ m. node m (X m)) ms) ≡ flat_map (λ solution. solution) (take n (map (λ m. node m (X m)) ms))
+  unfolding kept_paths
   nodes-kept X full zero [] = search rules
   nodes-kept X full zero (m ∷ ms) = search rules
   nodes-kept X full (suc n) [] = search rules
@@ -107,36 +107,36 @@ module _ {P M : Type 0} where
   -- the solutions that begin with some moves of the root: in the play, and in set play
   abbrev pub tree_by : Battle → Game P M → Bool → ℕ → ℕ → P → List M → List (List (List M))
   tree_by battle game variation n h p ms =
-      map (λ m. node m (cond variation (nodes_below battle game n (h - 1) (game.after p m)) [])) (filter (λ m. keeps battle game n (game.after p m)) ms)
+      map (λ m. node m (cond variation (nodes_below battle game n (h - 1) (game.after p m)) [])) (filter (λ m. keeps_win battle game n (game.after p m)) ms)
 
   -- the same in set play
   abbrev pub set_by : Battle → Game P M → Bool → ℕ → ℕ → P → List M → List (List (List M))
   set_by battle game variation n h p ms =
-      map (λ d. node d (cond variation (answers battle game n h (game.after p d))
+      map (λ d. node d (cond variation (continuations battle game n h (game.after p d))
       (cond (game.goal (game.after p d)) [] (map (λ m. m ∷ []) (best_moves battle game n (game.after p d))))))
-      (filter (λ d. set_shows battle game n (game.after p d)) ms)
+      (filter (λ d. is_in_set_play battle game n (game.after p d)) ms)
 
 module _ {P M : Type 0} (game : Game P M) (plan : Plan) (battle : Battle) (fought : plan.play ≡ BattlePlay battle) where
-  set_value : (battle : Battle) (n h : ℕ) (r : P) → suc h ≡ halves battle n - 1 → value battle game h r ≡ set_shows battle game n r
+  set_value : (battle : Battle) (n h : ℕ) (r : P) → suc h ≡ halves battle n - 1 → value battle game h r ≡ is_in_set_play battle game n r
   set_value Direct n h r e = grind (arith, value-wins game (n - 2) r)
   set_value Selfmate n h r e = grind (arith, value-self_wins game (n - 1) r)
 
   -- the play: the tree
   pub tree-cut : (n h max : ℕ) (p : P) (ms : List M) → suc h ≡ halves battle n
-      → IsCutInto false max (shown_paths plan game true (suc h) (suc h) p ms) (tree_by battle game (varies plan) n (suc h) p ms)
+      → IsCutInto false max (shown_paths plan game true (suc h) (suc h) p ms) (tree_by battle game (has_variations plan.tree) n (suc h) p ms)
   tree-cut n h max p ms e =
       let k = half-some game battle n (omega (arith, e)) in
       let e2 : suc h ≡ halves battle (suc k.0) = e ∙ ap (halves battle) k.1 in
       let l : halves battle (suc k.0) - 1 ≡ h = omega (arith, e2) in
       let one : suc h - 1 ≡ h = omega arith in
       let s : seeks battle (suc h) ≡ true = rw e2 (halves-seek game battle k.0) in
-      let same : (m : M) → value battle game h (game.after p m) ≡ keeps battle game n (game.after p m) =
+      let same : (m : M) → value battle game h (game.after p m) ≡ keeps_win battle game n (game.after p m) =
       grind (arith, keeps-value) in
       rw one (root-cut game plan battle fought h max p ms _ _ same (λ m v. nodes_below-key game plan battle fought n h (game.after p m) s (grind arith) v))
 
   -- set play
   pub set-cut : (n h max : ℕ) (p : P) (ms : List M) → suc h ≡ halves battle n - 1
-      → IsCutInto false max (shown_paths plan game true (suc h) (suc h) p ms) (set_by battle game (varies plan) n h p ms)
+      → IsCutInto false max (shown_paths plan game true (suc h) (suc h) p ms) (set_by battle game (has_variations plan.tree) n h p ms)
   set-cut n h max p ms e =
       let k = half-some game battle n (omega (arith, e)) in
       let e2 : suc h + 1 ≡ halves battle (suc k.0) = omega (arith, e, ap (halves battle) k.1) in
@@ -153,7 +153,7 @@ none-cut : {M : Type 0} (help : Bool) (n : ℕ) → IsCutInto {M = M} help n [] 
 none-cut {M = M} help n = search (rules, keep-nil, beginning_count-nil)
 
 -- variations are shown where the problem asks for them
-pub shown_paths-varied : (variation : Bool) → shows_variations (tree_shown variation) ≡ variation
+pub shown_paths-varied : (variation : Bool) → has_variations (tree_with variation) ≡ variation
 shown_paths-varied variation = search rules
 
 module _ (rule : RuleSet) (problem : Posed) (stated : IsSound problem) where
@@ -161,7 +161,7 @@ module _ (rule : RuleSet) (problem : Posed) (stated : IsSound problem) where
   plan = plan_of problem
 
   cut : (phase : Phase) (play : PlayOfSides) → play_of problem.stipulation.form ≡ play → (h : ℕ) → phase_half_moves problem phase ≡ h
-      → IsCutInto (helps play) problem.max_solutions (shown_paths plan (game_of rule problem) true h h (phase_start problem phase) (legal_moves rule
+      → IsCutInto (is_help_play play) problem.max_solutions (shown_paths plan (game_of rule problem) true h h (phase_start problem phase) (legal_moves rule
       (phase_start problem phase))) (solutions_by play rule problem phase)
   unfolding help_lines set_tree
   cut phase HelpPlay e zero z = rw z (search (rules, shown_paths-zero, none-cut))

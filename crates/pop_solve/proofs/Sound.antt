@@ -1,6 +1,6 @@
 -- What a sound problem's play rests on, and how the sides play.
-use Rattle.pop_input.specs.declared.stipulation.Form.TheVariants.{Direct as DirectForm, SelfMate, Help, HelpHalf}
-use Rattle.pop_solve.proofs.Words.{Battle, BattlePlay, Direct, Form, HelpPlay, Selfmate, arith, false, helps, is_help, play_of, rules, IsSound, IsWellFormed, None, Phase, Posed, Position, half_moves, is_crossed_right, other, phase_start, refl, sym, ap, true, ◌≡◌, ◌≤◌, ◌∙◌}
+use Rattle.pop_input.specs.declared.stipulation.Form.TheVariants.{Direct as DirectForm, Selfmate as SelfmateForm, Help, HelpHalf}
+use Rattle.pop_solve.proofs.Words.{Battle, BattlePlay, Direct, Form, HelpPlay, Selfmate, arith, false, is_help_play, is_help, play_of, rules, IsSound, IsWellFormed, None, Phase, Posed, Position, half_moves, is_crossed_right, other, phase_start, refl, sym, ap, true, ◌≡◌, ◌≤◌, ◌∙◌}
 
 -- a problem has 1 to 32 half-moves
 pub some_way : (problem : Posed) → IsSound problem → 1 ≤ half_moves problem.stipulation
@@ -20,7 +20,7 @@ pub start_sound : (problem : Posed) → IsSound problem → (phase : Phase) → 
 start_sound problem s phase = grind (arith, nothing_crossed)
 
 -- help play and battles, told by the form
-pub helps-form : (form : Form) → helps (play_of form) ≡ is_help form
+pub helps-form : (form : Form) → is_help_play (play_of form) ≡ is_help form
 helps-form form = search rules
 
 -- the form of help play is played so
@@ -29,17 +29,17 @@ help-play form e = search rules
 
 -- and no other form is
 pub help-form : (form : Form) → play_of form ≡ HelpPlay → is_help form ≡ true
-help-form form e = sym (helps-form form) ∙ ap helps e
+help-form form e = sym (helps-form form) ∙ ap is_help_play e
 
 -- any other form is a battle
 pub battle-play : (form : Form) → is_help form ≡ false → (battle : Battle) × (play_of form ≡ BattlePlay battle)
 battle-play DirectForm e = (Direct, refl)
-battle-play SelfMate e = (Selfmate, refl)
+battle-play SelfmateForm e = (Selfmate, refl)
 battle-play Help e = absurd cc
 battle-play HelpHalf e = absurd cc
 
 -- and no battle is help play
 pub battle-form : (form : Form) (battle : Battle) → play_of form ≡ BattlePlay battle → is_help form ≡ false
-battle-form form battle e = sym (helps-form form) ∙ ap helps e
+battle-form form battle e = sym (helps-form form) ∙ ap is_help_play e
 
 pub ruleset ways_to_play = (battle-play, help-play)

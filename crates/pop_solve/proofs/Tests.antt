@@ -1,6 +1,6 @@
 -- One turn of a test over frames.
-use Rattle.pop_solve.proofs.Words.{AreKnown, Bool, CameFrom, CameFromAt, Ends, Frame, HasCounted, IfNone, IfSome, IsCut, IsLinked, IsOpenedOn, IsPlaceIn, IsTesting, IsWellFormed, Killer, LegalPlace, List, MatchOption, Move, None, Option, Order, Position, RuleSet, Some, Turns, Undo, [], after_well_formed, ap, arith, cases_lt, chess, cond, delivered_value, drop, drop-append-le, inl, inr, is_legal, join, joined_value, least_of, length, length-append, length-drop, length-reverse, moves_ahead}
-use Rattle.pop_solve.proofs.Words.{is_pseudo_legal-from_legal, list_all, list_any, min, not, pending_value, position, refl, reverse, reverse-append, rules, seeks, smallest_below, smallest_tree, steps, steps_among, subst, suc, sum_by, sum_by-cons, sym, take, take-append-le, take_all, tested_frame, tests, to_test, to_try, to_try_with, top_left, true, undo_of, untried_moves, value, walk_among, walk_count, work, ℕ, ◌&&◌, ◌++◌, ◌+◌, ◌-◌, ◌<◌, ◌^◌, ◌||◌, ◌∙◌, ◌∷◌, ◌≡◌, ◌≤◌, ◌⊎◌}
+use Rattle.pop_solve.proofs.Words.{AreKnown, Bool, CameFrom, CameFromAt, Ends, Frame, HasCounted, IfNone, IfSome, IsDescending, IsLinked, IsOpenedOn, IsPlaceIn, IsTesting, IsWellFormed, Killer, LegalPlace, List, MatchOption, Move, None, Option, Order, Position, RuleSet, Some, Turns, Undo, [], after_well_formed, ap, arith, cases_lt, chess, cond, delivered_value, drop, drop-append-le, inl, inr, is_legal, join, joined_value, least_of, length, length-append, length-drop, length-reverse, moves_ahead}
+use Rattle.pop_solve.proofs.Words.{is_pseudo_legal-from_legal, list_all, list_any, min, not, pending_value, position, refl, reverse, reverse-append, rules, seeks, smallest_below, smallest_tree, work_from, work_among, subst, suc, sum_by, sum_by-cons, sym, take, take-append-le, take_all, tested_frame, tests, to_test, to_try, to_try_with, left_at_top, true, undo_of, untried_moves, value, walk_among, walk_count, test_work, ℕ, ◌&&◌, ◌++◌, ◌+◌, ◌-◌, ◌<◌, ◌^◌, ◌||◌, ◌∙◌, ◌∷◌, ◌≡◌, ◌≤◌, ◌⊎◌}
 use Rattle.chess_rules.specs.Play.{position_after}
 use Rattle.chess_rules.specs.Legal.{moves as legal_moves}
 use Rattle.pop_solve.specs.declared.aim.Aim.{Aim}
@@ -112,14 +112,14 @@ module _ (rule : RuleSet) (aim : Aim) where
   try-none p [] v none = refl
   try-none p (g ∷ below) v none = absurd (omega (arith, none))
 
-  steps-start : (t : ℕ) (q : Position) (o : Order) → steps rule t q ≡ 1 + steps_among rule t q (first rule q o)
-  unfolding steps steps_among
+  steps-start : (t : ℕ) (q : Position) (o : Order) → work_from rule t q ≡ 1 + work_among rule t q (first rule q o)
+  unfolding work_from work_among
   steps-start t q o = search (rules, sum-start)
 
   steps-next : (t : ℕ) (P : Position) (ms more : List Move) (m : Move) → ms ≡ m ∷ more
-      → steps_among rule (suc t) P ms ≡ (1 + steps rule t (position_after rule P m)) + steps_among rule (suc t) P more
-  unfolding steps_among
-  steps-next t P ms more m e = rw e (sum_by-cons (λ x. 1 + steps rule t (position_after rule P x)) m more)
+      → work_among rule (suc t) P ms ≡ (1 + work_from rule t (position_after rule P m)) + work_among rule (suc t) P more
+  unfolding work_among
+  steps-next t P ms more m e = rw e (sum_by-cons (λ x. 1 + work_from rule t (position_after rule P x)) m more)
 
   walk_count-start : (t : ℕ) (q : Position) (o : Order) → 0 < t → walk_count (legal_moves rule) (position_after rule) t q
       ≡ 1 + walk_among rule t q (first rule q o)
@@ -149,8 +149,8 @@ module _ (rule : RuleSet) (aim : Aim) where
     unfolding to_try_with position
     try-next = search (rules, trees-next, rest-next)
 
-    work-settled : work rule p (passed f next s kn ∷ below) < work rule p (f ∷ below)
-    unfolding work position
+    work-settled : test_work rule p (passed f next s kn ∷ below) < test_work rule p (f ∷ below)
+    unfolding test_work position
     work-settled = rw (left, steps-next t P (untried_moves rule P f) (moves_ahead rule P f.order s next) m e) (omega arith)
 
     open-settled : walk_count (legal_moves rule) (position_after rule) t (position_after rule P m) + to_test rule p (passed f next s kn ∷ below) ≤ to_test rule
@@ -174,8 +174,8 @@ module _ (rule : RuleSet) (aim : Aim) where
       unfolding to_try position
       try-open v d = let n = fewest-start t (position_after rule P m) k in rw (d, sym (rest-start t (position_after rule P m) k)) (omega (arith, n))
 
-      work-open : work rule p (tested_frame k m undo t kq ∷ (passed f next s kn ∷ below)) < work rule p (f ∷ below)
-      unfolding work position
+      work-open : test_work rule p (tested_frame k m undo t kq ∷ (passed f next s kn ∷ below)) < test_work rule p (f ∷ below)
+      unfolding test_work position
       work-open =
           rw (left, steps-next t P (untried_moves rule P f) (moves_ahead rule P f.order s next) m e, steps-start t (position_after rule P m) k) (omega arith)
 
@@ -190,13 +190,13 @@ module _ (rule : RuleSet) (aim : Aim) where
   unfolding to_test
   open-close p f below = omega arith
 
-  work-close : (p : Position) (f : Frame) (below : List Frame) → work rule p below < work rule p (f ∷ below)
-  unfolding work
+  work-close : (p : Position) (f : Frame) (below : List Frame) → test_work rule p below < test_work rule p (f ∷ below)
+  unfolding test_work
   work-close p f below = omega arith
 
 module _ (rule : RuleSet) (p : Position) where
-  cut-top : (f : Frame) (below : List Frame) → IsCut (f ∷ below) → 0 < f.left
-  unfolding IsCut
+  cut-top : (f : Frame) (below : List Frame) → IsDescending (f ∷ below) → 0 < f.left
+  unfolding IsDescending
   cut-top f below c = search rules
 
   top_cut : (f : Frame) (below : List Frame) (board : Position) → IsTesting rule p (f ∷ below) board → 0 < f.left
@@ -215,11 +215,11 @@ module _ (rule : RuleSet) (p : Position) where
 
   testing-close : (f : Frame) (below : List Frame) (board after : Position) → IsTesting rule p (f ∷ below) board → 0 < length below
       → ((q : Position) → CameFromAt rule f board q → after ≡ q) → IsTesting rule p below after
-  unfolding IsLinked IsCut AreKnown position
+  unfolding IsLinked IsDescending AreKnown position
   testing-close f below board after r deep before = search rules
 
-  room-close : (f : Frame) (below : List Frame) (board : Position) → IsTesting rule p (f ∷ below) board → 0 < length below → f.left + 1 ≡ top_left below
-  unfolding IsCut
+  room-close : (f : Frame) (below : List Frame) (board : Position) → IsTesting rule p (f ∷ below) board → 0 < length below → f.left + 1 ≡ left_at_top below
+  unfolding IsDescending
   room-close f below board r deep = search rules
 
   lowest-back : (f : Frame) (below : List Frame) (board : Position) → IsTesting rule p (f ∷ below) board → length below ≡ 0 → board ≡ p
@@ -228,14 +228,14 @@ module _ (rule : RuleSet) (p : Position) where
 
   testing-settled : (f : Frame) (next : ℕ) (s : Stretch) (kn : Option LegalPlace) (below : List Frame) (board : Position)
       → IsTesting rule p (f ∷ below) board → IfSome kn (IsPlaceIn rule board) → IsTesting rule p (passed f next s kn ∷ below) board
-  unfolding IsLinked IsCut AreKnown position
+  unfolding IsLinked IsDescending AreKnown position
   testing-settled f next s kn below board r w = search rules
 
   testing-open : (f : Frame) (next : ℕ) (s : Stretch) (m : Move) (k : Order) (t : ℕ) (kn kq : Option LegalPlace) (below : List Frame) (board : Position)
       → IsTesting rule p (f ∷ below) board → is_legal rule board m ≡ true → 0 < t → f.left ≡ suc t → IfSome kn (IsPlaceIn rule board)
       → IfSome kq (IsPlaceIn rule (position_after rule board m))
       → IsTesting rule p (tested_frame k m (undo_of rule board m) t kq ∷ (passed f next s kn ∷ below)) (position_after rule board m)
-  unfolding IsLinked IsCut AreKnown position
+  unfolding IsLinked IsDescending AreKnown position
   testing-open f next s m k t kn kq below board r lawful some left w wq =
       grind (arith, after_well_formed rule board m r.sound (is_pseudo_legal-from_legal rule board m lawful), is_pseudo_legal-from_legal rule board m lawful)
 
@@ -285,8 +285,8 @@ module _ (rule : RuleSet) (aim : Aim) (floor : ℕ) (top : Frame) (old new : Lis
     ]
 
     -- closing keeps the room
-    pub close_room : (p : Position) (N : ℕ) → IsTesting rule p (tests floor old) board → top_left (tests floor old) + length old ≤ N + 1
-        → IfNone result (top_left (tests floor new) + length new ≤ N + 1)
+    pub close_room : (p : Position) (N : ℕ) → IsTesting rule p (tests floor old) board → left_at_top (tests floor old) + length old ≤ N + 1
+        → IfNone result (left_at_top (tests floor new) + length new ≤ N + 1)
     close_room p N r room = grind (arith, cases_lt, room-close, testing_top, length-tests, popped, length-append)
 
   module _ (place : ℕ) (s : Stretch) (kn : Option LegalPlace) (m : Move) (board after : Position) (N : ℕ) (was : Option Bool) (last : List Frame)
@@ -332,7 +332,7 @@ module _ (rule : RuleSet) (aim : Aim) (floor : ℕ) (top : Frame) (old new : Lis
           (pending_value-undecided rule aim p top (tests floor new) was open_yet ∙ delivered_value-next rule aim p top _ place s m _ kn left_is here
           ∙ ap (delivered_value rule aim p _) (rw (← at) (sym d.0)) ∙ delivered_value-some rule aim p _ v (omega arith))
 
-      descend_falls : (is : Option Bool) → Descends is → work rule p (tests floor last) < work rule p (tests floor old)
+      descend_falls : (is : Option Bool) → Descends is → test_work rule p (tests floor last) < test_work rule p (tests floor old)
       descend_falls None d = rw (opened_last d, popped) (search (rules, here, work-open, left_is))
       descend_falls (Some v) d = rw (settled_last v d, popped) (search (rules, here, work-settled, left_is))
 
@@ -369,7 +369,7 @@ module _ (rule : RuleSet) (aim : Aim) (floor : ℕ) (top : Frame) (old new : Lis
     }
 
     -- playing it keeps the room
-    pub descend_room : (is : Option Bool) → Descends is → top_left (tests floor old) + length old ≤ N + 1 → top_left (tests floor last) + length last ≤ N + 1
+    pub descend_room : (is : Option Bool) → Descends is → left_at_top (tests floor old) + length old ≤ N + 1 → left_at_top (tests floor last) + length last ≤ N + 1
     descend_room is d room = grind (arith, tests-push, length-append)
 
   -- what the top frame asks of the calls
@@ -382,8 +382,8 @@ module _ (rule : RuleSet) (aim : Aim) (floor : ℕ) (top : Frame) (old new : Lis
   top_known p board r = let f = testing_top p board r in rw f.board_at f.known.0
 
   -- there is room for its half-moves
-  pub top_room : (N : ℕ) → top_left (tests floor old) + length old ≤ N + 1 → length new + top.left ≤ N
-  top_room N room = let t : top_left (tests floor old) ≡ top.left = ap top_left popped in grind (arith, length-append)
+  pub top_room : (N : ℕ) → left_at_top (tests floor old) + length old ≤ N + 1 → length new + top.left ≤ N
+  top_room N room = let t : left_at_top (tests floor old) ≡ top.left = ap left_at_top popped in grind (arith, length-append)
 
   -- the value of a frame that its answer decides, and of one with no move left
   pub decided_value : (p : Position) (was : Option Bool) → was ≡ Some (seeks aim.battle top.left)
@@ -428,7 +428,7 @@ pub record IsUnderway (rule : RuleSet) (aim : Aim) (floor : ℕ) (p : Position) 
   pub testing : IsTesting rule p (tests floor frames) board
   pub same : pending_value rule aim p (tests floor frames) answer ≡ v
   pub above : floor < length frames
-  pub room : top_left (tests floor frames) + length frames ≤ N + 1
+  pub room : left_at_top (tests floor frames) + length frames ≤ N + 1
   pub base : take floor frames ≡ under
 
 module _ (rule : RuleSet) (aim : Aim) where
@@ -439,7 +439,7 @@ module _ (rule : RuleSet) (aim : Aim) where
       × (value aim.battle (chess aim.goal rule) left p ≡ joined_value aim.battle (chess aim.goal rule) left p (legal_moves rule p))
       → IsUnderway rule aim floor p N (value aim.battle (chess aim.goal rule) left p) under frames None board count
       (before + walk_count (legal_moves rule) (position_after rule) left p) (before + smallest_tree aim.battle (chess aim.goal rule) left p)
-  unfolding pending_value delivered_value IsLinked IsCut AreKnown position to_test to_try to_try_with
+  unfolding pending_value delivered_value IsLinked IsDescending AreKnown position to_test to_try to_try_with
   begins floor p N left k board before count by undo under frames kn low put within room more one_more at sound d =
       let none : tests floor under ≡ [] = nil_of (tests floor under) (omega (arith, length-tests floor under, low)) in
       grind (arith, tests-push, length-append, walk_count-start, fewest-start, rest-start, take-append-le, take_all)
@@ -447,5 +447,5 @@ module _ (rule : RuleSet) (aim : Aim) where
   -- each turn leaves it under way
   pub goes_on : (floor : ℕ) (p : Position) (N : ℕ) (v : Bool) (under old new : List Frame) (was is : Option Bool) (board after : Position) (before count most
       fewest : ℕ) → IsUnderway rule aim floor p N v under old was board before most fewest → Turns rule aim floor p old new was is after before count
-      → top_left (tests floor new) + length new ≤ N + 1 → IsUnderway rule aim floor p N v under new is after count most fewest
+      → left_at_top (tests floor new) + length new ≤ N + 1 → IsUnderway rule aim floor p N v under new is after count most fewest
   goes_on floor p N v under old new was is board after before count most fewest u t room = search rules

@@ -1,10 +1,10 @@
 -- What the moves still to come say of paths, turns and counts: the next move, and those passed over.
-use Rattle.pop_solve.proofs.Words.{Battle, BattlePlay, Bool, Frame, GoesTo, HelpPlay, IsWhites, List, Mate, Move, Plan, Position, RuleSet, Steps, Undo, [], ap, append_assoc, append-nil, allows_mate, arith, chess, cond, eqb, false, fewest_for, fewest_left, fewest_walked, filter, follows, gives, half_moves_on, inl, inr, is_mate, is_mating, length, length-append, map, map-append, mates_behind, min, moves_behind, opened_frame, path, position, refl, rules, seeks, seeks_last, shown_paths, smallest_tree, steps, steps_behind, suc, sum_by, sum_by-append, sum_by-cons, sym, to_come, to_open, true, turns, value, varies, walk_behind, walk_count, zero, ℕ, ◌++◌, ◌+◌, ◌-◌, ◌<◌, ◌^◌, ◌∙◌, ◌∷◌, ◌≡◌, ◌≤◌, ◌⊎◌}
+use Rattle.pop_solve.proofs.Words.{Battle, BattlePlay, Bool, Frame, GoesTo, HelpPlay, are_whites, List, Mate, Move, Plan, Position, RuleSet, Steps, Undo, [], ap, append_assoc, append-nil, allows_mate, arith, chess, cond, eqb, false, fewest_for, fewest_left, fewest_walked, filter, is_followed, is_given, walk_length, inl, inr, is_mate, is_mating, length, length-append, map, map-append, mates_behind, min, moves_behind, opened_frame, path, position, refl, rules, seeks, seeks_last, shown_paths, smallest_tree, work_from, work_behind, suc, sum_by, sum_by-append, sum_by-cons, sym, to_come, to_open, true, walk_work, value, has_variations, walk_behind, walk_count, zero, ℕ, ◌++◌, ◌+◌, ◌-◌, ◌<◌, ◌^◌, ◌∙◌, ◌∷◌, ◌≡◌, ◌≤◌, ◌⊎◌}
 use Rattle.chess_rules.specs.Play.{position_after}
 use Rattle.chess_rules.specs.Legal.{moves as legal_moves}
 use Rattle.pop_solve.proofs.Boards.{behind_start}
 use Rattle.pop_solve.proofs.Tests.{moved}
-use Rattle.pop_solve.proofs.GoingOn.{cases, no_zero, ways, half_moves_on-help, follows-help}
+use Rattle.pop_solve.proofs.GoingOn.{cases, no_zero, ways, walk_length-help, follows-help}
 
 -- where the first move counts nothing if it fails a test, all that fail it at the head of a list count nothing
 passed-over : {A : Type 0} (f : List Move → A) (test : Move → Bool) → ((m : Move) (ms : List Move) → test m ≡ false → f (m ∷ ms) ≡ f ms)
@@ -29,23 +29,23 @@ pub turn : (b : Bool) (L : List Move) (m : Move) (xs ys rest : List (List Move))
 turn b L m xs ys rest = search (rules, append_assoc, map-append, map-path)
 
 -- the steps from a place on, by its next move and by the others
-pub steps-start : (rule : RuleSet) (k : ℕ) (q : Position) → steps rule k q ≡ 1 + steps_behind rule k q 0
-unfolding steps steps_behind
+pub steps-start : (rule : RuleSet) (k : ℕ) (q : Position) → work_from rule k q ≡ 1 + work_behind rule k q 0
+unfolding work_from work_behind
 steps-start rule k q = search (rules, behind_start)
 
 -- the next move takes its own steps
-pub steps_behind-next : (rule : RuleSet) (k : ℕ) (P : Position) (place next : ℕ) (m : Move) → moves_behind rule P place ≡ m ∷ moves_behind rule P next
-    → steps_behind rule (suc k) P place ≡ (1 + steps rule k (position_after rule P m)) + steps_behind rule (suc k) P next
-unfolding steps_behind
-steps_behind-next rule k P place next m e = rw e (sum_by-cons (λ x. 1 + steps rule k (position_after rule P x)) m (moves_behind rule P next))
+pub work_behind-next : (rule : RuleSet) (k : ℕ) (P : Position) (place next : ℕ) (m : Move) → moves_behind rule P place ≡ m ∷ moves_behind rule P next
+    → work_behind rule (suc k) P place ≡ (1 + work_from rule k (position_after rule P m)) + work_behind rule (suc k) P next
+unfolding work_behind
+work_behind-next rule k P place next m e = rw e (sum_by-cons (λ x. 1 + work_from rule k (position_after rule P x)) m (moves_behind rule P next))
 
 module _ (rule : RuleSet) (plan : Plan) where
   -- the paths by the next move, and by the others
   shown_paths-next : (root : Bool) (k t : ℕ) (P : Position) (m : Move) (ms : List Move)
-      → shown_paths plan (chess plan.goal rule) root (suc k) (suc t) P (m ∷ ms) ≡ cond (follows plan.play (chess plan.goal rule) root t
+      → shown_paths plan (chess plan.goal rule) root (suc k) (suc t) P (m ∷ ms) ≡ cond (is_followed plan.play (chess plan.goal rule) root t
       (position_after rule P m))
-      (given_path (gives plan.play (chess plan.goal rule) t (position_after rule P m)) (m ∷ []) ++ map (λ line. m ∷ line)
-      (shown_paths plan (chess plan.goal rule) false k (half_moves_on plan.play (varies plan) (chess plan.goal rule) t (position_after rule P m))
+      (given_path (is_given plan.play (chess plan.goal rule) t (position_after rule P m)) (m ∷ []) ++ map (λ line. m ∷ line)
+      (shown_paths plan (chess plan.goal rule) false k (walk_length plan.play (has_variations plan.tree) (chess plan.goal rule) t (position_after rule P m))
       (position_after rule P m)
       (legal_moves rule (position_after rule P m)))) [] ++ shown_paths plan (chess plan.goal rule) root (suc k) (suc t) P ms
   unfolding shown_paths
@@ -59,9 +59,9 @@ module _ (rule : RuleSet) (plan : Plan) where
   -- the positions to be tried for the next move, and for the others
   fewest-next : (root : Bool) (k t : ℕ) (P : Position) (m : Move) (ms : List Move)
       → fewest_walked plan (chess plan.goal rule) root (suc k) (suc t) P (m ∷ ms)
-      ≡ (fewest_for plan.play (varies plan) (chess plan.goal rule) root t (position_after rule P m) + cond
-      (follows plan.play (chess plan.goal rule) root t (position_after rule P m))
-      (fewest_walked plan (chess plan.goal rule) false k (half_moves_on plan.play (varies plan) (chess plan.goal rule) t
+      ≡ (fewest_for plan.play (has_variations plan.tree) (chess plan.goal rule) root t (position_after rule P m) + cond
+      (is_followed plan.play (chess plan.goal rule) root t (position_after rule P m))
+      (fewest_walked plan (chess plan.goal rule) false k (walk_length plan.play (has_variations plan.tree) (chess plan.goal rule) t
       (position_after rule P m)) (position_after rule P m) (legal_moves rule (position_after rule P m))) 0) + fewest_walked plan (chess plan.goal rule) root
       (suc k) (suc t) P ms
   unfolding fewest_walked
@@ -103,15 +103,15 @@ module _ (rule : RuleSet) (plan : Plan) where
     root = eqb (length below) 0
 
     -- a move that is not followed is passed over
-    pub come-pass : follows plan.play (chess plan.goal rule) root t q ≡ false → to_come rule plan h p (f ∷ below) ≡ to_come rule plan h p (moved f next ∷ below)
+    pub come-pass : is_followed plan.play (chess plan.goal rule) root t q ≡ false → to_come rule plan h p (f ∷ below) ≡ to_come rule plan h p (moved f next ∷ below)
     unfolding to_come position path
     come-pass b = search (rules, shown_paths-next)
 
     -- a move that is followed: its path, where that is given, and what stands below it
-    pub come-enter : (undo : Undo) → follows plan.play (chess plan.goal rule) root t q ≡ true
-        → to_come rule plan h p (f ∷ below) ≡ given_path (gives plan.play (chess plan.goal rule) t q)
-        (path (opened_frame m undo (half_moves_on plan.play (varies plan) (chess plan.goal rule) t q)
-        ∷ (moved f next ∷ below))) ++ to_come rule plan h p (opened_frame m undo (half_moves_on plan.play (varies plan) (chess plan.goal rule) t q) ∷
+    pub come-enter : (undo : Undo) → is_followed plan.play (chess plan.goal rule) root t q ≡ true
+        → to_come rule plan h p (f ∷ below) ≡ given_path (is_given plan.play (chess plan.goal rule) t q)
+        (path (opened_frame m undo (walk_length plan.play (has_variations plan.tree) (chess plan.goal rule) t q)
+        ∷ (moved f next ∷ below))) ++ to_come rule plan h p (opened_frame m undo (walk_length plan.play (has_variations plan.tree) (chess plan.goal rule) t q) ∷
         (moved f next ∷ below))
     unfolding to_come position path
     come-enter undo b =
@@ -121,30 +121,30 @@ module _ (rule : RuleSet) (plan : Plan) where
         (search (rules, turn))
 
     -- a move that isn't followed has only its test
-    pub tries-pass : follows plan.play (chess plan.goal rule) root t q ≡ false
-        → fewest_left rule plan h p (f ∷ below) ≡ fewest_for plan.play (varies plan) (chess plan.goal rule) root t q + fewest_left rule plan h p
+    pub tries-pass : is_followed plan.play (chess plan.goal rule) root t q ≡ false
+        → fewest_left rule plan h p (f ∷ below) ≡ fewest_for plan.play (has_variations plan.tree) (chess plan.goal rule) root t q + fewest_left rule plan h p
         (moved f next ∷ below)
     unfolding fewest_left position
     tries-pass b = search (rules, fewest-next)
 
     -- one that is followed adds what is tried below it
-    pub tries-enter : (undo : Undo) → follows plan.play (chess plan.goal rule) root t q ≡ true → fewest_left rule plan h p (f ∷ below)
-        ≡ fewest_for plan.play (varies plan) (chess plan.goal rule) root t q + fewest_left rule plan h p
-        (opened_frame m undo (half_moves_on plan.play (varies plan) (chess plan.goal rule) t q) ∷ (moved f next ∷ below))
+    pub tries-enter : (undo : Undo) → is_followed plan.play (chess plan.goal rule) root t q ≡ true → fewest_left rule plan h p (f ∷ below)
+        ≡ fewest_for plan.play (has_variations plan.tree) (chess plan.goal rule) root t q + fewest_left rule plan h p
+        (opened_frame m undo (walk_length plan.play (has_variations plan.tree) (chess plan.goal rule) t q) ∷ (moved f next ∷ below))
     unfolding fewest_left position
     tries-enter undo b = search (rules, behind_start, fewest-next, no_zero)
 
     -- passing a move over takes a turn
-    pub turns-pass : turns rule h p (moved f next ∷ below) < turns rule h p (f ∷ below)
-    unfolding turns position
-    turns-pass = rw (fuel, steps_behind-next rule k (position rule p (f ∷ below)) f.place next m e) (omega arith)
+    pub turns-pass : walk_work rule h p (moved f next ∷ below) < walk_work rule h p (f ∷ below)
+    unfolding walk_work position
+    turns-pass = rw (fuel, work_behind-next rule k (position rule p (f ∷ below)) f.place next m e) (omega arith)
 
     -- so does following it
-    pub turns-enter : (undo : Undo) (tried : ℕ) → turns rule h p (opened_frame m undo tried ∷ (moved f next ∷ below)) < turns rule h p (f ∷ below)
-    unfolding turns position
+    pub turns-enter : (undo : Undo) (tried : ℕ) → walk_work rule h p (opened_frame m undo tried ∷ (moved f next ∷ below)) < walk_work rule h p (f ∷ below)
+    unfolding walk_work position
     turns-enter undo tried =
         let less : h - suc (length below) ≡ k = omega arith in
-        rw (fuel, less, steps_behind-next rule k (position rule p (f ∷ below)) f.place next m e, steps-start rule k q) (omega arith)
+        rw (fuel, less, work_behind-next rule k (position rule p (f ∷ below)) f.place next m e, steps-start rule k q) (omega arith)
 
     -- the next move opens what it can, and the others theirs
     pub open-next : to_open rule p (f ∷ below) ≡ walk_count (legal_moves rule) (position_after rule) t q + to_open rule p (moved f next ∷ below)
@@ -170,8 +170,8 @@ module _ (rule : RuleSet) (plan : Plan) where
   tries-close h p f below e = search (rules, fewest-none)
 
   -- closing it takes a turn
-  pub turns-close : (h : ℕ) (p : Position) (f : Frame) (below : List Frame) → turns rule h p below < turns rule h p (f ∷ below)
-  unfolding turns
+  pub turns-close : (h : ℕ) (p : Position) (f : Frame) (below : List Frame) → walk_work rule h p below < walk_work rule h p (f ∷ below)
+  unfolding walk_work
   turns-close h p f below = omega arith
 
   -- it opens nothing
@@ -189,19 +189,19 @@ module _ (rule : RuleSet) (plan : Plan) where
     unfolding shown_paths
     ends low fuel k m q qs ms = search rules
 
-    gives-last : (q : Position) → plan.play ≡ HelpPlay → plan.goal ≡ Mate → is_mate rule q ≡ false → gives plan.play (chess plan.goal rule) 0 q ≡ false
-    unfolding gives
+    gives-last : (q : Position) → plan.play ≡ HelpPlay → plan.goal ≡ Mate → is_mate rule q ≡ false → is_given plan.play (chess plan.goal rule) 0 q ≡ false
+    unfolding is_given
     gives-last q help for misses = rw (help, for, misses) refl
 
     -- in direct play a move that doesn't mate isn't followed, and tries nothing
     follows-last : (low : Bool) (q : Position) (battle : Battle) → plan.play ≡ BattlePlay battle → seeks battle 1 ≡ true → plan.goal ≡ Mate
         → is_mate rule q ≡ false
-        → follows plan.play (chess plan.goal rule) low 0 q ≡ false
-    unfolding follows value
+        → is_followed plan.play (chess plan.goal rule) low 0 q ≡ false
+    unfolding is_followed value
     follows-last low q battle fought white for misses = search rules
 
     fewest_for-last : (low : Bool) (q : Position) (battle : Battle) → plan.play ≡ BattlePlay battle → seeks battle 1 ≡ true
-        → fewest_for plan.play (varies plan) (chess plan.goal rule) low 0 q ≡ 0
+        → fewest_for plan.play (has_variations plan.tree) (chess plan.goal rule) low 0 q ≡ 0
     unfolding smallest_tree
     fewest_for-last low q battle fought white = search rules
 
@@ -214,7 +214,7 @@ module _ (rule : RuleSet) (plan : Plan) where
         let q = position_after rule P m in
         let game = chess plan.goal rule in
         rw (shown_paths-next low fuel 0 P m ms) (elim (ways plan.play) [
-          | inl help ↦ rw (follows-help plan game low 0 q help, gives-last q help for misses, half_moves_on-help plan game 0 q help)
+          | inl help ↦ rw (follows-help plan game low 0 q help, gives-last q help for misses, walk_length-help plan game 0 q help)
               (ends low fuel fuel m q (legal_moves rule q) ms)
           | inr way ↦ rw (follows-last low q way.0 way.1 (rw way.1 at last) for misses) refl
         ])
@@ -245,8 +245,8 @@ module _ (rule : RuleSet) (plan : Plan) where
         (legal_moves rule P) [] (rw (← behind_start rule P) none) in
         (rw all at skip) ∙ shown_paths-none false fuel 1 P [] (inr refl)
 
-    gives-more : (q : Position) → gives plan.play (chess plan.goal rule) 1 q ≡ false
-    unfolding gives
+    gives-more : (q : Position) → is_given plan.play (chess plan.goal rule) 1 q ≡ false
+    unfolding is_given
     gives-more q = rw help refl
 
     no_mates : (P : Position) (m : Move) → allows_mate rule P m ≡ false → mates_behind rule (position_after rule P m) 0 ≡ []
@@ -263,7 +263,7 @@ module _ (rule : RuleSet) (plan : Plan) where
           shown_paths-next low fuel 1 P m ms,
           follows-help plan game low 1 q help,
           gives-more q,
-          half_moves_on-help plan game 1 q help,
+          walk_length-help plan game 1 q help,
           mateless q fuel (no_mates P m none),
         ) refl
 
@@ -307,12 +307,12 @@ module _ (rule : RuleSet) (plan : Plan) where
     come-skip = ap (λ lines. map (λ line. path (f ∷ below) ++ line) lines ++ to_come rule plan h p below)
         (same-later (λ n ms. shown_paths plan (chess plan.goal rule) deepest room n P ms) (skipped P deepest room) (λ help for. settled help for P deepest room))
 
-    fewer : (k : ℕ) → steps_behind rule k P g.mid ≤ steps_behind rule k P f.place
-    unfolding steps_behind
+    fewer : (k : ℕ) → work_behind rule k P g.mid ≤ work_behind rule k P f.place
+    unfolding work_behind
     fewer k = search (rules, sum_by-append)
 
-    turns-skip : turns rule h p later ≤ turns rule h p (f ∷ below)
-    unfolding turns position
+    turns-skip : walk_work rule h p later ≤ walk_work rule h p (f ∷ below)
+    unfolding walk_work position
     turns-skip = let s = fewer (h - length below) in omega (arith, s)
 
     same : (k : ℕ) → moves_behind rule P f.place ≡ moves_behind rule P g.mid → walk_behind rule k P f.place ≡ walk_behind rule k P g.mid
@@ -342,5 +342,5 @@ module _ (rule : RuleSet) (plan : Plan) where
     -- what follows moves that are passed over follows from before them
     pub steps-skip : (new : List Frame) (board : Position) (after : ℕ) (given : Bool) → Steps rule plan h p later new board between after given
         → Steps rule plan h p (f ∷ below) new board before after given
-    unfolding IsWhites
+    unfolding are_whites
     steps-skip new board after given s = search (rules, come-skip, open-skip, tries-skip, turns-skip)

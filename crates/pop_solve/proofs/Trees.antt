@@ -1,8 +1,8 @@
 -- What the walk shows is the tree that the definitions name.
-use Rattle.pop_solve.proofs.Words.{Battle, BattlePlay, Bool, Direct, Game, HelpPlay, List, Plan, Selfmate, [], answers, ap, append-nil, arith, best_moves, cond, eqb, every_move, false, fewest, filter, first_from, flat_map, flat_map_single, follows, gives, half_moves_on, keeps, least_moves, lines_to_goal, list_all, map, nat_tests, node, nodes_below, not, open_length, refl, rules, seeks, shown_paths, suc, sym, true, value, varies, zero, ℕ, ◌%◌, ◌&&◌, ◌*◌, ◌++◌, ◌+◌, ◌-◌, ◌/◌, ◌<◌, ◌||◌, ◌∙◌, ◌∷◌, ◌≡◌, ◌≤◌}
+use Rattle.pop_solve.proofs.Words.{Battle, BattlePlay, Bool, Direct, Game, HelpPlay, List, Plan, Selfmate, [], continuations, ap, append-nil, arith, best_moves, cond, eqb, every_move, false, fewest_half_moves, filter, least_length_from, flat_map, flat_map_single, is_followed, is_given, walk_length, keeps_win, least_moves, lines_to_goal, list_all, map, nat_tests, node, nodes_below, not, shown_length, refl, rules, seeks, shown_paths, suc, sym, true, value, has_variations, zero, ℕ, ◌%◌, ◌&&◌, ◌*◌, ◌++◌, ◌+◌, ◌-◌, ◌/◌, ◌<◌, ◌||◌, ◌∙◌, ◌∷◌, ◌≡◌, ◌≤◌}
 use Rattle.pop_solve.proofs.Battles.{value-is_lost, value-is_self_lost}
 use Rattle.pop_solve.proofs.Lengths.{length-more}
-use Rattle.pop_solve.proofs.GoingOn.{length_most, half_moves_on-keys}
+use Rattle.pop_solve.proofs.GoingOn.{length_most, walk_length-keys}
 use Rattle.pop_solve.proofs.Least.{least_moves-direct, least_moves-selfmate}
 
 -- the half-moves of a battle of so many moves
@@ -47,17 +47,17 @@ module _ {P M : Type 0} (game : Game P M) where
         → cond b ((m ∷ []) ∷ []) [] ++ map (λ line. m ∷ line) xs ≡ map (λ line. m ∷ line) ys
     by_move b m xs ys e = search rules
 
-    half_moves_on-whole : (t : ℕ) (q : P) → half_moves_on plan.play (varies plan) game t q ≡ t
-    unfolding half_moves_on
-    half_moves_on-whole t q = rw help refl
+    walk_length-whole : (t : ℕ) (q : P) → walk_length plan.play (has_variations plan.tree) game t q ≡ t
+    unfolding walk_length
+    walk_length-whole t q = rw help refl
 
     -- by some of the moves
     pub shown_paths-moves : (root : Bool) (k : ℕ) (p : P) (ms : List M)
         → shown_paths plan game root (suc k) (suc k) p ms ≡ flat_map (λ m. map (λ line. m ∷ line) (lines_to_goal game k (game.after p m))) ms
-    unfolding shown_paths follows gives lines_to_goal
+    unfolding shown_paths is_followed is_given lines_to_goal
     shown_paths-moves root zero p ms = grind (arith, flat-same, by_move, append-nil)
     shown_paths-moves root (suc k) p ms =
-        flat-same _ _ ms (λ m. grind (arith, by_move, half_moves_on-whole, nat_tests, shown_paths-moves false k (game.after p m) (game.moves (game.after p m))))
+        flat-same _ _ ms (λ m. grind (arith, by_move, walk_length-whole, nat_tests, shown_paths-moves false k (game.after p m) (game.moves (game.after p m))))
 
     -- so from all moves of a position
     pub shown_paths-help : (root : Bool) (k : ℕ) (p : P) → shown_paths plan game root (suc k) (suc k) p (game.moves p) ≡ lines_to_goal game (suc k) p
@@ -73,13 +73,13 @@ module _ {P M : Type 0} (game : Game P M) where
   seeks-halves Direct t s some = let e : t % 2 ≡ 1 = grind (arith, nat_tests) in (t / 2, omega (arith, e))
 
   -- the test of a move of White
-  pub keeps-value : (battle : Battle) (k : ℕ) (q : P) → keeps battle game (suc k) q ≡ value battle game (halves battle (suc k) - 1) q
+  pub keeps-value : (battle : Battle) (k : ℕ) (q : P) → keeps_win battle game (suc k) q ≡ value battle game (halves battle (suc k) - 1) q
   keeps-value Direct k q = let n : suc k - 1 ≡ k = omega arith in let h : 2 * suc k - 1 - 1 ≡ 2 * k = omega arith in rw (n, h) (sym (value-is_lost game k q))
   keeps-value Selfmate k q = let h : 2 * suc k - 1 ≡ suc (2 * k) = omega arith in rw h (sym (value-is_self_lost game k q))
 
   -- the least length by half-moves is that of the least number of moves
   least_moves-halves : (battle : Battle) (n t : ℕ) (q : P) → seeks battle t ≡ true → 0 < t → t ≤ 2 * n → game.goal q ≡ false → value battle game t q ≡ true
-      → first_from battle game q ((t - fewest battle) / 2) (fewest battle) ≡ halves battle (least_moves battle game n q)
+      → least_length_from battle game q ((t - fewest_half_moves battle) / 2) (fewest_half_moves battle) ≡ halves battle (least_moves battle game n q)
   least_moves-halves Selfmate zero t q s some most open_yet v = absurd (omega (arith, some, most))
   least_moves-halves Selfmate (suc n) t q s some most open_yet v =
       grind (arith, seeks-halves Selfmate t s some, length-more, least_moves-selfmate game q open_yet n)
@@ -98,14 +98,14 @@ module _ {P M : Type 0} (game : Game P M) where
   value-black battle t q g s v = search rules
 
   -- nothing stands below the goal
-  nothing : (n k : ℕ) (q : P) → game.goal q ≡ true → (battle : Battle) (s : Bool) → cond s (answers battle game n k q) (nodes_below battle game n k q) ≡ []
-  unfolding answers nodes_below
+  nothing : (n k : ℕ) (q : P) → game.goal q ≡ true → (battle : Battle) (s : Bool) → cond s (continuations battle game n k q) (nodes_below battle game n k q) ≡ []
+  unfolding continuations nodes_below
   nothing n k q g battle s = search rules
 
-  first_from-least_moves : (battle : Battle) (q : P) (n a : ℕ) → a ≤ first_from battle game q n a
-  unfolding first_from
-  first_from-least_moves battle q zero a = search rules
-  first_from-least_moves battle q (suc n) a = search (rules, first_from-least_moves battle q n (a + 2))
+  least_length_from-least_moves : (battle : Battle) (q : P) (n a : ℕ) → a ≤ least_length_from battle game q n a
+  unfolding least_length_from
+  least_length_from-least_moves battle q zero a = search rules
+  least_length_from-least_moves battle q (suc n) a = search (rules, least_length_from-least_moves battle q n (a + 2))
 
   -- White is to move with all half-moves of a battle left
   pub halves-seek : (battle : Battle) (k : ℕ) → seeks battle (halves battle (suc k)) ≡ true
@@ -127,26 +127,26 @@ module _ {P M : Type 0} (game : Game P M) where
   module _ (plan : Plan) (battle : Battle) (fought : plan.play ≡ BattlePlay battle) where
     -- a move that is tested, and one that isn't
     pub by_test : (root : Bool) (t : ℕ) (q : P) → (root || seeks battle (t + 1)) ≡ true
-        → follows plan.play game root t q ≡ value battle game t q
-    unfolding follows
+        → is_followed plan.play game root t q ≡ value battle game t q
+    unfolding is_followed
     by_test root t q s = rw (fought, s) refl
 
-    by_none : (t : ℕ) (q : P) → seeks battle (t + 1) ≡ false → follows plan.play game false t q ≡ true
-    unfolding follows
+    by_none : (t : ℕ) (q : P) → seeks battle (t + 1) ≡ false → is_followed plan.play game false t q ≡ true
+    unfolding is_followed
     by_none t q s = rw (fought, s) refl
 
-    given_always : (t : ℕ) (q : P) → gives plan.play game t q ≡ true
-    unfolding gives
+    given_always : (t : ℕ) (q : P) → is_given plan.play game t q ≡ true
+    unfolding is_given
     given_always t q = rw fought refl
 
     -- what the walk shows by some moves, as nodes
     abbrev pub beneath : ℕ → ℕ → P → List (List M)
-    beneath k t q = shown_paths plan game false k (half_moves_on plan.play (varies plan) game t q) q (game.moves q)
+    beneath k t q = shown_paths plan game false k (walk_length plan.play (has_variations plan.tree) game t q) q (game.moves q)
 
     -- each move that is followed is a node
     pub as_nodes : (root : Bool) (k t : ℕ) (p : P) (ms : List M)
         → shown_paths plan game root (suc k) (suc t) p ms
-        ≡ flat_map (λ m. cond (follows plan.play game root t (game.after p m)) (node m (beneath k t (game.after p m))) []) ms
+        ≡ flat_map (λ m. cond (is_followed plan.play game root t (game.after p m)) (node m (beneath k t (game.after p m))) []) ms
     unfolding shown_paths
     as_nodes root k t p ms = search (rules, flat-same, given_always)
 
@@ -154,13 +154,13 @@ module _ {P M : Type 0} (game : Game P M) where
     white : (n k t : ℕ) (q : P) (G : M → List (List M)) → seeks battle t ≡ true → 0 < t → t ≤ 2 * n → t ≤ suc k → game.goal q ≡ false
         → value battle game t q ≡ true → ((l : ℕ) (m : M) → seeks battle (l + 1) ≡ true → l + 1 ≤ t
         → value battle game l (game.after q m) ≡ true → node m (beneath k l (game.after q m)) ≡ G m)
-        → shown_paths plan game false (suc k) (open_length battle game t q) q (game.moves q)
+        → shown_paths plan game false (suc k) (shown_length battle game t q) q (game.moves q)
         ≡ flat_map G (best_moves battle game n q)
-    unfolding open_length
+    unfolding shown_length
     white n k zero q G s some most room open_yet v each = absurd (omega (arith, some))
     white n k (suc t) q G s some most room open_yet v each =
         let z : eqb (suc t) 0 ≡ false = grind arith in
-        let L = first_from battle game q ((suc t - fewest battle) / 2) (fewest battle) in
+        let L = least_length_from battle game q ((suc t - fewest_half_moves battle) / 2) (fewest_half_moves battle) in
         let h : L ≡ halves battle (least_moves battle game n q) = grind (arith, least_moves-halves) in
         rw (z, open_yet, s) (go L refl h)
       where
@@ -168,11 +168,11 @@ module _ {P M : Type 0} (game : Game P M) where
         z0 = grind arith
 
         L0 : ℕ
-        L0 = first_from battle game q ((suc t - fewest battle) / 2) (fewest battle)
+        L0 = least_length_from battle game q ((suc t - fewest_half_moves battle) / 2) (fewest_half_moves battle)
 
         go : (x : ℕ) → L0 ≡ x → x ≡ halves battle (least_moves battle game n q)
             → shown_paths plan game false (suc k) x q (game.moves q) ≡ flat_map G (best_moves battle game n q)
-        go zero e h = absurd (grind (arith, first_from-least_moves))
+        go zero e h = absurd (grind (arith, least_length_from-least_moves))
         go (suc l) e h =
             let j = half-some battle (least_moves battle game n q) (omega (arith, h)) in
             let h2 : suc l ≡ halves battle (suc j.0) = h ∙ ap (halves battle) j.1 in
@@ -181,37 +181,37 @@ module _ {P M : Type 0} (game : Game P M) where
             let s2 : seeks battle (l + 1) ≡ true = rw n2 (halves-seek battle j.0) in
             let most2 : L0 ≤ suc t = length_most game battle (suc t) q false true false z0 s in
             as_nodes false k l q (game.moves q)
-            ∙ flat-filter _ (λ m. keeps battle game (least_moves battle game n q) (game.after q m)) _ G (game.moves q)
+            ∙ flat-filter _ (λ m. keeps_win battle game (least_moves battle game n q) (game.after q m)) _ G (game.moves q)
             (grind (arith, by_test, keeps-value))
             (λ m v2. each l m s2 (omega (arith, e, most2)) (sym (by_test false l (game.after q m) s2) ∙ v2))
 
-    open-goal : (k : ℕ) (q : P) → game.goal q ≡ true → shown_paths plan game false k (open_length battle game k q) q (game.moves q) ≡ []
-    unfolding open_length
+    open-goal : (k : ℕ) (q : P) → game.goal q ≡ true → shown_paths plan game false k (shown_length battle game k q) q (game.moves q) ≡ []
+    unfolding shown_length
     open-goal k q g = search (rules, shown_paths-zero)
 
-    module _ (variation : varies plan ≡ true) where
-      beneath-is : (k t : ℕ) (q : P) → beneath k t q ≡ shown_paths plan game false k (open_length battle game t q) q (game.moves q)
-      unfolding half_moves_on
+    module _ (variation : has_variations plan.tree ≡ true) where
+      beneath-is : (k t : ℕ) (q : P) → beneath k t q ≡ shown_paths plan game false k (shown_length battle game t q) q (game.moves q)
+      unfolding walk_length
       beneath-is k t q = rw (fought, variation) refl
 
       abbrev Tie : ℕ → ℕ → ℕ → P → Type 0
-      Tie n k t q = shown_paths plan game false k (open_length battle game t q) q (game.moves q) ≡ cond (seeks battle t)
-          (answers battle game n k q) (nodes_below battle game n k q)
+      Tie n k t q = shown_paths plan game false k (shown_length battle game t q) q (game.moves q) ≡ cond (seeks battle t)
+          (continuations battle game n k q) (nodes_below battle game n k q)
 
       tie-goal : (n k t : ℕ) (q : P) → game.goal q ≡ true → Tie n k t q
-      unfolding open_length
+      unfolding shown_length
       tie-goal n k t q g = search (rules, shown_paths-zero, nothing)
 
       tie-white : (n k t : ℕ) (q : P) → ((l : ℕ) (r : P) → value battle game l r ≡ true → l ≤ k → l ≤ 2 * n → Tie n k l r)
           → value battle game (suc t) q ≡ true → suc t ≤ suc k → suc t ≤ 2 * n → game.goal q ≡ false
           → seeks battle (suc t) ≡ true → Tie n (suc k) (suc t) q
-      unfolding answers
+      unfolding continuations
       tie-white n k t q ih v room most g s = search (rules, white, flip, seeks-step, beneath-is)
 
       tie-black : (n k t : ℕ) (q : P) → ((l : ℕ) (r : P) → value battle game l r ≡ true → l ≤ k → l ≤ 2 * n → Tie n k l r)
           → value battle game (suc t) q ≡ true → suc t ≤ suc k → suc t ≤ 2 * n → game.goal q ≡ false
           → seeks battle (suc t) ≡ false → Tie n (suc k) (suc t) q
-      unfolding nodes_below open_length
+      unfolding nodes_below shown_length
       tie-black n k t q ih v room most g s =
           let z : eqb (suc t) 0 ≡ false = grind arith in
           let one : suc t ≡ t + 1 = omega arith in
@@ -238,40 +238,40 @@ module _ {P M : Type 0} (game : Game P M) where
               side false f = c e f
 
     -- where no variations are shown, nothing stands below a move of White
-    beneath-none : (k t : ℕ) (q : P) → varies plan ≡ false → seeks battle (t + 1) ≡ true → beneath k t q ≡ []
-    beneath-none k t q v s = search (rules, half_moves_on-keys, shown_paths-zero)
+    beneath-none : (k t : ℕ) (q : P) → has_variations plan.tree ≡ false → seeks battle (t + 1) ≡ true → beneath k t q ≡ []
+    beneath-none k t q v s = search (rules, walk_length-keys, shown_paths-zero)
 
     beneath-set : (k t : ℕ) (q : P) → seeks battle (t + 1) ≡ false
-        → beneath k t q ≡ shown_paths plan game false k (open_length battle game t q) q (game.moves q)
-    unfolding half_moves_on
+        → beneath k t q ≡ shown_paths plan game false k (shown_length battle game t q) q (game.moves q)
+    unfolding walk_length
     beneath-set k t q s = search rules
 
     -- below a key
     pub nodes_below-key : (n h : ℕ) (q : P) → seeks battle (suc h) ≡ true → suc h ≤ 2 * n → value battle game h q ≡ true
-        → beneath h h q ≡ cond (varies plan) (nodes_below battle game n h q) []
-    nodes_below-key n h q s most v = go (varies plan) refl
+        → beneath h h q ≡ cond (has_variations plan.tree) (nodes_below battle game n h q) []
+    nodes_below-key n h q s most v = go (has_variations plan.tree) refl
       where
         s1 : seeks battle (h + 1) ≡ true
         s1 = let one : suc h ≡ h + 1 = omega arith in rw (← one) s
 
-        go : (b : Bool) → varies plan ≡ b → beneath h h q ≡ cond b (nodes_below battle game n h q) []
+        go : (b : Bool) → has_variations plan.tree ≡ b → beneath h h q ≡ cond b (nodes_below battle game n h q) []
         go true e =
             beneath-is e h h q ∙ tie e n h h q v (omega arith) (omega (arith, most))
-            ∙ ap (λ x. cond x (answers battle game n h q) (nodes_below battle game n h q))
+            ∙ ap (λ x. cond x (continuations battle game n h q) (nodes_below battle game n h q))
             (flip _ (sym (seeks-step battle h) ∙ s1))
         go false e = beneath-none h h q e s1
 
     -- below a first move of Black in set play
     pub nodes_below-set : (n h : ℕ) (r : P) → seeks battle h ≡ true → h ≤ 2 * n → value battle game h r ≡ true
-        → beneath h h r ≡ cond (varies plan) (answers battle game n h r)
+        → beneath h h r ≡ cond (has_variations plan.tree) (continuations battle game n h r)
         (cond (game.goal r) [] (map (λ m. m ∷ []) (best_moves battle game n r)))
-    nodes_below-set n h r s most v = go (varies plan) refl
+    nodes_below-set n h r s most v = go (has_variations plan.tree) refl
       where
         s1 : seeks battle (h + 1) ≡ false
         s1 = seeks-step battle h ∙ ap not s
 
-        no_variation : varies plan ≡ false → (h2 : ℕ) → h ≡ h2 → (g : Bool) → game.goal r ≡ g
-            → shown_paths plan game false h2 (open_length battle game h2 r) r (game.moves r) ≡ cond g []
+        no_variation : has_variations plan.tree ≡ false → (h2 : ℕ) → h ≡ h2 → (g : Bool) → game.goal r ≡ g
+            → shown_paths plan game false h2 (shown_length battle game h2 r) r (game.moves r) ≡ cond g []
             (map (λ m. m ∷ []) (best_moves battle game n r))
         no_variation e h2 i true g = open-goal h2 r g
         no_variation e zero i false g = absurd (grind (arith, value-end-zero))
@@ -280,10 +280,10 @@ module _ {P M : Type 0} (game : Game P M) where
             (λ l m s2 less v2. ap (node m) (beneath-none k l (game.after r m) e s2))
             ∙ flat_map_single (λ m. m ∷ []) (best_moves battle game n r)
 
-        go : (b : Bool) → varies plan ≡ b
-            → beneath h h r ≡ cond b (answers battle game n h r)
+        go : (b : Bool) → has_variations plan.tree ≡ b
+            → beneath h h r ≡ cond b (continuations battle game n h r)
             (cond (game.goal r) [] (map (λ m. m ∷ []) (best_moves battle game n r)))
         go true e =
             beneath-is e h h r ∙ tie e n h h r v (omega arith) most
-            ∙ ap (λ x. cond x (answers battle game n h r) (nodes_below battle game n h r)) s
+            ∙ ap (λ x. cond x (continuations battle game n h r) (nodes_below battle game n h r)) s
         go false e = beneath-set h h r s1 ∙ no_variation e h refl (game.goal r) refl

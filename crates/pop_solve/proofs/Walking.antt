@@ -1,6 +1,6 @@
 -- The outcomes of a step for frames listed from the bottom up, as the code holds them, and what its calls hand on.
 use Rattle.pop_solve.specs.declared.aim.Aim.{Aim}
-use Rattle.pop_solve.proofs.Words.{AreKnown, Bool, CameFrom, CameFromAt, Counts, Frame, GoesTo, HasCounted, HelpPlay, IfSome, IsNextMate, IsNextOf, IsNextUnsettled, IsPlaceIn, IsWalking, LegalPlace, List, MatchOption, Mate, Option, Plan, Position, RuleSet, Steps, [], ap, append-nil, arith, chess, eqb, false, follows, gives, half_moves_on, inl, inr, is_for_mate, is_mate, is_legal, length, length-reverse, mates_behind, nat_tests, moves_behind, moves_behind-end, position, refl, reverse, reverse-append, rules, seeks_last, smallest_tree, subst, suc, sym, true, undo_of, value, varies, ℕ, ◌++◌, ◌+◌, ◌-◌, ◌<◌, ◌∙◌, ◌∷◌, ◌≡◌, ◌≤◌, ◌⊎◌, Move}
+use Rattle.pop_solve.proofs.Words.{AreKnown, Bool, CameFrom, CameFromAt, Counts, Frame, GoesTo, HasCounted, HelpPlay, IfSome, IsNextMate, IsNextOf, IsNextUnsettled, IsPlaceIn, IsWalking, LegalPlace, List, MatchOption, Mate, Option, Plan, Position, RuleSet, Steps, [], ap, append-nil, arith, chess, eqb, false, is_followed, is_given, walk_length, inl, inr, is_for_mate, is_mate, is_legal, length, length-reverse, mates_behind, nat_tests, moves_behind, moves_behind-end, position, refl, reverse, reverse-append, rules, seeks_last, smallest_tree, subst, suc, sym, true, undo_of, value, has_variations, ℕ, ◌++◌, ◌+◌, ◌-◌, ◌<◌, ◌∙◌, ◌∷◌, ◌≡◌, ◌≤◌, ◌⊎◌, Move}
 use Rattle.chess_rules.specs.Play.{position_after}
 use Rattle.pop_solve.proofs.Boards.{for_mate}
 use Rattle.pop_solve.specs.ties.Frames.{opened_frame}
@@ -68,10 +68,10 @@ module _ (rule : RuleSet) (plan : Plan) (h : ℕ) (top : Frame) (old new : List 
 
     -- a step that plays its next move
     pub enter_steps : (root given : Bool) (after : Position) (opened2 : ℕ) → root ≡ eqb depth 0
-        → (follows plan.play (chess plan.goal rule) root behind arrived ≡ false → (given ≡ false) × (after ≡ now) × (last ≡ mid))
-        → (follows plan.play (chess plan.goal rule) root behind arrived ≡ true → (given ≡ gives plan.play (chess plan.goal rule) behind arrived)
+        → (is_followed plan.play (chess plan.goal rule) root behind arrived ≡ false → (given ≡ false) × (after ≡ now) × (last ≡ mid))
+        → (is_followed plan.play (chess plan.goal rule) root behind arrived ≡ true → (given ≡ is_given plan.play (chess plan.goal rule) behind arrived)
         × (after ≡ arrived)
-        × (last ≡ mid ++ opened_frame m (undo_of rule now m) (half_moves_on plan.play (varies plan) (chess plan.goal rule) behind arrived) ∷ []))
+        × (last ≡ mid ++ opened_frame m (undo_of rule now m) (walk_length plan.play (has_variations plan.tree) (chess plan.goal rule) behind arrived) ∷ []))
         → Counts rule plan root behind arrived between opened2
         → (p : Position) → IsWalking rule h p (reverse old) board → Steps rule plan h p (reverse old) (reverse last) after opened opened2 given
     enter_steps root given after opened2 flag passes enters counts p r =
@@ -84,7 +84,7 @@ module _ (rule : RuleSet) (plan : Plan) (h : ℕ) (top : Frame) (old new : List 
         let g = subst T (sym at ∙ r2.board_at) some.1 in
         let r3 = walking-moved rule h p f g.mid (reverse new) now now r2 refl in
         let here : moves_behind rule now g.mid ≡ m ∷ moves_behind rule now place = rw r2.board_at g.here in
-        elim (cases (follows plan.play (chess plan.goal rule) root behind arrived)) [
+        elim (cases (is_followed plan.play (chess plan.goal rule) root behind arrived)) [
           | inl passed ↦
               let x = passes passed in
               rw (popped old new top taken, x.2, mid_is, x.0) (steps-learned rule plan h p top known (reverse new) _ after opened opened2 false

@@ -35,16 +35,16 @@ pub use Rattle.pop_input.specs.Stipulations.{half_moves, half_moves_of, is_help,
 pub use Rattle.pop_input.specs.declared.stipulation.Form.{Form}
 pub use Rattle.pop_input.specs.declared.stipulation.Goal.{Goal}
 pub use Rattle.pop_input.specs.declared.stipulation.Goal.TheVariants.{Mate}
-pub use Rattle.pop_solve.specs.Aims.{play_of}
+pub use Rattle.pop_solve.specs.Plays.{play_of}
 pub use Rattle.pop_solve.specs.Chess.{chess, is_goal_reached, set_start}
 unfoldable pub use Rattle.pop_events.specs.Shown.{shown_move}
-pub use Rattle.pop_solve.specs.Events.{BareEvent, event_of, events, events_from, first_phase, game_of, impossible, is_barred, is_set, line, opening, path_event, phase_count, phase_half, phase_half_moves, phase_start, play_start, shown_along, shown_last, solutions_by, total, tree_node}
+pub use Rattle.pop_solve.specs.Events.{BareEvent, event_of, events, events_from, first_phase, game_of, impossible, is_barred, is_set, line, opening, path_event, phase_count, phase_half, phase_half_moves, phase_start, play_start, moves_shown, last_shown, solutions_by, total, tree_node}
 unfoldable pub use Rattle.pop_solve.specs.Events.{phase_events, solutions}
 pub use Rattle.pop_solve.specs.Game.{Game, can_move, every_move, path_end, some_move}
 unfoldable pub use Rattle.pop_solve.specs.Game.{help_lines, is_lost, is_self_lost, lines_to_goal, self_wins, wins}
 pub use Rattle.pop_events.specs.Shown.{Shown}
-pub use Rattle.pop_solve.specs.Tree.{best_moves, keeps, least_moves, node, set_shows, tree, wins_in}
-unfoldable pub use Rattle.pop_solve.specs.Tree.{answers, nodes_below, set_tree}
+pub use Rattle.pop_solve.specs.Tree.{best_moves, keeps_win, least_moves, node, is_in_set_play, tree, wins_in}
+unfoldable pub use Rattle.pop_solve.specs.Tree.{continuations, nodes_below, set_tree}
 pub use Rattle.pop_solve.specs.declared.aim.Battle.{Battle}
 pub use Rattle.pop_solve.specs.declared.aim.Battle.TheVariants.{Direct, Selfmate}
 pub use Rattle.pop_solve.specs.declared.aim.Play.{Play as PlayOfSides}
@@ -60,14 +60,14 @@ pub use Rattle.pop_solve.specs.declared.plan.Plan.{Plan}
 pub use Rattle.pop_solve.specs.ties.Calls.{Counts}
 pub use Rattle.pop_solve.specs.ties.Counts.{HasCounted, decided_by}
 unfoldable pub use Rattle.pop_solve.specs.ties.Counts.{least_of, smallest_below, smallest_tree, walk_count}
-pub use Rattle.pop_solve.specs.ties.Frames.{CameFrom, CameFromAt, Ends, Frame, IsOpenedOn, IsTesting, Order, Turns, all_moves_of, comes_early, is_at, moves_ahead, opened_frame, stretches_behind, tested_frame, top_left, untried_moves}
-unfoldable pub use Rattle.pop_solve.specs.ties.Frames.{AreKnown, IsCut, IsLinked, belongs, delivered_value, moves_here, moves_later, pending_value, position, steps, steps_among, steps_behind, tests, to_open, to_test, to_try, to_try_with, walk_among, walk_behind, work}
+pub use Rattle.pop_solve.specs.ties.Frames.{CameFrom, CameFromAt, Ends, Frame, IsOpenedOn, IsTesting, Order, Turns, all_moves_of, comes_early, is_at, moves_ahead, opened_frame, stretches_behind, tested_frame, left_at_top, untried_moves}
+unfoldable pub use Rattle.pop_solve.specs.ties.Frames.{AreKnown, IsDescending, IsLinked, belongs, delivered_value, moves_here, moves_later, pending_value, position, work_from, work_among, work_behind, tests, to_open, to_test, to_try, to_try_with, walk_among, walk_behind, test_work}
 pub use Rattle.pop_solve.specs.ties.Marks.{is_for_mate}
-pub use Rattle.pop_solve.specs.ties.Phases.{Gives, IsGiven, IsKeys, IsOpened, OpensOn, Walks, begins, phase_paths}
-unfoldable pub use Rattle.pop_solve.specs.ties.Phases.{IsNarrow, IsStanding, beginning_count, keep, left_of, rest_fewest, rest_open}
-pub use Rattle.pop_solve.specs.ties.Plans.{helps, plan_of, shows_variations, tree_shown, varies}
+pub use Rattle.pop_solve.specs.ties.Phases.{Gives, IsGiven, IsKeys, IsOpened, OpensOn, Walks, begins_solution, phase_paths}
+unfoldable pub use Rattle.pop_solve.specs.ties.Phases.{IsNarrow, IsStanding, beginning_count, kept_paths, left_of, rest_fewest, rest_open}
+pub use Rattle.pop_solve.specs.ties.Plans.{is_help_play, plan_of, has_variations, tree_with}
 pub use Rattle.pop_solve.specs.ties.Seen.{StandsOn, fewest_from, is_stop, is_unstopped, is_walked_once, phase_fewest, phase_walk, walk_from}
 pub use Rattle.pop_solve.specs.ties.Values.{decides, join, seeks}
 unfoldable pub use Rattle.pop_solve.specs.ties.Values.{joined_value, value}
-pub use Rattle.pop_solve.specs.ties.Walk.{AreSettled, GoesTo, HaveNoPaths, IsCounted, IsEnded, IsNextOf, IsNextUnsettled, IsWalking, Passes, Opens, Steps, Tries, ends_variation, fewest, fewest_for, seeks_last}
-unfoldable pub use Rattle.pop_solve.specs.ties.Walk.{IsRoomy, IsWhites, fewest_left, fewest_walked, first_from, follows, gives, half_moves_on, open_length, path, shown_paths, to_come, turns}
+pub use Rattle.pop_solve.specs.ties.Walk.{AreSettled, GoesTo, HaveNoPaths, IsCounted, IsEnded, IsNextOf, IsNextUnsettled, IsWalking, Passes, Opens, Steps, Tries, ends_variation, fewest_half_moves, fewest_for, seeks_last}
+unfoldable pub use Rattle.pop_solve.specs.ties.Walk.{IsRoomy, are_whites, fewest_left, fewest_walked, least_length_from, is_followed, is_given, walk_length, shown_length, path, shown_paths, to_come, walk_work}

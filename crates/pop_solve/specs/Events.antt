@@ -1,6 +1,6 @@
 -- The events of a problem: its phases, their solutions and their totals. Set play, the limit of solutions and the order
 -- of events are this project's own; half-moves are numbered as in the Popeye manual.
-use Rattle.pop_solve.specs.Aims.{play_of}
+use Rattle.pop_solve.specs.Plays.{play_of}
 use Rattle.pop_solve.specs.declared.aim.Play.{Play as PlayOfSides}
 use Rattle.pop_solve.specs.declared.aim.Play.TheVariants.{Help as HelpPlay, Battle as BattlePlay}
 use Rattle.pop_input.specs.declared.stipulation.Goal.{Goal}
@@ -116,16 +116,16 @@ abbrev pub events : RuleSet → Posed → List BareEvent
 events rule problem = events_from rule problem (first_phase problem)
 
 -- the moves of a path from p as they are shown
-abbrev pub shown_along : Goal → RuleSet → Position → Path → List Shown
-shown_along goal rule p [] = []
-shown_along goal rule p (m ∷ path) = shown_move goal rule p m
-    ∷ shown_along goal rule (position_after rule p m) path
+abbrev pub moves_shown : Goal → RuleSet → Position → Path → List Shown
+moves_shown goal rule p [] = []
+moves_shown goal rule p (m ∷ path) = shown_move goal rule p m
+    ∷ moves_shown goal rule (position_after rule p m) path
 
 -- the last move of a path from p as it is shown
-abbrev pub shown_last : Goal → RuleSet → Position → Path → Shown
-shown_last goal rule p [] = nothing_shown
-shown_last goal rule p (m ∷ []) = shown_move goal rule p m
-shown_last goal rule p (m ∷ (n ∷ path)) = shown_last goal rule (position_after rule p m) (n ∷ path)
+abbrev pub last_shown : Goal → RuleSet → Position → Path → Shown
+last_shown goal rule p [] = nothing_shown
+last_shown goal rule p (m ∷ []) = shown_move goal rule p m
+last_shown goal rule p (m ∷ (n ∷ path)) = last_shown goal rule (position_after rule p m) (n ∷ path)
 
 -- the number of a phase's first half-move
 abbrev pub phase_half : Posed → Phase → ℕ
@@ -138,12 +138,12 @@ event_of rule problem (opening phase) = PhaseEvent phase
 event_of rule problem impossible = Impossible
 event_of rule problem (line phase path) =
     Line (phase_half problem phase) (record {
-      items = shown_along problem.stipulation.goal rule
+      items = moves_shown problem.stipulation.goal rule
           (phase_start problem phase) path;
     })
 event_of rule problem (tree_node phase path) =
     Node (length path - 1) (phase_half problem phase + (length path - 1))
-    (shown_last problem.stipulation.goal rule (phase_start problem phase) path)
+    (last_shown problem.stipulation.goal rule (phase_start problem phase) path)
 event_of rule problem (total count stopped) = Total count stopped
 
 -- all events of a problem, under its own condition

@@ -1,4 +1,4 @@
-pub mod Aims
+pub mod Plays
 pub mod Game
 pub mod Tree
 pub mod Chess

@@ -13,9 +13,9 @@ module _ {M : Type 0} where
 
 module _ {P M : Type 0} where
   -- after a move of White to q he still wins within n moves, that one counted
-  abbrev pub keeps : Battle → Game P M → ℕ → P → Bool
-  keeps Direct game n q = is_lost game (n - 1) q
-  keeps Selfmate game n q = is_self_lost game n q
+  abbrev pub keeps_win : Battle → Game P M → ℕ → P → Bool
+  keeps_win Direct game n q = is_lost game (n - 1) q
+  keeps_win Selfmate game n q = is_self_lost game n q
 
   -- White to move wins p within k moves
   abbrev pub wins_in : Battle → Game P M → ℕ → P → Bool
@@ -29,7 +29,7 @@ module _ {P M : Type 0} where
   -- the moves to a win in the least number of moves, up to n
   abbrev pub best_moves : Battle → Game P M → ℕ → P → List M
   best_moves battle game n r =
-      filter (λ m. keeps battle game (least_moves battle game n r) (game.after r m))
+      filter (λ m. keeps_win battle game (least_moves battle game n r) (game.after r m))
       (game.moves r)
 
   unfoldable mutual
@@ -38,12 +38,12 @@ module _ {P M : Type 0} where
     nodes_below battle game n zero q = []
     nodes_below battle game n (suc h) q =
         if game.goal q then [] else flat_map
-        (λ d. node d (answers battle game n h (game.after q d))) (game.moves q)
+        (λ d. node d (continuations battle game n h (game.after q d))) (game.moves q)
 
     -- the nodes below a position in which White moves: his best continuations
-    pub answers : Battle → Game P M → ℕ → ℕ → P → List (List M)
-    answers battle game n zero r = []
-    answers battle game n (suc h) r =
+    pub continuations : Battle → Game P M → ℕ → ℕ → P → List (List M)
+    continuations battle game n zero r = []
+    continuations battle game n (suc h) r =
         if game.goal r then []
         else flat_map (λ m. node m (nodes_below battle game n h (game.after r m)))
         (best_moves battle game n r)
@@ -53,18 +53,18 @@ module _ {P M : Type 0} where
   tree battle game variation n h p =
       map (λ m. node m (if variation then nodes_below battle game n (h - 1) (game.after p m)
       else []))
-      (filter (λ m. keeps battle game n (game.after p m)) (game.moves p))
+      (filter (λ m. keeps_win battle game n (game.after p m)) (game.moves p))
 
   -- the moves of Black that set play shows
-  abbrev pub set_shows : Battle → Game P M → ℕ → P → Bool
-  set_shows Direct game n r = wins game (n - 1) r
-  set_shows Selfmate game n r = game.goal r || self_wins game (n - 1) r
+  abbrev pub is_in_set_play : Battle → Game P M → ℕ → P → Bool
+  is_in_set_play Direct game n r = wins game (n - 1) r
+  is_in_set_play Selfmate game n r = game.goal r || self_wins game (n - 1) r
 
   -- set play, of h half-moves: a list of nodes for each first move of Black
   unfoldable pub set_tree : Battle → Game P M → Bool → ℕ → ℕ → P → List (List (List M))
   set_tree battle game variation n zero p = []
   set_tree battle game variation n (suc h) p =
       map (λ d. let r = game.after p d in
-      node d (if variation then answers battle game n h r
+      node d (if variation then continuations battle game n h r
       else (if game.goal r then [] else map (λ m. m ∷ []) (best_moves battle game n r))))
-      (filter (λ d. set_shows battle game n (game.after p d)) (game.moves p))
+      (filter (λ d. is_in_set_play battle game n (game.after p d)) (game.moves p))

@@ -1,6 +1,6 @@
 //! What a search is after.
 ghost use Rattle.std.specs.Prelude.{◌≡◌};
-ghost use Rattle.pop_solve.specs.Aims.{play_of};
+ghost use Rattle.pop_solve.specs.Plays.{play_of};
 
 use pop_input::stipulation::{Form, Goal};
 
@@ -29,7 +29,7 @@ impl Play {
     {
         match form {
             Form::Direct => Play::Battle(Battle::Direct),
-            Form::SelfMate => Play::Battle(Battle::Selfmate),
+            Form::Selfmate => Play::Battle(Battle::Selfmate),
             Form::Help | Form::HelpHalf => Play::Help,
         }
     }

@@ -184,7 +184,7 @@ pub(crate) fn mark_of<R: Rules>(goal: Goal, board: &mut Board) -> Mark
             Mark::Mate
         };
     }
-    if goal.is_stalemate() && !has_legal_move::<R>(board) {
+    if goal.is_for_stalemate() && !has_legal_move::<R>(board) {
         Mark::Stalemate
     } else {
         Mark::Plain

@@ -6,7 +6,7 @@ ghost use Rattle.pop_input.specs.Posed.{IsSound};
 ghost use Rattle.pop_input.specs.Stipulations.{half_moves, is_help};
 ghost use Rattle.pop_solve.specs.Events.{first_phase, play_start, phase_half_moves as half_moves_of_phase, phase_start, phase_half as half_of_phase, event_of, is_barred, path_event, is_set, opening};
 ghost use Rattle.pop_solve.specs.ties.Walk.{IsEnded, IsWalking, Opens, Tries, path};
-ghost use Rattle.pop_solve.specs.ties.Plans.{helps, plan_of};
+ghost use Rattle.pop_solve.specs.ties.Plans.{is_help_play, plan_of};
 ghost use Rattle.pop_solve.specs.ties.Phases.{left_of, IsStanding, Walks, Gives, OpensOn};
 ghost use Rattle.pop_events.specs.declared.event.Event.TheVariants.{Total};
 ghost use Rattle.pop_events.specs.declared.event.Phase.TheVariants.{Play};
@@ -18,7 +18,7 @@ use crate::frame::Frame;
 use crate::history::History;
 use crate::plan::Plan;
 use crate::showing::{last_shown, line};
-use crate::walk::{opened_by, step, step_back};
+use crate::walk::{opened_after, step, step_back};
 use arrayvec::ArrayVec;
 use chess_core::board::Board;
 use chess_rules::moves::Moves;
@@ -74,7 +74,7 @@ fn phase_half(problem: &Problem, phase: Phase) -> u32
 
 /// Whether a phase ends before another solution begins: so many have begun, and none is on the way.
 fn is_full(plan: Plan, depth: usize, limit: u32) -> bool
-    ensures { result ≡ ((limit == 0) && (helps plan.play || (depth == 1))) }
+    ensures { result ≡ ((limit == 0) && (is_help_play plan.play || (depth == 1))) }
 {
     limit == 0 && (plan.play == aim::Play::Help || depth == 1)
 }
@@ -213,7 +213,7 @@ fn begin<R: Rules, const N: usize>(
         known: None,
         ..Frame::default()
     });
-    history.opened = opened_by(history.opened, left, false);
+    history.opened = opened_after(history.opened, left, false);
     Stage::Within { phase, count: 0 }
 }
 

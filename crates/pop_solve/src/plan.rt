@@ -1,6 +1,6 @@
 //! What is walked.
 ghost use Rattle.std.specs.Prelude.{◌≡◌};
-ghost use Rattle.pop_solve.specs.ties.Plans.{plan_of, shows_variations, tree_shown};
+ghost use Rattle.pop_solve.specs.ties.Plans.{plan_of, has_variations, tree_with};
 
 use crate::aim::Play;
 use pop_input::problem::Problem;
@@ -26,7 +26,7 @@ pub struct Plan {
 impl Tree {
     /// What is shown with variations or without.
     fn with(variation: bool) -> Tree
-        ensures { result ≡ tree_shown variation }
+        ensures { result ≡ tree_with variation }
     {
         if variation {
             Tree::Variations
@@ -37,7 +37,7 @@ impl Tree {
 
     /// Whether variations are shown.
     pub(crate) fn has_variations(self) -> bool
-        ensures { result ≡ shows_variations self }
+        ensures { result ≡ has_variations self }
     {
         match self {
             Tree::Keys => false,

@@ -6,9 +6,9 @@ ghost use Rattle.chess_rules.specs.Legal.{is_legal};
 ghost use Rattle.chess_rules.specs.Play.{position_after};
 ghost use Rattle.pop_solve.specs.Chess.{chess};
 ghost use Rattle.pop_events.specs.Shown.{shown_move};
-ghost use Rattle.pop_solve.specs.Events.{shown_along, shown_last};
+ghost use Rattle.pop_solve.specs.Events.{moves_shown, last_shown};
 ghost use Rattle.pop_solve.specs.ties.Frames.{CameFrom, CameFromAt};
-ghost use Rattle.pop_solve.specs.ties.Plans.{varies};
+ghost use Rattle.pop_solve.specs.ties.Plans.{has_variations};
 ghost use Rattle.pop_solve.specs.ties.Walk.{ends_variation, IsEnded, IsWalking, path};
 ghost use Rattle.pop_solve.specs.declared.chess.Reached.TheVariants.{Perhaps, Surely};
 ghost use Rattle.std.specs.Prelude.{◌≡◌, ◌≤◌, ℕ, if◌then◌else◌, length, reverse, true};
@@ -17,7 +17,7 @@ use crate::aim::Play;
 use crate::chess::{Reached, mark_after, retract, shown_of};
 use crate::frame::Frame;
 use crate::plan::Plan;
-use crate::value::seeking;
+use crate::value::seeks;
 use arrayvec::ArrayVec;
 use chess_core::board::Board;
 use chess_rules::rules::Rules;
@@ -34,12 +34,12 @@ fn take_back<R: Rules>(frame: &Frame<R>, board: &mut Board)
 
 /// What is known of the goal at the frame: in direct play with variations it is reached where a variation ends.
 fn reached_at<R: Rules>(plan: Plan, frame: &Frame<R>) -> Reached
-    ensures { result ≡ if ends_variation plan.play (varies plan) frame.now.left then Surely
+    ensures { result ≡ if ends_variation plan.play (has_variations plan.tree) frame.now.left then Surely
         else Perhaps }
 {
     match plan.play {
         Play::Battle(battle)
-            if frame.left == 0 && plan.tree.has_variations() && seeking(battle, 1) => {
+            if frame.left == 0 && plan.tree.has_variations() && seeks(battle, 1) => {
             Reached::Surely
         }
         _ => Reached::Perhaps,
@@ -91,7 +91,7 @@ pub(crate) fn line<R: Rules>(
         × IsWalking R.rule h p (reverse frames.now) board.old }
     ensures unchanged { board.new ≡ board.old }
     ensures line { (h : ℕ) (p : Position) → IsWalking R.rule h p (reverse frames.now) board.old
-        → result.items ≡ shown_along goal R.rule p (path (reverse frames.now)) }
+        → result.items ≡ moves_shown goal R.rule p (path (reverse frames.now)) }
 {
     take_all_back::<R>(frames, board);
     let mut line = ArrayVec::new();
@@ -109,7 +109,7 @@ pub(crate) fn last_shown<R: Rules>(plan: Plan, frames: &[Frame<R>], board: &mut 
     requires ended { IsEnded R.rule plan (reverse frames.now) board.old }
     ensures unchanged { board.new ≡ board.old }
     ensures shown { (h : ℕ) (p : Position) → IsWalking R.rule h p (reverse frames.now) board.old
-        → result ≡ shown_last plan.goal R.rule p (path (reverse frames.now)) }
+        → result ≡ last_shown plan.goal R.rule p (path (reverse frames.now)) }
 {
     let top = &frames[frames.len() - 1];
     let reached = reached_at::<R>(plan, top);

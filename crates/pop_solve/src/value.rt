@@ -8,7 +8,7 @@ ghost use Rattle.chess_rules.specs.Legal.{is_legal};
 ghost use Rattle.chess_rules.specs.ties.Places.{IsPlaceIn, moves_behind, place_of};
 ghost use Rattle.chess_rules.specs.Play.{undo_of};
 ghost use Rattle.arrayvec.specs.ArrayVec.{array_vec_len};
-ghost use Rattle.pop_solve.specs.ties.Frames.{IsTesting, IsOpenedOn, CameFrom, CameFromAt, Turns, Ends, tests, top_left, moves_ahead, all_moves_of, belongs, comes_early, moves_here, moves_later, stretches_behind};
+ghost use Rattle.pop_solve.specs.ties.Frames.{IsTesting, IsOpenedOn, CameFrom, CameFromAt, Turns, Ends, tests, left_at_top, moves_ahead, all_moves_of, belongs, comes_early, moves_here, moves_later, stretches_behind};
 ghost use Rattle.pop_solve.specs.Chess.{chess};
 ghost use Rattle.pop_solve.specs.ties.Calls.{Evaluates, Finds};
 ghost use Rattle.pop_solve.specs.ties.Marks.{is_for_mate};
@@ -35,7 +35,7 @@ use chess_rules::rules::Rules;
 use pop_input::stipulation::Goal;
 
 /// Whether one good move is enough with `left` half-moves left.
-pub(crate) fn seeking(battle: Battle, left: usize) -> bool
+pub(crate) fn seeks(battle: Battle, left: usize) -> bool
     ensures { result ≡ seeks battle left }
 {
     match battle {
@@ -48,7 +48,7 @@ pub(crate) fn seeking(battle: Battle, left: usize) -> bool
 fn is_free(battle: Battle, left: usize) -> bool
     ensures { result ≡ (left % 2 == 1 && seeks battle left) }
 {
-    left % 2 == 1 && seeking(battle, left)
+    left % 2 == 1 && seeks(battle, left)
 }
 
 /// The value of a position without a legal move, with `left` half-moves left where a move counts.
@@ -80,7 +80,7 @@ fn last_value<R: Rules>(battle: Battle, board: &mut Board, killers: &mut Killers
 /// The value of a position, where it is known without a frame; else what is known of its moves, if they were looked for.
 /// The last half-move needs no frame where mate is the goal, and is counted as one.
 #[tactic(auto, using(crate::proofs::Boards::settling, crate::proofs::SmallestTrees::shortest, crate::proofs::Values::free_moves))]
-fn settled<R: Rules>(
+fn value_at_once<R: Rules>(
     aim: Aim,
     left: usize,
     board: &mut Board,
@@ -123,7 +123,7 @@ fn settled<R: Rules>(
 }
 
 /// Whether the answer for its last move decides a position.
-fn decided(answer: Option<bool>, seek: bool) -> bool
+fn is_decided(answer: Option<bool>, seek: bool) -> bool
     ensures { MatchBool result (answer ≡ Some seek) ((answer ≡ None) ⊎ (answer ≡ Some (not seek))) }
 {
     match answer {
@@ -376,7 +376,7 @@ fn descend<R: Rules, const N: usize>(
     }
     let undo = R::play(board, by);
     let mut known = None;
-    let answer = settled::<R>(aim, left, board, &mut known, history);
+    let answer = value_at_once::<R>(aim, left, board, &mut known, history);
     if answer.is_some() {
         retract::<R>(board, by, undo);
         return answer;
@@ -407,10 +407,10 @@ fn turn<R: Rules, const N: usize>(
 ) -> Option<bool>
     requires well_formed { IsWellFormed board.old }
     requires above { floor < array_vec_len frames.old }
-    requires room { top_left (tests floor frames.old.items) + array_vec_len frames.old ≤ N + 1 }
+    requires room { left_at_top (tests floor frames.old.items) + array_vec_len frames.old ≤ N + 1 }
     requires testing { (p : Position) × IsTesting R.rule p (tests floor frames.old.items)
         board.old }
-    ensures room { IfNone result (top_left (tests floor frames.new.items) + array_vec_len frames.new
+    ensures room { IfNone result (left_at_top (tests floor frames.new.items) + array_vec_len frames.new
         ≤ N + 1) }
     ensures next { (p : Position) → IsTesting R.rule p (tests floor frames.old.items) board.old
         → MatchOption result
@@ -423,8 +423,8 @@ fn turn<R: Rules, const N: usize>(
         return None;
     };
     let depth = frames.len();
-    let seek = seeking(aim.battle, top.left);
-    if decided(*answer, seek) {
+    let seek = seeks(aim.battle, top.left);
+    if is_decided(*answer, seek) {
         history.killers.put(top.left, top.place);
         return close::<R>(seek, floor, depth, top, board, answer);
     }
@@ -457,7 +457,7 @@ pub(crate) fn value_of<R: Rules, const N: usize>(
         history.old.opened history.new.opened result }
 {
     let mut known = None;
-    if let Some(v) = settled::<R>(aim, left, board, &mut known, history) {
+    if let Some(v) = value_at_once::<R>(aim, left, board, &mut known, history) {
         return v;
     }
     let floor = frames.len();

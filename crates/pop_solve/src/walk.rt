@@ -11,21 +11,21 @@ ghost use Rattle.arrayvec.specs.ArrayVec.{array_vec_len};
 ghost use Rattle.pop_solve.specs.declared.aim.Battle.{Battle};
 ghost use Rattle.pop_solve.specs.declared.aim.Play.TheVariants.{Help as HelpPlay, Battle as BattlePlay};
 ghost use Rattle.pop_solve.specs.ties.Calls.{Counts, Evaluates, Restores};
-ghost use Rattle.pop_solve.specs.ties.Plans.{varies};
+ghost use Rattle.pop_solve.specs.ties.Plans.{has_variations};
 ghost use Rattle.pop_solve.specs.ties.Frames.{CameFrom, CameFromAt, opened_frame};
 ghost use Rattle.pop_solve.specs.Chess.{chess};
 ghost use Rattle.chess_mates.specs.ties.Threats.{AreThreatsOf};
 ghost use Rattle.pop_input.specs.declared.stipulation.Goal.TheVariants.{Mate};
 ghost use Rattle.pop_solve.specs.ties.Marks.{is_for_mate};
 ghost use Rattle.pop_solve.specs.ties.Values.{seeks, value};
-ghost use Rattle.pop_solve.specs.ties.Walk.{fewest as fewest_of, first_from, open_length, follows as is_followed, gives as is_given, half_moves_on, IsMatedAtLast, IsNextOf, IsNextUnsettled, IsWalking, seeks_last, Steps};
+ghost use Rattle.pop_solve.specs.ties.Walk.{fewest_half_moves, least_length_from, shown_length, is_followed, is_given, walk_length, IsMatedAtLast, IsNextOf, IsNextUnsettled, IsWalking, seeks_last, Steps};
 
 use crate::aim::{Aim, Battle, Play};
 use crate::chess::{is_for_mate, moves_at, next_mate, next_move, reaches_goal, retract};
 use crate::frame::{Frame, Order, Stretch};
 use crate::history::History;
 use crate::plan::Plan;
-use crate::value::{seeking, value_of};
+use crate::value::{seeks, value_of};
 use arrayvec::ArrayVec;
 use chess_core::board::Board;
 use chess_core::man::Move;
@@ -36,8 +36,8 @@ use chess_rules::moves::Moves;
 use chess_rules::rules::Rules;
 
 /// The fewest half-moves with which a move of White is tried.
-fn fewest(battle: Battle) -> usize
-    ensures { result ≡ fewest_of battle }
+fn fewest_half_moves(battle: Battle) -> usize
+    ensures { result ≡ fewest_half_moves battle }
 {
     match battle {
         Battle::Direct => 1,
@@ -56,12 +56,12 @@ fn least_length<R: Rules, const N: usize>(
 ) -> usize
     requires well_formed { IsWellFormed board.old }
     requires room { array_vec_len frames.old + left ≤ N }
-    ensures least { result ≡ first_from aim.battle (chess aim.goal R.rule) board.old
-        ((left - fewest_of aim.battle) / 2) (fewest_of aim.battle) }
+    ensures least { result ≡ least_length_from aim.battle (chess aim.goal R.rule) board.old
+        ((left - fewest_half_moves aim.battle) / 2) (fewest_half_moves aim.battle) }
     ensures rest { Restores board.old board.new frames.old.items frames.new.items history.old.opened
         history.new.opened }
 {
-    let mut tried = fewest(aim.battle);
+    let mut tried = fewest_half_moves(aim.battle);
     while left >= 2 && tried <= left - 2 {
         if value_of::<R, N>(aim, tried, board, frames, history) {
             return tried;
@@ -72,8 +72,8 @@ fn least_length<R: Rules, const N: usize>(
 }
 
 /// With how many half-moves the moves of the board's position are shown in battle play, where `left` are left.
-#[tactic(auto, unfolding(crate::specs::ties::Walk::open_length))]
-fn length_shown<R: Rules, const N: usize>(
+#[tactic(auto, unfolding(crate::specs::ties::Walk::shown_length))]
+fn shown_length<R: Rules, const N: usize>(
     aim: Aim,
     left: usize,
     board: &mut Board,
@@ -82,22 +82,22 @@ fn length_shown<R: Rules, const N: usize>(
 ) -> usize
     requires well_formed { IsWellFormed board.old }
     requires room { array_vec_len frames.old + left ≤ N }
-    ensures length { result ≡ open_length aim.battle (chess aim.goal R.rule) left board.old }
+    ensures length { result ≡ shown_length aim.battle (chess aim.goal R.rule) left board.old }
     ensures rest { Restores board.old board.new frames.old.items frames.new.items history.old.opened
         history.new.opened }
 {
     if left == 0 || reaches_goal::<R>(aim.goal, board) {
         return 0;
     }
-    if !seeking(aim.battle, left) {
+    if !seeks(aim.battle, left) {
         return left;
     }
     least_length::<R, N>(aim, left, board, frames, history)
 }
 
 /// With how many half-moves the walk goes on from the board's position, where `left` are left.
-#[tactic(auto, unfolding(crate::specs::ties::Walk::half_moves_on))]
-fn length_below<R: Rules, const N: usize>(
+#[tactic(auto, unfolding(crate::specs::ties::Walk::walk_length))]
+fn walk_length<R: Rules, const N: usize>(
     plan: Plan,
     left: usize,
     board: &mut Board,
@@ -106,26 +106,26 @@ fn length_below<R: Rules, const N: usize>(
 ) -> usize
     requires well_formed { IsWellFormed board.old }
     requires room { array_vec_len frames.old + left ≤ N }
-    ensures length { result ≡ half_moves_on plan.play (varies plan) (chess plan.goal R.rule) left
+    ensures length { result ≡ walk_length plan.play (has_variations plan.tree) (chess plan.goal R.rule) left
         board.old }
     ensures rest { Restores board.old board.new frames.old.items frames.new.items history.old.opened
         history.new.opened }
     ensures opened { plan.play ≡ HelpPlay → history.new.opened ≡ history.old.opened }
     ensures keys_alone { (battle : Battle) → plan.play ≡ BattlePlay battle
-        → IsTrue (not (varies plan) && seeks battle (left + 1))
+        → IsTrue (not (has_variations plan.tree) && seeks battle (left + 1))
         → history.new.opened ≡ history.old.opened }
 {
     let Play::Battle(battle) = plan.play else {
         return left;
     };
-    if !plan.tree.has_variations() && seeking(battle, left + 1) {
+    if !plan.tree.has_variations() && seeks(battle, left + 1) {
         return 0;
     }
     let aim = Aim {
         battle,
         goal: plan.goal,
     };
-    length_shown::<R, N>(aim, left, board, frames, history)
+    shown_length::<R, N>(aim, left, board, frames, history)
 }
 
 /// The battle in which a move is tested before it is followed, where `left` half-moves are left with it: the moves of White
@@ -136,18 +136,18 @@ fn tested_in(play: Play, root: bool, left: usize) -> Option<Battle>
         (λ battle. (play ≡ BattlePlay battle) × ((root || seeks battle left) ≡ true)) }
 {
     match play {
-        Play::Battle(battle) if root || seeking(battle, left) => Some(battle),
+        Play::Battle(battle) if root || seeks(battle, left) => Some(battle),
         _ => None,
     }
 }
 
 /// Whether the side that makes the last half-move seeks the goal: each side in help play, and White in direct play.
-fn seeking_last(play: Play) -> bool
+fn seeks_last(play: Play) -> bool
     ensures { result ≡ seeks_last play }
 {
     match play {
         Play::Help => true,
-        Play::Battle(battle) => seeking(battle, 1),
+        Play::Battle(battle) => seeks(battle, 1),
     }
 }
 
@@ -157,7 +157,7 @@ pub fn ends_with_mate(plan: Plan, left: usize) -> bool
     ensures { IsTrue result ↔ ((is_for_mate plan.goal ≡ true) × (seeks_last plan.play ≡ true)
         × (left ≡ 1)) }
 {
-    is_for_mate(plan.goal) && left == 1 && seeking_last(plan.play)
+    is_for_mate(plan.goal) && left == 1 && seeks_last(plan.play)
 }
 
 /// The value of the position that a move has reached, with `left` half-moves left there. It isn't looked at again where
@@ -176,7 +176,7 @@ fn value_after<R: Rules, const N: usize>(
     ensures { Evaluates R.rule aim left board.old board.new frames.old.items
         frames.new.items history.old.opened history.new.opened result }
 {
-    if left == 0 && is_for_mate(aim.goal) && seeking(aim.battle, 1) {
+    if left == 0 && is_for_mate(aim.goal) && seeks(aim.battle, 1) {
         return true;
     }
     value_of::<R, N>(aim, left, board, frames, history)
@@ -184,8 +184,8 @@ fn value_after<R: Rules, const N: usize>(
 
 /// Whether the path to the board's position is given, with `left` half-moves left there. The last half-move of help play
 /// for mate mated.
-#[tactic(auto, unfolding(crate::specs::ties::Walk::gives))]
-fn gives<R: Rules>(plan: Plan, left: usize, board: &mut Board) -> bool
+#[tactic(auto, unfolding(crate::specs::ties::Walk::is_given))]
+fn is_given<R: Rules>(plan: Plan, left: usize, board: &mut Board) -> bool
     requires well_formed { IsWellFormed board.old }
     requires mated { IsMatedAtLast R.rule plan left board.old }
     ensures unchanged { board.new ≡ board.old }
@@ -199,7 +199,7 @@ fn gives<R: Rules>(plan: Plan, left: usize, board: &mut Board) -> bool
 
 /// The count of opened frames once a frame has been opened that has `tried` half-moves below it. One with none isn't
 /// counted, and one that a test has opened was counted there.
-pub(crate) fn opened_by(opened: u64, tried: usize, tested: bool) -> u64
+pub(crate) fn opened_after(opened: u64, tried: usize, tested: bool) -> u64
     ensures more { 0 < tried → tested ≡ false → result ≡ min (opened + 1) (2 ^ 64 - 1) }
     ensures none { tried ≡ 0 → result ≡ opened }
     ensures tested { tested ≡ true → result ≡ opened }
@@ -214,7 +214,7 @@ pub(crate) fn opened_by(opened: u64, tried: usize, tested: bool) -> u64
 /// Plays a legal move, after which `left` half-moves are left, and opens the frame of the position after it where the
 /// walk follows the move. Answers whether its path is given. A call for each move, from two places: left to itself the
 /// compiler makes it no part of the walk.
-#[tactic(auto, using(chess_rules::proofs::listing_moves::Calls::playing), unfolding(crate::specs::ties::Walk::follows, crate::specs::ties::Walk::half_moves_on))]
+#[tactic(auto, using(chess_rules::proofs::listing_moves::Calls::playing), unfolding(crate::specs::ties::Walk::is_followed, crate::specs::ties::Walk::walk_length))]
 #[inline(always)]
 pub fn enter<R: Rules, const N: usize>(
     plan: Plan,
@@ -239,7 +239,7 @@ pub fn enter<R: Rules, const N: usize>(
         (position_after R.rule board.old by))
         × (board.new ≡ position_after R.rule board.old by)
         × (frames.new.items ≡ frames.old.items ++ opened_frame by (undo_of R.rule board.old by)
-        (half_moves_on plan.play (varies plan) (chess plan.goal R.rule) left
+        (walk_length plan.play (has_variations plan.tree) (chess plan.goal R.rule) left
         (position_after R.rule board.old by))
         ∷ []) }
     ensures counts { Counts R.rule plan (array_vec_len frames.old == 1) left
@@ -258,7 +258,7 @@ pub fn enter<R: Rules, const N: usize>(
             return false;
         }
     }
-    let tried = length_below::<R, N>(plan, left, board, frames, history);
+    let tried = walk_length::<R, N>(plan, left, board, frames, history);
     frames.push(Frame {
         place: Moves::start(),
         by,
@@ -268,8 +268,8 @@ pub fn enter<R: Rules, const N: usize>(
         stretch: Stretch::Others,
         known: None,
     });
-    history.opened = opened_by(history.opened, tried, tested.is_some());
-    gives::<R>(plan, left, board)
+    history.opened = opened_after(history.opened, tried, tested.is_some());
+    is_given::<R>(plan, left, board)
 }
 
 /// Whether moves are passed over that no reply mates: in help play for mate, with two half-moves left.

@@ -3,7 +3,7 @@ ghost use Rattle.std.specs.Prelude.{◌≡◌, ◌<◌, ◌+◌, ◌-◌, ◌^�
 ghost use Rattle.pop_text.specs.Bytes.{greatest_count};
 ghost use Rattle.std.specs.List.{list_all};
 ghost use Rattle.pop_text.specs.Words.{limit, is_gap, is_in_line, is_in_word, is_line_end};
-ghost use Rattle.pop_text.specs.ties.Reading.{beginning, AreFirst, IsView, Leads, Asks, IsFront, Uses, UsesAll, IsSeen, failures_after};
+ghost use Rattle.pop_text.specs.ties.Reading.{first_reading, AreFirst, IsView, Leads, Asks, IsFront, Uses, UsesAll, IsSeen, failures_after};
 ghost use Rattle.pop_text.specs.ties.Runs.{Peeks, RunsTo, Sticks, UsesLine, UsesWord};
 ghost use Rattle.pop_text.specs.ties.Plain.{ArePlain, Skips, is_named, is_named_front};
 ghost use Rattle.pop_text.specs.ties.Left.{NextWord, RestOfLine, found_by, found_of};
@@ -74,7 +74,7 @@ impl Model for Scanner {
 impl Scanner {
     /// The place before the first byte.
     pub fn new() -> Scanner
-        ensures { result ≡ beginning }
+        ensures { result ≡ first_reading }
     {
         Scanner {
             cells: [0; WINDOW],

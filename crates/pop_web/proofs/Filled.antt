@@ -8,15 +8,15 @@ use Rattle.pop_run.specs.declared.status.Status.TheVariants.{OutputFailed}
 use Rattle.pop_parts.specs.Parts.{list_text, outcome_of, text_of}
 use Rattle.pop_parts.specs.declared.asked.Asked.{Asked}
 use Rattle.pop_parts.specs.declared.asked.Outcome.TheVariants.{OutputFailed as PartsCut}
-use Rattle.pop_web.specs.Page.{Fills, Lists, Shows, ShowsParts, number_of, number_of_parts, room, whole_input}
+use Rattle.pop_web.specs.Page.{Fills, Lists, Shows, ShowsParts, status_number, outcome_number, room, whole_input}
 
 -- no input has the number of a failed output
-other_number : (entries : List Entry) → number_of (status_of entries) ≢ number_of OutputFailed
+other_number : (entries : List Entry) → status_number (status_of entries) ≢ status_number OutputFailed
 unfolding status_of
 other_number entries = grind arith
 
 -- nothing that is asked of an input ends as a failed output does
-other_outcome : (asked : Asked) (text : List ℕ) → number_of_parts (outcome_of asked (whole_input text)) ≢ number_of_parts PartsCut
+other_outcome : (asked : Asked) (text : List ℕ) → outcome_number (outcome_of asked (whole_input text)) ≢ outcome_number PartsCut
 other_outcome asked text = grind arith
 
 -- A call that writes these bytes and ends well, or a beginning of them and is cut; and what a page is shown of it.
@@ -57,49 +57,49 @@ module _ (Ending : Type 0) (number : Ending → ℕ) (Does : List ℕ → Bool �
 
 module _ (choice : Choice) (text shown : List ℕ) (answer : ℕ) (f : Shows choice text shown answer) where
   -- a report that isn't cut is shown whole, with the number of the text's status
-  pub report_whole : answer ≢ number_of OutputFailed → (shown ≡ report choice (whole_input text)) × (answer ≡ number_of (status (whole_input text)))
+  pub report_whole : answer ≢ status_number OutputFailed → (shown ≡ report choice (whole_input text)) × (answer ≡ status_number (status (whole_input text)))
   report_whole other = shown_whole _ _ _ (report choice (whole_input text)) (status (whole_input text)) OutputFailed (λ now ending does. does)
       (λ now ending does. does) _ _ f other
 
   -- of one that is cut as many bytes are shown as there is room for
-  pub report_first : answer ≡ number_of OutputFailed → shown ≡ take room (report choice (whole_input text))
+  pub report_first : answer ≡ status_number OutputFailed → shown ≡ take room (report choice (whole_input text))
   report_first over = shown_first _ _ _ (report choice (whole_input text)) (status (whole_input text)) OutputFailed (λ now ending does. does)
       (λ now ending does. does) _ _ f (other_number (entries_in (whole_input text))) over
 
   -- one that is cut has filled the room
-  pub report_full : answer ≡ number_of OutputFailed → length shown ≡ room
+  pub report_full : answer ≡ status_number OutputFailed → length shown ≡ room
   report_full over = room_is_full _ _ _ (report choice (whole_input text)) (status (whole_input text)) OutputFailed (λ now ending does. does)
       (λ now ending does. does) _ _ f (other_number (entries_in (whole_input text))) over
 
 module _ (depth : ℕ) (text shown : List ℕ) (answer : ℕ) (f : Lists depth text shown answer) where
   -- a list of parts that isn't cut is shown whole
-  pub list_whole : answer ≢ number_of OutputFailed → (shown ≡ list_text depth (whole_input text)) × (answer ≡ number_of (status (whole_input text)))
+  pub list_whole : answer ≢ status_number OutputFailed → (shown ≡ list_text depth (whole_input text)) × (answer ≡ status_number (status (whole_input text)))
   list_whole other = shown_whole _ _ _ (list_text depth (whole_input text)) (status (whole_input text)) OutputFailed (λ now ending does. does)
       (λ now ending does. does) _ _ f other
 
   -- of one that is cut as many bytes are shown as there is room for
-  pub list_first : answer ≡ number_of OutputFailed → shown ≡ take room (list_text depth (whole_input text))
+  pub list_first : answer ≡ status_number OutputFailed → shown ≡ take room (list_text depth (whole_input text))
   list_first over = shown_first _ _ _ (list_text depth (whole_input text)) (status (whole_input text)) OutputFailed (λ now ending does. does)
       (λ now ending does. does) _ _ f (other_number (entries_in (whole_input text))) over
 
   -- one that is cut has filled the room
-  pub list_full : answer ≡ number_of OutputFailed → length shown ≡ room
+  pub list_full : answer ≡ status_number OutputFailed → length shown ≡ room
   list_full over = room_is_full _ _ _ (list_text depth (whole_input text)) (status (whole_input text)) OutputFailed (λ now ending does. does)
       (λ now ending does. does) _ _ f (other_number (entries_in (whole_input text))) over
 
 module _ (asked : Asked) (text shown : List ℕ) (answer : ℕ) (f : ShowsParts asked text shown answer) where
   -- a part that isn't cut is shown whole, with how its call ended
-  pub part_whole : answer ≢ number_of_parts PartsCut → (shown ≡ text_of asked (whole_input text))
-      × (answer ≡ number_of_parts (outcome_of asked (whole_input text)))
+  pub part_whole : answer ≢ outcome_number PartsCut → (shown ≡ text_of asked (whole_input text))
+      × (answer ≡ outcome_number (outcome_of asked (whole_input text)))
   part_whole other = shown_whole _ _ _ (text_of asked (whole_input text)) (outcome_of asked (whole_input text)) PartsCut (λ now ending does. does)
       (λ now ending does. does) _ _ f other
 
   -- of one that is cut as many bytes are shown as there is room for
-  pub part_first : answer ≡ number_of_parts PartsCut → shown ≡ take room (text_of asked (whole_input text))
+  pub part_first : answer ≡ outcome_number PartsCut → shown ≡ take room (text_of asked (whole_input text))
   part_first over = shown_first _ _ _ (text_of asked (whole_input text)) (outcome_of asked (whole_input text)) PartsCut (λ now ending does. does)
       (λ now ending does. does) _ _ f (other_outcome asked text) over
 
   -- one that is cut has filled the room
-  pub part_full : answer ≡ number_of_parts PartsCut → length shown ≡ room
+  pub part_full : answer ≡ outcome_number PartsCut → length shown ≡ room
   part_full over = room_is_full _ _ _ (text_of asked (whole_input text)) (outcome_of asked (whole_input text)) PartsCut (λ now ending does. does)
       (λ now ending does. does) _ _ f (other_outcome asked text) over

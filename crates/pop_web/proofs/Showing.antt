@@ -1,14 +1,14 @@
 -- What a call into memory shows.
 use Rattle.std.proofs.Common.{Bool, List, arith, length, ℕ, ◌<◌, ◌≡◌}
-use Rattle.pop_run.specs.Run.{grew}
+use Rattle.pop_run.specs.Run.{has_grown}
 use Rattle.pop_web.specs.Page.{Fills, room}
 
 -- what a call wrote into a sink in memory
 pub call_is_shown : (Ending : Type 0) (number : Ending → ℕ) (Does : List ℕ → Bool → Ending → Type 0) (taken shown : List ℕ)
-    (failures answer : ℕ) (ending : Ending) → Does taken (grew 0 failures) ending → shown ≡ taken
+    (failures answer : ℕ) (ending : Ending) → Does taken (has_grown 0 failures) ending → shown ≡ taken
     → (0 < failures → length shown ≡ room) → answer ≡ number ending → Fills Ending number Does shown answer
 call_is_shown Ending number Does taken shown failures answer ending does same full told = record {
-  cut = grew 0 failures;
+  cut = has_grown 0 failures;
   ending = ending;
   told = told;
   does = rw same does;

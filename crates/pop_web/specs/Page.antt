@@ -30,21 +30,21 @@ abbrev pub whole_input : List ℕ → Input
 whole_input text = record { bytes = text; ending = Clean }
 
 -- the number of a status
-abbrev pub number_of : Status → ℕ
-number_of Sound = 0
-number_of Faulty = 1
-number_of InputFailed = 2
-number_of OutputFailed = 3
+abbrev pub status_number : Status → ℕ
+status_number Sound = 0
+status_number Faulty = 1
+status_number InputFailed = 2
+status_number OutputFailed = 3
 
 -- the number of what comes of parts
-abbrev pub number_of_parts : Outcome → ℕ
-number_of_parts Shown = 0
-number_of_parts FaultyItem = 1
-number_of_parts PartsBroken = 2
-number_of_parts PartsCut = 3
-number_of_parts NoItem = 5
-number_of_parts NoPhase = 6
-number_of_parts NoPart = 7
+abbrev pub outcome_number : Outcome → ℕ
+outcome_number Shown = 0
+outcome_number FaultyItem = 1
+outcome_number PartsBroken = 2
+outcome_number PartsCut = 3
+outcome_number NoItem = 5
+outcome_number NoPhase = 6
+outcome_number NoPart = 7
 
 -- the phase asked for
 abbrev pub phase_of : Bool → Phase
@@ -78,18 +78,18 @@ pub record Fills (Ending : Type 0) (number : Ending → ℕ)
 -- The bytes are the report of the text, and the answer is the number of its status; or they are its beginning and fill the
 -- room, and the answer is the number of a failed output.
 abbrev pub Shows : Choice → List ℕ → List ℕ → ℕ → Type 0
-Shows choice text shown answer = Fills Status number_of
+Shows choice text shown answer = Fills Status status_number
     (λ bytes cut ending. Runs choice (whole_input text) (Some []) (Some bytes) cut ending) shown
     answer
 
 -- the same of the list of the text's parts
 abbrev pub Lists : ℕ → List ℕ → List ℕ → ℕ → Type 0
-Lists depth text shown answer = Fills Status number_of
+Lists depth text shown answer = Fills Status status_number
     (λ bytes cut ending. ListRuns depth (whole_input text) (Some []) (Some bytes) cut ending) shown
     answer
 
 -- the same of the text of parts
 abbrev pub ShowsParts : Asked → List ℕ → List ℕ → ℕ → Type 0
-ShowsParts asked text shown answer = Fills Outcome number_of_parts
+ShowsParts asked text shown answer = Fills Outcome outcome_number
     (λ bytes cut ending. PartsRun asked (whole_input text) (Some []) (Some bytes) cut ending) shown
     answer

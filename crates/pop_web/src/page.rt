@@ -1,6 +1,6 @@
 //! What a page calls: a text's report, the list of its parts, the solutions of one part.
 ghost use Rattle.std.specs.Prelude.{◌≡◌, ◌<◌, ◌≤◌, length, take};
-ghost use Rattle.pop_web.specs.Page.{Lists, Shows, ShowsParts, depth_of as depth_by, number_of as number, number_of_parts as number_by, part_of as part_by, phase_of as phase_by, room, too_short};
+ghost use Rattle.pop_web.specs.Page.{Lists, Shows, ShowsParts, depth_of as depth_by, status_number, outcome_number, part_of as part_by, phase_of as phase_by, room, too_short};
 
 use crate::kept_sink::KeptSink;
 use crate::text_source::TextSource;
@@ -50,7 +50,7 @@ pub extern "C" fn pops_report(
     let mut sink = KeptSink::<ROOM>::new();
     let status = run(&settings, &mut source, &mut sink);
     *written = hand_out(&sink, output);
-    number_of(status)
+    status_number(status)
 }
 
 /// Puts the list of the input's parts at the front of the output, a line an item, and how many bytes it has into
@@ -78,7 +78,7 @@ pub extern "C" fn pops_list(
     let mut sink = KeptSink::<ROOM>::new();
     let ending = list_parts(depth_of(depth), &mut source, &mut sink);
     *written = hand_out(&sink, output);
-    number_of(ending)
+    status_number(ending)
 }
 
 /// Puts the solutions of one part of the input's first problem, and their number, at the front of the output, and how
@@ -117,7 +117,7 @@ pub extern "C" fn pops_part(
     let mut sink = KeptSink::<ROOM>::new();
     let outcome = show_parts(&asked, &mut source, &mut sink);
     *written = hand_out(&sink, output);
-    number_of_parts(outcome)
+    outcome_number(outcome)
 }
 
 // Says that nothing was written, and answers that there is too little room.
@@ -170,8 +170,8 @@ fn phase_of(set_play: bool) -> Phase
 }
 
 // The number of a status.
-fn number_of(status: Status) -> u32
-    ensures { result ≡ number status }
+fn status_number(status: Status) -> u32
+    ensures { result ≡ status_number status }
 {
     match status {
         Status::Sound => 0,
@@ -182,8 +182,8 @@ fn number_of(status: Status) -> u32
 }
 
 // The number of what comes of parts.
-fn number_of_parts(outcome: Outcome) -> u32
-    ensures { result ≡ number_by outcome }
+fn outcome_number(outcome: Outcome) -> u32
+    ensures { result ≡ outcome_number outcome }
 {
     match outcome {
         Outcome::Shown => 0,

@@ -1,7 +1,7 @@
 //! The program: its settings, its files and its exit statuses.
 ghost use Rattle.std.specs.Prelude.{◌≡◌, ◌<◌, ◌≤◌, IfSome};
 ghost use Rattle.pop_text.specs.Bytes.{greatest_count};
-ghost use Rattle.pop_run.specs.Run.{FailsOnce, grew, input_met, taken_of};
+ghost use Rattle.pop_run.specs.Run.{FailsOnce, has_grown, input_met, taken_of};
 ghost use Rattle.pop_settings.specs.pops_part.CommandLine.{IsDeep};
 ghost use Rattle.pops_part.specs.ExitStatus.{ending_flushed, ending_of_list, ending_of_parts, message_of, status_of};
 ghost use Rattle.pops_part.specs.Runs.{Answers, ReadsWanted, asked_for, phase_named};
@@ -110,12 +110,12 @@ fn answer<S: Source, W: Sink>(wanted: &Wanted, source: &mut S, sink: &mut W) -> 
     requires source { S.failures source.old < greatest_count }
     requires sink { W.failures sink.old < greatest_count }
     ensures headline { IfSome (S.remaining source.old) (λ had.
-        Answers wanted.now (input_met (grew (S.failures source.old) (S.failures source.new)) had
+        Answers wanted.now (input_met (has_grown (S.failures source.old) (S.failures source.new)) had
         (S.remaining source.new))
         (W.taken sink.old) (W.taken sink.new)
-        (grew (W.failures sink.old) (W.failures sink.new)) result) }
+        (has_grown (W.failures sink.old) (W.failures sink.new)) result) }
     ensures reads { IfSome (S.remaining source.old) (λ had.
-        ReadsWanted wanted.now (input_met (grew (S.failures source.old) (S.failures source.new)) had
+        ReadsWanted wanted.now (input_met (has_grown (S.failures source.old) (S.failures source.new)) had
         (S.remaining source.new)) (taken_of had (S.remaining source.new))) }
     ensures once { FailsOnce (S.failures source.old) (S.failures source.new)
         × FailsOnce (W.failures sink.old) (W.failures sink.new) }

@@ -76,7 +76,7 @@ fn nothing_known(begun: bool) -> Known {
 }
 
 // The squares of a word that has nothing else.
-fn squares_of(word: &[u8]) -> Option<ArrayVec<u8, 80>> {
+fn squares_named(word: &[u8]) -> Option<ArrayVec<u8, 80>> {
     if word.is_empty() {
         return None;
     }
@@ -195,7 +195,7 @@ fn read_limit(known: &mut Known, word: &[u8]) -> Option<FaultKind> {
 
 // The square of a word that names one.
 fn square_of(word: &[u8]) -> Option<u8> {
-    match squares_of(word)?.as_slice() {
+    match squares_named(word)?.as_slice() {
         [square] => Some(*square),
         _ => None,
     }
@@ -213,14 +213,14 @@ fn read_crossed(known: &mut Known, word: &[u8]) -> Option<FaultKind> {
 }
 
 fn read_barred(known: &mut Known, word: &[u8]) -> Option<FaultKind> {
-    match squares_of(word) {
+    match squares_named(word) {
         Some(squares) => bar(known, squares.as_slice()),
         None => Some(FaultKind::SquareMissing),
     }
 }
 
 fn read_more_barred(known: &mut Known, word: &[u8]) -> Option<FaultKind> {
-    match squares_of(word) {
+    match squares_named(word) {
         Some(squares) => bar(known, squares.as_slice()),
         None => {
             known.wait = Await::Nothing;
@@ -358,7 +358,7 @@ fn read_men(known: &mut Known, word: &[u8]) -> Option<FaultKind> {
     if !b"KQRBSPGN".contains(&letter) {
         return Some(FaultKind::WordMisplaced);
     }
-    read_squares(known, word, letter, squares_of(behind))
+    read_squares(known, word, letter, squares_named(behind))
 }
 
 // The squares behind the letter of a man, if they are some.

@@ -16,7 +16,7 @@ use Rattle.chess_rules.specs.Legal.{is_legal}
 use Rattle.chess_rules.specs.Play.{position_after}
 use Rattle.chess_rules.specs.Reaches.{reaches_as}
 use Rattle.chess_rules.specs.RuleSet.{RuleSet, captures_are_reborn, orthodox}
-use Rattle.chess_rules.specs.ties.Lines.{is_aside}
+use Rattle.chess_rules.specs.ties.Lines.{is_two_files_aside}
 use Rattle.chess_rules.specs.ties.Shields.{may_expose}
 use Rattle.chess_rules.specs.ties.Targets.{may_go}
 
@@ -26,13 +26,13 @@ is_absent men x = is_fairy x.kind && not (some_square (λ q. is_man (man_on men 
 
 -- x, on t, may give check to a king on this square, if there is one; a fairy man of whom none stands on the
 -- board may from everywhere
-abbrev pub may_check_from_on : List (Option Man) → Option ℕ → Man → ℕ → Bool
-may_check_from_on men None x t = false
-may_check_from_on men (Some k) x t = is_absent men x || reaches_as men x.colour x.kind t k
+abbrev pub may_check_from_at : List (Option Man) → Option ℕ → Man → ℕ → Bool
+may_check_from_at men None x t = false
+may_check_from_at men (Some k) x t = is_absent men x || reaches_as men x.colour x.kind t k
 
 -- x, on t, may give check to the king of colour c
 unfoldable pub may_check_from : List (Option Man) → Colour → Man → ℕ → Bool
-may_check_from men c x t = may_check_from_on men (king_square men c) x t
+may_check_from men c x t = may_check_from_at men (king_square men c) x t
 
 -- a man who is reborn gives no check, nor uncovers one: in Circe, where colour e, which captures, has no
 -- grasshopper to which he might be a hurdle
@@ -83,7 +83,7 @@ pub record AreCheckTargets (rule : RuleSet) (p : Position) (s w : ℕ) : Type 0 
 
 -- halfway to a square two files beside s that isn't in the word, a rook gives no check
 pub record AreCastlingTargets (v : CheckSquares) (s w : ℕ) : Type 0 where
-  pub elsewhere : (t : ℕ) → t < 64 → is_aside s t ≡ true → (bit_at w t == 1) ≡ false
+  pub elsewhere : (t : ℕ) → t < 64 → is_two_files_aside s t ≡ true → (bit_at w t == 1) ≡ false
       → (bit_at v.straight ((s + t) / 2) == 1) ≡ false
 
 -- a legal move gives no check, if it goes from a square not in the word

@@ -2,7 +2,7 @@
 use Rattle.std.specs.Prelude.{◌≡◌, ◌<◌, ℕ, Bool, true, false, ◌&&◌, ◌==◌, not, List, Option, Some, None, is_some}
 use Rattle.std.specs.Int.{bit_at, bit_not, w64}
 use Rattle.std.specs.Int.Bits.{bit_and, bit_or}
-use Rattle.chess_core.specs.Position.{Position, is_side, king_square, man_on, other, same_kind}
+use Rattle.chess_core.specs.Position.{Position, is_of_colour, king_square, man_on, other, same_kind}
 use Rattle.chess_core.specs.Squares.{is_square, some_square}
 use Rattle.chess_core.specs.WellFormed.{IsWellFormed}
 use Rattle.chess_core.specs.ties.Words.{word}
@@ -18,13 +18,13 @@ use Rattle.chess_rules.specs.ties.Sight.{AreSeen, is_simple, sight_after}
 use Rattle.chess_rules.specs.declared.sight.Sight.{Sight}
 
 -- the king on this square, if there is one, may go to t
-abbrev pub is_flight_from : RuleSet → Position → Option ℕ → ℕ → Bool
-is_flight_from rule p None t = false
-is_flight_from rule p (Some k) t = is_legal rule p (record { from = k; to = t; promo = None })
+abbrev pub is_flight_at : RuleSet → Position → Option ℕ → ℕ → Bool
+is_flight_at rule p None t = false
+is_flight_at rule p (Some k) t = is_legal rule p (record { from = k; to = t; promo = None })
 
 -- the king of the side to move may go to t
 unfoldable pub is_flight : RuleSet → Position → ℕ → Bool
-is_flight rule p t = is_flight_from rule p (king_square p.men p.turn) t
+is_flight rule p t = is_flight_at rule p (king_square p.men p.turn) t
 
 -- the side to move has a flight
 unfoldable pub has_flight : RuleSet → Position → Bool
@@ -70,4 +70,4 @@ pub record IsUnreached (p : Position) (x : Man) (k t : ℕ) : Type 0 where
   pub none : (men : List (Option Man))
       → AreSeen p.men men (other p.turn) (sight_after p.men k
       (capture_square p x (record { from = k; to = t; promo = None })) t)
-      → 0 ≡ word (λ s. is_side (man_on men s) (other p.turn) && reaches men s t)
+      → 0 ≡ word (λ s. is_of_colour (man_on men s) (other p.turn) && reaches men s t)

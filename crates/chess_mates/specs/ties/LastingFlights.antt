@@ -3,7 +3,7 @@
 use Rattle.std.specs.Prelude.{◌≡◌, ◌≢◌, ◌<◌, ◌==◌, ℕ, true, false, List, Option, Some}
 use Rattle.std.specs.Int.{bit_at}
 use Rattle.std.specs.List.{list_any}
-use Rattle.chess_core.specs.Position.{Position, is_man, is_side, man_on, other, same_kind}
+use Rattle.chess_core.specs.Position.{Position, is_man, is_of_colour, man_on, other, same_kind}
 use Rattle.chess_core.specs.SquareNames.{e1, e8}
 use Rattle.chess_core.specs.Steps.{queen_steps}
 use Rattle.chess_core.specs.declared.man.Colour.{Colour}
@@ -11,7 +11,7 @@ use Rattle.chess_core.specs.declared.man.Kind.TheVariants.{King}
 use Rattle.chess_core.specs.declared.man.Man.{Man}
 use Rattle.chess_core.specs.declared.man.Move.{Move}
 use Rattle.chess_rules.specs.Reaches.{leaps, reaches_as}
-use Rattle.chess_rules.specs.ties.Targets.{arrives, may_go}
+use Rattle.chess_rules.specs.ties.Targets.{is_promoting, may_go}
 
 -- the word has each square that x on s reaches, whoever else stands on the board
 pub record AreReached (x : Man) (s w : ℕ) : Type 0 where
@@ -38,7 +38,7 @@ pub record IsLeft (w : ℕ) (x : Man) (t f : ℕ) : Type 0 where
 -- wherever x goes from s a square of the word is left, and he neither promotes nor castles
 pub record LeavesOne (w : ℕ) (x : Man) (s : ℕ) : Type 0 where
   pub left : (p : Position) (t : ℕ) → t < 64 → may_go p x s t ≡ true → (f : ℕ) × IsLeft w x t f
-  pub unpromoted : (p : Position) (t : ℕ) → t < 64 → may_go p x s t ≡ true → arrives x t ≡ false
+  pub unpromoted : (p : Position) (t : ℕ) → t < 64 → may_go p x s t ≡ true → is_promoting x t ≡ false
   pub away : same_kind x.kind King ≡ true → (s ≢ e1) × (s ≢ e8)
 
 -- so does each man of colour c
@@ -50,7 +50,7 @@ pub record AreNear (p : Position) (m : Move) (k w : ℕ) : Type 0 where
   pub next : (f : ℕ) → f < 64 → (bit_at w f == 1) ≡ true → list_any (leaps k f) queen_steps ≡ true
   pub arrival : (f : ℕ) → f < 64 → (bit_at w f == 1) ≡ true → f ≢ m.to
   pub own : (f : ℕ) → f < 64 → (bit_at w f == 1) ≡ true
-      → is_side (man_on p.men f) p.turn ≡ false
+      → is_of_colour (man_on p.men f) p.turn ≡ false
   pub king : (f : ℕ) → f < 64 → (bit_at w f == 1) ≡ true
       → is_man (man_on p.men f) (other p.turn) King ≡ false
 

@@ -3,7 +3,7 @@ use Rattle.std.specs.Prelude.{◌≡◌, ◌≢◌, ◌<◌, ◌==◌, ◌⊎◌
 use Rattle.std.specs.Int.{bit_at}
 use Rattle.std.specs.List.{list_any}
 use Rattle.chess_core.specs.Castling.{has_unmoved}
-use Rattle.chess_core.specs.Position.{Position, is_man, is_side, king_square, man_on, other, same_kind}
+use Rattle.chess_core.specs.Position.{Position, is_man, is_of_colour, king_square, man_on, other, same_kind}
 use Rattle.chess_core.specs.Squares.{squares}
 use Rattle.chess_core.specs.Steps.{queen_steps, straight_steps}
 use Rattle.chess_core.specs.declared.man.Colour.{Colour}
@@ -21,7 +21,7 @@ use Rattle.chess_mates.specs.ties.LastingFlights.{IsLeft}
 use Rattle.chess_rules.specs.Reaches.{leaps, reaches_as}
 use Rattle.chess_rules.specs.ties.Lines.{is_on_some}
 use Rattle.chess_rules.specs.ties.Shields.{is_fairy}
-use Rattle.chess_rules.specs.ties.Targets.{arrives, may_go}
+use Rattle.chess_rules.specs.ties.Targets.{is_promoting, may_go}
 
 -- a man on each square of the word, and on no other
 abbrev pub men_on : ℕ → List (Option Man)
@@ -99,7 +99,7 @@ pub record IsSiege (v : Siege) : Type 0 where
 abbrev pub IsShut : Position → Colour → ℕ → ℕ → ℕ → Type 0
 IsShut p c w corner next =
     (has_unmoved p.unmoved corner ≡ false)
-    ⊎ (is_side (man_on p.men next) c ≡ true) ⊎ (next < 64 → (bit_at w next == 1) ≡ true)
+    ⊎ (is_of_colour (man_on p.men next) c ≡ true) ⊎ (next < 64 → (bit_at w next == 1) ≡ true)
 
 -- the colour's king has moved, or the word has the squares to which a rook may castle
 pub record AreCastlingSquares (p : Position) (c : Colour) (w : ℕ) : Type 0 where
@@ -138,7 +138,7 @@ pub record AreArrivals (d : ℕ) (x : Man) (s w : ℕ) : Type 0 where
 -- x neither checks from t, unless he is a king, nor promotes there
 pub record IsNoCheck (checks : ℕ) (x : Man) (t : ℕ) : Type 0 where
   pub off : same_kind x.kind King ≡ false → (bit_at checks t == 1) ≡ false
-  pub plain : arrives x t ≡ false
+  pub plain : is_promoting x t ≡ false
 
 -- the word has each square from which x checks the king on k over the hurdles
 pub record IsCheckWord (d k : ℕ) (x : Man) (w : ℕ) : Type 0 where
@@ -172,7 +172,7 @@ pub record IsUnguarded (v : Siege) (s a t : ℕ) : Type 0 where
 
 -- after x goes from s to t, and the defender from a to b, a square of the field is left
 pub record IsFlight (v : Siege) (g : Field) (x : Man) (s a b t : ℕ) : Type 0 where
-  pub plain : arrives x t ≡ false
+  pub plain : is_promoting x t ≡ false
   pub square : ℕ
   pub left : IsLeft g.near x t square
   pub unguarded : IsUnguarded v s a square

@@ -1,6 +1,6 @@
 -- Attack looked for outward from the square.
 use Rattle.chess_rules.proofs.Basics.{Bool, List, None, Option, Some, [], and_left, ap, arith, bit_and, bit_at, bit_or, false, false_from_ne_true, false≢true, inl, inr, list_any, list_any-append, not, refl, rules, sym, true, ℕ, ◌&&◌, ◌<◌, ◌==◌, ◌||◌, ◌∙◌, ◌∷◌, ◌≡◌}
-use Rattle.chess_rules.proofs.Chess.{Bishop, Colour, Grasshopper, Kind, King, Knight, Man, Nightrider, Pawn, Queen, Rook, RuleSet, Step, any_range_cases, diagonal_steps, faces, faces_its_like, first_of_and, gait_of, hopped_from, is_ahead, is_attacked, is_fairy, is_man, is_on_some, is_paralysed, is_reached, is_side, man_on, other, queen_steps, reaches, reaches_as, reaches_of, rides, same_colour-true, same_kind, same_kind-true, second_of_and, some_square, some_square_false, some_square_true, squares_both, squares_either, squares_of, squares_same, straight_steps, strikes, word}
+use Rattle.chess_rules.proofs.Chess.{Bishop, Colour, Grasshopper, Kind, King, Knight, Man, Nightrider, Pawn, Queen, Rook, RuleSet, Step, any_range_cases, diagonal_steps, faces, faces_its_like, first_of_and, gait_of, hopped_from, is_ahead, is_attacked, is_fairy, is_man, is_on_some, is_paralysed, is_reached, is_of_colour, man_on, other, queen_steps, reaches, reaches_as, reaches_of, rides, same_colour-true, same_kind, same_kind-true, second_of_and, some_square, some_square_false, some_square_true, squares_both, squares_either, squares_of, squares_same, straight_steps, is_attacker, word}
 use Rattle.chess_core.specs.declared.man.Gait.TheVariants.{Hopper}
 use Rattle.chess_rules.specs.ties.Outward.{is_fairy_man, is_met}
 use Rattle.chess_rules.proofs.Bits.{not_zero, word_empty, word_has}
@@ -81,7 +81,7 @@ at_square : (men : List (Option Man)) (c : Colour) (o : Option Man) (s t : ℕ) 
     → ((((is_man o c Rook || is_man o c Queen) && list_any (rides men t s) straight_steps)
     || ((is_man o c Bishop || is_man o c Queen) && list_any (rides men t s) diagonal_steps)) || (is_man o c King && reaches_of men o s t)
     || (is_man o c Knight && reaches_of men o s t) || (is_man o c Pawn && reaches_of men o s t) || (is_fairy_man o c && reaches_of men o s t))
-    ≡ (is_side o c && reaches_of men o s t)
+    ≡ (is_of_colour o c && reaches_of men o s t)
 at_square men c None s t p q = refl
 at_square men c (Some x) s t p q = search (rules, bishop_reaches, by_lines, queen_reaches, rook_reaches)
 
@@ -137,7 +137,7 @@ pub attackers_are : (men : List (Option Man)) (c : Colour) (t r b k n p f : ℕ)
     → n ≡ word (comer men c t Knight)
     → p ≡ word (comer men c t Pawn)
     → f ≡ word (fairy_comer men c t)
-    → bit_or (bit_or (bit_or (bit_or (bit_or r b) k) n) p) f ≡ word (λ s. is_side (man_on men s) c && reaches men s t)
+    → bit_or (bit_or (bit_or (bit_or (bit_or r b) k) n) p) f ≡ word (λ s. is_of_colour (man_on men s) c && reaches men s t)
 unfolding reaches is_met
 attackers_are men c t r b k n p f q hr hb hk hn hp hf =
     let rook : ℕ → Bool = is_met men c Rook straight_steps t in
@@ -172,16 +172,16 @@ last_two : (a b c : Bool) → ((a && b) && c) ≡ ((a && c) && b)
 last_two a b c = grind arith
 
 -- attack by the men that reach the square and aren't paralysed
-pub attacked_by : (rule : RuleSet) (men : List (Option Man)) (t w : ℕ) (c : Colour) → w ≡ word (λ s. is_side (man_on men s) c && reaches men s t)
+pub attacked_by : (rule : RuleSet) (men : List (Option Man)) (t w : ℕ) (c : Colour) → w ≡ word (λ s. is_of_colour (man_on men s) c && reaches men s t)
     → some_square (λ s. bit_at w s == 1 && not (is_paralysed rule men s)) ≡ is_attacked rule men t c
-unfolding is_attacked strikes
+unfolding is_attacked is_attacker
 attacked_by rule men t w c h = search (rules, some_square_same, word_has)
 
 -- the square is reached exactly if the word of the men that reach it isn't 0
-pub is_reached_by : (men : List (Option Man)) (t w : ℕ) (c : Colour) → w ≡ word (λ s. is_side (man_on men s) c && reaches men s t)
+pub is_reached_by : (men : List (Option Man)) (t w : ℕ) (c : Colour) → w ≡ word (λ s. is_of_colour (man_on men s) c && reaches men s t)
     → not (w == 0) ≡ is_reached men t c
 unfolding is_reached
-is_reached_by men t w c h = ap (λ n. not (n == 0)) h ∙ not_zero (λ s. is_side (man_on men s) c && reaches men s t)
+is_reached_by men t w c h = ap (λ n. not (n == 0)) h ∙ not_zero (λ s. is_of_colour (man_on men s) c && reaches men s t)
 
 -- an enemy of a man's kind reaches its square exactly if the word of those isn't 0
 pub faced : (men : List (Option Man)) (x : Man) (t w : ℕ) → w ≡ word (λ s. is_man (man_on men s) (other x.colour) x.kind && reaches men s t)

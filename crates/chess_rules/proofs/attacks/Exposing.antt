@@ -1,6 +1,6 @@
 -- Whether a move leaves its mover in check, told by the men that an attack sees after it.
 use Rattle.chess_rules.proofs.Basics.{Bool, List, None, Option, Some, and_from, and_left, and_parts, and_right, ap, arith, bit_at, cases_Bool, cases_eq, cond-false, cond-true, eq-eqb, false, false_from_ne_true, false≢true, inl, inr, is_some, not, not-true, or_parts, rules, sym, true, ℕ, ◌&&◌, ◌<◌, ◌==◌, ◌||◌, ◌∙◌, ◌≡◌}
-use Rattle.chess_rules.proofs.Chess.{AreArrived, AreOthers, AreSeen, Colour, IsWellFormed, Kind, King, Man, Move, Position, RuleSet, arriving_man, capture_square, differs, faces, faces_its_like, in_check, is_arrival_free, is_attacked_at, is_castling, captures_do_more, is_faced, faced_men_stand_still, is_man, is_paralysed, is_promotion_right, is_pseudo_legal, is_side, is_simple, is_square, king_after, king_square, man_on, other, position_after, reaches, same_colour, same_colour-true, same_kind, sight_after, some_square, squares_both, squares_either, squares_not, squares_of, squares_same, word}
+use Rattle.chess_rules.proofs.Chess.{AreArrived, AreOthers, AreSeen, Colour, IsWellFormed, Kind, King, Man, Move, Position, RuleSet, arriving_man, capture_square, differs, faces, faces_its_like, in_check, is_arrival_free, is_attacked_at, is_castling, captures_do_more, is_faced, faced_men_stand_still, is_man, is_paralysed, is_promotion_right, is_pseudo_legal, is_of_colour, is_simple, is_square, king_after, king_square, man_on, other, position_after, reaches, same_colour, same_colour-true, same_kind, sight_after, some_square, squares_both, squares_either, squares_not, squares_of, squares_same, word}
 use Rattle.chess_rules.specs.ties.Sight.{is_arriving_as, own_after}
 use Rattle.chess_rules.specs.declared.sight.Sight.{Sight}
 use Rattle.chess_core.proofs.Kept.{same_colour-refl}
@@ -51,13 +51,13 @@ faced_king king f h = (λ i. not (h i)) ∙ sym (ap (λ (k : Bool). not k && f) 
 
 -- an enemy man, if no king, is paralysed exactly if a mover's man of its kind reaches it
 pub paralysed_by : (rule : RuleSet) (before men : List (Option Man)) (x : Man) (m : Move) (v : Sight) (s : ℕ) (y : Man) (b : Bool) → faced_men_stand_still rule ≡ true
-    → AreArrived before men x m v → is_side (man_on men s) (other x.colour) ≡ true → man_on before s ≡ Some y
+    → AreArrived before men x m v → is_of_colour (man_on men s) (other x.colour) ≡ true → man_on before s ≡ Some y
     → b ≡ (not (same_kind y.kind King) && some_square (λ q. is_man (man_on men q) x.colour y.kind && reaches men q s))
     → b ≡ is_paralysed rule men s
 unfolding is_paralysed
 paralysed_by rule before men x m v s y b is are side at h =
     let there : man_on men s ≡ Some y = are.others s side ∙ at in
-    let mine : same_colour y.colour (other x.colour) ≡ true = ap (λ (o : Option Man). is_side o (other x.colour)) (sym there) ∙ side in
+    let mine : same_colour y.colour (other x.colour) ≡ true = ap (λ (o : Option Man). is_of_colour o (other x.colour)) (sym there) ∙ side in
     h ∙ ap (λ (f : Bool). not (same_kind y.kind King) && f) (faced_is men x.colour y s mine)
     ∙ sym (ap (λ (o : Option Man). is_faced men o s) there)
     ∙ sym (ap (λ (a : Bool). a && is_faced men (man_on men s) s) is)
@@ -173,18 +173,18 @@ own_on rule p x m k s well is small = elim (cases_eq s m.to) [
 ]
 
 others_on : (rule : RuleSet) (p : Position) (x : Man) (m : Move) (s : ℕ) → IsWellFormed p → IsMade rule p x m → m.to < 64
-    → is_side (man_on (arrived p x m) s) (other x.colour) ≡ true → man_on (arrived p x m) s ≡ man_on p.men s
+    → is_of_colour (man_on (arrived p x m) s) (other x.colour) ≡ true → man_on (arrived p x m) s ≡ man_on p.men s
 others_on rule p x m s well is small side = elim (cases_eq s m.to) [
   | inl e ↦
       let there : man_on (arrived p x m) s ≡ Some (arriving_man x m.promo) = ap (man_on (arrived p x m)) e
       ∙ there_now p.men m.from (capture_square p x m) m.to (arriving_man x m.promo) (omega (arith, small, well.size)) in
-      let own : is_side (man_on (arrived p x m) s) (other x.colour) ≡ false = ap (λ (o : Option Man). is_side o (other x.colour)) there
+      let own : is_of_colour (man_on (arrived p x m) s) (other x.colour) ≡ false = ap (λ (o : Option Man). is_of_colour o (other x.colour)) there
       ∙ ap (λ (c : Colour). same_colour c (other x.colour)) (arriving_colour x m.promo) ∙ other_differs x.colour in
       absurd (false≢true (sym own ∙ side))
   | inr ne ↦ elim (cases_Bool (is_square (Some m.from) s || is_square (capture_square p x m) s)) [
     | inl y ↦
-        let none : is_side (man_on (arrived p x m) s) (other x.colour) ≡ false =
-        ap (λ (o : Option Man). is_side o (other x.colour)) (left_now p.men m.from (capture_square p x m) m.to (arriving_man x m.promo) s ne y) in
+        let none : is_of_colour (man_on (arrived p x m) s) (other x.colour) ≡ false =
+        ap (λ (o : Option Man). is_of_colour o (other x.colour)) (left_now p.men m.from (capture_square p x m) m.to (arriving_man x m.promo) s ne y) in
         absurd (false≢true (sym none ∙ side))
     | inr n ↦ kept_now p.men m.from (capture_square p x m) m.to (arriving_man x m.promo) s ne n
   ]
@@ -203,19 +203,19 @@ are_arrived rule p x m well is small = search (rules, seen_after, goes_capturing
 pub exposed_is : (rule : RuleSet) (p : Position) (x : Man) (m : Move) (k w : ℕ) (b : Bool) → IsWellFormed p → is_pseudo_legal rule p m ≡ true → m.to < 64
     → man_on p.men m.from ≡ Some x → is_simple rule x m (is_some (capture_square p x m)) ≡ true → king_after p x m ≡ Some k
     → ((men : List (Option Man)) → AreSeen p.men men (other p.turn) (sight_after p.men m.from (capture_square p x m) m.to)
-    → w ≡ word (λ s. is_side (man_on men s) (other p.turn) && reaches men s k))
+    → w ≡ word (λ s. is_of_colour (man_on men s) (other p.turn) && reaches men s k))
     → ((men : List (Option Man)) → AreArrived p.men men x m (sight_after p.men m.from (capture_square p x m) m.to) → AreOthers men x.colour w
     → b ≡ some_square (λ s. bit_at w s == 1 && not (is_paralysed rule men s)))
     → b ≡ in_check rule (position_after rule p m).men p.turn
 exposed_is rule p x m k w b well may small here simple king attackers free =
     let is : IsMade rule p x m = made rule p m x may here in
     let parts : IsSimple rule p x m = simple_parts rule p x m simple in
-    let are : w ≡ word (λ s. is_side (man_on (arrived p x m) s) (other p.turn) && reaches (arrived p x m) s k) =
+    let are : w ≡ word (λ s. is_of_colour (man_on (arrived p x m) s) (other p.turn) && reaches (arrived p x m) s k) =
     attackers (arrived p x m) (seen_after p.men m.from (capture_square p x m) m.to (arriving_man x m.promo) p.turn (goes_capturing rule p x m well is small)) in
     let others : AreOthers (arrived p x m) x.colour w = record {
       side = λ s lt on.
-          let both : (is_side (man_on (arrived p x m) s) (other p.turn) && reaches (arrived p x m) s k) ≡ true = sym (word_has _ w s are lt) ∙ on in
-          ap (λ (c : Colour). is_side (man_on (arrived p x m) s) (other c)) is.mine ∙ (and_parts _ _ both).0;
+          let both : (is_of_colour (man_on (arrived p x m) s) (other p.turn) && reaches (arrived p x m) s k) ≡ true = sym (word_has _ w s are lt) ∙ on in
+          ap (λ (c : Colour). is_of_colour (man_on (arrived p x m) s) (other c)) is.mine ∙ (and_parts _ _ both).0;
     } in
     free (arrived p x m) (are_arrived rule p x m well is small) others
     ∙ attacked_by rule (arrived p x m) k w (other p.turn) are

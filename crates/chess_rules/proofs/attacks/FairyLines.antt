@@ -1,7 +1,7 @@
 -- Lines of grasshoppers and nightriders to a square: what stands elsewhere changes nothing on them.
 use Rattle.chess_rules.proofs.Basics.{Bool, List, None, Option, Some, [], and_from, and_left, and_right, ap, arith, bit_and, bit_or, eq-eqb, false, false_from_ne_true, false≢true, inl, inr, list_any, not, or_cases, or_left, or_parts, or_right, refl, rules, sym, true, ℕ, ◌&&◌, ◌-◌, ◌<◌, ◌==◌, ◌||◌, ◌∙◌, ◌∷◌, ◌≡◌, ◌≤◌, ◌⊎◌}
 use Rattle.chess_rules.proofs.Chess.{Colour, Direction, East, EastNorthEast, EastSouthEast, Grasshopper, Kind, Man, Nightrider, North, NorthEast, NorthNorthEast, NorthNorthWest, NorthWest, South, SouthEast, SouthSouthEast, SouthSouthWest, SouthWest, Step, West, WestNorthWest, WestSouthWest, all_at, all_range_true, along, any_range_cases, any_range_false, any_range_true}
-use Rattle.chess_rules.proofs.Chess.{first_of_and, has_fairy, hops, is_ahead, is_clear, is_lined, is_man, is_occupied, is_on_fairy_line, is_on_fairy_line_to, is_square, is_vacant, king_square, knight_steps, man_on, may_stand_between, other, place, queen_steps, ray, rides, second_of_and, some_square, some_square_false, some_square_true}
+use Rattle.chess_rules.proofs.Chess.{first_of_and, has_fairy, hops, is_ahead, is_clear, is_lined, is_man, is_occupied, is_on_fairy_line, is_on_fairy_line_at, is_square, is_vacant_at, king_square, knight_steps, man_on, may_stand_between, other, place, queen_steps, ray, rides, second_of_and, some_square, some_square_false, some_square_true}
 use Rattle.chess_rules.proofs.Chess.{squares_both, squares_either, squares_of, squares_same, step_of, word}
 use Rattle.chess_rules.proofs.rays.Ahead.{ordered}
 use Rattle.chess_rules.proofs.attacks.Attacking.{some_square_same}
@@ -40,8 +40,8 @@ clear_kept : (men after : List (Option Man)) (a s k : ℕ) (d : Step) (n m : ℕ
     → IsBeside a s k d → is_clear after s d m ≡ true → is_clear men s d m ≡ true
 unfolding is_clear
 clear_kept men after a s k d n m i at le lt beside clear =
-    all_range_true (λ q. is_vacant men (along s d q)) 1 m (λ j lo hi.
-    i.vacant (along s d j) (all_at (λ q. is_vacant after (along s d q)) 1 m j clear lo hi)
+    all_range_true (λ q. is_vacant_at men (along s d q)) 1 m (λ j lo hi.
+    i.vacant (along s d j) (all_at (λ q. is_vacant_at after (along s d q)) 1 m j clear lo hi)
     (beside n j at lo (omega (arith, hi, lt)) le))
 
 -- a ride from s to k is one before a man left a, off the line
@@ -189,7 +189,7 @@ no_fairy_line men c h = search (rules, no_line, word_empty)
 -- without a king none is either
 pub no_king_lined : (men : List (Option Man)) (c : Colour) → king_square men c ≡ None → 0 ≡ word (may_stand_between men c)
 unfolding may_stand_between
-no_king_lined men c h = word_empty _ (λ t b. ap (λ (o : Option ℕ). is_on_fairy_line_to men o c t) h)
+no_king_lined men c h = word_empty _ (λ t b. ap (λ (o : Option ℕ). is_on_fairy_line_at men o c t) h)
 
 -- the squares on a grasshopper's line to the king, and those on a nightrider's
 pub fairy_lines_are : (men : List (Option Man)) (c : Colour) (k w n : ℕ) → king_square men c ≡ Some k
@@ -199,7 +199,7 @@ unfolding may_stand_between is_on_fairy_line
 fairy_lines_are men c k w n at h i =
     (λ j. bit_or (h j) (i j))
     ∙ squares_either (λ t. list_any (is_lined men (other c) Grasshopper k t) queen_steps) (λ t. list_any (is_lined men (other c) Nightrider k t) knight_steps)
-    ∙ squares_same _ _ (λ t b. sym (ap (λ (o : Option ℕ). is_on_fairy_line_to men o c t) at))
+    ∙ squares_same _ _ (λ t b. sym (ap (λ (o : Option ℕ). is_on_fairy_line_at men o c t) at))
 
 -- the word of the men of a colour and kind, told by a test
 pub man_test : (men : List (Option Man)) (e : Colour) (j : Kind) (w : ℕ) → w ≡ squares_of men e j → w ≡ word (λ q. is_man (man_on men q) e j)

@@ -1,6 +1,6 @@
 -- The men that an attack sees once a move is made.
 use Rattle.chess_rules.proofs.Basics.{Bool, List, None, Option, Some, and_left, and_right, ap, arith, bit_and, bit_not, cases_Bool, cases_eq, eq-eqb, eqb-true, false, false≢true, inl, inr, is_some, length, not, or_cases, or_from, or_left, or_parts, or_right, refl, rules, sym, true, w64, ℕ, ◌&&◌, ◌<◌, ◌||◌, ◌∙◌, ◌≡◌, ◌≢◌}
-use Rattle.chess_rules.proofs.Chess.{AreSeen, Colour, Kind, King, Man, differs, is_man, is_side, is_square, king_square, man_on, man_on-with_other, man_on-without_other, man_on-without_same, other, same_colour, same_kind, sight_after, squares, squares_both, squares_either, squares_not, squares_of, squares_same, with_man, without_at, without_man, word}
+use Rattle.chess_rules.proofs.Chess.{AreSeen, Colour, Kind, King, Man, differs, is_man, is_of_colour, is_square, king_square, man_on, man_on-with_other, man_on-without_other, man_on-without_same, other, same_colour, same_kind, sight_after, squares, squares_both, squares_either, squares_not, squares_of, squares_same, with_man, without_at, without_man, word}
 use Rattle.chess_rules.proofs.making_moves.Plays.{stays_empty}
 use Rattle.chess_rules.proofs.Bits.{every_square}
 
@@ -66,12 +66,12 @@ occupied_now men a o b z q small = search (rules, cases_Bool, cases_eq, differs,
 -- what is asked of the man on the origin, of the one that arrives, and of the arrival
 pub record IsCapture (men : List (Option Man)) (a : ℕ) (o : Option ℕ) (b : ℕ) (z : Man) (c : Colour) : Type 0 where
   pub small : b < length men
-  pub own : is_side (man_on men a) (other c) ≡ false
+  pub own : is_of_colour (man_on men a) (other c) ≡ false
   pub arriving_man : same_colour z.colour (other c) ≡ false
   pub captured : is_some (man_on men b) ≡ true → is_square o b ≡ true
 
 -- where no man of a colour stands, none of this colour and any kind does
-pub no_man : (o : Option Man) (c : Colour) (k : Kind) → is_side o c ≡ false → is_man o c k ≡ false
+pub no_man : (o : Option Man) (c : Colour) (k : Kind) → is_of_colour o c ≡ false → is_man o c k ≡ false
 no_man o c k h = grind (arith, and_left)
 
 nobody : (o : Option Man) (c : Colour) (k : Kind) → is_some o ≡ false → is_man o c k ≡ false

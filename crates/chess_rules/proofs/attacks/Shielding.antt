@@ -1,8 +1,8 @@
 -- A plain move from a square that a queen on the king's doesn't see opens no line to the king.
 use Rattle.chess_rules.proofs.Basics.{Bool, List, None, Option, Some, [], and_from, and_parts, and_right, ap, arith, bit_at, bit_not, bit_or, cases_Bool, cases_eq, cond-false, cond-true, eq-eqb, false, false_from_ne_true, false≢true, inl, inr, is_some, length, list_any, list_any-append, not, not-true, or_cases, or_left, or_parts, or_right, refl, rules, sym, true, w64, ℕ, ◌&&◌, ◌<◌, ◌==◌, ◌||◌, ◌∙◌, ◌∷◌, ◌≡◌, ◌≢◌}
-use Rattle.chess_rules.proofs.Chess.{AtMostOneKing, Bishop, Colour, Direction, East, Grasshopper, IsWellFormed, Kind, King, Man, Move, Nightrider, North, NorthEast, NorthWest, Position, Queen, Rook, RuleSet, South, SouthEast, SouthWest, Step, Straight, West, after_by, arriving_man, capture_square, is_attacked, is_attacked_at, position_after}
-use Rattle.chess_rules.proofs.Chess.{diagonal_steps, differs, find_first, has_fairy, hops, in_check, is_behind, is_castling, captures_do_more, is_man, is_on_fairy_line, is_on_fairy_line_to, is_on_some, is_plain, is_promotion_right, is_reached, is_shut, is_side, is_square, is_vacant, king_square, knight_steps, man_on, man_on_at}
-use Rattle.chess_rules.proofs.Chess.{is_paralysed, is_pseudo_legal, may_expose, may_expose_on, may_stand_between, moved_men, other, queen_steps, reaches, reaches_as, reborn_at, reborn_square, rider_along, rides, same_colour, same_kind, some_square_false, some_square_true, squares, squares_either, squares_of, squares_same, step_of, steps_along, straight_steps, strikes, word}
+use Rattle.chess_rules.proofs.Chess.{AtMostOneKing, Bishop, Colour, Direction, East, Grasshopper, IsWellFormed, Kind, King, Man, Move, Nightrider, North, NorthEast, NorthWest, Position, Queen, Rook, RuleSet, South, SouthEast, SouthWest, Step, Straight, West, position_after_by, arriving_man, capture_square, is_attacked, is_attacked_at, position_after}
+use Rattle.chess_rules.proofs.Chess.{diagonal_steps, differs, find_first, has_fairy, hops, in_check, is_behind, is_castling, captures_do_more, is_man, is_on_fairy_line, is_on_fairy_line_at, is_on_some, is_plain, is_promotion_right, is_reached, is_shut, is_of_colour, is_square, is_vacant_at, king_square, knight_steps, man_on, man_on_at}
+use Rattle.chess_rules.proofs.Chess.{is_paralysed, is_pseudo_legal, may_expose, may_expose_at, may_stand_between, moved_men, other, queen_steps, reaches, reaches_as, rebirth_at, reborn_square, rider_along, rides, same_colour, same_kind, some_square_false, some_square_true, squares, squares_either, squares_of, squares_same, step_of, steps_along, straight_steps, is_attacker, word}
 use Rattle.chess_core.proofs.Ranges.{second_fails, find_square_some}
 use Rattle.chess_rules.specs.ties.Shields.{cannot_expose}
 use Rattle.chess_rules.specs.declared.shields.RiderLines.{RiderLines}
@@ -21,10 +21,10 @@ use Rattle.chess_rules.proofs.attacks.Seeing.{gone_to, kept_now, left_now, there
 use Rattle.chess_rules.proofs.attacks.Attacking.{goes_on}
 
 -- the man on a is gone, z has come to b, and nothing else has changed
-pub record IsShift (men position_after : List (Option Man)) (a b : ℕ) (z : Man) : Type 0 where
-  pub vacated : (q : ℕ) → man_on position_after q ≡ None → q ≢ a → man_on men q ≡ None
-  pub others : (q : ℕ) (y : Man) → man_on position_after q ≡ Some y → q ≢ b → man_on men q ≡ Some y
-  pub arrived : (y : Man) → man_on position_after b ≡ Some y → y ≡ z
+pub record IsShift (men after : List (Option Man)) (a b : ℕ) (z : Man) : Type 0 where
+  pub vacated : (q : ℕ) → man_on after q ≡ None → q ≢ a → man_on men q ≡ None
+  pub others : (q : ℕ) (y : Man) → man_on after q ≡ Some y → q ≢ b → man_on men q ≡ Some y
+  pub arrived : (y : Man) → man_on after b ≡ Some y → y ≡ z
 
 -- a man that goes, and captures on its arrival alone, makes such a shift
 pub gone_shift : (men : List (Option Man)) (a : ℕ) (o : Option ℕ) (b : ℕ) (z : Man) → b < length men → ((s : ℕ) → is_square o s ≡ true → s ≡ b)
@@ -45,11 +45,11 @@ unfolding reaches_as
 rider_reaches men e l j s k h r = grind (arith, list_any-append, or_right)
 
 -- a doesn't shut a line along which a man of kind j on s would ride to k, and a fairy man there goes to k as before
-record NoneShut (men position_after : List (Option Man)) (a k s : ℕ) (j : Kind) : Type 0 where
+record NoneShut (men after : List (Option Man)) (a k s : ℕ) (j : Kind) : Type 0 where
   pub lines : (l : RiderLines) → (same_kind j (rider_along l) || same_kind j Queen) ≡ true → is_on_some (steps_along l) k s ≡ true
       → IsParted men a k s (steps_along l) → ⊥
-  pub hopped : same_kind j Grasshopper ≡ true → list_any (hops position_after s k) queen_steps ≡ true → list_any (hops men s k) queen_steps ≡ true
-  pub ridden : same_kind j Nightrider ≡ true → list_any (rides position_after s k) knight_steps ≡ true → list_any (rides men s k) knight_steps ≡ true
+  pub hopped : same_kind j Grasshopper ≡ true → list_any (hops after s k) queen_steps ≡ true → list_any (hops men s k) queen_steps ≡ true
+  pub ridden : same_kind j Nightrider ≡ true → list_any (rides after s k) knight_steps ≡ true → list_any (rides men s k) knight_steps ≡ true
 
 -- what keeps a king on k from being uncovered
 pub record IsCovered (men : List (Option Man)) (c : Colour) (a k : ℕ) : Type 0 where
@@ -60,7 +60,7 @@ pub record IsCovered (men : List (Option Man)) (c : Colour) (a k : ℕ) : Type 0
   pub unlined : is_on_fairy_line men (other c) k a ≡ false
 
 -- a king is covered so, if a move from a can't expose him
-pub covered_parts : (men : List (Option Man)) (c : Colour) (a k : ℕ) → may_expose_on men (Some k) c a ≡ false → IsCovered men c a k
+pub covered_parts : (men : List (Option Man)) (c : Colour) (a k : ℕ) → may_expose_at men (Some k) c a ≡ false → IsCovered men c a k
 covered_parts men c a k h = search (rules, or_parts)
 
 shut : (men : List (Option Man)) (c : Colour) (a k : ℕ) (l : RiderLines) → IsCovered men c a k
@@ -91,40 +91,40 @@ king_is men c k one small h =
       fails = λ j lt. false_from_ne_true _ (λ y. let e : j ≡ k = one.same c j k y h in omega arith);
     })
 
-module _ (men position_after : List (Option Man)) (a b : ℕ) (z : Man) (i : IsShift men position_after a b z) where
-  stays_vacant : (o : Option ℕ) → is_vacant position_after o ≡ true → is_square o a ≡ false → is_vacant men o ≡ true
+module _ (men after : List (Option Man)) (a b : ℕ) (z : Man) (i : IsShift men after a b z) where
+  stays_vacant : (o : Option ℕ) → is_vacant_at after o ≡ true → is_square o a ≡ false → is_vacant_at men o ≡ true
   stays_vacant o h ne = grind (arith, none_from_is_some, not-true, eq-eqb)
 
   -- what is empty after a shift was empty before, the origin apart
-  pub frees : Frees position_after men a
+  pub frees : Frees after men a
   frees = record { vacant = stays_vacant }
 
   -- what stands now stood before, the arrival apart
-  pub stood : Holds position_after men b
+  pub stood : Holds after men b
   stood = grind (arith, false≢true, eq-eqb)
 
   -- what rides to a now, where a is empty, rode there before
-  rode : (xs : List Direction) (k : ℕ) → list_any (λ x. rides position_after k a (step_of x)) xs ≡ true → list_any (λ x. rides men k a (step_of x)) xs ≡ true
+  rode : (xs : List Direction) (k : ℕ) → list_any (λ x. rides after k a (step_of x)) xs ≡ true → list_any (λ x. rides men k a (step_of x)) xs ≡ true
   rode xs k h = search (rules, any_kept, ride_kept, frees, false_from_ne_true, once, square_is)
 
-  rode_there : (l : RiderLines) (k : ℕ) → list_any (rides position_after k a) (steps_along l) ≡ true → list_any (rides men k a) (steps_along l) ≡ true
+  rode_there : (l : RiderLines) (k : ℕ) → list_any (rides after k a) (steps_along l) ≡ true → list_any (rides men k a) (steps_along l) ≡ true
   rode_there Straight k h = rode (East ∷ West ∷ North ∷ South ∷ []) k h
   rode_there Diagonal k h = rode (NorthEast ∷ SouthEast ∷ NorthWest ∷ SouthWest ∷ []) k h
 
   -- a rider's line that is open after a shift was open before, unless the origin shut it
   pub line_before : (l : RiderLines) (k s : ℕ) → s < 64 → k < 64
       → (is_on_some (steps_along l) k s ≡ true → IsParted men a k s (steps_along l) → ⊥)
-      → list_any (rides position_after s k) (steps_along l) ≡ true → list_any (rides men s k) (steps_along l) ≡ true
+      → list_any (rides after s k) (steps_along l) ≡ true → list_any (rides men s k) (steps_along l) ≡ true
   unfolding is_on_some
   line_before l k s p q never h = grind (arith, opposed_along, rides_turned, line_open, frees, goes_on, rode_there, backward)
 
   -- a man that reaches k now, where it stands, reached it before, had it stood there
-  reaches_before : (e : Colour) (k s : ℕ) (j : Kind) → s < 64 → k < 64 → NoneShut men position_after a k s j → reaches_as position_after e j s k ≡ true
+  reaches_before : (e : Colour) (k s : ℕ) (j : Kind) → s < 64 → k < 64 → NoneShut men after a k s j → reaches_as after e j s k ≡ true
       → reaches_as men e j s k ≡ true
   unfolding reaches_as
   reaches_before e k s Queen p q n h =
-      elim (or_cases (list_any (rides position_after s k) straight_steps) (list_any (rides position_after s k) diagonal_steps)
-      (sym (list_any-append (rides position_after s k) straight_steps diagonal_steps) ∙ h)) [
+      elim (or_cases (list_any (rides after s k) straight_steps) (list_any (rides after s k) diagonal_steps)
+      (sym (list_any-append (rides after s k) straight_steps diagonal_steps) ∙ h)) [
         | inl y ↦ rider_reaches men e Straight Queen s k refl (line_before Straight k s p q (n.lines Straight refl) y)
         | inr y ↦ rider_reaches men e Diagonal Queen s k refl (line_before Diagonal k s p q (n.lines Diagonal refl) y)
       ]
@@ -139,19 +139,19 @@ module _ (men position_after : List (Option Man)) (a b : ℕ) (z : Man) (i : IsS
     unshut : (s : ℕ) (j : Kind) → s < 64
         → ((l : RiderLines) → (same_kind j (rider_along l) || same_kind j Queen) ≡ true → is_on_some (steps_along l) k s ≡ true
         → IsParted men a k s (steps_along l) → ⊥)
-        → ((d : Kind) → same_kind j d ≡ true → WasThere men (other c) d a b s) → NoneShut men position_after a k s j
+        → ((d : Kind) → same_kind j d ≡ true → WasThere men (other c) d a b s) → NoneShut men after a k s j
     unshut s j p lines was =
         let left = fairy_parts men (other c) k a g.unlined in
         let come = fairy_parts men (other c) k b f in
         record {
           lines = lines;
-          hopped = λ is h. hopper_before men position_after (other c) a b k s frees p stood (was Grasshopper is) left.0 come.0 h;
-          ridden = λ is h. nightrider_before men position_after (other c) a b k s frees p (was Nightrider is) left.1 h;
+          hopped = λ is h. hopper_before men after (other c) a b k s frees p stood (was Grasshopper is) left.0 come.0 h;
+          ridden = λ is h. nightrider_before men after (other c) a b k s frees p (was Nightrider is) left.1 h;
         }
 
     -- a man that reaches the king now and hasn't moved reached it before
-    checks_before : (s : ℕ) (o : Option Man) → man_on position_after s ≡ o → s < 64 → s ≢ b → is_side o (other c) ≡ true → reaches position_after s k ≡ true
-        → (is_side (man_on men s) (other c) && reaches men s k) ≡ true
+    checks_before : (s : ℕ) (o : Option Man) → man_on after s ≡ o → s < 64 → s ≢ b → is_of_colour o (other c) ≡ true → reaches after s k ≡ true
+        → (is_of_colour (man_on men s) (other c) && reaches men s k) ≡ true
     unfolding reaches
     checks_before s None at p ne side h = cc
     checks_before s (Some y) at p ne side h =
@@ -162,7 +162,7 @@ module _ (men position_after : List (Option Man)) (a b : ℕ) (z : Man) (i : IsS
         let none =
         unshut s y.kind p (λ l h on both. not_parted men a k s (other c) (rider_along l) (steps_along l) (shut men c a k l g) (rider (rider_along l) h)
         p on both) (λ d is. inl (of d is)) in
-        let mine : is_side (man_on men s) (other c) ≡ true = rw there side in
+        let mine : is_of_colour (man_on men s) (other c) ≡ true = rw there side in
         let then : reaches men s k ≡ true = rw there (reaches_before y.colour k s y.kind p q none (rw at at h)) in
         and_from _ _ mine then
 
@@ -170,32 +170,32 @@ module _ (men position_after : List (Option Man)) (a b : ℕ) (z : Man) (i : IsS
     attacked_from : a < 64 → man_on men a ≡ Some z → same_colour z.colour (other c) ≡ true → reaches_as men z.colour z.kind a k ≡ true → ⊥
     unfolding is_reached reaches
     attacked_from small here side h =
-        let mine : is_side (man_on men a) (other c) ≡ true = rw here side in
+        let mine : is_of_colour (man_on men a) (other c) ≡ true = rw here side in
         let then : reaches men a k ≡ true = rw here h in
-        false≢true (sym g.safe ∙ some_square_true (λ s. is_side (man_on men s) (other c) && reaches men s k) a small (and_from _ _ mine then))
+        false≢true (sym g.safe ∙ some_square_true (λ s. is_of_colour (man_on men s) (other c) && reaches men s k) a small (and_from _ _ mine then))
 
-    arrival_strikes : (o : Option Man) → man_on position_after b ≡ o → IsQuiet men c a b k z → b < 64 → is_side o (other c) ≡ true
-        → reaches position_after b k ≡ true → ⊥
+    arrival_strikes : (o : Option Man) → man_on after b ≡ o → IsQuiet men c a b k z → b < 64 → is_of_colour o (other c) ≡ true
+        → reaches after b k ≡ true → ⊥
     unfolding reaches
     arrival_strikes None at l p side h = cc
     arrival_strikes (Some y) at l p side h =
         let is : y ≡ z = i.arrived y at in
         let mine : same_colour z.colour (other c) ≡ true = ap (λ (x : Man). same_colour x.colour (other c)) (sym is) ∙ side in
-        let now : reaches_as position_after y.colour y.kind b k ≡ true = rw at at h in
+        let now : reaches_as after y.colour y.kind b k ≡ true = rw at at h in
         let here = l.stood mine in
         let none = unshut b z.kind p (λ d h on both. attacked_from here.1 here.0 mine
         (rider_reaches men z.colour d z.kind a k h (rides_turned (steps_along d) men a k (opposed_along d) here.1 q ∙ both.0)))
         (λ d is. inr (refl, here.1, ap (λ (o : Option Man). is_man o (other c) d) here.0 ∙ and_from _ _ mine is)) in
         false≢true (sym (l.quiet mine)
-        ∙ reaches_before z.colour k b z.kind p q none (ap (λ (x : Man). reaches_as position_after x.colour x.kind b k) (sym is) ∙ now))
+        ∙ reaches_before z.colour k b z.kind p q none (ap (λ (x : Man). reaches_as after x.colour x.kind b k) (sym is) ∙ now))
 
     -- no enemy reaches the king
-    pub unreached : IsQuiet men c a b k z → is_reached position_after k (other c) ≡ false
+    pub unreached : IsQuiet men c a b k z → is_reached after k (other c) ≡ false
     unfolding is_reached
     unreached l =
-        some_square_false (λ s. is_side (man_on position_after s) (other c) && reaches position_after s k) 64 (omega arith) (record {
+        some_square_false (λ s. is_of_colour (man_on after s) (other c) && reaches after s k) 64 (omega arith) (record {
           fails = λ s p. false_from_ne_true _ (λ h.
-              let h1 = and_parts (is_side (man_on position_after s) (other c)) (reaches position_after s k) h in
+              let h1 = and_parts (is_of_colour (man_on after s) (other c)) (reaches after s k) h in
               elim (cases_eq s b) [
                 | inl e ↦ search (rules, arrival_strikes)
                 | inr ne ↦ search (rules, false≢true, some_square_true, checks_before)
@@ -204,13 +204,13 @@ module _ (men position_after : List (Option Man)) (a b : ℕ) (z : Man) (i : IsS
 
 -- so none attacks him
 pub not_attacked : (rule : RuleSet) (men : List (Option Man)) (e : Colour) (k : ℕ) → is_reached men k e ≡ false → is_attacked rule men k e ≡ false
-unfolding is_attacked strikes is_reached
+unfolding is_attacked is_attacker is_reached
 not_attacked rule men e k h =
-    some_square_false (strikes rule men k e) 64 (omega arith) (record {
+    some_square_false (is_attacker rule men k e) 64 (omega arith) (record {
       fails = λ s p. false_from_ne_true _ (λ y.
-          let y1 = and_parts (is_side (man_on men s) e && not (is_paralysed rule men s)) (reaches men s k) y in
-          let y2 = and_parts (is_side (man_on men s) e) (not (is_paralysed rule men s)) y1.0 in
-          false≢true (sym h ∙ some_square_true (λ s. is_side (man_on men s) e && reaches men s k) s p (and_from _ _ y2.0 y1.1)));
+          let y1 = and_parts (is_of_colour (man_on men s) e && not (is_paralysed rule men s)) (reaches men s k) y in
+          let y2 = and_parts (is_of_colour (man_on men s) e) (not (is_paralysed rule men s)) y1.0 in
+          false≢true (sym h ∙ some_square_true (λ s. is_of_colour (man_on men s) e && reaches men s k) s p (and_from _ _ y2.0 y1.1)));
     })
 
 -- what is asked of a shift, so that the king of colour c isn't in check after it
@@ -221,18 +221,18 @@ record IsHarmless (men : List (Option Man)) (c : Colour) (a b : ℕ) (z : Man) :
   pub aside : may_stand_between men c b ≡ false
   pub quiet : (k : ℕ) → king_square men c ≡ Some k → IsQuiet men c a b k z
 
-king_stays : (men position_after : List (Option Man)) (a b : ℕ) (z : Man) (c : Colour) (k : ℕ) → IsShift men position_after a b z → IsHarmless men c a b z
-    → k < 64 → is_man (man_on position_after k) c King ≡ true → king_square men c ≡ Some k
+king_stays : (men after : List (Option Man)) (a b : ℕ) (z : Man) (c : Colour) (k : ℕ) → IsShift men after a b z → IsHarmless men c a b z
+    → k < 64 → is_man (man_on after k) c King ≡ true → king_square men c ≡ Some k
 unfolding may_expose
-king_stays men position_after a b z c k i g small h =
-    let y = man_there (man_on position_after k) c King h in
+king_stays men after a b z c k i g small h =
+    let y = man_there (man_on after k) c King h in
     let is : is_man (Some y.0) c King ≡ true = rw y.1 at h in
     elim (cases_eq k b) [
       | inl e ↦
-          let came : man_on position_after b ≡ Some y.0 = ap (λ (n : ℕ). man_on position_after n) (sym e) ∙ y.1 in
+          let came : man_on after b ≡ Some y.0 = ap (λ (n : ℕ). man_on after n) (sym e) ∙ y.1 in
           let same : y.0 ≡ z = i.arrived y.0 came in
           let was : king_square men c ≡ Some a = g.king (ap (λ (x : Man). is_man (Some x) c King) (sym same) ∙ is) in
-          let no : may_expose_on men (Some a) c a ≡ false = rw was at g.cannot_expose in
+          let no : may_expose_at men (Some a) c a ≡ false = rw was at g.cannot_expose in
           let apart : (a == a) ≡ false = (covered_parts men c a a no).apart in
           let yes : (a == a) ≡ true = eq-eqb a a refl in
           cc
@@ -241,27 +241,27 @@ king_stays men position_after a b z c k i g small h =
           king_is men c k g.one small (rw there is)
     ]
 
-stays_safe : (rule : RuleSet) (men position_after : List (Option Man)) (a b : ℕ) (z : Man) (c : Colour) → IsShift men position_after a b z
+stays_safe : (rule : RuleSet) (men after : List (Option Man)) (a b : ℕ) (z : Man) (c : Colour) → IsShift men after a b z
     → IsHarmless men c a b z
-    → in_check rule position_after c ≡ false
+    → in_check rule after c ≡ false
 unfolding in_check king_square squares may_expose may_stand_between
-stays_safe rule men position_after a b z c i g = by (king_square position_after c) refl where
-  by : (o : Option ℕ) → king_square position_after c ≡ o → is_attacked_at rule position_after o (other c) ≡ false
+stays_safe rule men after a b z c i g = by (king_square after c) refl where
+  by : (o : Option ℕ) → king_square after c ≡ o → is_attacked_at rule after o (other c) ≡ false
   by None e = refl
   by (Some k) e =
-      let f = find_first (λ s. is_man (man_on position_after s) c King) 0 64 k e in
+      let f = find_first (λ s. is_man (man_on after s) c King) 0 64 k e in
       let small : k < 64 = omega (arith, f.high) in
-      let at : king_square men c ≡ Some k = king_stays men position_after a b z c k i g small f.here in
-      let no : may_expose_on men (Some k) c a ≡ false = ap (λ (o : Option ℕ). may_expose_on men o c a) (sym at) ∙ g.cannot_expose in
-      let off : is_on_fairy_line_to men (Some k) c b ≡ false = ap (λ (o : Option ℕ). is_on_fairy_line_to men o c b) (sym at) ∙ g.aside in
-      not_attacked rule position_after (other c) k (unreached men position_after a b z i c k (covered_parts men c a k no) small off (g.quiet k at))
+      let at : king_square men c ≡ Some k = king_stays men after a b z c k i g small f.here in
+      let no : may_expose_at men (Some k) c a ≡ false = ap (λ (o : Option ℕ). may_expose_at men o c a) (sym at) ∙ g.cannot_expose in
+      let off : is_on_fairy_line_at men (Some k) c b ≡ false = ap (λ (o : Option ℕ). is_on_fairy_line_at men o c b) (sym at) ∙ g.aside in
+      not_attacked rule after (other c) k (unreached men after a b z i c k (covered_parts men c a k no) small off (g.quiet k at))
 
 -- nobody is reborn where nobody is captured, or without Circe
-none_reborn : (men : List (Option Man)) (o : Option Man) (s : ℕ) → reborn_at false men o (Some s) ≡ None
+none_reborn : (men : List (Option Man)) (o : Option Man) (s : ℕ) → rebirth_at false men o (Some s) ≡ None
 none_reborn men o s = grind arith
 
 nobody_reborn : (circe : Bool) (men before : List (Option Man)) (o : Option ℕ) → (circe ≡ true → o ≡ None)
-    → reborn_at circe men (man_on_at before o) o ≡ None
+    → rebirth_at circe men (man_on_at before o) o ≡ None
 nobody_reborn circe men before o h = grind (arith, none_reborn)
 
 -- a plain move captures on its arrival alone
@@ -292,7 +292,7 @@ moved_plainly p x m h = rw h refl
 -- where nobody is reborn
 pub unreborn_after : (rule : RuleSet) (p : Position) (x : Man) (m : Move) → man_on p.men m.from ≡ Some x → (captures_do_more rule ≡ true → capture_square p x m ≡ None)
     → (position_after rule p m).men ≡ moved_men p x m
-unfolding position_after after_by reborn_square
+unfolding position_after position_after_by reborn_square
 unreborn_after rule p x m here rebirth = search (rules, nobody_reborn)
 
 -- and nobody castles
@@ -380,7 +380,7 @@ some_nightrider men c w n h none i = grind (arith, not_zero)
 -- the word of the squares from which a move may uncover a king
 pub shield_squares_none : (men : List (Option Man)) (c : Colour) → king_square men c ≡ None → 0 ≡ word (may_expose men c)
 unfolding may_expose
-shield_squares_none men c h = word_empty (may_expose men c) (λ s b. ap (λ (o : Option ℕ). may_expose_on men o c s) h)
+shield_squares_none men c h = word_empty (may_expose men c) (λ s b. ap (λ (o : Option ℕ). may_expose_at men o c s) h)
 
 -- with a king that an enemy reaches, they are all squares
 pub shield_squares_all : (men : List (Option Man)) (c : Colour) (k : ℕ) → king_square men c ≡ Some k → is_reached men k (other c) ≡ true
@@ -402,8 +402,8 @@ shield_squares_some men c k w n at unreached h i =
     ∙ (λ j. bit_or (squares_either (λ t. is_square (Some k) t || rook t) bishop j) (word (may_stand_between men c)))
     ∙ squares_either (λ t. (is_square (Some k) t || rook t) || bishop t) (may_stand_between men c)
     ∙ squares_same _ (may_expose men c)
-    (λ s b. ap (λ (o : Option ℕ). ((k == s || rook s) || bishop s) || is_on_fairy_line_to men o c s) at
-    ∙ sym (ap (λ (o : Option ℕ). may_expose_on men o c s) at
+    (λ s b. ap (λ (o : Option ℕ). ((k == s || rook s) || bishop s) || is_on_fairy_line_at men o c s) at
+    ∙ sym (ap (λ (o : Option ℕ). may_expose_at men o c s) at
     ∙ ap (λ (x : Bool). x || k == s || rook s || bishop s || is_on_fairy_line men (other c) k s) unreached))
 
 -- whether a move can't uncover a king, told by that word

@@ -1,6 +1,6 @@
 -- The words of the squares to which a man may go.
 use Rattle.chess_rules.proofs.Basics.{Bool, List, None, Option, Some, agree_below_at, and_from, and_left, and_parts, ap, arith, bit_and, bit_at, bit_not, bit_or, cases_Bool, cond-false, cond-true, eqb-true, false, false≢true, find, inl, inr, is_some, list_any, not, not-true, or_cases, or_left, or_right, range_with_len, refl, rules, sym, true, w64, ℕ, ◌&&◌, ◌+◌, ◌/◌, ◌<◌, ◌==◌, ◌||◌, ◌∙◌, ◌≡◌}
-use Rattle.chess_rules.proofs.Chess.{Black, Colour, IsAimed, IsFirst, Kind, King, Man, Move, Pawn, Position, RuleSet, White, along, find_no, forward, goes, has_unmoved, is_advance, is_arrival, is_arrival_free, is_arrival_of, is_man, is_paralysed, is_promotion_right, is_pseudo_legal, is_side, is_square, is_vacant_at, leaps, man_on, may_go, may_promote, other, pawn_goes, queen_steps, rank_of, reaches, reaches_as, same_Bool, same_colour, same_kind, second_rank, side_of, squares_both, squares_either, squares_not, squares_of, squares_same, steps_to, word}
+use Rattle.chess_rules.proofs.Chess.{Black, Colour, IsAimed, IsFirst, Kind, King, Man, Move, Pawn, Position, RuleSet, White, along, find_no, forward, can_go, has_unmoved, is_advance, is_arrival, is_arrival_free, is_arrival_of, is_man, is_paralysed, is_promotion_right, is_pseudo_legal, is_of_colour, is_square, is_vacant, leaps, man_on, may_go, may_promote, other, pawn_goes, queen_steps, rank_of, reaches, reaches_as, same_Bool, same_colour, same_kind, second_rank, side_of, squares_both, squares_either, squares_not, squares_of, squares_same, steps_to, word}
 use Rattle.chess_rules.proofs.Bits.{word_empty, word_has}
 use Rattle.chess_rules.proofs.making_moves.Pseudo.{king_is_no_pawn}
 use Rattle.chess_rules.proofs.listing_moves.Targeting.{false_by}
@@ -9,7 +9,7 @@ use Rattle.chess_rules.proofs.listing_moves.Targeting.{false_by}
 free_of : (a c : Colour) (k : Kind) → not (same_colour a c || (same_colour a (other c) && same_kind k King)) ≡ (not (same_colour a c) && not (same_kind k King))
 free_of a c k = grind arith
 
-free_on : (o : Option Man) (c : Colour) → not (is_side o c || is_man o (other c) King) ≡ is_arrival_free c o
+free_on : (o : Option Man) (c : Colour) → not (is_of_colour o c || is_man o (other c) King) ≡ is_arrival_free c o
 free_on o c = grind (arith, free_of)
 
 -- the squares with neither a man of the mover nor an enemy king
@@ -18,8 +18,8 @@ pub free_word : (men : List (Option Man)) (c : Colour) (a b : ℕ) → a ≡ sid
 unfolding side_of squares_of
 free_word men c a b h i =
     (λ j. bit_not w64 (bit_or (h j) (i j)))
-    ∙ (λ j. bit_not w64 (squares_either (λ t. is_side (man_on men t) c) (λ t. is_man (man_on men t) (other c) King) j))
-    ∙ squares_not (λ t. is_side (man_on men t) c || is_man (man_on men t) (other c) King)
+    ∙ (λ j. bit_not w64 (squares_either (λ t. is_of_colour (man_on men t) c) (λ t. is_man (man_on men t) (other c) King) j))
+    ∙ squares_not (λ t. is_of_colour (man_on men t) c || is_man (man_on men t) (other c) King)
     ∙ squares_same _ _ (λ t q. free_on (man_on men t) c)
 
 -- a king that has moved doesn't castle
@@ -102,8 +102,8 @@ module _ (p : Position) (x : Man) (s : ℕ) (small : s < 64) (a o k : ℕ) (adva
   -- where no free square is next, the pawn steps nowhere
   pub goes-blocked : find (λ q. bit_at (bit_and (bit_and a (bit_not w64 o)) k) q == 1) (range_with_len 0 64) ≡ None → 0 ≡ word (pawn_goes p x s)
   goes-blocked none = word_empty (pawn_goes p x s) (λ t lt. false_by (pawn_goes p x s t) (λ y.
-      let parts = and_parts (is_vacant_at p.men t) (is_square (along s (forward x.colour) 1) t
-      || (rank_of s == second_rank x.colour && is_square (along s (forward x.colour) 2) t && is_vacant_at p.men ((s + t) / 2))) y in
+      let parts = and_parts (is_vacant p.men t) (is_square (along s (forward x.colour) 1) t
+      || (rank_of s == second_rank x.colour && is_square (along s (forward x.colour) 2) t && is_vacant p.men ((s + t) / 2))) y in
       elim (or_cases (is_square (along s (forward x.colour) 1) t) _ parts.1) [
         | inl one ↦ blocked t lt one parts.0
         | inr two ↦
@@ -135,11 +135,11 @@ module _ (p : Position) (x : Man) (s : ℕ) (small : s < 64) (a o k : ℕ) (adva
           let n = and_parts (is_advance x.colour s t) (not (is_some (man_on p.men t))) h in
           and_from _ _ n.1 (elim (or_cases (is_square (along s (forward x.colour) 1) t) (is_square (along s (forward x.colour) 2) t) n.0) [
             | inl one ↦ or_left (is_square (along s (forward x.colour) 1) t)
-                (rank_of s == second_rank x.colour && is_square (along s (forward x.colour) 2) t && is_vacant_at p.men ((s + t) / 2)) one
+                (rank_of s == second_rank x.colour && is_square (along s (forward x.colour) 2) t && is_vacant p.men ((s + t) / 2)) one
             | inr two ↦
                 let same : (s + t) / 2 ≡ u = one_is (along s (forward x.colour) 1) ((s + t) / 2) u (half_one x.colour s t small lt two) (one_of u u_small on) in
                 let free : not (is_some (man_on p.men u)) ≡ true = (and_parts (is_advance x.colour s u) _ (and_parts (ahead u) _ on).0).1 in
-                let between : is_vacant_at p.men ((s + t) / 2) ≡ true = rw same free in
+                let between : is_vacant p.men ((s + t) / 2) ≡ true = rw same free in
                 or_right (is_square (along s (forward x.colour) 1) t) _ (and_from _ _ (and_from _ _ second two) between)
           ])
 
@@ -207,7 +207,7 @@ unfolding is_arrival
 may_go_aimed rule p x m here h = search (rules, and_parts)
 
 goes_as_pawn : (rule : RuleSet) (p : Position) (x : Man) (m : Move) → man_on p.men m.from ≡ Some x → same_kind x.kind Pawn ≡ true
-    → may_go p x m.from m.to ≡ true → goes rule p x m ≡ true
+    → may_go p x m.from m.to ≡ true → can_go rule p x m ≡ true
 unfolding may_go reaches
 goes_as_pawn rule p x m here pawn h = search (rules, and_from, and_parts, cond-true, or_cases, or_left, or_right)
 
@@ -217,20 +217,20 @@ unfolding steps_to
 no_steps x s t a u none piece h = search (rules, and_parts, cond-false, or_cases)
 
 goes_as_piece : (rule : RuleSet) (p : Position) (x : Man) (m : Move) → man_on p.men m.from ≡ Some x → same_kind x.kind Pawn ≡ false
-    → same_kind x.kind King ≡ false → may_go p x m.from m.to ≡ true → goes rule p x m ≡ true
+    → same_kind x.kind King ≡ false → may_go p x m.from m.to ≡ true → can_go rule p x m ≡ true
 unfolding may_go reaches
 goes_as_piece rule p x m here none piece h = search (rules, cond-false, no_steps, or_left)
 
 -- a king that doesn't stand unmoved reaches where he goes
 goes_as_king : (rule : RuleSet) (p : Position) (x : Man) (m : Move) → man_on p.men m.from ≡ Some x → same_kind x.kind King ≡ true
     → has_unmoved p.unmoved m.from ≡ false
-    → may_go p x m.from m.to ≡ true → goes rule p x m ≡ true
+    → may_go p x m.from m.to ≡ true → can_go rule p x m ≡ true
 unfolding may_go reaches
 goes_as_king rule p x m here king moved h = search (rules, and_parts, cond-false, king_is_no_pawn, or_cases, or_left)
 
 -- where a man may go it goes by the rules, an unmoved king apart
 pub goes_on : (rule : RuleSet) (p : Position) (x : Man) (m : Move) → man_on p.men m.from ≡ Some x → may_go p x m.from m.to ≡ true
-    → (same_kind x.kind King && has_unmoved p.unmoved m.from) ≡ false → true ≡ goes rule p x m
+    → (same_kind x.kind King && has_unmoved p.unmoved m.from) ≡ false → true ≡ can_go rule p x m
 goes_on rule p x m here h free = search (rules, cases_Bool, goes_as_king, goes_as_pawn, goes_as_piece)
 
 last_two : (a b c : Bool) → a ≡ true → (a && b && c) ≡ (b && c)
@@ -238,7 +238,7 @@ last_two a b c h = rw h refl
 
 -- of such a move, promotion and way are left to be tested
 left_to_test : (rule : RuleSet) (p : Position) (x : Man) (m : Move) → man_on p.men m.from ≡ Some x → is_arrival rule p m.from m.to ≡ true
-    → is_pseudo_legal rule p m ≡ (is_promotion_right p x m m.promo && goes rule p x m)
+    → is_pseudo_legal rule p m ≡ (is_promotion_right p x m m.promo && can_go rule p x m)
 unfolding is_arrival is_pseudo_legal
 left_to_test rule p x m here h = search (rules, and_parts, last_two)
 
@@ -252,5 +252,5 @@ aimed_promotion rule p m k a e =
 
 -- and without one exactly if the man goes so
 pub aimed_plain : (rule : RuleSet) (p : Position) (m : Move) (x : Man) → IsAimed rule p m → m.promo ≡ None → man_on p.men m.from ≡ Some x
-    → goes rule p x m ≡ is_pseudo_legal rule p m
+    → can_go rule p x m ≡ is_pseudo_legal rule p m
 aimed_plain rule p m x a e here = grind (arith, left_to_test rule p x m here a.arrival)

@@ -1,6 +1,6 @@
 -- Moves that are legal without a look.
 use Rattle.chess_rules.proofs.Basics.{Bool, None, Some, and_from, ap, if◌then◌else◌, refl, bit_or, and_left, bit_and, bit_at, eqb-true, false, is_some, not, or_parts, rules, sym, true, ℕ, ◌&&◌, ◌<◌, ◌==◌, ◌∙◌, ◌≡◌}
-use Rattle.chess_rules.proofs.Chess.{AreCandidates, IsAimed, IsWellFormed, King, Man, Move, Pawn, Position, RuleSet, arrives, is_circe, is_legal, is_plain, is_square, last_rank, man_on, may_expose, may_stand_between, rank_of, same_kind, squares_either, squares_same, word}
+use Rattle.chess_rules.proofs.Chess.{AreCandidates, IsAimed, IsWellFormed, King, Man, Move, Pawn, Position, RuleSet, is_promoting, is_circe, is_legal, is_plain, is_square, last_rank, man_on, may_expose, may_stand_between, rank_of, same_kind, squares_either, squares_same, word}
 use Rattle.chess_rules.proofs.Bits.{word_empty, word_has}
 use Rattle.chess_rules.proofs.attacks.Shielding.{cannot_expose_own}
 use Rattle.chess_rules.proofs.listing_moves.Arrivals.{aimed_plain, goes_on, may_go_aimed}
@@ -11,7 +11,7 @@ use Rattle.chess_rules.specs.ties.Shields.{cannot_expose}
 
 -- a move to a square that is sure changes nothing else, and uncovers no king
 sure_unexposed : (rule : RuleSet) (p : Position) (x : Man) (m : Move) → man_on p.men m.from ≡ Some x → same_kind x.kind King ≡ false
-    → may_expose p.men p.turn m.from ≡ false → is_unsure rule p x m.to ≡ false → (cannot_expose rule p p.turn m ≡ true) × (arrives x m.to ≡ false)
+    → may_expose p.men p.turn m.from ≡ false → is_unsure rule p x m.to ≡ false → (cannot_expose rule p p.turn m ≡ true) × (is_promoting x m.to ≡ false)
 unfolding cannot_expose is_plain is_unsure
 sure_unexposed rule p x m here piece from sure = search (rules, and_from, and_left, or_parts)
 
@@ -43,18 +43,18 @@ reborn_word false test = word_empty (λ t. false && test t) (λ t lt. refl)
 
 -- the word of the squares that aren't sure: those on the lines of fairy men, the crossed one, those with men who may be reborn, and of a pawn's last rank
 pub unsure_word : (rule : RuleSet) (p : Position) (x : Man) (f c r l : ℕ) → f ≡ word (may_stand_between p.men p.turn) → c ≡ word (λ t. is_square p.crossed t)
-    → r ≡ (if is_circe rule then word (λ t. is_some (man_on p.men t)) else 0) → l ≡ word (arrives x)
+    → r ≡ (if is_circe rule then word (λ t. is_some (man_on p.men t)) else 0) → l ≡ word (is_promoting x)
     → bit_or (bit_or (bit_or f c) r) l ≡ word (is_unsure rule p x)
 unfolding is_unsure
 unsure_word rule p x f c r l hf hc hr hl = search (rules, reborn_word, squares_either)
 
 -- the squares on which a pawn is promoted
-pub promoting_word : (x : Man) (n : ℕ) → same_kind x.kind Pawn ≡ true → n ≡ word (λ t. rank_of t == last_rank x.colour) → n ≡ word (arrives x)
+pub promoting_word : (x : Man) (n : ℕ) → same_kind x.kind Pawn ≡ true → n ≡ word (λ t. rank_of t == last_rank x.colour) → n ≡ word (is_promoting x)
 promoting_word x n pawn h = h ∙ squares_same _ _ (λ t lt. rw pawn refl)
 
 -- another man is promoted nowhere
-pub promoting_none : (x : Man) → same_kind x.kind Pawn ≡ false → 0 ≡ word (arrives x)
-promoting_none x none = word_empty (arrives x) (λ t lt. no_pawn_arrives x t none)
+pub promoting_none : (x : Man) → same_kind x.kind Pawn ≡ false → 0 ≡ word (is_promoting x)
+promoting_none x none = word_empty (is_promoting x) (λ t lt. no_pawn_arrives x t none)
 
 -- for the word of these squares
 pub ruleset promotion_words = (promoting_none, promoting_word)

@@ -1,7 +1,7 @@
 -- Where a man may go, and no move is missed by going from one such square to the next.
 use Rattle.chess_core.proofs.Kept.{same_colour-refl}
 use Rattle.chess_rules.proofs.Basics.{Bool, List, None, Option, Some, agree_below_at, and_from, and_parts, ap, arith, bit_at, bit_not, cases_Bool, cases_eq, cond-false, cond-true, false, find, inl, inr, is_some, or_left, or_right, range_with_len, refl, rules, sym, true, w64, ℕ, ◌%◌, ◌*◌, ◌+◌, ◌-◌, ◌/◌, ◌<◌, ◌==◌, ◌∙◌, ◌≡◌, ◌≤◌}
-use Rattle.chess_rules.proofs.Chess.{IsBarrenFrom, IsFirst, IsNamed, Kind, King, Man, Move, Pawn, Position, RuleSet, along, arrives, castles, file_of, find_first, find_no, goes, is_advance, is_arrival, is_aside, is_castling, is_promotion_right, is_pseudo_legal, is_pseudo_legal_of, is_side, is_square, man_on, may_castle, may_go, promotion_at, rank_of, reaches, reaches_as, same_colour, same_kind, square_at, squares_same, steps_to, word}
+use Rattle.chess_rules.proofs.Chess.{IsBarrenFrom, IsFirst, IsNamed, Kind, King, Man, Move, Pawn, Position, RuleSet, along, is_promoting, can_castle, file_of, find_first, find_no, can_go, is_advance, is_arrival, is_two_files_aside, is_castling, is_promotion_right, is_pseudo_legal, is_pseudo_legal_of, is_of_colour, is_square, man_on, may_castle, may_go, promotion_at, rank_of, reaches, reaches_as, same_colour, same_kind, square_at, squares_same, steps_to, word}
 use Rattle.chess_rules.proofs.Bits.{word_empty}
 use Rattle.chess_rules.proofs.making_moves.Pseudo.{made}
 
@@ -11,7 +11,7 @@ unfolding steps_to
 pawn_word x s n pawn h = h ∙ squares_same _ _ (λ t b. sym (cond-true (same_kind x.kind Pawn) _ _ pawn))
 
 -- a king's word has the squares two files aside
-pub king_word : (x : Man) (s n : ℕ) → same_kind x.kind Pawn ≡ false → same_kind x.kind King ≡ true → n ≡ word (is_aside s) → n ≡ word (steps_to x s)
+pub king_word : (x : Man) (s n : ℕ) → same_kind x.kind Pawn ≡ false → same_kind x.kind King ≡ true → n ≡ word (is_two_files_aside s) → n ≡ word (steps_to x s)
 unfolding steps_to
 king_word x s n none king h = search (rules, cond-false, cond-true, squares_same)
 
@@ -34,9 +34,9 @@ unfolding reaches
 reaches_man men x s t here h = rw here at h
 
 -- a move goes where its man may go
-may_go_of : (rule : RuleSet) (p : Position) (x : Man) (m : Move) → m.to < 64 → man_on p.men m.from ≡ Some x → goes rule p x m ≡ true
+may_go_of : (rule : RuleSet) (p : Position) (x : Man) (m : Move) → m.to < 64 → man_on p.men m.from ≡ Some x → can_go rule p x m ≡ true
     → may_go p x m.from m.to ≡ true
-unfolding may_go castles may_castle
+unfolding may_go can_castle may_castle
 may_go_of rule p x m small here h = search (rules, and_from, and_parts, castling_steps, cond-false, cond-true, or_left, or_right, reaches_man)
 
 arrival_of : (rule : RuleSet) (p : Position) (x : Man) (m : Move) → m.to < 64 → man_on p.men m.from ≡ Some x → is_pseudo_legal_of rule p (Some x) m ≡ true
@@ -58,19 +58,19 @@ pub false_by : (b : Bool) → (b ≡ true → ⊥) → b ≡ false
 false_by b h = grind arith
 
 -- a promotion is named exactly on the last rank
-promoted : (p : Position) (x : Man) (m : Move) (o : Option Kind) → is_promotion_right p x m o ≡ true → o ≡ None → arrives x m.to ≡ false
+promoted : (p : Position) (x : Man) (m : Move) (o : Option Kind) → is_promotion_right p x m o ≡ true → o ≡ None → is_promoting x m.to ≡ false
 promoted p x m o h e = grind (arith, cases_Bool)
 
-unpromoted : (p : Position) (x : Man) (m : Move) (o : Option Kind) (k : Kind) → is_promotion_right p x m o ≡ true → o ≡ Some k → arrives x m.to ≡ true
+unpromoted : (p : Position) (x : Man) (m : Move) (o : Option Kind) (k : Kind) → is_promotion_right p x m o ≡ true → o ≡ Some k → is_promoting x m.to ≡ true
 unpromoted p x m o k h e = grind (arith, and_parts)
 
 -- on another rank than the last none may be named
-pub no_promotion_here : (rule : RuleSet) (p : Position) (x : Man) (m : Move) (k : Kind) → man_on p.men m.from ≡ Some x → m.promo ≡ Some k → arrives x m.to ≡ false
+pub no_promotion_here : (rule : RuleSet) (p : Position) (x : Man) (m : Move) (k : Kind) → man_on p.men m.from ≡ Some x → m.promo ≡ Some k → is_promoting x m.to ≡ false
     → is_pseudo_legal rule p m ≡ false
 no_promotion_here rule p x m k here e h =
     false_by (is_pseudo_legal rule p m) (λ y. let t = unpromoted p x m m.promo k (made rule p m x y here).promotion e in cc)
 
-promotion_missing : (rule : RuleSet) (p : Position) (x : Man) (m : Move) → man_on p.men m.from ≡ Some x → m.promo ≡ None → arrives x m.to ≡ true
+promotion_missing : (rule : RuleSet) (p : Position) (x : Man) (m : Move) → man_on p.men m.from ≡ Some x → m.promo ≡ None → is_promoting x m.to ≡ true
     → is_pseudo_legal rule p m ≡ false
 promotion_missing rule p x m here e h =
     false_by (is_pseudo_legal rule p m) (λ y. let t = promoted p x m m.promo (made rule p m x y here).promotion e in cc)
@@ -81,7 +81,7 @@ unfolding is_pseudo_legal
 nobody_moves rule p m h = ap (λ o. is_pseudo_legal_of rule p o m) h
 
 -- nor is there one if the man there isn't the mover's
-pub own_moves : (p : Position) (rule : RuleSet) (m : Move) (o : Option Man) → man_on p.men m.from ≡ o → is_side o p.turn ≡ false
+pub own_moves : (p : Position) (rule : RuleSet) (m : Move) (o : Option Man) → man_on p.men m.from ≡ o → is_of_colour o p.turn ≡ false
     → is_pseudo_legal rule p m ≡ false
 own_moves p rule m None e h = nobody_moves rule p m e
 own_moves p rule m (Some x) e h =
@@ -113,7 +113,7 @@ pub named_by : (o : Option Kind) → is_some o ≡ true → (k : Kind) × (o ≡
 named_by o h = grind arith
 
 -- on another rank than the last there is no promotion
-pub from-unpromoted : (p : Position) (x : Man) (s z t a : ℕ) → man_on p.men s ≡ Some x → arrives x t ≡ false → 7 * t < a → IsBarrenFrom p s z a (7 * t + 7)
+pub from-unpromoted : (p : Position) (x : Man) (s z t a : ℕ) → man_on p.men s ≡ Some x → is_promoting x t ≡ false → 7 * t < a → IsBarrenFrom p s z a (7 * t + 7)
 from-unpromoted p x s z t a here h lt = record {
   fails = λ rule k lo hi on.
       let to : k / 7 ≡ t = omega arith in
@@ -122,7 +122,7 @@ from-unpromoted p x s z t a here h lt = record {
 }
 
 -- on the last there is one
-from-promoted : (p : Position) (x : Man) (s z t : ℕ) → man_on p.men s ≡ Some x → arrives x t ≡ true → IsBarrenFrom p s z (7 * t) (7 * t + 1)
+from-promoted : (p : Position) (x : Man) (s z t : ℕ) → man_on p.men s ≡ Some x → is_promoting x t ≡ true → IsBarrenFrom p s z (7 * t) (7 * t + 1)
 from-promoted p x s z t here h = record {
   fails = λ rule k lo hi on.
       let to : k / 7 ≡ t = omega arith in
@@ -137,7 +137,7 @@ from-target p s start at t w past f = search rules
 
 -- and past the move to it without a promotion, where a pawn arrives on its last rank
 pub from-first : (p : Position) (x : Man) (s start at t w n : ℕ) → man_on p.men s ≡ Some x → IsBarrenFrom p s w start at
-    → find (λ q. bit_at w q == 1) (range_with_len (at / 7) (64 - at / 7)) ≡ Some t → arrives x t ≡ true → n ≡ 7 * t → IsBarrenFrom p s w start (n + 1)
+    → find (λ q. bit_at w q == 1) (range_with_len (at / 7) (64 - at / 7)) ≡ Some t → is_promoting x t ≡ true → n ≡ 7 * t → IsBarrenFrom p s w start (n + 1)
 from-first p x s start at t w n here past found last e = search (rules, from-join, from-target p s start, find_first, from-promoted p x s w t here last)
 
 -- up to the end, where there is none
@@ -147,7 +147,7 @@ from-none p s start at w past none =
     from-join p s w start at 448 past (from-missed p s at 448 w (λ q lo hi. find_no (λ q. bit_at w q == 1) (at / 7) (64 - at / 7) q none lo (omega arith)))
 
 -- another man than a pawn never arrives as one
-pub no_pawn_arrives : (x : Man) (t : ℕ) → same_kind x.kind Pawn ≡ false → arrives x t ≡ false
+pub no_pawn_arrives : (x : Man) (t : ℕ) → same_kind x.kind Pawn ≡ false → is_promoting x t ≡ false
 no_pawn_arrives x t h = rw h refl
 
 -- a man that is no pawn has no other triple to a square than that without a promotion
@@ -173,7 +173,7 @@ plain-none p x s start w here h none = search (rules, from-none, from-plain p x 
 
 -- the triple that is found
 pub named_at : (p : Position) (x : Man) (s t n w : ℕ) → man_on p.men s ≡ Some x → (bit_at w t == 1) ≡ true → n / 7 ≡ t
-    → is_some (promotion_at (n % 7)) ≡ arrives x t → IsNamed p s w n
+    → is_some (promotion_at (n % 7)) ≡ is_promoting x t → IsNamed p s w n
 named_at p x s t n w here set at named = record { man = x; here = here; inside = rw at set; promotion = rw at named }
 
 -- the first promotion names no kind

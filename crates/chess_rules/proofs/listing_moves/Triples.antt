@@ -1,9 +1,9 @@
 -- The triples: which moves they are, in which order they stand, and that each legal move is one of them.
 use Rattle.chess_rules.proofs.Basics.{AllPairs, Bool, Contains, List, Option, Some, [], and_parts, ap, arith, false≢true, flat_map, inl, inr, length, list_any, map, or_cases, range_with_len, refl, rules, suc, true, zero, ℕ, ◌+◌, ◌-◌, ◌<◌, ◌↔◌, ◌∷◌, ◌≡◌, ◌⊎◌}
-use Rattle.chess_rules.proofs.Chess.{Bishop, Colour, Grasshopper, Kind, King, Knight, Man, Move, Nightrider, Pawn, Position, Queen, Rook, RuleSet, Step, along, along-is, castles, gait_of, goes_by, hops, is_nil, is_promotion_right, is_pseudo_legal, is_square, kind_steps, leaps, man_on, may_castle, may_promote, promotions, reaches, reaches_as, reaches_of, rides, squares, triple_at, triples}
+use Rattle.chess_rules.proofs.Chess.{Bishop, Colour, Grasshopper, Kind, King, Knight, Man, Move, Nightrider, Pawn, Position, Queen, Rook, RuleSet, Step, along, along-is, can_castle, gait_of, goes_by, hops, is_nil, is_promotion_right, is_pseudo_legal, is_square, kind_steps, leaps, man_on, may_castle, may_promote, promotions, reaches, reaches_as, reaches_of, rides, squares, triple_at, triples}
 use Rattle.chess_core.specs.declared.man.Gait.{Gait}
 use Rattle.chess_core.specs.declared.man.Gait.TheVariants.{Hopper, Leaper, Rider}
-use Rattle.chess_core.specs.MoveOrder.{promotion_place, triple_number}
+use Rattle.chess_core.specs.MoveOrder.{promotion_order, order_number}
 use Rattle.chess_rules.proofs.listing_moves.Members.{first_in, none_in_nil, from_flat_map, from_map, from_range, in_flat_map, in_map, in_range, pairs_map, pairs_nil, pairs_of}
 use Rattle.chess_rules.proofs.listing_moves.Places.{triples_numbered}
 use Rattle.chess_rules.proofs.making_moves.Pseudo.{IsMade, made, pawn_goes, ways, on_board}
@@ -34,11 +34,11 @@ from_triples m c =
     (omega (arith, f, origin), omega (arith, t, arrival), rw promotion at r.1)
 
 -- the numbers of the triples rise
-next_rises : (n : ℕ) → n < 28671 → triple_number (triple_at n) < triple_number (triple_at (n + 1))
+next_rises : (n : ℕ) → n < 28671 → order_number (triple_at n) < order_number (triple_at (n + 1))
 unfolding triple_at
 next_rises n less = search rules
 
-later_rises : (d n : ℕ) → n + suc d < 28672 → triple_number (triple_at n) < triple_number (triple_at (n + suc d))
+later_rises : (d n : ℕ) → n + suc d < 28672 → order_number (triple_at n) < order_number (triple_at (n + suc d))
 later_rises zero n less = let e : n + 1 ≡ n + suc zero = omega arith in rw (← e) (next_rises n (omega (arith, less)))
 later_rises (suc d) n less = grind (arith, next_rises, later_rises d n (omega (arith, less)))
 
@@ -52,9 +52,9 @@ range_rises a (suc n) =
     (rw e at (range_rises (a + 1) n))
 
 -- the triples stand in the order of their numbers
-pub triples_rise : AllPairs (λ m n. triple_number m < triple_number n) triples
+pub triples_rise : AllPairs (λ m n. order_number m < order_number n) triples
 triples_rise =
-    rw triples_numbered (pairs_map (λ j k. (j < k) × (k < 0 + 28672)) (λ m n. triple_number m < triple_number n) triple_at (range_with_len 0 28672)
+    rw triples_numbered (pairs_map (λ j k. (j < k) × (k < 0 + 28672)) (λ m n. order_number m < order_number n) triple_at (range_with_len 0 28672)
     (λ j k w. let e : j + suc (k - j - 1) ≡ k = omega (arith, w) in rw e at (later_rises (k - j - 1) j (omega (arith, w))))
     (range_rises 0 28672))
 
@@ -87,8 +87,8 @@ reach_on_board : (men : List (Option Man)) (s t : ℕ) → reaches men s t ≡ t
 unfolding reaches
 reach_on_board men s t h = reach_of_on_board men (man_on men s) s t h
 
-castling_on_board : (rule : RuleSet) (p : Position) (x : Man) (m : Move) → m.from < 64 → castles rule p x m ≡ true → m.to < 64
-unfolding castles may_castle
+castling_on_board : (rule : RuleSet) (p : Position) (x : Man) (m : Move) → m.from < 64 → can_castle rule p x m ≡ true → m.to < 64
+unfolding can_castle may_castle
 castling_on_board rule p x m from h = search rules
 
 arrival_on_board : (rule : RuleSet) (p : Position) (x : Man) (m : Move) → m.from < 64 → IsMade rule p x m → m.to < 64
@@ -120,8 +120,8 @@ made_is_triple rule p m size h =
 
 -- by number is by origin, then by arrival, then by promotion
 pub by_parts : (m n : Move) → m.to < 64 → n.to < 64
-    → (triple_number m < triple_number n) ↔ ((m.from < n.from)
-    ⊎ ((m.from ≡ n.from) × ((m.to < n.to) ⊎ ((m.to ≡ n.to) × (promotion_place m.promo < promotion_place n.promo)))))
+    → (order_number m < order_number n) ↔ ((m.from < n.from)
+    ⊎ ((m.from ≡ n.from) × ((m.to < n.to) ⊎ ((m.to ≡ n.to) × (promotion_order m.promo < promotion_order n.promo)))))
 by_parts m n a b = search rules
 
 -- a list without elements

@@ -141,9 +141,9 @@ corner_stays p x m piece castle =
 rook_is_no_king : (k : Kind) → same_kind k Rook ≡ true → same_kind k King ≡ false
 rook_is_no_king k h = grind arith
 
-can_castle : (rule : RuleSet) (p : Position) (x : Man) (m : Move) → IsWellFormed p → IsMade rule p x m → is_castling x m ≡ true
+rook_can_castle : (rule : RuleSet) (p : Position) (x : Man) (m : Move) → IsWellFormed p → IsMade rule p x m → is_castling x m ≡ true
     → CanCastle (arrived p x m) (corner m) (halfway m)
-can_castle rule p x m well made castling = search (rules, arrived_none, castle_of, corner_stays, man_on-without_none, rook_is_no_king)
+rook_can_castle rule p x m well made castling = search (rules, arrived_none, castle_of, corner_stays, man_on-without_none, rook_is_no_king)
 
 -- a move that may be made can be made on the board, man by man
 pub can_move : (rule : RuleSet) (p : Position) (x : Man) (m : Move) → IsWellFormed p → IsMade rule p x m → CanMove p x m
@@ -157,5 +157,5 @@ can_move rule p x m well made = record {
       let k : same_kind x.kind King ≡ true = ap (λ (y : Man). same_kind y.kind King) (sym same) ∙ king in
       let none : HasNoKing (without_man p.men m.from) x.colour = no_king_left p.men m.from x well.kings made.here (same_colour_self x k) in
       rw same (without_at-no_king (without_man p.men m.from) (capture_square p x m) x.colour none);
-  rook = can_castle rule p x m well made;
+  rook = rook_can_castle rule p x m well made;
 }

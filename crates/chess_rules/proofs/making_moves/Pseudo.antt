@@ -1,6 +1,6 @@
 -- What a move that may be made is made of, check to the mover apart.
 use Rattle.chess_rules.proofs.Basics.{arith, List, None, Option, Some, and_parts, cases_lt, cond-false, cond-true, eqb-true, false, get_or_past, inl, inr, le-ltb, length, list_any, lt-ltb, nat_lt, or_cases, rules, true, ℕ, ◌+◌, ◌<◌, ◌≡◌, ◌≢◌, ◌⊎◌}
-use Rattle.chess_rules.proofs.Chess.{Black, Colour, IsWellFormed, Kind, King, Man, Move, Pawn, Position, Rook, RuleSet, White, along, along-is, castles, corner, file_of, forward, goes, halfway, is_arrival_free, is_home, is_home-none, is_home-square, is_promotion_right, is_pseudo_legal, is_square, leaps, man_on, may_castle, pawn_captures, pawn_steps, pawn_takes, rank_of, reaches, reaches_as, same_colour-true, same_kind, same_kind-true, second_rank}
+use Rattle.chess_rules.proofs.Chess.{Black, Colour, IsWellFormed, Kind, King, Man, Move, Pawn, Position, Rook, RuleSet, White, along, along-is, can_castle, corner, file_of, forward, can_go, halfway, is_arrival_free, is_home, is_home-none, is_home-square, is_promotion_right, is_pseudo_legal, is_square, leaps, man_on, may_castle, pawn_capture_steps, is_pawn_step, is_pawn_capture, rank_of, reaches, reaches_as, same_colour-true, same_kind, same_kind-true, second_rank}
 use Rattle.chess_rules.proofs.making_moves.Castles.{no_man}
 
 -- the parts of the definition
@@ -9,7 +9,7 @@ pub record IsMade (rule : RuleSet) (p : Position) (x : Man) (m : Move) : Type 0 
   pub mine : x.colour ≡ p.turn
   pub arrival : is_arrival_free p.turn (man_on p.men m.to) ≡ true
   pub promotion : is_promotion_right p x m m.promo ≡ true
-  pub goes : goes rule p x m ≡ true
+  pub can_go : can_go rule p x m ≡ true
 
 -- each move that may be made has them
 pub made : (rule : RuleSet) (p : Position) (m : Move) (x : Man) → is_pseudo_legal rule p m ≡ true → man_on p.men m.from ≡ Some x → IsMade rule p x m
@@ -18,14 +18,14 @@ made rule p m x h here = search (rules, and_parts, same_colour-true)
 
 -- the ways of a pawn and of the others
 abbrev pub IsPawnWay : Position → Man → Move → Type 0
-IsPawnWay p x m = (same_kind x.kind Pawn ≡ true) × ((pawn_takes p m ≡ true) ⊎ (pawn_steps p x m ≡ true))
+IsPawnWay p x m = (same_kind x.kind Pawn ≡ true) × ((is_pawn_capture p m ≡ true) ⊎ (is_pawn_step p x m ≡ true))
 
 -- another man reaches the arrival or castles
 abbrev pub IsPieceWay : RuleSet → Position → Man → Move → Type 0
-IsPieceWay rule p x m = (same_kind x.kind Pawn ≡ false) × ((reaches p.men m.from m.to ≡ true) ⊎ (castles rule p x m ≡ true))
+IsPieceWay rule p x m = (same_kind x.kind Pawn ≡ false) × ((reaches p.men m.from m.to ≡ true) ⊎ (can_castle rule p x m ≡ true))
 
 -- a pawn goes one of its ways, another man one of its own
-pub ways : (rule : RuleSet) (p : Position) (x : Man) (m : Move) → goes rule p x m ≡ true → IsPawnWay p x m ⊎ IsPieceWay rule p x m
+pub ways : (rule : RuleSet) (p : Position) (x : Man) (m : Move) → can_go rule p x m ≡ true → IsPawnWay p x m ⊎ IsPieceWay rule p x m
 ways rule p x m h = search rules
 
 -- a king is no pawn
@@ -47,7 +47,7 @@ pub record IsPawnTake (c : Colour) (s t : ℕ) : Type 0 where
   pub aside : file_of s ≢ file_of t
   pub small : t < 64
 
-pawn_leaps : (c : Colour) (s t : ℕ) → list_any (leaps s t) (pawn_captures c) ≡ true → IsPawnTake c s t
+pawn_leaps : (c : Colour) (s t : ℕ) → list_any (leaps s t) (pawn_capture_steps c) ≡ true → IsPawnTake c s t
 unfolding leaps
 pawn_leaps c s t h = grind (arith, along-is, or_cases)
 
@@ -78,7 +78,7 @@ ahead_two : (c : Colour) (s t : ℕ) → is_square (along s (forward c) 2) t ≡
 ahead_two c s t h = grind (arith, along-is)
 
 -- where a pawn steps, it goes so
-pub pawn_goes : (p : Position) (x : Man) (m : Move) → pawn_steps p x m ≡ true → IsPawnStep p x m
+pub pawn_goes : (p : Position) (x : Man) (m : Move) → is_pawn_step p x m ≡ true → IsPawnStep p x m
 pawn_goes p x m h =
     let h1 = and_parts _ _ h in
     elim (or_cases _ _ h1.1) [
@@ -109,8 +109,8 @@ rook_on : (o : Option Man) (s : ℕ) → s ≢ 4 → s ≢ 60 → is_home o s �
 rook_on o s n4 n60 h z e = search (rules, is_home-square)
 
 -- where a king castles, he and the rook stand and go so
-pub king_castles : (rule : RuleSet) (p : Position) (x : Man) (m : Move) → IsWellFormed p → man_on p.men m.from ≡ Some x → castles rule p x m ≡ true
+pub king_castles : (rule : RuleSet) (p : Position) (x : Man) (m : Move) → IsWellFormed p → man_on p.men m.from ≡ Some x → can_castle rule p x m ≡ true
     → IsCastle p m
-unfolding castles may_castle
+unfolding can_castle may_castle
 king_castles rule p x m well here h =
     search (rules, and_parts, cond-false, cond-true, eqb-true, is_home-none, king_from, le-ltb, lt-ltb, nat_lt, or_cases, rook_on)

@@ -1,6 +1,6 @@
 -- The position before a move, found again.
 use Rattle.chess_rules.proofs.Basics.{IsSome, List, None, Option, Some, and_parts, ap, arith, cases_Bool, inl, inr, length, length-set, refl, rules, sym, true, ℕ, ◌<◌, ◌∙◌, ◌≡◌}
-use Rattle.chess_rules.proofs.Chess.{captured_man, same_kind-true, CanCastle, CanReturn, IsWellFormed, Kind, Man, Move, Position, RuleSet, after_by, arriving_man, before_by, capture_square, corner, halfway, is_castling, is_crossed_right, is_promotion_right, is_pseudo_legal, is_square, leaving_man, man_on, man_on-with_same, man_on-without_other, man_on-without_same, man_on_at, moved_men, position_after, put_at, reborn_square, returned_men, returns_to, uncastled_men, undo_by, undo_of, without_at, without_man}
+use Rattle.chess_rules.proofs.Chess.{captured_man, same_kind-true, CanCastle, CanReturn, IsWellFormed, Kind, Man, Move, Position, RuleSet, position_after_by, arriving_man, before_by, capture_square, corner, halfway, is_castling, is_crossed_right, is_promotion_right, is_pseudo_legal, is_square, leaving_man, man_on, man_on-with_same, man_on-without_other, man_on-without_same, man_on_at, moved_men, position_after, put_at, reborn_square, returned_men, return_square, uncastled_men, undo_by, undo_of, without_at, without_man}
 use Rattle.chess_rules.specs.Undo.{Undo}
 use Rattle.chess_rules.proofs.making_moves.Pseudo.{made}
 use Rattle.chess_rules.proofs.making_moves.Back.{lift_after_place, place_after_lift, unborn, uncastled}
@@ -50,14 +50,14 @@ unfolding is_crossed_right
 crossed_vacant p m well h = search rules
 
 returns_some : (p : Position) (x : Man) (m : Move) (s : ℕ) (w : Man) → IsWellFormed p → capture_square p x m ≡ Some s
-    → returns_to x m p.crossed (Some w) ≡ Some s
+    → return_square x m p.crossed (Some w) ≡ Some s
 unfolding capture_square
 returns_some p x m s w well h = search (rules, crossed_vacant)
 
 returns_there : (rule : RuleSet) (p : Position) (x : Man) (m : Move) → IsWellFormed p → IsMade rule p x m
-    → returns_to x m p.crossed (captured_man p x m) ≡ capture_square p x m
+    → return_square x m p.crossed (captured_man p x m) ≡ capture_square p x m
 returns_there rule p x m well made = by (capture_square p x m) refl where
-  by : (o : Option ℕ) → capture_square p x m ≡ o → returns_to x m p.crossed (man_on_at p.men o) ≡ o
+  by : (o : Option ℕ) → capture_square p x m ≡ o → return_square x m p.crossed (man_on_at p.men o) ≡ o
   by None e = refl
   by (Some s) e = let t = taken rule p x m s well made e in rw t.there (returns_some p x m s t.man well e)
 
@@ -123,8 +123,8 @@ goes_back : (rule : RuleSet) (p : Position) (x : Man) (m : Move) → IsMade rule
 goes_back rule p x m made = leaving_arriving p x m m.promo made.promotion
 
 before_is : (rule : RuleSet) (p : Position) (x : Man) (m : Move) (u : Undo) → IsWellFormed p → IsMade rule p x m → u ≡ undo_by rule p x m
-    → before_by (record (after_by rule p x m) { men = moved_men p x m }) x m u ≡ p
-unfolding before_by after_by undo_by
+    → before_by (record (position_after_by rule p x m) { men = moved_men p x m }) x m u ≡ p
+unfolding before_by position_after_by undo_by
 before_is rule p x m u well made lost = search (rules, place_after_lift, returned)
 
 -- a reborn man stands on his square
@@ -137,7 +137,7 @@ undo_is : (rule : RuleSet) (p : Position) (x : Man) (m : Move) → man_on p.men 
 unfolding undo_of
 undo_is rule p x m here = rw here refl
 
-after_is : (rule : RuleSet) (p : Position) (x : Man) (m : Move) → man_on p.men m.from ≡ Some x → position_after rule p m ≡ after_by rule p x m
+after_is : (rule : RuleSet) (p : Position) (x : Man) (m : Move) → man_on p.men m.from ≡ Some x → position_after rule p m ≡ position_after_by rule p x m
 unfolding position_after
 after_is rule p x m here = rw here refl
 
@@ -145,7 +145,7 @@ after_is rule p x m here = rw here refl
 pub can_take_off : (rule : RuleSet) (q p : Position) (m : Move) (u : Undo) (s : ℕ) → IsWellFormed p → is_pseudo_legal rule p m ≡ true
     → q ≡ position_after rule p m
     → u ≡ undo_of rule p m → u.rebirth ≡ Some s → IsSome (man_on q.men s)
-unfolding undo_by after_by
+unfolding undo_by position_after_by
 can_take_off rule q p m u s well may now was e =
     let x = maker rule p m may in
     let at : reborn_square rule p x.0 m ≡ Some s = ap (λ (v : Undo). v.rebirth) (sym (was ∙ undo_is rule p x.0 m x.1)) ∙ e in
@@ -155,8 +155,8 @@ can_take_off rule q p m u s well may now was e =
 -- the board when the reborn man is off
 off_is : (rule : RuleSet) (q q2 p : Position) (x : Man) (m : Move) (u : Undo) → man_on p.men m.from ≡ Some x → q ≡ position_after rule p m
     → u ≡ undo_by rule p x m
-    → q2 ≡ record q { men = without_at q.men u.rebirth } → q2 ≡ record (after_by rule p x m) { men = moved_men p x m }
-unfolding undo_by after_by
+    → q2 ≡ record q { men = without_at q.men u.rebirth } → q2 ≡ record (position_after_by rule p x m) { men = moved_men p x m }
+unfolding undo_by position_after_by
 off_is rule q q2 p x m u here now lost off = grind (arith, after_is rule p x m here, unreborn rule p x m)
 
 -- the man found on the arrival, and what taking the move back then needs and gives

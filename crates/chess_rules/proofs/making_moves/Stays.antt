@@ -1,9 +1,9 @@
 -- A well-formed position stays well formed.
 use Rattle.chess_core.proofs.Ranges.{second_fails}
 use Rattle.chess_rules.proofs.Basics.{Bool, List, None, Option, Some, and_from, and_parts, ap, arith, cases_Bool, cases_eq, cases_lt, cond-false, cond-true, eq-eqb, eqb, eqb-true, false, if◌then◌else◌, inl, inr, length, length-set, ne_eqb, not-true, or_cases, refl, rules, set_past, sym, true, ℕ, ◌+◌, ◌<◌, ◌||◌, ◌∙◌, ◌≡◌, ◌≢◌, ◌≤◌, ◌⊎◌}
-use Rattle.chess_rules.proofs.Chess.{captured_man, AtMostOneKing, AtMostOneKing-without, CanCastle, Colour, HasNoKing, IsAt, IsWellFormed, Kind, King, Man, Move, Pawn, Position, Rook, RuleSet, after_by, arriving_man, by_shade, capture_square, corner, file_of, halfway, has_unmoved, has_unmoved-mark_other, has_unmoved-parts, position_after}
-use Rattle.chess_rules.proofs.Chess.{if_empty, is_castling, captures_are_reborn, is_crossed_right, is_double_step, is_home, is_home-none, is_man, is_pawn_inside, is_promotion_right, is_vacant_at, last_rank, man_on, man_on-with_other, man_on-with_same, man_on-without_none, man_on-without_other, man_on-without_same, man_on_at, may_promote, move_man}
-use Rattle.chess_rules.proofs.Chess.{is_pseudo_legal, moved_men, other, put_at, rank_of, rebirth, reborn_at, reborn_square, same_colour, same_kind, same_kind-true, second_rank, square_at, square_at-is, unmoved_after, unmoved_with_rook, unmoved_without_at, was_passed, with_man, without_at, without_man, without_unmoved}
+use Rattle.chess_rules.proofs.Chess.{captured_man, AtMostOneKing, AtMostOneKing-without, CanCastle, Colour, HasNoKing, IsAt, IsWellFormed, Kind, King, Man, Move, Pawn, Position, Rook, RuleSet, position_after_by, arriving_man, by_shade, capture_square, corner, file_of, halfway, has_unmoved, has_unmoved-mark_other, has_unmoved-parts, position_after}
+use Rattle.chess_rules.proofs.Chess.{if_empty, is_castling, captures_are_reborn, is_crossed_right, is_double_step, is_home, is_home-none, is_man, is_pawn_inside, is_promotion_right, is_vacant, last_rank, man_on, man_on-with_other, man_on-with_same, man_on-without_none, man_on-without_other, man_on-without_same, man_on_at, may_promote, move_man}
+use Rattle.chess_rules.proofs.Chess.{is_pseudo_legal, moved_men, other, put_at, rank_of, rebirth, rebirth_at, reborn_square, same_colour, same_kind, same_kind-true, second_rank, square_at, square_at-is, unmoved_after, unmoved_with_rook, unmoved_without_at, was_passed, with_man, without_at, without_man, without_unmoved}
 use Rattle.chess_core.specs.declared.man.Unmoved.{Unmoved}
 use Rattle.chess_core.proofs.Kept.{same_colour-refl}
 use Rattle.chess_rules.proofs.making_moves.Fits.{arrived, arrived_other, can_move, castle_of, corner_stays, no_capture, pawn_is_no_king, taken}
@@ -98,7 +98,7 @@ pub record IsReborn (circe : Bool) (men : List (Option Man)) (o : Option Man) (c
 if_empty-parts : (men : List (Option Man)) (o : Option ℕ) (r : ℕ) → if_empty men o ≡ Some r → (o ≡ Some r) × (man_on men r ≡ None)
 if_empty-parts men o r h = grind (arith, cases_Bool, cond-false, cond-true, none_from_is_some)
 
-reborn_parts : (circe : Bool) (men : List (Option Man)) (o : Option Man) (c : Option ℕ) (r : ℕ) → reborn_at circe men o c ≡ Some r → IsReborn circe men o c r
+reborn_parts : (circe : Bool) (men : List (Option Man)) (o : Option Man) (c : Option ℕ) (r : ℕ) → rebirth_at circe men o c ≡ Some r → IsReborn circe men o c r
 reborn_parts circe men o c r h = grind (arith, if_empty-parts)
 
 -- a pawn is reborn on rank 2 or 7
@@ -235,7 +235,7 @@ after_home rule p x m well made =
     (b.empty, (rebirth_small b.man.colour b.man.kind b.square r b.home, (b.man, (b.who, λ rook. reborn_rook_home b.man b.square r rook b.home)))))
 
 -- a double step leaves the pawn behind the square that it passed
-vacant : (men : List (Option Man)) (s : ℕ) → man_on men s ≡ None → is_vacant_at men s ≡ true
+vacant : (men : List (Option Man)) (s : ℕ) → man_on men s ≡ None → is_vacant men s ≡ true
 vacant men s h = rw h refl
 
 double_passed : (c : Colour) (p : Position) (x : Man) (m : Move) → length p.men ≡ 64 → x.colour ≡ c → same_kind x.kind Pawn ≡ true → m.to < 64
@@ -268,13 +268,13 @@ double_right rule p x m well made double =
     search (rules, double_passed, no_capture, no_promotion, one_or_two, pawn_goes, pawn_is_no_king, pawn_reaches, plain_men, two_on, ways)
 
 after_crossed : (rule : RuleSet) (p : Position) (x : Man) (m : Move) → IsWellFormed p → IsMade rule p x m
-    → is_crossed_right (after_by rule p x m).men (after_by rule p x m).turn (after_by rule p x m).crossed ≡ true
-unfolding after_by is_crossed_right
+    → is_crossed_right (position_after_by rule p x m).men (position_after_by rule p x m).turn (position_after_by rule p x m).crossed ≡ true
+unfolding position_after_by is_crossed_right
 after_crossed rule p x m well made = search (rules, double_right)
 
 -- the position after a man's move is well formed
-pub after_by_well : (rule : RuleSet) (p : Position) (x : Man) (m : Move) → IsWellFormed p → IsMade rule p x m → IsWellFormed (after_by rule p x m)
-unfolding after_by
+pub after_by_well : (rule : RuleSet) (p : Position) (x : Man) (m : Move) → IsWellFormed p → IsMade rule p x m → IsWellFormed (position_after_by rule p x m)
+unfolding position_after_by
 after_by_well rule p x m well made = grind (arith, after_sound rule p x m well made, made, after_home rule p x m well made, after_crossed rule p x m well made)
 
 -- some man makes the move

@@ -1,6 +1,6 @@
 -- The tables of lines and leaps, computed.
 use Rattle.chess_rules.proofs.Basics.{List, [], bit_or, None, Option, Some, ap, arith, cases_lt, cond-false, cond-true, false, get_or, get_or-map-range_with_len, if◌then◌else◌, inl, inr, list_any, map, range_with_len, refl, sym, ℕ, ◌%◌, ◌*◌, ◌<◌, ◌^◌, ◌∙◌, ◌∷◌, ◌≡◌, ◌||◌}
-use Rattle.chess_rules.proofs.Chess.{Black, Colour, Direction, East, North, NorthEast, NorthWest, South, SouthEast, SouthWest, Step, West, White, along, diagonal_steps, differs, direction_number, forward, is_advance, is_ahead, is_aside, is_on_some, is_square, knight_steps, leaps, pawn_captures, queen_steps, ray, squares_either, step_by, step_of, straight_steps, word}
+use Rattle.chess_rules.proofs.Chess.{Black, Colour, Direction, East, North, NorthEast, NorthWest, South, SouthEast, SouthWest, Step, West, White, along, diagonal_steps, differs, direction_number, forward, is_advance, is_ahead, is_two_files_aside, is_on_some, is_square, knight_steps, leaps, pawn_capture_steps, queen_steps, ray, squares_either, step_by, step_of, straight_steps, word}
 use Rattle.chess_rules.proofs.Bits.{word_empty, word_only}
 use Rattle.chess_rules.proofs.rays.Joining.{four}
 use Rattle.chess_rules.specs.declared.geometry.TheConstants.{ASIDE, BLACK_CAPTURES, BLACK_STEPS, DIAGONAL_LINES, KNIGHT_LEAPS, NEIGHBOURS, RAYS, STRAIGHT_LINES, WHITE_CAPTURES, WHITE_STEPS}
@@ -75,23 +75,23 @@ pub knight_leaps_at : (s i d : ℕ) → i ≡ s → i < 64 → get_or KNIGHT_LEA
 unfolding leaps
 knight_leaps_at s i d same small = entry (near knight_steps) KNIGHT_LEAPS s i d knight_leaps_are same small ∙ each_is (map (λ d. along s d 1) knight_steps)
 
-white_captures_are : WHITE_CAPTURES ≡ map (near (pawn_captures White)) (range_with_len 0 64)
+white_captures_are : WHITE_CAPTURES ≡ map (near (pawn_capture_steps White)) (range_with_len 0 64)
 unfolding along
 white_captures_are = refl
 
 -- the table of the squares that a White pawn attacks
-pub white_captures_at : (s i d : ℕ) → i ≡ s → i < 64 → get_or WHITE_CAPTURES i d ≡ word (λ t. list_any (leaps s t) (pawn_captures White))
+pub white_captures_at : (s i d : ℕ) → i ≡ s → i < 64 → get_or WHITE_CAPTURES i d ≡ word (λ t. list_any (leaps s t) (pawn_capture_steps White))
 unfolding leaps
-white_captures_at s i d same small = entry (near (pawn_captures White)) WHITE_CAPTURES s i d white_captures_are same small ∙ each_is (map (λ d. along s d 1) (pawn_captures White))
+white_captures_at s i d same small = entry (near (pawn_capture_steps White)) WHITE_CAPTURES s i d white_captures_are same small ∙ each_is (map (λ d. along s d 1) (pawn_capture_steps White))
 
-black_captures_are : BLACK_CAPTURES ≡ map (near (pawn_captures Black)) (range_with_len 0 64)
+black_captures_are : BLACK_CAPTURES ≡ map (near (pawn_capture_steps Black)) (range_with_len 0 64)
 unfolding along
 black_captures_are = refl
 
 -- and a Black one
-pub black_captures_at : (s i d : ℕ) → i ≡ s → i < 64 → get_or BLACK_CAPTURES i d ≡ word (λ t. list_any (leaps s t) (pawn_captures Black))
+pub black_captures_at : (s i d : ℕ) → i ≡ s → i < 64 → get_or BLACK_CAPTURES i d ≡ word (λ t. list_any (leaps s t) (pawn_capture_steps Black))
 unfolding leaps
-black_captures_at s i d same small = entry (near (pawn_captures Black)) BLACK_CAPTURES s i d black_captures_are same small ∙ each_is (map (λ d. along s d 1) (pawn_captures Black))
+black_captures_at s i d same small = entry (near (pawn_capture_steps Black)) BLACK_CAPTURES s i d black_captures_are same small ∙ each_is (map (λ d. along s d 1) (pawn_capture_steps Black))
 
 abbrev nowhere : ℕ → Option ℕ
 nowhere s = None
@@ -135,7 +135,7 @@ unfolding along
 aside_are = refl
 
 -- the table of the squares two files aside, for castling
-pub aside_at : (s i d : ℕ) → i ≡ s → i < 64 → get_or ASIDE i d ≡ word (is_aside s)
+pub aside_at : (s i d : ℕ) → i ≡ s → i < 64 → get_or ASIDE i d ≡ word (is_two_files_aside s)
 aside_at s i d same small = entry beside ASIDE s i d aside_are same small ∙ two_is (along s (step_by 2 0 0 0) 1) (along s (step_by 0 2 0 0) 1)
 
 -- the entry of a direction's row

@@ -1,6 +1,6 @@
 -- Lines looked at from their other end.
 use Rattle.chess_rules.proofs.Basics.{Bool, List, None, Option, Some, add-mul, and_from, ap, arith, cond, eq-eqb, eqb-true, false≢true, le-leb, leb-true, list_any, range_with_len, refl, rules, true, ℕ, ◌&&◌, ◌*◌, ◌+◌, ◌-◌, ◌<◌, ◌∙◌, ◌≡◌, ◌≤◌}
-use Rattle.chess_rules.proofs.Chess.{Man, Step, all_at, all_range_true, along, file_of, first_of_and, is_clear, is_on_board, is_square, is_vacant, rank_of, rides, same_Bool, second_of_and, some_is, square_at}
+use Rattle.chess_rules.proofs.Chess.{Man, Step, all_at, all_range_true, along, file_of, first_of_and, is_clear, is_on_board, is_square, is_vacant_at, rank_of, rides, same_Bool, second_of_and, some_is, square_at}
 
 -- the step the other way
 abbrev pub back : Step → Step
@@ -52,22 +52,22 @@ pub square_is : (o : Option ℕ) (t : ℕ) → is_square o t ≡ true → o ≡ 
 square_is o t h = grind (arith, false≢true, eqb-true)
 
 -- as many steps lead back from t to s as lead from s to t
-pub returns_to : (s t : ℕ) (d : Step) (k : ℕ) → s < 64 → is_square (along s d k) t ≡ true → is_square (along t (back d) k) s ≡ true
-returns_to s t d k p h = grind (arith, square_is _ t h, between s t d k 0 (omega arith), stays s d p, eq-eqb s s refl)
+pub return_square : (s t : ℕ) (d : Step) (k : ℕ) → s < 64 → is_square (along s d k) t ≡ true → is_square (along t (back d) k) s ≡ true
+return_square s t d k p h = grind (arith, square_is _ t h, between s t d k 0 (omega arith), stays s d p, eq-eqb s s refl)
 
 clear_back : (men : List (Option Man)) (s t : ℕ) (d : Step) (k : ℕ) → along s d k ≡ Some t → is_clear men s d (k - 1) ≡ true
     → is_clear men t (back d) (k - 1) ≡ true
 unfolding is_clear
 clear_back men s t d k at h =
-    all_range_true (λ i. is_vacant men (along t (back d) i)) 1 (k - 1)
+    all_range_true (λ i. is_vacant_at men (along t (back d) i)) 1 (k - 1)
     (λ i lo hi.
     let e : i ≡ k - (k - i) = omega arith in
-    ap (λ n. is_vacant men (along t (back d) n)) e ∙ ap (is_vacant men) (between s t d k (k - i) (omega arith) at)
-    ∙ all_at (λ i. is_vacant men (along s d i)) 1 (k - 1) (k - i) h (omega arith) (omega arith))
+    ap (λ n. is_vacant_at men (along t (back d) n)) e ∙ ap (is_vacant_at men) (between s t d k (k - i) (omega arith) at)
+    ∙ all_at (λ i. is_vacant_at men (along s d i)) 1 (k - 1) (k - i) h (omega arith) (omega arith))
 
 ride_test : (men : List (Option Man)) (s t : ℕ) (d : Step) (k : ℕ) → s < 64 → (is_square (along s d k) t && is_clear men s d (k - 1)) ≡ true
     → (is_square (along t (back d) k) s && is_clear men t (back d) (k - 1)) ≡ true
-ride_test men s t d k p h = search (rules, clear_back, first_of_and, returns_to, second_of_and, square_is)
+ride_test men s t d k p h = search (rules, clear_back, first_of_and, return_square, second_of_and, square_is)
 
 -- a ride is seen from both ends
 pub rides-back : (men : List (Option Man)) (s t : ℕ) (d : Step) → s < 64 → t < 64 → rides men s t d ≡ rides men t s (back d)

@@ -2,8 +2,8 @@
 use Rattle.chess_rules.proofs.Basics.{arith, Bool, List, Option, [], and_parts, ap, eqb-true, false, false≢true, inl, inr, list_all, list_any, or_cases, or_left, or_right, refl, rules, sym, true, ℕ, ◌&&◌, ◌<◌, ◌==◌, ◌∙◌, ◌∷◌, ◌≡◌}
 use Rattle.chess_core.specs.declared.man.Gait.{Gait}
 use Rattle.chess_core.specs.declared.man.Gait.TheVariants.{Hopper, Leaper, Rider}
-use Rattle.chess_rules.proofs.Chess.{Colour, Kind, Man, Step, diagonal_steps, gait_of, goes_by, hopped_from, hops, is_hopper, kind_steps, knight_steps, leaps, other, pawn_captures, queen_steps, reaches_as, rides, same_Bool, straight_steps}
-use Rattle.chess_rules.proofs.rays.Ends.{back, rides-back, returns_to}
+use Rattle.chess_rules.proofs.Chess.{Colour, Kind, Man, Step, diagonal_steps, gait_of, goes_by, hopped_from, hops, is_hopper, kind_steps, knight_steps, leaps, other, pawn_capture_steps, queen_steps, reaches_as, rides, same_Bool, straight_steps}
+use Rattle.chess_rules.proofs.rays.Ends.{back, rides-back, return_square}
 use Rattle.chess_rules.proofs.rays.Hops.{hops-back}
 
 -- equality of steps as a test
@@ -47,7 +47,7 @@ rides_turned ds men s t o p q = flip ds ds (rides men s t) (rides men t s) o o (
 leaps_turned : (xs ds : List Step) (s t : ℕ) → opposed xs ds ≡ true → opposed ds xs ≡ true → s < 64 → t < 64
     → list_any (leaps s t) xs ≡ list_any (leaps t s) ds
 unfolding leaps
-leaps_turned xs ds s t there here p q = search (rules, back, flip, returns_to, same_Bool)
+leaps_turned xs ds s t there here p q = search (rules, back, flip, return_square, same_Bool)
 
 -- a queen rides from s to t exactly if one rides from t to s
 pub queen_rides-back : (men : List (Option Man)) (s t : ℕ) → s < 64 → t < 64 → list_any (rides men s t) queen_steps ≡ list_any (rides men t s) queen_steps
@@ -91,7 +91,7 @@ pub king-back : (s t : ℕ) → s < 64 → t < 64 → list_any (leaps s t) queen
 king-back s t = leaps_turned queen_steps queen_steps s t refl refl
 
 -- a pawn captures back as one of the other colour
-pub pawn-back : (c : Colour) (s t : ℕ) → s < 64 → t < 64 → list_any (leaps s t) (pawn_captures c) ≡ list_any (leaps t s) (pawn_captures (other c))
+pub pawn-back : (c : Colour) (s t : ℕ) → s < 64 → t < 64 → list_any (leaps s t) (pawn_capture_steps c) ≡ list_any (leaps t s) (pawn_capture_steps (other c))
 pawn-back c s t = grind (arith, leaps_turned)
 
 -- a hop along a queen's line is found by looking back from where it lands

@@ -1,6 +1,6 @@
 -- The word of a hop.
 use Rattle.chess_rules.proofs.Basics.{Bool, List, None, Option, Some, and_from, ap, arith, bit_at-trailing_zeros, cases_Bool, cases_eq, cases_lt, eq-eqb, false, false≢true, inl, inr, is_some, list_all, list_any, not, not-true, range_with_len, refl, rules, sym, trailing_zeros, true, w64, ℕ, ◌&&◌, ◌+◌, ◌-◌, ◌<◌, ◌^◌, ◌∙◌, ◌≡◌, ◌≢◌, ◌≤◌}
-use Rattle.chess_rules.proofs.Chess.{Direction, IsStop, Man, Step, all_at, all_range_true, along, any_range_cases, any_range_false, any_range_true, first_of_and, hopped_from, hops, is_ahead, is_clear, is_occupied, is_square, is_vacant, man_on, place, place_by, ray, rides, rides_on, rises, same_Bool, second_of_and, some_is, square_word_small, squares_same, step_of, word}
+use Rattle.chess_rules.proofs.Chess.{Direction, IsStop, Man, Step, all_at, all_range_true, along, any_range_cases, any_range_false, any_range_true, first_of_and, hopped_from, hops, is_ahead, is_clear, is_occupied, is_square, is_vacant_at, man_on, place, passing_order_by, ray, rides, rides_on, rises, same_Bool, second_of_and, some_is, square_word_small, squares_same, step_of, word}
 use Rattle.chess_rules.proofs.rays.Ahead.{Ordered, Passed, onward, ordered, passes}
 use Rattle.chess_rules.proofs.Bits.{word_empty, word_has}
 use Rattle.chess_rules.proofs.rays.Computed.{eighth}
@@ -15,7 +15,7 @@ found p a n h = grind (arith, any_range_cases p a n, false≢true, any_range_fal
 free_before : (men : List (Option Man)) (s : ℕ) (d : Step) (b j : ℕ) → Ordered d → Stops men s d b → s < 64 → Steps s d b j → is_clear men s d (j - 1) ≡ true
 unfolding is_clear
 free_before men s d b j line stop p on =
-    all_range_true (λ i. is_vacant men (along s d i)) 1 (j - 1) (λ i lo hi.
+    all_range_true (λ i. is_vacant_at men (along s d i)) 1 (j - 1) (λ i lo hi.
     let w = passes s b d j i p (omega arith) on.at in
     elim (cases_Bool (is_some (man_on men w.0))) [
       | inl man ↦ absurd (let le : place d b ≤ place d w.0 = stop.first w.0 w.1.small (ahead_at s d w.0 i lo (omega (arith, on.high)) w.1.at) man in
@@ -70,7 +70,7 @@ landed men s d b t line stop p q h =
       | inl e ↦ e
       | inr ne ↦ elim (cases_lt on.0 (w.0 - 1)) [
         | inl sooner ↦ absurd (
-            let vacant : is_vacant men (along s d on.0) ≡ true = all_at (λ i. is_vacant men (along s d i)) 1 (w.0 - 2) on.0 clear on.1.low (omega arith) in
+            let vacant : is_vacant_at men (along s d on.0) ≡ true = all_at (λ i. is_vacant_at men (along s d i)) 1 (w.0 - 2) on.0 clear on.1.low (omega arith) in
             let no_man : is_some (man_on men b) ≡ false = not-true _ (rw on.1.at at vacant) in
             false≢true (sym no_man ∙ second_of_and (is_ahead s d b) _ here))
         | inr later ↦ absurd (let more : place d v.0 < place d b = line.in_order s (w.0 - 1) on.0 v.0 b v.1.at on.1.at (omega arith) in omega arith)
@@ -93,7 +93,7 @@ from_second men t n s x p at =
     let on : (k : ℕ) → along n (step_of x) k ≡ along t (step_of x) (1 + k) = λ k. onward t n (step_of x) 1 k at in
     same_Bool _ _
     (λ h.
-    let w = found (λ k. is_square (along n (step_of x) k) s && list_all (λ i. is_vacant men (along n (step_of x) i)) (range_with_len 1 (k - 1))) 1 7 h in
+    let w = found (λ k. is_square (along n (step_of x) k) s && list_all (λ i. is_vacant_at men (along n (step_of x) i)) (range_with_len 1 (k - 1))) 1 7 h in
     let there : along n (step_of x) w.0 ≡ Some s = square_is _ s (first_of_and _ _ w.3) in
     let free = second_of_and (is_square (along n (step_of x) w.0) s) _ w.3 in
     let short : w.0 < 7 = elim (cases_eq w.0 7) [
@@ -101,26 +101,26 @@ from_second men t n s x p at =
           ∙ there in cc)
       | inr ne ↦ omega (arith, w.2)
     ] in
-    any_range_true (λ k. is_square (along t (step_of x) k) s && list_all (λ i. is_vacant men (along t (step_of x) i)) (range_with_len 2 (k - 2))) 2 6 (1 + w.0)
+    any_range_true (λ k. is_square (along t (step_of x) k) s && list_all (λ i. is_vacant_at men (along t (step_of x) i)) (range_with_len 2 (k - 2))) 2 6 (1 + w.0)
     (omega (arith, w.1)) (omega arith)
     (and_from _ _ (rw (sym (on w.0) ∙ there) (eq-eqb s s refl))
-    (all_range_true (λ i. is_vacant men (along t (step_of x) i)) 2 (1 + w.0 - 2) (λ i lo hi.
+    (all_range_true (λ i. is_vacant_at men (along t (step_of x) i)) 2 (1 + w.0 - 2) (λ i lo hi.
     let e : 1 + (i - 1) ≡ i = omega arith in
-    let f : is_vacant men (along n (step_of x) (i - 1)) ≡ true = all_at (λ i. is_vacant men (along n (step_of x) i)) 1 (w.0 - 1) (i - 1) free (omega arith)
+    let f : is_vacant_at men (along n (step_of x) (i - 1)) ≡ true = all_at (λ i. is_vacant_at men (along n (step_of x) i)) 1 (w.0 - 1) (i - 1) free (omega arith)
     (omega arith) in
-    ap (λ k. is_vacant men (along t (step_of x) k)) (sym e) ∙ ap (is_vacant men) (sym (on (i - 1))) ∙ f))))
+    ap (λ k. is_vacant_at men (along t (step_of x) k)) (sym e) ∙ ap (is_vacant_at men) (sym (on (i - 1))) ∙ f))))
     (λ h.
-    let w = found (λ k. is_square (along t (step_of x) k) s && list_all (λ i. is_vacant men (along t (step_of x) i)) (range_with_len 2 (k - 2))) 2 6 h in
+    let w = found (λ k. is_square (along t (step_of x) k) s && list_all (λ i. is_vacant_at men (along t (step_of x) i)) (range_with_len 2 (k - 2))) 2 6 h in
     let there : along t (step_of x) w.0 ≡ Some s = square_is _ s (first_of_and _ _ w.3) in
     let free = second_of_and (is_square (along t (step_of x) w.0) s) _ w.3 in
     let e : 1 + (w.0 - 1) ≡ w.0 = omega (arith, w.1) in
-    any_range_true (λ k. is_square (along n (step_of x) k) s && list_all (λ i. is_vacant men (along n (step_of x) i)) (range_with_len 1 (k - 1))) 1 7 (w.0 - 1)
+    any_range_true (λ k. is_square (along n (step_of x) k) s && list_all (λ i. is_vacant_at men (along n (step_of x) i)) (range_with_len 1 (k - 1))) 1 7 (w.0 - 1)
     (omega (arith, w.1)) (omega (arith, w.2))
     (and_from _ _ (rw (on (w.0 - 1) ∙ ap (along t (step_of x)) e ∙ there) (eq-eqb s s refl))
-    (all_range_true (λ i. is_vacant men (along n (step_of x) i)) 1 (w.0 - 1 - 1) (λ i lo hi.
-    let f : is_vacant men (along t (step_of x) (1 + i)) ≡ true = all_at (λ i. is_vacant men (along t (step_of x) i)) 2 (w.0 - 2) (1 + i) free (omega arith)
+    (all_range_true (λ i. is_vacant_at men (along n (step_of x) i)) 1 (w.0 - 1 - 1) (λ i lo hi.
+    let f : is_vacant_at men (along t (step_of x) (1 + i)) ≡ true = all_at (λ i. is_vacant_at men (along t (step_of x) i)) 2 (w.0 - 2) (1 + i) free (omega arith)
     (omega arith) in
-    ap (is_vacant men) (on i) ∙ f))))
+    ap (is_vacant_at men) (on i) ∙ f))))
 
 -- where a man stands next to t, hops over it to t come from where a ride from it gets
 pub hop_back_over : (men : List (Option Man)) (t n w : ℕ) (x : Direction) → t < 64 → along t (step_of x) 1 ≡ Some n → is_some (man_on men n) ≡ true
@@ -137,7 +137,7 @@ hop_back_none men t d h = word_empty (λ s. hopped_from men t s d) (λ s b. ap (
 some_next : (s : ℕ) (d : Step) (t : ℕ) → s < 64 → is_ahead s d t ≡ true → (q : ℕ) × Passed s d 1 q
 some_next s d t p h = let on = steps_on s d t h in passes s t d on.0 1 p on.1.low on.1.at
 
-unplaced : (up : Bool) (a b : ℕ) → a < 64 → b < 64 → place_by up a ≡ place_by up b → a ≡ b
+unplaced : (up : Bool) (a b : ℕ) → a < 64 → b < 64 → passing_order_by up a ≡ passing_order_by up b → a ≡ b
 unplaced up a b p q h = grind arith
 
 next_is : (s : ℕ) (x : Direction) (r b t : ℕ) → s < 64 → r ≡ ray s (step_of x) → IsStop (step_of x) r b → is_ahead s (step_of x) t ≡ true

@@ -1,11 +1,11 @@
 -- A line on which one square alone may have been shut.
 use Rattle.chess_rules.proofs.Basics.{List, Option, Some, [], and_from, and_parts, ap, arith, cases_Bool, false, false_from_ne_true, inl, inr, list_any, or_cases, or_left, or_parts, or_right, range_with_len, rules, true, ℕ, ◌&&◌, ◌-◌, ◌<◌, ◌∙◌, ◌∷◌, ◌≡◌, ◌≤◌}
-use Rattle.chess_rules.proofs.Chess.{Man, Step, all_at, all_range_true, along, any_range_cases, any_range_false, any_range_true, first_of_and, is_clear, is_square, is_vacant, rides, second_of_and}
+use Rattle.chess_rules.proofs.Chess.{Man, Step, all_at, all_range_true, along, any_range_cases, any_range_false, any_range_true, first_of_and, is_clear, is_square, is_vacant_at, rides, second_of_and}
 use Rattle.chess_rules.proofs.rays.Ends.{back, between, square_is}
 
 -- what is empty among the first men is empty among the others, b apart
 pub record Frees (men others : List (Option Man)) (b : ℕ) : Type 0 where
-  pub vacant : (o : Option ℕ) → is_vacant men o ≡ true → is_square o b ≡ false → is_vacant others o ≡ true
+  pub vacant : (o : Option ℕ) → is_vacant_at men o ≡ true → is_square o b ≡ false → is_vacant_at others o ≡ true
 
 -- a line that is shut by b alone was open from both ends to b
 blocked : (men others : List (Option Man)) (b k s : ℕ) (d : Step) → Frees men others b → rides men k s d ≡ true
@@ -20,18 +20,18 @@ blocked men others b k s d i h ne = elim (any_range_cases (λ n. is_square (alon
       let at : along k d n ≡ Some s = square_is _ s ends in
       let clear : is_clear men k d (n - 1) ≡ true = second_of_and (is_square (along k d n) s) _ w.3 in
       any_range_true (λ n. is_square (along k d n) s && is_clear others k d (n - 1)) 1 7 n low (omega arith)
-      (and_from _ _ ends (all_range_true (λ q. is_vacant others (along k d q)) 1 (n - 1) (λ j lo hi.
-      let free : is_vacant men (along k d j) ≡ true = all_at (λ q. is_vacant men (along k d q)) 1 (n - 1) j clear lo hi in
+      (and_from _ _ ends (all_range_true (λ q. is_vacant_at others (along k d q)) 1 (n - 1) (λ j lo hi.
+      let free : is_vacant_at men (along k d j) ≡ true = all_at (λ q. is_vacant_at men (along k d q)) 1 (n - 1) j clear lo hi in
       i.vacant (along k d j) free (false_from_ne_true _ (λ y.
-      let near : is_clear men k d (j - 1) ≡ true = all_range_true (λ q. is_vacant men (along k d q)) 1 (j - 1)
-      (λ q l u. all_at (λ q. is_vacant men (along k d q)) 1 (n - 1) q clear l (omega arith)) in
+      let near : is_clear men k d (j - 1) ≡ true = all_range_true (λ q. is_vacant_at men (along k d q)) 1 (j - 1)
+      (λ q l u. all_at (λ q. is_vacant_at men (along k d q)) 1 (n - 1) q clear l (omega arith)) in
       let one : rides men k b d ≡ true = any_range_true (λ q. is_square (along k d q) b && is_clear men k d (q - 1)) 1 7 j lo (omega arith)
       (and_from _ _ y near) in
       let here : is_square (along s (back d) (n - j)) b ≡ true = ap (λ o. is_square o b) (between k s d n j (omega arith) at) ∙ y in
-      let far : is_clear men s (back d) (n - j - 1) ≡ true = all_range_true (λ q. is_vacant men (along s (back d) q)) 1 (n - j - 1) (λ q l u.
+      let far : is_clear men s (back d) (n - j - 1) ≡ true = all_range_true (λ q. is_vacant_at men (along s (back d) q)) 1 (n - j - 1) (λ q l u.
       let e : q ≡ n - (n - q) = omega arith in
-      ap (λ r. is_vacant men (along s (back d) r)) e ∙ ap (is_vacant men) (between k s d n (n - q) (omega arith) at)
-      ∙ all_at (λ q. is_vacant men (along k d q)) 1 (n - 1) (n - q) clear (omega arith) (omega arith)) in
+      ap (λ r. is_vacant_at men (along s (back d) r)) e ∙ ap (is_vacant_at men) (between k s d n (n - q) (omega arith) at)
+      ∙ all_at (λ q. is_vacant_at men (along k d q)) 1 (n - 1) (n - q) clear (omega arith) (omega arith)) in
       let two : rides men s b (back d) ≡ true = any_range_true (λ q. is_square (along s (back d) q) b && is_clear men s (back d) (q - 1)) 1 7 (n - j)
       (omega arith) (omega arith) (and_from _ _ here far) in
       let both : (rides men k b d && rides men s b (back d)) ≡ true = and_from _ _ one two in

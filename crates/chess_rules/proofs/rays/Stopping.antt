@@ -1,6 +1,6 @@
 -- A ride: the line as far as the first man on it.
 use Rattle.chess_rules.proofs.Basics.{Bool, List, Option, Some, and_from, and_left, ap, arith, bit_and, bit_at, bit_not, cases_Bool, cases_eq, cases_lt, eq-eqb, eqb-true, false, false≢true, inl, inr, is_some, not, refl, sym, true, w64, ℕ, ◌&&◌, ◌+◌, ◌-◌, ◌<◌, ◌∙◌, ◌≡◌, ◌≤◌}
-use Rattle.chess_rules.proofs.Chess.{IsStop, Man, Step, all_range_false, all_range_true, along, any_range_cases, any_range_false, any_range_true, first_of_and, is_ahead, is_clear, is_square, is_vacant, man_on, place, place_by, ray, rides, rises, second_of_and, squares_both, squares_not, squares_same, word}
+use Rattle.chess_rules.proofs.Chess.{IsStop, Man, Step, all_range_false, all_range_true, along, any_range_cases, any_range_false, any_range_true, first_of_and, is_ahead, is_clear, is_square, is_vacant_at, man_on, place, passing_order_by, ray, rides, rises, second_of_and, squares_both, squares_not, squares_same, word}
 use Rattle.chess_rules.proofs.rays.Ahead.{Ordered, onward, passes}
 use Rattle.chess_rules.proofs.Bits.{word_has}
 use Rattle.chess_rules.proofs.rays.Ends.{square_is, stays}
@@ -31,7 +31,7 @@ pub stops : (men : List (Option Man)) (s : ℕ) (d : Step) (r o b : ℕ) → r �
 stops men s d r o b h i stop = grind (arith, ahead_men men s d r o h i, marked, and_from, passes_test)
 
 -- a place on a line is at most 63
-pub place_le : (up : Bool) (t : ℕ) → t < 64 → place_by up t ≤ 63
+pub place_le : (up : Bool) (t : ℕ) → t < 64 → passing_order_by up t ≤ 63
 place_le up t p = grind arith
 
 -- how many steps on
@@ -53,7 +53,7 @@ pub ahead_at : (s : ℕ) (d : Step) (t k : ℕ) → 1 ≤ k → k < 8 → along 
 unfolding is_ahead
 ahead_at s d t k lo hi at = any_range_true (λ k. is_square (along s d k) t) 1 7 k lo (omega arith) (rw at (eq-eqb t t refl))
 
-occupied_not_vacant : (men : List (Option Man)) (o : Option ℕ) (q : ℕ) → o ≡ Some q → is_some (man_on men q) ≡ true → is_vacant men o ≡ false
+occupied_not_vacant : (men : List (Option Man)) (o : Option ℕ) (q : ℕ) → o ≡ Some q → is_some (man_on men q) ≡ true → is_vacant_at men o ≡ false
 occupied_not_vacant men o q at man = rw at (ap not man)
 
 -- what lies ahead of the stop isn't reached
@@ -74,7 +74,7 @@ blocked men s d b t k line stop p at behind =
         | inr ne ↦ absurd (let other : place d t < place d b = line.in_order s k to.0 t b at to.1.at (omega arith) in omega arith)
       ]
     ] in
-    all_range_false (λ i. is_vacant men (along s d i)) 1 (k - 1) to.0 to.1.low (omega arith)
+    all_range_false (λ i. is_vacant_at men (along s d i)) 1 (k - 1) to.0 to.1.low (omega arith)
     (occupied_not_vacant men (along s d to.0) b to.1.at (second_of_and (is_ahead s d b) _ here))
 
 -- up to the stop the line is empty
@@ -97,7 +97,7 @@ open_to : (men : List (Option Man)) (s : ℕ) (d : Step) (b t k : ℕ) → Order
     → is_ahead b d t ≡ false → is_clear men s d (k - 1) ≡ true
 unfolding is_clear
 open_to men s d b t k line stop p q hi at free =
-    all_range_true (λ i. is_vacant men (along s d i)) 1 (k - 1) (λ i lo lt.
+    all_range_true (λ i. is_vacant_at men (along s d i)) 1 (k - 1) (λ i lo lt.
     let w = passes s t d k i p (omega arith) at in
     elim (cases_Bool (is_some (man_on men w.0))) [
       | inl man ↦ absurd (nobody men s d b t k i w.0 line stop q lo (omega arith) hi at w.1.at w.1.small free man)

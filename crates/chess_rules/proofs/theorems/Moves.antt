@@ -1,7 +1,7 @@
 -- The moves of a position are its legal moves, each once, in the stated order; and what mate and stalemate say of legal moves.
 use Rattle.std.proofs.Common.{◌≡◌, ◌≢◌, ◌<◌, ◌↔◌, ◌⊎◌, true, false, sym, ap, ◌∙◌, arith}
 use Rattle.std.specs.List.{AllPairs, Contains}
-use Rattle.chess_core.specs.MoveOrder.{promotion_place, triple_number}
+use Rattle.chess_core.specs.MoveOrder.{promotion_order, order_number}
 use Rattle.chess_core.specs.Position.{Position}
 use Rattle.chess_core.specs.WellFormed.{IsWellFormed}
 use Rattle.chess_core.specs.declared.man.Move.{Move}
@@ -20,12 +20,12 @@ IsTriple m = (m.from < 64) × (m.to < 64) × Contains promotions m.promo
 
 -- m precedes n: it has the lower number among all triples, as the call `Move::precedes` says.
 abbrev pub Precedes : Move → Move → Type 0
-Precedes m n = triple_number m < triple_number n
+Precedes m n = order_number m < order_number n
 
 -- That is: the lower origin; or the same one, and the lower arrival; or the same two, and the promotion that is named first, none before all.
 pub precedes_by_parts : (m n : Move) → IsTriple m → IsTriple n
     → Precedes m n ↔ ((m.from < n.from)
-    ⊎ ((m.from ≡ n.from) × ((m.to < n.to) ⊎ ((m.to ≡ n.to) × (promotion_place m.promo < promotion_place n.promo)))))
+    ⊎ ((m.from ≡ n.from) × ((m.to < n.to) ⊎ ((m.to ≡ n.to) × (promotion_order m.promo < promotion_order n.promo)))))
 precedes_by_parts m n a b = by_parts m n a.1 b.1
 
 module _ (rule : RuleSet) (p : Position) where
@@ -55,7 +55,7 @@ module _ (rule : RuleSet) (p : Position) where
   moves_differ = pairs_weaker Precedes (λ m n. m ≢ n) (moves rule p) (λ m n less same. apart m n less same) moves_in_order
     where
       apart : (m n : Move) → Precedes m n → m ≡ n → ⊥
-      apart m n less same = let e : triple_number m ≡ triple_number n = ap triple_number same in omega (arith, less, e)
+      apart m n less same = let e : order_number m ≡ order_number n = ap order_number same in omega (arith, less, e)
 
   -- There are no moves exactly where no move is legal.
   pub no_moves_is : IsWellFormed p → (is_nil (moves rule p) ≡ true) ↔ ((m : Move) → is_legal rule p m ≡ false)

@@ -10,7 +10,7 @@ use Rattle.chess_rules.specs.RuleSet.{RuleSet, captures_do_more}
 use Rattle.chess_rules.specs.declared.legal_moves.Known.{Known}
 use Rattle.chess_rules.specs.ties.Evasions.{AreEvasions}
 use Rattle.chess_rules.specs.ties.Shields.{may_expose, may_stand_between}
-use Rattle.chess_rules.specs.ties.Targets.{arrives}
+use Rattle.chess_rules.specs.ties.Targets.{is_promoting}
 
 -- what is known of a position is so of this one
 pub record IsKnownIn (rule : RuleSet) (p : Position) (k : Known) : Type 0 where
@@ -22,12 +22,12 @@ pub record IsKnownIn (rule : RuleSet) (p : Position) (k : Known) : Type 0 where
 unfoldable pub is_unsure : RuleSet → Position → Man → ℕ → Bool
 is_unsure rule p x t =
     may_stand_between p.men p.turn t || is_square p.crossed t
-    || (captures_do_more rule && is_some (man_on p.men t)) || arrives x t
+    || (captures_do_more rule && is_some (man_on p.men t)) || is_promoting x t
 
 -- the man on s goes to each square of the word by a legal move, and isn't promoted there
 pub record AreLegal (rule : RuleSet) (p : Position) (s w : ℕ) : Type 0 where
   pub man : Man
   pub here : man_on p.men s ≡ Some man
-  pub unpromoted : (t : ℕ) → t < 64 → (bit_at w t == 1) ≡ true → arrives man t ≡ false
+  pub unpromoted : (t : ℕ) → t < 64 → (bit_at w t == 1) ≡ true → is_promoting man t ≡ false
   pub to : (t : ℕ) → t < 64 → (bit_at w t == 1) ≡ true
       → is_legal rule p (record { from = s; to = t; promo = None }) ≡ true

@@ -1,7 +1,7 @@
 -- Squares to which a move may go that answers a check (own).
 use Rattle.std.specs.Prelude.{◌≡◌, ◌<◌, ℕ, Bool, true, false, ◌&&◌, ◌||◌, ◌==◌, List, Option, None, Some}
 use Rattle.std.specs.Int.{bit_at}
-use Rattle.chess_core.specs.Position.{Position, is_side, king_square, man_on, other}
+use Rattle.chess_core.specs.Position.{Position, is_of_colour, king_square, man_on, other}
 use Rattle.chess_core.specs.declared.man.Man.{Man}
 use Rattle.chess_core.specs.declared.man.Move.{Move}
 use Rattle.chess_core.specs.declared.man.Colour.{Colour}
@@ -31,7 +31,7 @@ pub record IsNoEvasion (rule : RuleSet) (men : List (Option Man)) (c : Colour) (
   pub here : king_square men c ≡ Some king
   pub moving : faced_men_stand_still rule ≡ false
   pub plain : has_fairy_lines_of (man_on men checker) ≡ false
-  pub enemy : is_side (man_on men checker) (other c) ≡ true
+  pub enemy : is_of_colour (man_on men checker) (other c) ≡ true
   pub check : reaches men checker king ≡ true
   pub no_evasion : is_evasion men c king checker t ≡ false
 

@@ -82,8 +82,8 @@ abbrev pub is_advance : Colour → ℕ → ℕ → Bool
 is_advance c s t = is_square (along s (forward c) 1) t || is_square (along s (forward c) 2) t
 
 -- t is two files beside s
-abbrev pub is_aside : ℕ → ℕ → Bool
-is_aside s t = is_square (along s (step_by 2 0 0 0) 1) t
+abbrev pub is_two_files_aside : ℕ → ℕ → Bool
+is_two_files_aside s t = is_square (along s (step_by 2 0 0 0) 1) t
     || is_square (along s (step_by 0 2 0 0) 1) t
 
 -- whether the numbers of the squares rise along it
@@ -91,13 +91,13 @@ unfoldable pub rises : Step → Bool
 rises d = nat_le (d.left + 8 * d.down + 1) (d.right + 8 * d.up)
 
 -- how early a line passes a square: by its number, or by how far it is from the last
-abbrev pub place_by : Bool → ℕ → ℕ
-place_by true s = s
-place_by false s = 63 - s
+abbrev pub passing_order_by : Bool → ℕ → ℕ
+passing_order_by true s = s
+passing_order_by false s = 63 - s
 
 -- the same by the direction of a line
 abbrev pub place : Step → ℕ → ℕ
-place d s = place_by (rises d) s
+place d s = passing_order_by (rises d) s
 
 -- b is the square of the word that is passed first, or the last of the board where the word has none
 pub record IsStop (d : Step) (w b : ℕ) : Type 0 where

@@ -9,7 +9,7 @@ use Rattle.chess_core.specs.declared.man.Colour.{Colour}
 use Rattle.chess_core.specs.declared.man.Kind.{Kind}
 use Rattle.chess_core.specs.declared.man.Kind.TheVariants.{Queen}
 use Rattle.chess_core.specs.declared.step.Step.{Step}
-use Rattle.chess_rules.specs.Reaches.{is_occupied, is_vacant, rides}
+use Rattle.chess_rules.specs.Reaches.{is_occupied, is_vacant_at, rides}
 
 -- the man, if there is one, is a fairy man of this colour
 abbrev pub is_fairy_man : Option Man → Colour → Bool
@@ -25,7 +25,7 @@ is_met men c k ds t s = (is_man (man_on men s) c k || is_man (man_on men s) c Qu
 unfoldable pub rides_on : ℕ → List (Option Man) → ℕ → ℕ → Step → Bool
 rides_on f men s t d =
     list_any (λ k. is_square (along s d k) t
-    && list_all (λ i. is_vacant men (along s d i)) (range_with_len f (k - f)))
+    && list_all (λ i. is_vacant_at men (along s d i)) (range_with_len f (k - f)))
     (range_with_len f (8 - f))
 
 -- a grasshopper on s hops to t against this step: a man stands next to t, and s is behind it

@@ -2,7 +2,7 @@
 use Rattle.std.specs.Prelude.{ℕ, Bool, true, false, ◌&&◌, ◌||◌, ◌==◌, not, List, Option, Some, None, is_some}
 use Rattle.chess_core.specs.Squares.{is_square, some_square}
 pub use Rattle.chess_core.specs.Position.{is_fairy}
-use Rattle.chess_core.specs.Position.{Position, is_man, is_side, king_square, man_on, other}
+use Rattle.chess_core.specs.Position.{Position, is_man, is_of_colour, king_square, man_on, other}
 use Rattle.chess_core.specs.declared.man.Man.{Man}
 use Rattle.chess_core.specs.declared.man.Move.{Move}
 use Rattle.chess_core.specs.declared.man.Colour.{Colour}
@@ -30,7 +30,7 @@ has_fairy men c =
 
 -- some man of colour e reaches k, be it paralysed or not
 unfoldable pub is_reached : List (Option Man) → ℕ → Colour → Bool
-is_reached men k e = some_square (λ s. is_side (man_on men s) e && reaches men s k)
+is_reached men k e = some_square (λ s. is_of_colour (man_on men s) e && reaches men s k)
 
 -- t lies on a line from k by this step, and so does a man of colour e and kind j
 abbrev pub is_lined : List (Option Man) → Colour → Kind → ℕ → ℕ → Step → Bool
@@ -45,13 +45,13 @@ is_on_fairy_line men e k t =
     || list_any (is_lined men e Nightrider k t) knight_steps
 
 -- the same with the king's square, if there is a king
-abbrev pub is_on_fairy_line_to : List (Option Man) → Option ℕ → Colour → ℕ → Bool
-is_on_fairy_line_to men None c t = false
-is_on_fairy_line_to men (Some k) c t = is_on_fairy_line men (other c) k t
+abbrev pub is_on_fairy_line_at : List (Option Man) → Option ℕ → Colour → ℕ → Bool
+is_on_fairy_line_at men None c t = false
+is_on_fairy_line_at men (Some k) c t = is_on_fairy_line men (other c) k t
 
 -- a man on t may be a hurdle before the king of colour c, or shut a nightrider's line to it
 unfoldable pub may_stand_between : List (Option Man) → Colour → ℕ → Bool
-may_stand_between men c t = is_on_fairy_line_to men (king_square men c) c t
+may_stand_between men c t = is_on_fairy_line_at men (king_square men c) c t
 
 -- a queen or a man of kind j, of colour e, stands on q, on one of the lines from k by these steps, and comes to s
 -- by such a step
@@ -65,9 +65,9 @@ unfoldable pub is_shut : List (Option Man) → Colour → Kind → List Step →
 is_shut men e j ds k s = list_any (rides men k s) ds && some_square (is_behind men e j ds k s)
 
 -- the same test for the king's square, if there is a king
-abbrev pub may_expose_on : List (Option Man) → Option ℕ → Colour → ℕ → Bool
-may_expose_on men None c s = false
-may_expose_on men (Some k) c s =
+abbrev pub may_expose_at : List (Option Man) → Option ℕ → Colour → ℕ → Bool
+may_expose_at men None c s = false
+may_expose_at men (Some k) c s =
     is_reached men k (other c) || k == s || is_shut men (other c) Rook straight_steps k s
     || is_shut men (other c) Bishop diagonal_steps k s || is_on_fairy_line men (other c) k s
 
@@ -75,7 +75,7 @@ may_expose_on men (Some k) c s =
 -- the king's own, or s shuts a line between it and an enemy rider of that line, or lies on a line to it with
 -- an enemy grasshopper or nightrider
 unfoldable pub may_expose : List (Option Man) → Colour → ℕ → Bool
-may_expose men c s = may_expose_on men (king_square men c) c s
+may_expose men c s = may_expose_at men (king_square men c) c s
 
 -- the steps of a rook's lines, or of a bishop's
 abbrev pub steps_along : RiderLines → List Step

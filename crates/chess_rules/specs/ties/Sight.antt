@@ -2,7 +2,7 @@
 use Rattle.std.specs.Prelude.{◌≡◌, ◌<◌, ◌==◌, ℕ, Bool, true, ◌&&◌, not, List, Option, Some, if◌then◌else◌}
 use Rattle.std.specs.Int.{bit_at, bit_not, w64}
 use Rattle.std.specs.Int.Bits.{bit_and, bit_or}
-use Rattle.chess_core.specs.Position.{Position, is_side, king_square, man_on, other, same_kind}
+use Rattle.chess_core.specs.Position.{Position, is_of_colour, king_square, man_on, other, same_kind}
 use Rattle.chess_core.specs.Squares.{is_square}
 use Rattle.chess_core.specs.ties.Words.{squares_of, word}
 use Rattle.chess_core.specs.declared.man.Colour.{Colour}
@@ -49,12 +49,12 @@ pub record AreArrived (before men : List (Option Man)) (x : Man) (m : Move) (v :
     0 where
   pub occupied : v.occupied ≡ occupied_squares men
   pub own : (k : Kind) → own_after before v x m k ≡ squares_of men x.colour k
-  pub others : (s : ℕ) → is_side (man_on men s) (other x.colour) ≡ true
+  pub others : (s : ℕ) → is_of_colour (man_on men s) (other x.colour) ≡ true
       → man_on men s ≡ man_on before s
 
 -- men of the other colour than c stand on all squares of the word
 pub record AreOthers (men : List (Option Man)) (c : Colour) (w : ℕ) : Type 0 where
-  pub side : (s : ℕ) → s < 64 → (bit_at w s == 1) ≡ true → is_side (man_on men s) (other c) ≡ true
+  pub side : (s : ℕ) → s < 64 → (bit_at w s == 1) ≡ true → is_of_colour (man_on men s) (other c) ≡ true
 
 -- the square of the mover's king once x has moved
 abbrev pub king_after : Position → Man → Move → Option ℕ

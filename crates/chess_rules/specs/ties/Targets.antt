@@ -9,7 +9,7 @@ use Rattle.chess_core.specs.declared.man.Kind.TheVariants.{King, Pawn}
 use Rattle.chess_core.specs.declared.man.Man.{Man}
 use Rattle.chess_core.specs.declared.man.Move.{Move}
 use Rattle.chess_rules.specs.Attacks.{is_paralysed}
-use Rattle.chess_rules.specs.Legal.{forward, is_arrival_free, last_rank, pawn_steps}
+use Rattle.chess_rules.specs.Legal.{forward, is_arrival_free, last_rank, is_pawn_step}
 use Rattle.chess_rules.specs.Reaches.{reaches_as}
 use Rattle.chess_rules.specs.RuleSet.{RuleSet}
 use Rattle.chess_rules.specs.declared.targets.Kept.{Kept}
@@ -24,7 +24,7 @@ steps_to x s t =
 
 -- a pawn on s steps to t
 abbrev pub pawn_goes : Position → Man → ℕ → ℕ → Bool
-pawn_goes p x s t = pawn_steps p x (record { from = s; to = t; promo = None })
+pawn_goes p x s t = is_pawn_step p x (record { from = s; to = t; promo = None })
 
 -- x goes from s to t, most tests of castling apart: a pawn captures or steps, another man reaches t, and
 -- a king that stands unmoved goes two squares aside
@@ -47,8 +47,8 @@ unfoldable pub is_arrival : RuleSet → Position → ℕ → ℕ → Bool
 is_arrival rule p s t = is_arrival_of rule p (man_on p.men s) s t
 
 -- a pawn arrives on its last rank
-abbrev pub arrives : Man → ℕ → Bool
-arrives x t = same_kind x.kind Pawn && rank_of t == last_rank x.colour
+abbrev pub is_promoting : Man → ℕ → Bool
+is_promoting x t = same_kind x.kind Pawn && rank_of t == last_rank x.colour
 
 -- the move goes where the man on its origin may go, and names a promotion exactly where a pawn arrives on
 -- its last rank
@@ -56,7 +56,7 @@ pub record IsAimed (rule : RuleSet) (p : Position) (m : Move) : Type 0 where
   pub man : Man
   pub here : man_on p.men m.from ≡ Some man
   pub arrival : is_arrival rule p m.from m.to ≡ true
-  pub promotion : is_some m.promo ≡ arrives man m.to
+  pub promotion : is_some m.promo ≡ is_promoting man m.to
 
 -- the man on s may go to each square of the word, and no move from s to another passes the test
 pub record AreCandidates (rule : RuleSet) (p : Position) (test : Move → Bool) (s w : ℕ) : Type

@@ -2,7 +2,7 @@
 use Rattle.std.specs.Prelude.{◌≡◌, ◌≤◌, ℕ, List, [], ◌∷◌, ◌++◌, Option, None, Bool, true, false, ◌+◌, ◌-◌, length}
 use Rattle.pop_text.specs.Bytes.{Consumes}
 use Rattle.pop_text.specs.Words.{Input, limit}
-use Rattle.pop_text.specs.ties.Reading.{Reading, beginning}
+use Rattle.pop_text.specs.ties.Reading.{Reading, first_reading}
 use Rattle.pop_text.specs.ties.Left.{onto_input, MayFollow, words_left}
 use Rattle.pop_input.specs.Blocks.{Entry, Sound as SoundEntry, Faulty as FaultyEntry, entries_of}
 use Rattle.pop_input.specs.declared.item.Last.{Last}
@@ -20,7 +20,7 @@ pub record Standing : Type 0 where
 
 -- before all items
 abbrev pub first_standing : Standing
-first_standing = record { next = First; at = beginning }
+first_standing = record { next = First; at = first_reading }
 
 -- the items of what is left of an input, where this block is next
 abbrev pub entries_at : Next → Reading → Input → List Entry

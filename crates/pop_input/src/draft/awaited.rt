@@ -2,7 +2,7 @@
 ghost use Rattle.std.specs.Prelude.{◌≡◌, ◌≤◌, ◌<◌, length, None, Some, fold, if◌then◌else◌};
 ghost use Rattle.std.specs.List.{list_all};
 ghost use Rattle.chess_core.specs.Castling.{is_castling_square, with_unmoved};
-ghost use Rattle.pop_input.specs.Values.{squares_of};
+ghost use Rattle.pop_input.specs.Values.{squares_named};
 ghost use Rattle.pop_input.specs.Drafts.{draft_by};
 ghost use Rattle.pop_input.specs.WordFaults.{role_fault};
 ghost use Rattle.pop_input.specs.declared.place.Role.TheVariants.{BarredSquares, CrossedSquare, Limit};
@@ -11,7 +11,7 @@ use crate::draft::Draft;
 use crate::fault_kind::FaultKind;
 use crate::names::Awaited;
 use crate::short_word::ShortWord;
-use crate::values::{limit_of, square_of, squares_of};
+use crate::values::{limit_of, square_of, squares_named};
 use chess_core::man::Unmoved;
 use chess_core::square::Square;
 
@@ -51,7 +51,7 @@ impl Draft {
         ensures fault { result ≡ role_fault self.old BarredSquares word.now }
         ensures draft { result ≡ None → self.new ≡ draft_by BarredSquares self.old word.now }
     {
-        match squares_of(word.bytes()) {
+        match squares_named(word.bytes()) {
             Some(squares) => match barred_with(self.barred, squares.as_slice()) {
                 Some(barred) => {
                     self.barred = barred;

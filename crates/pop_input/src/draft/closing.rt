@@ -137,7 +137,7 @@ fn position_fault(has_king: bool, in_check: bool) -> Option<FaultKind>
 fn has_king_to_mate(stipulation: Stipulation, board: &Board) -> bool
     ensures { result ≡ has_king_to_mate stipulation board.now.men }
 {
-    stipulation.goal.is_stalemate() || board.king_of(stipulation.form.mated_side()).is_some()
+    stipulation.goal.is_for_stalemate() || board.king_of(stipulation.form.goal_side()).is_some()
 }
 
 // Whether the colour is in check under the condition.

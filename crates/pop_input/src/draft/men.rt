@@ -3,7 +3,7 @@ ghost use Rattle.std.specs.Prelude.{◌≡◌, ◌≤◌, ◌<◌, [], length, N
 ghost use Rattle.std.specs.List.{list_any};
 ghost use Rattle.chess_core.specs.Position.{with_man};
 ghost use Rattle.pop_input.specs.Names.{kind_of};
-ghost use Rattle.pop_input.specs.Values.{is_digit, squares_of};
+ghost use Rattle.pop_input.specs.Values.{is_digit, squares_named};
 ghost use Rattle.pop_input.specs.Drafts.{put_kind, put_men, draft_by};
 ghost use Rattle.pop_input.specs.WordFaults.{is_foreign, letter_fault, man_fault, men_fault, role_fault};
 ghost use Rattle.pop_input.specs.declared.place.Role.TheVariants.{Within};
@@ -13,7 +13,7 @@ use crate::draft::Draft;
 use crate::fault_kind::FaultKind;
 use crate::names::{colour_of, kind_of};
 use crate::short_word::ShortWord;
-use crate::values::{is_digit, squares_of};
+use crate::values::{is_digit, squares_named};
 use chess_core::man::{Kind, Man};
 use chess_core::square::Square;
 
@@ -43,7 +43,7 @@ impl Draft {
         ensures draft { result ≡ None → self.new
             ≡ record self.old {
               men = put_kind self.old.colour (kind_of letter)
-                  (unwrap_or (squares_of text.now) []) self.old.men;
+                  (unwrap_or (squares_named text.now) []) self.old.men;
             } }
     {
         match kind_of(letter) {
@@ -59,10 +59,10 @@ impl Draft {
         ensures draft { result ≡ None → self.new
             ≡ record self.old {
               men = put_kind self.old.colour (Some kind)
-                  (unwrap_or (squares_of text.now) []) self.old.men;
+                  (unwrap_or (squares_named text.now) []) self.old.men;
             } }
     {
-        match squares_of(text) {
+        match squares_named(text) {
             Some(squares) => match self.colour {
                 Some(colour) => self.put_men(Man { colour, kind }, squares.as_slice()),
                 None => Some(FaultKind::ColourMissing),

@@ -16,7 +16,7 @@ use Rattle.pop_solve.specs.Chess.{chess}
 use Rattle.pop_solve.specs.Events.{phase_half_moves, phase_start}
 use Rattle.pop_parts.specs.PhaseParts.{beginnings}
 use Rattle.pop_solve.specs.ties.Frames.{Frame, position}
-use Rattle.pop_solve.specs.ties.Walk.{IsWalking, path, turns}
+use Rattle.pop_solve.specs.ties.Walk.{IsWalking, path, walk_work}
 
 -- nothing is tried from these frames
 unfoldable pub are_idle : List Frame → Bool
@@ -46,19 +46,19 @@ pub record IsSeeking (rule : RuleSet) (h d : ℕ) (p : Position) (frames : List 
   pub room : d ≤ h
 
 -- the path to the top frame and the move behind it, if there is one
-abbrev pub found_by : List Frame → Option Move → List (List Move)
-found_by frames None = []
-found_by frames (Some m) = (path frames ++ m ∷ []) ∷ []
+abbrev pub path_found : List Frame → Option Move → List (List Move)
+path_found frames None = []
+path_found frames (Some m) = (path frames ++ m ∷ []) ∷ []
 
 -- what a step of such a walk leaves, which may have found the last move of the next beginning
 pub record Seeks (rule : RuleSet) (h d : ℕ) (p : Position) (old new : List Frame)
     (board : Position) (found : Option Move) : Type 0 where
   pub seeking : IsSeeking rule h d p new board
   pub come : (goal : Goal) → beginnings_to_come goal rule d p old
-      ≡ found_by new found ++ beginnings_to_come goal rule d p new
+      ≡ path_found new found ++ beginnings_to_come goal rule d p new
   pub legal : IfSome found (λ m. is_legal rule board m ≡ true)
   pub full : IfSome found (λ m. length new ≡ d)
-  pub falls : turns rule h p new < turns rule h p old
+  pub falls : walk_work rule h p new < walk_work rule h p old
 
 -- of the beginnings to come the one with a number, counted from 1, was found, or there are fewer; those behind it are
 -- still to come

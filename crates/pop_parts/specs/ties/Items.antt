@@ -10,7 +10,7 @@ use Rattle.pop_events.specs.declared.event.Phase.{Phase}
 use Rattle.pop_run.specs.Report.{is_faulty, tells_failure}
 use Rattle.pop_run.specs.declared.status.Status.{Status}
 use Rattle.pop_run.specs.ties.Sessions.{status_with}
-use Rattle.pop_parts.specs.Parts.{line_of, part_text}
+use Rattle.pop_parts.specs.Parts.{parts_line, part_text}
 
 -- the entry that an item is, none behind the last
 abbrev pub entry_in : Item → Option Entry
@@ -19,9 +19,9 @@ entry_in (Faulty fault last) = Some (FaultyEntry fault)
 entry_in End = None
 
 -- its line
-abbrev pub item_line : ℕ → ℕ → Option Entry → List ℕ
-item_line number depth None = []
-item_line number depth (Some entry) = line_of number depth entry
+abbrev pub parts_line_if : ℕ → ℕ → Option Entry → List ℕ
+parts_line_if number depth None = []
+parts_line_if number depth (Some entry) = parts_line number depth entry
 
 -- the status after one more item
 abbrev pub status_after : Status → Option Entry → Status

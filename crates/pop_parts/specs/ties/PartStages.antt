@@ -12,7 +12,7 @@ use Rattle.pop_parts.specs.declared.part_search.PartStage.{PartStage}
 use Rattle.pop_parts.specs.declared.part_search.PartStage.TheVariants.{First, Within, Behind}
 use Rattle.pop_solve.specs.ties.Frames.{Frame, to_open}
 use Rattle.pop_parts.specs.ties.PartsSeen.{is_part_stopped, part_walk}
-use Rattle.pop_solve.specs.ties.Phases.{beginning_count, keep, phase_paths}
+use Rattle.pop_solve.specs.ties.Phases.{beginning_count, kept_paths, phase_paths}
 use Rattle.pop_solve.specs.ties.Plans.{plan_of}
 use Rattle.pop_solve.specs.ties.Walk.{IsCounted, IsEnded, IsWalking, path}
 
@@ -38,7 +38,7 @@ begun_in_all rule problem phase stage frames =
 abbrev pub events_left : Posed → Phase → ℕ → List (List Move) → List BareEvent
 events_left problem phase count paths =
     map (path_event problem phase)
-    (keep (is_help problem.stipulation.form) (problem.max_solutions - count) paths)
+    (kept_paths (is_help problem.stipulation.form) (problem.max_solutions - count) paths)
     ++ total (count + beginning_count (is_help problem.stipulation.form)
     (problem.max_solutions - count) paths)
     (count + beginning_count (is_help problem.stipulation.form)

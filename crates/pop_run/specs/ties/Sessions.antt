@@ -35,7 +35,7 @@ says_last Yes = true
 says_last No = false
 
 -- an item is still to come, and the sink hasn't failed
-pub record GoesOn (place : RunState) : Type 0 where
+pub record HasMore (place : RunState) : Type 0 where
   pub more : ends place.at.next ≡ false
   pub running : place.stopped ≡ false
 

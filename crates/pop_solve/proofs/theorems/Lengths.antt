@@ -1,5 +1,5 @@
 -- Longer never harms, and the least length is the least.
-use Rattle.pop_solve.proofs.Words.{Battle, Game, arith, cases_lt, false, false≢true, is_lost, is_self_lost, keeps, least_moves, self_wins, some_move, suc, true, wins, wins_in, zero, ℕ, ◌<◌, ◌↔◌, ◌≡◌, ◌≤◌}
+use Rattle.pop_solve.proofs.Words.{Battle, Game, arith, cases_lt, false, false≢true, is_lost, is_self_lost, keeps_win, least_moves, self_wins, some_move, suc, true, wins, wins_in, zero, ℕ, ◌<◌, ◌↔◌, ◌≡◌, ◌≤◌}
 use Rattle.pop_solve.proofs.Longer.{climbs, first_at_most, first_is_first, first_passes, is_lost-more, is_self_lost-more, self_wins-more, wins-more}
 
 module _ {P M : Type 0} (game : Game P M) where
@@ -24,7 +24,7 @@ module _ {P M : Type 0} (game : Game P M) where
   wins_in_more battle k n p le h = grind (arith, wins_within_more, self_wins_within_more)
 
   -- In both battles: a move that keeps the win within n moves keeps it within any greater number.
-  pub keeps_more : (battle : Battle) (k n : ℕ) (q : P) → k ≤ n → keeps battle game k q ≡ true → keeps battle game n q ≡ true
+  pub keeps_more : (battle : Battle) (k n : ℕ) (q : P) → k ≤ n → keeps_win battle game k q ≡ true → keeps_win battle game n q ≡ true
   keeps_more battle k n q le h = grind (arith, lost_within_more, self_lost_within_more)
 
   -- Without a move nobody wins.
@@ -33,7 +33,7 @@ module _ {P M : Type 0} (game : Game P M) where
   no_win_in_none battle p = grind arith
 
   -- White wins within n moves exactly where some legal move keeps the win within n.
-  pub wins_by_a_move : (battle : Battle) (n : ℕ) (p : P) → 1 ≤ n → wins_in battle game n p ≡ some_move game (keeps battle game n) p
+  pub wins_by_a_move : (battle : Battle) (n : ℕ) (p : P) → 1 ≤ n → wins_in battle game n p ≡ some_move game (keeps_win battle game n) p
   unfolding wins self_wins is_self_lost
   wins_by_a_move battle zero p some = absurd (omega (arith, some))
   wins_by_a_move battle (suc k) p some = grind arith

@@ -1,5 +1,5 @@
 -- The solutions of a chess problem: which lines and keys they are, that no path of a phase stands twice, and in which order the paths stand.
-use Rattle.pop_solve.proofs.Words.{AllPairs, Battle, BattlePlay, Contains, HelpPlay, IsSound, List, Move, Phase, Play, PlayOfSides, Posed, Precedes, RuleSet, Set, [], game_of, is_goal_reached, is_legal, keeps, length, moves_are_the_legal_moves, moves_in_order, pairs_weaker, path_end, phase_half_moves, phase_start, play_of, play_start, refl, rules, set_shows, solutions, take, true, ◌↔◌, ◌∷◌, ◌≡◌, ◌≢◌, ◌≤◌}
+use Rattle.pop_solve.proofs.Words.{AllPairs, Battle, BattlePlay, Contains, HelpPlay, IsSound, List, Move, Phase, Play, PlayOfSides, Posed, Precedes, RuleSet, Set, [], game_of, is_goal_reached, is_legal, keeps_win, length, moves_are_the_legal_moves, moves_in_order, pairs_weaker, path_end, phase_half_moves, phase_start, play_of, play_start, refl, rules, is_in_set_play, solutions, take, true, ◌↔◌, ◌∷◌, ◌≡◌, ◌≢◌, ◌≤◌}
 use Rattle.chess_rules.specs.Play.{position_after}
 use Rattle.pop_solve.proofs.PhasePaths.{first_joined, help_paths, never_itself, play_paths, set_paths}
 use Rattle.pop_solve.proofs.Sound.{start_sound}
@@ -21,7 +21,7 @@ module _ (rule : RuleSet) (problem : Posed) where
   pub keys_of_a_problem_are : (m : Move) (battle : Battle) → IsSound problem → play_of problem.stipulation.form ≡ BattlePlay battle
       → Contains (paths (solutions rule problem Play)) (m ∷ [])
       ↔ ((is_legal rule (play_start problem) m ≡ true)
-      × (keeps battle (game_of rule problem) problem.stipulation.n (position_after rule (play_start problem) m) ≡ true))
+      × (keeps_win battle (game_of rule problem) problem.stipulation.n (position_after rule (play_start problem) m) ≡ true))
   keys_of_a_problem_are m battle sound fought =
       let game = game_of rule problem in
       let are = keys_are battle game problem.stipulation.n problem.variation (phase_half_moves problem Play) (play_start problem) m in
@@ -33,7 +33,7 @@ module _ (rule : RuleSet) (problem : Posed) where
   pub set_moves_of_a_problem_are : (d : Move) (battle : Battle) → IsSound problem → play_of problem.stipulation.form ≡ BattlePlay battle
       → Contains (paths (solutions rule problem Set)) (d ∷ [])
       ↔ ((1 ≤ phase_half_moves problem Set) × (is_legal rule (phase_start problem Set) d ≡ true)
-      × (set_shows battle (game_of rule problem) problem.stipulation.n (position_after rule (phase_start problem Set) d) ≡ true))
+      × (is_in_set_play battle (game_of rule problem) problem.stipulation.n (position_after rule (phase_start problem Set) d) ≡ true))
   set_moves_of_a_problem_are d battle sound fought =
       let game = game_of rule problem in
       let from = phase_start problem Set in

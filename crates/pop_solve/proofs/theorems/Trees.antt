@@ -1,5 +1,5 @@
 -- The trees of battle play, over any game: which moves stand in them, that no path stands twice, and in which order the paths stand.
-use Rattle.pop_solve.proofs.Words.{AllPairs, AllPairs-filter, Battle, Bool, Contains, Game, List, [], answers, arith, best_moves, false, from_filter, in_filter, keeps, least_moves, nodes_below, none_in_nil, pairs_nil, pairs_weaker, refl, set_shows, set_tree, suc, sym, take, tree, true, wins_in, zero, ℕ, ◌-◌, ◌↔◌, ◌∙◌, ◌∷◌, ◌≡◌, ◌≢◌, ◌≤◌}
+use Rattle.pop_solve.proofs.Words.{AllPairs, AllPairs-filter, Battle, Bool, Contains, Game, List, [], continuations, arith, best_moves, false, from_filter, in_filter, keeps_win, least_moves, nodes_below, none_in_nil, pairs_nil, pairs_weaker, refl, is_in_set_play, set_tree, suc, sym, take, tree, true, wins_in, zero, ℕ, ◌-◌, ◌↔◌, ◌∙◌, ◌∷◌, ◌≡◌, ◌≢◌, ◌≤◌}
 use Rattle.pop_solve.proofs.Nodes.{any_from_element, element_from_any, answers_more, answers_zero, below_more, below_zero, deeper_unless, nil_has_beginnings, nodes_have_beginnings, nodes_stand, roots_are, roots_unless, deeper_are, tree_paths, set_tree_paths, set_tree_none, first_tree_paths, first_set_tree_none, first_set_tree_paths, from_nodes, below_key, kept, set_moves, below_set, below_key_has_beginnings, below_key_not_empty, below_key_stands, below_set_has_beginnings, below_set_not_empty, below_set_stands}
 use Rattle.pop_solve.proofs.theorems.Lengths.{no_win_in_none, wins_by_a_move, wins_in_least}
 use Rattle.pop_solve.proofs.theorems.Lists.{HasBeginnings, StandsBefore, never_before_itself, paths}
@@ -7,22 +7,22 @@ use Rattle.pop_solve.proofs.theorems.Lists.{HasBeginnings, StandsBefore, never_b
 module _ {P M : Type 0} (battle : Battle) (game : Game P M) (n : ℕ) where
   -- m is a key: a move of the position that keeps the win within n moves.
   abbrev pub IsKey : P → M → Type 0
-  IsKey p m = Contains (game.moves p) m × (keeps battle game n (game.after p m) ≡ true)
+  IsKey p m = Contains (game.moves p) m × (keeps_win battle game n (game.after p m) ≡ true)
 
   -- m is a best continuation: a move of the position with which White wins in the least number of moves, up to n.
   abbrev pub IsBest : P → M → Type 0
-  IsBest r m = Contains (game.moves r) m × (keeps battle game (least_moves battle game n r) (game.after r m) ≡ true)
+  IsBest r m = Contains (game.moves r) m × (keeps_win battle game (least_moves battle game n r) (game.after r m) ≡ true)
 
   -- A move stands alone as a path of the play, which is the first of a solution, exactly where it is a key.
   pub keys_are : (variation : Bool) (h : ℕ) (p : P) (m : M) → Contains (paths (tree battle game variation n h p)) (m ∷ []) ↔ IsKey p m
   keys_are variation h p m = rw (tree_paths battle game n variation h p)
-      (roots_are (below_key battle game n variation h p) (λ m. keeps battle game n (game.after p m)) (game.moves p) m)
+      (roots_are (below_key battle game n variation h p) (λ m. keeps_win battle game n (game.after p m)) (game.moves p) m)
 
   -- There is a key exactly where White wins within n moves.
   pub some_key_where_won : (p : P) → 1 ≤ n → ((m : M) × IsKey p m) ↔ (wins_in battle game n p ≡ true)
   some_key_where_won p some = (
-    λ k. wins_by_a_move game battle n p some ∙ any_from_element (λ m. keeps battle game n (game.after p m)) (game.moves p) k.0 k.1.0 k.1.1,
-    λ w. element_from_any (λ m. keeps battle game n (game.after p m)) (game.moves p) (sym (wins_by_a_move game battle n p some) ∙ w),
+    λ k. wins_by_a_move game battle n p some ∙ any_from_element (λ m. keeps_win battle game n (game.after p m)) (game.moves p) k.0 k.1.0 k.1.1,
+    λ w. element_from_any (λ m. keeps_win battle game n (game.after p m)) (game.moves p) (sym (wins_by_a_move game battle n p some) ∙ w),
   )
 
   -- Every path of the play begins with a key.
@@ -30,7 +30,7 @@ module _ {P M : Type 0} (battle : Battle) (game : Game P M) (n : ℕ) where
       → Contains (paths (tree battle game variation n h p)) (m ∷ path) → IsKey p m
   paths_begin_with_keys variation h p m path c =
       let k = rw (tree_paths battle game n variation h p) at c in
-      from_filter (λ m. keeps battle game n (game.after p m)) (game.moves p) m
+      from_filter (λ m. keeps_win battle game n (game.after p m)) (game.moves p) m
       (from_nodes (below_key battle game n variation h p) (kept battle game n p) m path k).0
 
   -- With variations a path goes on behind a key by the paths below it.
@@ -38,34 +38,34 @@ module _ {P M : Type 0} (battle : Battle) (game : Game P M) (n : ℕ) where
       → Contains (paths (tree battle game true n h p)) (m ∷ (x ∷ path)) ↔ (IsKey p m × Contains (nodes_below battle game n (h - 1) (game.after p m)) (x ∷ path))
   unfolding below_key
   variations_are h p m x path =
-      let are = deeper_are (below_key battle game n true h p) (λ m. keeps battle game n (game.after p m)) (game.moves p) m x path in
+      let are = deeper_are (below_key battle game n true h p) (λ m. keeps_win battle game n (game.after p m)) (game.moves p) m x path in
       rw (tree_paths battle game n true h p) (λ c. let w = are.0 c in ((w.0, w.1), w.2), λ w. are.1 (w.0.0, w.0.1, w.1))
 
   -- Without variations no path goes on behind a key.
   pub keys_alone : (h : ℕ) (p : P) (m x : M) (path : List M) → Contains (paths (tree battle game false n h p)) (m ∷ (x ∷ path)) → ⊥
   unfolding below_key
   keys_alone h p m x path c =
-      let are = deeper_are (below_key battle game n false h p) (λ m. keeps battle game n (game.after p m)) (game.moves p) m x path in
+      let are = deeper_are (below_key battle game n false h p) (λ m. keeps_win battle game n (game.after p m)) (game.moves p) m x path in
       none_in_nil (x ∷ path) (are.0 (rw (tree_paths battle game n false h p) at c)).2
 
   -- Below a position in which Black moves, with half-moves left and the goal not reached, all his moves stand.
   pub defences_are : (h : ℕ) (q : P) (d : M) → Contains (nodes_below battle game n h q) (d ∷ []) ↔ ((1 ≤ h) × (game.goal q ≡ false) × Contains (game.moves q) d)
   defences_are zero q d = rw (below_zero battle game n q) (λ c. absurd (none_in_nil (d ∷ []) c), λ w. absurd (omega (arith, w.0)))
   defences_are (suc h) q d =
-      let are = roots_unless (λ d. answers battle game n h (game.after q d)) (game.goal q) (game.moves q) d in
+      let are = roots_unless (λ d. continuations battle game n h (game.after q d)) (game.goal q) (game.moves q) d in
       rw (below_more battle game n h q) (λ c. let w = are.0 c in (omega arith, w.0, w.1), λ w. are.1 (w.1, w.2))
 
   -- And below a defence stands what answers it, with a half-move less.
   pub defences_go_on : (h : ℕ) (q : P) (d x : M) (path : List M)
       → Contains (nodes_below battle game n (suc h) q) (d ∷ (x ∷ path))
-      ↔ ((game.goal q ≡ false) × Contains (game.moves q) d × Contains (answers battle game n h (game.after q d)) (x ∷ path))
+      ↔ ((game.goal q ≡ false) × Contains (game.moves q) d × Contains (continuations battle game n h (game.after q d)) (x ∷ path))
   defences_go_on h q d x path =
-      rw (below_more battle game n h q) (deeper_unless (λ d. answers battle game n h (game.after q d)) (game.goal q) (game.moves q) d x path)
+      rw (below_more battle game n h q) (deeper_unless (λ d. continuations battle game n h (game.after q d)) (game.goal q) (game.moves q) d x path)
 
   is_best : (r : P) (m : M) → Contains (best_moves battle game n r) m ↔ IsBest r m
   is_best r m = (
-    from_filter (λ m. keeps battle game (least_moves battle game n r) (game.after r m)) (game.moves r) m,
-    λ w. in_filter (λ m. keeps battle game (least_moves battle game n r) (game.after r m)) (game.moves r) m w.0 w.1,
+    from_filter (λ m. keeps_win battle game (least_moves battle game n r) (game.after r m)) (game.moves r) m,
+    λ w. in_filter (λ m. keeps_win battle game (least_moves battle game n r) (game.after r m)) (game.moves r) m w.0 w.1,
   )
 
   -- Where White wins within n moves he has a best continuation.
@@ -75,7 +75,7 @@ module _ {P M : Type 0} (battle : Battle) (game : Game P M) (n : ℕ) where
       grind (arith, element_from_any, wins_by_a_move, no_win_in_none)
 
   -- Below a position in which White moves, with half-moves left and the goal not reached, his best continuations stand.
-  pub continuations_are : (h : ℕ) (r : P) (m : M) → Contains (answers battle game n h r) (m ∷ []) ↔ ((1 ≤ h) × (game.goal r ≡ false) × IsBest r m)
+  pub continuations_are : (h : ℕ) (r : P) (m : M) → Contains (continuations battle game n h r) (m ∷ []) ↔ ((1 ≤ h) × (game.goal r ≡ false) × IsBest r m)
   continuations_are zero r m = rw (answers_zero battle game n r) (λ c. absurd (none_in_nil (m ∷ []) c), λ w. absurd (omega (arith, w.0)))
   continuations_are (suc h) r m =
       let are = roots_unless (λ m. nodes_below battle game n h (game.after r m)) (game.goal r) (best_moves battle game n r) m in
@@ -83,7 +83,7 @@ module _ {P M : Type 0} (battle : Battle) (game : Game P M) (n : ℕ) where
 
   -- And below a continuation stand the defences to it, with a half-move less.
   pub continuations_go_on : (h : ℕ) (r : P) (m x : M) (path : List M)
-      → Contains (answers battle game n (suc h) r) (m ∷ (x ∷ path))
+      → Contains (continuations battle game n (suc h) r) (m ∷ (x ∷ path))
       ↔ ((game.goal r ≡ false) × IsBest r m × Contains (nodes_below battle game n h (game.after r m)) (x ∷ path))
   continuations_go_on h r m x path =
       let are = deeper_unless (λ m. nodes_below battle game n h (game.after r m)) (game.goal r) (best_moves battle game n r) m x path in
@@ -92,10 +92,10 @@ module _ {P M : Type 0} (battle : Battle) (game : Game P M) (n : ℕ) where
   -- Set play, with half-moves left, shows those moves of Black after which the goal is reached or White wins with a move less.
   pub set_play_is : (variation : Bool) (h : ℕ) (p : P) (d : M)
       → Contains (paths (set_tree battle game variation n h p)) (d ∷ [])
-      ↔ ((1 ≤ h) × Contains (game.moves p) d × (set_shows battle game n (game.after p d) ≡ true))
+      ↔ ((1 ≤ h) × Contains (game.moves p) d × (is_in_set_play battle game n (game.after p d) ≡ true))
   set_play_is variation zero p d = grind (arith, set_tree_none, none_in_nil)
   set_play_is variation (suc h) p d =
-      let are = roots_are (below_set battle game n variation h p) (λ d. set_shows battle game n (game.after p d)) (game.moves p) d in
+      let are = roots_are (below_set battle game n variation h p) (λ d. is_in_set_play battle game n (game.after p d)) (game.moves p) d in
       rw (set_tree_paths battle game n variation h p) (λ c. let w = are.0 c in (omega arith, w.0, w.1), λ w. are.1 (w.1, w.2))
 
   module _ (variation : Bool) (h : ℕ) (p : P) where
@@ -137,7 +137,7 @@ module _ {P M : Type 0} (battle : Battle) (game : Game P M) (n : ℕ) where
     pub play_in_order : (before : M → M → Type 0) → ((p : P) → AllPairs before (game.moves p))
         → AllPairs (StandsBefore before) (paths (tree battle game variation n h p))
     play_in_order before order = rw (tree_paths battle game n variation h p) (nodes_stand (below_key battle game n variation h p) before (kept battle game n p)
-        (AllPairs-filter before (λ m. keeps battle game n (game.after p m)) (game.moves p) (order p))
+        (AllPairs-filter before (λ m. keeps_win battle game n (game.after p m)) (game.moves p) (order p))
         (below_key_stands battle game n variation before order h p) (below_key_not_empty battle game n variation h p))
 
     -- In set play too.
@@ -150,7 +150,7 @@ module _ {P M : Type 0} (battle : Battle) (game : Game P M) (n : ℕ) where
         by_half_moves (suc h) =
             rw (set_tree_paths battle game n variation h p)
             (nodes_stand (below_set battle game n variation h p) before (set_moves battle game n p)
-            (AllPairs-filter before (λ d. set_shows battle game n (game.after p d)) (game.moves p) (order p))
+            (AllPairs-filter before (λ d. is_in_set_play battle game n (game.after p d)) (game.moves p) (order p))
             (below_set_stands battle game n variation before order h p) (below_set_not_empty battle game n variation h p))
 
     -- Where no position has two moves alike, no two paths of the play are alike.

@@ -144,28 +144,28 @@ pending_value rule aim p (f ∷ below) None =
     (untried_moves rule (position rule p (f ∷ below)) f))
 
 -- the steps that a test takes, which falls at each one
-unfoldable pub steps : RuleSet → ℕ → Position → ℕ
-steps rule zero p = 1
-steps rule (suc h) p =
-    1 + sum_by (λ m. 1 + steps rule h (position_after rule p m)) (legal_moves rule p)
+unfoldable pub work_from : RuleSet → ℕ → Position → ℕ
+work_from rule zero p = 1
+work_from rule (suc h) p =
+    1 + sum_by (λ m. 1 + work_from rule h (position_after rule p m)) (legal_moves rule p)
 
 -- the same of the moves behind a place
-unfoldable pub steps_behind : RuleSet → ℕ → Position → ℕ → ℕ
-steps_behind rule zero p place = 0
-steps_behind rule (suc h) p place =
-    sum_by (λ m. 1 + steps rule h (position_after rule p m)) (moves_behind rule p place)
+unfoldable pub work_behind : RuleSet → ℕ → Position → ℕ → ℕ
+work_behind rule zero p place = 0
+work_behind rule (suc h) p place =
+    sum_by (λ m. 1 + work_from rule h (position_after rule p m)) (moves_behind rule p place)
 
 -- the same of some moves
-unfoldable pub steps_among : RuleSet → ℕ → Position → List Move → ℕ
-steps_among rule zero p ms = 0
-steps_among rule (suc h) p ms = sum_by (λ m. 1 + steps rule h (position_after rule p m)) ms
+unfoldable pub work_among : RuleSet → ℕ → Position → List Move → ℕ
+work_among rule zero p ms = 0
+work_among rule (suc h) p ms = sum_by (λ m. 1 + work_from rule h (position_after rule p m)) ms
 
 -- the steps that are left to all frames of a test
-unfoldable pub work : RuleSet → Position → List Frame → ℕ
-work rule p [] = 0
-work rule p (f ∷ below) =
-    1 + steps_among rule f.left (position rule p (f ∷ below))
-    (untried_moves rule (position rule p (f ∷ below)) f) + work rule p below
+unfoldable pub test_work : RuleSet → Position → List Frame → ℕ
+test_work rule p [] = 0
+test_work rule p (f ∷ below) =
+    1 + work_among rule f.left (position rule p (f ∷ below))
+    (untried_moves rule (position rule p (f ∷ below)) f) + test_work rule p below
 
 -- the most frames that the moves behind the places can still open
 unfoldable pub walk_behind : RuleSet → ℕ → Position → ℕ → ℕ
@@ -216,10 +216,10 @@ to_try rule aim p (f ∷ below) None =
     (untried_moves rule (position rule p (f ∷ below)) f))
 
 -- from the top down each frame has a half-move to make, and one less than the frame below it
-unfoldable pub IsCut : List Frame → Type 0
-IsCut [] = Unit {0}
-IsCut (f ∷ []) = 0 < f.left
-IsCut (f ∷ (g ∷ below)) = (0 < f.left) × (f.left + 1 ≡ g.left) × IsCut (g ∷ below)
+unfoldable pub IsDescending : List Frame → Type 0
+IsDescending [] = Unit {0}
+IsDescending (f ∷ []) = 0 < f.left
+IsDescending (f ∷ (g ∷ below)) = (0 < f.left) × (f.left + 1 ≡ g.left) × IsDescending (g ∷ below)
 
 -- what each frame knows is of its own position
 unfoldable pub AreKnown : RuleSet → Position → List Frame → Type 0
@@ -231,7 +231,7 @@ AreKnown rule p (f ∷ below) = IfSome f.known (IsPlaceIn rule (position rule p 
 pub record IsTesting (rule : RuleSet) (p : Position) (frames : List Frame) (board : Position) : Type
     0 where
   pub linked : IsLinked rule p frames
-  pub cut : IsCut frames
+  pub cut : IsDescending frames
   pub known : AreKnown rule p frames
   pub sound : IsWellFormed board
   pub board_at : board ≡ position rule p frames
@@ -261,7 +261,7 @@ pub record Turns (rule : RuleSet) (aim : Aim) (floor : ℕ) (p : Position) (old 
   pub testing : IsTesting rule p (tests floor new) board
   pub same : pending_value rule aim p (tests floor old) was
       ≡ pending_value rule aim p (tests floor new) is
-  pub falls : work rule p (tests floor new) < work rule p (tests floor old)
+  pub falls : test_work rule p (tests floor new) < test_work rule p (tests floor old)
   pub above : floor < length new
   pub base : take floor new ≡ take floor old
   pub counted : after + to_test rule p (tests floor new) ≤ before + to_test rule p (tests floor old)
@@ -311,6 +311,6 @@ pub record IsOpenedOn (rule : RuleSet) (p : Position) (old new : List Frame) (by
   pub added : new ≡ old ++ tested_frame order by undo left known ∷ []
 
 -- the half-moves left at the top frame
-abbrev pub top_left : List Frame → ℕ
-top_left [] = 0
-top_left (f ∷ below) = f.left
+abbrev pub left_at_top : List Frame → ℕ
+left_at_top [] = 0
+left_at_top (f ∷ below) = f.left

@@ -1,5 +1,5 @@
 -- What a search that stands in a phase has still to give.
-use Rattle.pop_solve.specs.Aims.{play_of}
+use Rattle.pop_solve.specs.Plays.{play_of}
 use Rattle.pop_solve.specs.declared.aim.Battle.{Battle}
 use Rattle.pop_solve.specs.declared.aim.Play.TheVariants.{Help as HelpPlay, Battle as BattlePlay}
 use Rattle.std.specs.Prelude.{◌≡◌, ℕ, zero, suc, ◌+◌, ◌-◌, ◌≤◌, ◌^◌, min, ◌==◌, Bool, true, false, ◌||◌, if◌then◌else◌, List, [], ◌∷◌, ◌++◌, map, length, drop, ◌⊎◌}
@@ -9,7 +9,7 @@ use Rattle.chess_rules.specs.RuleSet.{RuleSet}
 use Rattle.pop_input.specs.Posed.{Posed}
 use Rattle.pop_input.specs.Stipulations.{is_help}
 use Rattle.pop_solve.specs.ties.Frames.{Frame, to_open}
-use Rattle.pop_solve.specs.ties.Walk.{fewest_left, path, to_come, IsEnded, IsWalking, IsCounted, IsWhites}
+use Rattle.pop_solve.specs.ties.Walk.{fewest_left, path, to_come, IsEnded, IsWalking, IsCounted, are_whites}
 use Rattle.pop_solve.specs.Events.{BareEvent, impossible, is_set, total, play_start, events_from, path_event, phase_start, phase_half_moves, event_of, events}
 use Rattle.pop_solve.specs.ties.Seen.{fewest_from, fewest_tried, is_never_stopped, is_unstopped, is_walked_once, walk_from, whole_walk, StandsOn}
 use Rattle.pop_events.specs.declared.event.Event.{Event}
@@ -22,20 +22,20 @@ use Rattle.pop_solve.specs.ties.Plans.{plan_of}
 
 module _ {M : Type 0} where
   -- whether a path begins a solution: each line does, and each node above which none stands
-  abbrev pub begins : Bool → List M → Bool
-  begins help path = help || length path == 1
+  abbrev pub begins_solution : Bool → List M → Bool
+  begins_solution help path = help || length path == 1
 
   -- the paths of the first n solutions, where the paths before the first beginning belong to one that was begun earlier
-  unfoldable pub keep : Bool → ℕ → List (List M) → List (List M)
-  keep help n [] = []
-  keep help zero (x ∷ xs) = if begins help x then [] else x ∷ keep help zero xs
-  keep help (suc n) (x ∷ xs) = x ∷ (if begins help x then keep help n xs else keep help (suc n) xs)
+  unfoldable pub kept_paths : Bool → ℕ → List (List M) → List (List M)
+  kept_paths help n [] = []
+  kept_paths help zero (x ∷ xs) = if begins_solution help x then [] else x ∷ kept_paths help zero xs
+  kept_paths help (suc n) (x ∷ xs) = x ∷ (if begins_solution help x then kept_paths help n xs else kept_paths help (suc n) xs)
 
   -- how many solutions begin among them
   unfoldable pub beginning_count : Bool → ℕ → List (List M) → ℕ
   beginning_count help n [] = 0
-  beginning_count help zero (x ∷ xs) = if begins help x then 0 else beginning_count help zero xs
-  beginning_count help (suc n) (x ∷ xs) = if begins help x then 1 + beginning_count help n xs
+  beginning_count help zero (x ∷ xs) = if begins_solution help x then 0 else beginning_count help zero xs
+  beginning_count help (suc n) (x ∷ xs) = if begins_solution help x then 1 + beginning_count help n xs
       else beginning_count help (suc n) xs
 
 -- the paths to come from the frames of a phase
@@ -52,7 +52,7 @@ left_of rule problem (Within phase count) frames =
     let paths = phase_paths rule problem phase frames in
     let limit = problem.max_solutions - count in
     let all = count + beginning_count (is_help problem.stipulation.form) limit paths in
-    map (path_event problem phase) (keep (is_help problem.stipulation.form) limit paths)
+    map (path_event problem phase) (kept_paths (is_help problem.stipulation.form) limit paths)
     ++ total all (all == problem.max_solutions)
     ∷ (if is_set phase then events_from rule problem Play else [])
 left_of rule problem Behind frames = []
@@ -70,17 +70,17 @@ IsStanding rule problem Behind frames board = (frames ≡ []) × (board ≡ play
 pub record Walks (rule : RuleSet) (plan : Plan) (help : Bool) (h : ℕ) (p : Position) (limit : ℕ)
     (old new : List Frame) (board : Position) (given : Bool) : Type 0 where
   pub walking : IsWalking rule h p new board
-  pub come : given ≡ true → keep help limit (to_come rule plan h p old)
-      ≡ path new ∷ keep help
-      (limit - (if begins help (path new) then 1 else 0)) (to_come rule plan h p new)
+  pub come : given ≡ true → kept_paths help limit (to_come rule plan h p old)
+      ≡ path new ∷ kept_paths help
+      (limit - (if begins_solution help (path new) then 1 else 0)) (to_come rule plan h p new)
   pub starts : given ≡ true → beginning_count help limit (to_come rule plan h p old)
-      ≡ (if begins help (path new) then 1 else 0)
+      ≡ (if begins_solution help (path new) then 1 else 0)
       + beginning_count help
-      (limit - (if begins help (path new) then 1 else 0)) (to_come rule plan h p new)
-  pub within : given ≡ true → (if begins help (path new) then 1 else 0) ≤ limit
+      (limit - (if begins_solution help (path new) then 1 else 0)) (to_come rule plan h p new)
+  pub within : given ≡ true → (if begins_solution help (path new) then 1 else 0) ≤ limit
   pub deep : given ≡ true → 2 ≤ length new
   pub closed : given ≡ true → IsEnded rule plan new board
-  pub ended : given ≡ false → keep help limit (to_come rule plan h p old) ≡ []
+  pub ended : given ≡ false → kept_paths help limit (to_come rule plan h p old) ≡ []
   pub over : given ≡ false → (new ≡ []) ⊎ (limit ≡ 0)
   pub none : given ≡ false → beginning_count help limit (to_come rule plan h p old)
       ≡ 0
@@ -126,7 +126,7 @@ IsNarrow problem (Before phase) frames = (play_of problem.stipulation.form ≡ H
 IsNarrow problem Barred frames = play_of problem.stipulation.form ≡ HelpPlay
 IsNarrow problem (Within phase count) frames =
     (play_of problem.stipulation.form ≡ HelpPlay)
-    ⊎ ((keys : IsKeys problem phase) × (IsWhites keys.battle frames ≡ true))
+    ⊎ ((keys : IsKeys problem phase) × (are_whites keys.battle frames ≡ true))
 IsNarrow problem Behind frames = Unit {0}
 
 -- what a call opens, `left` being the events still to come before it

@@ -18,47 +18,47 @@ use Rattle.pop_solve.specs.Game.{Game}
 use Rattle.pop_solve.specs.ties.Counts.{smallest_tree}
 use Rattle.pop_solve.specs.ties.Values.{seeks, value}
 use Rattle.pop_solve.specs.Chess.{chess}
-use Rattle.pop_solve.specs.ties.Frames.{AreKnown, Frame, position, IsLinked, steps_behind, to_open, top_left}
+use Rattle.pop_solve.specs.ties.Frames.{AreKnown, Frame, position, IsLinked, work_behind, to_open, left_at_top}
 use Rattle.pop_solve.specs.declared.plan.Plan.{Plan}
 use Rattle.pop_solve.specs.ties.Marks.{is_for_mate}
-use Rattle.pop_solve.specs.ties.Plans.{varies}
+use Rattle.pop_solve.specs.ties.Plans.{has_variations}
 
 -- the fewest half-moves with which a move of White is tried
-abbrev pub fewest : Battle → ℕ
-fewest Direct = 1
-fewest Selfmate = 2
+abbrev pub fewest_half_moves : Battle → ℕ
+fewest_half_moves Direct = 1
+fewest_half_moves Selfmate = 2
 
 module _ {P M : Type 0} where
   -- the first of n + 1 numbers of half-moves, from a on by twos, with which White reaches his aim; the last untried
-  unfoldable pub first_from : Battle → Game P M → P → ℕ → ℕ → ℕ
-  first_from battle game q zero a = a
-  first_from battle game q (suc n) a = if value battle game a q then a
-      else first_from battle game q n (a + 2)
+  unfoldable pub least_length_from : Battle → Game P M → P → ℕ → ℕ → ℕ
+  least_length_from battle game q zero a = a
+  least_length_from battle game q (suc n) a = if value battle game a q then a
+      else least_length_from battle game q n (a + 2)
 
   -- with how many half-moves the moves of q are shown in battle play, where t are left: 0 for none
-  unfoldable pub open_length : Battle → Game P M → ℕ → P → ℕ
-  open_length battle game t q =
+  unfoldable pub shown_length : Battle → Game P M → ℕ → P → ℕ
+  shown_length battle game t q =
       if t == 0 || game.goal q then 0
-      else (if seeks battle t then first_from battle game q ((t - fewest battle) / 2)
-      (fewest battle) else t)
+      else (if seeks battle t then least_length_from battle game q ((t - fewest_half_moves battle) / 2)
+      (fewest_half_moves battle) else t)
 
   -- whether the walk follows a move to q, with t half-moves left there: in a battle moves of White and those of a root are
   -- tested
-  unfoldable pub follows : Play → Game P M → Bool → ℕ → P → Bool
-  follows HelpPlay game root t q = true
-  follows (BattlePlay battle) game root t q = not (root || seeks battle (t + 1))
+  unfoldable pub is_followed : Play → Game P M → Bool → ℕ → P → Bool
+  is_followed HelpPlay game root t q = true
+  is_followed (BattlePlay battle) game root t q = not (root || seeks battle (t + 1))
       || value battle game t q
 
   -- whether it gives the path to q: in help play where the last half-move reaches the goal
-  unfoldable pub gives : Play → Game P M → ℕ → P → Bool
-  gives HelpPlay game t q = t == 0 && game.goal q
-  gives (BattlePlay battle) game t q = true
+  unfoldable pub is_given : Play → Game P M → ℕ → P → Bool
+  is_given HelpPlay game t q = t == 0 && game.goal q
+  is_given (BattlePlay battle) game t q = true
 
   -- with how many half-moves the walk goes on from q, with variations or without
-  unfoldable pub half_moves_on : Play → Bool → Game P M → ℕ → P → ℕ
-  half_moves_on HelpPlay variation game t q = t
-  half_moves_on (BattlePlay battle) variation game t q =
-      if not variation && seeks battle (t + 1) then 0 else open_length battle game t q
+  unfoldable pub walk_length : Play → Bool → Game P M → ℕ → P → ℕ
+  walk_length HelpPlay variation game t q = t
+  walk_length (BattlePlay battle) variation game t q =
+      if not variation && seeks battle (t + 1) then 0 else shown_length battle game t q
 
   -- the paths that the walk gives from P by these moves, with `left` half-moves; `fuel` is at least `left`
   unfoldable pub shown_paths : Plan → Game P M → Bool → ℕ → ℕ → P → List M → List (List M)
@@ -66,10 +66,10 @@ module _ {P M : Type 0} where
   shown_paths plan game root (suc fuel) zero p ms = []
   shown_paths plan game root (suc fuel) (suc t) p ms =
       flat_map (λ m. let q = game.after p m in
-      if follows plan.play game root t q
-      then (if gives plan.play game t q then (m ∷ []) ∷ [] else [])
+      if is_followed plan.play game root t q
+      then (if is_given plan.play game t q then (m ∷ []) ∷ [] else [])
       ++ map (λ path. m ∷ path) (shown_paths plan game false fuel
-      (half_moves_on plan.play (varies plan) game t q) q (game.moves q))
+      (walk_length plan.play (has_variations plan.tree) game t q) q (game.moves q))
       else []) ms
 
   -- the fewest positions that are tried for a move to q, with t half-moves left there: where the move is tested those of a
@@ -78,7 +78,7 @@ module _ {P M : Type 0} where
   fewest_for HelpPlay variation game root t q = if t == 0 then 0 else 1
   fewest_for (BattlePlay battle) variation game root t q =
       if root || seeks battle (t + 1) then smallest_tree battle game t q
-      else (if half_moves_on (BattlePlay battle) variation game t q == 0 then 0 else 1)
+      else (if walk_length (BattlePlay battle) variation game t q == 0 then 0 else 1)
 
   -- the same for these moves of p, with `left` half-moves, and for all that the walk gives below them
   unfoldable pub fewest_walked : Plan → Game P M → Bool → ℕ → ℕ → P → List M → ℕ
@@ -86,9 +86,9 @@ module _ {P M : Type 0} where
   fewest_walked plan game root (suc fuel) zero p ms = 0
   fewest_walked plan game root (suc fuel) (suc t) p ms =
       sum_by (λ m. let q = game.after p m in
-      fewest_for plan.play (varies plan) game root t q
-      + (if follows plan.play game root t q then fewest_walked plan game false fuel
-      (half_moves_on plan.play (varies plan) game t q) q (game.moves q) else 0)) ms
+      fewest_for plan.play (has_variations plan.tree) game root t q
+      + (if is_followed plan.play game root t q then fewest_walked plan game false fuel
+      (walk_length plan.play (has_variations plan.tree) game t q) q (game.moves q) else 0)) ms
 
 -- the moves that lead to the top frame
 unfoldable pub path : List Frame → List Move
@@ -128,11 +128,11 @@ pub record IsWalking (rule : RuleSet) (h : ℕ) (p : Position) (frames : List Fr
   pub board_at : board ≡ position rule p frames
 
 -- the turns that a walk can still take, which fall at each one
-unfoldable pub turns : RuleSet → ℕ → Position → List Frame → ℕ
-turns rule h p [] = 0
-turns rule h p (f ∷ below) =
-    1 + steps_behind rule (h - length below) (position rule p (f ∷ below)) f.place
-    + turns rule h p below
+unfoldable pub walk_work : RuleSet → ℕ → Position → List Frame → ℕ
+walk_work rule h p [] = 0
+walk_work rule h p (f ∷ below) =
+    1 + work_behind rule (h - length below) (position rule p (f ∷ below)) f.place
+    + walk_work rule h p below
 
 -- of `walk` frames all but `rest` have been opened, counted up to the greatest u64
 pub record IsCounted (walk opened rest : ℕ) : Type 0 where
@@ -140,30 +140,30 @@ pub record IsCounted (walk opened rest : ℕ) : Type 0 where
   pub counts : opened ≡ min (walk - rest) (2 ^ 64 - 1)
 
 -- at each frame White is to move, or nothing is tried
-unfoldable pub IsWhites : Battle → List Frame → Bool
-IsWhites battle frames = list_all (λ f. f.left == 0 || seeks battle f.left) frames
+unfoldable pub are_whites : Battle → List Frame → Bool
+are_whites battle frames = list_all (λ f. f.left == 0 || seeks battle f.left) frames
 
 -- the frames opened and still to be opened, before a part of a walk and after it: in help play and where keys alone are
 -- shown they grow by nothing
 pub record Opens (rule : RuleSet) (plan : Plan) (p : Position) (old new : List Frame)
-    (before position_after : ℕ) : Type 0 where
-  pub whites : (battle : Battle) → plan.play ≡ BattlePlay battle → varies plan ≡ false
-      → IsWhites battle old ≡ true → IsWhites battle new ≡ true
-  pub most : (battle : Battle) → plan.play ≡ BattlePlay battle → varies plan ≡ false
-      → IsWhites battle old ≡ true
-      → position_after + to_open rule p new ≤ before + to_open rule p old
+    (before after : ℕ) : Type 0 where
+  pub whites : (battle : Battle) → plan.play ≡ BattlePlay battle → has_variations plan.tree ≡ false
+      → are_whites battle old ≡ true → are_whites battle new ≡ true
+  pub most : (battle : Battle) → plan.play ≡ BattlePlay battle → has_variations plan.tree ≡ false
+      → are_whites battle old ≡ true
+      → after + to_open rule p new ≤ before + to_open rule p old
   pub helped : plan.play ≡ HelpPlay
-      → position_after + to_open rule p new ≤ before + to_open rule p old
+      → after + to_open rule p new ≤ before + to_open rule p old
   pub counted : plan.play ≡ HelpPlay → (walk : ℕ) → IsCounted walk before (to_open rule p old)
-      → IsCounted walk position_after (to_open rule p new)
+      → IsCounted walk after (to_open rule p new)
 
 -- a part of a walk counts on, and in a battle it tries no fewer positions than have to be
 pub record Tries (rule : RuleSet) (plan : Plan) (h : ℕ) (p : Position) (old new : List Frame)
-    (before position_after : ℕ) : Type 0 where
-  pub grows : min before (2 ^ 64 - 1) ≤ position_after
+    (before after : ℕ) : Type 0 where
+  pub grows : min before (2 ^ 64 - 1) ≤ after
   pub fewest : (battle : Battle) → plan.play ≡ BattlePlay battle
       → min (before + fewest_left rule plan h p old) (2 ^ 64 - 1)
-      ≤ position_after + fewest_left rule plan h p new
+      ≤ after + fewest_left rule plan h p new
 
 -- the side that makes the last half-move seeks the goal: each side in help play, and White in direct play
 abbrev pub seeks_last : Play → Bool
@@ -230,17 +230,17 @@ ends_variation (BattlePlay battle) variation left = left == 0 && (variation && s
 
 -- where a variation ends at the top frame, the goal is reached on the board
 abbrev pub IsEnded : RuleSet → Plan → List Frame → Position → Type 0
-IsEnded rule plan frames board = ends_variation plan.play (varies plan) (top_left frames) ≡ true
+IsEnded rule plan frames board = ends_variation plan.play (has_variations plan.tree) (left_at_top frames) ≡ true
     → (chess plan.goal rule).goal board ≡ true
 
 -- what one step of a walk leaves, for frames listed from the top down; `given` says whether the path to the new top is given
 pub record Steps (rule : RuleSet) (plan : Plan) (h : ℕ) (p : Position) (old new : List Frame)
-    (board : Position) (before position_after : ℕ) (given : Bool) : Type 0 where
+    (board : Position) (before after : ℕ) (given : Bool) : Type 0 where
   pub walking : IsWalking rule h p new board
   pub come : to_come rule plan h p old ≡ (if given then path new ∷ [] else [])
       ++ to_come rule plan h p new
   pub deep : given ≡ true → length new ≡ length old + 1
   pub ended : given ≡ true → IsEnded rule plan new board
-  pub falls : turns rule h p new < turns rule h p old
-  pub opens : Opens rule plan p old new before position_after
-  pub tries : Tries rule plan h p old new before position_after
+  pub falls : walk_work rule h p new < walk_work rule h p old
+  pub opens : Opens rule plan p old new before after
+  pub tries : Tries rule plan h p old new before after

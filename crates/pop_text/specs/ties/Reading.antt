@@ -14,8 +14,8 @@ pub record Reading : Type 0 where
   pub end : End
 
 -- before all bytes
-abbrev pub beginning : Reading
-beginning = record { window = []; used = 0; line = 1; end = Open }
+abbrev pub first_reading : Reading
+first_reading = record { window = []; used = 0; line = 1; end = Open }
 
 -- Between old and new these bytes were used: some bytes were taken from the source, and the unread bytes begin with those used.
 pub record Uses (old new : Reading) (had left : Option (List ℕ)) (bytes : List ℕ) : Type 0 where

@@ -59,16 +59,16 @@ pub record TrialOutput : Type 0 where
   pub failures : ℕ
 
 -- how many bytes of a text a call takes, where the whole room is so large
-abbrev pub taken_of : ℕ → TrialOutput → List ℕ → ℕ
-taken_of size trial text = before_failure trial.until_failure
+abbrev pub bytes_accepted : ℕ → TrialOutput → List ℕ → ℕ
+bytes_accepted size trial text = before_failure trial.until_failure
     (min (min (length text) (size - length trial.taken)) trial.at_most)
 
 -- a call fails exactly where it can take nothing of a text: at the place of the failure, or where the room is full
 abbrev pub Accepts : {E : Type 0} → ℕ → TrialOutput → TrialOutput → List ℕ → Result ℕ E → Type 0
-Accepts size old new text (Ok n) = (0 < length text → 0 < n) × (n ≡ taken_of size old text)
+Accepts size old new text (Ok n) = (0 < length text → 0 < n) × (n ≡ bytes_accepted size old text)
     × (new ≡ record old {
       taken = old.taken ++ take n text;
       until_failure = option_map (λ until. until - n) old.until_failure;
     })
-Accepts size old new text (Err e) = (0 < length text) × (taken_of size old text ≡ 0)
+Accepts size old new text (Err e) = (0 < length text) × (bytes_accepted size old text ≡ 0)
     × (new ≡ record old { until_failure = None; failures = old.failures + 1 })

@@ -9,38 +9,38 @@ use Rattle.pop_parts.specs.declared.asked.Asked.{Asked}
 use Rattle.pop_parts.specs.declared.asked.Outcome.{Outcome}
 use Rattle.pop_parts.specs.declared.asked.Outcome.TheVariants.{OutputFailed as PartsCut}
 use Rattle.pop_web.proofs.Filled.{list_first, list_whole, part_first, part_whole, report_first, report_whole}
-use Rattle.pop_web.specs.Page.{Lists, Shows, ShowsParts, number_of, number_of_parts, room, whole_input}
+use Rattle.pop_web.specs.Page.{Lists, Shows, ShowsParts, status_number, outcome_number, room, whole_input}
 
 -- a page that was shown bytes of a text, beside the program pops that wrote its report
 module _ (choice : Choice) (text shown written : List ℕ) (answer : ℕ) (ends : Status)
     (writes : Runs choice (whole_input text) (Some []) (Some written) false ends) where
   -- where the report isn't cut, the bytes are those that the program writes, and the answer is the number of its status
-  pub same_as_the_program : Shows choice text shown answer → answer ≢ number_of OutputFailed → (shown ≡ written) × (answer ≡ number_of ends)
-  same_as_the_program f other = let it = report_whole _ _ _ _ f other in (it.0 ∙ sym writes.0, it.1 ∙ ap number_of (sym writes.1))
+  pub same_as_the_program : Shows choice text shown answer → answer ≢ status_number OutputFailed → (shown ≡ written) × (answer ≡ status_number ends)
+  same_as_the_program f other = let it = report_whole _ _ _ _ f other in (it.0 ∙ sym writes.0, it.1 ∙ ap status_number (sym writes.1))
 
   -- where it is cut, they are the first of these, as many as the page has room for
-  pub first_of_the_program : Shows choice text shown answer → answer ≡ number_of OutputFailed → shown ≡ take room written
+  pub first_of_the_program : Shows choice text shown answer → answer ≡ status_number OutputFailed → shown ≡ take room written
   first_of_the_program f over = report_first _ _ _ _ f over ∙ ap (λ now. take room now) (sym writes.0)
 
 -- the same of the list of the text's parts, beside the program pops-part that wrote it
 module _ (depth : ℕ) (text shown written : List ℕ) (answer : ℕ) (ends : Status)
     (writes : ListRuns depth (whole_input text) (Some []) (Some written) false ends) where
   -- where the list isn't cut, the bytes and the status are the program's
-  pub same_list_as_the_program : Lists depth text shown answer → answer ≢ number_of OutputFailed → (shown ≡ written) × (answer ≡ number_of ends)
-  same_list_as_the_program f other = let it = list_whole _ _ _ _ f other in (it.0 ∙ sym writes.0, it.1 ∙ ap number_of (sym writes.1))
+  pub same_list_as_the_program : Lists depth text shown answer → answer ≢ status_number OutputFailed → (shown ≡ written) × (answer ≡ status_number ends)
+  same_list_as_the_program f other = let it = list_whole _ _ _ _ f other in (it.0 ∙ sym writes.0, it.1 ∙ ap status_number (sym writes.1))
 
   -- where it is cut, the bytes are the first of the program's
-  pub first_of_the_list : Lists depth text shown answer → answer ≡ number_of OutputFailed → shown ≡ take room written
+  pub first_of_the_list : Lists depth text shown answer → answer ≡ status_number OutputFailed → shown ≡ take room written
   first_of_the_list f over = list_first _ _ _ _ f over ∙ ap (λ now. take room now) (sym writes.0)
 
 -- the same of parts, beside the program pops-part that wrote them
 module _ (asked : Asked) (text shown written : List ℕ) (answer : ℕ) (ends : Outcome)
     (writes : PartsRun asked (whole_input text) (Some []) (Some written) false ends) where
   -- where the part isn't cut, the bytes and how it ended are the program's
-  pub same_part_as_the_program : ShowsParts asked text shown answer → answer ≢ number_of_parts PartsCut
-      → (shown ≡ written) × (answer ≡ number_of_parts ends)
-  same_part_as_the_program f other = let it = part_whole _ _ _ _ f other in (it.0 ∙ sym writes.0, it.1 ∙ ap number_of_parts (sym writes.1))
+  pub same_part_as_the_program : ShowsParts asked text shown answer → answer ≢ outcome_number PartsCut
+      → (shown ≡ written) × (answer ≡ outcome_number ends)
+  same_part_as_the_program f other = let it = part_whole _ _ _ _ f other in (it.0 ∙ sym writes.0, it.1 ∙ ap outcome_number (sym writes.1))
 
   -- where it is cut, the bytes are the first of the program's
-  pub first_of_the_part : ShowsParts asked text shown answer → answer ≡ number_of_parts PartsCut → shown ≡ take room written
+  pub first_of_the_part : ShowsParts asked text shown answer → answer ≡ outcome_number PartsCut → shown ≡ take room written
   first_of_the_part f over = part_first _ _ _ _ f over ∙ ap (λ now. take room now) (sym writes.0)

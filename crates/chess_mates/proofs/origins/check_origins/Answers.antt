@@ -14,5 +14,5 @@ returns g c =
     let riders_fit = or_lt 64 _ c.far_men-3.result (or_lt 64 _ c.far_men-2.result leapers_fit (omega arith)) (omega arith) in
     check_origins_are rule p c.own_squares-own.result _ c.own_squares-own.ensures (or_lt 64 _ c.far_king.result riders_fit (omega arith)) all
 
-pub returns-then-are_all_near : goal.returns-then-are_all_near
-returns-then-are_all_near g c = check_origins_own g.R.Rules.rule c.args.board.now c.own_squares-own.result c.own_squares-own.ensures
+pub returns-then-may_check_from_everywhere : goal.returns-then-may_check_from_everywhere
+returns-then-may_check_from_everywhere g c = check_origins_own g.R.Rules.rule c.args.board.now c.own_squares-own.result c.own_squares-own.ensures

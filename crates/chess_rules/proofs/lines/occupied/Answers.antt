@@ -1,18 +1,18 @@
 use Rattle.chess_rules.proofs.Basics.{List, None, Option, Some, bit_or, is_some, refl, rules, true, ◌||◌, ◌∙◌, ◌≡◌}
-use Rattle.chess_rules.proofs.Chess.{Black, Colour, Man, White, is_side, man_on, same_colour, side_of, squares_either, squares_same, word}
+use Rattle.chess_rules.proofs.Chess.{Black, Colour, Man, White, is_of_colour, man_on, same_colour, side_of, squares_either, squares_same, word}
 use Rattle.chess_rules.proofs.lines.occupied.Goals as goal
 
 of_one : (c : Colour) → (same_colour c White || same_colour c Black) ≡ true
 of_one White = refl
 of_one Black = refl
 
-of_either : (o : Option Man) → (is_side o White || is_side o Black) ≡ is_some o
+of_either : (o : Option Man) → (is_of_colour o White || is_of_colour o Black) ≡ is_some o
 of_either None = refl
 of_either (Some x) = of_one x.colour
 
 joined : (men : List (Option Man)) → bit_or (side_of men White) (side_of men Black) ≡ word (λ s. is_some (man_on men s))
 unfolding side_of
-joined men = squares_either (λ s. is_side (man_on men s) White) (λ s. is_side (man_on men s) Black) ∙ squares_same _ _ (λ s p. of_either (man_on men s))
+joined men = squares_either (λ s. is_of_colour (man_on men s) White) (λ s. is_of_colour (man_on men s) Black) ∙ squares_same _ _ (λ s p. of_either (man_on men s))
 
 pub returns : goal.returns
 returns c = search (rules, joined)

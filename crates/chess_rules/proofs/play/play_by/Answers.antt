@@ -1,9 +1,9 @@
 use Rattle.chess_rules.proofs.Basics.{rules}
-use Rattle.chess_rules.specs.Play.{after_by, reborn_square, undo_by, unmoved_after}
+use Rattle.chess_rules.specs.Play.{position_after_by, reborn_square, undo_by, unmoved_after}
 use Rattle.chess_rules.proofs.play.play_by.Goals as goal
 
 pub returns-clause-after : goal.returns-clause-after
-unfolding after_by unmoved_after reborn_square
+unfolding position_after_by unmoved_after reborn_square
 returns-clause-after g c = search rules
 
 pub put_at-requires-clause-empty : goal.put_at-requires-clause-empty

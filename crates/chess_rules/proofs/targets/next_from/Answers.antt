@@ -10,7 +10,7 @@ pub returns-then-at-first-clause-barren : goal.returns-then-at-first-clause-barr
 returns-then-at-first-clause-barren c =
     from-first c.args.board.now c.in-Some.man c.args.from c.args.start c.loop-to.at c.in-Some-next_bit.to c.args.word (c.from-first.result * 7)
     (sym c.man_at.ensures ∙ c.in-Some.is) c.loop-to.invariant.barren (sym c.next_bit.ensures.value ∙ c.in-Some-next_bit.is)
-    (sym c.arrives.ensures ∙ c.if-arrives.true) (omega (arith, c.from-first.ensures, c.index.ensures.value))
+    (sym c.is_promoting.ensures ∙ c.if-is_promoting.true) (omega (arith, c.from-first.ensures, c.index.ensures.value))
 
 pub returns-then-at-first-2-clause-barren : goal.returns-then-at-first-2-clause-barren
 returns-then-at-first-2-clause-barren c = search (rules, find_first, from-target)
@@ -27,7 +27,7 @@ loop-to-preserved c =
       barren =
           rw at (from-join c.args.board.now c.args.from c.args.word c.args.start c.loop-to.at (7 * t + 7) c.loop-to.invariant.barren
           (from-unpromoted c.args.board.now c.in-Some.man c.args.from c.args.word t c.loop-to.at (sym c.man_at.ensures ∙ c.in-Some.is)
-          (sym c.arrives.ensures ∙ c.if-arrives.false) (omega arith)));
+          (sym c.is_promoting.ensures ∙ c.if-is_promoting.false) (omega arith)));
     }
 
 pub returns-clause-barren : goal.returns-clause-barren
@@ -47,4 +47,4 @@ returns-then-at-first-2-clause-named c lt =
     let at : c.from-first.result * 7 ≡ 7 * t = omega (arith, c.from-first.ensures, c.index.ensures.value) in
     named_at c.args.board.now c.in-Some.man c.args.from t (c.from-first.result * 7) c.args.word (sym c.man_at.ensures ∙ c.in-Some.is) first.here
     (omega (arith, at))
-    (none_named (c.from-first.result * 7 % 7) (omega (arith, at)) ∙ sym (sym c.arrives.ensures ∙ c.if-arrives.false))
+    (none_named (c.from-first.result * 7 % 7) (omega (arith, at)) ∙ sym (sym c.is_promoting.ensures ∙ c.if-is_promoting.false))

@@ -1,4 +1,4 @@
-use Rattle.pop_solve.proofs.Words.{phase_half_moves, phase_start, reverse, turns}
+use Rattle.pop_solve.proofs.Words.{phase_half_moves, phase_start, reverse, walk_work}
 use Rattle.pop_parts.proofs.Seeking.{SeeksNumbered}
 use Rattle.pop_parts.proofs.beginnings.seek_numbered.Given as goal
 
@@ -7,4 +7,4 @@ invariant-loop-board g l = SeeksNumbered g.R.Rules.rule (phase_half_moves l.prob
     (reverse l.fn.frames.items) (reverse l.frames.items) l.board l.fn.number l.left
 
 abbrev pub decreases-loop-board : goal.decreases-loop-board
-decreases-loop-board g l = turns g.R.Rules.rule (phase_half_moves l.problem l.fn.phase) (phase_start l.problem l.fn.phase) (reverse l.frames.items)
+decreases-loop-board g l = walk_work g.R.Rules.rule (phase_half_moves l.problem l.fn.phase) (phase_start l.problem l.fn.phase) (reverse l.frames.items)

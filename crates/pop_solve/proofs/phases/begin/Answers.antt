@@ -36,4 +36,4 @@ unfolding IsStanding
 returns-clause-opens g c = rw (c.push-2.ensures.items, walking.reverse-push, c.requires.standing.0)
     (opened.opens-begun g.R.Rules.rule c.args.problem.now c.requires.sound c.args.phase _ c.phase_half_moves-left.ensures c.start.ensures
     (open_yet _ _ c.set_up.ensures.possible c.if-not-set_up.false) _ _ _ _
-    (λ some. c.opened_by-history.ensures.more some refl) c.opened_by-history.ensures.none)
+    (λ some. c.opened_after-history.ensures.more some refl) c.opened_after-history.ensures.none)

@@ -1,4 +1,4 @@
-use Rattle.pop_solve.proofs.Words.{Plan, ap, arith, helps, length, length-reverse, nat_tests, refl, sym, ◌<◌, ◌∙◌, ◌≡◌}
+use Rattle.pop_solve.proofs.Words.{Plan, ap, arith, is_help_play, length, length-reverse, nat_tests, refl, sym, ◌<◌, ◌∙◌, ◌≡◌}
 use Rattle.pop_solve.proofs.Kept as kept
 use Rattle.pop_solve.proofs.Opened as opened
 use Rattle.pop_solve.proofs.Sound.{helps-form}
@@ -21,7 +21,7 @@ returns-then-step g c =
       walks = rw (
         ← c.of-plan.ensures,
         ← c.phase_half_moves-half_moves.ensures,
-        ← ap (λ (plan : Plan). helps plan.play) c.of-plan.ensures
+        ← ap (λ (plan : Plan). is_help_play plan.play) c.of-plan.ensures
             ∙ helps-form c.args.problem.now.stipulation.form,
       )
           (kept.walks_given g.R.Rules.rule _ _ _ _ _ c.loop-frames.invariant.1 _ _ _ _ _ _ (c.step.ensures.steps _ c.loop-frames.invariant.0) c.if-step.true
@@ -38,7 +38,7 @@ returns-else-not-is_full g c =
       walks = rw (
         ← c.of-plan.ensures,
         ← c.phase_half_moves-half_moves.ensures,
-        ← ap (λ (plan : Plan). helps plan.play) c.of-plan.ensures
+        ← ap (λ (plan : Plan). is_help_play plan.play) c.of-plan.ensures
             ∙ helps-form c.args.problem.now.stipulation.form,
       )
           (kept.walks_full g.R.Rules.rule _ _ _ _ _ c.loop-frames.invariant.1 _ _ c.loop-frames.invariant.0
@@ -54,7 +54,7 @@ returns-after-loop-frames g c =
       walks = rw (
         ← c.of-plan.ensures,
         ← c.phase_half_moves-half_moves.ensures,
-        ← ap (λ (plan : Plan). helps plan.play) c.of-plan.ensures
+        ← ap (λ (plan : Plan). is_help_play plan.play) c.of-plan.ensures
             ∙ helps-form c.args.problem.now.stipulation.form,
       )
           (kept.walks_none g.R.Rules.rule _ _ _ _ _ c.loop-frames.invariant.1 _ _ c.loop-frames.invariant.0

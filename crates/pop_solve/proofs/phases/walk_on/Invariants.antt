@@ -1,4 +1,4 @@
-use Rattle.pop_solve.proofs.Words.{IsWalking, Opens, Tries, phase_start, reverse, to_come, turns, ◌≡◌}
+use Rattle.pop_solve.proofs.Words.{IsWalking, Opens, Tries, phase_start, reverse, to_come, walk_work, ◌≡◌}
 use Rattle.pop_solve.proofs.phases.walk_on.Given as goal
 
 abbrev pub invariant-loop-frames : goal.invariant-loop-frames
@@ -10,4 +10,4 @@ invariant-loop-frames g l = IsWalking g.R.Rules.rule l.half_moves (phase_start l
     (reverse l.frames.items) l.fn.history.opened l.history.opened
 
 abbrev pub decreases-loop-frames : goal.decreases-loop-frames
-decreases-loop-frames g l = turns g.R.Rules.rule l.half_moves (phase_start l.problem l.fn.phase) (reverse l.frames.items)
+decreases-loop-frames g l = walk_work g.R.Rules.rule l.half_moves (phase_start l.problem l.fn.phase) (reverse l.frames.items)

@@ -26,7 +26,7 @@ returns-then-rules_out_mate-clause-tried g c =
     (position_after g.R.Rules.rule c.args.board.now c.args.by) one in
     omega (arith, tree)
 
-pub settled-answer-requires : goal.settled-answer-requires
-settled-answer-requires g c =
+pub value_at_once-answer-requires : goal.value_at_once-answer-requires
+value_at_once-answer-requires g c =
     let well = after_well_formed g.R.Rules.rule _ _ c.requires.well_formed (is_pseudo_legal-from_legal _ _ _ c.requires.legal) in
     (search rules, rw c.play-undo.ensures.after well)

@@ -5,16 +5,16 @@ use Rattle.pop_solve.proofs.value.turn.Goals as goal
 pub close-requires : goal.close-requires
 close-requires g c = search (rules, test.close_asks, c.in-Some.ensures.items, c.requires.above, c.len-depth.ensures.value, c.requires.testing.1)
 
-pub returns-then-decided-clause-room : goal.returns-then-decided-clause-room
-returns-then-decided-clause-room g c =
+pub returns-then-is_decided-clause-room : goal.returns-then-is_decided-clause-room
+returns-then-is_decided-clause-room g c =
     test.close_room g.R.Rules.rule c.args.aim _ _ _ _ c.in-Some.ensures.items c.requires.above _ _ _ _ c.args.answer.now _ _ c.len-depth.ensures.value
     c.close.ensures.lowest c.close.ensures.above c.close.ensures.before _ _ c.requires.testing.1 c.requires.room
 
-pub returns-then-decided-clause-next : goal.returns-then-decided-clause-next
-returns-then-decided-clause-next g c = λ p r.
-    let seek : c.seeking-seek.result ≡ seeks c.args.aim.battle c.in-Some.top.left = c.seeking-seek.ensures
+pub returns-then-is_decided-clause-next : goal.returns-then-is_decided-clause-next
+returns-then-is_decided-clause-next g c = λ p r.
+    let seek : c.seeks-seek.result ≡ seeks c.args.aim.battle c.in-Some.top.left = c.seeks-seek.ensures
     ∙ ap (λ (f : Frame). seeks c.args.aim.battle f.left) c.top.view_is in
-    let s : c.args.answer.now ≡ Some (seeks c.args.aim.battle c.in-Some.top.left) = rw (← seek) c.if-decided.ensures in
+    let s : c.args.answer.now ≡ Some (seeks c.args.aim.battle c.in-Some.top.left) = rw (← seek) c.if-is_decided.ensures in
     test.close_turns g.R.Rules.rule c.args.aim _ _ _ _ c.in-Some.ensures.items c.requires.above _ _ _ _ _ _ _ c.len-depth.ensures.value
     c.close.ensures.lowest c.close.ensures.above c.close.ensures.before _ p r
     (rw seek (test.decided_value g.R.Rules.rule c.args.aim _ _ _ _ c.in-Some.ensures.items c.requires.above p _ s))
@@ -36,10 +36,10 @@ returns-in_default-next_tried-clause-room g c =
 
 pub returns-in_default-next_tried-clause-next : goal.returns-in_default-next_tried-clause-next
 returns-in_default-next_tried-clause-next g c = λ p r.
-    let seek : c.seeking-seek.result ≡ seeks c.args.aim.battle c.in-Some.top.left = c.seeking-seek.ensures
+    let seek : c.seeks-seek.result ≡ seeks c.args.aim.battle c.in-Some.top.left = c.seeks-seek.ensures
     ∙ ap (λ (f : Frame). seeks c.args.aim.battle f.left) c.top.view_is in
     let same = ap (λ (f : Frame). untried_moves g.R.Rules.rule c.args.board.now f) c.top.view_is in
-    let u : (c.args.answer.now ≡ None) ⊎ (c.args.answer.now ≡ Some (not (seeks c.args.aim.battle c.in-Some.top.left))) = rw (← seek) c.if-decided.ensures in
+    let u : (c.args.answer.now ≡ None) ⊎ (c.args.answer.now ≡ Some (not (seeks c.args.aim.battle c.in-Some.top.left))) = rw (← seek) c.if-is_decided.ensures in
     test.close_turns g.R.Rules.rule c.args.aim _ _ _ _ c.in-Some.ensures.items c.requires.above _ _ _ _ _ _ _ c.len-depth.ensures.value
     c.close-in_default-next_tried.ensures.lowest c.close-in_default-next_tried.ensures.above c.close-in_default-next_tried.ensures.before _ p
     (test.testing_same _ _ _ _ _ r c.next_tried.ensures.unchanged)
@@ -71,7 +71,7 @@ pub returns-clause-room : goal.returns-clause-room
 returns-clause-room g c =
     let taken = rw (← c.top.view_is) at c.in-Some.ensures.items in
     let u : (c.args.answer.now ≡ None) ⊎ (c.args.answer.now ≡ Some (not (seeks c.args.aim.battle c.top.inside.left))) =
-    rw (← c.seeking-seek.ensures) c.if-decided.ensures in
+    rw (← c.seeks-seek.ensures) c.if-is_decided.ensures in
     let some = test.top_some g.R.Rules.rule c.args.aim _ _ _ _ taken c.requires.above _ _ c.requires.testing.1 in
     test.descend_room g.R.Rules.rule c.args.aim _ _ _ _ taken c.requires.above _ _ _ _ _ _ _ _ _ some u
     (rw (c.moves_at-moves.ensures.place, ← c.place.ensures) at c.in-Some-next_tried.ensures.next.0) c.in-Some-next_tried.ensures.next.1
@@ -81,7 +81,7 @@ pub returns-clause-next : goal.returns-clause-next
 returns-clause-next g c = λ p r.
     let taken = rw (← c.top.view_is) at c.in-Some.ensures.items in
     let u : (c.args.answer.now ≡ None) ⊎ (c.args.answer.now ≡ Some (not (seeks c.args.aim.battle c.top.inside.left))) =
-    rw (← c.seeking-seek.ensures) c.if-decided.ensures in
+    rw (← c.seeks-seek.ensures) c.if-is_decided.ensures in
     let some = test.top_some g.R.Rules.rule c.args.aim _ _ _ _ taken c.requires.above _ _ r in
     test.descend_turns g.R.Rules.rule c.args.aim _ _ _ _ taken c.requires.above _ _ _ _ _ _ 0 _ _ some u
     (rw (c.moves_at-moves.ensures.place, ← c.place.ensures) at c.in-Some-next_tried.ensures.next.0) c.in-Some-next_tried.ensures.next.1

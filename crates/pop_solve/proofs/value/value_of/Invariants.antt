@@ -1,4 +1,4 @@
-use Rattle.pop_solve.proofs.Words.{chess, smallest_tree, tests, value, walk_count, work, ◌+◌}
+use Rattle.pop_solve.proofs.Words.{chess, smallest_tree, tests, value, walk_count, test_work, ◌+◌}
 use Rattle.chess_rules.specs.Play.{position_after}
 use Rattle.chess_rules.specs.Legal.{moves as legal_moves}
 use Rattle.pop_solve.proofs.Tests.{IsUnderway}
@@ -11,4 +11,4 @@ invariant-loop-known g l = IsUnderway g.R.Rules.rule l.aim l.floor l.fn.board g.
     (l.fn.history.opened + smallest_tree l.aim.battle (chess l.aim.goal g.R.Rules.rule) l.left l.fn.board)
 
 abbrev pub decreases-loop-known : goal.decreases-loop-known
-decreases-loop-known g l = work g.R.Rules.rule l.fn.board (tests l.floor l.frames.items)
+decreases-loop-known g l = test_work g.R.Rules.rule l.fn.board (tests l.floor l.frames.items)

@@ -1,13 +1,13 @@
 use Rattle.pop_solve.proofs.Words.{after_well_formed, arith, is_pseudo_legal-from_legal, rules}
-use Rattle.pop_solve.specs.ties.Walk.{follows, half_moves_on}
+use Rattle.pop_solve.specs.ties.Walk.{is_followed, walk_length}
 use Rattle.pop_solve.proofs.walk.enter.Goals as goal
 
 pub returns-then-not-value_after-clause-counts : goal.returns-then-not-value_after-clause-counts
-unfolding follows half_moves_on
+unfolding is_followed walk_length
 returns-then-not-value_after-clause-counts g c = search rules
 
 pub returns-clause-counts : goal.returns-clause-counts
-unfolding follows half_moves_on
+unfolding is_followed walk_length
 returns-clause-counts g c = search rules
 
 pub value_after-requires : goal.value_after-requires

@@ -2,5 +2,5 @@ use Rattle.pop_solve.proofs.Words.{rules}
 use Rattle.pop_solve.proofs.Walking.{mated}
 use Rattle.pop_solve.proofs.walk.value_after.Goals as goal
 
-pub returns-then-seeking : goal.returns-then-seeking
-returns-then-seeking g c = search (rules, mated)
+pub returns-then-seeks : goal.returns-then-seeks
+returns-then-seeks g c = search (rules, mated)

@@ -2,7 +2,7 @@ use Rattle.pop_solve.proofs.Words.{arith, chess, rules, sym, ◌<◌, ◌∙◌}
 use Rattle.pop_solve.proofs.Boards.{unreached}
 use Rattle.pop_solve.proofs.SmallestTrees as trees
 use Rattle.pop_solve.proofs.Values as values
-use Rattle.pop_solve.proofs.value.settled.Goals as goal
+use Rattle.pop_solve.proofs.value.value_at_once.Goals as goal
 
 pub returns-then-left-eq0-clause-value : goal.returns-then-left-eq0-clause-value
 returns-then-left-eq0-clause-value g c = c.reaches_goal.ensures.reached ∙ sym (values.value-last _ _ _ _ c.if-left-eq0.true)

@@ -1,13 +1,13 @@
-use Rattle.pop_input.proofs.Words.{drop, length, squares_from, squares_of, ◌*◌, ◌-◌, ◌≡◌, ◌≤◌}
+use Rattle.pop_input.proofs.Words.{drop, length, squares_from, squares_named, ◌*◌, ◌-◌, ◌≡◌, ◌≤◌}
 use Rattle.pop_input.proofs.Parsing.{with_front}
-use Rattle.pop_input.proofs.values.squares_of.Given as goal
+use Rattle.pop_input.proofs.values.squares_named.Given as goal
 
 -- the squares of the bytes before `at` are listed
 abbrev pub invariant-loop-at : goal.invariant-loop-at
 invariant-loop-at l = record {
   within : l.at ≤ length l.word;
   room : 2 * length l.squares.items ≤ l.at;
-  rest : squares_of l.word ≡ with_front l.squares.items (squares_from (drop l.at l.word));
+  rest : squares_named l.word ≡ with_front l.squares.items (squares_from (drop l.at l.word));
 }
 
 -- fewer bytes are left to read

@@ -1,6 +1,6 @@
 use Rattle.pop_input.proofs.Words.{ap, arith, drop, length, squares_from, sym, ◌+◌, ◌<◌, ◌∙◌}
 use Rattle.pop_input.proofs.Parsing.{with_front, odd_end, pair_step, front_more}
-use Rattle.pop_input.proofs.values.squares_of.Goals as goal
+use Rattle.pop_input.proofs.values.squares_named.Goals as goal
 
 pub returns-then-at-word : goal.returns-then-at-word
 returns-then-at-word c = sym (c.loop-at.invariant.rest ∙ ap (with_front c.loop-at.squares.items)
