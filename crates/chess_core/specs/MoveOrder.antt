@@ -4,11 +4,11 @@ use Rattle.chess_core.specs.Position.{kind_number}
 use Rattle.chess_core.specs.Move.{Move}
 use Rattle.chess_core.specs.declared.man.Kind.{Kind}
 
--- the place of a promotion: none, and then the kinds in order
+-- promotions in order: none, and then the kinds
 abbrev pub promotion_order : Option Kind → ℕ
 promotion_order None = 0
 promotion_order (Some k) = kind_number k + 1
 
--- the number of a triple among all: 64 arrivals for each origin, 9 promotions for each arrival
+-- a number that orders moves: by origin, then arrival, then promotion, with room for 9 promotions a pair
 abbrev pub order_number : Move → ℕ
 order_number m = (m.from * 64 + m.to) * 9 + promotion_order m.promo

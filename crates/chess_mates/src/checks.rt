@@ -113,7 +113,7 @@ fn checking_rebirths<R: Rules>(board: &Board) -> u64
     eventful_captures::<R>(board)
 }
 
-// Whether every square is a check square to each man, as far as is told here: he exposes the king from
+// Whether a move from or to any square may give check, as far as is told here: each man exposes the king from
 // wherever he goes, or many captures are followed by a rebirth that may give check.
 pub(crate) fn may_check_from_everywhere<R: Rules>(board: &Board, squares: &CheckSquares) -> bool {
     squares.shield_squares == !0 || R::captures_do_more() && !are_rebirths_quiet::<R>(board)

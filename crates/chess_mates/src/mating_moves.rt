@@ -95,8 +95,8 @@ impl<R: Rules> MatingMoves<R> {
         self.number = place.number();
     }
 
-    /// The first legal move behind the place after which the side to move is mated; the place then stands
-    /// on it. Where there is none: `None`, and the place stands behind all triples. The board is unchanged.
+    /// The first legal move behind the place that mates, on which the place then stands. Where there is
+    /// none: `None`, and the place stands behind all triples. The board is unchanged.
     /// The place must be one in the board's position.
     pub fn next(&mut self, board: &mut Board) -> Option<Move>
         requires well_formed { IsWellFormed board.old }

@@ -43,7 +43,7 @@ pub struct Shown {
     pub castling: Option<Side>,
     /// The captured man that is reborn, and where.
     pub rebirth: Option<(Man, Square)>,
-    /// Check or mate.
+    /// What it does to the other side.
     pub mark: Mark,
 }
 

@@ -155,7 +155,8 @@ more_entries End line = []
 more_entries Long line = Faulty (fault_at InputTooLong line) ∷ []
 more_entries Broken line = Faulty (fault_at DeviceFailed line) ∷ []
 
--- by the word fault, and the line of the closing word
+-- the entries of a block, by the fault of its words and the line of the word that closes it; if none does, what the tail
+-- says comes too
 abbrev pub entries_by : Option Fault → Option ℕ → Bool → Tail → ℕ → List Token → List Entry
 entries_by fault (Some line) first tail tail_line block = closed_entry fault line
     (tokens_inside first block) ∷ []

@@ -24,7 +24,7 @@ starting_side Selfmate = White
 starting_side Help = Black
 starting_side HelpHalf = White
 
--- the side that is to be mated or stalemated
+-- the side against which the goal is reached
 abbrev pub goal_side : Form → Colour
 goal_side Direct = Black
 goal_side Selfmate = White

@@ -80,7 +80,7 @@ impl Form {
         }
     }
 
-    /// The side that is to be mated or stalemated.
+    /// The side against which the goal is reached.
     pub fn goal_side(self) -> Colour
         ensures { result ≡ goal_side self }
     {

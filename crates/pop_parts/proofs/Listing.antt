@@ -98,6 +98,7 @@ ends_stopped old new had mid left item p q u is =
     let l = last_read old new mid left item q u is in
     rw (l.1, l.2) (stopped_last p l.0)
 
+-- a list that ends at an item has read up to that item's end
 pub cut_stopped : (old new : Standing) (had mid left : Option (List ℕ)) (item : Item) (entry : Entry) → Reached old had mid → NextItem old new mid left item
     → UsesItem old new mid left item → entry_in item ≡ Some entry → Stopped new had left
 cut_stopped old new had mid left item entry p q u is =

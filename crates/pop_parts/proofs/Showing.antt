@@ -124,6 +124,7 @@ item_cut asked old new number failed (Some r) mid left before now item entry n m
 
 -- How far it reads: up to the item, or to the input's end.
 
+-- where the wanted item is missing, up to the input's end
 pub missing_reads : (wanted : ℕ) (old new : Standing) (number : ℕ) (failed : Bool) (had mid left : Option (List ℕ)) (item : Item) (n m : ℕ)
     → Passed wanted old number failed had mid → NextItem old new mid left item → UsesItem old new mid left item → entry_in item ≡ None
     → IsSeen new.at.end left → length new.at.window ≤ 4096 → m ≡ failures_after Open new.at.end n
@@ -133,6 +134,7 @@ missing_reads wanted old new number failed had mid left item n m p q u is =
     rw (l.1, l.2) (reads_items wanted old had mid n m (stopped_last p.reached l.0)
     (λ some. let early = p.early some in omega (arith, p.few, p.number_is, early, last_few p.reached l.0)))
 
+-- where it was found, up to its end
 pub found_reads : (wanted : ℕ) (old new : Standing) (number : ℕ) (failed : Bool) (had mid left : Option (List ℕ)) (item : Item) (entry : Entry) (n m : ℕ)
     → Passed wanted old number failed had mid → NextItem old new mid left item → UsesItem old new mid left item → entry_in item ≡ Some entry → number ≡ wanted
     → IsSeen new.at.end left → length new.at.window ≤ 4096 → m ≡ failures_after Open new.at.end n

@@ -38,7 +38,7 @@ abbrev pub phase_text : PhaseOf → List ℕ
 phase_text Set = codes "set\n"
 phase_text Play = codes "play\n"
 
--- whether the limit of solutions ended the phase
+-- what stands behind the count: that the limit ended the phase, or nothing
 abbrev pub stopped_text : Bool → List ℕ
 stopped_text true = codes ", stopped\n"
 stopped_text false = codes "\n"

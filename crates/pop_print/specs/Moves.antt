@@ -36,7 +36,7 @@ rebirth_text (Some reborn) =
     codes "[+" ++ colour_letter reborn.0.colour ∷ letter_of reborn.0.kind ∷ []
     ++ square_text reborn.1 ++ codes "]"
 
--- mate, a check that isn't mate, or neither
+-- the goal reached, be it mate or stalemate, a check that isn't mate, or nothing
 abbrev pub mark_text : Mark → List ℕ
 mark_text Mate = codes "#"
 mark_text Stalemate = codes "="

@@ -97,6 +97,7 @@ reached_start had = record {
   stops = λ over. absurd (let no : false ≡ true = over in cc);
 }
 
+-- at its start a run has used no closing word
 pub start_few : (had : Option (List ℕ)) → closings (reached_start had).tokens ≤ 0
 unfolding reached_start
 start_few had = omega arith
@@ -178,6 +179,7 @@ module _ (old new : Standing) (had mid left : Option (List ℕ)) (p : Reached ol
   stops_few (FaultyEntry fault) (inl c) = one_closes p.tokens c.front (Word c.line c.word) c.plain
   stops_few (FaultyEntry fault) (inr c) = omega (arith, both_close p.tokens c.tokens, none_close c.tokens c.plain)
 
+  -- the same where the run goes on behind the item
   pub reached_few : (entry : Entry) (c : UsesEntry old new mid left entry) → closings (item_reached entry c).tokens ≤ closings p.tokens + 1
   unfolding item_reached closed_reached unclosed_reached closed_stops unclosed_stops
   reached_few (SoundEntry posed) c = one_closes p.tokens c.front (Word c.line c.word) c.plain
@@ -268,6 +270,7 @@ pub stopped_reads_words : (Q : List Token → Type 0) (new : Standing) (r : List
 stopped_reads_words Q new r None s q seen few = absurd s.used.uses.consumed
 stopped_reads_words Q new r (Some ys) s q seen few = reads_known new r ys s Q q seen few
 
+-- the same of how far it has read alone
 pub stopped_reads : (new : Standing) (r : List ℕ) (left : Option (List ℕ)) → Stopped new (Some r) left → IsSeen new.at.end left
     → length new.at.window ≤ 4096 → ReadsUpTo (input_met (is_broken new.at.end) r left) (taken_of r left)
 stopped_reads new r left s seen few = (stopped_reads_words (λ _. Unit {0}) new r left s tt seen few).0

@@ -45,7 +45,8 @@ module _ {P M : Type 0} where
   is_self_lost game j q = can_move game q && every_move game
       (λ r. game.goal r || self_wins game (j - 1) r) q
 
-  -- Help play. In the order of moves, all lists of h moves, each legal where it stands, whose last position has the goal
+  -- Help play. In the order of moves, all lists of h moves, each legal where it stands, after the
+  -- last of which the goal is reached
   unfoldable pub lines_to_goal : Game P M → ℕ → P → List (List M)
   lines_to_goal game zero p = if game.goal p then [] ∷ [] else []
   lines_to_goal game (suc h) p =

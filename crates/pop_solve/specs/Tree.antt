@@ -55,7 +55,7 @@ module _ {P M : Type 0} where
       else []))
       (filter (λ m. keeps_win battle game n (game.after p m)) (game.moves p))
 
-  -- the moves of Black that set play shows
+  -- set play shows the move of Black that led to r
   abbrev pub is_in_set_play : Battle → Game P M → ℕ → P → Bool
   is_in_set_play Direct game n r = wins game (n - 1) r
   is_in_set_play Selfmate game n r = game.goal r || self_wins game (n - 1) r

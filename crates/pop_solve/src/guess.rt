@@ -22,8 +22,8 @@ use chess_rules::moves::Moves;
 use chess_rules::rules::Rules;
 use std::mem;
 
-/// Whether killers are guessed for a test with `left` half-moves: in a direct mate, with Black to move. In selfmates none
-/// stand, and help play has no tests.
+/// Whether killers are guessed for a test with `left` half-moves: in a direct mate, with Black to move. Selfmates keep
+/// no killers, and help play has no tests.
 fn wants_guess(play: Play, left: usize) -> bool
     ensures help { play ≡ HelpPlay → result ≡ false }
     ensures selfmate { play ≡ BattlePlay Selfmate → result ≡ false }

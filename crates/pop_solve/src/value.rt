@@ -44,7 +44,8 @@ pub(crate) fn seeks(battle: Battle, left: usize) -> bool
     }
 }
 
-/// Whether White is to move with a half-move that nothing ends before: his moves decide, whether he has one or not.
+/// Whether White is to move with an odd number of half-moves left: the goal can't be reached before his move, so his
+/// moves decide, also if he has none.
 fn is_free(battle: Battle, left: usize) -> bool
     ensures { result ≡ (left % 2 == 1 && seeks battle left) }
 {

@@ -212,8 +212,8 @@ pub(crate) fn opened_after(opened: u64, tried: usize, tested: bool) -> u64
 }
 
 /// Plays a legal move, after which `left` half-moves are left, and opens the frame of the position after it where the
-/// walk follows the move. Answers whether its path is given. A call for each move, from two places: left to itself the
-/// compiler makes it no part of the walk.
+/// walk follows the move. Answers whether its path is given. It is called for each move, and without the attribute the
+/// compiler wouldn't inline it.
 #[tactic(auto, using(chess_rules::proofs::listing_moves::Calls::playing), unfolding(crate::specs::ties::Walk::is_followed, crate::specs::ties::Walk::walk_length))]
 #[inline(always)]
 pub fn enter<R: Rules, const N: usize>(

@@ -148,7 +148,7 @@ pub(crate) fn can_move<R: Rules>(board: &Board) -> bool
     has_legal_move::<R>(&mut here)
 }
 
-/// Whether the side to move is mated within so many further moves of the other side, against every defence.
+/// Whether the goal is reached, or the other side reaches it within so many further moves against every defence.
 #[tactic(auto, using(chess_rules::proofs::listing_moves::Calls::playing))]
 fn is_lost<R: Rules>(goal: Goal, board: &Board, moves: u8) -> bool
     requires { IsWellFormed board.now }
@@ -177,7 +177,7 @@ fn is_lost<R: Rules>(goal: Goal, board: &Board, moves: u8) -> bool
     every
 }
 
-/// Whether the side to move forces the other side to mate it within so many moves.
+/// Whether the side to move forces the other side to reach the goal within so many moves.
 #[tactic(auto, using(chess_rules::proofs::listing_moves::Calls::playing))]
 fn self_wins<R: Rules>(goal: Goal, board: &Board, moves: u8) -> bool
     requires { IsWellFormed board.now }
@@ -337,7 +337,7 @@ fn set<R: Rules>(told: &mut Told, battle: Battle, board: &Board, left: u8)
     }
 }
 
-/// The lines of so many further half-moves whose last position has the goal.
+/// The lines of so many further half-moves in whose last position the goal is reached.
 #[tactic(auto, using(chess_rules::proofs::listing_moves::Calls::playing))]
 fn help<R: Rules>(
     told: &mut Told,

@@ -15,11 +15,11 @@ use Rattle.chess_mates.specs.ties.CheckSquares.{AreCheckSquares}
 abbrev pub is_mating : RuleSet → Position → Move → Bool
 is_mating rule p m = is_mate rule (position_after rule p m)
 
--- the legal moves behind a place after which the side to move is mated
+-- the legal moves behind a place that mate
 unfoldable pub mates_behind : RuleSet → Position → ℕ → List Move
 mates_behind rule p place = filter (is_mating rule p) (moves_behind rule p place)
 
--- the legal moves behind one place that don't lie behind another and after which the side to move is mated
+-- those of them that don't lie behind another
 unfoldable pub mates_between : RuleSet → Position → ℕ → ℕ → List Move
 mates_between rule p place end = filter (is_mating rule p) (moves_between rule p place end)
 

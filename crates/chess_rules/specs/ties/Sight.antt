@@ -15,7 +15,7 @@ use Rattle.chess_rules.specs.Play.{arriving_man, is_castling}
 use Rattle.chess_rules.specs.RuleSet.{RuleSet, captures_do_more}
 use Rattle.chess_rules.specs.declared.sight.Sight.{Sight}
 
--- the words are those of these men: of colour c stand just those of the men before whose squares are in a word
+-- the words are those of these men: of the men of colour c before just those still stand whose squares are in `standing`
 pub record AreSeen (before men : List (Option Man)) (c : Colour) (v : Sight) : Type 0 where
   pub occupied : v.occupied ≡ occupied_squares men
   pub standing : (k : Kind) → bit_and (squares_of before c k) v.standing ≡ squares_of men c k

@@ -91,7 +91,7 @@ abbrev pub told_of_cut : Option Fault → ReadFault → Fault × Last
 told_of_cut (Some fault) cut = (fault, No)
 told_of_cut None cut = (cut_fault cut, Yes)
 
--- whether the item of a block that such a word closes is the last
+-- whether the item that the word closes is the last; none if it closes none
 abbrev pub last_of : Option Command → Option Last
 last_of (Some NextProblem) = Some No
 last_of (Some EndProblem) = Some Yes

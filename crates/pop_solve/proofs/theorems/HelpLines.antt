@@ -7,7 +7,7 @@ use Rattle.pop_solve.proofs.theorems.Lists.{IsPlayable, StandsBefore, never_befo
 -- Any game.
 module _ {P M : Type 0} (game : Game P M) where
   -- A list stands among the lines of help play in h half-moves, one or more, exactly where it has h moves, can be played from p,
-  -- and its last position has the goal.
+  -- and the goal is reached in its last position.
   pub help_lines_are : (h : ℕ) (p : P) (line : List M)
       → Contains (help_lines game h p) line ↔ ((1 ≤ h) × (length line ≡ h) × IsPlayable game p line × (game.goal (path_end game.after p line) ≡ true))
   unfolding help_lines

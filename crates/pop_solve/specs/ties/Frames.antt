@@ -143,7 +143,7 @@ pending_value rule aim p (f ∷ below) None =
     (joined_value aim.battle (chess aim.goal rule) f.left (position rule p (f ∷ below))
     (untried_moves rule (position rule p (f ∷ below)) f))
 
--- the steps that a test takes, which falls at each one
+-- the most turns that a test of p takes
 unfoldable pub work_from : RuleSet → ℕ → Position → ℕ
 work_from rule zero p = 1
 work_from rule (suc h) p =
@@ -160,14 +160,14 @@ unfoldable pub work_among : RuleSet → ℕ → Position → List Move → ℕ
 work_among rule zero p ms = 0
 work_among rule (suc h) p ms = sum_by (λ m. 1 + work_from rule h (position_after rule p m)) ms
 
--- the steps that are left to all frames of a test
+-- the turns that are left to all frames of a test
 unfoldable pub test_work : RuleSet → Position → List Frame → ℕ
 test_work rule p [] = 0
 test_work rule p (f ∷ below) =
     1 + work_among rule f.left (position rule p (f ∷ below))
     (untried_moves rule (position rule p (f ∷ below)) f) + test_work rule p below
 
--- the most frames that the moves behind the places can still open
+-- the most frames that the moves behind a place can still open
 unfoldable pub walk_behind : RuleSet → ℕ → Position → ℕ → ℕ
 walk_behind rule zero p place = 0
 walk_behind rule (suc h) p place =
@@ -180,7 +180,7 @@ to_open rule p [] = 0
 to_open rule p (f ∷ below) =
     walk_behind rule f.left (position rule p (f ∷ below)) f.place + to_open rule p below
 
--- the same of a test's frames
+-- the same of some moves
 unfoldable pub walk_among : RuleSet → ℕ → Position → List Move → ℕ
 walk_among rule zero p ms = 0
 walk_among rule (suc h) p ms = sum_by (λ m. walk_count (legal_moves rule) (position_after rule) h

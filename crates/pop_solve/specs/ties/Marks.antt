@@ -1,4 +1,4 @@
--- Marks and goals as the code tells them apart.
+-- Goals as the code tells them apart.
 use Rattle.std.specs.Prelude.{Bool, false, true}
 use Rattle.pop_input.specs.declared.stipulation.Goal.{Goal}
 use Rattle.pop_input.specs.declared.stipulation.Goal.TheVariants.{Mate, Stalemate}
