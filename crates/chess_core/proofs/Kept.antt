@@ -33,7 +33,8 @@ lifted men ks ss s x is l p held = grind (arith, word_without, word_same)
 -- ---- what is read
 
 -- a colour's kept word is that of its men's squares
-pub side_kept : (men : List (Option Man)) (ks ss : List ℕ) (c : Colour) → IsInStep men ks ss → get_or ss (colour_number c) 0 ≡ word_of (λ x. is_of_colour x c) men
+pub side_kept : (men : List (Option Man)) (ks ss : List ℕ) (c : Colour) → IsInStep men ks ss
+    → get_or ss (colour_number c) 0 ≡ word_of (λ x. is_of_colour x c) men
 unfolding side_words
 side_kept men ks ss c is = grind arith
 

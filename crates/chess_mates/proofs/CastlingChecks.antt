@@ -312,7 +312,8 @@ module _ (rule : RuleSet) (p : Position) (x : Man) (m : Move) (well : IsWellForm
           false≢true (sym (from_there (enemy c Rook) (halfway m) rook_off) ∙ rode)
 
       -- nor another man, who would have reached him before the rook went
-      others_strike : (s : ℕ) (o : Option Man) → man_on castled s ≡ o → s < 64 → s ≢ halfway m → is_of_colour o (other c) ≡ true → reaches castled s k ≡ true → ⊥
+      others_strike : (s : ℕ) (o : Option Man) → man_on castled s ≡ o → s < 64 → s ≢ halfway m → is_of_colour o (other c) ≡ true → reaches castled s k ≡ true
+          → ⊥
       unfolding reaches is_reached
       others_strike s None there lt ne side hit = false≢true side
       others_strike s (Some y) there lt ne side hit =

@@ -167,7 +167,8 @@ pub record IsSafeStep (men : List (Option Man)) (a : ℕ) (o : Option ℕ) (b : 
     pub size : length men ≡ 64
     pub arrived : (l : List (Option Man)) → (sight_lifted men a o b k).occupied ≡ occupied_squares l → r ≡ word (reaches_as l z.colour z.kind b)
     pub unseen : (bit_at r t == 1) ≡ false
-    pub others : (l : List (Option Man)) → AreSeen men l c (sight_with (sight_lifted men a o b k) t) → 0 ≡ word (λ s. is_of_colour (man_on l s) c && reaches l s t)
+    pub others : (l : List (Option Man)) → AreSeen men l c (sight_with (sight_lifted men a o b k) t)
+        → 0 ≡ word (λ s. is_of_colour (man_on l s) c && reaches l s t)
 
 reaches_alike_of : (men others : List (Option Man)) (o : Option Man) (s t : ℕ) → StandAlike men others t → reaches_of men o s t ≡ reaches_of others o s t
 reaches_alike_of men others o s t a = grind (arith, reaches_alike)

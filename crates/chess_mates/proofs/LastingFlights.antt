@@ -96,7 +96,8 @@ pub on_own : (men : List (Option Man)) (c : Colour) (w s : ℕ) (x : Man) → w 
     → (bit_at w s == 1) ≡ true
 unfolding side_of
 on_own men c w s x own small here mine =
-    word_has (λ q. is_of_colour (man_on men q) c) w s own small ∙ ap (λ (o : Option Man). is_of_colour o c) here ∙ ap (λ (d : Colour). same_colour d c) mine ∙ same_colour-refl c
+    word_has (λ q. is_of_colour (man_on men q) c) w s own small ∙ ap (λ (o : Option Man). is_of_colour o c) here ∙ ap (λ (d : Colour). same_colour d c) mine
+    ∙ same_colour-refl c
 
 -- neither on a last rank nor on a king's home
 pub on_both : (a b t : ℕ) → (bit_at a t == 1) ≡ true → (bit_at b t == 1) ≡ true → (bit_at (bit_and a b) t == 1) ≡ true

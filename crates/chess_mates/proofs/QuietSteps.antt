@@ -15,7 +15,8 @@ use Rattle.std.specs.List.{Contains}
 arrival_free : (a b c d : Bool) → (((a && b) && c) && d) ≡ true → c ≡ true
 arrival_free a b c d h = grind arith
 
-open_at : (rule : RuleSet) (p : Position) (x : Man) (k t : ℕ) → captures_do_more rule ≡ false → man_on p.men k ≡ Some x → reaches_as p.men p.turn King k t ≡ true
+open_at : (rule : RuleSet) (p : Position) (x : Man) (k t : ℕ) → captures_do_more rule ≡ false → man_on p.men k ≡ Some x
+    → reaches_as p.men p.turn King k t ≡ true
     → is_arrival rule p k t ≡ true → is_open rule p.men p.turn k t ≡ true
 unfolding is_open is_arrival
 open_at rule p x k t circe here near at =

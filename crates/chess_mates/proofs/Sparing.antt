@@ -458,7 +458,8 @@ module _ (rule : RuleSet) (p : Position) (m : Move) (x : Man) (v : Siege) (k : �
 
         flees : has_flight rule r ≡ true
         flees =
-            has_one rule r p.turn k f well_r circe turn_r king_r in_f (ap (λ (c : ℕ). list_any (leaps c f) queen_steps) (sym i.at.king) ∙ i.at.is.next f in_f on_f)
+            has_one rule r p.turn k f well_r circe turn_r king_r in_f (ap (λ (c : ℕ). list_any (leaps c f) queen_steps) (sym i.at.king)
+            ∙ i.at.is.next f in_f on_f)
             free_f unreached
 
       unmated_plainly : mates rule q n ≡ false

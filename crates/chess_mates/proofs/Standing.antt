@@ -184,7 +184,8 @@ module _ (rule : RuleSet) (p : Position) (c : Colour) (k f : ℕ) (well : IsWell
     mine = ap (same_colour z.colour) turn ∙ stands.mine;
     king = stands.king;
     small = small;
-    near = and_from _ _ (and_from _ _ near (ap (λ (c : Colour). is_arrival_free c (man_on p.men f)) turn ∙ free)) (ap not (and_left (captures_do_more rule) _ circe));
+    near = and_from _ _ (and_from _ _ near (ap (λ (c : Colour). is_arrival_free c (man_on p.men f)) turn ∙ free))
+        (ap not (and_left (captures_do_more rule) _ circe));
   }
 
   flees : (z : Man) → IsKingOn p.men c k z → has_flight rule p ≡ true

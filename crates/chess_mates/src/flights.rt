@@ -82,7 +82,8 @@ fn covered_squares(occupied: u64, man: Man, promo: Option<Kind>, to: Square) -> 
 fn open_squares<R: Rules>(board: &Board, sight: Sight, king: Square) -> u64
     ensures { (m : Move) (x : Man) → IsSeenFrom R.rule board.now m x king → m.to < 64
         → sight ≡ sight_lifted board.now.men m.from (capture_square board.now x m) m.to king
-        → AreOpen R.rule (position_after R.rule board.now m).men (other board.now.turn) king result }
+        → AreOpen R.rule (position_after R.rule board.now m).men (other board.now.turn) king
+        result }
 {
     let near = king_leaps(king);
     if R::captures_do_more() {

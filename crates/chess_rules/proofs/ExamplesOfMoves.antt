@@ -24,14 +24,16 @@ castling = record (position (on White King e1 ∷ on White Rook h1 ∷ on White 
 -- the king castles, and this is mate
 castling_mates : (is_legal orthodox castling (go e1 g1) ≡ true) × (is_mate orthodox (position_after orthodox castling (go e1 g1)) ≡ true)
 unfolding reaches reaches_as rides hops leaps is_clear along squares some_square king_square faces_its_like faces is_attacker is_paralysed is_attacked in_check
-    position_after position_after_by unmoved_after moved_men capture_square reborn_square rebirth can_castle may_castle is_pseudo_legal is_legal none_unmoved has_unmoved
+    position_after position_after_by unmoved_after moved_men capture_square reborn_square rebirth can_castle may_castle is_pseudo_legal is_legal none_unmoved
+    has_unmoved
     mark_unmoved moves triples is_mate
 castling_mates = (refl, refl)
 
 -- once the rook has moved it may not
 castling_wants_the_rook_unmoved : is_legal orthodox (record castling { unmoved = with_unmoved none_unmoved e1 }) (go e1 g1) ≡ false
 unfolding reaches reaches_as rides hops leaps is_clear along squares some_square king_square faces_its_like faces is_attacker is_paralysed is_attacked in_check
-    position_after position_after_by unmoved_after moved_men capture_square reborn_square rebirth can_castle may_castle is_pseudo_legal is_legal none_unmoved has_unmoved
+    position_after position_after_by unmoved_after moved_men capture_square reborn_square rebirth can_castle may_castle is_pseudo_legal is_legal none_unmoved
+    has_unmoved
     mark_unmoved moves triples is_mate
 castling_wants_the_rook_unmoved = refl
 
@@ -44,7 +46,8 @@ guarded = record (position (on White King e1 ∷ on White Rook h1 ∷ on White R
 grasshopper_forbids_castling : (is_legal orthodox guarded (go e1 g1) ≡ false) × (is_mate orthodox (position_after orthodox guarded (go h1 f1)) ≡ false)
     × (is_mate orthodox (position_after orthodox castling (go h1 f1)) ≡ true)
 unfolding reaches reaches_as rides hops leaps is_clear along squares some_square king_square faces_its_like faces is_attacker is_paralysed is_attacked in_check
-    position_after position_after_by unmoved_after moved_men capture_square reborn_square rebirth can_castle may_castle is_pseudo_legal is_legal none_unmoved has_unmoved
+    position_after position_after_by unmoved_after moved_men capture_square reborn_square rebirth can_castle may_castle is_pseudo_legal is_legal none_unmoved
+    has_unmoved
     mark_unmoved moves triples is_mate
 grasshopper_forbids_castling = (refl, refl, refl)
 
@@ -57,21 +60,24 @@ passing = record (position (on White King g6 ∷ on White Bishop a1 ∷ on White
 en_passant_mates : (is_legal orthodox passing (go e5 d6) ≡ true) × (man_on (position_after orthodox passing (go e5 d6)).men d5 ≡ None)
     × (is_mate orthodox (position_after orthodox passing (go e5 d6)) ≡ true)
 unfolding reaches reaches_as rides hops leaps is_clear along squares some_square king_square faces_its_like faces is_attacker is_paralysed is_attacked in_check
-    position_after position_after_by unmoved_after moved_men capture_square reborn_square rebirth can_castle may_castle is_pseudo_legal is_legal none_unmoved has_unmoved
+    position_after position_after_by unmoved_after moved_men capture_square reborn_square rebirth can_castle may_castle is_pseudo_legal is_legal none_unmoved
+    has_unmoved
     mark_unmoved moves triples is_mate
 en_passant_mates = (refl, refl, refl)
 
 -- in Circe the pawn is reborn on d7
 en_passant_in_circe : man_on (position_after circe passing (go e5 d6)).men d7 ≡ Some (man Black Pawn)
 unfolding reaches reaches_as rides hops leaps is_clear along squares some_square king_square faces_its_like faces is_attacker is_paralysed is_attacked in_check
-    position_after position_after_by unmoved_after moved_men capture_square reborn_square rebirth can_castle may_castle is_pseudo_legal is_legal none_unmoved has_unmoved
+    position_after position_after_by unmoved_after moved_men capture_square reborn_square rebirth can_castle may_castle is_pseudo_legal is_legal none_unmoved
+    has_unmoved
     mark_unmoved moves triples is_mate
 en_passant_in_circe = refl
 
 -- without the crossed square there is no such capture
 en_passant_wants_the_crossed_square : is_legal orthodox (record passing { crossed = None }) (go e5 d6) ≡ false
 unfolding reaches reaches_as rides hops leaps is_clear along squares some_square king_square faces_its_like faces is_attacker is_paralysed is_attacked in_check
-    position_after position_after_by unmoved_after moved_men capture_square reborn_square rebirth can_castle may_castle is_pseudo_legal is_legal none_unmoved has_unmoved
+    position_after position_after_by unmoved_after moved_men capture_square reborn_square rebirth can_castle may_castle is_pseudo_legal is_legal none_unmoved
+    has_unmoved
     mark_unmoved moves triples is_mate
 en_passant_wants_the_crossed_square = refl
 
@@ -86,7 +92,8 @@ rook_takes_rook = record (position (on White King e1 ∷ on White Rook b3 ∷ on
 rook_is_reborn : (man_on (position_after circe rook_takes_rook (go b8 b3)).men h1 ≡ Some (man White Rook))
     × ((position_after circe rook_takes_rook (go b8 b3)).unmoved ≡ with_unmoved (with_unmoved (with_unmoved none_unmoved e1) h1) e8)
 unfolding reaches reaches_as rides hops leaps is_clear along squares some_square king_square faces_its_like faces is_attacker is_paralysed is_attacked in_check
-    position_after position_after_by unmoved_after moved_men capture_square reborn_square rebirth can_castle may_castle is_pseudo_legal is_legal none_unmoved has_unmoved
+    position_after position_after_by unmoved_after moved_men capture_square reborn_square rebirth can_castle may_castle is_pseudo_legal is_legal none_unmoved
+    has_unmoved
     mark_unmoved moves triples is_mate
 rook_is_reborn = (refl, refl)
 
@@ -98,7 +105,8 @@ bishop_at_home = position (on White King g6 ∷ on White Rook a1 ∷ on Black Ki
 bishop_is_reborn : (man_on (position_after circe bishop_at_home (go a1 a8)).men c8 ≡ Some (man Black Bishop))
     × (is_mate circe (position_after circe bishop_at_home (go a1 a8)) ≡ false)
 unfolding reaches reaches_as rides hops leaps is_clear along squares some_square king_square faces_its_like faces is_attacker is_paralysed is_attacked in_check
-    position_after position_after_by unmoved_after moved_men capture_square reborn_square rebirth can_castle may_castle is_pseudo_legal is_legal none_unmoved has_unmoved
+    position_after position_after_by unmoved_after moved_men capture_square reborn_square rebirth can_castle may_castle is_pseudo_legal is_legal none_unmoved
+    has_unmoved
     mark_unmoved moves triples is_mate
 bishop_is_reborn = (refl, refl)
 
@@ -109,7 +117,8 @@ rook_at_home = position (on White King g6 ∷ on White Rook a1 ∷ on Black King
 -- so this is mate
 rook_vanishes : is_mate circe (position_after circe rook_at_home (go a1 a8)) ≡ true
 unfolding reaches reaches_as rides hops leaps is_clear along squares some_square king_square faces_its_like faces is_attacker is_paralysed is_attacked in_check
-    position_after position_after_by unmoved_after moved_men capture_square reborn_square rebirth can_castle may_castle is_pseudo_legal is_legal none_unmoved has_unmoved
+    position_after position_after_by unmoved_after moved_men capture_square reborn_square rebirth can_castle may_castle is_pseudo_legal is_legal none_unmoved
+    has_unmoved
     mark_unmoved moves triples is_mate
 rook_vanishes = refl
 
@@ -122,7 +131,8 @@ promotion = record (position (on White King f2 ∷ on White Pawn e7 ∷ on Black
 nightrider_mates : (is_legal orthodox promotion (promoting e7 e8 Nightrider) ≡ true)
     × (is_mate orthodox (position_after orthodox promotion (promoting e7 e8 Nightrider)) ≡ true)
 unfolding reaches reaches_as rides hops leaps is_clear along squares some_square king_square faces_its_like faces is_attacker is_paralysed is_attacked in_check
-    position_after position_after_by unmoved_after moved_men capture_square reborn_square rebirth can_castle may_castle is_pseudo_legal is_legal none_unmoved has_unmoved
+    position_after position_after_by unmoved_after moved_men capture_square reborn_square rebirth can_castle may_castle is_pseudo_legal is_legal none_unmoved
+    has_unmoved
     mark_unmoved moves triples is_mate
 nightrider_mates = (refl, refl)
 
@@ -130,7 +140,8 @@ nightrider_mates = (refl, refl)
 no_nightrider_without_one : (is_legal orthodox (record promotion { in_diagram = [] }) (promoting e7 e8 Nightrider) ≡ false)
     × (is_legal orthodox promotion (promoting e7 e8 King) ≡ false)
 unfolding reaches reaches_as rides hops leaps is_clear along squares some_square king_square faces_its_like faces is_attacker is_paralysed is_attacked in_check
-    position_after position_after_by unmoved_after moved_men capture_square reborn_square rebirth can_castle may_castle is_pseudo_legal is_legal none_unmoved has_unmoved
+    position_after position_after_by unmoved_after moved_men capture_square reborn_square rebirth can_castle may_castle is_pseudo_legal is_legal none_unmoved
+    has_unmoved
     mark_unmoved moves triples is_mate
 no_nightrider_without_one = (refl, refl)
 
@@ -142,6 +153,7 @@ like_rooks = position (on White King g6 ∷ on White Rook a1 ∷ on Black King g
 paralysed_rook_stays : (is_legal orthodox like_rooks (go a1 a8) ≡ true) × (is_mate orthodox (position_after orthodox like_rooks (go a1 a8)) ≡ true)
     × (is_legal madrasi like_rooks (go a1 a8) ≡ false)
 unfolding reaches reaches_as rides hops leaps is_clear along squares some_square king_square faces_its_like faces is_attacker is_paralysed is_attacked in_check
-    position_after position_after_by unmoved_after moved_men capture_square reborn_square rebirth can_castle may_castle is_pseudo_legal is_legal none_unmoved has_unmoved
+    position_after position_after_by unmoved_after moved_men capture_square reborn_square rebirth can_castle may_castle is_pseudo_legal is_legal none_unmoved
+    has_unmoved
     mark_unmoved moves triples is_mate
 paralysed_rook_stays = (refl, refl, refl)

@@ -28,7 +28,8 @@ array = record (position (on White King e1 ∷ on White Queen d1 ∷ on White Ro
 -- 20 moves
 moves_of_the_array : length (moves orthodox array) ≡ 20
 unfolding reaches reaches_as rides hops leaps is_clear along squares some_square king_square faces_its_like faces is_attacker is_paralysed is_attacked in_check
-    position_after position_after_by unmoved_after moved_men capture_square reborn_square rebirth can_castle may_castle is_pseudo_legal is_legal none_unmoved has_unmoved
+    position_after position_after_by unmoved_after moved_men capture_square reborn_square rebirth can_castle may_castle is_pseudo_legal is_legal none_unmoved
+    has_unmoved
     mark_unmoved moves triples is_mate
 moves_of_the_array = refl
 
@@ -46,7 +47,8 @@ full = record (position (on White King e1 ∷ on White Rook a1 ∷ on White Rook
 -- 48 moves
 moves_of_the_full_position : length (moves orthodox full) ≡ 48
 unfolding reaches reaches_as rides hops leaps is_clear along squares some_square king_square faces_its_like faces is_attacker is_paralysed is_attacked in_check
-    position_after position_after_by unmoved_after moved_men capture_square reborn_square rebirth can_castle may_castle is_pseudo_legal is_legal none_unmoved has_unmoved
+    position_after position_after_by unmoved_after moved_men capture_square reborn_square rebirth can_castle may_castle is_pseudo_legal is_legal none_unmoved
+    has_unmoved
     mark_unmoved moves triples is_mate
 moves_of_the_full_position = refl
 
@@ -60,7 +62,8 @@ rook_on_f8 = record (position (on White King e1 ∷ on White Rook h1 ∷ on Blac
 -- 12 moves, 3 of the king and 9 of the rook
 no_castling_over_an_attacked_square : length (moves orthodox rook_on_f8) ≡ 12
 unfolding reaches reaches_as rides hops leaps is_clear along squares some_square king_square faces_its_like faces is_attacker is_paralysed is_attacked in_check
-    position_after position_after_by unmoved_after moved_men capture_square reborn_square rebirth can_castle may_castle is_pseudo_legal is_legal none_unmoved has_unmoved
+    position_after position_after_by unmoved_after moved_men capture_square reborn_square rebirth can_castle may_castle is_pseudo_legal is_legal none_unmoved
+    has_unmoved
     mark_unmoved moves triples is_mate
 no_castling_over_an_attacked_square = refl
 
@@ -71,7 +74,8 @@ mate = position (on White King g6 ∷ on White Rook a8 ∷ on Black King g8 ∷ 
 -- Black is mated
 mated : is_mate orthodox mate ≡ true
 unfolding reaches reaches_as rides hops leaps is_clear along squares some_square king_square faces_its_like faces is_attacker is_paralysed is_attacked in_check
-    position_after position_after_by unmoved_after moved_men capture_square reborn_square rebirth can_castle may_castle is_pseudo_legal is_legal none_unmoved has_unmoved
+    position_after position_after_by unmoved_after moved_men capture_square reborn_square rebirth can_castle may_castle is_pseudo_legal is_legal none_unmoved
+    has_unmoved
     mark_unmoved moves triples is_mate
 mated = refl
 
@@ -82,6 +86,7 @@ stalemate = position (on White King c7 ∷ on White Rook b7 ∷ on Black King a8
 -- Black has no move and isn't in check, which is no mate
 stalemated : (is_nil (moves orthodox stalemate) ≡ true) × (in_check orthodox stalemate.men Black ≡ false) × (is_mate orthodox stalemate ≡ false)
 unfolding reaches reaches_as rides hops leaps is_clear along squares some_square king_square faces_its_like faces is_attacker is_paralysed is_attacked in_check
-    position_after position_after_by unmoved_after moved_men capture_square reborn_square rebirth can_castle may_castle is_pseudo_legal is_legal none_unmoved has_unmoved
+    position_after position_after_by unmoved_after moved_men capture_square reborn_square rebirth can_castle may_castle is_pseudo_legal is_legal none_unmoved
+    has_unmoved
     mark_unmoved moves triples is_mate
 stalemated = (refl, refl, refl)

@@ -145,7 +145,8 @@ fn exposes_unplayed<R: Rules>(board: &Board, m: &Move) -> Option<bool>
 pub(crate) fn exposes<R: Rules>(board: &mut Board, m: Move) -> bool
     requires well_formed { IsWellFormed board.old }
     requires pseudo { is_pseudo_legal R.rule board.old m ≡ true }
-    ensures answer { result ≡ in_check R.rule (position_after R.rule board.old m).men board.old.turn }
+    ensures answer { result
+        ≡ in_check R.rule (position_after R.rule board.old m).men board.old.turn }
     ensures board { board.new ≡ board.old }
 {
     match exposes_unplayed::<R>(board, &m) {
@@ -158,7 +159,8 @@ pub(crate) fn exposes<R: Rules>(board: &mut Board, m: Move) -> bool
 fn exposes_played<R: Rules>(board: &mut Board, m: Move) -> bool
     requires well_formed { IsWellFormed board.old }
     requires pseudo { is_pseudo_legal R.rule board.old m ≡ true }
-    ensures answer { result ≡ in_check R.rule (position_after R.rule board.old m).men board.old.turn }
+    ensures answer { result
+        ≡ in_check R.rule (position_after R.rule board.old m).men board.old.turn }
     ensures board { board.new ≡ board.old }
 {
     let mover = board.turn();

@@ -16,4 +16,5 @@ module _ (first : Bool) (old mid new : Reading) (had met left : Option (List ℕ
       → ReadsWord block next line text → (last : Last) → IsNumbered new (item_of (entry_now next line) last)
   word_numbered line text t r last =
       let w = word_read first old mid new had met left block next b line text r.fault (λ none. r) in
-      closed_numbered new next.fault next.draft next.title next.author line last (subst SmallFault (sym w.0) (block_small first (b.done ++ Word line text ∷ [])))
+      closed_numbered new next.fault next.draft next.title next.author line last
+      (subst SmallFault (sym w.0) (block_small first (b.done ++ Word line text ∷ [])))

@@ -259,7 +259,12 @@ module _ (rule : RuleSet) (problem : Posed) (sound : IsSound problem) (phase : P
       let e : part_paths rule problem phase First entered ≡ come =
       rw (path-more _ old deep) (sym (come-entered followed ∙ rw (← g) refl)) in
       record {
-        stands = (in-part First entered q refl e walking-entered, omega (arith, deep), ended-reached game plan.play (has_variations plan.tree) root left q followed);
+        stands = (
+          in-part First entered q refl e walking-entered,
+          omega (arith, deep),
+          ended-reached game plan.play
+              (has_variations plan.tree) root left q followed,
+        );
         left = rw e events-begun;
         opens = opens-entered opened c;
       }

@@ -32,7 +32,8 @@ count_text (Some count) = decimal count
 -- set play, where the problem has it
 abbrev pub set_text : Posed → ℕ → List ℕ
 set_text posed depth =
-    if posed.set_play then codes "set " ++ count_text (count_of posed Set depth) ++ codes ", " else []
+    if posed.set_play then codes "set " ++ count_text (count_of posed Set depth) ++ codes ", "
+    else []
 
 -- the line of an item
 unfoldable pub parts_line : ℕ → ℕ → Entry → List ℕ

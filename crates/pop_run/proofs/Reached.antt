@@ -43,7 +43,8 @@ all_go_on : (tokens : List Token) → list_all closes_none tokens ≡ true → l
 all_go_on [] h = refl
 all_go_on (token ∷ tokens) h = grind (arith, open_goes_on, all_go_on tokens)
 
-both_go_on : (ts us : List Token) → list_all is_no_end_problem_token ts ≡ true → list_all is_no_end_problem_token us ≡ true → list_all is_no_end_problem_token (ts ++ us) ≡ true
+both_go_on : (ts us : List Token) → list_all is_no_end_problem_token ts ≡ true → list_all is_no_end_problem_token us ≡ true
+    → list_all is_no_end_problem_token (ts ++ us) ≡ true
 both_go_on ts us p q = list_all-append is_no_end_problem_token ts us ∙ rw (p, q) refl
 
 last_closes : (command : Option Command) (last : Last) → last_of command ≡ Some last → closes command ≡ true

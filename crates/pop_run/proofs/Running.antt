@@ -191,7 +191,8 @@ cut_most choice old new (Some r) mid left before t now fault p q within waits = 
 -- a run that ends reads up to an item's end or the input's, and at most a window more
 pub ended_reads : (choice : Choice) (old new : RunState) (had mid left before t now : Option (List ℕ)) (answer : Status) (n m : ℕ)
     → Progress choice old had mid before t → Steps old new mid left t now (Ok (Finished answer)) → IsSeen new.at.at.end left
-    → length new.at.at.window ≤ 4096 → m ≡ failures_after Open new.at.at.end n → IfSome had (λ r. ReadsUpTo (input_met (has_grown n m) r left) (taken_of r left))
+    → length new.at.at.window ≤ 4096 → m ≡ failures_after Open new.at.at.end n
+    → IfSome had (λ r. ReadsUpTo (input_met (has_grown n m) r left) (taken_of r left))
 ended_reads choice old new None mid left before t now answer n m p q seen few reads = tt
 ended_reads choice old new (Some r) mid left before t now answer n m p q seen few reads =
     rw (grew_broken new.at.at.end n m reads) (stopped_reads new.at r left (last_stops choice old new (Some r) mid left before t now answer p q) seen few)

@@ -20,7 +20,8 @@ pub fn run<S: Source, W: Sink>(settings: &Settings, source: &mut S, sink: &mut W
     requires sink { W.failures sink.old < greatest_count }
     ensures headline { IfSome (S.remaining source.old) (λ had.
         Runs (choice_of settings.now)
-        (input_met (has_grown (S.failures source.old) (S.failures source.new)) had (S.remaining source.new))
+        (input_met (has_grown (S.failures source.old) (S.failures source.new))
+        had (S.remaining source.new))
         (W.taken sink.old) (W.taken sink.new)
         (has_grown (W.failures sink.old) (W.failures sink.new)) result) }
     ensures reads { IfSome (S.remaining source.old) (λ had.

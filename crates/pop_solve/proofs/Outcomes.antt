@@ -119,7 +119,8 @@ module _ (rule : RuleSet) (plan : Plan) (h : ℕ) (p : Position) (f : Frame) (be
     fuel = omega (arith, top_room rule h p f below board r, left)
 
     -- its next move is passed over
-    pub steps-pass : (after : Position) (opened opened2 : ℕ) → is_followed plan.play (chess plan.goal rule) (eqb (length below) 0) t (position_after rule board m)
+    pub steps-pass : (after : Position) (opened opened2 : ℕ)
+        → is_followed plan.play (chess plan.goal rule) (eqb (length below) 0) t (position_after rule board m)
         ≡ false
         → after ≡ board → Counts rule plan (eqb (length below) 0) t (position_after rule board m) opened opened2
         → Steps rule plan h p (f ∷ below) (moved f next ∷ below) after opened opened2 false
@@ -157,7 +158,8 @@ module _ (rule : RuleSet) (plan : Plan) (h : ℕ) (p : Position) (f : Frame) (be
               (omega (arith, left, walk_length-most (chess plan.goal rule) plan.play (has_variations plan.tree) t (position_after rule board m))) lawful at;
           come = rw after_here (come-enter rule plan h p f next m below _ t fuel left here u (rw (← after_here) b));
           deep = λ g. omega arith;
-          ended = λ g e. rw at (ended-reached (chess plan.goal rule) plan.play (has_variations plan.tree) (eqb (length below) 0) t (position_after rule board m) b e);
+          ended = λ g e. rw at
+              (ended-reached (chess plan.goal rule) plan.play (has_variations plan.tree) (eqb (length below) 0) t (position_after rule board m) b e);
           falls = turns-enter rule plan h p f next m below _ t fuel left here u tried;
           opens = grind (arith, whites-none, walk_length-keys, whites-top, whites-moved, walk_behind-none, after_here, counted_by);
           tries = record {
@@ -173,7 +175,8 @@ pub skips-close : (rule : RuleSet) (plan : Plan) (h : ℕ) (p : Position) (f : F
     → ((f.left ≡ 0) × (count ≡ before)) ⊎ GoesTo rule plan f.left (position rule p (f ∷ below)) f.place [] before count
     → (length below ≡ 0 → after ≡ board) → ((q : Position) → 0 < length below → CameFromAt rule f board q → after ≡ q)
     → Steps rule plan h p (f ∷ below) below after before count false
-skips-close rule plan h p f below board r after before count (inl e) lowest back = rw e.1 (steps-close rule plan h p f below board r after before (inl e.0) lowest back)
+skips-close rule plan h p f below board r after before count (inl e) lowest back = rw e.1
+    (steps-close rule plan h p f below board r after before (inl e.0) lowest back)
 skips-close rule plan h p f below board r after before count (inr g) lowest back = steps-skip rule plan h p f below [] before count g below after count false
     (steps-close rule plan h p (moved f g.mid) below board (walking-moved rule h p f g.mid below board board r refl) after count
     (inr (rw r.board_at g.here)) lowest back)

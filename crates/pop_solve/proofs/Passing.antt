@@ -49,14 +49,16 @@ module _ (rule : RuleSet) (p : Position) where
   sifted place next count before after n (Some m) sound at lawful passed onward all number counted =
       let back = behind_back m sound lawful in
       let cut = behind_cut rule p place next (omega (arith, onward)) in
-      let long : length passed.over ≡ n = omega (arith, all, number, ap length passed.passed, length-append passed.over (m ∷ [])) in
-      (record {
-        mid = next - 1;
-        over = passed.over;
-        passed = cut ∙ (rw (passed.passed, at, back) (append_assoc passed.over (m ∷ []) (moves_behind rule p (place_of (Some m)))));
-        here = rw at back;
-        fits = record { none = passed.none; counts = rw long counted };
-      }, lawful)
+      let long : length passed.over ≡ n = omega (arith, all, number, ap length passed.passed, length-append passed.over (m ∷ [])) in (
+        record {
+          mid = next - 1;
+          over = passed.over;
+          passed = cut ∙ (rw (passed.passed, at, back) (append_assoc passed.over (m ∷ []) (moves_behind rule p (place_of (Some m)))));
+          here = rw at back;
+          fits = record { none = passed.none; counts = rw long counted };
+        },
+        lawful,
+      )
 
   -- a move that no reply mates doesn't allow mate
   pub no_mate_allowed : (m : Move) → mates_behind rule (position_after rule p m) 0 ≡ [] → allows_mate rule p m ≡ false

@@ -369,7 +369,8 @@ module _ (rule : RuleSet) (aim : Aim) (floor : ℕ) (top : Frame) (old new : Lis
     }
 
     -- playing it keeps the room
-    pub descend_room : (is : Option Bool) → Descends is → left_at_top (tests floor old) + length old ≤ N + 1 → left_at_top (tests floor last) + length last ≤ N + 1
+    pub descend_room : (is : Option Bool) → Descends is → left_at_top (tests floor old) + length old ≤ N + 1
+        → left_at_top (tests floor last) + length last ≤ N + 1
     descend_room is d room = grind (arith, tests-push, length-append)
 
   -- what the top frame asks of the calls

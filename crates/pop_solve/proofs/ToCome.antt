@@ -103,7 +103,8 @@ module _ (rule : RuleSet) (plan : Plan) where
     root = eqb (length below) 0
 
     -- a move that is not followed is passed over
-    pub come-pass : is_followed plan.play (chess plan.goal rule) root t q ≡ false → to_come rule plan h p (f ∷ below) ≡ to_come rule plan h p (moved f next ∷ below)
+    pub come-pass : is_followed plan.play (chess plan.goal rule) root t q ≡ false
+        → to_come rule plan h p (f ∷ below) ≡ to_come rule plan h p (moved f next ∷ below)
     unfolding to_come position path
     come-pass b = search (rules, shown_paths-next)
 
@@ -305,7 +306,8 @@ module _ (rule : RuleSet) (plan : Plan) where
     come-skip : to_come rule plan h p (f ∷ below) ≡ to_come rule plan h p later
     unfolding to_come position path
     come-skip = ap (λ lines. map (λ line. path (f ∷ below) ++ line) lines ++ to_come rule plan h p below)
-        (same-later (λ n ms. shown_paths plan (chess plan.goal rule) deepest room n P ms) (skipped P deepest room) (λ help for. settled help for P deepest room))
+        (same-later (λ n ms. shown_paths plan (chess plan.goal rule) deepest room n P ms) (skipped P deepest room)
+        (λ help for. settled help for P deepest room))
 
     fewer : (k : ℕ) → work_behind rule k P g.mid ≤ work_behind rule k P f.place
     unfolding work_behind

@@ -98,7 +98,8 @@ module _ {P M : Type 0} (game : Game P M) where
   value-black battle t q g s v = search rules
 
   -- nothing stands below the goal
-  nothing : (n k : ℕ) (q : P) → game.goal q ≡ true → (battle : Battle) (s : Bool) → cond s (continuations battle game n k q) (nodes_below battle game n k q) ≡ []
+  nothing : (n k : ℕ) (q : P) → game.goal q ≡ true → (battle : Battle) (s : Bool)
+      → cond s (continuations battle game n k q) (nodes_below battle game n k q) ≡ []
   unfolding continuations nodes_below
   nothing n k q g battle s = search rules
 

@@ -34,14 +34,12 @@ fn take_back<R: Rules>(frame: &Frame<R>, board: &mut Board)
 
 /// What is known of the goal at the frame: in direct play with variations it is reached where a variation ends.
 fn reached_at<R: Rules>(plan: Plan, frame: &Frame<R>) -> Reached
-    ensures { result ≡ if ends_variation plan.play (has_variations plan.tree) frame.now.left then Surely
-        else Perhaps }
+    ensures { result ≡ if ends_variation plan.play (has_variations plan.tree) frame.now.left
+        then Surely else Perhaps }
 {
     match plan.play {
-        Play::Battle(battle)
-            if frame.left == 0 && plan.tree.has_variations() && seeks(battle, 1) => {
-            Reached::Surely
-        }
+        Play::Battle(battle) if frame.left == 0 && plan.tree.has_variations() && seeks(battle, 1) =>
+            { Reached::Surely }
         _ => Reached::Perhaps,
     }
 }

@@ -411,8 +411,8 @@ fn turn<R: Rules, const N: usize>(
     requires room { left_at_top (tests floor frames.old.items) + array_vec_len frames.old ≤ N + 1 }
     requires testing { (p : Position) × IsTesting R.rule p (tests floor frames.old.items)
         board.old }
-    ensures room { IfNone result (left_at_top (tests floor frames.new.items) + array_vec_len frames.new
-        ≤ N + 1) }
+    ensures room { IfNone result
+        (left_at_top (tests floor frames.new.items) + array_vec_len frames.new ≤ N + 1) }
     ensures next { (p : Position) → IsTesting R.rule p (tests floor frames.old.items) board.old
         → MatchOption result
         (Turns R.rule aim floor p frames.old.items frames.new.items

@@ -106,8 +106,8 @@ fn walk_length<R: Rules, const N: usize>(
 ) -> usize
     requires well_formed { IsWellFormed board.old }
     requires room { array_vec_len frames.old + left ≤ N }
-    ensures length { result ≡ walk_length plan.play (has_variations plan.tree) (chess plan.goal R.rule) left
-        board.old }
+    ensures length { result
+        ≡ walk_length plan.play (has_variations plan.tree) (chess plan.goal R.rule) left board.old }
     ensures rest { Restores board.old board.new frames.old.items frames.new.items history.old.opened
         history.new.opened }
     ensures opened { plan.play ≡ HelpPlay → history.new.opened ≡ history.old.opened }

@@ -110,13 +110,14 @@ fn answer<S: Source, W: Sink>(wanted: &Wanted, source: &mut S, sink: &mut W) -> 
     requires source { S.failures source.old < greatest_count }
     requires sink { W.failures sink.old < greatest_count }
     ensures headline { IfSome (S.remaining source.old) (λ had.
-        Answers wanted.now (input_met (has_grown (S.failures source.old) (S.failures source.new)) had
-        (S.remaining source.new))
+        Answers wanted.now (input_met (has_grown (S.failures source.old) (S.failures source.new))
+        had (S.remaining source.new))
         (W.taken sink.old) (W.taken sink.new)
         (has_grown (W.failures sink.old) (W.failures sink.new)) result) }
     ensures reads { IfSome (S.remaining source.old) (λ had.
-        ReadsWanted wanted.now (input_met (has_grown (S.failures source.old) (S.failures source.new)) had
-        (S.remaining source.new)) (taken_of had (S.remaining source.new))) }
+        ReadsWanted wanted.now
+        (input_met (has_grown (S.failures source.old) (S.failures source.new)) had (S.remaining source.new))
+        (taken_of had (S.remaining source.new))) }
     ensures once { FailsOnce (S.failures source.old) (S.failures source.new)
         × FailsOnce (W.failures sink.old) (W.failures sink.new) }
 {

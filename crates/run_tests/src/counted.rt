@@ -2,7 +2,7 @@
 ghost use Rattle.std.specs.Prelude.{◌≡◌, ◌<◌};
 
 use pop_text::sink::{Sink, SinkFault};
-use pop_text::source::{SourceFault, Source};
+use pop_text::source::{Source, SourceFault};
 
 /// A source or a sink, with how often it was asked, and how often behind a call that failed.
 #[derive(Drop)]

@@ -15,12 +15,14 @@ use Rattle.chess_rules.specs.ties.Targets.{is_promoting, may_go}
 
 -- the word has each square that x on s reaches, whoever else stands on the board
 pub record AreReached (x : Man) (s w : ℕ) : Type 0 where
-  pub inside : (men : List (Option Man)) (t : ℕ) → t < 64 → reaches_as men x.colour x.kind s t ≡ true
+  pub inside : (men : List (Option Man)) (t : ℕ) → t < 64
+      → reaches_as men x.colour x.kind s t ≡ true
       → (bit_at w t == 1) ≡ true
 
 -- it has each square from which x reaches t, whoever else stands on the board
 pub record AreApproached (x : Man) (t w : ℕ) : Type 0 where
-  pub inside : (men : List (Option Man)) (s : ℕ) → s < 64 → reaches_as men x.colour x.kind s t ≡ true
+  pub inside : (men : List (Option Man)) (s : ℕ) → s < 64
+      → reaches_as men x.colour x.kind s t ≡ true
       → (bit_at w s == 1) ≡ true
 
 -- it has those that each man of colour c reaches
@@ -38,7 +40,8 @@ pub record IsLeft (w : ℕ) (x : Man) (t f : ℕ) : Type 0 where
 -- wherever x goes from s a square of the word is left, and he neither promotes nor castles
 pub record LeavesOne (w : ℕ) (x : Man) (s : ℕ) : Type 0 where
   pub left : (p : Position) (t : ℕ) → t < 64 → may_go p x s t ≡ true → (f : ℕ) × IsLeft w x t f
-  pub unpromoted : (p : Position) (t : ℕ) → t < 64 → may_go p x s t ≡ true → is_promoting x t ≡ false
+  pub unpromoted : (p : Position) (t : ℕ) → t < 64 → may_go p x s t ≡ true
+      → is_promoting x t ≡ false
   pub away : same_kind x.kind King ≡ true → (s ≢ e1) × (s ≢ e8)
 
 -- so does each man of colour c

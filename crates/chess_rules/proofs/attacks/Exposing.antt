@@ -50,7 +50,8 @@ pub faced_king : (king f : Bool) → king ≡ true → not king ≡ (not king &&
 faced_king king f h = (λ i. not (h i)) ∙ sym (ap (λ (k : Bool). not k && f) h)
 
 -- an enemy man, if no king, is paralysed exactly if a mover's man of its kind reaches it
-pub paralysed_by : (rule : RuleSet) (before men : List (Option Man)) (x : Man) (m : Move) (v : Sight) (s : ℕ) (y : Man) (b : Bool) → faced_men_stand_still rule ≡ true
+pub paralysed_by : (rule : RuleSet) (before men : List (Option Man)) (x : Man) (m : Move) (v : Sight) (s : ℕ) (y : Man) (b : Bool)
+    → faced_men_stand_still rule ≡ true
     → AreArrived before men x m v → is_of_colour (man_on men s) (other x.colour) ≡ true → man_on before s ≡ Some y
     → b ≡ (not (same_kind y.kind King) && some_square (λ q. is_man (man_on men q) x.colour y.kind && reaches men q s))
     → b ≡ is_paralysed rule men s

@@ -290,7 +290,8 @@ unfolding moved_men
 moved_plainly p x m h = rw h refl
 
 -- where nobody is reborn
-pub unreborn_after : (rule : RuleSet) (p : Position) (x : Man) (m : Move) → man_on p.men m.from ≡ Some x → (captures_do_more rule ≡ true → capture_square p x m ≡ None)
+pub unreborn_after : (rule : RuleSet) (p : Position) (x : Man) (m : Move) → man_on p.men m.from ≡ Some x
+    → (captures_do_more rule ≡ true → capture_square p x m ≡ None)
     → (position_after rule p m).men ≡ moved_men p x m
 unfolding position_after position_after_by reborn_square
 unreborn_after rule p x m here rebirth = search (rules, nobody_reborn)

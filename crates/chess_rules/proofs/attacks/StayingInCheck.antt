@@ -130,7 +130,8 @@ evasion_squares_all rule men c = record {
 }
 
 -- the squares that meet one check
-pub evasion_squares_one : (rule : RuleSet) (men : List (Option Man)) (c : Colour) (k s w n r t : ℕ) → king_square men c ≡ Some k → faced_men_stand_still rule ≡ false
+pub evasion_squares_one : (rule : RuleSet) (men : List (Option Man)) (c : Colour) (k s w n r t : ℕ) → king_square men c ≡ Some k
+    → faced_men_stand_still rule ≡ false
     → has_fairy_lines_of (man_on men s) ≡ false → t ≡ word (λ q. is_of_colour (man_on men q) (other c) && reaches men q k) → s < 64 → (bit_at t s == 1) ≡ true
     → w ≡ word (λ q. is_square (Some s) q) → n ≡ word (λ q. reaches_as men c Queen k q) → r ≡ word (λ q. reaches_as men c Queen s q)
     → AreEvasions rule men c (bit_or w (bit_and n r))

@@ -65,7 +65,8 @@ unpromoted : (p : Position) (x : Man) (m : Move) (o : Option Kind) (k : Kind) �
 unpromoted p x m o k h e = grind (arith, and_parts)
 
 -- on another rank than the last none may be named
-pub no_promotion_here : (rule : RuleSet) (p : Position) (x : Man) (m : Move) (k : Kind) → man_on p.men m.from ≡ Some x → m.promo ≡ Some k → is_promoting x m.to ≡ false
+pub no_promotion_here : (rule : RuleSet) (p : Position) (x : Man) (m : Move) (k : Kind) → man_on p.men m.from ≡ Some x → m.promo ≡ Some k
+    → is_promoting x m.to ≡ false
     → is_pseudo_legal rule p m ≡ false
 no_promotion_here rule p x m k here e h =
     false_by (is_pseudo_legal rule p m) (λ y. let t = unpromoted p x m m.promo k (made rule p m x y here).promotion e in cc)

@@ -55,7 +55,8 @@ entry f table s i d is same small = ap (λ r. get_or r i d) is ∙ get_or-map-ra
 pub ray_at : (x : Direction) (s i : ℕ) (none : List ℕ) (d : ℕ) → i ≡ s → i < 64 → get_or (get_or RAYS (direction_number x) none) i d ≡ ray s (step_of x)
 unfolding ray is_ahead
 ray_at x s i none d same small =
-    entry (line (step_of x)) (get_or RAYS (direction_number x) none) s i d (row x none) same small ∙ each_is (map (λ k. along s (step_of x) k) (range_with_len 1 7))
+    entry (line (step_of x)) (get_or RAYS (direction_number x) none) s i d (row x none) same small
+    ∙ each_is (map (λ k. along s (step_of x) k) (range_with_len 1 7))
 
 neighbours_are : NEIGHBOURS ≡ map (near queen_steps) (range_with_len 0 64)
 unfolding along
@@ -82,7 +83,8 @@ white_captures_are = refl
 -- the table of the squares that a White pawn attacks
 pub white_captures_at : (s i d : ℕ) → i ≡ s → i < 64 → get_or WHITE_CAPTURES i d ≡ word (λ t. list_any (leaps s t) (pawn_capture_steps White))
 unfolding leaps
-white_captures_at s i d same small = entry (near (pawn_capture_steps White)) WHITE_CAPTURES s i d white_captures_are same small ∙ each_is (map (λ d. along s d 1) (pawn_capture_steps White))
+white_captures_at s i d same small = entry (near (pawn_capture_steps White)) WHITE_CAPTURES s i d white_captures_are same small
+    ∙ each_is (map (λ d. along s d 1) (pawn_capture_steps White))
 
 black_captures_are : BLACK_CAPTURES ≡ map (near (pawn_capture_steps Black)) (range_with_len 0 64)
 unfolding along
@@ -91,7 +93,8 @@ black_captures_are = refl
 -- and a Black one
 pub black_captures_at : (s i d : ℕ) → i ≡ s → i < 64 → get_or BLACK_CAPTURES i d ≡ word (λ t. list_any (leaps s t) (pawn_capture_steps Black))
 unfolding leaps
-black_captures_at s i d same small = entry (near (pawn_capture_steps Black)) BLACK_CAPTURES s i d black_captures_are same small ∙ each_is (map (λ d. along s d 1) (pawn_capture_steps Black))
+black_captures_at s i d same small = entry (near (pawn_capture_steps Black)) BLACK_CAPTURES s i d black_captures_are same small
+    ∙ each_is (map (λ d. along s d 1) (pawn_capture_steps Black))
 
 abbrev nowhere : ℕ → Option ℕ
 nowhere s = None

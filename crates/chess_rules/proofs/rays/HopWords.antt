@@ -70,7 +70,8 @@ landed men s d b t line stop p q h =
       | inl e ↦ e
       | inr ne ↦ elim (cases_lt on.0 (w.0 - 1)) [
         | inl sooner ↦ absurd (
-            let vacant : is_vacant_at men (along s d on.0) ≡ true = all_at (λ i. is_vacant_at men (along s d i)) 1 (w.0 - 2) on.0 clear on.1.low (omega arith) in
+            let vacant : is_vacant_at men (along s d on.0) ≡ true = all_at (λ i. is_vacant_at men (along s d i)) 1 (w.0 - 2) on.0 clear on.1.low
+            (omega arith) in
             let no_man : is_some (man_on men b) ≡ false = not-true _ (rw on.1.at at vacant) in
             false≢true (sym no_man ∙ second_of_and (is_ahead s d b) _ here))
         | inr later ↦ absurd (let more : place d v.0 < place d b = line.in_order s (w.0 - 1) on.0 v.0 b v.1.at on.1.at (omega arith) in omega arith)
@@ -101,12 +102,14 @@ from_second men t n s x p at =
           ∙ there in cc)
       | inr ne ↦ omega (arith, w.2)
     ] in
-    any_range_true (λ k. is_square (along t (step_of x) k) s && list_all (λ i. is_vacant_at men (along t (step_of x) i)) (range_with_len 2 (k - 2))) 2 6 (1 + w.0)
+    any_range_true (λ k. is_square (along t (step_of x) k) s && list_all (λ i. is_vacant_at men (along t (step_of x) i)) (range_with_len 2 (k - 2))) 2 6
+    (1 + w.0)
     (omega (arith, w.1)) (omega arith)
     (and_from _ _ (rw (sym (on w.0) ∙ there) (eq-eqb s s refl))
     (all_range_true (λ i. is_vacant_at men (along t (step_of x) i)) 2 (1 + w.0 - 2) (λ i lo hi.
     let e : 1 + (i - 1) ≡ i = omega arith in
-    let f : is_vacant_at men (along n (step_of x) (i - 1)) ≡ true = all_at (λ i. is_vacant_at men (along n (step_of x) i)) 1 (w.0 - 1) (i - 1) free (omega arith)
+    let f : is_vacant_at men (along n (step_of x) (i - 1)) ≡ true = all_at (λ i. is_vacant_at men (along n (step_of x) i)) 1 (w.0 - 1) (i - 1) free
+    (omega arith)
     (omega arith) in
     ap (λ k. is_vacant_at men (along t (step_of x) k)) (sym e) ∙ ap (is_vacant_at men) (sym (on (i - 1))) ∙ f))))
     (λ h.
@@ -114,11 +117,13 @@ from_second men t n s x p at =
     let there : along t (step_of x) w.0 ≡ Some s = square_is _ s (first_of_and _ _ w.3) in
     let free = second_of_and (is_square (along t (step_of x) w.0) s) _ w.3 in
     let e : 1 + (w.0 - 1) ≡ w.0 = omega (arith, w.1) in
-    any_range_true (λ k. is_square (along n (step_of x) k) s && list_all (λ i. is_vacant_at men (along n (step_of x) i)) (range_with_len 1 (k - 1))) 1 7 (w.0 - 1)
+    any_range_true (λ k. is_square (along n (step_of x) k) s && list_all (λ i. is_vacant_at men (along n (step_of x) i)) (range_with_len 1 (k - 1))) 1 7
+    (w.0 - 1)
     (omega (arith, w.1)) (omega (arith, w.2))
     (and_from _ _ (rw (on (w.0 - 1) ∙ ap (along t (step_of x)) e ∙ there) (eq-eqb s s refl))
     (all_range_true (λ i. is_vacant_at men (along n (step_of x) i)) 1 (w.0 - 1 - 1) (λ i lo hi.
-    let f : is_vacant_at men (along t (step_of x) (1 + i)) ≡ true = all_at (λ i. is_vacant_at men (along t (step_of x) i)) 2 (w.0 - 2) (1 + i) free (omega arith)
+    let f : is_vacant_at men (along t (step_of x) (1 + i)) ≡ true = all_at (λ i. is_vacant_at men (along t (step_of x) i)) 2 (w.0 - 2) (1 + i) free
+    (omega arith)
     (omega arith) in
     ap (is_vacant_at men) (on i) ∙ f))))
 

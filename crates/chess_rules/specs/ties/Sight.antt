@@ -54,7 +54,8 @@ pub record AreArrived (before men : List (Option Man)) (x : Man) (m : Move) (v :
 
 -- men of the other colour than c stand on all squares of the word
 pub record AreOthers (men : List (Option Man)) (c : Colour) (w : ℕ) : Type 0 where
-  pub side : (s : ℕ) → s < 64 → (bit_at w s == 1) ≡ true → is_of_colour (man_on men s) (other c) ≡ true
+  pub side : (s : ℕ) → s < 64 → (bit_at w s == 1) ≡ true
+      → is_of_colour (man_on men s) (other c) ≡ true
 
 -- the square of the mover's king once x has moved
 abbrev pub king_after : Position → Man → Move → Option ℕ

@@ -92,7 +92,8 @@ fn is_any(item: Option<&str>, phase: Option<&str>, part: Option<&str>) -> bool
 
 // Whether the flag of a list is there, by its text.
 fn is_listing(list: Option<&str>) -> bool
-    ensures { result ≡ option_map_or (bytes_eq (codes "true")) (option_map (λ s. s.now) list.entry) false }
+    ensures { result
+        ≡ option_map_or (bytes_eq (codes "true")) (option_map (λ s. s.now) list.entry) false }
 {
     match list {
         Some(text) => "true" == text,
@@ -131,7 +132,8 @@ fn parts_of(
     depth: Option<usize>,
 ) -> Option<Wanted>
     requires { IfSome depth (λ depth. 1 ≤ depth) }
-    ensures value { result ≡ parts_wanted (option_and_then number_in (option_map (λ s. s.now) item.entry))
+    ensures value { result ≡ parts_wanted
+        (option_and_then number_in (option_map (λ s. s.now) item.entry))
         (option_and_then phase_in (option_map (λ s. s.now) phase.entry))
         (option_and_then range_in (option_map (λ s. s.now) part.entry)) depth }
     ensures deep { IfSome result IsDeep }

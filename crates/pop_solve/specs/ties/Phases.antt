@@ -29,13 +29,16 @@ module _ {M : Type 0} where
   unfoldable pub kept_paths : Bool → ℕ → List (List M) → List (List M)
   kept_paths help n [] = []
   kept_paths help zero (x ∷ xs) = if begins_solution help x then [] else x ∷ kept_paths help zero xs
-  kept_paths help (suc n) (x ∷ xs) = x ∷ (if begins_solution help x then kept_paths help n xs else kept_paths help (suc n) xs)
+  kept_paths help (suc n) (x ∷ xs) =
+      x ∷ (if begins_solution help x then kept_paths help n xs else kept_paths help (suc n) xs)
 
   -- how many solutions begin among them
   unfoldable pub beginning_count : Bool → ℕ → List (List M) → ℕ
   beginning_count help n [] = 0
-  beginning_count help zero (x ∷ xs) = if begins_solution help x then 0 else beginning_count help zero xs
-  beginning_count help (suc n) (x ∷ xs) = if begins_solution help x then 1 + beginning_count help n xs
+  beginning_count help zero (x ∷ xs) =
+      if begins_solution help x then 0 else beginning_count help zero xs
+  beginning_count help (suc n) (x ∷ xs) =
+      if begins_solution help x then 1 + beginning_count help n xs
       else beginning_count help (suc n) xs
 
 -- the paths to come from the frames of a phase

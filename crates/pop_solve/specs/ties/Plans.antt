@@ -18,7 +18,6 @@ abbrev pub has_variations : Tree → Bool
 has_variations Keys = false
 has_variations Variations = true
 
-
 -- what is walked of a problem
 abbrev pub plan_of : Posed → Plan
 plan_of problem = record {

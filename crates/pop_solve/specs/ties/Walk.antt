@@ -39,7 +39,8 @@ module _ {P M : Type 0} where
   unfoldable pub shown_length : Battle → Game P M → ℕ → P → ℕ
   shown_length battle game t q =
       if t == 0 || game.goal q then 0
-      else (if seeks battle t then least_length_from battle game q ((t - fewest_half_moves battle) / 2)
+      else (if seeks battle t
+      then least_length_from battle game q ((t - fewest_half_moves battle) / 2)
       (fewest_half_moves battle) else t)
 
   -- whether the walk follows a move to q, with t half-moves left there: in a battle moves of White and those of a root are
@@ -230,7 +231,8 @@ ends_variation (BattlePlay battle) variation left = left == 0 && (variation && s
 
 -- where a variation ends at the top frame, the goal is reached on the board
 abbrev pub IsEnded : RuleSet → Plan → List Frame → Position → Type 0
-IsEnded rule plan frames board = ends_variation plan.play (has_variations plan.tree) (left_at_top frames) ≡ true
+IsEnded rule plan frames board = ends_variation plan.play (has_variations plan.tree)
+    (left_at_top frames) ≡ true
     → (chess plan.goal rule).goal board ≡ true
 
 -- what one step of a walk leaves, for frames listed from the top down; `given` says whether the path to the new top is given

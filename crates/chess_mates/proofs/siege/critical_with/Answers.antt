@@ -17,4 +17,5 @@ returns-in_default-next_bit c =
 pub returns : goal.returns
 returns c =
     leaves_second c.args.near c.args.enemies c.left_squares-left.result c.args.man c.args.to c.left_squares-left.ensures c.in-Some.first
-    c.in-Some-next_bit._second (sym c.next_bit.ensures.value ∙ c.in-Some.is) (rw c.index.ensures.value at (sym c.next_bit-2.ensures.value ∙ c.in-Some-next_bit.is))
+    c.in-Some-next_bit._second (sym c.next_bit.ensures.value ∙ c.in-Some.is)
+    (rw c.index.ensures.value at (sym c.next_bit-2.ensures.value ∙ c.in-Some-next_bit.is))

@@ -22,7 +22,8 @@ returns g c =
     let plain = sym c.has_fairy_lines_on.ensures ∙ c.if-has_fairy_lines_on.false in
     let all = rw c.other.ensures at c.attackers.ensures in
     evasion_squares_one g.R.Rules.rule c.args.board.now.men c.args.colour c.in-Some.king c.in-Some-next_bit.checker c.only.result c.reach_as.result
-    c.reach_as-2.result c.attackers.result (sym c.king_of.ensures ∙ c.in-Some.is) (sym c.faced_men_stand_still.ensures ∙ c.if-faced_men_stand_still.false) plain all small
+    c.reach_as-2.result c.attackers.result (sym c.king_of.ensures ∙ c.in-Some.is) (sym c.faced_men_stand_still.ensures ∙ c.if-faced_men_stand_still.false)
+    plain all small
     first.here c.only.ensures c.reach_as.ensures c.reach_as-2.ensures
 
 pub returns-then-shield_squares : goal.returns-then-shield_squares

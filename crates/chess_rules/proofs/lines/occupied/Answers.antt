@@ -12,7 +12,8 @@ of_either (Some x) = of_one x.colour
 
 joined : (men : List (Option Man)) → bit_or (side_of men White) (side_of men Black) ≡ word (λ s. is_some (man_on men s))
 unfolding side_of
-joined men = squares_either (λ s. is_of_colour (man_on men s) White) (λ s. is_of_colour (man_on men s) Black) ∙ squares_same _ _ (λ s p. of_either (man_on men s))
+joined men = squares_either (λ s. is_of_colour (man_on men s) White) (λ s. is_of_colour (man_on men s) Black)
+    ∙ squares_same _ _ (λ s p. of_either (man_on men s))
 
 pub returns : goal.returns
 returns c = search (rules, joined)

@@ -22,5 +22,6 @@ returns-in_err-killers-clause-bytes g c =
     let i = c.parts.invariant in
     let some : 0 < c.parts.left = search rules in
     let p = err_from_is_err_and c.from_residual.result c.from_residual.ensures.1 in
-    rw p.1 (parts_break_off g.R.Rules.rule c.args.parts.now.problem c.args.parts.now.phase _ c.parts.parts.left c.parts.number c.parts.left _ _ _ i.printing i.some
+    rw p.1
+    (parts_break_off g.R.Rules.rule c.args.parts.now.problem c.args.parts.now.phase _ c.parts.parts.left c.parts.number c.parts.left _ _ _ i.printing i.some
     some i.there (rw (i.problem, i.phase) at c.in_err-killers.ensures.bytes))

@@ -37,7 +37,8 @@ returns-in-Ok-Finished g c =
       );
       taken = ended_most _ c.loop-sound.session c.step.new.self _ (g.S.Source.remaining c.loop-sound.source) (g.S.Source.remaining c.step.new.source) _
           (g.W.Sink.taken c.loop-sound.sink) (g.W.Sink.taken c.step.new.sink)
-          c.in-Ok-Finished.status i.progress (rw c.in-Ok-Finished.field-0-is at (c.in-Ok-Finished.ensures.does i.progress.running)) c.step.ensures.within c.step.ensures.waits;
+          c.in-Ok-Finished.status i.progress (rw c.in-Ok-Finished.field-0-is at (c.in-Ok-Finished.ensures.does i.progress.running))
+          c.step.ensures.within c.step.ensures.waits;
     }
 
 pub returns-in-Err : goal.returns-in-Err

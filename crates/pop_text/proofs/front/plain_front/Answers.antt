@@ -15,8 +15,10 @@ loop-plain-preserved c =
     let some = told.some yes in
     let whole = told.whole yes in
     rw (c.both-plain.ensures.count, c.both-plain.ensures.line_ends)
-    (step_more view left behind c.loop-plain.plain.count c.gap_front-gap.result.count c.run_front-run.result c.loop-plain.plain.line_ends c.gap_front-gap.result.line_ends
-    (take_rest view c.loop-plain.plain.count) (take_rest left c.gap_front-gap.result.count) (λ none. omega (arith, none, some)) (λ all. omega (arith, all, whole))
+    (step_more view left behind c.loop-plain.plain.count c.gap_front-gap.result.count c.run_front-run.result
+    c.loop-plain.plain.line_ends c.gap_front-gap.result.line_ends
+    (take_rest view c.loop-plain.plain.count) (take_rest left c.gap_front-gap.result.count) (λ none. omega (arith, none, some))
+    (λ all. omega (arith, all, whole))
     c.gap_front-gap.ensures.first.within c.run_front-run.ensures.front.within
     c.gap_front-gap.ensures.first.all c.run_front-run.ensures.front.all c.run_front-run.ensures.over (told.plain yes) c.gap_front-gap.ensures.first.lines
     c.loop-plain.invariant)

@@ -102,7 +102,8 @@ returns-in-Some-clause-numbered g c =
 
 pub returns-in-Ended-clause-numbered : goal.returns-in-Ended-clause-numbered
 returns-in-Ended-clause-numbered g c =
-    rw c.ended.ensures (ended_numbered c.next_token.new.scanner c.loop-keyword.block c.in-Ended.line (block_fault_small _ _ _ _ _ _ c.loop-keyword.invariant.block))
+    rw c.ended.ensures
+    (ended_numbered c.next_token.new.scanner c.loop-keyword.block c.in-Ended.line (block_fault_small _ _ _ _ _ _ c.loop-keyword.invariant.block))
 
 pub returns-in-Cut-clause-numbered : goal.returns-in-Cut-clause-numbered
 returns-in-Cut-clause-numbered g c = rw c.told_of_cut-last.ensures

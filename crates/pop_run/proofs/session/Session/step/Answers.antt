@@ -6,12 +6,24 @@ use Rattle.pop_run.proofs.session.Session.step.Goals as goal
 pub returns-in-Sound-clause-does : goal.returns-in-Sound-clause-does
 returns-in-Sound-clause-does g c running = rw (← c.self.view_is, c.answer.ensures.step, c.answer.ensures.place)
     (item_done _ _ _ _ _ _ (SoundEntry c.in-Sound.problem) c.print_sound-printed.result
-    (record { reads = (rw c.in-Sound.is at c.next_problem-item.ensures.item).0; used = rw c.in-Sound.is at c.next_problem-item.ensures.used; number = refl; status = refl; choice = refl })
+    (record {
+      reads = (rw c.in-Sound.is at c.next_problem-item.ensures.item).0;
+      used = rw c.in-Sound.is at c.next_problem-item.ensures.used;
+      number = refl;
+      status = refl;
+      choice = refl;
+    })
     (rw c.if-self.false refl) c.print_sound-printed.ensures.bytes)
 
 pub returns-in-Faulty-clause-does : goal.returns-in-Faulty-clause-does
 unfolding entry_text
 returns-in-Faulty-clause-does g c running = rw (← c.self.view_is, c.answer-in-Faulty.ensures.step, c.answer-in-Faulty.ensures.place)
     (item_done _ _ _ _ _ _ (FaultyEntry c.in-Faulty.fault) c.print_fault-printed.result
-    (record { reads = (rw c.in-Faulty.is at c.next_problem-item.ensures.item).0; used = rw c.in-Faulty.is at c.next_problem-item.ensures.used; number = refl; status = c.status_with-self-inside.ensures; choice = refl })
+    (record {
+      reads = (rw c.in-Faulty.is at c.next_problem-item.ensures.item).0;
+      used = rw c.in-Faulty.is at c.next_problem-item.ensures.used;
+      number = refl;
+      status = c.status_with-self-inside.ensures;
+      choice = refl;
+    })
     (rw c.if-self.false refl) c.print_fault-printed.ensures.bytes)
