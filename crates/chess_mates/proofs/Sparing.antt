@@ -1,6 +1,6 @@
 -- No reply mates after a defender's move without risk.
 use Rattle.chess_rules.proofs.Basics.{Bool, List, None, Option, Some, [], and_from, and_left, and_parts, and_right, ap, arith, bit_at, cases_Bool, cases_eq, eqb-true, false, false_from_ne_true, false≢true, if◌then◌else◌, inl, inr, is_some, list_any, not, or_parts, refl, subst, sym, true, ℕ, ◌-◌, ◌<◌, ◌==◌, ◌∙◌, ◌≡◌, ◌≢◌, ◌⊎◌}
-use Rattle.chess_mates.proofs.Chess.{Colour, IsWellFormed, Kind, King, Man, Move, Pawn, Position, RuleSet, arriving_man, capture_square, corner, halfway, in_check, is_absent, is_arrival_free, is_attacked, is_attacked_at, is_castling, is_circe, is_fairy, is_legal, is_man, is_on_some, is_pseudo_legal, is_of_colour, is_square, king_after, king_square, leaps, man_on, mates, mates_behind, may_check_from, may_go, other, position_after, queen_steps}
+use Rattle.chess_mates.proofs.Chess.{Colour, IsWellFormed, Kind, King, Man, Move, Pawn, Position, RuleSet, arriving_man, capture_square, corner, halfway, in_check, is_absent, is_arrival_free, is_attacked, is_attacked_at, is_castling, captures_do_more, is_fairy, is_legal, is_man, is_on_some, is_pseudo_legal, is_of_colour, is_square, king_after, king_square, leaps, man_on, mates, mates_behind, may_check_from, may_go, other, position_after, queen_steps}
 use Rattle.chess_mates.proofs.Chess.{position_after_by, reaches_as, same_colour, same_colour-true, same_kind, side_of, straight_steps, is_attacker, triple_at, word}
 use Rattle.chess_core.specs.Castling.{has_unmoved}
 use Rattle.chess_rules.specs.Play.{is_double_step}
@@ -46,7 +46,7 @@ pub record IsSpared (p : Position) (m : Move) (x : Man) (v : Siege) (k : ℕ) (r
   pub off_king : (e : ℕ) → e < 64 → (bit_at v.hurdles e == 1) ≡ true → e ≢ k
 
 module _ (rule : RuleSet) (p : Position) (m : Move) (x : Man) (v : Siege) (k : ℕ) (risk : Risk) (well : IsWellFormed p)
-    (may : is_pseudo_legal rule p m ≡ true) (here : man_on p.men m.from ≡ Some x) (circe : is_circe rule ≡ false) (small : m.to < 64) (from : m.from < 64)
+    (may : is_pseudo_legal rule p m ≡ true) (here : man_on p.men m.from ≡ Some x) (circe : captures_do_more rule ≡ false) (small : m.to < 64) (from : m.from < 64)
     (king : king_after p x m ≡ Some k) (i : IsSpared p m x v k risk) where
   abbrev g : Field
   g = i.at.field

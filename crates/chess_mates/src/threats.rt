@@ -66,7 +66,7 @@ fn unplain_squares(board: &Board, man: Man, from: Square) -> u64
 fn can_be_told<R: Rules>(board: &Board) -> bool
     ensures { result ≡ true → IsTold R.rule board.now }
 {
-    !R::is_circe() && has_no_fairy(board, board.turn().other())
+    !R::captures_do_more() && has_no_fairy(board, board.turn().other())
 }
 
 // Against so many men or fewer threats aren't told.

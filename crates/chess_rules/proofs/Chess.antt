@@ -33,7 +33,7 @@ pub use Rattle.chess_rules.specs.Play.{arriving_man, by_shade, captured_man, cor
 unfoldable pub use Rattle.chess_rules.specs.Play.{position_after_by, capture_square, moved_men, position_after, rebirth, reborn_square, undo_by, undo_of, unmoved_after}
 pub use Rattle.chess_rules.specs.Reaches.{goes_by, is_occupied, is_vacant_at, reaches_of}
 unfoldable pub use Rattle.chess_rules.specs.Reaches.{hops, is_clear, leaps, reaches, reaches_as, rides}
-pub use Rattle.chess_rules.specs.RuleSet.{RuleSet, captures_are_reborn, captures_do_more, circe, faced_men_stand_still, is_circe, orthodox}
+pub use Rattle.chess_rules.specs.RuleSet.{RuleSet, captures_are_reborn, captures_do_more, circe, faced_men_stand_still, orthodox}
 pub use Rattle.chess_rules.specs.declared.lines.Direction.{Direction}
 pub use Rattle.chess_rules.specs.declared.lines.Direction.TheVariants.{East, EastNorthEast, EastSouthEast, North, NorthEast, NorthNorthEast, NorthNorthWest, NorthWest, South, SouthEast, SouthSouthEast, SouthSouthWest, SouthWest, West, WestNorthWest, WestSouthWest}
 pub use Rattle.chess_rules.specs.declared.shields.RiderLines.TheVariants.{Straight}

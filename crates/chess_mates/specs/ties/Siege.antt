@@ -3,7 +3,7 @@ use Rattle.std.specs.Prelude.{◌≡◌, ◌≢◌, ◌<◌, ◌==◌, ◌⊎◌
 use Rattle.std.specs.Int.{bit_at}
 use Rattle.std.specs.List.{list_any}
 use Rattle.chess_core.specs.Castling.{has_unmoved}
-use Rattle.chess_core.specs.Position.{Position, is_man, is_of_colour, king_square, man_on, other, same_kind}
+use Rattle.chess_core.specs.Position.{Position, is_fairy, is_man, is_of_colour, king_square, man_on, other, same_kind}
 use Rattle.chess_core.specs.Squares.{squares}
 use Rattle.chess_core.specs.Steps.{queen_steps, straight_steps}
 use Rattle.chess_core.specs.declared.man.Colour.{Colour}
@@ -20,7 +20,6 @@ use Rattle.chess_mates.specs.declared.siege.Siege.{Siege}
 use Rattle.chess_mates.specs.ties.LastingFlights.{IsLeft}
 use Rattle.chess_rules.specs.Reaches.{leaps, reaches_as}
 use Rattle.chess_rules.specs.ties.Lines.{is_on_some}
-use Rattle.chess_rules.specs.ties.Shields.{is_fairy}
 use Rattle.chess_rules.specs.ties.Targets.{is_promoting, may_go}
 
 -- a man on each square of the word, and on no other

@@ -1,7 +1,7 @@
 -- Threats of mate, told before the defender's move (own).
 use Rattle.std.specs.Prelude.{◌≡◌, ◌<◌, ◌==◌, ℕ, true, false, List, [], Option, Some}
 use Rattle.std.specs.Int.{bit_at}
-use Rattle.chess_core.specs.Position.{Position, man_on, other, same_kind}
+use Rattle.chess_core.specs.Position.{Position, is_fairy, man_on, other, same_kind}
 use Rattle.chess_core.specs.declared.man.Colour.{Colour}
 use Rattle.chess_core.specs.declared.man.Kind.TheVariants.{Pawn}
 use Rattle.chess_core.specs.declared.man.Man.{Man}
@@ -12,8 +12,7 @@ use Rattle.chess_mates.specs.ties.Mates.{mates_behind}
 use Rattle.chess_mates.specs.ties.Siege.{AreThreats, IsSiegeOf}
 use Rattle.chess_rules.specs.Legal.{is_legal}
 use Rattle.chess_rules.specs.Play.{capture_square, halfway, is_castling, is_double_step, position_after}
-use Rattle.chess_rules.specs.RuleSet.{RuleSet, is_circe}
-use Rattle.chess_rules.specs.ties.Shields.{is_fairy}
+use Rattle.chess_rules.specs.RuleSet.{RuleSet, captures_do_more}
 use Rattle.chess_rules.specs.ties.Targets.{may_go}
 
 -- no man of the colour is a fairy man
@@ -23,7 +22,7 @@ pub record HasNoFairy (men : List (Option Man)) (c : Colour) : Type 0 where
 
 -- threats are told: without Circe, against a side that has no fairy man
 pub record IsTold (rule : RuleSet) (p : Position) : Type 0 where
-  pub circe : is_circe rule ≡ false
+  pub circe : captures_do_more rule ≡ false
   pub fairies : HasNoFairy p.men (other p.turn)
 
 -- what is told: a siege, and the risk of its king

@@ -1,6 +1,6 @@
 -- Moves that are legal without a look.
 use Rattle.chess_rules.proofs.Basics.{Bool, None, Some, and_from, ap, if◌then◌else◌, refl, bit_or, and_left, bit_and, bit_at, eqb-true, false, is_some, not, or_parts, rules, sym, true, ℕ, ◌&&◌, ◌<◌, ◌==◌, ◌∙◌, ◌≡◌}
-use Rattle.chess_rules.proofs.Chess.{AreCandidates, IsAimed, IsWellFormed, King, Man, Move, Pawn, Position, RuleSet, is_promoting, is_circe, is_legal, is_plain, is_square, last_rank, man_on, may_expose, may_stand_between, rank_of, same_kind, squares_either, squares_same, word}
+use Rattle.chess_rules.proofs.Chess.{AreCandidates, IsAimed, IsWellFormed, King, Man, Move, Pawn, Position, RuleSet, is_promoting, captures_do_more, is_legal, is_plain, is_square, last_rank, man_on, may_expose, may_stand_between, rank_of, same_kind, squares_either, squares_same, word}
 use Rattle.chess_rules.proofs.Bits.{word_empty, word_has}
 use Rattle.chess_rules.proofs.attacks.Shielding.{cannot_expose_own}
 use Rattle.chess_rules.proofs.listing_moves.Arrivals.{aimed_plain, goes_on, may_go_aimed}
@@ -43,7 +43,7 @@ reborn_word false test = word_empty (λ t. false && test t) (λ t lt. refl)
 
 -- the word of the squares that aren't sure: those on the lines of fairy men, the crossed one, those with men who may be reborn, and of a pawn's last rank
 pub unsure_word : (rule : RuleSet) (p : Position) (x : Man) (f c r l : ℕ) → f ≡ word (may_stand_between p.men p.turn) → c ≡ word (λ t. is_square p.crossed t)
-    → r ≡ (if is_circe rule then word (λ t. is_some (man_on p.men t)) else 0) → l ≡ word (is_promoting x)
+    → r ≡ (if captures_do_more rule then word (λ t. is_some (man_on p.men t)) else 0) → l ≡ word (is_promoting x)
     → bit_or (bit_or (bit_or f c) r) l ≡ word (is_unsure rule p x)
 unfolding is_unsure
 unsure_word rule p x f c r l hf hc hr hl = search (rules, reborn_word, squares_either)
