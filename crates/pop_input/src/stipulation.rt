@@ -10,7 +10,7 @@ pub enum Form {
     /// `#n`: White starts and reaches the goal against every defence.
     Direct,
     /// `s#n`: White starts and forces Black to reach it against White.
-    Selfmate,
+    SelfMate,
     /// `h#n`: Black starts, both help, and White reaches it with his last move.
     Help,
     /// `h#n.5`: as `h#n`, with one half-move of White more at its front.
@@ -55,7 +55,7 @@ impl Form {
         ensures { result ≡ is_help self }
     {
         match self {
-            Form::Direct | Form::Selfmate => false,
+            Form::Direct | Form::SelfMate => false,
             Form::Help | Form::HelpHalf => true,
         }
     }
@@ -65,7 +65,7 @@ impl Form {
         ensures { result ≡ first_half self }
     {
         match self {
-            Form::Direct | Form::Selfmate | Form::Help => 1,
+            Form::Direct | Form::SelfMate | Form::Help => 1,
             Form::HelpHalf => 2,
         }
     }
@@ -76,7 +76,7 @@ impl Form {
     {
         match self {
             Form::Help => Colour::Black,
-            Form::Direct | Form::Selfmate | Form::HelpHalf => Colour::White,
+            Form::Direct | Form::SelfMate | Form::HelpHalf => Colour::White,
         }
     }
 
@@ -85,7 +85,7 @@ impl Form {
         ensures { result ≡ goal_side self }
     {
         match self {
-            Form::Selfmate => Colour::White,
+            Form::SelfMate => Colour::White,
             Form::Direct | Form::Help | Form::HelpHalf => Colour::Black,
         }
     }
@@ -99,7 +99,7 @@ impl Stipulation {
         let n = self.n as usize;
         match self.form {
             Form::Direct => (2 * n).saturating_sub(1),
-            Form::Selfmate | Form::Help => 2 * n,
+            Form::SelfMate | Form::Help => 2 * n,
             Form::HelpHalf => 2 * n + 1,
         }
     }

@@ -1,5 +1,5 @@
 -- What a sound problem's play rests on, and how the sides play.
-use Rattle.pop_input.specs.declared.stipulation.Form.TheVariants.{Direct as DirectForm, Selfmate as SelfmateForm, Help, HelpHalf}
+use Rattle.pop_input.specs.declared.stipulation.Form.TheVariants.{Direct as DirectForm, SelfMate, Help, HelpHalf}
 use Rattle.pop_solve.proofs.Words.{Battle, BattlePlay, Direct, Form, HelpPlay, Selfmate, arith, false, is_help_play, is_help, play_of, rules, IsSound, IsWellFormed, None, Phase, Posed, Position, half_moves, is_crossed_right, other, phase_start, refl, sym, ap, true, ◌≡◌, ◌≤◌, ◌∙◌}
 
 -- a problem has 1 to 32 half-moves
@@ -34,7 +34,7 @@ help-form form e = sym (helps-form form) ∙ ap is_help_play e
 -- any other form is a battle
 pub battle-play : (form : Form) → is_help form ≡ false → (battle : Battle) × (play_of form ≡ BattlePlay battle)
 battle-play DirectForm e = (Direct, refl)
-battle-play SelfmateForm e = (Selfmate, refl)
+battle-play SelfMate e = (Selfmate, refl)
 battle-play Help e = absurd cc
 battle-play HelpHalf e = absurd cc
 

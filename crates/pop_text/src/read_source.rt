@@ -3,7 +3,7 @@ ghost use Rattle.std.specs.Prelude.{◌≡◌, ℕ, List, ◌<◌, ◌+◌, ◌^
 ghost use Rattle.std.specs.Io.{ReadsAtMost};
 ghost use Rattle.pop_text.specs.Bytes.{Keeps, Consumes, ReadConsumes, TellsRead, count_after, greatest_count};
 
-use crate::source::{Source, SourceFault};
+use crate::source::{Source, Device};
 use std::io;
 use std::io::Read;
 
@@ -27,7 +27,7 @@ impl<R: Read + Drop> ReadSource<R> {
     }
 
     // What the reader's answer is told as: so many bytes, none of them at the end, or a failure, which is counted.
-    fn told(&mut self, answer: io::Result<usize>) -> Result<usize, SourceFault>
+    fn told(&mut self, answer: io::Result<usize>) -> Result<usize, Device>
         requires { self.old.failures < greatest_count }
         ensures answer { TellsRead answer result }
         ensures counted { self.new.failures ≡ count_after result self.old.failures }
@@ -37,7 +37,7 @@ impl<R: Read + Drop> ReadSource<R> {
             Ok(n) => Ok(n),
             Err(_) => {
                 self.failures += 1;
-                Err(SourceFault)
+                Err(Device)
             }
         }
     }
@@ -48,7 +48,7 @@ impl<R: Read + Drop> Source for ReadSource<R> {
 
     ghost failures = { λ s. s.failures };
 
-    fn read(&mut self, buffer: &mut [u8]) -> Result<usize, SourceFault> {
+    fn read(&mut self, buffer: &mut [u8]) -> Result<usize, Device> {
         let answer = self.reader.read(buffer);
         self.told(answer)
     }

@@ -4,7 +4,7 @@ ghost use Rattle.std.specs.Io.{ReadsAtMost};
 ghost use Rattle.pop_text.specs.Bytes.{ReadConsumes, count_after, greatest_count};
 ghost use Rattle.pop_text.specs.ties.Trials.{Gives, bytes_handed_out, cycled_bytes, repeated_bytes, round_of};
 
-use crate::source::{Source, SourceFault};
+use crate::source::{Source, Device};
 use std::marker::Model;
 
 /// Hands out a text, once or over and over, and may fail once on the way. A call gives no bytes of two rounds.
@@ -145,7 +145,7 @@ impl<'a> Source for TrialSource<'a> {
 
     ghost failures = { λ s. s.failures };
 
-    fn read(&mut self, buffer: &mut [u8]) -> Result<usize, SourceFault>
+    fn read(&mut self, buffer: &mut [u8]) -> Result<usize, Device>
         requires { self.old.failures < greatest_count }
         ensures bound { ReadsAtMost result buffer.new }
         ensures bytes { ReadConsumes (⟦<TrialSource<'a> as Source>⟧.remaining self.old)
@@ -156,7 +156,7 @@ impl<'a> Source for TrialSource<'a> {
         if let Some(0) = self.until_failure {
             self.until_failure = None;
             self.failures += 1;
-            return Err(SourceFault);
+            return Err(Device);
         }
         let rest = self.round();
         let count = self.reach(rest.len(), buffer.len());

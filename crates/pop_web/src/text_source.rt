@@ -3,7 +3,7 @@ ghost use Rattle.std.specs.Prelude.{◌≡◌, ℕ, List, ◌<◌, ◌≤◌, �
 ghost use Rattle.std.specs.Io.{ReadsAtMost};
 ghost use Rattle.pop_text.specs.Bytes.{ReadConsumes, count_after, greatest_count};
 
-use pop_text::source::{Source, SourceFault};
+use pop_text::source::{Source, Device};
 
 /// Hands out a text once. It never fails.
 #[derive(Drop)]
@@ -27,7 +27,7 @@ impl<'a> Source for TextSource<'a> {
 
     ghost failures = { λ s. 0 };
 
-    fn read(&mut self, buffer: &mut [u8]) -> Result<usize, SourceFault> {
+    fn read(&mut self, buffer: &mut [u8]) -> Result<usize, Device> {
         let count = self.rest.len().min(buffer.len());
         let (given, rest) = self.rest.split_at(count);
         buffer[..count].copy_from_slice(given);

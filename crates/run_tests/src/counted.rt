@@ -2,7 +2,7 @@
 ghost use Rattle.std.specs.Prelude.{◌≡◌, ◌<◌};
 
 use pop_text::sink::{Sink, SinkFault};
-use pop_text::source::{Source, SourceFault};
+use pop_text::source::{Source, Device};
 
 /// A source or a sink, with how often it was asked, and how often behind a call that failed.
 #[derive(Drop)]
@@ -41,7 +41,7 @@ impl<S: Source> Source for Counted<S> {
 
     ghost failures = { λ s. S.failures s.device };
 
-    fn read(&mut self, buffer: &mut [u8]) -> Result<usize, SourceFault> {
+    fn read(&mut self, buffer: &mut [u8]) -> Result<usize, Device> {
         self.count();
         let read = self.device.read(buffer);
         self.has_failed |= read.is_err();
