@@ -1,6 +1,6 @@
 -- The words of risks: what a defender must avoid lest a reply may mate.
 use Rattle.chess_rules.proofs.Basics.{List, Option, Some, and_left, and_parts, ap, arith, bit_and, bit_at, bit_at-lt, bit_not, bit_or, cases_Bool, cases_eq, eq-eqb, eqb-true, false, false≢true, find, inl, inr, not, range_with_len, refl, subst, sym, true, true_from_ne_false, w64, ℕ, ◌+◌, ◌-◌, ◌<◌, ◌==◌, ◌^◌, ◌∙◌, ◌≡◌, ◌≢◌, ◌⊎◌}
-use Rattle.chess_mates.proofs.Chess.{Bishop, Colour, Grasshopper, Kind, King, Knight, Man, Nightrider, Pawn, Position, Queen, Rook, is_promoting, find_first, is_square, leaps, may_go, occupied_squares, other}
+use Rattle.chess_mates.proofs.Chess.{AreApproaches, Bishop, Colour, Grasshopper, Kind, King, Knight, Man, Nightrider, Pawn, Position, Queen, Rook, arrives, find_first, is_square, leaps, may_go, occupied_squares, other}
 use Rattle.chess_mates.proofs.Chess.{reaches_as, rides, same_kind, same_kind-true, squares, word}
 use Rattle.chess_mates.specs.declared.siege.Attackers.{Attackers}
 use Rattle.chess_mates.specs.declared.siege.Field.{Field}
@@ -106,16 +106,17 @@ king_targets x checks t king = record {
   plain = no_pawn_arrives x t (king_is_no_pawn x.kind king);
 }
 
+pawn_quiet : (x : Man) (checks t : ℕ) → t < 64 → (bit_at (bit_or checks 18374686479671623935) t == 1) ≡ false → IsNoCheck checks x t
+pawn_quiet x checks t small none = record {
+  off = λ mortal. off_left checks 18374686479671623935 t none;
+  plain = false_by (arrives x t) (λ last. false≢true (sym (off_right checks 18374686479671623935 t none)
+      ∙ last_rank_on x.colour t small (and_parts _ _ last).1));
+}
+
 -- a pawn checks or promotes
 pub pawn_targets : (x : Man) (reached checks t : ℕ) → t < 64 → (bit_at reached t == 1) ≡ true
     → (bit_at (bit_and reached (bit_or checks 18374686479671623935)) t == 1) ≡ false → IsNoCheck checks x t
-pawn_targets x reached checks t small on off =
-    let both = off_second reached (bit_or checks 18374686479671623935) t off on in
-    record {
-      off = λ mortal. off_left checks 18374686479671623935 t both;
-      plain = false_by (is_promoting x t) (λ last. false≢true (sym (off_right checks 18374686479671623935 t both)
-          ∙ last_rank_on x.colour t small (and_parts _ _ last).1));
-    }
+pawn_targets x reached checks t small on off = pawn_quiet x checks t small (off_second reached (bit_or checks 18374686479671623935) t off on)
 
 -- a piece checks from the check squares
 pub piece_targets : (x : Man) (reached checks t : ℕ) → same_kind x.kind Pawn ≡ false → (bit_at reached t == 1) ≡ true
@@ -245,6 +246,30 @@ module _ (v : Siege) (g : Field) (checks : ℕ) (x : Man) (s reached targets : �
       ];
     };
   }
+
+-- for `suspect_squares`: who uncovers nothing, and a pawn who comes to no target
+module _ (v : Siege) (g : Field) (checks : ℕ) (x : Man) (s : ℕ) (hidden : (bit_at g.lines s == 1) ≡ false) where
+  -- a king
+  pub harmless_idly : ((p : Position) (t : ℕ) → t < 64 → may_go p x s t ≡ true → IsNoCheck checks x t)
+      → IsHarmless v g checks (record { critical = 0; lines = 0 }) x s
+  harmless_idly quiet = record {
+    mild = λ a b small inside off. record {
+      each = λ t i there. inl (record { check = quiet i.position t i.small i.goes; covered = inl hidden });
+    };
+  }
+
+  -- a pawn, by the squares from which he might come to a target
+  pub pawn_idly : (w : ℕ) → AreApproaches x (bit_or checks 18374686479671623935) w → s < 64 → (bit_at w s == 1) ≡ false
+      → IsHarmless v g checks (record { critical = 0; lines = 0 }) x s
+  pawn_idly w before small off = harmless_idly (λ p t inside goes. pawn_quiet x checks t inside
+      (false_by _ (λ on. false≢true (sym off ∙ before.approach p s t small inside goes on))))
+
+-- for men who aren't suspect: no risk is less than any
+pub harmless_more : (v : Siege) (g : Field) (checks : ℕ) (r : Risk) (x : Man) (s : ℕ)
+    → IsHarmless v g checks (record { critical = 0; lines = 0 }) x s → IsHarmless v g checks r x s
+harmless_more v g checks r x s h = record {
+  mild = λ a b small inside off. h.mild a b small inside (record { lines = λ on. off_zero a; critical = off_zero b });
+}
 
 -- risks together
 abbrev Both : Risk → Risk → Risk

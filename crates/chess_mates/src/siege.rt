@@ -8,13 +8,14 @@ ghost use Rattle.chess_core.specs.Position.{king_square, other};
 ghost use Rattle.chess_core.specs.WellFormed.{IsWellFormed};
 ghost use Rattle.chess_core.specs.declared.man.Kind.TheVariants.{King};
 ghost use Rattle.chess_core.specs.declared.man.Man.{Man};
+ghost use Rattle.chess_mates.specs.declared.siege.Siege.{Siege};
 ghost use Rattle.chess_core.specs.ties.Words.{squares_of};
 ghost use Rattle.chess_mates.specs.ties.LastingFlights.{IsLeft};
 ghost use Rattle.chess_mates.specs.ties.Siege.{AreArrivals, AreAttackers, AreCastlingSquares, AreGuardsWithout, AreHurdles, AreReached, AreThreats, AreWeak, IsAttacker, IsCastlingHarmless, IsCheckWord, IsField, IsHarmless, IsLifted, IsMet, IsNear, IsNoCheck, IsOff, IsReached, IsRiskAt, IsRiskBehind, IsSafeMove, IsSafeStep, IsSiege, IsSiegeOf, IsWeak, LeavesOne, is_leaper, is_rider};
 ghost use Rattle.chess_rules.specs.ties.Targets.{is_promoting};
 
 use crate::lasting_flights::open_reach;
-use crate::open_board::open_targets;
+use crate::open_board::{open_targets, pawns_before};
 use chess_core::board::Board;
 use chess_core::man::{Colour, Kind, Man};
 use chess_core::square::Square;
@@ -344,6 +345,21 @@ fn check_squares_over(siege: &Siege, field: &Field, man: Man) -> u64
     reach_over(siege.hurdles, man.colour.other(), man.kind, field.king)
 }
 
+// The squares from which the man may check or promote with his next move, were the others gone, or uncover a check, and
+// perhaps more: of pawns and kings fewer than all.
+fn suspect_squares(field: &Field, man: Man, checks: u64) -> u64
+    ensures { (v : Siege) (s : ℕ) → s < 64 → (bit_at result s == 1) ≡ false
+        → IsHarmless v field.now checks (record { critical = 0; lines = 0 }) man s }
+{
+    if man.kind.is(Kind::Pawn) {
+        return field.lines | pawns_before(man.colour, checks | LAST_RANKS);
+    }
+    if man.kind.is(Kind::King) {
+        return field.lines;
+    }
+    !0
+}
+
 // The risk of the men of this kind, who stand on the squares. Where one of them checks now, nothing is told.
 fn risk_of(siege: &Siege, field: &Field, kind: Kind, squares: u64) -> Risk
     requires { IsField siege.now field.now }
@@ -368,7 +384,8 @@ fn risk_of(siege: &Siege, field: &Field, kind: Kind, squares: u64) -> Risk
             lines: 0,
         };
     }
-    risk_together(siege, field, man, squares, checks)
+    let suspects = squares & suspect_squares(field, man, checks);
+    risk_together(siege, field, man, suspects, checks)
 }
 
 // The risk of all attackers.
