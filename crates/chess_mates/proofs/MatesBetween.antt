@@ -7,8 +7,7 @@ use Rattle.chess_rules.proofs.listing_moves.Walks.{candidates, no_candidates}
 use Rattle.chess_mates.proofs.Mating.{legal_of_mate, mates_behind-end, mates_behind-none, mates_numbered, no_mate, no_mate_quietly, not_mating}
 
 none_before : (xs ys : List Move) → xs ++ ys ≡ ys → xs ≡ []
-none_before [] ys e = refl
-none_before (x ∷ xs) ys e = grind (arith, length-append (x ∷ xs) ys)
+none_before xs ys e = append_cancel_right xs [] ys e
 
 -- the first move that mates behind a place, by its number
 pub next_mate_numbered : (rule : RuleSet) (p : Position) (start n : ℕ) → start ≤ n → n < 28672 → mates_behind rule p n ≡ mates_behind rule p start
@@ -24,25 +23,25 @@ pub cut_mates : (rule : RuleSet) (p : Position) (a b : ℕ) → a ≤ b → mate
 unfolding mates_behind mates_between
 cut_mates rule p a b le = grind (arith, behind_cut rule p a b le, filter-append (is_mating rule p) (moves_between rule p a b) (moves_behind rule p b))
 
--- up to the first move that mates, and where none is left before the end
+-- up to the first move that mates
 pub until-mate : (rule : RuleSet) (p : Position) (a n e : ℕ) → a ≤ n → n < e → n < 28672 → HaveNone (mates rule p) a n → mates rule p (triple_at n) ≡ true
     → mates_between rule p a e ≡ triple_at n ∷ mates_between rule p (n + 1) e
 until-mate rule p a n e low before fits none h =
     append_cancel_right (mates_between rule p a e) (triple_at n ∷ mates_between rule p (n + 1) e) (mates_behind rule p e)
     (grind (arith, cut_mates, mates_numbered, mates_behind-none))
 
--- and where no move mates
+-- no mate lies before an end that the walk reaches
 pub until-mateless : (rule : RuleSet) (p : Position) (a n e : ℕ) → a < n → n ≤ 28672 → n ≤ e → (n < 28672 → e ≤ n) → HaveNone (mates rule p) a n
     → mates_between rule p a e ≡ []
 until-mateless rule p a n e lt fits before all none =
     grind (arith, none_before, cut_mates rule p a e (omega (arith, lt, before)), mates_behind-none, cases_lt n 28672, mates_behind-end)
 
--- between a place and one before it there is none
+-- none lies between a place and one that isn't behind it
 pub mates_between-none : (rule : RuleSet) (p : Position) (a b : ℕ) → b ≤ a → mates_between rule p a b ≡ []
 unfolding mates_between
 mates_between-none rule p a b le = rw (between-none rule p a b le) refl
 
--- nor behind all triples
+-- nor behind the last triple
 pub mates_between-past : (rule : RuleSet) (p : Position) (a b : ℕ) → 28672 ≤ a → mates_between rule p a b ≡ []
 unfolding mates_between
 mates_between-past rule p a b ge = rw (between-past rule p a b ge) refl

@@ -1,59 +1,43 @@
 -- The moves that mate, by their numbers.
-use Rattle.chess_core.proofs.Ranges.{second_fails}
 use Rattle.chess_rules.proofs.Basics.{[], and_left, and_right, ap, arith, cases_Bool, cases_lt, false, inl, inr, not, refl, rules, suc, sym, true, zero, ℕ, ◌&&◌, ◌+◌, ◌-◌, ◌<◌, ◌∙◌, ◌∷◌, ◌≡◌, ◌≤◌}
-use Rattle.chess_mates.proofs.Chess.{HaveNone, Move, Position, RuleSet, position_after_by, first_of_and, in_check, is_legal, is_mate, is_pseudo_legal, mates, mates_behind, other, position_after, second_of_and, triple_at}
-use Rattle.chess_rules.proofs.listing_moves.Places.{moves_behind-end, moves_behind-here, moves_behind-skip}
+use Rattle.chess_mates.proofs.Chess.{HaveNone, Move, Position, RuleSet, after_by, first_of_and, in_check, is_legal, is_mate, is_mating, is_pseudo_legal, mates, mates_behind, other, position_after, second_of_and, triple_at}
+use Rattle.chess_rules.proofs.listing_moves.Places.{moves_behind-end, moves_behind-here}
+use Rattle.chess_rules.proofs.listing_moves.Sifting.{wanted-none}
 use Rattle.chess_rules.specs.ties.Idle.{is_legal-idle}
 use Rattle.chess_rules.proofs.making_moves.Stays.{maker}
 use Rattle.chess_rules.proofs.listing_moves.Calls.{is_pseudo_legal-from_legal}
 
--- the mates behind a place before one
 mates_behind-here : (rule : RuleSet) (p : Position) (n : ℕ) → n < 28672 → mates rule p (triple_at n) ≡ true
     → mates_behind rule p n ≡ (triple_at n ∷ mates_behind rule p (n + 1))
 unfolding mates_behind mates
 mates_behind-here rule p n lt h = search (rules, first_of_and, moves_behind-here, second_of_and)
 
--- and before a move that doesn't mate
-mates_behind-skip : (rule : RuleSet) (p : Position) (n : ℕ) → n < 28672 → mates rule p (triple_at n) ≡ false
-    → mates_behind rule p n ≡ mates_behind rule p (n + 1)
-unfolding mates_behind mates
-mates_behind-skip rule p n lt h = search (rules, second_fails, moves_behind-here, moves_behind-skip)
-
--- a move that can't be made doesn't mate
+-- a move that may not be made doesn't mate
 pub not_mating : (rule : RuleSet) (p : Position) (m : Move) → is_pseudo_legal rule p m ≡ false → mates rule p m ≡ false
 unfolding mates
 not_mating rule p m h = and_left _ _ (is_legal-idle rule p m h)
 
--- over a stretch without mates
-skip_by : (rule : RuleSet) (p : Position) (n a b : ℕ) → b ≡ a + n → b ≤ 28672 → HaveNone (mates rule p) a b → mates_behind rule p a ≡ mates_behind rule p b
-skip_by rule p zero a b e le h = let same : a ≡ b = omega arith in ap (mates_behind rule p) same
-skip_by rule p (suc n) a b e le h =
-    mates_behind-skip rule p a (omega arith) (h.fails a (omega arith) (omega arith))
-    ∙ skip_by rule p n (a + 1) b (omega arith) le (record { fails = λ k lo hi. h.fails k (omega arith) hi })
-
--- behind all triples there are no mates
+-- from the end on there are none
 pub mates_behind-end : (rule : RuleSet) (p : Position) (n : ℕ) → 28672 ≤ n → mates_behind rule p n ≡ []
 unfolding mates_behind
 mates_behind-end rule p n ge = search (rules, moves_behind-end)
 
--- for a walk over moves that don't mate
+-- over a stretch without mates
 pub mates_behind-none : (rule : RuleSet) (p : Position) (a b : ℕ) → (b < 28672 → a ≤ b) → b ≤ 28672 → HaveNone (mates rule p) a b
     → mates_behind rule p a ≡ mates_behind rule p b
-mates_behind-none rule p a b low high h = elim (cases_lt b a) [
-  | inr ge ↦ skip_by rule p (b - a) a b (omega arith) high h
-  | inl lt ↦ grind (arith, cases_lt, mates_behind-end)
-]
+unfolding mates_behind mates
+mates_behind-none rule p a b low high h = wanted-none rule p (is_mating rule p) a b low high h
 
--- a move that can't be made doesn't mate, nor one that gives no check if it is legal
+-- the same for search
 pub no_mate : (rule : RuleSet) (p : Position) (m : Move) → false ≡ is_pseudo_legal rule p m → false ≡ mates rule p m
 no_mate rule p m h = sym (not_mating rule p m (sym h))
 
--- after a move the other side is to move
+-- the other side is to move after a move
 pub turn_after : (rule : RuleSet) (p : Position) (m : Move) → is_pseudo_legal rule p m ≡ true → (position_after rule p m).turn ≡ other p.turn
 unfolding position_after position_after_by
 turn_after rule p m h = let x = maker rule p m h in rw x.1 refl
 
--- for moves that give no check if they are legal
+-- a move that gives no check if it is legal doesn't mate
 pub no_mate_quietly : (rule : RuleSet) (p : Position) (m : Move)
     → (is_legal rule p m ≡ true → in_check rule (position_after rule p m).men (other p.turn) ≡ false) → false ≡ mates rule p m
 unfolding mates is_mate
