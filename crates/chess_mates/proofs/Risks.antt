@@ -1,6 +1,6 @@
 -- The words of risks: what a defender must avoid lest a reply may mate.
 use Rattle.chess_rules.proofs.Basics.{List, Option, Some, and_left, and_parts, ap, arith, bit_and, bit_at, bit_at-lt, bit_not, bit_or, cases_Bool, cases_eq, eq-eqb, eqb-true, false, false≢true, find, inl, inr, not, range_with_len, refl, subst, sym, true, true_from_ne_false, w64, ℕ, ◌+◌, ◌-◌, ◌<◌, ◌==◌, ◌^◌, ◌∙◌, ◌≡◌, ◌≢◌, ◌⊎◌}
-use Rattle.chess_mates.proofs.Chess.{AreApproaches, Bishop, Colour, Grasshopper, Kind, King, Knight, Man, Nightrider, Pawn, Position, Queen, Rook, arrives, find_first, is_square, leaps, may_go, occupied_squares, other}
+use Rattle.chess_mates.proofs.Chess.{AreApproaches, Bishop, Colour, Grasshopper, Kind, King, Knight, Man, Nightrider, Pawn, Position, Queen, Rook, is_promoting, find_first, is_square, leaps, may_go, occupied_squares, other}
 use Rattle.chess_mates.proofs.Chess.{reaches_as, rides, same_kind, same_kind-true, squares, word}
 use Rattle.chess_mates.specs.declared.siege.Attackers.{Attackers}
 use Rattle.chess_mates.specs.declared.siege.Field.{Field}
@@ -109,7 +109,7 @@ king_targets x checks t king = record {
 pawn_quiet : (x : Man) (checks t : ℕ) → t < 64 → (bit_at (bit_or checks 18374686479671623935) t == 1) ≡ false → IsNoCheck checks x t
 pawn_quiet x checks t small none = record {
   off = λ mortal. off_left checks 18374686479671623935 t none;
-  plain = false_by (arrives x t) (λ last. false≢true (sym (off_right checks 18374686479671623935 t none)
+  plain = false_by (is_promoting x t) (λ last. false≢true (sym (off_right checks 18374686479671623935 t none)
       ∙ last_rank_on x.colour t small (and_parts _ _ last).1));
 }
 

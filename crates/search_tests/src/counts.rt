@@ -1,7 +1,7 @@
 //! How many half-moves are tried, counted plainly: by recursion over copied positions.
 ghost use Rattle.chess_core.specs.WellFormed.{IsWellFormed};
 
-use crate::plain::{can_move, first_diagram, is_goal};
+use crate::plain::{can_move, first_diagram, is_goal_reached};
 use crate::row::half_moves;
 use chess_core::Board;
 use chess_rules::rules::{Circe, Madrasi, Orthodox, Rules};
@@ -75,7 +75,7 @@ struct Shown {
 fn smallest<R: Rules>(battle: Battle, board: &Board, left: usize) -> Shown
     requires { IsWellFormed board.now }
 {
-    if left % 2 == 0 && is_goal::<R>(battle.goal, board) {
+    if left % 2 == 0 && is_goal_reached::<R>(battle.goal, board) {
         return Shown {
             wins: true,
             positions: 0,

@@ -134,7 +134,7 @@ fn shown<R: Rules>(goal: Goal, before: &Board, after: &Board, by: Move) -> Shown
 }
 
 /// Whether the side to move is mated, or stalemated, whichever is the goal.
-pub(crate) fn is_goal<R: Rules>(goal: Goal, board: &Board) -> bool
+pub(crate) fn is_goal_reached<R: Rules>(goal: Goal, board: &Board) -> bool
     requires { IsWellFormed board.now }
 {
     in_check::<R>(board, board.turn()) == (goal == Goal::Mate) && !can_move::<R>(board)
@@ -153,7 +153,7 @@ pub(crate) fn can_move<R: Rules>(board: &Board) -> bool
 fn is_lost<R: Rules>(goal: Goal, board: &Board, moves: u8) -> bool
     requires { IsWellFormed board.now }
 {
-    if is_goal::<R>(goal, board) {
+    if is_goal_reached::<R>(goal, board) {
         return true;
     }
     if moves == 0 || !can_move::<R>(board) {
@@ -196,7 +196,7 @@ fn self_wins<R: Rules>(goal: Goal, board: &Board, moves: u8) -> bool
         while let Some(defence) = defences.next(&mut there) {
             let mut after = there;
             let _undo = R::play(&mut after, defence);
-            every = (is_goal::<R>(goal, &after) || self_wins::<R>(goal, &after, moves - 1))
+            every = (is_goal_reached::<R>(goal, &after) || self_wins::<R>(goal, &after, moves - 1))
                 && every;
         }
         some = some || every;
@@ -219,7 +219,7 @@ fn keeps<R: Rules>(goal: Goal, selfmate: bool, board: &Board, moves: u8) -> bool
     while let Some(defence) = defences.next(&mut here) {
         let mut after = here;
         let _undo = R::play(&mut after, defence);
-        every = (is_goal::<R>(goal, &after) || self_wins::<R>(goal, &after, further)) && every;
+        every = (is_goal_reached::<R>(goal, &after) || self_wins::<R>(goal, &after, further)) && every;
     }
     every
 }
@@ -281,7 +281,7 @@ fn white<R: Rules>(told: &mut Told, battle: Battle, board: &Board, moves: u8, de
         let _undo = R::play(&mut there, by);
         if keeps::<R>(battle.goal, battle.selfmate, &there, moves) {
             told.node(depth, shown::<R>(battle.goal, &here, &there, by));
-            if left > 0 && !is_goal::<R>(battle.goal, &there) {
+            if left > 0 && !is_goal_reached::<R>(battle.goal, &there) {
                 black::<R>(told, battle, &there, depth.saturating_add(1), left);
             }
         }
@@ -301,7 +301,7 @@ fn black<R: Rules>(told: &mut Told, battle: Battle, board: &Board, depth: u32, l
         let mut there = here;
         let _undo = R::play(&mut there, defence);
         told.node(depth, shown::<R>(battle.goal, &here, &there, defence));
-        if !is_goal::<R>(battle.goal, &there) {
+        if !is_goal_reached::<R>(battle.goal, &there) {
             let moves = least::<R>(battle.goal, battle.selfmate, &there, battle.moves);
             white::<R>(
                 told,
@@ -325,7 +325,7 @@ fn set<R: Rules>(told: &mut Told, battle: Battle, board: &Board, left: u8)
     while let Some(by) = moves.next(&mut here) {
         let mut there = here;
         let _undo = R::play(&mut there, by);
-        let mates = is_goal::<R>(battle.goal, &there);
+        let mates = is_goal_reached::<R>(battle.goal, &there);
         let further = battle.moves.saturating_sub(1);
         if battle.selfmate && mates || wins::<R>(battle.goal, battle.selfmate, &there, further) {
             told.node(0, shown::<R>(battle.goal, &here, &there, by));
@@ -351,7 +351,7 @@ fn help<R: Rules>(
     requires room { len + left ≤ 32 }
 {
     if left == 0 {
-        if is_goal::<R>(goal, board) {
+        if is_goal_reached::<R>(goal, board) {
             told.line(&path[..len]);
         }
         return;
