@@ -18,7 +18,7 @@ use chess_core::board::Board;
 use chess_core::man::Colour;
 use chess_core::square::Square;
 
-/// A direction of a line: the queen's eight, then the knight's eight.
+/// A direction of a line, as seen by White: the queen's eight, then the knight's eight.
 #[derive(Clone, Copy)]
 pub enum Direction {
     East,

@@ -34,6 +34,7 @@ pub const MOST_MOVES: u8 = 16;
 pub struct Stipulation {
     pub form: Form,
     pub goal: Goal,
+    /// The number of moves, as written before a `.5`.
     pub n: u8,
 }
 

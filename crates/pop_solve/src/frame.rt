@@ -19,6 +19,7 @@ pub enum Stretch {
     Earlier,
     /// The other moves whose man aims at the enemy's king, where these come first.
     Aimed,
+    /// All that are in no stretch before.
     Others,
 }
 
@@ -27,6 +28,7 @@ pub enum Stretch {
 pub enum Early {
     /// Those whose man aims at the enemy's king.
     AimedMoves,
+    /// None: all others follow the killers.
     NoMoves,
 }
 

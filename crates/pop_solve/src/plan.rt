@@ -20,6 +20,7 @@ pub enum Tree {
 pub struct Plan {
     pub play: Play,
     pub goal: Goal,
+    /// What is shown of a battle; it says nothing in help play.
     pub tree: Tree,
 }
 

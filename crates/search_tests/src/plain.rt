@@ -219,7 +219,8 @@ fn keeps<R: Rules>(goal: Goal, selfmate: bool, board: &Board, moves: u8) -> bool
     while let Some(defence) = defences.next(&mut here) {
         let mut after = here;
         let _undo = R::play(&mut after, defence);
-        every = (is_goal_reached::<R>(goal, &after) || self_wins::<R>(goal, &after, further)) && every;
+        every = (is_goal_reached::<R>(goal, &after) || self_wins::<R>(goal, &after, further))
+            && every;
     }
     every
 }
@@ -381,7 +382,7 @@ fn phase<R: Rules>(
     let stipulation = problem.stipulation();
     let battle = Battle {
         goal: stipulation.goal,
-        selfmate: stipulation.form == Form::SelfMate,
+        selfmate: stipulation.form == Form::Selfmate,
         moves: stipulation.n,
     };
     let left = if problem.variation() {
@@ -403,8 +404,8 @@ fn phase<R: Rules>(
                 0,
             );
         }
-        Form::Direct | Form::SelfMate if in_set => set::<R>(told, battle, board, left),
-        Form::Direct | Form::SelfMate => {
+        Form::Direct | Form::Selfmate if in_set => set::<R>(told, battle, board, left),
+        Form::Direct | Form::Selfmate => {
             white::<R>(told, battle, board, stipulation.n, 0, left);
         }
     }

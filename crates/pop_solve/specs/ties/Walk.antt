@@ -10,7 +10,6 @@ use Rattle.chess_core.specs.WellFormed.{IsWellFormed}
 use Rattle.chess_rules.specs.ties.Places.{moves_behind}
 use Rattle.chess_mates.specs.ties.Mates.{allows_mate, is_mating}
 use Rattle.chess_rules.specs.Legal.{is_legal, is_mate}
-use Rattle.chess_rules.specs.Play.{position_after}
 use Rattle.chess_rules.specs.RuleSet.{RuleSet}
 use Rattle.pop_solve.specs.declared.aim.Play.{Play}
 use Rattle.pop_solve.specs.declared.aim.Play.TheVariants.{Help as HelpPlay, Battle as BattlePlay}
