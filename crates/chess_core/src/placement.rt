@@ -6,7 +6,7 @@ ghost use Rattle.chess_core.specs.Position.{king_square, man_on, with_man, witho
 ghost use Rattle.chess_core.specs.ties.Words.{side_of, squares_of, word};
 
 use crate::man::{Colour, Kind, Man};
-use crate::square::Square;
+use crate::square::{Square, Squares};
 use std::marker::Model;
 
 /// The men on the squares, and beside them what needn't be looked for then: the squares of the men of
@@ -14,8 +14,8 @@ use std::marker::Model;
 #[derive(Clone, Copy)]
 pub(crate) struct Placement {
     array: [Option<Man>; 64],
-    by_kind: [u64; 8],
-    by_side: [u64; 2],
+    by_kind: [Squares; 8],
+    by_side: [Squares; 2],
 }
 
 impl Model for Placement {
@@ -59,7 +59,7 @@ impl Placement {
     }
 
     // The squares of the men of this kind.
-    pub(crate) fn of_kind(&self, kind: Kind) -> u64
+    pub(crate) fn of_kind(&self, kind: Kind) -> Squares
         ensures { result ≡ word (is_kind_on self.now kind) }
     {
         self.by_kind[kind.number()]
@@ -67,7 +67,7 @@ impl Placement {
 
     // The squares of the men of this colour.
     #[tactic(auto, unfolding(crate::specs::ties::Words::side_of))]
-    pub(crate) fn of_colour(&self, colour: Colour) -> u64
+    pub(crate) fn of_colour(&self, colour: Colour) -> Squares
         ensures { result ≡ side_of self.now colour }
     {
         self.by_side[colour.number()]
@@ -75,7 +75,7 @@ impl Placement {
 
     // The squares of the men of this colour and kind.
     #[tactic(auto, unfolding(crate::specs::ties::Words::squares_of))]
-    pub(crate) fn squares(&self, colour: Colour, kind: Kind) -> u64
+    pub(crate) fn squares(&self, colour: Colour, kind: Kind) -> Squares
         ensures { result ≡ squares_of self.now colour kind }
     {
         self.by_side[colour.number()] & self.by_kind[kind.number()]

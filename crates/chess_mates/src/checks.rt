@@ -15,7 +15,7 @@ ghost use Rattle.chess_rules.specs.RuleSet.{captures_do_more};
 use crate::open_board::open_targets;
 use chess_core::board::Board;
 use chess_core::man::{Colour, Kind, Man, Move};
-use chess_core::square::Square;
+use chess_core::square::{Square, Squares};
 use chess_rules::evasions::eventful_captures;
 use chess_rules::leaps::squares_aside;
 use chess_rules::lines::occupied;
@@ -28,13 +28,13 @@ use chess_rules::words::{contains, only};
 /// this kind that arrives there. A king gives none so: next to the other he would be in check himself.
 #[derive(Clone, Copy)]
 pub(crate) struct CheckSquares {
-    shield_squares: u64,
-    straight: u64,
-    diagonal: u64,
-    knight: u64,
-    pawn: u64,
-    grasshopper: u64,
-    nightrider: u64,
+    shield_squares: Squares,
+    straight: Squares,
+    diagonal: Squares,
+    knight: Squares,
+    pawn: Squares,
+    grasshopper: Squares,
+    nightrider: Squares,
 }
 
 // Whether it is one of the fairy kinds, and none of the colour stands on the board.
@@ -46,7 +46,7 @@ fn is_absent(board: &Board, colour: Colour, kind: Kind) -> bool
 
 // The squares from which an enemy of this kind may give check to the colour's king: all of them for fairy men
 // of whom none stands on the board.
-pub(crate) fn check_squares_of(board: &Board, colour: Colour, kind: Kind) -> u64
+pub(crate) fn check_squares_of(board: &Board, colour: Colour, kind: Kind) -> Squares
     ensures { result ≡ word (may_check_from board.now.men colour (enemy colour kind)) }
 {
     let Some(king) = board.king_of(colour) else {
@@ -76,7 +76,7 @@ pub(crate) fn check_squares(board: &Board, colour: Colour) -> CheckSquares
 }
 
 // Those from which a man of this kind may by a legal move.
-fn check_squares_for(squares: &CheckSquares, kind: Kind) -> u64
+fn check_squares_for(squares: &CheckSquares, kind: Kind) -> Squares
     ensures { result ≡ check_squares_for squares.now kind }
 {
     match kind {
@@ -103,7 +103,7 @@ fn are_rebirths_quiet<R: Rules>(board: &Board) -> bool
 
 // The squares on which a man may be captured and reborn, where that may give check.
 #[inline(always)]
-fn checking_rebirths<R: Rules>(board: &Board) -> u64
+fn checking_rebirths<R: Rules>(board: &Board) -> Squares
     ensures { are_rebirths_quiet R.rule board.now.men board.now.turn ≡ false
         → captures_do_more R.rule ≡ true → result ≡ word (λ s. is_some (man_on board.now.men s)) }
 {
@@ -120,13 +120,13 @@ pub(crate) fn may_check_from_everywhere<R: Rules>(board: &Board, squares: &Check
 }
 
 // The first rank and the last.
-const LAST_RANKS: u64 = 0xff00_0000_0000_00ff;
+const LAST_RANKS: Squares = 0xff00_0000_0000_00ff;
 
 // The squares to which a king on `from` castles so that the rook, who comes to the square halfway, gives check,
 // and perhaps more.
 #[inline(never)]
 #[tactic(auto, using(crate::proofs::CastlingChecks::castling_targets_are))]
-fn castling_targets(squares: &CheckSquares, from: Square) -> u64
+fn castling_targets(squares: &CheckSquares, from: Square) -> Squares
     ensures { AreCastlingTargets squares.now from result }
 {
     let checked_from = squares.straight;
@@ -135,7 +135,7 @@ fn castling_targets(squares: &CheckSquares, from: Square) -> u64
 
 // The squares to which a man of this kind promotes, or castles if he is a king on `king`, and perhaps more.
 #[inline(always)]
-fn special_targets(squares: &CheckSquares, kind: Kind, king: Option<Square>) -> u64
+fn special_targets(squares: &CheckSquares, kind: Kind, king: Option<Square>) -> Squares
     ensures promotes { same_kind kind Pawn ≡ true → result ≡ 18374686479671623935 }
     ensures castles { (s : ℕ) → king ≡ Some s → same_kind kind King ≡ true
         → AreCastlingTargets squares.now s result }
@@ -155,8 +155,8 @@ pub(crate) fn targets_off_shields<R: Rules>(
     squares: &CheckSquares,
     kind: Kind,
     king: Option<Square>,
-    lines: u64,
-) -> u64
+    lines: Squares,
+) -> Squares
     requires well_formed { IsWellFormed board.now }
     requires squares { AreCheckSquares board.now.men (other board.now.turn) squares.now }
     requires lines { lines ≡ word (may_stand_between board.now.men (other board.now.turn)) }
@@ -174,7 +174,7 @@ pub(crate) fn targets_off_shields<R: Rules>(
 }
 
 // The squares to which this man must go from here to give check by a legal move.
-fn check_targets<R: Rules>(board: &Board, squares: &CheckSquares, man: Man, from: Square) -> u64
+fn check_targets<R: Rules>(board: &Board, squares: &CheckSquares, man: Man, from: Square) -> Squares
     requires well_formed { IsWellFormed board.now }
     requires squares { AreCheckSquares board.now.men (other board.now.turn) squares.now }
     requires here { man_on board.now.men from ≡ Some man }
@@ -194,7 +194,7 @@ pub(crate) fn near_check_targets<R: Rules>(
     board: &Board,
     squares: &CheckSquares,
     from: Square,
-) -> u64
+) -> Squares
     requires well_formed { IsWellFormed board.now }
     requires squares { AreCheckSquares board.now.men (other board.now.turn) squares.now }
     ensures { AreCheckTargets R.rule board.now from result }
@@ -249,7 +249,7 @@ pub(crate) fn may_check<R: Rules>(board: &Board, squares: &CheckSquares, m: &Mov
 
 impl CheckSquares {
     // The squares from which a move may expose the king.
-    pub(crate) fn shields(&self) -> u64
+    pub(crate) fn shields(&self) -> Squares
         ensures { result ≡ self.now.shield_squares }
     {
         self.shield_squares

@@ -15,7 +15,7 @@ ghost use Rattle.chess_rules.specs.ties.Places.{IsPlaceIn, moves_behind};
 use crate::checks::{CheckSquares, check_squares, may_check};
 use chess_core::board::Board;
 use chess_core::man::{Man, Move};
-use chess_core::square::Square;
+use chess_core::square::{Square, Squares};
 use chess_rules::leaps::king_leaps;
 use chess_rules::legal_moves::LegalMoves;
 use chess_rules::moves::is_mate;
@@ -48,7 +48,7 @@ pub fn every_move_mates<R: Rules>(board: &mut Board) -> bool
 // The squares to which the king on `king` may step, attacks apart: in Circe none are told.
 #[inline(always)]
 #[tactic(auto, using(crate::proofs::QuietSteps::open_steps, crate::proofs::QuietSteps::no_steps))]
-fn step_squares<R: Rules>(board: &Board, king: Square) -> u64
+fn step_squares<R: Rules>(board: &Board, king: Square) -> Squares
     ensures { (x : Man) → man_on board.now.men king ≡ Some x → same_kind x.kind King ≡ true
         → AreOpen R.rule board.now.men board.now.turn king result }
 {
@@ -76,7 +76,7 @@ fn is_unreached(board: &Board, king: Man, from: Square, to: Square) -> bool
 }
 
 // The first of the squares on which no enemy reaches him then.
-fn first_unreached(board: &Board, king: Man, from: Square, squares: u64) -> Option<Square>
+fn first_unreached(board: &Board, king: Man, from: Square, squares: Squares) -> Option<Square>
     ensures within { IfSome result (λ t. (t < 64) × ((bit_at squares t == 1) ≡ true)) }
     ensures unreached { IfSome result (λ t. IsUnreached board.now king from t) }
 {

@@ -17,7 +17,7 @@ ghost use Rattle.chess_rules.specs.ties.Sight.{AreSeen, is_simple};
 
 use chess_core::board::Board;
 use chess_core::man::{Colour, Kind, Man, Move};
-use chess_core::square::Square;
+use chess_core::square::{Square, Squares};
 use chess_rules::exposure::is_simple;
 use chess_rules::leaps::king_leaps;
 use chess_rules::outward::attackers_seen;
@@ -58,7 +58,7 @@ fn sight_with(sight: Sight, to: Square) -> Sight
 
 // The squares to which a king that isn't the mover's may not step: its own men stand there, as far as they
 // still stand, or the mover's king.
-fn held_squares(board: &Board, standing: u64) -> u64
+fn held_squares(board: &Board, standing: Squares) -> Squares
     ensures { result ≡ bit_or (bit_and (side_of board.now.men (other board.now.turn)) standing)
         (squares_of board.now.men board.now.turn King) }
 {
@@ -67,7 +67,7 @@ fn held_squares(board: &Board, standing: u64) -> u64
 }
 
 // The squares that the man sees from where it arrives, as what it is then.
-fn covered_squares(occupied: u64, man: Man, promo: Option<Kind>, to: Square) -> u64
+fn covered_squares(occupied: Squares, man: Man, promo: Option<Kind>, to: Square) -> Squares
     ensures { (men : List (Option Man)) → occupied ≡ occupied_squares men
         → result ≡ word (reaches_as men (arriving_man man promo).colour
         (arriving_man man promo).kind to) }
@@ -79,7 +79,7 @@ fn covered_squares(occupied: u64, man: Man, promo: Option<Kind>, to: Square) -> 
 // The squares to which the enemy king on `king` may step after a simple move, attacks apart: no man of its
 // own and no king stands there, and in Circe nobody. `sight` is that after the move, the king lifted.
 #[tactic(auto, using(crate::proofs::Fleeing::open_squares_in_circe, crate::proofs::Fleeing::open_squares))]
-fn open_squares<R: Rules>(board: &Board, sight: Sight, king: Square) -> u64
+fn open_squares<R: Rules>(board: &Board, sight: Sight, king: Square) -> Squares
     ensures { (m : Move) (x : Man) → IsSeenFrom R.rule board.now m x king → m.to < 64
         → sight ≡ sight_lifted board.now.men m.from (capture_square board.now x m) m.to king
         → AreOpen R.rule (position_after R.rule board.now m).men (other board.now.turn) king
@@ -94,7 +94,7 @@ fn open_squares<R: Rules>(board: &Board, sight: Sight, king: Square) -> u64
 
 // The first of the squares that no man of the colour attacks once the enemy king stands there, the man
 // that moved apart.
-fn first_safe(board: &Board, sight: Sight, squares: u64, colour: Colour) -> Option<Square>
+fn first_safe(board: &Board, sight: Sight, squares: Squares, colour: Colour) -> Option<Square>
     ensures within { IfSome result (λ t. (t < 64) × ((bit_at squares t == 1) ≡ true)) }
     ensures safe { IfSome result (λ t. (men : List (Option Man))
         → AreSeen board.now.men men colour (sight_with sight t)

@@ -19,7 +19,7 @@ ghost use Rattle.chess_rules.specs.ties.Targets.{is_promoting};
 use crate::open_board::open_targets;
 use chess_core::board::Board;
 use chess_core::man::{Colour, Kind, Man, Move};
-use chess_core::square::Square;
+use chess_core::square::{Square, Squares};
 use chess_rules::leaps::{king_leaps, knight_leaps, pawn_leaps};
 use chess_rules::lines::{diagonal_lines, straight_lines};
 use chess_rules::play::is_castling;
@@ -28,7 +28,7 @@ use chess_rules::words::{contains, next_bit, only};
 
 // The squares that the man on `from` reaches, were the others gone: of a fairy man all.
 #[tactic(auto, using(crate::proofs::LastingFlights::any_reach, crate::proofs::LastingFlights::bishop_reach, crate::proofs::LastingFlights::king_reach, crate::proofs::LastingFlights::knight_reach, crate::proofs::LastingFlights::pawn_reach, crate::proofs::LastingFlights::queen_reach, crate::proofs::LastingFlights::rook_reach))]
-pub(crate) fn open_reach(man: Man, from: Square) -> u64
+pub(crate) fn open_reach(man: Man, from: Square) -> Squares
     ensures { AreReached man from result }
 {
     match man.kind {
@@ -44,7 +44,7 @@ pub(crate) fn open_reach(man: Man, from: Square) -> u64
 
 // The squares that the man on `from`, if there is one, reaches so.
 #[tactic(auto, using(crate::proofs::LastingFlights::some_reach))]
-fn open_reach_from(board: &Board, from: Square) -> u64
+fn open_reach_from(board: &Board, from: Square) -> Squares
     ensures { (x : Man) → man_on board.now.men from ≡ Some x → AreReached x from result }
 {
     match board.man_at(from) {
@@ -54,7 +54,7 @@ fn open_reach_from(board: &Board, from: Square) -> u64
 }
 
 // Those that the men on the squares of a word reach so.
-fn reach_together(board: &Board, men: u64) -> u64
+fn reach_together(board: &Board, men: Squares) -> Squares
     ensures { (s : ℕ) (x : Man) → s < 64 → (bit_at men s == 1) ≡ true
         → man_on board.now.men s ≡ Some x → AreReached x s result }
 {
@@ -69,27 +69,27 @@ fn reach_together(board: &Board, men: u64) -> u64
 }
 
 // Those that some man of the colour reaches so.
-fn guarded_squares(board: &Board, colour: Colour) -> u64
+fn guarded_squares(board: &Board, colour: Colour) -> Squares
     ensures { AreGuarded board.now.men colour result }
 {
     reach_together(board, board.side(colour))
 }
 
 // The first of the squares that is left once the man has come to `to`.
-fn first_left(squares: u64, man: Man, to: Square) -> Option<Square>
+fn first_left(squares: Squares, man: Man, to: Square) -> Option<Square>
     ensures { IfSome result (λ f. IsLeft squares man to f) }
 {
     next_bit(squares & !(open_reach(man, to) | only(Some(to))), 0)
 }
 
 // The first rank and the last, and e1 and e8.
-const LAST_RANKS: u64 = 0xff00_0000_0000_00ff;
+const LAST_RANKS: Squares = 0xff00_0000_0000_00ff;
 
-const KINGS_HOMES: u64 = 0x1000_0000_0000_0010;
+const KINGS_HOMES: Squares = 0x1000_0000_0000_0010;
 
 // Whether the man is no fairy man and surely neither promotes nor castles; `targets` are the squares to which he may go.
 #[tactic(auto, using(crate::proofs::LastingFlights::no_last_rank, chess_rules::proofs::listing_moves::Targeting::no_pawn_arrives, crate::proofs::LastingFlights::off_homes))]
-fn goes_plainly(man: Man, from: Square, targets: u64) -> bool
+fn goes_plainly(man: Man, from: Square, targets: Squares) -> bool
     ensures unpromoted { result ≡ true → (t : ℕ) → t < 64 → (bit_at targets t == 1) ≡ true
         → is_promoting man t ≡ false }
     ensures away { result ≡ true → same_kind man.kind King ≡ true → (from ≢ e1) × (from ≢ e8) }
@@ -105,7 +105,7 @@ fn goes_plainly(man: Man, from: Square, targets: u64) -> bool
 
 // The squares from which the man, who is no hopper, reaches `to`, were the others gone.
 #[tactic(auto, using(crate::proofs::LastingFlights::come_back))]
-fn open_approaches(man: Man, to: Square) -> u64
+fn open_approaches(man: Man, to: Square) -> Squares
     requires { is_hopper (gait_of man.kind) ≡ false }
     ensures { AreApproached man to result }
 {
@@ -119,7 +119,7 @@ fn open_approaches(man: Man, to: Square) -> u64
 }
 
 // Whether one of the squares is left wherever the man comes to a square of the word.
-fn leaves_one_each(squares: u64, man: Man, targets: u64) -> bool
+fn leaves_one_each(squares: Squares, man: Man, targets: Squares) -> bool
     ensures { result ≡ true → (t : ℕ) → t < 64 → (bit_at targets t == 1) ≡ true
         → (f : ℕ) × IsLeft squares man t f }
 {
@@ -135,7 +135,7 @@ fn leaves_one_each(squares: u64, man: Man, targets: u64) -> bool
 
 // Whether one of the squares is left wherever the man on `from` may go, were the others gone. Where he neither
 // stands on the first of them nor reaches it, that one is.
-fn leaves_one(squares: u64, man: Man, from: Square) -> bool
+fn leaves_one(squares: Squares, man: Man, from: Square) -> bool
     ensures { result ≡ true → LeavesOne squares man from }
 {
     let targets = open_targets(man, from);
@@ -151,7 +151,7 @@ fn leaves_one(squares: u64, man: Man, from: Square) -> bool
 
 // Whether the man on the square, if there is one, leaves one so.
 #[tactic(auto, using(crate::proofs::LastingFlights::some_leaves))]
-fn leaves_one_from(board: &Board, squares: u64, from: Square) -> bool
+fn leaves_one_from(board: &Board, squares: Squares, from: Square) -> bool
     ensures { result ≡ true → (x : Man) → man_on board.now.men from ≡ Some x
         → LeavesOne squares x from }
 {
@@ -162,7 +162,7 @@ fn leaves_one_from(board: &Board, squares: u64, from: Square) -> bool
 }
 
 // Whether each man on the squares of a word leaves one so.
-fn leave_one_each(board: &Board, squares: u64, men: u64) -> bool
+fn leave_one_each(board: &Board, squares: Squares, men: Squares) -> bool
     ensures { result ≡ true → (s : ℕ) (x : Man) → s < 64 → (bit_at men s == 1) ≡ true
         → man_on board.now.men s ≡ Some x → LeavesOne squares x s }
 {
@@ -177,7 +177,7 @@ fn leave_one_each(board: &Board, squares: u64, men: u64) -> bool
 }
 
 // Whether each man of the colour does.
-fn leave_one(board: &Board, squares: u64, colour: Colour) -> bool
+fn leave_one(board: &Board, squares: Squares, colour: Colour) -> bool
     ensures { result ≡ true → LeaveOne board.now.men colour squares }
 {
     leave_one_each(board, squares, board.side(colour))
@@ -196,7 +196,7 @@ fn king_after(board: &Board, man: Man, m: &Move) -> Option<Square>
 // The squares next to the king on `king` on which no man of the mover stands, neither before the move nor after it,
 // and not the enemy's king.
 #[tactic(auto, using(crate::proofs::LastingFlights::near_are))]
-fn near_squares(board: &Board, m: &Move, king: Square) -> u64
+fn near_squares(board: &Board, m: &Move, king: Square) -> Squares
     ensures { AreNear board.now m.now king result }
 {
     let mover = board.turn();
@@ -206,7 +206,7 @@ fn near_squares(board: &Board, m: &Move, king: Square) -> u64
 
 // Whether those of the squares that no enemy reaches, were the others gone, can't all be taken with one move.
 #[tactic(auto, using(crate::proofs::LastingFlights::keeps_one))]
-fn keeps_one(board: &Board, near: u64) -> bool
+fn keeps_one(board: &Board, near: Squares) -> bool
     ensures { result ≡ true → KeepsOne board.now near }
 {
     let enemy = board.turn().other();

@@ -15,7 +15,7 @@ use crate::flights::has_flight;
 use crate::origins::check_origins;
 use chess_core::board::Board;
 use chess_core::man::{Colour, Move};
-use chess_core::square::Square;
+use chess_core::square::{Square, Squares};
 use chess_rules::legal::is_pseudo_legal;
 use chess_rules::moves::{Moves, has_legal_move, triple};
 use chess_rules::rules::{Rules, in_check};
@@ -210,11 +210,11 @@ impl Sought for CheckSquares {
 
     ghost fits = { λ s rule p. AreCheckSquares p.men (other p.turn) s };
 
-    fn origins<R: Rules>(&self, board: &Board) -> u64 {
+    fn origins<R: Rules>(&self, board: &Board) -> Squares {
         mating_origins::<R>(board, self)
     }
 
-    fn candidates<R: Rules>(&self, board: &Board, from: Square) -> u64 {
+    fn candidates<R: Rules>(&self, board: &Board, from: Square) -> Squares {
         candidates::<R>(board, self, from)
     }
 
@@ -227,7 +227,7 @@ impl Sought for CheckSquares {
 
 // The squares from which a move may mate, and perhaps more: those from which one may give check.
 #[tactic(auto, using(crate::proofs::MatesBetween::mating_origins))]
-fn mating_origins<R: Rules>(board: &Board, squares: &CheckSquares) -> u64
+fn mating_origins<R: Rules>(board: &Board, squares: &CheckSquares) -> Squares
     requires well_formed { IsWellFormed board.now }
     requires squares { AreCheckSquares board.now.men (other board.now.turn) squares.now }
     ensures { AreOrigins (mates R.rule board.now) result }
@@ -237,7 +237,7 @@ fn mating_origins<R: Rules>(board: &Board, squares: &CheckSquares) -> u64
 
 // The squares to which the man on `from` may go with check, and perhaps more.
 #[tactic(auto, using(crate::proofs::MatesBetween::mating_candidates))]
-fn candidates<R: Rules>(board: &Board, squares: &CheckSquares, from: Square) -> u64
+fn candidates<R: Rules>(board: &Board, squares: &CheckSquares, from: Square) -> Squares
     requires well_formed { IsWellFormed board.now }
     requires squares { AreCheckSquares board.now.men (other board.now.turn) squares.now }
     ensures { AreCandidates R.rule board.now (mates R.rule board.now) from result }

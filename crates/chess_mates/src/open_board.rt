@@ -7,14 +7,14 @@ ghost use Rattle.chess_mates.specs.ties.CheckSquares.{AreApproaches};
 ghost use Rattle.chess_rules.specs.ties.Targets.{may_go};
 
 use chess_core::man::{Colour, Kind, Man};
-use chess_core::square::Square;
+use chess_core::square::{Square, Squares};
 use chess_rules::leaps::{king_leaps, knight_leaps, pawn_advances, pawn_leaps};
 use chess_rules::lines::{diagonal_lines, straight_lines};
 use chess_rules::targets::steps_to;
 
 // The squares to which the man on `from` might go, were the others gone, castling among them, and perhaps
 // more: of a fairy man all.
-pub(crate) fn open_targets(man: Man, from: Square) -> u64
+pub(crate) fn open_targets(man: Man, from: Square) -> Squares
     ensures { (p : Position) (t : ℕ) → t < 64 → may_go p man from t ≡ true
         → (bit_at result t == 1) ≡ true }
 {
@@ -33,7 +33,7 @@ pub(crate) fn open_targets(man: Man, from: Square) -> u64
 // over the edge of a file counts.
 #[inline(always)]
 #[tactic(auto, using(crate::proofs::Approaches::black_pawns_before, crate::proofs::Approaches::white_pawns_before))]
-pub(crate) fn pawns_before(colour: Colour, targets: u64) -> u64
+pub(crate) fn pawns_before(colour: Colour, targets: Squares) -> Squares
     ensures { AreApproaches (record { colour = colour; kind = Pawn }) targets result }
 {
     match colour {

@@ -12,7 +12,7 @@ use crate::checks::{CheckSquares, may_check_from_everywhere, targets_off_shields
 use crate::open_board::{open_targets, pawns_before};
 use chess_core::board::Board;
 use chess_core::man::{Kind, Man};
-use chess_core::square::Square;
+use chess_core::square::{Square, Squares};
 use chess_rules::rules::Rules;
 use chess_rules::shields::fairy_lines;
 use chess_rules::words::{next_bit, only};
@@ -20,7 +20,7 @@ use chess_rules::words::{next_bit, only};
 // The squares of the mover's men of this kind from which no move exposes the enemy's king.
 #[inline(always)]
 #[tactic(auto, using(crate::proofs::FarMen::man_of_word, crate::proofs::FarMen::off_denied, chess_rules::proofs::listing_moves::Walks::on_first))]
-fn men_off_shields(board: &Board, squares: &CheckSquares, kind: Kind) -> u64
+fn men_off_shields(board: &Board, squares: &CheckSquares, kind: Kind) -> Squares
     ensures stands { (s : ℕ) → s < 64 → (bit_at result s == 1) ≡ true
         → man_on board.now.men s ≡ Some (own_man board.now kind) }
     ensures unshielding { (s : ℕ) → s < 64 → (bit_at result s == 1) ≡ true
@@ -31,7 +31,7 @@ fn men_off_shields(board: &Board, squares: &CheckSquares, kind: Kind) -> u64
 
 // The squares of the mover's pawns who couldn't come to a check square on an empty board.
 #[inline(always)]
-fn far_pawns<R: Rules>(board: &Board, squares: &CheckSquares, lines: u64) -> u64
+fn far_pawns<R: Rules>(board: &Board, squares: &CheckSquares, lines: Squares) -> Squares
     requires well_formed { IsWellFormed board.now }
     requires squares { AreCheckSquares board.now.men (other board.now.turn) squares.now }
     requires lines { lines ≡ word (may_stand_between board.now.men (other board.now.turn)) }
@@ -44,7 +44,7 @@ fn far_pawns<R: Rules>(board: &Board, squares: &CheckSquares, lines: u64) -> u64
 
 // Whether the man couldn't come from here to one of his targets on an empty board.
 #[inline(always)]
-fn is_far<R: Rules>(board: &Board, man: Man, from: Square, targets: u64) -> bool
+fn is_far<R: Rules>(board: &Board, man: Man, from: Square, targets: Squares) -> bool
     requires here { man_on board.now.men from ≡ Some man }
     requires targets { AreCheckTargets R.rule board.now from targets }
     ensures { result ≡ true → AreCheckTargets R.rule board.now from 0 }
@@ -55,7 +55,7 @@ fn is_far<R: Rules>(board: &Board, man: Man, from: Square, targets: u64) -> bool
 // The squares of the mover's men of this kind, no kings, who couldn't come to a check square on an empty
 // board.
 #[inline(always)]
-fn far_men<R: Rules>(board: &Board, squares: &CheckSquares, kind: Kind, lines: u64) -> u64
+fn far_men<R: Rules>(board: &Board, squares: &CheckSquares, kind: Kind, lines: Squares) -> Squares
     requires well_formed { IsWellFormed board.now }
     requires squares { AreCheckSquares board.now.men (other board.now.turn) squares.now }
     requires lines { lines ≡ word (may_stand_between board.now.men (other board.now.turn)) }
@@ -86,7 +86,7 @@ fn far_men<R: Rules>(board: &Board, squares: &CheckSquares, kind: Kind, lines: u
 // The square of the mover's king, if he couldn't come to a check square on an empty board, castling among
 // his moves.
 #[inline(always)]
-fn far_king<R: Rules>(board: &Board, squares: &CheckSquares, lines: u64) -> u64
+fn far_king<R: Rules>(board: &Board, squares: &CheckSquares, lines: Squares) -> Squares
     requires well_formed { IsWellFormed board.now }
     requires squares { AreCheckSquares board.now.men (other board.now.turn) squares.now }
     requires lines { lines ≡ word (may_stand_between board.now.men (other board.now.turn)) }
@@ -108,14 +108,14 @@ fn far_king<R: Rules>(board: &Board, squares: &CheckSquares, lines: u64) -> u64
 }
 
 // The squares of the mover's men.
-fn own_squares(board: &Board) -> u64
+fn own_squares(board: &Board) -> Squares
     ensures { result ≡ side_of board.now.men board.now.turn }
 {
     board.side(board.turn())
 }
 
 // The squares of the mover's men, those apart who couldn't come to a check square on an empty board.
-pub(crate) fn check_origins<R: Rules>(board: &Board, squares: &CheckSquares) -> u64
+pub(crate) fn check_origins<R: Rules>(board: &Board, squares: &CheckSquares) -> Squares
     requires well_formed { IsWellFormed board.now }
     requires squares { AreCheckSquares board.now.men (other board.now.turn) squares.now }
     ensures { AreCheckOrigins R.rule board.now result }

@@ -18,7 +18,7 @@ use crate::lasting_flights::open_reach;
 use crate::open_board::{open_targets, pawns_before};
 use chess_core::board::Board;
 use chess_core::man::{Colour, Kind, Man};
-use chess_core::square::Square;
+use chess_core::square::{Square, Squares};
 use chess_rules::leaps::king_leaps;
 use chess_rules::lines::straight_lines;
 use chess_rules::reach::reach_over;
@@ -28,12 +28,12 @@ use chess_rules::words::{contains, next_bit, only};
 #[derive(Clone, Copy)]
 pub(crate) struct Attackers {
     colour: Colour,
-    kings: u64,
-    queens: u64,
-    rooks: u64,
-    bishops: u64,
-    knights: u64,
-    pawns: u64,
+    kings: Squares,
+    queens: Squares,
+    rooks: Squares,
+    bishops: Squares,
+    knights: Squares,
+    pawns: Squares,
 }
 
 // The men around the defender's king, who stands on `king`: the squares of the defender's men, of the attackers, and of
@@ -41,11 +41,11 @@ pub(crate) struct Attackers {
 #[derive(Clone, Copy)]
 pub(crate) struct Siege {
     king: Square,
-    own: u64,
-    enemies: u64,
-    hurdles: u64,
+    own: Squares,
+    enemies: Squares,
+    hurdles: Squares,
     men: Attackers,
-    castled: u64,
+    castled: Squares,
 }
 
 // A king's square, the squares next to it to which he might go, attacks apart, and those of the lines from there: the
@@ -53,36 +53,36 @@ pub(crate) struct Siege {
 #[derive(Clone, Copy)]
 pub(crate) struct Field {
     king: Square,
-    near: u64,
-    straight: u64,
-    diagonal: u64,
-    lines: u64,
+    near: Squares,
+    straight: Squares,
+    diagonal: Squares,
+    lines: Squares,
 }
 
 // The squares that attackers reach, and those that their riders do.
 #[derive(Clone, Copy)]
 pub(crate) struct Guards {
-    ridden: u64,
-    guarded: u64,
+    ridden: Squares,
+    guarded: Squares,
 }
 
 // The squares that a defender mustn't come to lest a reply may mate, and those of all lines on which hurdles count.
 #[derive(Clone, Copy)]
 pub(crate) struct Risk {
-    critical: u64,
-    lines: u64,
+    critical: Squares,
+    lines: Squares,
 }
 
 // The squares that the man on `from` reaches over the hurdles.
 #[tactic(auto, using(crate::proofs::Hurdles::reached_is))]
-fn reach_from(hurdles: u64, man: Man, from: Square) -> u64
+fn reach_from(hurdles: Squares, man: Man, from: Square) -> Squares
     ensures { IsReached hurdles man from result }
 {
     reach_over(hurdles, man.colour, man.kind, from)
 }
 
 // The same, but none if he reaches no square of the region, whoever stands on the board.
-fn reach_towards(hurdles: u64, man: Man, from: Square, region: u64) -> u64
+fn reach_towards(hurdles: Squares, man: Man, from: Square, region: Squares) -> Squares
     ensures { IsNear man from region → IsReached hurdles man from result }
 {
     if open_reach(man, from) & region == 0 {
@@ -92,7 +92,7 @@ fn reach_towards(hurdles: u64, man: Man, from: Square, region: u64) -> u64
 }
 
 // Those that such men on the squares of a word reach.
-fn reach_together(hurdles: u64, man: Man, squares: u64, region: u64) -> u64
+fn reach_together(hurdles: Squares, man: Man, squares: Squares, region: Squares) -> Squares
     ensures { (s : ℕ) → s < 64 → (bit_at squares s == 1) ≡ true
         → IsNear man s region → IsReached hurdles man s result }
 {
@@ -107,7 +107,7 @@ fn reach_together(hurdles: u64, man: Man, squares: u64, region: u64) -> u64
 }
 
 // The same of the attackers of one kind.
-fn reach_of(hurdles: u64, colour: Colour, kind: Kind, squares: u64, region: u64) -> u64
+fn reach_of(hurdles: Squares, colour: Colour, kind: Kind, squares: Squares, region: Squares) -> Squares
     ensures { (s : ℕ) → s < 64 → (bit_at squares s == 1) ≡ true
         → IsNear (record { colour = colour; kind = kind }) s region
         → IsReached hurdles (record { colour = colour; kind = kind }) s result }
@@ -116,7 +116,7 @@ fn reach_of(hurdles: u64, colour: Colour, kind: Kind, squares: u64, region: u64)
 }
 
 // The squares that queens, rooks and bishops reach.
-fn ridden_squares(hurdles: u64, men: &Attackers, region: u64) -> u64
+fn ridden_squares(hurdles: Squares, men: &Attackers, region: Squares) -> Squares
     ensures { AreReached hurdles men.now region is_rider result }
 {
     let queens = reach_of(hurdles, men.colour, Kind::Queen, men.queens, region);
@@ -126,7 +126,7 @@ fn ridden_squares(hurdles: u64, men: &Attackers, region: u64) -> u64
 }
 
 // Those that knights, pawns and kings reach.
-fn leapt_squares(hurdles: u64, men: &Attackers, region: u64) -> u64
+fn leapt_squares(hurdles: Squares, men: &Attackers, region: Squares) -> Squares
     ensures { AreReached hurdles men.now region is_leaper result }
 {
     let knights = reach_of(hurdles, men.colour, Kind::Knight, men.knights, region);
@@ -136,7 +136,7 @@ fn leapt_squares(hurdles: u64, men: &Attackers, region: u64) -> u64
 }
 
 // The squares of a word that are left to the king once the man has come to `to`.
-fn left_squares(near: u64, man: Man, to: Square) -> u64
+fn left_squares(near: Squares, man: Man, to: Square) -> Squares
     ensures { (f : ℕ) → f < 64 → (bit_at result f == 1) ≡ true → IsLeft near man to f }
 {
     near & !(open_reach(man, to) | only(Some(to)))
@@ -144,7 +144,7 @@ fn left_squares(near: u64, man: Man, to: Square) -> u64
 
 // The squares that a defender mustn't come to lest none is left then. To a square where another attacker stands the man
 // comes only if he recaptures there.
-fn critical_with(near: u64, enemies: u64, man: Man, to: Square) -> u64
+fn critical_with(near: Squares, enemies: Squares, man: Man, to: Square) -> Squares
     ensures { LeavesOne near enemies result man to }
 {
     let left = left_squares(near, man, to);
@@ -162,7 +162,7 @@ fn critical_with(near: u64, enemies: u64, man: Man, to: Square) -> u64
 }
 
 // The same wherever the man comes to a square of the word.
-fn critical_after(near: u64, enemies: u64, man: Man, targets: u64) -> u64
+fn critical_after(near: Squares, enemies: Squares, man: Man, targets: Squares) -> Squares
     ensures { (t : ℕ) → t < 64 → (bit_at targets t == 1) ≡ true
         → LeavesOne near enemies result man t }
 {
@@ -177,11 +177,11 @@ fn critical_after(near: u64, enemies: u64, man: Man, targets: u64) -> u64
 }
 
 // The first rank and the last.
-const LAST_RANKS: u64 = 0xff00_0000_0000_00ff;
+const LAST_RANKS: Squares = 0xff00_0000_0000_00ff;
 
 // Whether the man may promote on one of the squares.
 #[tactic(auto, using(crate::proofs::LastingFlights::no_last_rank, crate::proofs::Risks::no_pawn_arrives))]
-fn may_promote_on(man: Man, targets: u64) -> bool
+fn may_promote_on(man: Man, targets: Squares) -> bool
     ensures { result ≡ false → (t : ℕ) → t < 64 → (bit_at targets t == 1) ≡ true
         → is_promoting man t ≡ false }
 {
@@ -192,7 +192,7 @@ fn may_promote_on(man: Man, targets: u64) -> bool
 }
 
 // The squares to which the man on `from` may go: a piece over the hurdles, a pawn were the others gone.
-fn arrivals(hurdles: u64, man: Man, from: Square) -> u64
+fn arrivals(hurdles: Squares, man: Man, from: Square) -> Squares
     ensures { AreArrivals hurdles man from result }
 {
     if man.kind.is(Kind::Pawn) {
@@ -203,7 +203,7 @@ fn arrivals(hurdles: u64, man: Man, from: Square) -> u64
 }
 
 // Those of the squares from which he checks or on which he promotes. A king doesn't check.
-fn checking_targets(man: Man, reached: u64, checks: u64) -> u64
+fn checking_targets(man: Man, reached: Squares, checks: Squares) -> Squares
     ensures { (t : ℕ) → t < 64 → (bit_at reached t == 1) ≡ true
         → (bit_at result t == 1) ≡ false → IsNoCheck checks man t }
 {
@@ -233,7 +233,7 @@ fn without(men: &Attackers, gone: Square) -> Attackers
 }
 
 // What the attackers who may reach a square of the region reach once the one on `from` has gone.
-fn guards_without(siege: &Siege, from: Square, region: u64) -> Guards
+fn guards_without(siege: &Siege, from: Square, region: Squares) -> Guards
     ensures { AreGuardsWithout siege.now from region result }
 {
     let hurdles = siege.hurdles & !only(Some(from));
@@ -247,7 +247,7 @@ fn guards_without(siege: &Siege, from: Square, region: u64) -> Guards
 
 // All squares that the man reaches, if another attacker checks once he has gone, else the targets.
 #[tactic(auto)]
-fn watched_squares(guards: &Guards, king: Square, reached: u64, targets: u64) -> u64
+fn watched_squares(guards: &Guards, king: Square, reached: Squares, targets: Squares) -> Squares
     ensures all { (bit_at guards.now.guarded king == 1) ≡ true → result ≡ reached }
     ensures some { (bit_at guards.now.guarded king == 1) ≡ false → result ≡ targets }
 {
@@ -265,8 +265,8 @@ fn risk_of_going(
     field: &Field,
     man: Man,
     from: Square,
-    reached: u64,
-    targets: u64,
+    reached: Squares,
+    targets: Squares,
 ) -> Risk
     ensures { (a b t : ℕ) → a < 64 → b < 64 → IsOff siege.now.hurdles result a b → t < 64
         → (bit_at reached t == 1) ≡ true → IsMet siege.now field.now man from targets a b t }
@@ -289,7 +289,7 @@ fn risk_of_going(
 
 // The risk of the man on `from`, who checks from the squares of `checks`. Mostly he can't come there, were the others
 // gone.
-fn risk_from(siege: &Siege, field: &Field, man: Man, from: Square, checks: u64) -> Risk
+fn risk_from(siege: &Siege, field: &Field, man: Man, from: Square, checks: Squares) -> Risk
     ensures { IsHarmless siege.now field.now checks result man from }
 {
     let open = open_targets(man, from);
@@ -312,7 +312,7 @@ fn risk_from(siege: &Siege, field: &Field, man: Man, from: Square, checks: u64) 
 }
 
 // The same of such men on the squares of a word.
-fn risk_together(siege: &Siege, field: &Field, man: Man, squares: u64, checks: u64) -> Risk
+fn risk_together(siege: &Siege, field: &Field, man: Man, squares: Squares, checks: Squares) -> Risk
     ensures { (s : ℕ) → s < 64 → (bit_at squares s == 1) ≡ true
         → IsHarmless siege.now field.now checks result man s }
 {
@@ -329,7 +329,7 @@ fn risk_together(siege: &Siege, field: &Field, man: Man, squares: u64, checks: u
 }
 
 // The squares from which the man, once he has come there, checks the king of the field over the hurdles.
-fn check_squares_over(siege: &Siege, field: &Field, man: Man) -> u64
+fn check_squares_over(siege: &Siege, field: &Field, man: Man) -> Squares
     requires { IsField siege.now field.now }
     ensures { IsCheckWord siege.now.hurdles field.now.king man result }
 {
@@ -347,7 +347,7 @@ fn check_squares_over(siege: &Siege, field: &Field, man: Man) -> u64
 
 // The squares from which the man may check or promote with his next move, were the others gone, or uncover a check, and
 // perhaps more: of pawns and kings fewer than all.
-fn suspect_squares(field: &Field, man: Man, checks: u64) -> u64
+fn suspect_squares(field: &Field, man: Man, checks: Squares) -> Squares
     ensures { (v : Siege) (s : ℕ) → s < 64 → (bit_at result s == 1) ≡ false
         → IsHarmless v field.now checks (record { critical = 0; lines = 0 }) man s }
 {
@@ -361,7 +361,7 @@ fn suspect_squares(field: &Field, man: Man, checks: u64) -> u64
 }
 
 // The risk of the men of this kind, who stand on the squares. Where one of them checks now, nothing is told.
-fn risk_of(siege: &Siege, field: &Field, kind: Kind, squares: u64) -> Risk
+fn risk_of(siege: &Siege, field: &Field, kind: Kind, squares: Squares) -> Risk
     requires { IsField siege.now field.now }
     ensures { (s : ℕ) → s < 64 → (bit_at squares s == 1) ≡ true
         → IsWeak siege.now field.now result
@@ -462,7 +462,7 @@ pub(crate) fn risk_at(siege: &Siege, king: Square) -> Risk
 
 // The square `next`, beside the king, if the side may castle with the rook in the corner: he is unmoved, and no man of
 // its own stands there.
-fn castling_square(board: &Board, own: u64, corner: Square, next: Square) -> u64
+fn castling_square(board: &Board, own: Squares, corner: Square, next: Square) -> Squares
     ensures { (has_unmoved board.now.unmoved corner ≡ false)
         ⊎ ((bit_at own next == 1) ≡ true) ⊎ ((bit_at result next == 1) ≡ true) }
 {
@@ -478,7 +478,7 @@ fn castling_square(board: &Board, own: u64, corner: Square, next: Square) -> u64
 }
 
 // The squares to which a rook of the colour may castle, whatever the other side plays before, and perhaps more.
-fn castling_squares(board: &Board, colour: Colour) -> u64
+fn castling_squares(board: &Board, colour: Colour) -> Squares
     ensures { IsWellFormed board.now → AreCastlingSquares board.now colour result }
 {
     let Some(king) = board.king_of(colour) else {
@@ -525,7 +525,7 @@ fn attackers_on(board: &Board, colour: Colour) -> Attackers
 }
 
 // All men but the king, and perhaps without one of his.
-fn hurdles_of(own: u64, enemies: u64, king: Square, lifted: Option<Square>) -> u64
+fn hurdles_of(own: Squares, enemies: Squares, king: Square, lifted: Option<Square>) -> Squares
     ensures are { AreHurdles own enemies king result }
     ensures lifted { (s : ℕ) → s < 64 → lifted ≡ Some s → (bit_at result s == 1) ≡ false }
 {
@@ -607,7 +607,7 @@ fn risk_behind(siege: &Siege, from: Square) -> Risk
 
 // Those of the squares that the man on `from`, who isn't the king, mustn't come to, and perhaps more: told by the siege's
 // own risk, unless he leaves a line on which he is a hurdle. Nothing gets better by that.
-pub(crate) fn critical_from(siege: &Siege, risk: &Risk, from: Square, squares: u64) -> u64
+pub(crate) fn critical_from(siege: &Siege, risk: &Risk, from: Square, squares: Squares) -> Squares
     requires { AreThreats siege.now risk.now }
     ensures { (t : ℕ) → (bit_at squares t == 1) ≡ true → (bit_at result t == 1) ≡ false
         → IsSafeMove siege.now from t }
@@ -625,7 +625,7 @@ pub(crate) fn critical_from(siege: &Siege, risk: &Risk, from: Square, squares: u
 }
 
 // The square, if the king mustn't step there: a man stands on it, or a reply may mate him there.
-fn risky_step(siege: &Siege, to: Square) -> u64
+fn risky_step(siege: &Siege, to: Square) -> Squares
     ensures { (bit_at result to == 1) ≡ false → IsSafeStep siege.now to }
 {
     // For the proof: a square's number is below 64.
@@ -638,7 +638,7 @@ fn risky_step(siege: &Siege, to: Square) -> u64
 }
 
 // Those of the squares to which he mustn't step.
-pub(crate) fn risky_steps(siege: &Siege, steps: u64) -> u64
+pub(crate) fn risky_steps(siege: &Siege, steps: Squares) -> Squares
     ensures { (t : ℕ) → t < 64 → (bit_at steps t == 1) ≡ true → (bit_at result t == 1) ≡ false
         → IsSafeStep siege.now t }
 {

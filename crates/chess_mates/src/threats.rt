@@ -15,7 +15,7 @@ use crate::open_board::pawns_before;
 use crate::siege::{Risk, Siege, critical_from, is_of, risk_of_siege, risky_steps, siege_of};
 use chess_core::board::Board;
 use chess_core::man::{Colour, Kind, Man, Move};
-use chess_core::square::Square;
+use chess_core::square::{Square, Squares};
 use chess_rules::leaps::{king_leaps, pawn_advances};
 use chess_rules::rules::Rules;
 use chess_rules::sift::Sift;
@@ -31,7 +31,7 @@ fn has_no_fairy(board: &Board, colour: Colour) -> bool
 
 // The squares more than a step away, if an enemy pawn might come to the next square ahead of a pawn on `from`: then he
 // might capture who goes past it.
-fn contested_squares(board: &Board, man: Man, from: Square) -> u64
+fn contested_squares(board: &Board, man: Man, from: Square) -> Squares
     ensures { (m : Move) → m.from ≡ from → m.to < 64 → may_go board.now man from m.to ≡ true
         → (bit_at result m.to == 1) ≡ false → IsPassing board.now man m }
 {
@@ -48,7 +48,7 @@ fn contested_squares(board: &Board, man: Man, from: Square) -> u64
 
 // The squares to which the man on `from` can't go but by castling or capturing en passant, or so that he might be
 // captured so.
-fn unplain_squares(board: &Board, man: Man, from: Square) -> u64
+fn unplain_squares(board: &Board, man: Man, from: Square) -> Squares
     ensures { ArePlain board.now man from result }
 {
     // For the proof: a square's number is below 64.
@@ -124,7 +124,7 @@ impl Threats {
 
     /// Those of the squares that the man on `from` mustn't come to lest a reply may mate. So he mustn't where kings castle
     /// or capture, and where a pawn captures en passant or might be captured so.
-    pub fn risky_squares<R: Rules>(&self, board: &Board, from: Square, squares: u64) -> u64
+    pub fn risky_squares<R: Rules>(&self, board: &Board, from: Square, squares: Squares) -> Squares
         requires well_formed { IsWellFormed board.now }
         requires threats { AreThreatsOf R.rule board.now self.now }
         ensures { AreRisky R.rule board.now from squares result }
@@ -166,7 +166,7 @@ impl Sift for Threats {
     ghost fits = { λ t rule p. AreThreatsOf rule p t };
 
     #[tactic(auto, using(crate::proofs::Sparing::sifted_by_risk))]
-    fn sift<R: Rules>(&self, board: &Board, from: Square, squares: u64) -> u64 {
+    fn sift<R: Rules>(&self, board: &Board, from: Square, squares: Squares) -> Squares {
         self.risky_squares::<R>(board, from, squares)
     }
 }

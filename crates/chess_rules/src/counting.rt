@@ -20,11 +20,11 @@ use crate::targets::{Kept, PER_ORIGIN, next_from};
 use crate::words::{contains, next_bit, only};
 use chess_core::board::Board;
 use chess_core::man::{Colour, Kind, Man};
-use chess_core::square::Square;
+use chess_core::square::{Square, Squares};
 
 // How many squares the word has from the one with this number on.
 #[tactic(auto, using(crate::proofs::listing_moves::Counting::none_from))]
-fn count_from(word: u64, from: u8) -> u16
+fn count_from(word: Squares, from: u8) -> u16
     ensures value { result ≡ count_ones (word / 2 ^ from) }
     ensures small { result ≤ 64 }
 {
@@ -36,7 +36,7 @@ fn count_from(word: u64, from: u8) -> u16
 
 // The rank on which the colour's pawns are promoted.
 #[tactic(auto, unfolding(chess_core::specs::Squares::squares, chess_core::specs::ties::Words::word, chess_core::specs::ties::Words::word_of))]
-fn last_rank_squares(colour: Colour) -> u64
+fn last_rank_squares(colour: Colour) -> Squares
     ensures { result ≡ word (λ t. rank_of t == last_rank colour) }
 {
     match colour {
@@ -47,7 +47,7 @@ fn last_rank_squares(colour: Colour) -> u64
 
 // The squares on which this man is promoted, if he is a pawn.
 #[tactic(auto, using(crate::proofs::listing_moves::SurelyLegal::promotion_words))]
-fn promoting_squares(man: Man) -> u64
+fn promoting_squares(man: Man) -> Squares
     ensures { result ≡ word (is_promoting man) }
 {
     if man.kind.is(Kind::Pawn) {
@@ -60,7 +60,7 @@ fn promoting_squares(man: Man) -> u64
 // The squares to which another man than the king may go by a move that has to be looked at: one that changes
 // more than his own square, or names a promotion, or shuts or opens a line of a fairy man.
 #[tactic(auto, using(crate::proofs::listing_moves::SurelyLegal::unsure_word))]
-fn unsure_squares<R: Rules>(board: &Board, man: Man) -> u64
+fn unsure_squares<R: Rules>(board: &Board, man: Man) -> Squares
     ensures { result ≡ word (is_unsure R.rule board.now man) }
 {
     fairy_lines(board, board.turn())
@@ -74,9 +74,9 @@ fn unsure_squares<R: Rules>(board: &Board, man: Man) -> u64
 #[tactic(auto, using(crate::proofs::listing_moves::SurelyLegal::surely_legal))]
 fn are_surely_legal<R: Rules>(
     board: &Board,
-    shield_squares: u64,
+    shield_squares: Squares,
     from: Square,
-    squares: u64,
+    squares: Squares,
 ) -> bool
     requires well_formed { IsWellFormed board.now }
     requires shield_squares { shield_squares ≡ word (may_expose board.now.men board.now.turn) }
@@ -104,7 +104,7 @@ fn are_surely_legal<R: Rules>(
 fn count_one_by_one<R: Rules>(
     board: &mut Board,
     known: Known,
-    squares: u64,
+    squares: Squares,
     from: Square,
     start: u16,
     end: u16,
@@ -134,7 +134,7 @@ fn count_one_by_one<R: Rules>(
 fn count_origin<R: Rules>(
     board: &mut Board,
     known: Known,
-    squares: u64,
+    squares: Squares,
     from: Square,
     start: u16,
     end: u16,
@@ -156,7 +156,7 @@ fn count_origin<R: Rules>(
 }
 
 // The squares to which the man on `from` may go by a legal move, and perhaps more: as kept, if they are.
-fn squares_from<R: Rules>(board: &Board, known: Known, kept: &Kept, from: Square) -> u64
+fn squares_from<R: Rules>(board: &Board, known: Known, kept: &Kept, from: Square) -> Squares
     requires well_formed { IsWellFormed board.now }
     requires known { IsKnownIn R.rule board.now known }
     requires kept { AreKept R.rule board.now (is_legal R.rule board.now) kept.now }

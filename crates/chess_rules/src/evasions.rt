@@ -19,7 +19,7 @@ use crate::shields::{cannot_expose, has_fairy_lines, is_plain};
 use crate::words::{contains, next_bit, only};
 use chess_core::board::Board;
 use chess_core::man::{Colour, Kind, Move};
-use chess_core::square::Square;
+use chess_core::square::{Square, Squares};
 
 // Whether a fairy man that goes along lines stands on the square.
 fn has_fairy_lines_on(board: &Board, square: Square) -> bool
@@ -34,7 +34,7 @@ fn has_fairy_lines_on(board: &Board, square: Square) -> bool
 // The squares to which a move of another man than the king may go that ends a check to the colour's king,
 // unless it is no plain move: all of them where no check is seen. `shield_squares` are the squares from which
 // a move may expose the king: all of them where it is in check.
-pub(crate) fn evasion_squares<R: Rules>(board: &Board, colour: Colour, shield_squares: u64) -> u64
+pub(crate) fn evasion_squares<R: Rules>(board: &Board, colour: Colour, shield_squares: Squares) -> Squares
     ensures { AreEvasions R.rule board.now.men colour result }
 {
     if shield_squares != !0 {
@@ -59,7 +59,7 @@ pub(crate) fn evasion_squares<R: Rules>(board: &Board, colour: Colour, shield_sq
 
 // Whether the move leaves its mover in check, as far as it can be told by the squares to which a move
 // that doesn't must go.
-fn leaves_check<R: Rules>(board: &Board, evasion_squares: u64, m: &Move) -> bool
+fn leaves_check<R: Rules>(board: &Board, evasion_squares: Squares, m: &Move) -> bool
     requires well_formed { IsWellFormed board.now }
     requires pseudo { is_pseudo_legal R.rule board.now m.now ≡ true }
     requires evasion_squares { AreEvasions R.rule board.now.men board.now.turn evasion_squares }
@@ -79,7 +79,7 @@ fn leaves_check<R: Rules>(board: &Board, evasion_squares: u64, m: &Move) -> bool
 }
 
 /// The squares on which a capture does more than take a man off the board: all that are occupied, or none.
-pub fn eventful_captures<R: Rules>(board: &Board) -> u64
+pub fn eventful_captures<R: Rules>(board: &Board) -> Squares
     ensures { result ≡ (if captures_do_more R.rule then word (λ s. is_some (man_on board.now.men s))
         else 0) }
 {
@@ -92,7 +92,7 @@ pub fn eventful_captures<R: Rules>(board: &Board) -> u64
 
 // The squares to which the man on `from` must go to leave no check to its king: all of them where none is
 // seen. `evasion_squares` are those to which another man than the king may go that ends it.
-pub(crate) fn evasions_from<R: Rules>(board: &Board, evasion_squares: u64, from: Square) -> u64
+pub(crate) fn evasions_from<R: Rules>(board: &Board, evasion_squares: Squares, from: Square) -> Squares
     requires well_formed { IsWellFormed board.now }
     requires evasion_squares { AreEvasions R.rule board.now.men board.now.turn evasion_squares }
     ensures { AreEvasionsFrom R.rule board.now from result }
@@ -116,8 +116,8 @@ pub(crate) fn evasions_from<R: Rules>(board: &Board, evasion_squares: u64, from:
 #[inline(always)]
 pub(crate) fn is_safe<R: Rules>(
     board: &mut Board,
-    squares: u64,
-    evasion_squares: u64,
+    squares: Squares,
+    evasion_squares: Squares,
     m: Move,
 ) -> bool
     requires well_formed { IsWellFormed board.old }

@@ -19,7 +19,7 @@ use crate::sight::{Sight, sight_after};
 use crate::words::{next_bit, only};
 use chess_core::board::Board;
 use chess_core::man::{Kind, Man, Move};
-use chess_core::square::Square;
+use chess_core::square::{Square, Squares};
 
 // The square of the mover's king once this man has made the move.
 fn king_after(board: &Board, man: Man, m: &Move) -> Option<Square>
@@ -41,7 +41,7 @@ pub fn is_simple<R: Rules>(man: Man, m: &Move, captures: bool) -> bool
 
 // The arrival, where the man is of this kind once it stands there.
 #[tactic(auto, using(crate::proofs::attacks::Exposing::arrives_as, crate::proofs::attacks::Exposing::arrives_otherwise))]
-fn arrival_as(man: Man, m: &Move, kind: Kind) -> u64
+fn arrival_as(man: Man, m: &Move, kind: Kind) -> Squares
     ensures { result ≡ word (is_arriving_as man m.now kind) }
 {
     if arriving_man(man, m.promo).kind.is(kind) {
@@ -52,7 +52,7 @@ fn arrival_as(man: Man, m: &Move, kind: Kind) -> u64
 }
 
 // The squares of the mover's men of this kind once the man has made a simple move; `sight` is that after it.
-fn own_squares_after(board: &Board, sight: Sight, man: Man, m: &Move, kind: Kind) -> u64
+fn own_squares_after(board: &Board, sight: Sight, man: Man, m: &Move, kind: Kind) -> Squares
     ensures { result ≡ own_after board.now.men sight man m.now kind }
 {
     board.squares(man.colour, kind) & sight.standing & !only(Some(m.from))
@@ -100,7 +100,7 @@ fn is_paralysed_after<R: Rules>(
 }
 
 // Whether an enemy man on one of the word's squares isn't paralysed then.
-fn some_free_after<R: Rules>(board: &Board, sight: Sight, man: Man, m: &Move, word: u64) -> bool
+fn some_free_after<R: Rules>(board: &Board, sight: Sight, man: Man, m: &Move, word: Squares) -> bool
     ensures { (men : List (Option Man)) → AreArrived board.now.men men man m.now sight
         → AreOthers men man.colour word
         → result ≡ some_square (λ s. bit_at word s == 1 && not (is_paralysed R.rule men s)) }

@@ -1,9 +1,11 @@
 //! The squares of lines, leaps and short steps from each square, a bit a square, a1 first: tables
 //! that the proofs compute from the definitions.
 
+use chess_core::square::Squares;
+
 // For each direction, in the order of `Direction`, the line from each square on the empty board.
 #[rattlefmt::skip]
-pub(crate) static RAYS: [[u64; 64]; 16] = [
+pub(crate) static RAYS: [[Squares; 64]; 16] = [
     [
         0x00000000000000fe, 0x00000000000000fc, 0x00000000000000f8, 0x00000000000000f0,
         0x00000000000000e0, 0x00000000000000c0, 0x0000000000000080, 0x0000000000000000,
@@ -296,7 +298,7 @@ pub(crate) static RAYS: [[u64; 64]; 16] = [
 
 // The neighbours.
 #[rattlefmt::skip]
-pub(crate) static NEIGHBOURS: [u64; 64] = [
+pub(crate) static NEIGHBOURS: [Squares; 64] = [
     0x0000000000000302, 0x0000000000000705, 0x0000000000000e0a, 0x0000000000001c14,
     0x0000000000003828, 0x0000000000007050, 0x000000000000e0a0, 0x000000000000c040,
     0x0000000000030203, 0x0000000000070507, 0x00000000000e0a0e, 0x00000000001c141c,
@@ -317,7 +319,7 @@ pub(crate) static NEIGHBOURS: [u64; 64] = [
 
 // The squares a knight's leap away.
 #[rattlefmt::skip]
-pub(crate) static KNIGHT_LEAPS: [u64; 64] = [
+pub(crate) static KNIGHT_LEAPS: [Squares; 64] = [
     0x0000000000020400, 0x0000000000050800, 0x00000000000a1100, 0x0000000000142200,
     0x0000000000284400, 0x0000000000508800, 0x0000000000a01000, 0x0000000000402000,
     0x0000000002040004, 0x0000000005080008, 0x000000000a110011, 0x0000000014220022,
@@ -338,7 +340,7 @@ pub(crate) static KNIGHT_LEAPS: [u64; 64] = [
 
 // The squares on which a white pawn captures.
 #[rattlefmt::skip]
-pub(crate) static WHITE_CAPTURES: [u64; 64] = [
+pub(crate) static WHITE_CAPTURES: [Squares; 64] = [
     0x0000000000000200, 0x0000000000000500, 0x0000000000000a00, 0x0000000000001400,
     0x0000000000002800, 0x0000000000005000, 0x000000000000a000, 0x0000000000004000,
     0x0000000000020000, 0x0000000000050000, 0x00000000000a0000, 0x0000000000140000,
@@ -359,7 +361,7 @@ pub(crate) static WHITE_CAPTURES: [u64; 64] = [
 
 // The squares on which a black pawn captures.
 #[rattlefmt::skip]
-pub(crate) static BLACK_CAPTURES: [u64; 64] = [
+pub(crate) static BLACK_CAPTURES: [Squares; 64] = [
     0x0000000000000000, 0x0000000000000000, 0x0000000000000000, 0x0000000000000000,
     0x0000000000000000, 0x0000000000000000, 0x0000000000000000, 0x0000000000000000,
     0x0000000000000002, 0x0000000000000005, 0x000000000000000a, 0x0000000000000014,
@@ -380,7 +382,7 @@ pub(crate) static BLACK_CAPTURES: [u64; 64] = [
 
 // The squares one and two ahead of a white pawn.
 #[rattlefmt::skip]
-pub(crate) static WHITE_STEPS: [u64; 64] = [
+pub(crate) static WHITE_STEPS: [Squares; 64] = [
     0x0000000000010100, 0x0000000000020200, 0x0000000000040400, 0x0000000000080800,
     0x0000000000101000, 0x0000000000202000, 0x0000000000404000, 0x0000000000808000,
     0x0000000001010000, 0x0000000002020000, 0x0000000004040000, 0x0000000008080000,
@@ -401,7 +403,7 @@ pub(crate) static WHITE_STEPS: [u64; 64] = [
 
 // The squares one and two ahead of a black pawn.
 #[rattlefmt::skip]
-pub(crate) static BLACK_STEPS: [u64; 64] = [
+pub(crate) static BLACK_STEPS: [Squares; 64] = [
     0x0000000000000000, 0x0000000000000000, 0x0000000000000000, 0x0000000000000000,
     0x0000000000000000, 0x0000000000000000, 0x0000000000000000, 0x0000000000000000,
     0x0000000000000001, 0x0000000000000002, 0x0000000000000004, 0x0000000000000008,
@@ -422,7 +424,7 @@ pub(crate) static BLACK_STEPS: [u64; 64] = [
 
 // The squares two files aside on the same rank.
 #[rattlefmt::skip]
-pub(crate) static ASIDE: [u64; 64] = [
+pub(crate) static ASIDE: [Squares; 64] = [
     0x0000000000000004, 0x0000000000000008, 0x0000000000000011, 0x0000000000000022,
     0x0000000000000044, 0x0000000000000088, 0x0000000000000010, 0x0000000000000020,
     0x0000000000000400, 0x0000000000000800, 0x0000000000001100, 0x0000000000002200,
@@ -443,7 +445,7 @@ pub(crate) static ASIDE: [u64; 64] = [
 
 // The four straight lines.
 #[rattlefmt::skip]
-pub(crate) static STRAIGHT_LINES: [u64; 64] = [
+pub(crate) static STRAIGHT_LINES: [Squares; 64] = [
     0x01010101010101fe, 0x02020202020202fd, 0x04040404040404fb, 0x08080808080808f7,
     0x10101010101010ef, 0x20202020202020df, 0x40404040404040bf, 0x808080808080807f,
     0x010101010101fe01, 0x020202020202fd02, 0x040404040404fb04, 0x080808080808f708,
@@ -464,7 +466,7 @@ pub(crate) static STRAIGHT_LINES: [u64; 64] = [
 
 // The four diagonal lines.
 #[rattlefmt::skip]
-pub(crate) static DIAGONAL_LINES: [u64; 64] = [
+pub(crate) static DIAGONAL_LINES: [Squares; 64] = [
     0x8040201008040200, 0x0080402010080500, 0x0000804020110a00, 0x0000008041221400,
     0x0000000182442800, 0x0000010204885000, 0x000102040810a000, 0x0102040810204000,
     0x4020100804020002, 0x8040201008050005, 0x00804020110a000a, 0x0000804122140014,

@@ -20,7 +20,7 @@ use crate::sought::{Sought, next_passing};
 use crate::targets::{Kept, TRIPLES, arrivals};
 use chess_core::board::Board;
 use chess_core::man::Move;
-use chess_core::square::Square;
+use chess_core::square::{Square, Squares};
 use std::alloc::AllocError;
 use std::marker::{Model, PhantomData};
 
@@ -30,8 +30,8 @@ use std::marker::{Model, PhantomData};
 #[derive_where(Copy)]
 pub struct LegalMoves<R> {
     number: u16,
-    shield_squares: u64,
-    evasion_squares: u64,
+    shield_squares: Squares,
+    evasion_squares: Squares,
     targets: Kept,
     rules: PhantomData<R>,
 }
@@ -237,8 +237,8 @@ impl<R: Rules> LegalMoves<R> {
 // `evasion_squares` those to which one may go that ends a check.
 pub(crate) fn next_legal<R: Rules>(
     board: &mut Board,
-    squares: u64,
-    evasion_squares: u64,
+    squares: Squares,
+    evasion_squares: Squares,
     kept: &mut Kept,
     start: u16,
     end: u16,
@@ -266,8 +266,8 @@ pub(crate) fn next_legal<R: Rules>(
 /// mover's king, and those to which one may go that ends a check.
 #[derive(Clone, Copy)]
 pub(crate) struct Known {
-    pub(crate) shield_squares: u64,
-    pub(crate) evasion_squares: u64,
+    pub(crate) shield_squares: Squares,
+    pub(crate) evasion_squares: Squares,
 }
 
 impl Sought for Known {
@@ -285,11 +285,11 @@ impl Sought for Known {
     ghost fits = { λ s rule p. (s.shield_squares ≡ word (may_expose p.men p.turn))
         × AreEvasions rule p.men p.turn s.evasion_squares };
 
-    fn origins<R: Rules>(&self, board: &Board) -> u64 {
+    fn origins<R: Rules>(&self, board: &Board) -> Squares {
         own_origins::<R>(board)
     }
 
-    fn candidates<R: Rules>(&self, board: &Board, from: Square) -> u64 {
+    fn candidates<R: Rules>(&self, board: &Board, from: Square) -> Squares {
         candidates::<R>(board, self.evasion_squares, from)
     }
 
@@ -319,12 +319,12 @@ impl<'a, S: Sift> Sought for Sifted<'a, S> {
 
     ghost fits = { λ s rule p. ⟦<Known as Sought>⟧.fits s.known rule p × S.fits s.sift.now rule p };
 
-    fn origins<R: Rules>(&self, board: &Board) -> u64 {
+    fn origins<R: Rules>(&self, board: &Board) -> Squares {
         own_origins::<R>(board)
     }
 
     #[tactic(auto, using(crate::proofs::listing_moves::Sifting::wanted_candidates, std::proofs::lemmas::Bool::and_left))]
-    fn candidates<R: Rules>(&self, board: &Board, from: Square) -> u64 {
+    fn candidates<R: Rules>(&self, board: &Board, from: Square) -> Squares {
         let squares = candidates::<R>(board, self.known.evasion_squares, from);
         if squares == 0 {
             return 0;
@@ -341,14 +341,14 @@ impl<'a, S: Sift> Sought for Sifted<'a, S> {
 }
 
 // The squares from which the side to move has a legal move, and perhaps more: those of its men.
-pub(crate) fn own_origins<R: Rules>(board: &Board) -> u64
+pub(crate) fn own_origins<R: Rules>(board: &Board) -> Squares
     ensures { AreOrigins (is_legal R.rule board.now) result }
 {
     board.side(board.turn())
 }
 
 // The squares to which the man on `from` may go by a legal move, and perhaps more.
-pub(crate) fn candidates<R: Rules>(board: &Board, evasion_squares: u64, from: Square) -> u64
+pub(crate) fn candidates<R: Rules>(board: &Board, evasion_squares: Squares, from: Square) -> Squares
     requires well_formed { IsWellFormed board.now }
     requires evasion_squares { AreEvasions R.rule board.now.men board.now.turn evasion_squares }
     ensures { AreCandidates R.rule board.now (is_legal R.rule board.now) from result }

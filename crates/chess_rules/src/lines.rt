@@ -16,7 +16,7 @@ use crate::geometry::{DIAGONAL_LINES, RAYS, STRAIGHT_LINES};
 use crate::words::{contains, highest, lowest, only};
 use chess_core::board::Board;
 use chess_core::man::Colour;
-use chess_core::square::Square;
+use chess_core::square::{Square, Squares};
 
 /// A direction of a line, as seen by White: the queen's eight, then the knight's eight.
 #[derive(Clone, Copy)]
@@ -59,7 +59,7 @@ impl Direction {
     }
 
     // The squares of the line from this square on the empty board.
-    fn ray(self, from: Square) -> u64
+    fn ray(self, from: Square) -> Squares
         ensures { result ≡ ray from (step_of self) }
     {
         RAYS[self.number()][from.index() as usize]
@@ -75,7 +75,7 @@ impl Direction {
 
     // The square of the word that the line passes first; the last one of the board, behind which no
     // line goes on, where the word has none.
-    fn first(self, word: u64) -> Square
+    fn first(self, word: Squares) -> Square
         ensures { IsStop (step_of self) word result }
     {
         if self.rises() {
@@ -101,7 +101,7 @@ impl Direction {
 }
 
 /// The squares on which men stand.
-pub fn occupied(board: &Board) -> u64
+pub fn occupied(board: &Board) -> Squares
     ensures { result ≡ occupied_squares board.now.men }
 {
     board.side(Colour::White) | board.side(Colour::Black)
@@ -109,7 +109,7 @@ pub fn occupied(board: &Board) -> u64
 
 // The squares to which a rider on `from` gets in this direction, whichever men stand on the occupied
 // squares.
-fn ride(occupied: u64, from: Square, direction: Direction) -> u64
+fn ride(occupied: Squares, from: Square, direction: Direction) -> Squares
     ensures { (men : List (Option Man)) → occupied ≡ occupied_squares men
         → result ≡ word (λ t. rides men from t (step_of direction)) }
 {
@@ -121,21 +121,21 @@ fn ride(occupied: u64, from: Square, direction: Direction) -> u64
 }
 
 /// The squares of the file and the rank of `from`, itself apart.
-pub fn straight_lines(from: Square) -> u64
+pub fn straight_lines(from: Square) -> Squares
     ensures { result ≡ word (is_on_some straight_steps from) }
 {
     STRAIGHT_LINES[from.index() as usize]
 }
 
 /// The squares of its diagonals.
-pub fn diagonal_lines(from: Square) -> u64
+pub fn diagonal_lines(from: Square) -> Squares
     ensures { result ≡ word (is_on_some diagonal_steps from) }
 {
     DIAGONAL_LINES[from.index() as usize]
 }
 
 // The squares to which a rider on `from` gets along its file and its rank.
-pub(crate) fn straight_rides(occupied: u64, from: Square) -> u64
+pub(crate) fn straight_rides(occupied: Squares, from: Square) -> Squares
     ensures { (men : List (Option Man)) → occupied ≡ occupied_squares men
         → result ≡ word (λ t. list_any (rides men from t) straight_steps) }
 {
@@ -146,7 +146,7 @@ pub(crate) fn straight_rides(occupied: u64, from: Square) -> u64
 }
 
 // The squares to which it gets along its diagonals.
-pub(crate) fn diagonal_rides(occupied: u64, from: Square) -> u64
+pub(crate) fn diagonal_rides(occupied: Squares, from: Square) -> Squares
     ensures { (men : List (Option Man)) → occupied ≡ occupied_squares men
         → result ≡ word (λ t. list_any (rides men from t) diagonal_steps) }
 {
@@ -157,7 +157,7 @@ pub(crate) fn diagonal_rides(occupied: u64, from: Square) -> u64
 }
 
 // The squares to which it gets along all of them.
-pub(crate) fn queen_rides(occupied: u64, from: Square) -> u64
+pub(crate) fn queen_rides(occupied: Squares, from: Square) -> Squares
     ensures { (men : List (Option Man)) → occupied ≡ occupied_squares men
         → result ≡ word (λ t. list_any (rides men from t) queen_steps) }
 {
@@ -165,7 +165,7 @@ pub(crate) fn queen_rides(occupied: u64, from: Square) -> u64
 }
 
 // The squares of the line in this direction, if it passes a square of the word.
-fn line_with(from: Square, squares: u64, direction: Direction) -> u64
+fn line_with(from: Square, squares: Squares, direction: Direction) -> Squares
     ensures { (test : ℕ → Bool) → squares ≡ word test
         → result ≡ word (λ t. is_ahead from (step_of direction) t
         && some_square (λ q. test q && is_ahead from (step_of direction) q)) }
@@ -178,7 +178,7 @@ fn line_with(from: Square, squares: u64, direction: Direction) -> u64
 }
 
 // The square to which a grasshopper on `from` hops in this direction, if there is one.
-fn hop(occupied: u64, from: Square, direction: Direction) -> u64
+fn hop(occupied: Squares, from: Square, direction: Direction) -> Squares
     ensures { (men : List (Option Man)) → occupied ≡ occupied_squares men
         → result ≡ word (λ t. hops men from t (step_of direction)) }
 {
@@ -189,7 +189,7 @@ fn hop(occupied: u64, from: Square, direction: Direction) -> u64
 }
 
 // The squares from which a grasshopper hops to `to` against this direction: behind the man next to it.
-fn hop_back(occupied: u64, to: Square, direction: Direction) -> u64
+fn hop_back(occupied: Squares, to: Square, direction: Direction) -> Squares
     ensures { (men : List (Option Man)) → occupied ≡ occupied_squares men
         → result ≡ word (λ s. hopped_from men to s (step_of direction)) }
 {
@@ -208,7 +208,7 @@ fn hop_back(occupied: u64, to: Square, direction: Direction) -> u64
 }
 
 // The squares to which a nightrider on `from` gets, two ranks a step.
-fn steep_rides(occupied: u64, from: Square) -> u64
+fn steep_rides(occupied: Squares, from: Square) -> Squares
     ensures { (men : List (Option Man)) → occupied ≡ occupied_squares men
         → result ≡ word (λ t. list_any (rides men from t) steep_steps) }
 {
@@ -219,7 +219,7 @@ fn steep_rides(occupied: u64, from: Square) -> u64
 }
 
 // Those to which it gets one rank a step.
-fn flat_rides(occupied: u64, from: Square) -> u64
+fn flat_rides(occupied: Squares, from: Square) -> Squares
     ensures { (men : List (Option Man)) → occupied ≡ occupied_squares men
         → result ≡ word (λ t. list_any (rides men from t) flat_steps) }
 {
@@ -230,7 +230,7 @@ fn flat_rides(occupied: u64, from: Square) -> u64
 }
 
 // The squares to which a nightrider on `from` gets.
-pub(crate) fn knight_rides(occupied: u64, from: Square) -> u64
+pub(crate) fn knight_rides(occupied: Squares, from: Square) -> Squares
     ensures { (men : List (Option Man)) → occupied ≡ occupied_squares men
         → result ≡ word (λ t. list_any (rides men from t) knight_steps) }
 {
@@ -238,7 +238,7 @@ pub(crate) fn knight_rides(occupied: u64, from: Square) -> u64
 }
 
 // The squares to which a grasshopper on `from` hops along its file and its rank.
-fn straight_hops(occupied: u64, from: Square) -> u64
+fn straight_hops(occupied: Squares, from: Square) -> Squares
     ensures { (men : List (Option Man)) → occupied ≡ occupied_squares men
         → result ≡ word (λ t. list_any (hops men from t) straight_steps) }
 {
@@ -249,7 +249,7 @@ fn straight_hops(occupied: u64, from: Square) -> u64
 }
 
 // Those to which it hops along its diagonals.
-fn diagonal_hops(occupied: u64, from: Square) -> u64
+fn diagonal_hops(occupied: Squares, from: Square) -> Squares
     ensures { (men : List (Option Man)) → occupied ≡ occupied_squares men
         → result ≡ word (λ t. list_any (hops men from t) diagonal_steps) }
 {
@@ -260,7 +260,7 @@ fn diagonal_hops(occupied: u64, from: Square) -> u64
 }
 
 // The squares to which a grasshopper on `from` hops.
-pub(crate) fn queen_hops(occupied: u64, from: Square) -> u64
+pub(crate) fn queen_hops(occupied: Squares, from: Square) -> Squares
     ensures { (men : List (Option Man)) → occupied ≡ occupied_squares men
         → result ≡ word (λ t. list_any (hops men from t) queen_steps) }
 {
@@ -268,7 +268,7 @@ pub(crate) fn queen_hops(occupied: u64, from: Square) -> u64
 }
 
 // The squares from which a grasshopper hops to `to` along its file and its rank.
-fn straight_hops_back(occupied: u64, to: Square) -> u64
+fn straight_hops_back(occupied: Squares, to: Square) -> Squares
     ensures { (men : List (Option Man)) → occupied ≡ occupied_squares men
         → result ≡ word (λ s. list_any (hopped_from men to s) straight_steps) }
 {
@@ -279,7 +279,7 @@ fn straight_hops_back(occupied: u64, to: Square) -> u64
 }
 
 // Those from which it hops there along its diagonals.
-fn diagonal_hops_back(occupied: u64, to: Square) -> u64
+fn diagonal_hops_back(occupied: Squares, to: Square) -> Squares
     ensures { (men : List (Option Man)) → occupied ≡ occupied_squares men
         → result ≡ word (λ s. list_any (hopped_from men to s) diagonal_steps) }
 {
@@ -290,7 +290,7 @@ fn diagonal_hops_back(occupied: u64, to: Square) -> u64
 }
 
 // The squares from which a grasshopper hops to `to`.
-pub(crate) fn queen_hops_back(occupied: u64, to: Square) -> u64
+pub(crate) fn queen_hops_back(occupied: Squares, to: Square) -> Squares
     ensures { (men : List (Option Man)) → occupied ≡ occupied_squares men
         → result ≡ word (λ s. list_any (hopped_from men to s) queen_steps) }
 {
@@ -298,7 +298,7 @@ pub(crate) fn queen_hops_back(occupied: u64, to: Square) -> u64
 }
 
 // The squares of those of the queen's lines from the square that pass a square of the word.
-pub(crate) fn queen_lines_with(from: Square, squares: u64) -> u64
+pub(crate) fn queen_lines_with(from: Square, squares: Squares) -> Squares
     ensures { (men : List (Option Man)) (e : Colour) → squares ≡ squares_of men e Grasshopper
         → result ≡ word (λ t. list_any (is_lined men e Grasshopper from t) queen_steps) }
 {
@@ -314,7 +314,7 @@ pub(crate) fn queen_lines_with(from: Square, squares: u64) -> u64
 }
 
 // The same of a nightrider's lines.
-pub(crate) fn knight_lines_with(from: Square, squares: u64) -> u64
+pub(crate) fn knight_lines_with(from: Square, squares: Squares) -> Squares
     ensures { (men : List (Option Man)) (e : Colour) → squares ≡ squares_of men e Nightrider
         → result ≡ word (λ t. list_any (is_lined men e Nightrider from t) knight_steps) }
 {

@@ -23,11 +23,11 @@ use crate::sight::{Sight, sight_now, squares_seen};
 use crate::words::next_bit;
 use chess_core::board::Board;
 use chess_core::man::{Colour, Gait, Kind};
-use chess_core::square::Square;
+use chess_core::square::{Square, Squares};
 
 /// The squares from which a man of this colour and kind could go to `to` if an enemy stood there: those to which
 /// one of the other colour could from there, but for a hopper.
-pub fn comes_as(occupied: u64, colour: Colour, kind: Kind, to: Square) -> u64
+pub fn comes_as(occupied: Squares, colour: Colour, kind: Kind, to: Square) -> Squares
     ensures { (men : List (Option Man)) → occupied ≡ occupied_squares men
         → result ≡ word (λ s. reaches_as men colour kind s to) }
 {
@@ -46,7 +46,7 @@ pub(crate) fn reached_by(
     square: Square,
     colour: Colour,
     kind: Kind,
-) -> u64
+) -> Squares
     ensures { (men : List (Option Man)) → AreSeen board.now.men men colour sight
         → result ≡ word (λ s. is_man (man_on men s) colour kind && reaches men s square) }
 {
@@ -56,12 +56,12 @@ pub(crate) fn reached_by(
 
 // Of the squares of all men of this colour and kind, those from which they reach the square.
 pub(crate) fn those_reaching(
-    occupied: u64,
-    squares: u64,
+    occupied: Squares,
+    squares: Squares,
     square: Square,
     colour: Colour,
     kind: Kind,
-) -> u64
+) -> Squares
     ensures { (men : List (Option Man)) → occupied ≡ occupied_squares men
         → squares ≡ squares_of men colour kind
         → result ≡ word (λ s. is_man (man_on men s) colour kind && reaches men s square) }
@@ -75,7 +75,7 @@ pub(crate) fn those_reaching(
 // The squares of the queens and rooks of this colour that a rider on the square gets to along its file
 // and rank. Mostly no such man stands there, and no line is looked along.
 #[tactic(auto, using(crate::proofs::attacks::Attacking::met, crate::proofs::attacks::Attacking::met_none))]
-fn straight_attackers(board: &Board, sight: Sight, square: Square, colour: Colour) -> u64
+fn straight_attackers(board: &Board, sight: Sight, square: Square, colour: Colour) -> Squares
     ensures { (men : List (Option Man)) → AreSeen board.now.men men colour sight
         → result ≡ word (is_met men colour Rook straight_steps square) }
 {
@@ -89,7 +89,7 @@ fn straight_attackers(board: &Board, sight: Sight, square: Square, colour: Colou
 
 // The squares of its queens and bishops that such a rider gets to along the diagonals.
 #[tactic(auto, using(crate::proofs::attacks::Attacking::met, crate::proofs::attacks::Attacking::met_none))]
-fn diagonal_attackers(board: &Board, sight: Sight, square: Square, colour: Colour) -> u64
+fn diagonal_attackers(board: &Board, sight: Sight, square: Square, colour: Colour) -> Squares
     ensures { (men : List (Option Man)) → AreSeen board.now.men men colour sight
         → result ≡ word (is_met men colour Bishop diagonal_steps square) }
 {
@@ -104,7 +104,7 @@ fn diagonal_attackers(board: &Board, sight: Sight, square: Square, colour: Colou
 // The squares of the men of this colour and kind that reach the square, looked for at once: leaps stand in a
 // table.
 #[inline(always)]
-fn leaping_attackers(board: &Board, sight: Sight, square: Square, colour: Colour, kind: Kind) -> u64
+fn leaping_attackers(board: &Board, sight: Sight, square: Square, colour: Colour, kind: Kind) -> Squares
     ensures { (men : List (Option Man)) → AreSeen board.now.men men colour sight
         → result ≡ word (λ s. is_man (man_on men s) colour kind && reaches men s square) }
 {
@@ -113,7 +113,7 @@ fn leaping_attackers(board: &Board, sight: Sight, square: Square, colour: Colour
 
 // The squares of its fairy men that reach the square. Mostly there is none.
 #[inline(always)]
-fn fairy_attackers(board: &Board, sight: Sight, square: Square, colour: Colour) -> u64
+fn fairy_attackers(board: &Board, sight: Sight, square: Square, colour: Colour) -> Squares
     ensures { (men : List (Option Man)) → AreSeen board.now.men men colour sight
         → result ≡ word (λ s. is_fairy_man (man_on men s) colour && reaches men s square) }
 {
@@ -133,7 +133,7 @@ fn fairy_attackers(board: &Board, sight: Sight, square: Square, colour: Colour) 
 }
 
 /// The squares of the men of this colour that reach the square.
-pub fn attackers_seen(board: &Board, sight: Sight, square: Square, colour: Colour) -> u64
+pub fn attackers_seen(board: &Board, sight: Sight, square: Square, colour: Colour) -> Squares
     ensures { (men : List (Option Man)) → AreSeen board.now.men men colour sight
         → result ≡ word (λ s. is_of_colour (man_on men s) colour && reaches men s square) }
 {
@@ -148,7 +148,7 @@ pub fn attackers_seen(board: &Board, sight: Sight, square: Square, colour: Colou
 }
 
 // The same on the board as it stands.
-pub(crate) fn attackers(board: &Board, square: Square, colour: Colour) -> u64
+pub(crate) fn attackers(board: &Board, square: Square, colour: Colour) -> Squares
     ensures { result ≡ word (λ s. is_of_colour (man_on board.now.men s) colour
         && reaches board.now.men s square) }
 {
@@ -163,7 +163,7 @@ pub(crate) fn is_reached(board: &Board, square: Square, colour: Colour) -> bool
 }
 
 // Whether a man on one of the word's squares isn't paralysed, or no man stands there.
-pub(crate) fn some_free<R: Rules>(board: &Board, word: u64) -> bool
+pub(crate) fn some_free<R: Rules>(board: &Board, word: Squares) -> bool
     ensures { result ≡ some_square (λ s. bit_at word s == 1
         && not (is_paralysed R.rule board.now.men s)) }
 {

@@ -12,12 +12,12 @@ use crate::lines::{
 use crate::words::contains;
 use chess_core::board::Board;
 use chess_core::man::{Colour, Kind};
-use chess_core::square::Square;
+use chess_core::square::{Square, Squares};
 
 /// The squares to which a man of this colour and kind on `from` could go if enemies stood there (a
 /// pawn captures, it doesn't step forward), whichever men stand on the occupied squares.
 #[tactic(auto, unfolding(crate::specs::Reaches::reaches_as))]
-pub fn reach_over(occupied: u64, colour: Colour, kind: Kind, from: Square) -> u64
+pub fn reach_over(occupied: Squares, colour: Colour, kind: Kind, from: Square) -> Squares
     ensures { (men : List (Option Man)) → occupied ≡ occupied_squares men
         → result ≡ word (reaches_as men colour kind from) }
 {
@@ -34,7 +34,7 @@ pub fn reach_over(occupied: u64, colour: Colour, kind: Kind, from: Square) -> u6
 }
 
 // The same over the men of the board.
-pub(crate) fn reach_as(board: &Board, colour: Colour, kind: Kind, from: Square) -> u64
+pub(crate) fn reach_as(board: &Board, colour: Colour, kind: Kind, from: Square) -> Squares
     ensures { result ≡ word (λ t. reaches_as board.now.men colour kind from t) }
 {
     reach_over(occupied(board), colour, kind, from)

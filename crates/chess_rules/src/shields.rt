@@ -24,7 +24,7 @@ use crate::rules::Rules;
 use crate::words::{contains, next_bit, only};
 use chess_core::board::Board;
 use chess_core::man::{Colour, Kind, Man, Move};
-use chess_core::square::Square;
+use chess_core::square::{Square, Squares};
 
 // Whether it is a fairy man that goes along lines: a rider or a hopper.
 pub(crate) fn has_fairy_lines(kind: Kind) -> bool
@@ -43,7 +43,7 @@ pub(crate) fn has_fairy(board: &Board, colour: Colour) -> bool
 /// The squares of the lines to the colour's king with a fairy man of the other colour on them: the queen's
 /// lines with a grasshopper, and a nightrider's with a nightrider.
 #[inline(always)]
-pub fn fairy_lines(board: &Board, colour: Colour) -> u64
+pub fn fairy_lines(board: &Board, colour: Colour) -> Squares
     ensures { result ≡ word (may_stand_between board.now.men colour) }
 {
     if !has_fairy(board, colour.other()) {
@@ -54,7 +54,7 @@ pub fn fairy_lines(board: &Board, colour: Colour) -> u64
 
 // The same where there is such a man.
 #[inline(never)]
-fn lines_with_fairy_men(board: &Board, colour: Colour) -> u64
+fn lines_with_fairy_men(board: &Board, colour: Colour) -> Squares
     ensures { result ≡ word (may_stand_between board.now.men colour) }
 {
     let side = colour.other();
@@ -84,7 +84,7 @@ impl RiderLines {
     }
 
     // The squares of the lines of `from`, itself apart.
-    fn all(self, from: Square) -> u64
+    fn all(self, from: Square) -> Squares
         ensures { result ≡ word (is_on_some (steps_along self) from) }
     {
         match self {
@@ -94,7 +94,7 @@ impl RiderLines {
     }
 
     // The squares to which a rider on `from` gets along them.
-    fn rides(self, occupied: u64, from: Square) -> u64
+    fn rides(self, occupied: Squares, from: Square) -> Squares
         ensures { (men : List (Option Man)) → occupied ≡ occupied_squares men
             → result ≡ word (λ t. list_any (rides men from t) (steps_along self)) }
     {
@@ -106,7 +106,7 @@ impl RiderLines {
 }
 
 // The squares to which the riders on these squares get along the lines.
-fn ridden_squares(occupied: u64, riders: u64, lines: RiderLines) -> u64
+fn ridden_squares(occupied: Squares, riders: Squares, lines: RiderLines) -> Squares
     ensures { (men : List (Option Man)) → occupied ≡ occupied_squares men
         → result ≡ word (λ s. some_square
         (λ q. bit_at riders q == 1 && list_any (rides men q s) (steps_along lines))) }
@@ -121,7 +121,7 @@ fn ridden_squares(occupied: u64, riders: u64, lines: RiderLines) -> u64
 }
 
 // The squares of the queens of this colour and of its riders along these lines.
-fn line_riders(board: &Board, colour: Colour, lines: RiderLines) -> u64
+fn line_riders(board: &Board, colour: Colour, lines: RiderLines) -> Squares
     ensures { result ≡ bit_or (squares_of board.now.men colour (rider_along lines))
         (squares_of board.now.men colour Queen) }
 {
@@ -129,7 +129,7 @@ fn line_riders(board: &Board, colour: Colour, lines: RiderLines) -> u64
 }
 
 // Those that stand on one of the lines of the square.
-fn riders_on_lines(board: &Board, colour: Colour, square: Square, lines: RiderLines) -> u64
+fn riders_on_lines(board: &Board, colour: Colour, square: Square, lines: RiderLines) -> Squares
     ensures { result ≡ word (λ q. (is_man (man_on board.now.men q) colour (rider_along lines)
         || is_man (man_on board.now.men q) colour Queen)
         && is_on_some (steps_along lines) square q) }
@@ -139,7 +139,7 @@ fn riders_on_lines(board: &Board, colour: Colour, square: Square, lines: RiderLi
 
 // The squares that shut a line between the square and a rider of this colour. Mostly no such rider stands
 // on its lines.
-fn shut_squares(board: &Board, colour: Colour, square: Square, lines: RiderLines) -> u64
+fn shut_squares(board: &Board, colour: Colour, square: Square, lines: RiderLines) -> Squares
     ensures { result ≡ word (is_shut board.now.men colour (rider_along lines) (steps_along lines)
         square) }
 {
@@ -152,7 +152,7 @@ fn shut_squares(board: &Board, colour: Colour, square: Square, lines: RiderLines
 }
 
 // The square of the colour's king, and those that shut a line between it and an enemy rider.
-fn shields_of(board: &Board, colour: Colour, king: Square) -> u64
+fn shields_of(board: &Board, colour: Colour, king: Square) -> Squares
     ensures { result ≡ bit_or (bit_or (word (is_square (Some king)))
         (word (is_shut board.now.men (other colour) Rook straight_steps king)))
         (word (is_shut board.now.men (other colour) Bishop diagonal_steps king)) }
@@ -164,7 +164,7 @@ fn shields_of(board: &Board, colour: Colour, king: Square) -> u64
 }
 
 /// The squares from which a move may expose the colour's king.
-pub fn shield_squares(board: &Board, colour: Colour) -> u64
+pub fn shield_squares(board: &Board, colour: Colour) -> Squares
     ensures { result ≡ word (may_expose board.now.men colour) }
 {
     let Some(king) = board.king_of(colour) else {
@@ -200,7 +200,7 @@ fn stands_aside<R: Rules>(board: &Board, man: Man, colour: Colour, m: &Move) -> 
 
 /// Whether the move can't expose the colour's king; `squares` are those from which one may.
 #[inline(always)]
-pub fn cannot_expose<R: Rules>(board: &Board, colour: Colour, squares: u64, m: &Move) -> bool
+pub fn cannot_expose<R: Rules>(board: &Board, colour: Colour, squares: Squares, m: &Move) -> bool
     requires { squares ≡ word (may_expose board.now.men colour) }
     ensures { result ≡ cannot_expose R.rule board.now colour m.now }
 {

@@ -5,7 +5,7 @@ ghost use Rattle.chess_rules.specs.ties.Sifting.{AreSifted};
 
 use crate::rules::Rules;
 use chess_core::board::Board;
-use chess_core::square::Square;
+use chess_core::square::{Square, Squares};
 
 /// A sieve for the legal moves of a position, by the squares to which they go: it takes moves that fail a test,
 /// and leaves all that pass it, and perhaps more. Also told is when it is one of a position.
@@ -20,7 +20,7 @@ pub trait Sift {
     ghost fits: { Self → RuleSet → Position → Type 0 };
 
     /// Those of the squares to which a legal move of the man on `from` may pass the test, and perhaps more.
-    fn sift<R: Rules>(&self, board: &Board, from: Square, squares: u64) -> u64
+    fn sift<R: Rules>(&self, board: &Board, from: Square, squares: Squares) -> Squares
         requires well_formed { IsWellFormed board.now }
         requires fits { fits self.now R.rule board.now }
         ensures { AreSifted R.rule board.now (test R.rule board.now) from squares result };

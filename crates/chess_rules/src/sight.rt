@@ -9,15 +9,15 @@ use crate::lines::occupied;
 use crate::words::only;
 use chess_core::board::Board;
 use chess_core::man::{Colour, Kind};
-use chess_core::square::Square;
+use chess_core::square::{Square, Squares};
 
 /// What an attack sees: the squares that are occupied, and those on which the board's men still stand.
 #[derive(Clone, Copy)]
 pub struct Sight {
     /// The squares on which a man stands.
-    pub occupied: u64,
+    pub occupied: Squares,
     /// The squares on which the board's men count; those elsewhere have gone or been captured.
-    pub standing: u64,
+    pub standing: Squares,
 }
 
 // The men that stand on the board.
@@ -43,7 +43,7 @@ pub fn sight_after(board: &Board, from: Square, captured: Option<Square>, to: Sq
 }
 
 // The squares of the men of this colour and kind.
-pub(crate) fn squares_seen(board: &Board, sight: Sight, colour: Colour, kind: Kind) -> u64
+pub(crate) fn squares_seen(board: &Board, sight: Sight, colour: Colour, kind: Kind) -> Squares
     ensures { (men : List (Option Man)) → AreSeen board.now.men men colour sight
         → result ≡ squares_of men colour kind }
 {

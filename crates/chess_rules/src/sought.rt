@@ -11,7 +11,7 @@ use crate::targets::{Kept, PER_ORIGIN, TRIPLES, next_from};
 use crate::words::next_bit;
 use chess_core::board::Board;
 use chess_core::man::Move;
-use chess_core::square::Square;
+use chess_core::square::{Square, Squares};
 
 /// What is known of a position where moves that pass a test are looked for: the test, what a move that is found
 /// passes for certain, and when the knowledge is of a position.
@@ -29,13 +29,13 @@ pub trait Sought {
     ghost fits: { Self → RuleSet → Position → Type 0 };
 
     /// The squares from which a move may pass, and perhaps more.
-    fn origins<R: Rules>(&self, board: &Board) -> u64
+    fn origins<R: Rules>(&self, board: &Board) -> Squares
         requires well_formed { IsWellFormed board.now }
         requires fits { fits self.now R.rule board.now }
         ensures { AreOrigins (test R.rule board.now) result };
 
     /// The squares to which the man on `from` may go by a move that passes, and perhaps more.
-    fn candidates<R: Rules>(&self, board: &Board, from: Square) -> u64
+    fn candidates<R: Rules>(&self, board: &Board, from: Square) -> Squares
         requires well_formed { IsWellFormed board.now }
         requires fits { fits self.now R.rule board.now }
         ensures { AreCandidates R.rule board.now (test R.rule board.now) from result };
@@ -76,7 +76,7 @@ fn keep<R: Rules, S: Sought>(board: &Board, sought: &S, kept: Kept, from: Square
 fn next_candidate<R: Rules, S: Sought>(
     board: &Board,
     sought: &S,
-    origins: u64,
+    origins: Squares,
     kept: &mut Kept,
     start: u16,
 ) -> u16

@@ -16,7 +16,7 @@ use crate::rules::Rules;
 use crate::words::{next_bit, only};
 use chess_core::board::Board;
 use chess_core::man::{Colour, Kind, Man};
-use chess_core::square::Square;
+use chess_core::square::{Square, Squares};
 
 // How many triples have the same origin: 64 arrivals, 7 promotions with none.
 pub(crate) const PER_ORIGIN: u16 = 448;
@@ -30,12 +30,12 @@ pub struct Kept {
     /// The origin, once there is one.
     pub origin: Option<Square>,
     /// The squares to which its man may go by a move that passes, and perhaps more.
-    pub squares: u64,
+    pub squares: Squares,
 }
 
 /// The squares one and two steps ahead of a pawn, and two files beside a king.
 #[tactic(auto, using(crate::proofs::listing_moves::Targeting::step_words))]
-pub fn steps_to(man: Man, from: Square) -> u64
+pub fn steps_to(man: Man, from: Square) -> Squares
     ensures { result ≡ word (steps_to man from) }
 {
     if man.kind.is(Kind::Pawn) {
@@ -49,7 +49,7 @@ pub fn steps_to(man: Man, from: Square) -> u64
 
 // The squares to which a pawn steps from here: the next one if it is empty, and from its second rank the
 // one behind it too.
-fn pawn_goes(board: &Board, man: Man, from: Square) -> u64
+fn pawn_goes(board: &Board, man: Man, from: Square) -> Squares
     ensures { result ≡ word (pawn_goes board.now man from) }
 {
     let ahead = pawn_advances(man.colour, from) & !occupied(board);
@@ -63,7 +63,7 @@ fn pawn_goes(board: &Board, man: Man, from: Square) -> u64
 }
 
 // Those to which a king castles, and perhaps more.
-fn castling_squares(board: &Board, man: Man, from: Square) -> u64
+fn castling_squares(board: &Board, man: Man, from: Square) -> Squares
     ensures { result ≡ word (λ t. has_unmoved board.now.unmoved from && steps_to man from t) }
 {
     if board.unmoved().has(from) {
@@ -74,7 +74,7 @@ fn castling_squares(board: &Board, man: Man, from: Square) -> u64
 }
 
 // The squares to which the man on `from` goes, whoever stands there, most tests of castling apart.
-fn goes_to(board: &Board, man: Man, from: Square) -> u64
+fn goes_to(board: &Board, man: Man, from: Square) -> Squares
     ensures { result ≡ word (may_go board.now man from) }
 {
     let reach = reach_as(board, man.colour, man.kind, from);
@@ -85,14 +85,14 @@ fn goes_to(board: &Board, man: Man, from: Square) -> u64
 }
 
 // The squares on which no man of the colour and no king stands.
-fn free_squares(board: &Board, colour: Colour) -> u64
+fn free_squares(board: &Board, colour: Colour) -> Squares
     ensures { result ≡ word (λ t. is_arrival_free colour (man_on board.now.men t)) }
 {
     !(board.side(colour) | board.squares(colour.other(), Kind::King))
 }
 
 /// The squares to which the man on `from` may go, most tests of castling apart.
-pub fn arrivals<R: Rules>(board: &Board, from: Square) -> u64
+pub fn arrivals<R: Rules>(board: &Board, from: Square) -> Squares
     ensures { result ≡ word (is_arrival R.rule board.now from) }
 {
     let Some(man) = board.man_at(from) else {
@@ -117,7 +117,7 @@ fn is_promoting(man: Man, to: Square) -> bool
 // The first triple of a man that is no pawn, as below: he goes to each square by one, that without a
 // promotion.
 #[inline(always)]
-fn next_unpromoted(board: &Board, man: Man, from: Square, word: u64, start: u16) -> u16
+fn next_unpromoted(board: &Board, man: Man, from: Square, word: Squares, start: u16) -> u16
     requires start { start ≤ 448 }
     requires here { man_on board.now.men from ≡ Some man }
     requires no_pawn { same_kind man.kind Pawn ≡ false }
@@ -135,7 +135,7 @@ fn next_unpromoted(board: &Board, man: Man, from: Square, word: u64, start: u16)
 // The first triple with this origin that goes to one of the word's squares, with a promotion where a pawn
 // arrives on its last rank and none elsewhere, from the one numbered `start` on, each counted from the
 // origin's first; 448 where there is none.
-pub(crate) fn next_from(board: &Board, from: Square, word: u64, start: u16) -> u16
+pub(crate) fn next_from(board: &Board, from: Square, word: Squares, start: u16) -> u16
     requires { start ≤ 448 }
     ensures low { start ≤ result }
     ensures high { result ≤ 448 }

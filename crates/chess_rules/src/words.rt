@@ -5,11 +5,11 @@ ghost use Rattle.std.specs.List.{range_with_len};
 ghost use Rattle.chess_core.specs.Squares.{is_square};
 ghost use Rattle.chess_core.specs.ties.Words.{word};
 
-use chess_core::square::Square;
+use chess_core::square::{Square, Squares};
 
 /// The word of this square alone, or of none.
 #[tactic(auto, using(crate::proofs::Bits::word_only, crate::proofs::Bits::word_empty))]
-pub fn only(square: Option<Square>) -> u64
+pub fn only(square: Option<Square>) -> Squares
     ensures { result ≡ word (λ t. is_square square t) }
 {
     match square {
@@ -19,14 +19,14 @@ pub fn only(square: Option<Square>) -> u64
 }
 
 /// Whether the word has the square.
-pub fn contains(word: u64, square: Square) -> bool
+pub fn contains(word: Squares, square: Square) -> bool
     ensures { result ≡ (bit_at word square == 1) }
 {
     word >> square.index() & 1 == 1
 }
 
 /// The first square of the word from the one with this number on, if there is one (a1 is 0, h8 is 63).
-pub fn next_bit(word: u64, from: u8) -> Option<Square>
+pub fn next_bit(word: Squares, from: u8) -> Option<Square>
     ensures value { result ≡ find (λ s. bit_at word s == 1) (range_with_len from (64 - from)) }
     ensures behind { IfSome result (λ s. from ≤ s) }
 {
@@ -41,7 +41,7 @@ pub fn next_bit(word: u64, from: u8) -> Option<Square>
 }
 
 // The square of the lowest bit.
-pub(crate) fn lowest(word: u64) -> Square
+pub(crate) fn lowest(word: Squares) -> Square
     requires { 0 < word }
     ensures { result ≡ trailing_zeros w64 word }
 {
@@ -49,7 +49,7 @@ pub(crate) fn lowest(word: u64) -> Square
 }
 
 // The square of the highest bit.
-pub(crate) fn highest(word: u64) -> Square
+pub(crate) fn highest(word: Squares) -> Square
     requires { 0 < word }
     ensures low { 2 ^ result ≤ word }
     ensures high { word < 2 * 2 ^ result }
