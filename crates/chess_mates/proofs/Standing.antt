@@ -124,7 +124,7 @@ pub castle_unmoved : (rule : RuleSet) (p : Position) (x : Man) (m : Move) → Is
 unfolding can_castle may_castle
 castle_unmoved rule p x m well made castling =
     let king = (and_parts _ _ (and_parts _ _ castling).0).0 in
-    let goes = sym (cond-false (same_kind x.kind Pawn) _ _ (king_is_no_pawn x.kind king)) ∙ made.goes in
+    let goes = sym (cond-false (same_kind x.kind Pawn) _ _ (king_is_no_pawn x.kind king)) ∙ made.can_go in
     elim (or_cases _ _ goes) [
       | inl steps ↦ absurd (king_no_step p x m well made.here castling king steps)
       | inr way ↦
@@ -137,7 +137,7 @@ pub piece_reaches : (rule : RuleSet) (p : Position) (x : Man) (m : Move) → IsM
     → reaches_as p.men x.colour x.kind m.from m.to ≡ true
 unfolding can_castle may_castle reaches
 piece_reaches rule p x m made piece plain =
-    let goes = sym (cond-false (same_kind x.kind Pawn) _ _ piece) ∙ made.goes in
+    let goes = sym (cond-false (same_kind x.kind Pawn) _ _ piece) ∙ made.can_go in
     elim (or_cases _ _ goes) [
       | inl steps ↦ sym (ap (λ (o : Option Man). reaches_of p.men o m.from m.to) made.here) ∙ steps
       | inr way ↦
