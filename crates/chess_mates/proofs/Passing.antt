@@ -43,7 +43,8 @@ module _ (p : Position) (x : Man) (m : Move) (from : m.from < 64) (to : m.to < 6
           (word_has (is_advance x.colour m.from) a (halfway m) ahead low ∙ over.0)
           (word_has (λ t. list_any (leaps m.from t) queen_steps) n (halfway m) near low ∙ over.1) in
           let kind : z.kind ≡ Pawn = same_kind-true z.kind Pawn pawn in
-          let comes_from : (bit_at w s == 1) ≡ true = before.approach q s (halfway m) small low (rw (← man_is z (other p.turn) Pawn enemy kind) at comes) there in
+          let comes_from : (bit_at w s == 1) ≡ true =
+          before.approach q s (halfway m) small low (rw (← man_is z (other p.turn) Pawn enemy kind) at comes) there in
           let stands : (bit_at l s == 1) ≡ true = word_has (λ t. is_man (man_on p.men t) (other p.turn) Pawn) l s pawns small
           ∙ ap (λ (o : Option Man). is_man o (other p.turn) Pawn) here
           ∙ and_from _ _ (ap (λ (c : Colour). same_colour c (other p.turn)) enemy ∙ same_colour-refl (other p.turn)) pawn in

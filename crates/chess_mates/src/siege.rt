@@ -1,6 +1,6 @@
-//! A king's siege: the squares that his side mustn't come to lest a reply may mate, told before its move. All men but the
-//! king are hurdles: each square on which one stands stays occupied, be it that he is captured, but for the squares that the
-//! defender and the attacker leave.
+//! A king's siege: the squares that his side mustn't come to lest a reply may mate, told before its move. All men but
+//! the king are hurdles: each square on which one stands stays occupied, be it that he is captured, but for the squares
+//! that the defender and the attacker leave.
 ghost use Rattle.std.specs.Prelude.{◌≡◌, ◌≢◌, ◌<◌, ◌==◌, ◌⊎◌, ℕ, Some, true, false};
 ghost use Rattle.std.specs.Int.{bit_at};
 ghost use Rattle.chess_core.specs.Castling.{has_unmoved};
@@ -605,8 +605,8 @@ fn risk_behind(siege: &Siege, from: Square) -> Risk
     risk_at(&lifted, siege.king)
 }
 
-// Those of the squares that the man on `from`, who isn't the king, mustn't come to, and perhaps more: told by the siege's
-// own risk, unless he leaves a line on which he is a hurdle. Nothing gets better by that.
+// Those of the squares that the man on `from`, who isn't the king, mustn't come to, and perhaps more: told by the
+// siege's own risk, unless he leaves a line on which he is a hurdle. Nothing gets better by that.
 pub(crate) fn critical_from(siege: &Siege, risk: &Risk, from: Square, squares: u64) -> u64
     requires { AreThreats siege.now risk.now }
     ensures { (t : ℕ) → (bit_at squares t == 1) ≡ true → (bit_at result t == 1) ≡ false

@@ -10,7 +10,8 @@ returns-then-is c = record {
       let small : m.from < 64 = omega (arith, from, c.index-small.ensures.value, c.index-small.ensures.small) in
       let o = c.only.result in
       let w = c.contested_squares.result in
-      pawn_plain c.args.board.now c.args.man m small to o (c.only.ensures ∙ ap (λ (o : Option ℕ). word (is_square o)) c.crossed.ensures) (sym c.is.ensures ∙ c.if-is.true) (off_left o w m.to off)
+      pawn_plain c.args.board.now c.args.man m small to o (c.only.ensures ∙ ap (λ (o : Option ℕ). word (is_square o)) c.crossed.ensures)
+      (sym c.is.ensures ∙ c.if-is.true) (off_left o w m.to off)
       (c.contested_squares.ensures m from to goes (off_right o w m.to off));
 }
 
