@@ -605,8 +605,8 @@ fn risk_behind(siege: &Siege, from: Square) -> Risk
     risk_at(&lifted, siege.king)
 }
 
-// Those of the squares that the man on `from`, who isn't the king, mustn't come to, and perhaps more: told by the
-// siege's own risk, unless he leaves a line on which he is a hurdle. Nothing gets better by that.
+// Those of the squares that the man on `from`, who isn't the king, mustn't come to, and perhaps more: told by the siege's
+// own risk, unless he leaves a line on which he is a hurdle. Nothing gets better by that.
 pub(crate) fn critical_from(siege: &Siege, risk: &Risk, from: Square, squares: u64) -> u64
     requires { AreThreats siege.now risk.now }
     ensures { (t : ℕ) → (bit_at squares t == 1) ≡ true → (bit_at result t == 1) ≡ false

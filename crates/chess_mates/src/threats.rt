@@ -121,8 +121,8 @@ impl Threats {
         can_be_told::<R>(board) && is_of(&self.siege, board)
     }
 
-    /// Those of the squares that the man on `from` mustn't come to lest a reply may mate. So he mustn't where kings
-    /// castle or capture, and where a pawn captures en passant or might be captured so.
+    /// Those of the squares that the man on `from` mustn't come to lest a reply may mate. So he mustn't where kings castle
+    /// or capture, and where a pawn captures en passant or might be captured so.
     pub fn risky_squares<R: Rules>(&self, board: &Board, from: Square, squares: u64) -> u64
         requires well_formed { IsWellFormed board.now }
         requires threats { AreThreatsOf R.rule board.now self.now }
