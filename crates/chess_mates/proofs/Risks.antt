@@ -182,44 +182,46 @@ pub never_off : (d l a b : ℕ) → b < 64 → IsOff d (record { critical = bit_
 never_off d l a b small off = false≢true (sym off.critical ∙ every_square_on b small)
 
 -- one attacker goes
-pub met_is : (v : Siege) (g : Field) (x : Man) (s targets watched c o : ℕ) (gs : Guards) (a b t : ℕ) → o ≡ word (λ q. is_square (Some g.king) q) → g.king < 64 → b < 64 → t < 64 → g.near < 2 ^ 64 → gs.guarded < 2 ^ 64
+pub met_is : (v : Siege) (g : Field) (x : Man) (s targets watched c o : ℕ) (gs : Guards) (a b t : ℕ)
+    → o ≡ word (λ q. is_square (Some g.king) q) → g.king < 64 → b < 64 → t < 64 → g.near < 2 ^ 64 → gs.guarded < 2 ^ 64
     → AreGuardsWithout v s (bit_or g.near o) gs → IsOff v.hurdles (record { critical = c; lines = gs.ridden }) a b
     → ((bit_at gs.guarded g.king == 1) ≡ true → (bit_at watched t == 1) ≡ true)
     → ((bit_at gs.guarded g.king == 1) ≡ false → watched ≡ targets)
     → ((q : ℕ) → q < 64 → (bit_at watched q == 1) ≡ true → is_promoting x q ≡ false)
     → ((q : ℕ) → q < 64 → (bit_at watched q == 1) ≡ true → LeavesOne (bit_and g.near (bit_not w64 gs.guarded)) v.enemies c x q)
     → IsMet v g x s targets a b t
-met_is v g x s targets watched c o gs a b t only at_king inside small near fits are off every shut plain leaves there = elim (cases_Bool (bit_at watched t == 1)) [
-  | inl on ↦
-      let one = (leaves t small on).left b inside off.critical there in
-      inr (record {
-        plain = plain t small on;
-        square = one.0;
-        left = record { small = one.1.small; on = on_first g.near _ one.0 one.1.on; off = one.1.off; unreached = one.1.unreached };
-        unguarded = record {
-          region = bit_or g.near o;
-          near = on_left g.near o one.0 (on_first g.near _ one.0 one.1.on);
-          guards = gs;
-          are = are;
-          shut = off.lines;
-          off = off_denied g.near gs.guarded one.0 fits one.1.small one.1.on;
-        };
-        elsewhere = one.2;
-      })
-  | inr none ↦
-      let unchecked : (bit_at gs.guarded g.king == 1) ≡ false = false_by _ (λ on. false≢true (sym none ∙ every on)) in
-      inl (
-        ap (λ (w : ℕ). bit_at w t == 1) (sym (shut unchecked)) ∙ none,
-        record {
-          region = bit_or g.near o;
-          near = on_right g.near o g.king (word_has (λ q. is_square (Some g.king) q) o g.king only at_king ∙ eq-eqb g.king g.king refl);
-          guards = gs;
-          are = are;
-          shut = off.lines;
-          off = unchecked;
-        },
-      )
-]
+met_is v g x s targets watched c o gs a b t only at_king inside small near fits are off every shut plain leaves there =
+    elim (cases_Bool (bit_at watched t == 1)) [
+      | inl on ↦
+          let one = (leaves t small on).left b inside off.critical there in
+          inr (record {
+            plain = plain t small on;
+            square = one.0;
+            left = record { small = one.1.small; on = on_first g.near _ one.0 one.1.on; off = one.1.off; unreached = one.1.unreached };
+            unguarded = record {
+              region = bit_or g.near o;
+              near = on_left g.near o one.0 (on_first g.near _ one.0 one.1.on);
+              guards = gs;
+              are = are;
+              shut = off.lines;
+              off = off_denied g.near gs.guarded one.0 fits one.1.small one.1.on;
+            };
+            elsewhere = one.2;
+          })
+      | inr none ↦
+          let unchecked : (bit_at gs.guarded g.king == 1) ≡ false = false_by _ (λ on. false≢true (sym none ∙ every on)) in
+          inl (
+            ap (λ (w : ℕ). bit_at w t == 1) (sym (shut unchecked)) ∙ none,
+            record {
+              region = bit_or g.near o;
+              near = on_right g.near o g.king (word_has (λ q. is_square (Some g.king) q) o g.king only at_king ∙ eq-eqb g.king g.king refl);
+              guards = gs;
+              are = are;
+              shut = off.lines;
+              off = unchecked;
+            },
+          )
+    ]
 
 module _ (v : Siege) (g : Field) (checks : ℕ) (x : Man) (s reached targets : ℕ) (are : AreArrivals v.hurdles x s reached)
     (quiet : (t : ℕ) → t < 64 → (bit_at reached t == 1) ≡ true → (bit_at targets t == 1) ≡ false → IsNoCheck checks x t) where

@@ -1,6 +1,6 @@
-//! A king's siege: the squares that his side mustn't come to lest a reply may mate, told before its move. All men but the
-//! king are hurdles: each square on which one stands stays occupied, be it that he is captured, but for the squares that the
-//! defender and the attacker leave.
+//! A king's siege: the squares that his side mustn't come to lest a reply may mate, told before its move. All men but
+//! the king are hurdles: each square on which one stands stays occupied, be it that he is captured, but for the squares
+//! that the defender and the attacker leave.
 ghost use Rattle.std.specs.Prelude.{◌≡◌, ◌≢◌, ◌<◌, ◌==◌, ◌⊎◌, ℕ, Some, true, false};
 ghost use Rattle.std.specs.Int.{bit_at};
 ghost use Rattle.chess_core.specs.Castling.{has_unmoved};

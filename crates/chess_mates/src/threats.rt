@@ -105,8 +105,8 @@ impl Threats {
         }
     }
 
-    /// Whether they are told at all: not in Circe, nor where the side that isn't to move has a grasshopper or a nightrider,
-    /// or few men: there `keeps_flight` takes less time.
+    /// Whether they are told at all: not in Circe, nor where the side that isn't to move has a grasshopper or a
+    /// nightrider, or few men: there `keeps_flight` takes less time.
     pub fn are_told<R: Rules>(board: &Board) -> bool
         ensures { result ≡ true → IsTold R.rule board.now }
     {

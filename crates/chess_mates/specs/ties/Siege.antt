@@ -222,7 +222,8 @@ pub record IsField (v : Siege) (g : Field) : Type 0 where
       → IsReached v.hurdles (record { colour = c; kind = Rook }) g.king g.straight
   pub diagonal : (c : Colour)
       → IsReached v.hurdles (record { colour = c; kind = Bishop }) g.king g.diagonal
-  pub lines : (c : Colour) → IsReached v.hurdles (record { colour = c; kind = Queen }) g.king g.lines
+  pub lines : (c : Colour)
+      → IsReached v.hurdles (record { colour = c; kind = Queen }) g.king g.lines
 
 -- no rook checks from a square to which he may castle, and no king leaves a line of the field
 pub record IsCastlingHarmless (v : Siege) (g : Field) : Type 0 where

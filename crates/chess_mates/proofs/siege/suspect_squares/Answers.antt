@@ -12,7 +12,8 @@ returns-then-is c = λ v s small off.
     let l = c.args.field.now.lines in
     let w = c.pawns_before.result in
     pawn_idly v c.args.field.now c.args.checks x s (off_left l w s off) w
-    (subst (λ (y : Man). AreApproaches y (bit_or c.args.checks 18374686479671623935) w) (man_is x x.colour Pawn refl (same_kind-true x.kind Pawn (sym c.is.ensures ∙ c.if-is.true))) c.pawns_before.ensures)
+    (subst (λ (y : Man). AreApproaches y (bit_or c.args.checks 18374686479671623935) w)
+    (man_is x x.colour Pawn refl (same_kind-true x.kind Pawn (sym c.is.ensures ∙ c.if-is.true))) c.pawns_before.ensures)
     small (off_right l w s off)
 
 pub returns-then-is-2 : goal.returns-then-is-2
