@@ -107,7 +107,13 @@ fn reach_together(hurdles: Squares, man: Man, squares: Squares, region: Squares)
 }
 
 // The same of the attackers of one kind.
-fn reach_of(hurdles: Squares, colour: Colour, kind: Kind, squares: Squares, region: Squares) -> Squares
+fn reach_of(
+    hurdles: Squares,
+    colour: Colour,
+    kind: Kind,
+    squares: Squares,
+    region: Squares,
+) -> Squares
     ensures { (s : ℕ) → s < 64 → (bit_at squares s == 1) ≡ true
         → IsNear (record { colour = colour; kind = kind }) s region
         → IsReached hurdles (record { colour = colour; kind = kind }) s result }

@@ -34,7 +34,11 @@ fn has_fairy_lines_on(board: &Board, square: Square) -> bool
 // The squares to which a move of another man than the king may go that ends a check to the colour's king,
 // unless it is no plain move: all of them where no check is seen. `shield_squares` are the squares from which
 // a move may expose the king: all of them where it is in check.
-pub(crate) fn evasion_squares<R: Rules>(board: &Board, colour: Colour, shield_squares: Squares) -> Squares
+pub(crate) fn evasion_squares<R: Rules>(
+    board: &Board,
+    colour: Colour,
+    shield_squares: Squares,
+) -> Squares
     ensures { AreEvasions R.rule board.now.men colour result }
 {
     if shield_squares != !0 {
@@ -92,7 +96,11 @@ pub fn eventful_captures<R: Rules>(board: &Board) -> Squares
 
 // The squares to which the man on `from` must go to leave no check to its king: all of them where none is
 // seen. `evasion_squares` are those to which another man than the king may go that ends it.
-pub(crate) fn evasions_from<R: Rules>(board: &Board, evasion_squares: Squares, from: Square) -> Squares
+pub(crate) fn evasions_from<R: Rules>(
+    board: &Board,
+    evasion_squares: Squares,
+    from: Square,
+) -> Squares
     requires well_formed { IsWellFormed board.now }
     requires evasion_squares { AreEvasions R.rule board.now.men board.now.turn evasion_squares }
     ensures { AreEvasionsFrom R.rule board.now from result }

@@ -104,7 +104,13 @@ fn diagonal_attackers(board: &Board, sight: Sight, square: Square, colour: Colou
 // The squares of the men of this colour and kind that reach the square, looked for at once: leaps stand in a
 // table.
 #[inline(always)]
-fn leaping_attackers(board: &Board, sight: Sight, square: Square, colour: Colour, kind: Kind) -> Squares
+fn leaping_attackers(
+    board: &Board,
+    sight: Sight,
+    square: Square,
+    colour: Colour,
+    kind: Kind,
+) -> Squares
     ensures { (men : List (Option Man)) → AreSeen board.now.men men colour sight
         → result ≡ word (λ s. is_man (man_on men s) colour kind && reaches men s square) }
 {

@@ -3,7 +3,7 @@ ghost use Rattle.std.specs.Prelude.{◌≡◌, ℕ, List, ◌<◌, ◌+◌, ◌^
 ghost use Rattle.std.specs.Io.{ReadsAtMost};
 ghost use Rattle.pop_text.specs.Bytes.{Keeps, Consumes, ReadConsumes, TellsRead, count_after, greatest_count};
 
-use crate::source::{Source, Device};
+use crate::source::{Device, Source};
 use std::io;
 use std::io::Read;
 

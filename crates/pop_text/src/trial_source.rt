@@ -4,7 +4,7 @@ ghost use Rattle.std.specs.Io.{ReadsAtMost};
 ghost use Rattle.pop_text.specs.Bytes.{ReadConsumes, count_after, greatest_count};
 ghost use Rattle.pop_text.specs.ties.Trials.{Gives, bytes_handed_out, cycled_bytes, repeated_bytes, round_of};
 
-use crate::source::{Source, Device};
+use crate::source::{Device, Source};
 use std::marker::Model;
 
 /// Hands out a text, once or over and over, and may fail once on the way. A call gives no bytes of two rounds.

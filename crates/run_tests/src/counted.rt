@@ -2,7 +2,7 @@
 ghost use Rattle.std.specs.Prelude.{◌≡◌, ◌<◌};
 
 use pop_text::sink::{Sink, SinkFault};
-use pop_text::source::{Source, Device};
+use pop_text::source::{Device, Source};
 
 /// A source or a sink, with how often it was asked, and how often behind a call that failed.
 #[derive(Drop)]
