@@ -1,28 +1,28 @@
-// Every word that the page says, in one table; another language is a table more. {name} stands for a value.
+// Every word that the page says, in one table; for another language add a table. {name} stands for a value.
 'use strict';
 const WORDS = {
   en: {
     subtitle: 'chess problems, solved',
     position: 'position', problem: 'problem', solutions: 'solutions',
     board: 'board: arrows go, letters set men (capitals White, small ones Black), Delete removes, Enter moves',
-    tools: 'man to be set', move: 'move men', remove: 'remove',
+    tools: 'man to place', move: 'move men', remove: 'remove',
     white: 'white', black: 'black',
     K: 'king', Q: 'queen', R: 'rook', B: 'bishop', S: 'knight', P: 'pawn', G: 'grasshopper', N: 'nightrider',
     man: '{colour} {kind}', square: '{square} {man}', empty: 'empty', rank: 'rank {rank}: {men}', emptyRank: 'empty',
     ranks: 'the position, rank by rank', placed: '{man} {square}',
     undo: 'undo', redo: 'redo', clear: 'clear', left: 'shift left', right: 'shift right', up: 'shift up',
     down: 'shift down', mirror: 'mirror', turn: 'turn', exchange: 'exchange colours',
-    leaves: 'a man would leave the board', held: '{man} {square}: where to? Escape leaves it',
+    leaves: 'a man would leave the board', held: '{man} {square}: where to? Escape cancels',
     count: 'problem {number} of {all}: {white} + {black} men', none: 'no BeginProblem in the text',
-    unknownWord: 'the board would lose a word of Pieces that it has no man for: {word}',
+    unknownWord: 'the board has no man for a word of Pieces, and would lose it: {word}',
     shown: 'position after {move}; Escape or “diagram” goes back', back: 'back at the diagram',
-    fen: 'FEN', noFen: 'none: fairy men', badFen: 'this is no FEN of orthodox men',
+    fen: 'FEN', noFen: 'none: fairy men', badFen: 'not a FEN of orthodox men',
     fenTaken: 'the position of the FEN was set', fenBlack: '; in it Black is to move: see who starts in the stipulation',
     title: 'Title', author: 'Author', stipulation: 'Stipulation', condition: 'Condition', noCondition: 'none',
     setPlay: 'set play', variation: 'variations', noBoard: 'no board', maxSolutions: 'most solutions', enPassant: 'en passant',
     noCastling: 'no castling', text: 'text of the problems', open: 'Open a file', next: 'Next problem',
     fileTaken: '{name} was read', fileLatin: '{name} isn’t UTF-8: it was read letter by letter, as Windows-1252',
-    fileLong: '{name} is longer than 8 MiB, which the page doesn’t take',
+    fileLong: '{name} is longer than 8 MiB: too long for the page',
     solve: 'Solve', stop: 'Stop', check: 'test alone', loading: 'loading', ready: 'ready',
     solving: 'solving: {seconds} s, {done} of {parts} parts, {found} solutions so far',
     stopped: 'stopped after {seconds} s: what is there is a beginning of the report',
@@ -31,23 +31,23 @@ const WORDS = {
     done: '{answer}; {milliseconds} ms', failed: 'the engine failed: {fault}',
     status0: 'every problem is sound', status1: 'a problem is faulty', status2: 'the input failed',
     status3: 'the report is cut: it is longer than the page has room for', status4: 'there is too little room for a report',
-    noMemory: 'This browser can’t solve here: it has no 64-bit WebAssembly memory. Take Chrome or Edge 133, Firefox 134 or '
-      + 'later ones, or the program pops. All but solving works. ({fault})',
+    noMemory: 'This browser can’t solve here: it has no 64-bit WebAssembly memory. Use Chrome or Edge 133, Firefox 134 or '
+      + 'later, or the program pops. All else works. ({fault})',
     first: 'diagram', before: 'back', after: 'on', fold: 'fold all', unfold: 'unfold all', walk: 'walk through the solutions', folds: 'how much is shown',
     openRow: 'unfold', closeRow: 'fold', more: '{count} more', set: 'set play', play: 'play', sound: 'sound',
     impossible: 'not possible', total: 'solutions: {count}', totalStopped: 'solutions: {count}, stopped',
     unfinished: 'solutions so far: {count}', item: 'problem {number}', report: 'report',
-    outs: 'take it along', outText: 'Text', outReport: 'Report', outPage: 'Page of diagrams', outSvg: 'SVG', outJson: 'JSON',
+    outs: 'export', outText: 'Text', outReport: 'Report', outPage: 'Page of diagrams', outSvg: 'SVG', outJson: 'JSON',
     outLink: 'Link', outPrint: 'Print', nothing: 'solve first: there is no report yet', noSound: 'no sound problem in it',
-    linked: 'the link was copied; whoever opens it has this text', linkShown: 'the link stands in the address line',
+    linked: 'the link was copied; whoever opens it has this text', linkShown: 'the link is in the address bar',
     linkLong: 'the text is too long for a link: save it as a file',
     faults: 'faults', fault: 'line {line}: fault {number}: {text}', goToLine: 'go to line {line}',
-    kept: 'kept problems', keptWhere: 'The last {most} texts that were solved are kept in this browser’s own store '
-      + '(localStorage, under “pops.kept” and “pops”), on this machine alone. Nothing is sent.',
+    kept: 'kept problems', keptWhere: 'The last {most} texts that were solved are kept in this browser’s own storage '
+      + '(localStorage, under “pops.kept” and “pops”), only on this machine. Nothing is sent.',
     keptNone: 'none yet', forget: 'forget', forgetAll: 'forget all', keptNot: 'this browser keeps nothing for the page',
     sheet: 'Problems',
     help: 'keys', keys: 'On the board: arrows go from square to square; K Q R B S P G N set a white man, small letters a black '
-      + 'one; Delete removes; Enter takes up a man and puts it down, or sets the man chosen. In the solutions: → and ← go a '
+      + 'one; Delete removes; Enter picks up a man and puts it down, or places the chosen man. In the solutions: → and ← go a '
       + 'move on and back, ↑ and ↓ to the row above and below, + and − unfold and fold, Escape shows the diagram again. '
       + 'Everywhere: Ctrl+Z and Ctrl+Y undo and redo, Ctrl+Enter solves.',
   },
