@@ -20,7 +20,7 @@ def _causes_of_no_stipulation(case: Case) -> Iterator[Optional[Explanation]]:
     yield _swallowed(case, "Stipulation")
     if openers:
         yield at(
-            f"No stipulation stands behind {quoted(openers[-1])}. Write it there, as in"
+            f"No stipulation follows {quoted(openers[-1])}. Write it there, as in"
             " `Stipulation #2`.",
             openers[-1].span,
             case.word.span,
@@ -39,7 +39,7 @@ def _causes_of_no_men(case: Case) -> Iterator[Optional[Explanation]]:
     example = "`Pieces White Kg6 Ra1 Black Kg8`"
     if openers:
         yield at(
-            f"No man stands behind {quoted(openers[-1])}. Write the men there, as in {example}.",
+            f"No man follows {quoted(openers[-1])}. Write the men there, as in {example}.",
             openers[-1].span,
             case.word.span,
         )
@@ -60,10 +60,10 @@ def _empty_problem(case: Case) -> Optional[Explanation]:
     if len(begun) > 1:
         return None
     if case.reading.first:
-        return case.says(f"Nothing stands between `BeginProblem` and {case.quoted}.")
+        return case.says(f"There is nothing between `BeginProblem` and {case.quoted}.")
     return case.says(
-        f"No problem stands between `NextProblem` and {case.quoted}. `NextProblem` stands between"
-        " two problems alone: leave one of the two words out."
+        f"There is no problem between `NextProblem` and {case.quoted}. `NextProblem` separates two"
+        " problems: leave one of the two words out."
     )
 
 
@@ -116,7 +116,7 @@ def _causes_of_no_end(text: bytes, reading: Reading) -> Iterator[Optional[Explan
     if not reading.first and last is None:
         yield at(
             "No problem follows the last `NextProblem`. Write `EndProblem` in its place, or the"
-            " problem behind it."
+            " problem after it."
         )
     missing = _left_out(reading)
     if text and not text.endswith(b"\n") and missing:
@@ -134,7 +134,7 @@ def _old_mac(text: bytes, reading: Reading) -> Optional[Explanation]:
         return None
     line = reading.text_lines[0]
     return at(
-        "Carriage returns alone end the lines, as on old Macs, and pops takes them as blanks: so"
+        "The lines end in carriage returns only, as on old Macs, and pops takes them as blanks: so"
         f" `{line.name}` takes all the rest of the text. Save the text with the line ends of Unix"
         " or Windows.",
         line.word.span,

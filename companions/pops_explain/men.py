@@ -38,19 +38,19 @@ def _causes_of_no_colour(case: Case) -> Iterator[Optional[Explanation]]:
     yield _short_command(case)
     if len(case.openers_of(Section.PIECES)) > 1:
         yield case.says(
-            f"Each `Pieces` needs its colour anew. Write `White` or `Black` behind"
+            f"Each `Pieces` must name its colour. Write `White` or `Black` after"
             f" {quoted(opener)}.",
             opener.span,
         )
     behind = case.behind
     if behind is not None and named(behind.bytes, COLOURS, 1):
         yield case.says(
-            f"A colour stands before its men. Write `{decoded(behind.bytes)}` before"
+            f"A colour comes before its men. Write `{decoded(behind.bytes)}` before"
             f" {case.quoted}.",
             behind.span,
         )
     yield case.says(
-        f"No colour stands before {case.quoted}. Write `White` or `Black` behind {quoted(opener)}.",
+        f"There is no colour before {case.quoted}. Write `White` or `Black` after {quoted(opener)}.",
         opener.span,
     )
 
@@ -60,7 +60,7 @@ def _colour_before_man(case: Case) -> Optional[Explanation]:
     if word[:1] not in (b"b", b"B") or not is_man(word[1:]):
         return None
     return case.says(
-        f"A colour is a word of its own, and holds for all men behind it. Write `Black"
+        f"A colour is a word of its own, and holds for all men after it. Write `Black"
         f" {case.plain[1:]}` in place of {case.quoted}."
     )
 
@@ -94,8 +94,8 @@ def square_taken(case: Case) -> Explanation:
         )
         return at(text, first, placed)
     text = (
-        f"On {square.name} stands the {what} of {quoted(before.word)} already, and the"
-        f" {colour.value} {kind.word} of {case.quoted} can't stand there too."
+        f"The {what} of {quoted(before.word)} is on {square.name} already, and the"
+        f" {colour.value} {kind.word} of {case.quoted} can't be there too."
     )
     return at(text, first, placed)
 
@@ -175,7 +175,7 @@ def _letter_alone(case: Case) -> Optional[Explanation]:
             )
     if len(case.word.bytes) > 1:
         return None
-    return case.says(f"No square stands behind the letter {case.quoted}, as in `{case.plain}d4`.")
+    return case.says(f"No square follows the letter {case.quoted}, as in `{case.plain}d4`.")
 
 
 def _rank_first(case: Case) -> Optional[Explanation]:
@@ -233,15 +233,15 @@ def king_missing(case: Case) -> Explanation:
     last = max(case.reading.men.values(), key=lambda placed: placed.word.start).word
     words = [word for colour, word in case.reading.colours if colour is side]
     if not words:
-        text = f"{head} No `{name}` stands behind `Pieces`: write it with its king behind"
+        text = f"{head} No `{name}` follows `Pieces`: write it with its king after"
         return case.says(f"{text} {quoted(last)}.", last.span)
     if not men:
         return case.says(
-            f"{head} No man stands behind {quoted(words[0])}, and all are {other}'s.", words[0].span
+            f"{head} No man follows {quoted(words[0])}, and all are {other}'s.", words[0].span
         )
     rooks = [placed for placed in men if placed.man.kind is Kind.ROOK]
     here = listed([f"{it.man.kind.value}{_square_name(case, it)}" for it in men])
-    text = f"{head} {name} has {here}. Write the king behind {quoted(words[0])}."
+    text = f"{head} {name} has {here}. Write the king after {quoted(words[0])}."
     if len(rooks) == 1 and stipulation.play is not Play.SELF:
         text = f"{text} In French R is the king: here it is K."
     return case.says(text, words[0].span)

@@ -46,13 +46,13 @@ def no_problem(text: bytes, has_text_lines: bool) -> Explanation:
     if has_text_lines:
         if wordings.old_mac(text):
             return at(
-                "Carriage returns alone end the lines, as on old Macs, and pops takes them as"
+                "The lines end in carriage returns only, as on old Macs, and pops takes them as"
                 " blanks: the first text line takes all the rest. Save the text with the line ends"
                 " of Unix or Windows.",
                 Span(0, len(text)),
             )
         return at(
-            "Nothing but text lines stands here (Title, Author, Origin, Remark), and no problem."
+            "There are only text lines here (Title, Author, Origin, Remark), and no problem."
             " A problem begins with `BeginProblem`."
         )
     return at("The text is empty. A problem begins with `BeginProblem`.")
@@ -135,7 +135,7 @@ def _second_begin(case: Case) -> Optional[Explanation]:
             "`NextProblem` has begun this problem already. Leave `BeginProblem` out."
         )
     return case.says(
-        "`BeginProblem` stands once, at the beginning of a text. Another problem begins with"
+        "`BeginProblem` comes once, at the beginning of a text. Another problem begins with"
         " `NextProblem`, which also ends the one before."
     )
 
@@ -151,7 +151,7 @@ def _wrong_section(case: Case) -> Optional[Explanation]:
         return _belongs(case, "a colour", Section.PIECES)
     if section is not Section.PIECES and is_man(word):
         return case.says(
-            f"{case.quoted} is a man. Men stand behind `Pieces` and a colour."
+            f"{case.quoted} is a man. Men come after `Pieces` and a colour."
         )
     if looks_like_stipulation(case.plain):
         return _belongs(case, "a stipulation", Section.STIPULATION)
@@ -188,7 +188,7 @@ def _colour_letter(case: Case) -> Optional[Explanation]:
     if word[:1] not in (b"w", b"W") or not is_man(word[1:]):
         return None
     return case.says(
-        f"A colour is a word of its own, and holds for all men behind it. Write `White"
+        f"A colour is a word of its own, and holds for all men after it. Write `White"
         f" {case.plain[1:]}` in place of {case.quoted}."
     )
 
@@ -197,7 +197,7 @@ def _letter_for_digit(case: Case) -> Optional[Explanation]:
     mended = re.sub("(?<=[a-hA-H])[lI|]", "1", case.plain)
     if mended == case.plain or not case.fits(mended):
         return None
-    return case.says(f"A letter stands in {case.quoted} where the digit 1 is meant: `{mended}`.")
+    return case.says(f"{case.quoted} has a letter where the digit 1 is meant: `{mended}`.")
 
 
 def _pawn_without_letter(case: Case) -> Optional[Explanation]:
@@ -221,7 +221,7 @@ def _value_without_option(case: Case) -> Optional[Explanation]:
     if squares_of(case.word.bytes):
         return case.says(
             f"No option awaits the square {case.quoted}. `EnPassant` and `NoCastling` take squares"
-            " right behind them."
+            " right after them."
         )
     return None
 
@@ -230,8 +230,8 @@ def _unknown(case: Case) -> Explanation:
     section = case.reading.section
     if section is None:
         return case.says(
-            f"{case.quoted} stands before the first section of the problem. A problem has the"
-            f" sections {listed(SECTIONS)}; a title stands behind `Title`, a comment behind"
+            f"{case.quoted} comes before the first section of the problem. A problem has the"
+            f" sections {listed(SECTIONS)}; a title comes after `Title`, a comment after"
             " `Remark`."
         )
     if section is Section.PIECES:
@@ -244,7 +244,7 @@ def _unknown(case: Case) -> Explanation:
         assert given is not None
         return case.says(
             f"The stipulation is the one word {quoted(given)}, and {case.quoted} is none of pops's"
-            " commands. A comment stands behind `Remark`."
+            " commands. A comment comes after `Remark`."
         )
     if section is Section.CONDITION:
         return case.says(f"{case.quoted} is no condition of pops. It has {listed(CONDITIONS)}.")
@@ -258,7 +258,7 @@ def too_long(case: Case) -> Explanation:
 
 def _causes_of_length(case: Case) -> Iterator[Optional[Explanation]]:
     head = (
-        f"A word of {len(case.word.bytes)} bytes stands here, and none has more than"
+        f"This word has {len(case.word.bytes)} bytes, and none may have more than"
         f" {LONGEST_WORD}."
     )
     yield wordings.utf_16(case)

@@ -57,7 +57,7 @@ def _causes_of_no_number(case: Case) -> Iterator[Optional[Explanation]]:
         )
     digits = re.sub(r"[,.'_’]", "", case.plain)
     if digits != case.plain and case.fits(digits):
-        yield case.says(f"A number is digits alone. Write `{digits}`.")
+        yield case.says(f"A number consists of digits only. Write `{digits}`.")
     yield wordings.signs(case)
     yield case.says(
         f"`MaxSolutions` takes a number in digits, and {case.quoted} is none.", option.span
@@ -70,8 +70,8 @@ def _missing(case: Case, option: Word, what: str, example: str) -> Optional[Expl
     if there is None and not named(case.word.bytes, (*COMMANDS, *OPTIONS)):
         return None
     text = (
-        f"The {what} is missing behind {quoted(option)}, as in `{example}`. It is told at the next"
-        f" word, {case.quoted}."
+        f"The {what} is missing after {quoted(option)}, as in `{example}`. The fault is reported at"
+        f" the next word, {case.quoted}."
     )
     if there is not None:
         text = f"{text} And pops doesn't read that word of Popeye. {there.instead}."
@@ -96,7 +96,7 @@ def _causes_of_no_square(case: Case) -> Iterator[Optional[Explanation]]:
     if one and len(squares_of(case.word.bytes)) > 1:
         yield case.says(f"`EnPassant` takes one square, {wanted}, and {case.quoted} are more.")
     if one and is_man(case.word.bytes):
-        yield case.says(f"`EnPassant` takes a square alone, {wanted}: `{case.plain[1:]}`.")
+        yield case.says(f"`EnPassant` takes only a square, {wanted}: `{case.plain[1:]}`.")
     if _SIDES.fullmatch(case.plain):
         yield case.says(
             f"`{name}` takes {wanted}, as in `{example}`, and {case.quoted} names none."

@@ -108,7 +108,7 @@ def _half(case: Case) -> Optional[Explanation]:
         return None
     mended = re.sub(r"½|[- ]?1/2$", ".5", case.plain)
     if not case.fits(mended):
-        return case.says(f"Half a move more is written `.5`, and help play alone has it: `h#2.5`.")
+        return case.says(f"Half a move more is written `.5`, and only help play has it: `h#2.5`.")
     return case.says(f"Half a move more is written `.5`. Write `{mended}`.")
 
 
@@ -130,7 +130,7 @@ def _section_empty(case: Case) -> Optional[Explanation]:
     for what, holds, section in kinds:
         if holds and opener is not None:
             return case.says(
-                f"{case.quoted} is {what}, and the stipulation is missing behind"
+                f"{case.quoted} is {what}, and the stipulation is missing after"
                 f" {quoted(opener)}, as in `Stipulation #2`. Write `{section}` before"
                 f" {case.quoted}.",
                 opener.span,
@@ -148,7 +148,7 @@ def _without_number(case: Case) -> Optional[Explanation]:
                 f"The number belongs to the word. Write `{whole}`, without a blank.",
                 case.behind.span,
             )
-    return case.says(f"The number of moves is missing. Write it behind the sign: `{case.plain}2`.")
+    return case.says(f"The number of moves is missing. Write it after the sign: `{case.plain}2`.")
 
 
 def _number(case: Case) -> Optional[Explanation]:
@@ -158,7 +158,7 @@ def _number(case: Case) -> Optional[Explanation]:
     play, number, half = found[1].lower(), found[3], found[4]
     if half and play != "h":
         return case.says(
-            f"Help play alone has half a move more. Write `{found[1]}{found[2]}{number}` or"
+            f"Only help play has half a move more. Write `{found[1]}{found[2]}{number}` or"
             f" `h{found[2]}{number}.5`."
         )
     if len(number) > 1 and number.startswith("0"):
@@ -236,14 +236,14 @@ def _reversed(case: Case) -> Optional[Explanation]:
         mended = found[4] + found[7] + found[5] + (found[6] or "")
     if not case.fits(mended):
         return None
-    return case.says(f"The sign stands before the number. Write `{mended}`.")
+    return case.says(f"The sign comes before the number. Write `{mended}`.")
 
 
 def _in_words(case: Case) -> Optional[Explanation]:
     word = case.plain.lower().strip("-")
     if is_number(case.word.bytes):
         return case.says(
-            f"{case.quoted} is a number alone. Mate is `#{case.plain}`, selfmate `s#{case.plain}`,"
+            f"{case.quoted} is only a number. Mate is `#{case.plain}`, selfmate `s#{case.plain}`,"
             f" helpmate `h#{case.plain}`, and `=` is stalemate."
         )
     found = re.fullmatch(r"([a-z]+?)[-#=]*(?:in)?-*([0-9]*)", word)
@@ -278,6 +278,6 @@ def _causes_of_a_second(case: Case, given: Word) -> Iterator[Optional[Explanatio
         yield case.says(text, given.span)
     yield case.says(
         f"A problem has one stipulation, and {quoted(given)} was given. Write another problem for"
-        f" {case.quoted}, behind `NextProblem`.",
+        f" {case.quoted}, after `NextProblem`.",
         given.span,
     )

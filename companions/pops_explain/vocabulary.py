@@ -6,22 +6,22 @@ from pops_import.language import ForeignWord, folded, foreign_words
 from pops_texts.chess import Kind
 
 _NONE = "It has no counterpart here"
-_TWIN = "Write each twin as a problem of its own, behind `NextProblem`, as `pops-import` does"
+_TWIN = "Write each twin as a problem of its own, after `NextProblem`, as `pops-import` does"
 
 _COMMANDS = {
     "Twin": _TWIN,
     "Continued": _TWIN,
     "ZeroPosition": _TWIN,
-    "Forsyth": "`pops-import` writes the men; `fen2pop` makes a problem of a position alone",
-    "Array": "Write the men of the game array behind `Pieces`",
-    "Trace": "Leave it out: lines show as they are found",
+    "Forsyth": "`pops-import` writes the men; `fen2pop` makes a problem of a mere position",
+    "Array": "Write the men of the game array after `Pieces`",
+    "Trace": "Leave it out: lines appear as they are found",
     "Protocol": "`pops FILE > REPORT` writes the report into a file",
     "Input": "Put the text of that file in its place",
     "InputFile": "Put the text of that file in its place",
     "LaTeX": "`pops-diagram --latex` writes the diagrams of a report for LaTeX",
     "LaTeXPieces": "`pops-diagram --latex` writes the diagrams of a report for LaTeX",
-    "Award": "Write it behind `Remark`",
-    "SStipulation": "pops has `#n`, `s#n`, `h#n`, `h#n.5` and these with `=`, behind `Stipulation`",
+    "Award": "Write it after `Remark`",
+    "SStipulation": "pops has `#n`, `s#n`, `h#n`, `h#n.5` and these with `=`, after `Stipulation`",
 }
 _OPTIONS = {
     "Try": "Give the position after the try, with `Option SetPlay`: a move of Black that is"
@@ -30,14 +30,14 @@ _OPTIONS = {
     " missing there refutes it",
     "Threat": "Give the position after the key, with one move fewer: its keys are the threats",
     "NoThreat": "No threat is named here: leave it out",
-    "Duplex": "Write a second problem with the colours turned, behind `NextProblem`, as"
+    "Duplex": "Write a second problem with the colours reversed, after `NextProblem`, as"
     " `pops-import` does",
-    "HalfDuplex": "Turn the colours: White's men are Black's, and rank 1 is rank 8",
+    "HalfDuplex": "Reverse the colours: White's men become Black's, and rank 1 rank 8",
     "Intelligent": "Leave it out: the solutions are the same, and take longer",
     "MaxTime": "`timeout 60 pops FILE` stops after 60 seconds and keeps the lines found",
     "WhiteToPlay": "In help play `h#n.5` lets White start: `h#2.5` for `h#3`",
-    "StartMoveNumber": "Leave it out: each line shows as it is found",
-    "MoveNumbers": "Leave it out: each line shows as it is found",
+    "StartMoveNumber": "Leave it out: each line appears as it is found",
+    "MoveNumbers": "Leave it out: each line appears as it is found",
     "Quodlibet": _NONE,
     "PostKeyPlay": "Give the position after the key, with `Option SetPlay`: Black moves first in"
     " set play",
@@ -76,7 +76,7 @@ _UNREAD: Dict[str, Unread] = {
     **{name.lower(): Unread("a command", name, text) for name, text in _COMMANDS.items()},
     **{name.lower(): Unread("an option", name, text) for name, text in _OPTIONS.items()},
     **{
-        name.lower(): Unread("a kind of men", name, "pops has white and black ones alone")
+        name.lower(): Unread("a kind of men", name, "pops has only white and black men")
         for name in _ATTRIBUTES
     },
 }

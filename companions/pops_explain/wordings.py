@@ -50,10 +50,10 @@ def invisible(case: Case) -> Optional[Explanation]:
         where = "at the beginning of" if odd.place == 0 else "in"
         cure = "Save the text as UTF-8 without it"
         if case.word.start > 0:
-            cure = "It came along where files were joined: take it out"
+            cure = "It got in where files were joined: take it out"
         return case.says(
-            f"A byte order mark stands {where} {case.quoted}: three bytes that don't show, and"
-            f" that are part of the word. {cure}."
+            f"There is a byte order mark {where} {case.quoted}: three bytes that don't show but"
+            f" are part of the word. {cure}."
         )
     blanks = characters.with_blanks(case.plain)
     mended = next((it for it in (blanks, blanks.replace(" ", "")) if case.fits(it)), None)
@@ -152,7 +152,7 @@ def joined(case: Case) -> Optional[Explanation]:
     word = case.plain
     if re.fullmatch("endproblembeg[a-z]*", word, re.IGNORECASE):
         return case.says(
-            "Two texts were joined here, and `EndProblem` ends the first: nothing behind it would"
+            "Two texts were joined here, and `EndProblem` ends the first: nothing after it would"
             f" be read. Write `NextProblem` in place of {case.quoted}."
         )
     for place in range(len(word) - 1, 0, -1):
@@ -180,7 +180,7 @@ def in_another_language(case: Case) -> Optional[Explanation]:
     found = foreign(case.plain.rstrip(":,;."))
     if found is None:
         return None
-    text = f"{case.quoted} is {found.language}, and pops reads English words alone."
+    text = f"{case.quoted} is {found.language}, and pops reads only English words."
     there = unread(found.english)
     if there is not None:
         return case.says(f"{text} It is `{there.name}`, which pops doesn't read. {there.instead}.")

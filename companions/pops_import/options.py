@@ -87,7 +87,7 @@ def _number(words: Words) -> Optional[str]:
 def _solutions(words: Words) -> int:
     text = _number(words)
     if text is None or not 1 <= int(text) <= MOST_SOLUTIONS:
-        raise Unreadable(words.line, f"MaxSolutions wants a number from 1 to {MOST_SOLUTIONS:,}")
+        raise Unreadable(words.line, f"MaxSolutions needs a number from 1 to {MOST_SOLUTIONS:,}")
     return int(text)
 
 

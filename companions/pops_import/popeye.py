@@ -22,7 +22,7 @@ _UNREADABLE = {
     Command.BEGIN: "a second BeginProblem: NextProblem parts problems",
     Command.STRUCTURED: "pops knows no SStipulation",
     Command.INPUT: "InputFile isn't followed: give that file by itself",
-    Command.ZERO_POSITION: "ZeroPosition stands behind a twin",
+    Command.ZERO_POSITION: "ZeroPosition comes after a twin",
 }
 
 
@@ -78,7 +78,7 @@ class _Reader:
             self._words.texts = []
             draft.tell_of_skipped(self._words)
         if closed is Command.END and self._words.take_all().strip():
-            drafts[-1].notes.append(Told(self._words.line, "nothing behind EndProblem is read"))
+            drafts[-1].notes.append(Told(self._words.line, "nothing after EndProblem is read"))
         return drafts
 
     def _problem(self, draft: Draft) -> Optional[Command]:
@@ -129,7 +129,7 @@ class _Reader:
             words.put_text_line_aside(command)
         elif command in _OUTPUTS:
             text = f"{command.value} {words.take_rest()}".strip()
-            why = "pops writes to standard output alone"
+            why = "pops writes only to standard output"
             draft.notes.append(Told(words.line, f"{text} left out: {why}"))
         elif command is Command.TWIN or (command is Command.ZERO_POSITION and not draft.twins):
             draft.first = draft.first and command is Command.TWIN
@@ -137,7 +137,7 @@ class _Reader:
         elif command in _UNREADABLE:
             raise Unreadable(words.line, _UNREADABLE[command])
         elif draft.twins:
-            raise Unreadable(words.line, f"{command.value} stands behind a twin")
+            raise Unreadable(words.line, f"{command.value} comes after a twin")
         else:
             self._of_setting(command, draft)
 
@@ -162,7 +162,7 @@ class _Reader:
     def _forsyth(self, draft: Draft) -> List[PlacedMan]:
         words = self._words
         if words.peek() is None:
-            raise Unreadable(words.line, "a position is missing behind Forsyth")
+            raise Unreadable(words.line, "a position is missing after Forsyth")
         word = words.take()
         try:
             men = read_forsyth(word.text, words.language.letters)

@@ -194,7 +194,7 @@ class _Checked:
             self.faults.append("there are no men")
         for square, man in self._men.items():
             if man.kind is Kind.PAWN and square.rank in (1, 8):
-                self.faults.append(f"a pawn stands on {square.name}")
+                self.faults.append(f"a pawn is on {square.name}")
         mated = Colour.WHITE if stipulation.play is Play.SELF else Colour.BLACK
         men = list(self._men.values())
         for colour in Colour:

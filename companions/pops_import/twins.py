@@ -76,7 +76,7 @@ def _change(words: Words, twinning: Twinning) -> Change:
 def _value(words: Words, what: str) -> str:
     word = words.peek()
     if word is None:
-        raise Unreadable(words.line, f"something is missing behind {what}")
+        raise Unreadable(words.line, f"something is missing after {what}")
     return words.take().key
 
 
@@ -136,7 +136,7 @@ def _remove(squares: List[Square]) -> Callable[[Setting, List[str]], Setting]:
 
 def _add(added: List[PlacedMan], line: int) -> Change:
     if not added:
-        raise Unreadable(line, "a colour and men are missing behind Add")
+        raise Unreadable(line, "a colour and men are missing after Add")
 
     def made(setting: Setting, said: List[str]) -> Setting:
         men = dict(setting.men)

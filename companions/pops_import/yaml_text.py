@@ -117,7 +117,7 @@ class _Blocks:
             line = self._lines[self._at]
             content = line.lstrip(" ")
             if content.startswith("\t") and content.strip():
-                self._fail("a tab stands where blanks tell the level")
+                self._fail("a tab is where blanks show the level")
             if content.strip() and not content.startswith("#"):
                 return len(line) - len(content)
             self._at += 1
@@ -148,10 +148,10 @@ class _Blocks:
             line = self._lines[self._at]
             key = _KEY.match(line, column)
             if key is None:
-                self._fail("a key with a colon and a blank behind it is missing")
+                self._fail("a key with a colon and a blank after it is missing")
             name = self._key(key[1])
             if name in mapping:
-                self._fail(f"the key {name} stands twice")
+                self._fail(f"the key {name} occurs twice")
             mapping[name] = self._behind_key(key.end(), column)
         return mapping
 
@@ -198,7 +198,7 @@ class _Blocks:
     def _block_text(self, place: int, least: int) -> Node:
         header = _BLOCK.match(self._lines[self._at], place)
         if header is None:
-            self._fail("something stands behind | or >")
+            self._fail("something follows | or >")
         line = self._first + self._at
         self._at += 1
         given = header[2] or header[3]
@@ -223,7 +223,7 @@ class _Blocks:
         self._at += text.count("\n", 0, end)
         rest = text[end:].split("\n", 1)[0].strip()
         if rest and not rest.startswith("#"):
-            self._fail(f"{rest} stands behind a text in quotes or brackets")
+            self._fail(f"{rest} follows a text in quotes or brackets")
         self._at += 1
         return node
 
@@ -234,7 +234,7 @@ class _Blocks:
         while True:
             bare = _COMMENT.sub("", text)
             if re.search(r":(?=\s|$)", bare):
-                self._fail("a colon with a blank behind it stands in a text without quotes")
+                self._fail("a colon with a blank after it is in a text without quotes")
             texts.append(bare.strip())
             self._at += 1
             if bare != text:
@@ -332,7 +332,7 @@ class _Flow:
             if not isinstance(key, Scalar):
                 self._fail("a key is missing")
             if key in mapping:
-                self._fail(f"the key {key} stands twice")
+                self._fail(f"the key {key} occurs twice")
             mapping[key] = None
             if self._peek() == ":":
                 self._at += 1

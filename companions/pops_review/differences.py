@@ -171,7 +171,7 @@ def _compare_phase(found: Differences, old: Phase, new: Phase) -> None:
     inside = Differences(counts=found.counts)
     _compare_lines(inside, _help_lines(old), _help_lines(new))
     deeper = _compare_nodes(inside, _nodes(old), _nodes(new), ())
-    inside.lines.extend(f"    variations in {report} alone" for report in sorted(deeper))
+    inside.lines.extend(f"    variations in {report} only" for report in sorted(deeper))
     if old.last_line != new.last_line:
         inside.counts.totals_changed += 1
         inside.lines.append(f"    {old.last_line} -> {new.last_line}")

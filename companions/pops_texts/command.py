@@ -126,7 +126,7 @@ def add_encoding(parser: argparse.ArgumentParser) -> None:
         type=encoding,
         default="utf-8",
         metavar="NAME",
-        help="how titles and authors are written (utf-8)",
+        help="the encoding of titles and authors (utf-8)",
     )
 
 

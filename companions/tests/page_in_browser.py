@@ -144,7 +144,7 @@ def faulty(page: Page) -> None:
     page.solve()
     marks = page.browser.run("[...document.querySelectorAll('#gutter span')].map(it => it.dataset.line).join()")
     page.holds(marks == "2,6", f"marked lines: {marks}")
-    page.holds("a word that isn't known where it stands" in page.told("tree"), "the manual's words")
+    page.holds("another word in place of a command" in page.told("tree"), "the manual's words")
     page.picture("faults.png")
     page.browser.click("#tree .fault button")
     selected = page.browser.run("(it => it.value.slice(it.selectionStart, it.selectionEnd))(document.getElementById('text'))")

@@ -193,7 +193,7 @@ class Differences(unittest.TestCase):
             ],
             "problem 1: #2",
             "  play",
-            "    variations in NEW alone",
+            "    variations in NEW only",
             "1 problem: 1 differs",
         )
 
@@ -340,7 +340,7 @@ class Command(unittest.TestCase):
             (["-", self.MATE_IN_TWO], b"", 3, "standard input is empty: no report of pops"),
             (["-", self.MATE_IN_TWO], b"problem 1\n", 3, "is no report of pops: line 2"),
             (["nowhere", self.MATE_IN_TWO], b"", 3, "cannot open nowhere"),
-            (["-", "-"], b"", 2, "one of the reports alone"),
+            (["-", "-"], b"", 2, "only one of the reports"),
             ([self.MATE_IN_TWO], b"", 2, "NEW"),
             ([], b"", 2, "OLD"),
         ):

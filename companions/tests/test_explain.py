@@ -153,7 +153,7 @@ class Documents(unittest.TestCase):
                 if word in ("Be", "AnfangProblem", "DebutProbleme"):
                     lines.insert(0, "in place of line 1:")
                 (one,) = explained("\n".join(in_base(lines)).encode())
-                known = r"of Popeye|English words alone|three letters or more"
+                known = r"of Popeye|only English words|three letters or more"
                 self.assertRegex(one.explanation.text, known)
 
 

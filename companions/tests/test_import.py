@@ -148,7 +148,7 @@ class RoundTrips(unittest.TestCase):
             left_out,
             [
                 "line 8, problem 2: left out: Stipulatoin isn't known here",
-                "line 18, problem 4: left out: MaxSolutions wants a number from 1 to 4,000,000,000",
+                "line 18, problem 4: left out: MaxSolutions needs a number from 1 to 4,000,000,000",
                 "line 27, problem 7: left out: there is no stipulation",
             ],
         )
