@@ -1,7 +1,7 @@
 -- A flight after a move, told by the men that an attack on it sees.
-use Rattle.chess_rules.proofs.Basics.{Bool, List, None, Option, Some, and_from, and_left, and_parts, and_right, ap, arith, bit_and, bit_at, bit_at-lt, bit_at-zero, bit_at_and, bit_not, bit_or, cases_Bool, cases_eq, cond-false, cond-true, eq-eqb, eqb-true, false, false_from_ne_true, false≢true, inl, inr, is_some, length, list_any, not, not-true, or_left, or_parts, refl, rules, suc, sym, true, w64, zero, ℕ, ◌&&◌, ◌*◌, ◌+◌, ◌<◌, ◌==◌, ◌||◌, ◌∙◌, ◌≡◌, ◌≢◌}
+use Rattle.chess_rules.proofs.Basics.{Bool, List, None, Option, Some, and_from, and_left, and_parts, and_right, ap, arith, bit_and, bit_at, bit_at-lt, bit_at_and, bit_not, bit_or, cases_Bool, cases_eq, cond-false, cond-true, eq-eqb, eqb-true, false, false_from_ne_true, false≢true, inl, inr, is_some, length, list_any, not, not-true, or_left, or_parts, refl, rules, suc, sym, true, w64, zero, ℕ, ◌&&◌, ◌*◌, ◌+◌, ◌<◌, ◌==◌, ◌||◌, ◌∙◌, ◌≡◌, ◌≢◌}
 use Rattle.chess_mates.proofs.Chess.{AreOpen, AreSeen, Colour, IsWellFormed, King, Man, Move, Pawn, Position, RuleSet, any_range_cases, any_range_false, arriving_man, capture_square, differs, first_of_and, is_arrival_free, is_attacked, captures_do_more, is_legal, is_man, is_mate, is_nil, is_of_colour, is_square, king_after, king_square, leaps, man_on, mates, moves, position_after}
-use Rattle.chess_mates.proofs.Chess.{is_paralysed, is_pseudo_legal, moves_behind, occupied_squares, other, queen_steps, reaches, reaches_as, reaches_of, same_colour, same_colour-true, same_kind, side_of, sight_lifted, sight_with, some_square, some_square_false, some_square_true, squares, squares_both, squares_either, squares_not}
+use Rattle.chess_mates.proofs.Chess.{is_paralysed, is_pseudo_legal, is_reached, moves_behind, occupied_squares, other, queen_steps, reaches, reaches_as, reaches_of, same_colour, same_colour-true, same_kind, side_of, sight_lifted, sight_with, some_square, some_square_false, some_square_true, squares, squares_both, squares_either, squares_not}
 use Rattle.chess_mates.proofs.Chess.{squares_of, is_attacker, triple_at, without_man, word}
 use Rattle.std.proofs.Common.{IfSome}
 use Rattle.chess_mates.specs.ties.Flights.{IsSeenFrom, has_flight, is_flight, is_flight_at, is_open}
@@ -168,7 +168,7 @@ pub record IsSafeStep (men : List (Option Man)) (a : ℕ) (o : Option ℕ) (b : 
     pub arrived : (l : List (Option Man)) → (sight_lifted men a o b k).occupied ≡ occupied_squares l → r ≡ word (reaches_as l z.colour z.kind b)
     pub unseen : (bit_at r t == 1) ≡ false
     pub others : (l : List (Option Man)) → AreSeen men l c (sight_with (sight_lifted men a o b k) t)
-        → 0 ≡ word (λ s. is_of_colour (man_on l s) c && reaches l s t)
+        → is_reached l t c ≡ false
 
 reaches_alike_of : (men others : List (Option Man)) (o : Option Man) (s t : ℕ) → StandAlike men others t → reaches_of men o s t ≡ reaches_of others o s t
 reaches_alike_of men others o s t a = grind (arith, reaches_alike)
@@ -177,8 +177,11 @@ reaches_alike_of men others o s t a = grind (arith, reaches_alike)
 pub no_strike : (a p r : Bool) → (a && r) ≡ false → ((a && p) && r) ≡ false
 no_strike a p r q = grind arith
 
-zero_false : (test : ℕ → Bool) (s : ℕ) → 0 ≡ word test → s < 64 → test s ≡ false
-zero_false test s h small = sym (word_has test 0 s h small) ∙ ap (λ (n : ℕ). n == 1) (bit_at-zero s)
+unreached_from : (men : List (Option Man)) (c : Colour) (t s : ℕ) → is_reached men t c ≡ false → s < 64
+    → (is_of_colour (man_on men s) c && reaches men s t) ≡ false
+unfolding is_reached
+unreached_from men c t s h small =
+    false_from_ne_true _ (λ y. false≢true (sym h ∙ some_square_true (λ s. is_of_colour (man_on men s) c && reaches men s t) s small y))
 
 module _ (men : List (Option Man)) (a : ℕ) (o : Option ℕ) (b : ℕ) (z : Man) (k : ℕ) (u : Option ℕ) (t : ℕ) (x : Man) (c : Colour) (r : ℕ)
     (i : IsSafeStep men a o b z k u t x c r) where
@@ -200,7 +203,7 @@ module _ (men : List (Option Man)) (a : ℕ) (o : Option ℕ) (b : ℕ) (z : Man
   elsewhere s small off =
       ap (λ (y : Option Man). is_of_colour y c && reaches_of now y s t) (same_elsewhere men a o b z x k u t x s i.step.flight i.step.taken off)
       ∙ ap (λ (y : Bool). is_of_colour (man_on then s) c && y) (grind (arith, reaches_alike_of, arrival_alike))
-      ∙ zero_false (λ s. is_of_colour (man_on then s) c && reaches then s t) s (i.others then (seen_stepped men a o b k u t x c i.step)) small
+      ∙ unreached_from then c t s (i.others then (seen_stepped men a o b k u t x c i.step)) small
 
   nobody_strikes : (s : ℕ) → s < 64 → (is_of_colour (man_on now s) c && reaches now s t) ≡ false
   unfolding reaches
@@ -302,7 +305,7 @@ module _ (rule : RuleSet) (p : Position) (m : Move) (x : Man) (k : ℕ) (i : IsS
       → r ≡ word (reaches_as l (arriving_man x m.promo).colour (arriving_man x m.promo).kind m.to)) where
     has_flight_to : (t : ℕ) → t < 64 → (bit_at (bit_and n (bit_not w64 r)) t == 1) ≡ true
         → ((l : List (Option Man)) → AreSeen p.men l p.turn (sight_with (sight_lifted p.men m.from (capture_square p x m) m.to k) t)
-        → 0 ≡ word (λ s. is_of_colour (man_on l s) p.turn && reaches l s t))
+        → is_reached l t p.turn ≡ false)
         → has_flight rule (position_after rule p m) ≡ true
     unfolding has_flight is_flight
     has_flight_to t there on others =
@@ -336,6 +339,6 @@ module _ (rule : RuleSet) (p : Position) (m : Move) (x : Man) (k : ℕ) (i : IsS
     -- for `has_flight_from`: the first square that nobody guards is a flight
     pub has_flight_first : (o : Option ℕ) → IfSome o (λ t. (t < 64) × ((bit_at (bit_and n (bit_not w64 r)) t == 1) ≡ true))
         → IfSome o (λ t. (l : List (Option Man)) → AreSeen p.men l p.turn (sight_with (sight_lifted p.men m.from (capture_square p x m) m.to k) t)
-        → 0 ≡ word (λ s. is_of_colour (man_on l s) p.turn && reaches l s t))
+        → is_reached l t p.turn ≡ false)
         → is_some o ≡ true → has_flight rule (position_after rule p m) ≡ true
     has_flight_first o within safe h = grind (arith, false≢true, has_flight_to)

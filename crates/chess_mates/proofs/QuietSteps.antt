@@ -1,13 +1,15 @@
 -- Steps of the king that give no check, told without playing them.
-use Rattle.chess_rules.proofs.Basics.{[], Bool, List, Option, Some, and_from, and_left, ap, arith, bit_and, bit_at, bit_at-lt, bit_at-zero, bit_at_and, cond-true, eq-eqb, eqb-true, false, false≢true, inl, inr, is_some, list_all, list_any, not, refl, rules, sym, true, ℕ, ◌&&◌, ◌<◌, ◌==◌, ◌∙◌, ◌∷◌, ◌≡◌}
-use Rattle.chess_mates.proofs.Chess.{AreOpen, Colour, IsWellFormed, King, Man, Move, Position, RuleSet, captures_do_more, is_legal, is_mating, is_paralysed, king_after, king_square, leaps, man_on, may_go, moves, queen_steps, reaches_as, same_colour, same_kind, some_square_false, word}
+use Rattle.chess_rules.proofs.Basics.{[], Bool, List, Option, Some, and_from, and_left, ap, arith, bit_and, bit_at, bit_at-lt, bit_at-zero, bit_at_and, cond-true, eq-eqb, eqb-true, false, false≢true, inl, inr, is_some, list_all, list_any, not, refl, rules, subst, sym, true, ℕ, ◌&&◌, ◌<◌, ◌==◌, ◌∙◌, ◌∷◌, ◌≡◌}
+use Rattle.chess_mates.proofs.Chess.{AreOpen, AreSeen, Colour, IsWellFormed, King, Man, Move, Position, RuleSet, capture_square, captures_do_more, is_legal, is_mating, is_paralysed, king_after, king_square, leaps, man_on, may_go, moves, other, queen_steps, reaches_as, same_colour, same_colour-true, same_kind, word}
 use Rattle.chess_mates.proofs.Fleeing.{IsKingStep, king_on, may_step, reached_near, simple_step, step_to}
 use Rattle.chess_mates.specs.ties.Flights.{IsUnreached, is_open}
 use Rattle.chess_rules.proofs.Bits.{word_has}
 use Rattle.chess_rules.proofs.attacks.Exposing.{exposed_is}
+use Rattle.chess_rules.proofs.attacks.Shielding.{not_attacked}
 use Rattle.chess_rules.proofs.listing_moves.Members.{in_cases, none_in_nil}
 use Rattle.chess_rules.proofs.listing_moves.Walks.{on_first}
 use Rattle.chess_rules.proofs.theorems.Moves.{moves_are_the_legal_moves}
+use Rattle.chess_rules.specs.ties.Sight.{sight_after}
 use Rattle.chess_rules.specs.ties.Targets.{is_arrival}
 use Rattle.std.specs.List.{Contains}
 
@@ -51,9 +53,11 @@ module _ (rule : RuleSet) (q : Position) (x : Man) (k t : ℕ) (i : IsKingStep r
       let may = may_step rule q x k t i in
       let parts = simple_step rule q x k t i in
       let king : king_after q x (step_to k t) ≡ Some t = cond-true (same_kind x.kind King) _ _ i.king in
-      and_from _ _ may (ap not (sym (exposed_is rule q x (step_to k t) t 0 false i.well_formed may i.small i.here
-      (both_not _ _ _ parts.castling (λ circe. ap is_some (parts.rebirth circe))) king u.none
-      (λ men are others. sym (some_square_false _ 64 (omega arith) (record { fails = λ s lt. and_left _ _ (ap (λ (n : ℕ). n == 1) (bit_at-zero s)) }))))))
+      let mine : x.colour ≡ q.turn = same_colour-true x.colour q.turn i.mine in
+      and_from _ _ may (ap not (sym (exposed_is rule q x (step_to k t) t false i.well_formed may i.small i.here
+      (both_not _ _ _ parts.castling (λ circe. ap is_some (parts.rebirth circe))) king
+      (λ men are seen. sym (not_attacked rule men (other x.colour) t (rw mine (u.none men
+      (subst (λ (c : Colour). AreSeen q.men men (other c) (sight_after q.men k (capture_square q x (step_to k t)) t)) mine seen))))))))
 
 on_king : (men : List (Option Man)) (c : Colour) (k : ℕ) (x : Man) → king_square men c ≡ Some k → man_on men k ≡ Some x
     → (same_colour x.colour c ≡ true) × (same_kind x.kind King ≡ true)

@@ -19,7 +19,7 @@ use chess_core::square::{Square, Squares};
 use chess_rules::leaps::king_leaps;
 use chess_rules::legal_moves::LegalMoves;
 use chess_rules::moves::is_mate;
-use chess_rules::outward::attackers_seen;
+use chess_rules::outward::is_attacker_seen;
 use chess_rules::play::capture_square;
 use chess_rules::rules::Rules;
 use chess_rules::sight::sight_after;
@@ -72,7 +72,7 @@ fn is_unreached(board: &Board, king: Man, from: Square, to: Square) -> bool
         },
     );
     let sight = sight_after(board, from, captured, to);
-    attackers_seen(board, sight, to, board.turn().other()) == 0
+    !is_attacker_seen(board, sight, to, board.turn().other())
 }
 
 // The first of the squares on which no enemy reaches him then.

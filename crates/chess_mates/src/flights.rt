@@ -1,8 +1,8 @@
 //! Flights of the enemy king after a move, told without playing it.
-ghost use Rattle.std.specs.Prelude.{◌≡◌, ◌<◌, ◌==◌, ◌&&◌, ℕ, IfSome, List, Option, is_some, not, true};
+ghost use Rattle.std.specs.Prelude.{◌≡◌, ◌<◌, ◌==◌, ◌&&◌, ℕ, IfSome, List, Option, false, is_some, not, true};
 ghost use Rattle.std.specs.Int.{bit_at};
 ghost use Rattle.std.specs.Int.Bits.{bit_and, bit_or};
-ghost use Rattle.chess_core.specs.Position.{is_of_colour, man_on, other, same_kind};
+ghost use Rattle.chess_core.specs.Position.{other, same_kind};
 ghost use Rattle.chess_core.specs.WellFormed.{IsWellFormed};
 ghost use Rattle.chess_core.specs.ties.Words.{side_of, squares_of, word};
 ghost use Rattle.chess_core.specs.declared.man.Man.{Man};
@@ -12,7 +12,8 @@ ghost use Rattle.chess_mates.specs.ties.Flights.{AreOpen, IsSeenFrom, has_flight
 ghost use Rattle.chess_rules.specs.Legal.{is_pseudo_legal};
 ghost use Rattle.chess_rules.specs.Play.{arriving_man, capture_square, position_after};
 ghost use Rattle.chess_rules.specs.ties.Lines.{occupied_squares};
-ghost use Rattle.chess_rules.specs.Reaches.{reaches, reaches_as};
+ghost use Rattle.chess_rules.specs.Reaches.{reaches_as};
+ghost use Rattle.chess_rules.specs.ties.Shields.{is_reached};
 ghost use Rattle.chess_rules.specs.ties.Sight.{AreSeen, is_simple};
 
 use chess_core::board::Board;
@@ -20,7 +21,7 @@ use chess_core::man::{Colour, Kind, Man, Move};
 use chess_core::square::{Square, Squares};
 use chess_rules::exposure::is_simple;
 use chess_rules::leaps::king_leaps;
-use chess_rules::outward::attackers_seen;
+use chess_rules::outward::is_attacker_seen;
 use chess_rules::play::{arriving_man, capture_square};
 use chess_rules::reach::reach_over;
 use chess_rules::rules::Rules;
@@ -97,12 +98,11 @@ fn open_squares<R: Rules>(board: &Board, sight: Sight, king: Square) -> Squares
 fn first_safe(board: &Board, sight: Sight, squares: Squares, colour: Colour) -> Option<Square>
     ensures within { IfSome result (λ t. (t < 64) × ((bit_at squares t == 1) ≡ true)) }
     ensures safe { IfSome result (λ t. (men : List (Option Man))
-        → AreSeen board.now.men men colour (sight_with sight t)
-        → 0 ≡ word (λ s. is_of_colour (man_on men s) colour && reaches men s t)) }
+        → AreSeen board.now.men men colour (sight_with sight t) → is_reached men t colour ≡ false) }
 {
     let mut number = 0u8;
     while let Some(square) = next_bit(squares, number) {
-        if attackers_seen(board, sight_with(sight, square), square, colour) == 0 {
+        if !is_attacker_seen(board, sight_with(sight, square), square, colour) {
             return Some(square);
         }
         number = square.index() + 1;

@@ -6,13 +6,13 @@ ghost use Rattle.chess_core.specs.Squares.{some_square};
 ghost use Rattle.chess_core.specs.ties.Words.{word};
 ghost use Rattle.chess_core.specs.declared.man.Man.{Man};
 ghost use Rattle.chess_core.specs.WellFormed.{IsWellFormed};
-ghost use Rattle.chess_rules.specs.Attacks.{in_check, is_paralysed};
+ghost use Rattle.chess_rules.specs.Attacks.{in_check, is_attacked, is_paralysed};
 ghost use Rattle.chess_rules.specs.Legal.{is_pseudo_legal};
 ghost use Rattle.chess_rules.specs.Play.{position_after};
 ghost use Rattle.chess_rules.specs.Reaches.{reaches};
-ghost use Rattle.chess_rules.specs.ties.Sight.{AreArrived, AreOthers, is_arriving_as, is_simple, king_after, own_after};
+ghost use Rattle.chess_rules.specs.ties.Sight.{AreArrived, AreOthers, AreSeen, is_arriving_as, is_simple, king_after, own_after};
 
-use crate::outward::{attackers_seen, those_reaching};
+use crate::outward::{attackers_seen, is_attacker_seen, those_reaching};
 use crate::play::{arriving_man, capture_square, is_castling};
 use crate::rules::{Rules, in_check};
 use crate::sight::{Sight, sight_after};
@@ -115,6 +115,26 @@ fn some_free_after<R: Rules>(board: &Board, sight: Sight, man: Man, m: &Move, wo
     false
 }
 
+// Whether the other side than the man's attacks the square then.
+fn is_attacked_after<R: Rules>(
+    board: &Board,
+    sight: Sight,
+    man: Man,
+    m: &Move,
+    square: Square,
+) -> bool
+    ensures { (men : List (Option Man)) → AreArrived board.now.men men man m.now sight
+        → AreSeen board.now.men men (other man.colour) sight
+        → result ≡ is_attacked R.rule men square (other man.colour) }
+{
+    let enemy = man.colour.other();
+    if !R::faced_men_stand_still() {
+        return is_attacker_seen(board, sight, square, enemy);
+    }
+    let attackers = attackers_seen(board, sight, square, enemy);
+    some_free_after::<R>(board, sight, man, m, attackers)
+}
+
 // Whether the move leaves its mover in check, told without playing it: by an attack on the squares as they
 // will be. `None` where more changes than is seen there.
 fn exposes_unplayed<R: Rules>(board: &Board, m: &Move) -> Option<bool>
@@ -136,8 +156,7 @@ fn exposes_unplayed<R: Rules>(board: &Board, m: &Move) -> Option<bool>
         return Some(false);
     };
     let sight = sight_after(board, m.from, captured, m.to);
-    let attackers = attackers_seen(board, sight, king, board.turn().other());
-    Some(some_free_after::<R>(board, sight, man, m, attackers))
+    Some(is_attacked_after::<R>(board, sight, man, m, king))
 }
 
 // Whether the move leaves its mover in check. The board is unchanged after it.

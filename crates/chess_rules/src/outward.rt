@@ -8,7 +8,7 @@ ghost use Rattle.chess_rules.specs.ties.Sight.{AreSeen};
 ghost use Rattle.chess_core.specs.Squares.{some_square};
 ghost use Rattle.chess_core.specs.ties.Words.{squares_of, word};
 ghost use Rattle.chess_rules.specs.Attacks.{is_paralysed};
-ghost use Rattle.chess_rules.specs.ties.Outward.{is_fairy_man, is_met};
+ghost use Rattle.chess_rules.specs.ties.Outward.{is_fairy_man, is_leaping_man, is_met};
 ghost use Rattle.chess_rules.specs.ties.Shields.{is_reached};
 ghost use Rattle.chess_rules.specs.Reaches.{reaches, reaches_as};
 ghost use Rattle.chess_core.specs.Steps.{diagonal_steps, straight_steps};
@@ -138,6 +138,16 @@ fn fairy_attackers(board: &Board, sight: Sight, square: Square, colour: Colour) 
         )
 }
 
+// The squares of its kings, knights and pawns that reach the square.
+fn leapers_seen(board: &Board, sight: Sight, square: Square, colour: Colour) -> Squares
+    ensures { (men : List (Option Man)) → AreSeen board.now.men men colour sight
+        → result ≡ word (λ s. is_leaping_man (man_on men s) colour && reaches men s square) }
+{
+    leaping_attackers(board, sight, square, colour, Kind::King)
+        | leaping_attackers(board, sight, square, colour, Kind::Knight)
+        | leaping_attackers(board, sight, square, colour, Kind::Pawn)
+}
+
 /// The squares of the men of this colour that reach the square.
 pub fn attackers_seen(board: &Board, sight: Sight, square: Square, colour: Colour) -> Squares
     ensures { (men : List (Option Man)) → AreSeen board.now.men men colour sight
@@ -145,12 +155,30 @@ pub fn attackers_seen(board: &Board, sight: Sight, square: Square, colour: Colou
 {
     // For the proof: a square's number is below 64.
     let _small = square.index();
-    straight_attackers(board, sight, square, colour)
+    leapers_seen(board, sight, square, colour)
+        | straight_attackers(board, sight, square, colour)
         | diagonal_attackers(board, sight, square, colour)
-        | leaping_attackers(board, sight, square, colour, Kind::King)
-        | leaping_attackers(board, sight, square, colour, Kind::Knight)
-        | leaping_attackers(board, sight, square, colour, Kind::Pawn)
         | fairy_attackers(board, sight, square, colour)
+}
+
+/// Whether some man of this colour reaches the square. Leaps, which stand in a table, are looked for first: if
+/// there is one, no line is looked along.
+pub fn is_attacker_seen(board: &Board, sight: Sight, square: Square, colour: Colour) -> bool
+    ensures { (men : List (Option Man)) → AreSeen board.now.men men colour sight
+        → result ≡ is_reached men square colour }
+{
+    // For the proof: a square's number is below 64.
+    let _small = square.index();
+    if leapers_seen(board, sight, square, colour) != 0 {
+        return true;
+    }
+    if straight_attackers(board, sight, square, colour) != 0 {
+        return true;
+    }
+    if diagonal_attackers(board, sight, square, colour) != 0 {
+        return true;
+    }
+    fairy_attackers(board, sight, square, colour) != 0
 }
 
 // The same on the board as it stands.
@@ -165,7 +193,7 @@ pub(crate) fn attackers(board: &Board, square: Square, colour: Colour) -> Square
 pub(crate) fn is_reached(board: &Board, square: Square, colour: Colour) -> bool
     ensures { result ≡ is_reached board.now.men square colour }
 {
-    attackers(board, square, colour) != 0
+    is_attacker_seen(board, sight_now(board), square, colour)
 }
 
 // Whether a man on one of the word's squares isn't paralysed, or no man stands there.

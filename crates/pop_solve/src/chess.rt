@@ -60,7 +60,8 @@ pub(crate) fn next_behind<R: Rules>(moves: &mut LegalMoves<R>, board: &mut Board
     moves.next(board)
 }
 
-/// The next legal move behind the place, which moves on to it; what is then known of the position's moves is kept.
+/// The next legal move behind the place, which moves on to it, or behind all moves; what is then known of the position's
+/// moves is kept.
 pub fn next_move<R: Rules>(
     known: &mut Option<LegalMoves<R>>,
     place: &mut Moves<R>,
@@ -74,6 +75,7 @@ pub fn next_move<R: Rules>(
         (λ m. (moves_behind R.rule board.old place.old
         ≡ m ∷ moves_behind R.rule board.old place.new)
         × (is_legal R.rule board.old m ≡ true)) }
+    ensures place { place.new ≡ place_of result }
 {
     let mut moves = moves_at::<R>(*known, *place, board);
     let found = next_behind::<R>(&mut moves, board);

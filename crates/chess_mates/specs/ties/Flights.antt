@@ -2,7 +2,7 @@
 use Rattle.std.specs.Prelude.{◌≡◌, ◌<◌, ℕ, Bool, true, false, ◌&&◌, ◌==◌, not, List, Option, Some, None, is_some}
 use Rattle.std.specs.Int.{bit_at, bit_not, w64}
 use Rattle.std.specs.Int.Bits.{bit_and, bit_or}
-use Rattle.chess_core.specs.Position.{Position, is_of_colour, king_square, man_on, other, same_kind}
+use Rattle.chess_core.specs.Position.{Position, king_square, man_on, other, same_kind}
 use Rattle.chess_core.specs.Squares.{is_square, some_square}
 use Rattle.chess_core.specs.WellFormed.{IsWellFormed}
 use Rattle.chess_core.specs.ties.Words.{word}
@@ -12,8 +12,9 @@ use Rattle.chess_core.specs.declared.man.Man.{Man}
 use Rattle.chess_core.specs.declared.man.Move.{Move}
 use Rattle.chess_rules.specs.Legal.{is_arrival_free, is_legal, is_pseudo_legal}
 use Rattle.chess_rules.specs.Play.{capture_square}
-use Rattle.chess_rules.specs.Reaches.{reaches, reaches_as}
+use Rattle.chess_rules.specs.Reaches.{reaches_as}
 use Rattle.chess_rules.specs.RuleSet.{RuleSet, captures_do_more}
+use Rattle.chess_rules.specs.ties.Shields.{is_reached}
 use Rattle.chess_rules.specs.ties.Sight.{AreSeen, is_simple, sight_after}
 use Rattle.chess_rules.specs.declared.sight.Sight.{Sight}
 
@@ -70,4 +71,4 @@ pub record IsUnreached (p : Position) (x : Man) (k t : ℕ) : Type 0 where
   pub none : (men : List (Option Man))
       → AreSeen p.men men (other p.turn) (sight_after p.men k
       (capture_square p x (record { from = k; to = t; promo = None })) t)
-      → 0 ≡ word (λ s. is_of_colour (man_on men s) (other p.turn) && reaches men s t)
+      → is_reached men t (other p.turn) ≡ false

@@ -1,8 +1,8 @@
 -- Attack looked for outward from the square.
-use Rattle.chess_rules.proofs.Basics.{Bool, List, None, Option, Some, [], and_left, ap, arith, bit_and, bit_at, bit_or, false, false_from_ne_true, false≢true, inl, inr, list_any, list_any-append, not, refl, rules, sym, true, ℕ, ◌&&◌, ◌<◌, ◌==◌, ◌||◌, ◌∙◌, ◌∷◌, ◌≡◌}
-use Rattle.chess_rules.proofs.Chess.{Bishop, Colour, Grasshopper, Kind, King, Knight, Man, Nightrider, Pawn, Queen, Rook, RuleSet, Step, any_range_cases, diagonal_steps, faces, faces_its_like, first_of_and, gait_of, hopped_from, is_ahead, is_attacked, is_fairy, is_man, is_on_some, is_paralysed, is_reached, is_of_colour, man_on, other, queen_steps, reaches, reaches_as, reaches_of, rides, same_colour-true, same_kind, same_kind-true, second_of_and, some_square, some_square_false, some_square_true, squares_both, squares_either, squares_of, squares_same, straight_steps, is_attacker, word}
+use Rattle.chess_rules.proofs.Basics.{Bool, List, None, Option, Some, [], and_left, ap, arith, bit_and, bit_at, bit_or, false, false_from_ne_true, false≢true, inl, inr, list_any, list_any-append, not, or_left, or_right, refl, rules, sym, true, ℕ, ◌&&◌, ◌<◌, ◌==◌, ◌||◌, ◌∙◌, ◌∷◌, ◌≡◌}
+use Rattle.chess_rules.proofs.Chess.{Bishop, Colour, Grasshopper, Kind, King, Knight, Man, Nightrider, Pawn, Queen, Rook, RuleSet, Step, any_range_cases, diagonal_steps, differs, faces, faced_men_stand_still, faces_its_like, first_of_and, gait_of, hopped_from, is_ahead, is_attacked, is_fairy, is_man, is_on_some, is_paralysed, is_reached, is_of_colour, man_on, other, queen_steps, reaches, reaches_as, reaches_of, rides, same_colour-true, same_kind, same_kind-true, second_of_and, some_square, some_square_false, some_square_true, squares, squares_both, squares_either, squares_of, squares_same, straight_steps, is_attacker, word}
 use Rattle.chess_core.specs.declared.man.Gait.TheVariants.{Hopper}
-use Rattle.chess_rules.specs.ties.Outward.{is_fairy_man, is_met}
+use Rattle.chess_rules.specs.ties.Outward.{is_fairy_man, is_leaping_man, is_met}
 use Rattle.chess_rules.proofs.Bits.{not_zero, word_empty, word_has}
 use Rattle.chess_rules.proofs.rays.Flips.{diagonal-back, hops-turned, queen_rides-back, reaches_back, straight-back}
 use Rattle.chess_rules.proofs.Tests.{any_kept}
@@ -57,8 +57,8 @@ reached_none men c k t w h z =
 
 -- a man of colour b reaches by what its kind says
 by_lines : (b : Bool) (k : Kind) (r s d : Bool) → (k ≡ Rook → r ≡ s) → (k ≡ Bishop → r ≡ d) → (k ≡ Queen → r ≡ (s || d))
-    → (((((((b && same_kind k Rook) || (b && same_kind k Queen)) && s) || (((b && same_kind k Bishop) || (b && same_kind k Queen)) && d))
-    || ((b && same_kind k King) && r)) || ((b && same_kind k Knight) && r) || ((b && same_kind k Pawn) && r)) || ((b && is_fairy k) && r)) ≡ (b && r)
+    → (((((b && (same_kind k King || same_kind k Knight || same_kind k Pawn)) && r) || (((b && same_kind k Rook) || (b && same_kind k Queen)) && s))
+    || (((b && same_kind k Bishop) || (b && same_kind k Queen)) && d)) || ((b && is_fairy k) && r)) ≡ (b && r)
 by_lines b k r s d rook bishop queen = grind arith
 
 rook_reaches : (men : List (Option Man)) (c : Colour) (k : Kind) (s t : ℕ) → s < 64 → t < 64 → k ≡ Rook
@@ -78,9 +78,8 @@ queen_reaches men c k s t p q e = search (rules, list_any-append, queen_rides-ba
 
 -- on one square
 at_square : (men : List (Option Man)) (c : Colour) (o : Option Man) (s t : ℕ) → s < 64 → t < 64
-    → ((((is_man o c Rook || is_man o c Queen) && list_any (rides men t s) straight_steps)
-    || ((is_man o c Bishop || is_man o c Queen) && list_any (rides men t s) diagonal_steps)) || (is_man o c King && reaches_of men o s t)
-    || (is_man o c Knight && reaches_of men o s t) || (is_man o c Pawn && reaches_of men o s t) || (is_fairy_man o c && reaches_of men o s t))
+    → ((((is_leaping_man o c && reaches_of men o s t) || ((is_man o c Rook || is_man o c Queen) && list_any (rides men t s) straight_steps))
+    || ((is_man o c Bishop || is_man o c Queen) && list_any (rides men t s) diagonal_steps)) || (is_fairy_man o c && reaches_of men o s t))
     ≡ (is_of_colour o c && reaches_of men o s t)
 at_square men c None s t p q = refl
 at_square men c (Some x) s t p q = search (rules, bishop_reaches, by_lines, queen_reaches, rook_reaches)
@@ -129,28 +128,91 @@ comer men c t k s = is_man (man_on men s) c k && reaches men s t
 abbrev pub fairy_comer : List (Option Man) → Colour → ℕ → ℕ → Bool
 fairy_comer men c t s = is_fairy_man (man_on men s) c && reaches men s t
 
--- the men that reach t: riders on straight lines, on diagonals, the others by kind, and fairy men
-pub attackers_are : (men : List (Option Man)) (c : Colour) (t r b k n p f : ℕ) → t < 64
+-- the square of a king, a knight or a pawn of this colour from which it reaches t
+abbrev pub leaping_comer : List (Option Man) → Colour → ℕ → ℕ → Bool
+leaping_comer men c t s = is_leaping_man (man_on men s) c && reaches men s t
+
+leaping_by_kind : (o : Option Man) (c : Colour) (r : Bool) → (((is_man o c King && r) || (is_man o c Knight && r)) || (is_man o c Pawn && r)) ≡ (is_leaping_man o c && r)
+leaping_by_kind o c r = grind arith
+
+-- kings, knights and pawns kind by kind
+pub leapers_are : (men : List (Option Man)) (c : Colour) (t k n p : ℕ) → k ≡ word (comer men c t King) → n ≡ word (comer men c t Knight)
+    → p ≡ word (comer men c t Pawn) → bit_or (bit_or k n) p ≡ word (leaping_comer men c t)
+leapers_are men c t k n p hk hn hp =
+    let by : Kind → ℕ → Bool = comer men c t in
+    (λ a. bit_or (bit_or (hk a) (hn a)) (hp a)) ∙ (λ a. bit_or (squares_either (by King) (by Knight) a) (word (by Pawn)))
+    ∙ squares_either (λ s. by King s || by Knight s) (by Pawn) ∙ squares_same _ _ (λ s z. leaping_by_kind (man_on men s) c (reaches men s t))
+
+-- the men that reach t: leapers, riders on straight lines, on diagonals, and fairy men
+pub attackers_are : (men : List (Option Man)) (c : Colour) (t l r b f : ℕ) → t < 64
+    → l ≡ word (leaping_comer men c t)
     → r ≡ word (is_met men c Rook straight_steps t)
     → b ≡ word (is_met men c Bishop diagonal_steps t)
-    → k ≡ word (comer men c t King)
-    → n ≡ word (comer men c t Knight)
-    → p ≡ word (comer men c t Pawn)
     → f ≡ word (fairy_comer men c t)
-    → bit_or (bit_or (bit_or (bit_or (bit_or r b) k) n) p) f ≡ word (λ s. is_of_colour (man_on men s) c && reaches men s t)
+    → bit_or (bit_or (bit_or l r) b) f ≡ word (λ s. is_of_colour (man_on men s) c && reaches men s t)
 unfolding reaches is_met
-attackers_are men c t r b k n p f q hr hb hk hn hp hf =
+attackers_are men c t l r b f q hl hr hb hf =
+    let leaper : ℕ → Bool = leaping_comer men c t in
     let rook : ℕ → Bool = is_met men c Rook straight_steps t in
     let bishop : ℕ → Bool = is_met men c Bishop diagonal_steps t in
-    let by : Kind → ℕ → Bool = comer men c t in
     let fairy : ℕ → Bool = fairy_comer men c t in
-    (λ a. bit_or (bit_or (bit_or (bit_or (bit_or (hr a) (hb a)) (hk a)) (hn a)) (hp a)) (hf a))
-    ∙ (λ a. bit_or (bit_or (bit_or (bit_or (squares_either rook bishop a) (word (by King))) (word (by Knight))) (word (by Pawn))) (word fairy))
-    ∙ (λ a. bit_or (bit_or (bit_or (squares_either (λ s. rook s || bishop s) (by King) a) (word (by Knight))) (word (by Pawn))) (word fairy))
-    ∙ (λ a. bit_or (bit_or (squares_either (λ s. (rook s || bishop s) || by King s) (by Knight) a) (word (by Pawn))) (word fairy))
-    ∙ (λ a. bit_or (squares_either (λ s. ((rook s || bishop s) || by King s) || by Knight s) (by Pawn) a) (word fairy))
-    ∙ squares_either (λ s. (((rook s || bishop s) || by King s) || by Knight s) || by Pawn s) fairy
+    (λ a. bit_or (bit_or (bit_or (hl a) (hr a)) (hb a)) (hf a))
+    ∙ (λ a. bit_or (bit_or (squares_either leaper rook a) (word bishop)) (word fairy))
+    ∙ (λ a. bit_or (squares_either (λ s. leaper s || rook s) bishop a) (word fairy))
+    ∙ squares_either (λ s. (leaper s || rook s) || bishop s) fairy
     ∙ squares_same _ _ (λ s z. at_square men c (man_on men s) s t z q)
+
+or_exchange : (a b c d : Bool) → ((a || b) || (c || d)) ≡ ((a || c) || (b || d))
+or_exchange a b c d = grind arith
+
+any_either : (p q : ℕ → Bool) (xs : List ℕ) → (list_any p xs || list_any q xs) ≡ list_any (λ s. p s || q s) xs
+any_either p q [] = refl
+any_either p q (x ∷ xs) = or_exchange (p x) (list_any p xs) (q x) (list_any q xs) ∙ ap (λ (b : Bool). (p x || q x) || b) (any_either p q xs)
+
+some_either : (p q : ℕ → Bool) → (some_square p || some_square q) ≡ some_square (λ s. p s || q s)
+unfolding some_square
+some_either p q = any_either p q squares
+
+-- some man reaches t exactly if one of these words isn't 0
+pub some_reach : (men : List (Option Man)) (c : Colour) (t l r b f : ℕ) → t < 64
+    → l ≡ word (leaping_comer men c t)
+    → r ≡ word (is_met men c Rook straight_steps t)
+    → b ≡ word (is_met men c Bishop diagonal_steps t)
+    → f ≡ word (fairy_comer men c t)
+    → (((not (l == 0) || not (r == 0)) || not (b == 0)) || not (f == 0)) ≡ is_reached men t c
+unfolding reaches is_met is_reached
+some_reach men c t l r b f q hl hr hb hf =
+    let leaper : ℕ → Bool = leaping_comer men c t in
+    let rook : ℕ → Bool = is_met men c Rook straight_steps t in
+    let bishop : ℕ → Bool = is_met men c Bishop diagonal_steps t in
+    let fairy : ℕ → Bool = fairy_comer men c t in
+    (λ a. ((not (hl a == 0) || not (hr a == 0)) || not (hb a == 0)) || not (hf a == 0))
+    ∙ (λ a. ((not_zero leaper a || not_zero rook a) || not_zero bishop a) || not_zero fairy a)
+    ∙ (λ a. (some_either leaper rook a || some_square bishop) || some_square fairy)
+    ∙ (λ a. some_either (λ s. leaper s || rook s) bishop a || some_square fairy)
+    ∙ some_either (λ s. (leaper s || rook s) || bishop s) fairy
+    ∙ some_square_same _ _ (λ s z. at_square men c (man_on men s) s t z q)
+
+-- some leaper reaches t
+pub leap_reaches : (men : List (Option Man)) (c : Colour) (t l : ℕ) → t < 64 → l ≡ word (leaping_comer men c t) → (l ≡ 0 → ⊥) → true ≡ is_reached men t c
+leap_reaches men c t l q h some =
+    sym (or_left _ _ (or_left _ _ (or_left (not (l == 0)) _ (ap not (differs l 0 some)))))
+    ∙ some_reach men c t l (word (is_met men c Rook straight_steps t)) (word (is_met men c Bishop diagonal_steps t)) (word (fairy_comer men c t)) q h refl refl
+    refl
+
+-- some rider along a straight line
+pub straight_reaches : (men : List (Option Man)) (c : Colour) (t r : ℕ) → t < 64 → r ≡ word (is_met men c Rook straight_steps t) → (r ≡ 0 → ⊥)
+    → true ≡ is_reached men t c
+straight_reaches men c t r q h some =
+    sym (or_left _ _ (or_left _ _ (or_right (not (word (leaping_comer men c t) == 0)) (not (r == 0)) (ap not (differs r 0 some)))))
+    ∙ some_reach men c t (word (leaping_comer men c t)) r (word (is_met men c Bishop diagonal_steps t)) (word (fairy_comer men c t)) q refl h refl refl
+
+-- some rider along a diagonal
+pub diagonal_reaches : (men : List (Option Man)) (c : Colour) (t b : ℕ) → t < 64 → b ≡ word (is_met men c Bishop diagonal_steps t) → (b ≡ 0 → ⊥)
+    → true ≡ is_reached men t c
+diagonal_reaches men c t b q h some =
+    sym (or_left _ _ (or_right _ (not (b == 0)) (ap not (differs b 0 some))))
+    ∙ some_reach men c t (word (leaping_comer men c t)) (word (is_met men c Rook straight_steps t)) b (word (fairy_comer men c t)) q refl refl h refl
 
 -- a fairy man is of one of the fairy kinds
 fairy_by_kind : (o : Option Man) (c : Colour) (r : Bool) → ((is_man o c Grasshopper && r) || (is_man o c Nightrider && r)) ≡ (is_fairy_man o c && r)
@@ -177,11 +239,15 @@ pub attacked_by : (rule : RuleSet) (men : List (Option Man)) (t w : ℕ) (c : Co
 unfolding is_attacked is_attacker
 attacked_by rule men t w c h = search (rules, some_square_same, word_has)
 
--- the square is reached exactly if the word of the men that reach it isn't 0
-pub is_reached_by : (men : List (Option Man)) (t w : ℕ) (c : Colour) → w ≡ word (λ s. is_of_colour (man_on men s) c && reaches men s t)
-    → not (w == 0) ≡ is_reached men t c
-unfolding is_reached
-is_reached_by men t w c h = ap (λ n. not (n == 0)) h ∙ not_zero (λ s. is_of_colour (man_on men s) c && reaches men s t)
+unparalysed : (side still faced reaches : Bool) → still ≡ false → (side && reaches) ≡ ((side && not (still && faced)) && reaches)
+unparalysed side still faced reaches off = grind arith
+
+-- where nobody is paralysed, a square is attacked if some man reaches it
+pub attacked_plainly : (rule : RuleSet) (men : List (Option Man)) (t : ℕ) (c : Colour) (b : Bool) → faced_men_stand_still rule ≡ false → b ≡ is_reached men t c
+    → b ≡ is_attacked rule men t c
+unfolding is_attacked is_attacker is_paralysed is_reached
+attacked_plainly rule men t c b off h =
+    h ∙ some_square_same _ _ (λ s z. unparalysed (is_of_colour (man_on men s) c) (faced_men_stand_still rule) _ (reaches men s t) off)
 
 -- an enemy of a man's kind reaches its square exactly if the word of those isn't 0
 pub faced : (men : List (Option Man)) (x : Man) (t w : ℕ) → w ≡ word (λ s. is_man (man_on men s) (other x.colour) x.kind && reaches men s t)

@@ -1,6 +1,6 @@
 -- Whether a move leaves its mover in check, told by the men that an attack sees after it.
-use Rattle.chess_rules.proofs.Basics.{Bool, List, None, Option, Some, and_from, and_left, and_parts, and_right, ap, arith, bit_at, cases_Bool, cases_eq, cond-false, cond-true, eq-eqb, false, false_from_ne_true, false≢true, inl, inr, is_some, not, not-true, or_parts, rules, sym, true, ℕ, ◌&&◌, ◌<◌, ◌==◌, ◌||◌, ◌∙◌, ◌≡◌}
-use Rattle.chess_rules.proofs.Chess.{AreArrived, AreOthers, AreSeen, Colour, IsWellFormed, Kind, King, Man, Move, Position, RuleSet, arriving_man, capture_square, differs, faces, faces_its_like, in_check, is_arrival_free, is_attacked_at, is_castling, captures_do_more, is_faced, faced_men_stand_still, is_man, is_paralysed, is_promotion_right, is_pseudo_legal, is_of_colour, is_simple, is_square, king_after, king_square, man_on, other, position_after, reaches, same_colour, same_colour-true, same_kind, sight_after, some_square, squares_both, squares_either, squares_not, squares_of, squares_same, word}
+use Rattle.chess_rules.proofs.Basics.{Bool, List, None, Option, Some, and_from, and_left, and_parts, and_right, ap, arith, bit_at, cases_Bool, cases_eq, cond-false, cond-true, eq-eqb, false, false_from_ne_true, false≢true, inl, inr, is_some, not, not-true, or_parts, rules, subst, sym, true, ℕ, ◌&&◌, ◌<◌, ◌==◌, ◌||◌, ◌∙◌, ◌≡◌}
+use Rattle.chess_rules.proofs.Chess.{AreArrived, AreOthers, AreSeen, Colour, IsWellFormed, Kind, King, Man, Move, Position, RuleSet, arriving_man, capture_square, differs, faces, faces_its_like, in_check, is_arrival_free, is_attacked, is_attacked_at, is_castling, captures_do_more, is_faced, faced_men_stand_still, is_man, is_paralysed, is_promotion_right, is_pseudo_legal, is_of_colour, is_simple, is_square, king_after, king_square, man_on, other, position_after, reaches, same_colour, same_colour-true, same_kind, sight_after, some_square, squares_both, squares_either, squares_not, squares_of, squares_same, word}
 use Rattle.chess_rules.specs.ties.Sight.{is_arriving_as, own_after}
 use Rattle.chess_rules.specs.declared.sight.Sight.{Sight}
 use Rattle.chess_core.proofs.Kept.{same_colour-refl}
@@ -200,24 +200,26 @@ are_arrived : (rule : RuleSet) (p : Position) (x : Man) (m : Move) → IsWellFor
     → AreArrived p.men (arrived p x m) x m (sight_after p.men m.from (capture_square p x m) m.to)
 are_arrived rule p x m well is small = search (rules, seen_after, goes_capturing, own_words, others_on)
 
--- the mover is in check exactly if an unparalysed enemy then reaches the king's square
-pub exposed_is : (rule : RuleSet) (p : Position) (x : Man) (m : Move) (k w : ℕ) (b : Bool) → IsWellFormed p → is_pseudo_legal rule p m ≡ true → m.to < 64
+-- a square is attacked after a move exactly if a man of the word of those that reach it isn't paralysed
+pub attacked_after : (rule : RuleSet) (men : List (Option Man)) (c : Colour) (t w : ℕ) (b : Bool)
+    → w ≡ word (λ s. is_of_colour (man_on men s) (other c) && reaches men s t)
+    → (AreOthers men c w → b ≡ some_square (λ s. bit_at w s == 1 && not (is_paralysed rule men s)))
+    → b ≡ is_attacked rule men t (other c)
+attacked_after rule men c t w b are free =
+    free (record { side = λ s lt on. (and_parts (is_of_colour (man_on men s) (other c)) _ (sym (word_has _ w s are lt) ∙ on)).0 })
+    ∙ attacked_by rule men t w (other c) are
+
+-- the mover is in check exactly if the king's square is attacked then
+pub exposed_is : (rule : RuleSet) (p : Position) (x : Man) (m : Move) (k : ℕ) (b : Bool) → IsWellFormed p → is_pseudo_legal rule p m ≡ true → m.to < 64
     → man_on p.men m.from ≡ Some x → is_simple rule x m (is_some (capture_square p x m)) ≡ true → king_after p x m ≡ Some k
-    → ((men : List (Option Man)) → AreSeen p.men men (other p.turn) (sight_after p.men m.from (capture_square p x m) m.to)
-    → w ≡ word (λ s. is_of_colour (man_on men s) (other p.turn) && reaches men s k))
-    → ((men : List (Option Man)) → AreArrived p.men men x m (sight_after p.men m.from (capture_square p x m) m.to) → AreOthers men x.colour w
-    → b ≡ some_square (λ s. bit_at w s == 1 && not (is_paralysed rule men s)))
+    → ((men : List (Option Man)) → AreArrived p.men men x m (sight_after p.men m.from (capture_square p x m) m.to)
+    → AreSeen p.men men (other x.colour) (sight_after p.men m.from (capture_square p x m) m.to) → b ≡ is_attacked rule men k (other x.colour))
     → b ≡ in_check rule (position_after rule p m).men p.turn
-exposed_is rule p x m k w b well may small here simple king attackers free =
+exposed_is rule p x m k b well may small here simple king attacked =
     let is : IsMade rule p x m = made rule p m x may here in
     let parts : IsSimple rule p x m = simple_parts rule p x m simple in
-    let are : w ≡ word (λ s. is_of_colour (man_on (arrived p x m) s) (other p.turn) && reaches (arrived p x m) s k) =
-    attackers (arrived p x m) (seen_after p.men m.from (capture_square p x m) m.to (arriving_man x m.promo) p.turn (goes_capturing rule p x m well is small)) in
-    let others : AreOthers (arrived p x m) x.colour w = record {
-      side = λ s lt on.
-          let both : (is_of_colour (man_on (arrived p x m) s) (other p.turn) && reaches (arrived p x m) s k) ≡ true = sym (word_has _ w s are lt) ∙ on in
-          ap (λ (c : Colour). is_of_colour (man_on (arrived p x m) s) (other c)) is.mine ∙ (and_parts _ _ both).0;
-    } in
-    free (arrived p x m) (are_arrived rule p x m well is small) others
-    ∙ attacked_by rule (arrived p x m) k w (other p.turn) are
+    attacked (arrived p x m) (are_arrived rule p x m well is small)
+    (subst (λ (c : Colour). AreSeen p.men (arrived p x m) (other c) (sight_after p.men m.from (capture_square p x m) m.to)) (sym is.mine)
+    (seen_after p.men m.from (capture_square p x m) m.to (arriving_man x m.promo) p.turn (goes_capturing rule p x m well is small)))
+    ∙ ap (λ (c : Colour). is_attacked rule (arrived p x m) k (other c)) is.mine
     ∙ sym (check_is rule p x m (Some k) well is small parts king)

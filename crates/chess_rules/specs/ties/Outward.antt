@@ -1,13 +1,13 @@
 -- Lines looked at from the square of arrival, and the ways along them (own).
 use Rattle.std.specs.Prelude.{ℕ, ◌-◌, Bool, false, ◌&&◌, ◌||◌, List, Option, Some, None}
 use Rattle.std.specs.List.{list_any, list_all, range_with_len}
-use Rattle.chess_core.specs.Position.{is_fairy, is_man, man_on, same_colour}
+use Rattle.chess_core.specs.Position.{is_fairy, is_man, man_on, same_colour, same_kind}
 use Rattle.chess_core.specs.Squares.{is_square}
 use Rattle.chess_core.specs.Steps.{along}
 use Rattle.chess_core.specs.declared.man.Man.{Man}
 use Rattle.chess_core.specs.declared.man.Colour.{Colour}
 use Rattle.chess_core.specs.declared.man.Kind.{Kind}
-use Rattle.chess_core.specs.declared.man.Kind.TheVariants.{Queen}
+use Rattle.chess_core.specs.declared.man.Kind.TheVariants.{King, Knight, Pawn, Queen}
 use Rattle.chess_core.specs.declared.step.Step.{Step}
 use Rattle.chess_rules.specs.Reaches.{is_occupied, is_vacant_at, rides}
 
@@ -15,6 +15,13 @@ use Rattle.chess_rules.specs.Reaches.{is_occupied, is_vacant_at, rides}
 abbrev pub is_fairy_man : Option Man → Colour → Bool
 is_fairy_man None c = false
 is_fairy_man (Some x) c = same_colour x.colour c && is_fairy x.kind
+
+-- the man, if there is one, is a king, a knight or a pawn of this colour
+abbrev pub is_leaping_man : Option Man → Colour → Bool
+is_leaping_man None c = false
+is_leaping_man (Some x) c =
+    same_colour x.colour c
+    && (same_kind x.kind King || same_kind x.kind Knight || same_kind x.kind Pawn)
 
 -- a queen or a man of kind k, of this colour, stands on s, and a rider on t gets there by one of the steps
 unfoldable pub is_met : List (Option Man) → Colour → Kind → List Step → ℕ → ℕ → Bool

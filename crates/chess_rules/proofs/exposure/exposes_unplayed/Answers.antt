@@ -20,6 +20,5 @@ returns g c =
     let king : king_after p x m ≡ Some c.in-Some-king_after.king = sym c.king_after.ensures ∙ c.in-Some-king_after.is in
     let seen : c.sight_after-sight.result ≡ sight_after p.men m.from (capture_square p x m) m.to =
     rw (c.capture_square-captured.ensures, from, to) at c.sight_after-sight.ensures in
-    exposed_is g.R.Rules.rule p x m c.in-Some-king_after.king c.attackers_seen-attackers.result c.some_free_after.result c.requires.well_formed
-    c.requires.pseudo small here simple king (rw (seen, c.other.ensures, c.turn.ensures) at c.attackers_seen-attackers.ensures)
-    (λ men are others. search (rules, c.some_free_after.ensures men (rw seen are) others))
+    exposed_is g.R.Rules.rule p x m c.in-Some-king_after.king c.is_attacked_after.result c.requires.well_formed c.requires.pseudo small here simple king
+    (λ men are others. search (rules, c.is_attacked_after.ensures men (rw seen are) (rw seen others)))

@@ -1,6 +1,4 @@
-use Rattle.chess_rules.proofs.Basics.{rules}
-use Rattle.chess_rules.proofs.attacks.Attacking.{is_reached_by}
 use Rattle.chess_rules.proofs.outward.is_reached.Goals as goal
 
 pub returns : goal.returns
-returns c = search (rules, is_reached_by)
+returns c = c.is_attacker_seen.ensures c.args.board.now.men (c.sight_now.ensures c.args.colour)

@@ -1,0 +1,16 @@
+use Rattle.chess_rules.proofs.Basics.{rules}
+use Rattle.chess_rules.proofs.Chess.{other}
+use Rattle.chess_rules.proofs.attacks.Attacking.{attacked_plainly}
+use Rattle.chess_rules.proofs.attacks.Exposing.{attacked_after}
+use Rattle.chess_rules.proofs.exposure.is_attacked_after.Goals as goal
+
+pub returns-then-not-faced_men_stand_still : goal.returns-then-not-faced_men_stand_still
+returns-then-not-faced_men_stand_still g c = λ men are seen.
+    attacked_plainly g.R.Rules.rule men c.args.square (other c.args.man.colour) c.is_attacker_seen.result (search rules)
+    (rw c.other-enemy.ensures at (c.is_attacker_seen.ensures men (rw c.other-enemy.ensures seen)))
+
+pub returns : goal.returns
+returns g c = λ men are seen.
+    attacked_after g.R.Rules.rule men c.args.man.colour c.args.square c.attackers_seen-attackers.result c.some_free_after.result
+    (rw c.other-enemy.ensures at (c.attackers_seen-attackers.ensures men (rw c.other-enemy.ensures seen)))
+    (c.some_free_after.ensures men are)

@@ -1,0 +1,26 @@
+use Rattle.chess_rules.proofs.Basics.{not, sym, ◌==◌, ◌||◌, ◌∙◌}
+use Rattle.chess_rules.proofs.attacks.Attacking.{diagonal_reaches, leap_reaches, some_reach, straight_reaches}
+use Rattle.chess_rules.proofs.outward.is_attacker_seen.Goals as goal
+
+pub returns-then-leapers_seen-ne0 : goal.returns-then-leapers_seen-ne0
+returns-then-leapers_seen-ne0 c = λ men seen.
+    leap_reaches men c.args.colour c.args.square c.leapers_seen.result (rw c.index-small.ensures.value at c.index-small.ensures.small)
+    (c.leapers_seen.ensures men seen) c.if-leapers_seen-ne0.true
+
+pub returns-then-straight_attackers-ne0 : goal.returns-then-straight_attackers-ne0
+returns-then-straight_attackers-ne0 c = λ men seen.
+    straight_reaches men c.args.colour c.args.square c.straight_attackers.result (rw c.index-small.ensures.value at c.index-small.ensures.small)
+    (c.straight_attackers.ensures men seen) c.if-straight_attackers-ne0.true
+
+pub returns-then-diagonal_attackers-ne0 : goal.returns-then-diagonal_attackers-ne0
+returns-then-diagonal_attackers-ne0 c = λ men seen.
+    diagonal_reaches men c.args.colour c.args.square c.diagonal_attackers.result (rw c.index-small.ensures.value at c.index-small.ensures.small)
+    (c.diagonal_attackers.ensures men seen) c.if-diagonal_attackers-ne0.true
+
+pub returns : goal.returns
+returns c = λ men seen.
+    (λ i. ((not (sym c.if-leapers_seen-ne0.false i == 0) || not (sym c.if-straight_attackers-ne0.false i == 0)) || not (sym c.if-diagonal_attackers-ne0.false i == 0))
+    || not (c.fairy_attackers.result == 0))
+    ∙ some_reach men c.args.colour c.args.square c.leapers_seen.result c.straight_attackers.result c.diagonal_attackers.result c.fairy_attackers.result
+    (rw c.index-small.ensures.value at c.index-small.ensures.small) (c.leapers_seen.ensures men seen) (c.straight_attackers.ensures men seen)
+    (c.diagonal_attackers.ensures men seen) (c.fairy_attackers.ensures men seen)
