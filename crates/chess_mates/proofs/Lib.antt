@@ -18,6 +18,7 @@ pub mod LastingFlights
 pub mod HoldBelow
 pub mod Hurdles
 pub mod Risks
+pub mod Homes
 pub mod Sieges
 pub mod Standing
 pub mod Passing

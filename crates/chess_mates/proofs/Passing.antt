@@ -1,20 +1,22 @@
 -- Moves that are plain: who castles, captures en passant or might be captured so.
-use Rattle.chess_rules.proofs.Basics.{Option, and_from, and_left, and_parts, ap, bit_and, bit_at, bit_not, false, false≢true, list_any, not-true, refl, sym, true, true_from_ne_false, w64, ℕ, ◌&&◌, ◌+◌, ◌||◌, ◌<◌, ◌==◌, ◌^◌, ◌∙◌, ◌≡◌}
-use Rattle.chess_mates.proofs.Chess.{AreApproaches, Colour, King, Man, Move, Pawn, Position, halfway, is_advance, is_man, is_square, leaps, man_on, may_go, other, queen_steps, rank_of, same_colour, same_kind, same_kind-true, word}
+use Rattle.chess_rules.proofs.Basics.{None, Some, and_right, bit_or, cond-false, cond-true, inl, inr, is_some, or_cases, or_from, Option, and_from, and_left, and_parts, ap, bit_and, bit_at, bit_not, false, false≢true, list_any, not-true, refl, sym, true, true_from_ne_false, w64, ℕ, ◌&&◌, ◌+◌, ◌||◌, ◌<◌, ◌==◌, ◌^◌, ◌∙◌, ◌≡◌}
+use Rattle.chess_mates.proofs.Chess.{AreApproaches, Black, White, is_of_colour, side_of, Colour, King, Man, Move, Pawn, Position, halfway, is_advance, is_man, is_square, leaps, man_on, may_go, other, queen_steps, rank_of, same_colour, same_kind, same_kind-true, word}
 use Rattle.chess_mates.proofs.Chess.{squares_of}
 use Rattle.chess_rules.specs.Play.{is_castling}
 use Rattle.chess_core.specs.Squares.{file_of}
-use Rattle.chess_mates.specs.ties.Threats.{IsPassing, IsPlainMove}
+use Rattle.chess_mates.specs.ties.Threats.{IsMereMove, IsPassing, IsPlainMove}
+use Rattle.chess_rules.specs.Play.{capture_square}
 use Rattle.chess_core.proofs.Kept.{same_colour-refl}
-use Rattle.chess_rules.proofs.Bits.{word_has}
+use Rattle.chess_rules.proofs.Bits.{off_left, off_right, on_left, on_right, word_has}
 use Rattle.chess_rules.proofs.listing_moves.Targeting.{false_by}
-use Rattle.chess_rules.proofs.making_moves.Fits.{capture_of_piece, pawn_is_no_king}
-use Rattle.chess_rules.proofs.making_moves.Pseudo.{king_is_no_pawn}
+use Rattle.chess_rules.proofs.making_moves.Fits.{capture_of_piece, no_capture, pawn_is_no_king}
+use Rattle.chess_rules.proofs.making_moves.Pseudo.{king_is_no_pawn, pawn_goes}
 use Rattle.chess_rules.proofs.rays.Tables.{king_step_is_no_castling}
 use Rattle.chess_mates.proofs.Approaches.{goes_over_next, no_far_step}
 use Rattle.chess_mates.proofs.Hurdles.{man_is}
 use Rattle.chess_mates.proofs.LastingFlights.{on_both}
-use Rattle.chess_mates.proofs.Risks.{bit_denied, none_at}
+use Rattle.chess_mates.proofs.CheckTargets.{last_rank_on}
+use Rattle.chess_mates.proofs.Risks.{bit_denied, no_pawn_arrives, none_at}
 use Rattle.chess_mates.proofs.Standing.{captured_there}
 
 on_denied : (w i : ℕ) → w < 2 ^ 64 → i < 64 → (bit_at (bit_not w64 w) i == 1) ≡ false → (bit_at w i == 1) ≡ true
@@ -50,6 +52,48 @@ module _ (p : Position) (x : Man) (m : Move) (from : m.from < 64) (to : m.to < 6
           ∙ and_from _ _ (ap (λ (c : Colour). same_colour c (other p.turn)) enemy ∙ same_colour-refl (other p.turn)) pawn in
           none_at (bit_and w l) s none (on_both w l s comes_from stands));
     }
+
+  -- where the man captures nobody, and isn't promoted
+  module _ (a b : ℕ) (white : a ≡ side_of p.men White) (black : b ≡ side_of p.men Black) where
+    nobody_on : (bit_at (bit_or a b) m.to == 1) ≡ false → man_on p.men m.to ≡ None
+    unfolding side_of
+    nobody_on off = by (man_on p.men m.to) refl where
+      there : (z : Man) → man_on p.men m.to ≡ Some z → (c : Colour) → z.colour ≡ c → (bit_at (bit_or a b) m.to == 1) ≡ true
+      there z e White h = on_left a b m.to (word_has (λ s. is_of_colour (man_on p.men s) White) a m.to white to
+          ∙ ap (λ (o : Option Man). is_of_colour o White) e ∙ ap (λ (c : Colour). same_colour c White) h)
+      there z e Black h = on_right a b m.to (word_has (λ s. is_of_colour (man_on p.men s) Black) b m.to black to
+          ∙ ap (λ (o : Option Man). is_of_colour o Black) e ∙ ap (λ (c : Colour). same_colour c Black) h)
+
+      by : (o : Option Man) → man_on p.men m.to ≡ o → o ≡ None
+      by None e = refl
+      by (Some z) e = absurd (false≢true (sym off ∙ there z e z.colour refl))
+
+    -- for a piece
+    pub piece_mere : same_kind x.kind Pawn ≡ false → (bit_at (bit_or a b) m.to == 1) ≡ false → IsMereMove p x m
+    piece_mere piece off = record {
+      captures = no_capture p x m (nobody_on off) (and_left _ _ piece);
+      unpromoted = no_pawn_arrives x m.to piece;
+      file = λ pawn. absurd (false≢true (sym piece ∙ pawn));
+    }
+
+    -- for a pawn
+    pub pawn_mere : (o : ℕ) → o ≡ word (is_square p.crossed) → may_go p x m.from m.to ≡ true → same_kind x.kind Pawn ≡ true
+        → (bit_at (bit_or (bit_or (bit_or a b) o) 18374686479671623935) m.to == 1) ≡ false → IsMereMove p x m
+    unfolding may_go capture_square
+    pawn_mere o crossed goes pawn off =
+        let all = bit_or (bit_or a b) o in
+        let men = off_left all 18374686479671623935 m.to off in
+        let none = nobody_on (off_left (bit_or a b) o m.to men) in
+        let uncrossed : is_square p.crossed m.to ≡ false = sym (word_has (is_square p.crossed) o m.to crossed to) ∙ off_right (bit_or a b) o m.to men in
+        record {
+          captures = rw (none, uncrossed) (cond-false _ _ _ (and_right _ _ refl));
+          unpromoted = false_by _ (λ last. false≢true (sym (off_right all 18374686479671623935 m.to off)
+              ∙ last_rank_on x.colour m.to to (and_parts _ _ last).1));
+          file = λ is. elim (or_cases _ _ (sym (cond-true (same_kind x.kind Pawn) _ _ pawn) ∙ goes)) [
+            | inl takes ↦ absurd (false≢true (sym (or_from _ _ (ap (λ (y : Option Man). is_some y) none) uncrossed) ∙ (and_parts _ _ takes).1))
+            | inr steps ↦ sym (pawn_goes p x (record { from = m.from; to = m.to; promo = None }) steps).ahead
+          ];
+        }
 
   -- for the squares to which each kind goes plainly
   pub pawn_plain : (o : ℕ) → o ≡ word (is_square p.crossed) → same_kind x.kind Pawn ≡ true → (bit_at o m.to == 1) ≡ false → IsPassing p x m → IsPlainMove p x m

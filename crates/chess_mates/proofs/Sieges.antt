@@ -1,13 +1,13 @@
 -- The men of a siege, its castlings and the king's field.
 use Rattle.chess_rules.proofs.Basics.{List, None, Option, Some, and_parts, ap, arith, bit_and, bit_at, bit_not, bit_or, eq-eqb, false, false≢true, inl, inr, list_any, list_any-append, or_cases, refl, subst, sym, true, w64, ℕ, ◌&&◌, ◌+◌, ◌-◌, ◌<◌, ◌==◌, ◌^◌, ◌||◌, ◌∙◌, ◌≡◌, ◌⊎◌}
-use Rattle.chess_mates.proofs.Chess.{Bishop, Colour, Grasshopper, IsWellFormed, Kind, King, Knight, Man, Nightrider, Pawn, Position, Queen, Rook, White, corner, is_fairy, is_man, is_on_some, is_of_colour, is_square, king_square, leaps, man_on, occupied_squares, other, queen_steps}
+use Rattle.chess_mates.proofs.Chess.{Bishop, Colour, Grasshopper, IsWellFormed, Kind, King, Knight, Man, Nightrider, Pawn, Position, Queen, Rook, RuleSet, White, corner, is_fairy, is_man, is_on_some, is_of_colour, is_square, king_square, leaps, man_on, occupied_squares, other, queen_steps}
 use Rattle.chess_mates.proofs.Chess.{diagonal_steps, reaches_as, rides, same_colour, same_kind, side_of, squares, squares_of, straight_steps, word}
 use Rattle.chess_core.specs.Castling.{has_unmoved}
 use Rattle.chess_mates.specs.declared.siege.Attackers.{Attackers}
 use Rattle.chess_mates.specs.declared.siege.Field.{Field}
 use Rattle.chess_mates.specs.declared.siege.Risk.{Risk}
 use Rattle.chess_mates.specs.declared.siege.Siege.{Siege}
-use Rattle.chess_mates.specs.ties.Siege.{AreAttackers, AreCastlingSquares, AreHurdles, AreReached, AreThreats, AreWeak, IsCastlingHarmless, IsField, IsNear, IsRiskAt, IsShut, IsSiege, IsSiegeOf, is_rider, men_on, squares_for}
+use Rattle.chess_mates.specs.ties.Siege.{AreAttackers, AreCastlingSquares, AreClosed, AreHurdles, AreReached, AreThreats, AreWeak, IsCastlingHarmless, IsField, IsNear, IsRiskAt, IsShut, IsSiege, IsSiegeOf, is_rider, men_on, squares_for}
 use Rattle.chess_mates.specs.ties.Threats.{HasNoFairy}
 use Rattle.chess_mates.specs.ties.Siege.{reached_over}
 use Rattle.chess_rules.proofs.Bits.{off_left, off_right, on_left, on_right, word_has}
@@ -20,14 +20,15 @@ use Rattle.chess_mates.proofs.Risks.{on_one, off_word, none_on, weak_never}
 use Rattle.chess_mates.proofs.LastingFlights.{on_both}
 
 -- the king's field
-pub field_is : (v : Siege) (k n r b : ℕ) → n ≡ word (λ t. list_any (leaps k t) queen_steps) → v.hurdles < 2 ^ 64 → v.own < 2 ^ 64 → v.men.kings < 2 ^ 64
+pub field_is : (v : Siege) (k n r b : ℕ) → n ≡ word (λ t. list_any (leaps k t) queen_steps) → v.hurdles < 2 ^ 64 → v.closed < 2 ^ 64 → v.men.kings < 2 ^ 64
     → ((men : List (Option Man)) → v.hurdles ≡ occupied_squares men → r ≡ word (reaches_as men White Rook k))
     → ((men : List (Option Man)) → v.hurdles ≡ occupied_squares men → b ≡ word (reaches_as men White Bishop k))
-    → IsField v (record { king = k; near = bit_and (bit_and n (bit_not w64 v.own)) (bit_not w64 v.men.kings); straight = r; diagonal = b; lines = bit_or r b })
+    → IsField v
+    (record { king = k; near = bit_and (bit_and n (bit_not w64 v.closed)) (bit_not w64 v.men.kings); straight = r; diagonal = b; lines = bit_or r b })
 unfolding reached_over reaches_as
-field_is v k n r b near hurdles own kings rook bishop = record {
+field_is v k n r b near hurdles closed kings rook bishop = record {
   next = λ f small on. sym (word_has (λ t. list_any (leaps k t) queen_steps) n f near small) ∙ on_first n _ f (on_first _ _ f on);
-  own = λ f small on. off_word n v.own f own small (on_first _ _ f on);
+  free = λ f small on. off_word n v.closed f closed small (on_first _ _ f on);
   kings = λ f small on. off_word _ v.men.kings f kings small on;
   straight = λ c. record { inside = straight };
   diagonal = λ c. record { inside = diagonal };
@@ -225,11 +226,12 @@ king_castles_to p c k long short king far near well = king_castles p c (bit_or l
 ))
 
 -- for a siege by the board's men
-pub siege_fits : (p : Position) (v : Siege) → v.men.colour ≡ other p.turn → king_square p.men p.turn ≡ Some v.king → v.own ≡ side_of p.men p.turn
+pub siege_fits : (rule : RuleSet) (p : Position) (v : Siege) → v.men.colour ≡ other p.turn → king_square p.men p.turn ≡ Some v.king
+    → v.own ≡ side_of p.men p.turn
     → v.enemies ≡ side_of p.men v.men.colour → AreAttackers p.men v.men → v.men.kings ≡ squares_of p.men v.men.colour King
-    → AreCastlingSquares p v.men.colour v.castled → IsSiegeOf p v
+    → AreCastlingSquares p v.men.colour v.castled → AreClosed rule p v.closed → IsSiegeOf rule p v
 unfolding squares_of
-siege_fits p v colour king own enemies men kings castled = record {
+siege_fits rule p v colour king own enemies men kings castled closed = record {
   colour = colour;
   men = men;
   own = own;
@@ -238,4 +240,5 @@ siege_fits p v colour king own enemies men kings castled = record {
   kings = λ s small is. word_has (λ q. is_man (man_on p.men q) v.men.colour King) v.men.kings s kings small
       ∙ ap (λ (c : Colour). is_man (man_on p.men s) c King) colour ∙ is;
   castled = subst (λ (c : Colour). AreCastlingSquares p c v.castled) colour castled;
+  closed = closed;
 }

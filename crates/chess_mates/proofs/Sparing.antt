@@ -3,42 +3,46 @@ use Rattle.chess_rules.proofs.Basics.{Bool, List, None, Option, Some, [], and_fr
 use Rattle.chess_mates.proofs.Chess.{Colour, IsWellFormed, Kind, King, Man, Move, Pawn, Position, RuleSet, arriving_man, capture_square, corner, halfway, in_check, is_absent, is_arrival_free, is_attacked, is_attacked_at, is_castling, captures_do_more, is_fairy, is_legal, is_man, is_on_some, is_pseudo_legal, is_of_colour, is_square, king_after, king_square, leaps, man_on, mates, mates_behind, may_check_from, may_go, other, position_after, queen_steps}
 use Rattle.chess_mates.proofs.Chess.{position_after_by, reaches_as, same_colour, same_colour-true, same_kind, side_of, straight_steps, is_attacker, triple_at, word}
 use Rattle.chess_core.specs.Castling.{has_unmoved}
-use Rattle.chess_rules.specs.Play.{is_double_step}
+use Rattle.chess_core.specs.Squares.{file_of}
+use Rattle.chess_rules.specs.Play.{captured_man, is_double_step, rebirth}
+use Rattle.chess_rules.specs.RuleSet.{captures_are_reborn}
 use Rattle.chess_mates.specs.declared.siege.Field.{Field}
 use Rattle.chess_mates.specs.declared.siege.Risk.{Risk}
 use Rattle.chess_mates.specs.declared.siege.Siege.{Siege}
 use Rattle.chess_mates.specs.ties.Flights.{has_flight}
-use Rattle.chess_mates.specs.ties.Siege.{IsArrival, IsAttacker, IsCastlingHarmless, IsCheckWord, IsFlight, IsNear, IsOff, IsQuiet, IsRiskAt, IsShut, IsShutAt, IsSiege, IsSiegeOf, IsUnguarded, IsWeakAt, is_rider, men_on, squares_for}
+use Rattle.chess_mates.specs.ties.Siege.{IsHome, IsArrival, IsAttacker, IsCastlingHarmless, IsCheckWord, IsFlight, IsNear, IsOff, IsQuiet, IsRiskAt, IsShut, IsShutAt, IsSiege, IsSiegeOf, IsUnguarded, IsWeakAt, is_rider, men_on, squares_for}
 use Rattle.chess_mates.specs.ties.Mates.{allows_mate}
-use Rattle.chess_mates.specs.ties.Threats.{AreRisky, HasNoFairy, IsPlainMove}
+use Rattle.chess_mates.specs.ties.Threats.{AreRisky, HasNoFairy, IsMereMove, IsPlainMove}
 use Rattle.chess_rules.specs.ties.Sifting.{AreSifted}
 use Rattle.chess_mates.specs.ties.Siege.{reached_over}
 use Rattle.chess_rules.proofs.Bits.{word_has}
 use Rattle.chess_rules.proofs.attacks.Exposing.{king_is_after}
 use Rattle.chess_rules.proofs.attacks.Seeing.{king_stands, there_now}
-use Rattle.chess_rules.proofs.attacks.Shielding.{arriving_colour, man_there, other_twice, simple_after}
+use Rattle.chess_rules.proofs.attacks.Shielding.{arriving_colour, king_is, man_there, moved_plainly, other_twice, simple_after}
 use Rattle.chess_rules.proofs.attacks.StayingInCheck.{king_there}
 use Rattle.chess_rules.proofs.listing_moves.Arrivals.{may_go_aimed}
 use Rattle.chess_rules.proofs.listing_moves.Targeting.{arrival_needed, false_by}
 use Rattle.chess_rules.proofs.rays.Ends.{square_is}
 use Rattle.chess_rules.proofs.making_moves.Fits.{arrived, arrived_other, capture_of_piece, castle_of, taken}
 use Rattle.chess_rules.proofs.making_moves.Pseudo.{IsCastle, IsMade, made, on_board}
-use Rattle.chess_rules.proofs.making_moves.Stays.{after_well_formed, maker}
+use Rattle.chess_rules.proofs.making_moves.Stays.{IsReborn, after_well_formed, captured_enemy, maker, reborn_is}
+use Rattle.chess_mates.proofs.Rebirths.{after_is}
 use Rattle.chess_mates.proofs.Hurdles.{later, later_but, queen_more, reaches_back}
 use Rattle.chess_mates.proofs.KingsApart.{kings_apart}
 use Rattle.chess_mates.proofs.Fleeing.{IsKingOn, no_king_free, no_mate_with_flight, step_to}
 use Rattle.chess_mates.proofs.Mating.{mates_behind-end, mates_behind-none, no_mate_quietly, not_mating, turn_after}
 use Rattle.chess_rules.proofs.attacks.Shielding.{man_there}
-use Rattle.chess_mates.proofs.Chess.{halfway, same_kind-true}
-use Rattle.chess_mates.proofs.Standing.{stood, not_mine, free_man, unfree, unnamed, arrival_small, captured_there, stays_there, some_stays, some_side, moved_stays, no_hopper, not_mine_enemy, and_left_king, castle_unmoved, piece_reaches, king_reaches, has_one, nobody_strikes}
+use Rattle.chess_mates.proofs.Chess.{halfway, man_on_at, moved_men, put_at, reborn_square, same_kind-true}
+use Rattle.chess_mates.proofs.Standing.{stood, not_mine, free_man, unfree, unnamed, arrival_small, captured_there, stays_there, some_stays, some_side, moved_stays, no_hopper, not_mine_enemy, and_left_king, castle_unmoved, piece_reaches, king_reaches, has_one, mine_again, no_rebirth, nobody_strikes, same_man, stood_reborn}
 use Rattle.chess_mates.proofs.QuietCastling.{castles_quietly}
 use Rattle.chess_core.proofs.Kept.{same_colour-refl}
 
 -- the move m of the defender, plain, without risk
-pub record IsSpared (p : Position) (m : Move) (x : Man) (v : Siege) (k : ℕ) (r : Risk) : Type 0 where
+pub record IsSpared (rule : RuleSet) (p : Position) (m : Move) (x : Man) (v : Siege) (k : ℕ) (r : Risk) : Type 0 where
   pub plain : IsPlainMove p x m
+  pub mere : captures_do_more rule ≡ true → IsMereMove p x m
   pub siege : IsSiege v
-  pub fits : IsSiegeOf p v
+  pub fits : IsSiegeOf rule p v
   pub fairies : HasNoFairy p.men (other p.turn)
   pub at : IsRiskAt v k r
   pub off : IsOff v.hurdles r m.from m.to
@@ -46,8 +50,8 @@ pub record IsSpared (p : Position) (m : Move) (x : Man) (v : Siege) (k : ℕ) (r
   pub off_king : (e : ℕ) → e < 64 → (bit_at v.hurdles e == 1) ≡ true → e ≢ k
 
 module _ (rule : RuleSet) (p : Position) (m : Move) (x : Man) (v : Siege) (k : ℕ) (risk : Risk) (well : IsWellFormed p)
-    (may : is_pseudo_legal rule p m ≡ true) (here : man_on p.men m.from ≡ Some x) (circe : captures_do_more rule ≡ false) (small : m.to < 64) (from : m.from < 64)
-    (king : king_after p x m ≡ Some k) (i : IsSpared p m x v k risk) where
+    (may : is_pseudo_legal rule p m ≡ true) (here : man_on p.men m.from ≡ Some x) (small : m.to < 64) (from : m.from < 64)
+    (king : king_after p x m ≡ Some k) (i : IsSpared rule p m x v k risk) where
   abbrev g : Field
   g = i.at.field
 
@@ -57,8 +61,11 @@ module _ (rule : RuleSet) (p : Position) (m : Move) (x : Man) (v : Siege) (k : �
   abbrev q : Position
   q = position_after rule p m
 
+  nobody : captures_do_more rule ≡ true → capture_square p x m ≡ None
+  nobody circe = (i.mere circe).captures
+
   men_q : q.men ≡ arrived p x m
-  men_q = simple_after rule p x m here i.plain.castling (λ c. absurd (false≢true (sym circe ∙ c)))
+  men_q = simple_after rule p x m here i.plain.castling nobody
 
   turn_q : q.turn ≡ other p.turn
   turn_q = turn_after rule p m may
@@ -184,7 +191,7 @@ module _ (rule : RuleSet) (p : Position) (m : Move) (x : Man) (v : Siege) (k : �
     shuts : (corner next : ℕ) → IsShut p (other p.turn) v.castled corner next → has_unmoved q.unmoved corner ≡ true → man_on q.men next ≡ None → next < 64
         → (bit_at v.castled next == 1) ≡ true
     shuts corner next (inl moved) unmoved none low =
-        absurd (false≢true (sym (moved_stays rule p x m corner circe i.plain.castling here moved) ∙ unmoved))
+        absurd (false≢true (sym (moved_stays rule p x m corner nobody i.plain.castling here moved) ∙ unmoved))
     shuts corner next (inr (inl stands)) unmoved none low =
         let off : next ≢ m.from = λ e. false≢true (sym (not_mine_enemy x p.turn is.mine)
         ∙ sym (ap (λ (o : Option Man). is_of_colour o (other p.turn)) (ap (man_on p.men) e ∙ here)) ∙ stands) in
@@ -212,7 +219,7 @@ module _ (rule : RuleSet) (p : Position) (m : Move) (x : Man) (v : Siege) (k : �
       half_on =
           let unmoved = castle_unmoved rule q y n well_q is_n castling in
           elim (i.fits.castled.sides n.from from_small stands_y) [
-            | inl moved ↦ absurd (false≢true (sym (moved_stays rule p x m n.from circe i.plain.castling here moved) ∙ unmoved.0))
+            | inl moved ↦ absurd (false≢true (sym (moved_stays rule p x m n.from nobody i.plain.castling here moved) ∙ unmoved.0))
             | inr sides ↦ elim castle.far [
               | inl f ↦ shuts (corner n) (halfway n) (rw (f.1.0, f.1.1) sides.0) unmoved.1 castle.between half
               | inr f ↦
@@ -265,8 +272,49 @@ module _ (rule : RuleSet) (p : Position) (m : Move) (x : Man) (v : Siege) (k : �
       abbrev r : Position
       r = position_after rule q n
 
-      men_r : r.men ≡ arrived q y n
-      men_r = simple_after rule q y n here_y plain_n (λ c. absurd (false≢true (sym circe ∙ c)))
+      abbrev landed : List (Option Man)
+      landed = arrived q y n
+
+      men_r : r.men ≡ put_at landed (reborn_square rule q y n) (captured_man q y n)
+      men_r =
+          after_is rule q y n here_y
+          ∙ ap (λ (l : List (Option Man)). put_at l (reborn_square rule q y n) (captured_man q y n)) (moved_plainly q y n plain_n)
+
+      -- who is reborn: one of the defender's men, on a closed square where nobody stood
+      module _ (s : ℕ) (at : reborn_square rule q y n ≡ Some s) where
+        b : IsReborn (captures_are_reborn rule) (moved_men q y n) (captured_man q y n) (capture_square q y n) s
+        b = reborn_is rule q y n s at
+
+        empty_s : man_on landed s ≡ None
+        empty_s = ap (λ (l : List (Option Man)). man_on l s) (sym (moved_plainly q y n plain_n)) ∙ b.empty
+
+        defends : b.man.colour ≡ p.turn
+        defends = mine_again b.man.colour p.turn (ap (same_colour b.man.colour) (sym turn_q) ∙ captured_enemy rule q y n b.man well_q is_n b.who)
+
+        circe : captures_do_more rule ≡ true
+        circe = elim (cases_Bool (captures_do_more rule)) [
+          | inl more ↦ more
+          | inr no_less ↦ absurd (let none = no_rebirth rule q y n (λ c. absurd (false≢true (sym no_less ∙ c))) in cc)
+        ]
+
+        taken_on : b.square ≡ n.to
+        taken_on = captures_q b.square b.where_taken
+
+        stood_there : man_on q.men n.to ≡ Some b.man
+        stood_there = ap (man_on q.men) (sym taken_on) ∙ ap (man_on_at q.men) (sym b.where_taken) ∙ b.who
+
+        home_from : (e : ℕ) → (same_kind b.man.kind Pawn ≡ true → file_of n.to ≡ file_of e) → IsHome b.man e s
+        home_from e file = record { square = n.to; file = file; reborn = ap (rebirth b.man.colour b.man.kind) (sym taken_on) ∙ b.home }
+
+        closed_s : (bit_at v.closed s == 1) ≡ true
+        closed_s = elim (stood_q n.to b.man stood_there) [
+          | inl came ↦
+              let mere = i.mere circe in
+              let same : b.man ≡ x = came.1 ∙ ap (arriving_man x) (unnamed p x m m.promo mere.unpromoted is.promotion) in
+              (i.fits.closed.homes circe).homes m.from s b.man from (here ∙ ap (λ (z : Man). Some z) (sym same)) defends
+              (home_from m.from (λ pawn. ap file_of came.0 ∙ mere.file (ap (λ (z : Man). same_kind z.kind Pawn) (sym same) ∙ pawn)))
+          | inr kept ↦ (i.fits.closed.homes circe).homes n.to s b.man to kept.1.1 defends (home_from n.to (λ pawn. refl))
+        ]
 
       turn_r : r.turn ≡ p.turn
       turn_r = turn_after rule q n can ∙ ap other turn_q ∙ other_twice p.turn
@@ -274,10 +322,9 @@ module _ (rule : RuleSet) (p : Position) (m : Move) (x : Man) (v : Siege) (k : �
       well_r : IsWellFormed r
       well_r = after_well_formed rule q n well_q can
 
-      king_r : king_square r.men p.turn ≡ Some k
-      king_r =
-          ap (λ (l : List (Option Man)). king_square l p.turn) men_r
-          ∙ king_stands q.men n.from (capture_square q y n) n.to (arriving_man y n.promo) p.turn (record {
+      king_landed : king_square landed p.turn ≡ Some k
+      king_landed =
+          king_stands q.men n.from (capture_square q y n) n.to (arriving_man y n.promo) p.turn (record {
             small = omega (arith, to, well_q.size);
             here = ap (λ (o : Option Man). is_man o p.turn King) here_y ∙ and_left (same_colour y.colour p.turn) _ (not_mine y p.turn enemy_y);
             comes = and_left (same_colour (arriving_man y n.promo).colour p.turn) _
@@ -289,9 +336,43 @@ module _ (rule : RuleSet) (p : Position) (m : Move) (x : Man) (v : Siege) (k : �
           })
           ∙ king_q
 
-      stood_r : (s : ℕ) (z : Man) → man_on r.men s ≡ Some z
-          → ((s ≡ n.to) × (z ≡ arriving_man y n.promo)) ⊎ ((s ≢ n.to) × ((s ≢ n.from) × (man_on q.men s ≡ Some z)))
-      stood_r s z there = stood q y n s z (omega (arith, to, well_q.size)) (sym (ap (λ (l : List (Option Man)). man_on l s) men_r) ∙ there)
+      abbrev IsNew : ℕ → Man → Type 0
+      IsNew s z = (z.colour ≡ p.turn) × ((bit_at v.closed s == 1) ≡ true)
+
+      abbrev Stood : ℕ → Man → Type 0
+      Stood s z = ((s ≡ n.to) × (z ≡ arriving_man y n.promo)) ⊎ ((s ≢ n.to) × ((s ≢ n.from) × (man_on q.men s ≡ Some z)))
+
+      -- on a square stands who stood there, or who is reborn there
+      same_or_new : (s : ℕ) → (man_on r.men s ≡ man_on landed s) ⊎ ((man_on landed s ≡ None) × ((z : Man) × ((man_on r.men s ≡ Some z) × IsNew s z)))
+      same_or_new s =
+          let on = ap (λ (l : List (Option Man)). man_on l s) men_r in
+          elim (stood_reborn landed (reborn_square rule q y n) (captured_man q y n) s) [
+            | inl same ↦ inl (on ∙ same)
+            | inr new ↦
+                let who : new.1.0 ≡ (b s new.0).man = same_man _ _ (sym new.1.1.0 ∙ (b s new.0).who) in
+                inr (empty_s s new.0, (new.1.0, (on ∙ new.1.1.1, (ap (λ (z : Man). z.colour) who ∙ defends s new.0, closed_s s new.0))))
+          ]
+
+      king_r : king_square r.men p.turn ≡ Some k
+      king_r = king_is r.men p.turn k well_r.kings at_k (elim (same_or_new k) [
+        | inl same ↦ ap (λ (o : Option Man). is_man o p.turn King) same ∙ (king_there landed p.turn k king_landed).1
+        | inr new ↦ absurd (false≢true (ap (λ (o : Option Man). is_man o p.turn King) (sym new.0) ∙ (king_there landed p.turn k king_landed).1))
+      ])
+
+      stood_r : (s : ℕ) (z : Man) → man_on r.men s ≡ Some z → Stood s z ⊎ IsNew s z
+      stood_r s z there = elim (same_or_new s) [
+        | inl same ↦ inl (stood q y n s z (omega (arith, to, well_q.size)) (sym same ∙ there))
+        | inr new ↦
+            let who : new.1.0 ≡ z = same_man _ _ (sym new.1.1.0 ∙ there) in
+            inr (rw who at new.1.1.1)
+      ]
+
+      -- of the attackers nobody is new
+      enemy_r : (s : ℕ) (z : Man) → man_on r.men s ≡ Some z → z.colour ≡ other p.turn → Stood s z
+      enemy_r s z there enemy = elim (stood_r s z there) [
+        | inl old ↦ old
+        | inr new ↦ absurd (false≢true (sym (not_mine z p.turn enemy) ∙ ap (λ (c : Colour). same_colour c p.turn) new.0 ∙ same_colour-refl p.turn))
+      ]
 
       -- he comes over the hurdles, to another attacker's square only if that one has been captured
       comes_over : reaches_as q.men y.colour y.kind n.from n.to ≡ true → reached_over v.hurdles y n.from n.to ≡ true
@@ -321,9 +402,12 @@ module _ (rule : RuleSet) (p : Position) (m : Move) (x : Man) (v : Siege) (k : �
 
       -- hurdles stay, or the man who captures stands there
       stays_r : (e : ℕ) → e < 64 → (bit_at v.hurdles e == 1) ≡ true → e ≢ m.from → e ≢ n.from → is_some (man_on r.men e) ≡ true
-      stays_r e inside on left off =
-          ap (λ (l : List (Option Man)). is_some (man_on l e)) men_r
-          ∙ some_stays q y n e captures_q (omega (arith, to, well_q.size)) off (stays_q e inside on left)
+      stays_r e inside on left off = elim (same_or_new e) [
+        | inl same ↦
+            ap (λ (o : Option Man). is_some o) same
+            ∙ some_stays q y n e captures_q (omega (arith, to, well_q.size)) off (stays_q e inside on left)
+        | inr new ↦ ap (λ (o : Option Man). is_some o) new.1.1.0
+      ]
 
       -- on a board where they stay
       module _ (men : List (Option Man)) (stays : (e : ℕ) → e < 64 → (bit_at v.hurdles e == 1) ≡ true → e ≢ m.from → e ≢ n.from → is_some (man_on men e) ≡ true)
@@ -376,7 +460,7 @@ module _ (rule : RuleSet) (p : Position) (m : Move) (x : Man) (v : Siege) (k : �
         ]
 
         unseen : (s : ℕ) (z : Man) → s < 64 → man_on r.men s ≡ Some z → z.colour ≡ other p.turn → reaches_as r.men z.colour z.kind s k ≡ false
-        unseen s z inside there enemy = elim (stood_r s z there) [
+        unseen s z inside there enemy = elim (enemy_r s z there enemy) [
           | inl came ↦
               let same : z ≡ y = came.1 ∙ ap (arriving_man y) (unnamed q y n n.promo quiet.check.plain is_n.promotion) in
               rw (same, came.0) comes
@@ -405,26 +489,41 @@ module _ (rule : RuleSet) (p : Position) (m : Move) (x : Man) (v : Siege) (k : �
         on_f : (bit_at g.near f == 1) ≡ true
         on_f = flight.left.on
 
+        open_f : (bit_at v.closed f == 1) ≡ false
+        open_f = i.at.is.free f in_f on_f
+
         own_f : is_of_colour (man_on p.men f) p.turn ≡ false
-        unfolding side_of
-        own_f = sym (word_has (λ s. is_of_colour (man_on p.men s) p.turn) v.own f i.fits.own in_f) ∙ i.at.is.own f in_f on_f
+        own_f = false_by _ (λ own. false≢true (sym open_f ∙ i.fits.closed.own f in_f own))
 
         no_king_f : is_man (man_on p.men f) (other p.turn) King ≡ false
         no_king_f = false_by _ (λ king. false≢true (sym (i.at.is.kings f in_f on_f) ∙ i.fits.kings f in_f king))
+
+        -- who stands there stood there before
+        stood_f : (z : Man) → man_on r.men f ≡ Some z → man_on p.men f ≡ Some z
+        stood_f z e = elim (stood_r f z e) [
+          | inr new ↦ absurd (false≢true (sym open_f ∙ new.1))
+          | inl old ↦ elim old [
+            | inl came ↦ absurd (flight.left.off came.0)
+            | inr kept ↦ elim (stood_q f z kept.1.1) [
+              | inl came ↦ absurd (flight.elsewhere came.0)
+              | inr stays ↦ stays.1.1
+            ]
+          ]
+        ]
 
         free_f : is_arrival_free p.turn (man_on r.men f) ≡ true
         free_f = by (man_on r.men f) refl where
           by : (o : Option Man) → man_on r.men f ≡ o → is_arrival_free p.turn o ≡ true
           by None e = refl
-          by (Some z) e = elim (stood_r f z e) [
-            | inl came ↦ absurd (flight.left.off came.0)
-            | inr kept ↦ elim (stood_q f z kept.1.1) [
-              | inl came ↦ absurd (flight.elsewhere came.0)
-              | inr stays ↦
-                  free_man p.turn (Some z) (ap (λ (o : Option Man). is_of_colour o p.turn) (sym stays.1.1) ∙ own_f)
-                  (ap (λ (o : Option Man). is_man o (other p.turn) King) (sym stays.1.1) ∙ no_king_f)
-            ]
-          ]
+          by (Some z) e =
+              free_man p.turn (Some z) (ap (λ (o : Option Man). is_of_colour o p.turn) (sym (stood_f z e)) ∙ own_f)
+              (ap (λ (o : Option Man). is_man o (other p.turn) King) (sym (stood_f z e)) ∙ no_king_f)
+
+        vacant_f : captures_do_more rule ≡ true → man_on r.men f ≡ None
+        vacant_f circe = by (man_on r.men f) refl where
+          by : (o : Option Man) → man_on r.men f ≡ o → o ≡ None
+          by None e = refl
+          by (Some z) e = absurd (false≢true (sym open_f ∙ i.fits.closed.others circe f in_f (ap (λ (o : Option Man). is_some o) (stood_f z e))))
 
         -- nobody attacks the king who has gone there
         module _ (z : Man) (stands : IsKingOn r.men p.turn k z) where
@@ -445,7 +544,7 @@ module _ (rule : RuleSet) (p : Position) (m : Move) (x : Man) (v : Siege) (k : �
           unreached s u inside there enemy = elim (stood r z (step_to k f) s u (omega (arith, in_f, well_r.size)) there) [
             | inl came ↦
                 absurd (false≢true (sym (not_mine u p.turn enemy) ∙ ap (λ (u : Man). same_colour u.colour p.turn) came.1 ∙ stands.mine))
-            | inr kept ↦ elim (stood_r s u kept.1.1) [
+            | inr kept ↦ elim (enemy_r s u kept.1.1 enemy) [
               | inl came ↦
                   let same : u ≡ y = came.1 ∙ ap (arriving_man y) (unnamed q y n n.promo flight.plain is_n.promotion) in
                   rw (same, came.0) (flight.left.unreached fled)
@@ -458,9 +557,9 @@ module _ (rule : RuleSet) (p : Position) (m : Move) (x : Man) (v : Siege) (k : �
 
         flees : has_flight rule r ≡ true
         flees =
-            has_one rule r p.turn k f well_r circe turn_r king_r in_f (ap (λ (c : ℕ). list_any (leaps c f) queen_steps) (sym i.at.king)
+            has_one rule r p.turn k f well_r turn_r king_r in_f (ap (λ (c : ℕ). list_any (leaps c f) queen_steps) (sym i.at.king)
             ∙ i.at.is.next f in_f on_f)
-            free_f unreached
+            free_f vacant_f unreached
 
       unmated_plainly : mates rule q n ≡ false
       unmated_plainly = elim (w.mild.each n.to arrival recaptures) [

@@ -14,8 +14,9 @@ use Rattle.chess_rules.proofs.making_moves.Fits.{arrived, arrived_other, king_no
 use Rattle.chess_rules.proofs.making_moves.Pseudo.{IsMade, king_is_no_pawn, made}
 use Rattle.chess_mates.proofs.Fleeing.{IsKingOn, IsKingStep, king_on, no_strike, step_is_legal, step_to}
 use Rattle.chess_mates.specs.ties.Flights.{has_flight, is_flight, is_flight_at, is_open}
-use Rattle.chess_mates.proofs.Chess.{king_square, leaps, queen_steps, some_square_true}
-use Rattle.chess_rules.proofs.Basics.{and_from, list_any, not, ◌<◌}
+use Rattle.chess_mates.proofs.Chess.{king_square, leaps, put_at, queen_steps, some_square_true}
+use Rattle.chess_rules.proofs.Basics.{Bool, and_from, list_any, not, ◌<◌}
+use Rattle.chess_rules.proofs.making_moves.Stays.{man_on-with_cases}
 
 -- who stands on a square once a move is made: the man that came, or who stood there
 pub stood : (p : Position) (x : Man) (m : Move) (t : ℕ) (z : Man) → m.to < length p.men → man_on (arrived p x m) t ≡ Some z
@@ -88,10 +89,11 @@ some_stays p x m b here size from some = elim (cases_eq b m.to) [
 pub some_side : (o : Option Man) (c : Colour) → is_of_colour o c ≡ true → is_some o ≡ true
 some_side o c h = grind (arith, false≢true)
 
--- a square that isn't unmoved isn't after a move without rebirth
-no_rebirth : (rule : RuleSet) (p : Position) (x : Man) (m : Move) → captures_do_more rule ≡ false → reborn_square rule p x m ≡ None
+-- nobody is reborn where nobody is captured, or without Circe
+pub no_rebirth : (rule : RuleSet) (p : Position) (x : Man) (m : Move) → (captures_do_more rule ≡ true → capture_square p x m ≡ None)
+    → reborn_square rule p x m ≡ None
 unfolding reborn_square
-no_rebirth rule p x m circe = grind arith
+no_rebirth rule p x m nobody = grind (arith, cases_Bool (captures_do_more rule))
 
 -- who is unmoved after a capture was so before
 unmoved_before : (p : Position) (x : Man) (m : Move) (t : ℕ)
@@ -100,11 +102,23 @@ unmoved_before : (p : Position) (x : Man) (m : Move) (t : ℕ)
 unmoved_before p x m t h = search (rules, has_unmoved-parts)
 
 -- who has moved stays so
-pub moved_stays : (rule : RuleSet) (p : Position) (x : Man) (m : Move) (s : ℕ) → captures_do_more rule ≡ false → is_castling x m ≡ false
-    → man_on p.men m.from ≡ Some x → has_unmoved p.unmoved s ≡ false → has_unmoved (position_after rule p m).unmoved s ≡ false
+pub moved_stays : (rule : RuleSet) (p : Position) (x : Man) (m : Move) (s : ℕ) → (captures_do_more rule ≡ true → capture_square p x m ≡ None)
+    → is_castling x m ≡ false → man_on p.men m.from ≡ Some x → has_unmoved p.unmoved s ≡ false → has_unmoved (position_after rule p m).unmoved s ≡ false
 unfolding position_after position_after_by unmoved_after
-moved_stays rule p x m s circe plain here moved =
-    false_by _ (λ h. false≢true (sym moved ∙ unmoved_before p x m s (rw (here, plain, no_rebirth rule p x m circe) at h)))
+moved_stays rule p x m s nobody plain here moved =
+    false_by _ (λ h. false≢true (sym moved ∙ unmoved_before p x m s (rw (here, plain, no_rebirth rule p x m nobody) at h)))
+
+-- once a man is reborn, who stands on a square stood there, or is reborn there
+pub stood_reborn : (men : List (Option Man)) (o : Option ℕ) (w : Option Man) (s : ℕ)
+    → (man_on (put_at men o w) s ≡ man_on men s) ⊎ ((o ≡ Some s) × ((y : Man) × ((w ≡ Some y) × (man_on (put_at men o w) s ≡ Some y))))
+stood_reborn men o w s = grind (arith, man_on-with_cases)
+
+pub same_man : (a b : Man) → Some a ≡ Some b → a ≡ b
+same_man a b h = cc
+
+-- who is no man of one side is one of the other's
+pub mine_again : (a c : Colour) → same_colour a (other c) ≡ false → a ≡ c
+mine_again a c h = grind arith
 
 -- who is no fairy man is no grasshopper
 pub no_hopper : (k : Kind) → is_fairy k ≡ false → same_kind k Grasshopper ≡ false
@@ -170,10 +184,13 @@ pub nobody_strikes : (rule : RuleSet) (men : List (Option Man)) (t : ℕ) (c : C
 unfolding is_attacked is_attacker
 nobody_strikes rule men t c none = search (rules, no_strike, reach_none men t c none, some_square_false)
 
+nobody_there : (b : Bool) (o : Option Man) → (b ≡ true → o ≡ None) → not (b && is_some o) ≡ true
+nobody_there b o none = grind (arith, cases_Bool b)
+
 -- the king flees to a free square next to him that no enemy reaches once he stands there
-module _ (rule : RuleSet) (p : Position) (c : Colour) (k f : ℕ) (well : IsWellFormed p) (circe : captures_do_more rule ≡ false) (turn : p.turn ≡ c)
+module _ (rule : RuleSet) (p : Position) (c : Colour) (k f : ℕ) (well : IsWellFormed p) (turn : p.turn ≡ c)
     (king : king_square p.men c ≡ Some k) (small : f < 64) (near : list_any (leaps k f) queen_steps ≡ true)
-    (free : is_arrival_free c (man_on p.men f) ≡ true)
+    (free : is_arrival_free c (man_on p.men f) ≡ true) (vacant : captures_do_more rule ≡ true → man_on p.men f ≡ None)
     (unreached : (z : Man) → IsKingOn p.men c k z → (s : ℕ) (u : Man) → s < 64 → man_on (arrived p z (step_to k f)) s ≡ Some u → u.colour ≡ other c
     → reaches_as (arrived p z (step_to k f)) u.colour u.kind s f ≡ false) where
   king_step : (z : Man) → IsKingOn p.men c k z → IsKingStep rule p z k f
@@ -185,7 +202,7 @@ module _ (rule : RuleSet) (p : Position) (c : Colour) (k f : ℕ) (well : IsWell
     king = stands.king;
     small = small;
     near = and_from _ _ (and_from _ _ near (ap (λ (c : Colour). is_arrival_free c (man_on p.men f)) turn ∙ free))
-        (ap not (and_left (captures_do_more rule) _ circe));
+        (nobody_there (captures_do_more rule) (man_on p.men f) vacant);
   }
 
   flees : (z : Man) → IsKingOn p.men c k z → has_flight rule p ≡ true

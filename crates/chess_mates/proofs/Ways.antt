@@ -1,11 +1,11 @@
 -- The ways of a defender to a square that isn't risky: his king goes, or another man, who may leave a line.
 use Rattle.chess_rules.proofs.Basics.{Option, Some, [], and_from, ap, bit_and, bit_at, bit_not, bit_or, cases_lt, cond-true, cond-false, false, false≢true, inl, inr, sym, subst, true, w64, ℕ, ◌<◌, ◌==◌, ◌^◌, ◌∙◌, ◌≡◌}
-use Rattle.chess_mates.proofs.Chess.{Colour, IsWellFormed, King, Man, Move, Position, RuleSet, is_man, is_pseudo_legal, man_on, mates_behind, may_go, other, position_after}
+use Rattle.chess_mates.proofs.Chess.{Colour, IsWellFormed, captures_do_more, King, Man, Move, Position, RuleSet, is_man, is_pseudo_legal, man_on, mates_behind, may_go, other, position_after}
 use Rattle.chess_mates.proofs.Chess.{same_colour, same_kind}
 use Rattle.std.proofs.lemmas.Nat.Bits.{bit_at_above}
 use Rattle.chess_mates.specs.declared.siege.Attackers.{Attackers}
-use Rattle.chess_mates.specs.ties.Siege.{AreAttackers, AreCastlingSquares, IsSafeMove, IsSafeStep}
-use Rattle.chess_mates.specs.ties.Threats.{ArePlain, AreRisky, AreThreatsOf, IsPlainMove, ToldThreats}
+use Rattle.chess_mates.specs.ties.Siege.{AreAttackers, AreCastlingSquares, AreClosed, IsSafeMove, IsSafeStep}
+use Rattle.chess_mates.specs.ties.Threats.{AreMere, ArePlain, AreRisky, AreThreatsOf, IsMereMove, IsPlainMove, ToldThreats}
 use Rattle.chess_rules.proofs.Bits.{off_left, off_right}
 use Rattle.chess_rules.proofs.Tests.{some_is}
 use Rattle.chess_rules.proofs.attacks.Shielding.{king_is}
@@ -20,7 +20,7 @@ use Rattle.chess_core.proofs.Kept.{same_colour-refl}
 
 module _ (rule : RuleSet) (p : Position) (x : Man) (v : ToldThreats) (well : IsWellFormed p) (threats : AreThreatsOf rule p v) where
   module _ (m : Move) (may : is_pseudo_legal rule p m ≡ true) (here : man_on p.men m.from ≡ Some x) (small : m.to < 64) (from : m.from < 64)
-      (plain : IsPlainMove p x m) where
+      (plain : IsPlainMove p x m) (mere : captures_do_more rule ≡ true → IsMereMove p x m) where
     king_spared : same_kind x.kind King ≡ true → IsSafeStep v.siege m.to → mates_behind rule (position_after rule p m) 0 ≡ []
     king_spared king safe =
         let siege = threats.threats.siege in
@@ -28,8 +28,9 @@ module _ (rule : RuleSet) (p : Position) (x : Man) (v : ToldThreats) (well : IsW
         let stands : is_man (man_on p.men m.from) p.turn King ≡ true =
         ap (λ (o : Option Man). is_man o p.turn King) here ∙ and_from _ _ (ap (λ (c : Colour). same_colour c p.turn) mine ∙ same_colour-refl p.turn) king in
         let same : v.siege.king ≡ m.from = some_is v.siege.king m.from (threats.fits.king ∙ king_is p.men p.turn m.from well.kings from stands) in
-        no_mate_behind rule p m x v.siege m.to safe.risk well may here threats.told.circe small from (cond-true (same_kind x.kind King) _ _ king) (record {
+        no_mate_behind rule p m x v.siege m.to safe.risk well may here small from (cond-true (same_kind x.kind King) _ _ king) (record {
           plain = plain;
+          mere = mere;
           siege = siege;
           fits = threats.fits;
           fairies = threats.told.fairies;
@@ -43,9 +44,10 @@ module _ (rule : RuleSet) (p : Position) (x : Man) (v : ToldThreats) (well : IsW
     man_spared mortal safe =
         let l = safe.like in
         let fits = threats.fits in
-        no_mate_behind rule p m x safe.siege v.siege.king safe.risk well may here threats.told.circe small from
+        no_mate_behind rule p m x safe.siege v.siege.king safe.risk well may here small from
         (cond-false (same_kind x.kind King) _ _ mortal ∙ sym fits.king) (record {
           plain = plain;
+          mere = mere;
           siege = l.siege;
           fits = record {
             colour = ap (λ (a : Attackers). a.colour) l.men ∙ fits.colour;
@@ -55,6 +57,7 @@ module _ (rule : RuleSet) (p : Position) (x : Man) (v : ToldThreats) (well : IsW
             king = ap (λ (k : ℕ). Some k) l.king ∙ fits.king;
             kings = λ s inside stands. ap (λ (a : Attackers). bit_at a.kings s == 1) l.men ∙ fits.kings s inside stands;
             castled = subst (λ (c : ℕ). AreCastlingSquares p (other p.turn) c) (sym l.castled) fits.castled;
+            closed = subst (λ (c : ℕ). AreClosed rule p c) (sym l.closed) fits.closed;
           };
           fairies = threats.told.fairies;
           at = safe.at;
@@ -64,7 +67,8 @@ module _ (rule : RuleSet) (p : Position) (x : Man) (v : ToldThreats) (well : IsW
         })
 
   -- of the squares of w those of u, where moves aren't plain, and of r
-  module _ (s w u r : ℕ) (here : man_on p.men s ≡ Some x) (from : s < 64) (fits : w < 2 ^ 64) (plain : ArePlain p x s u) where
+  module _ (s w u r : ℕ) (here : man_on p.men s ≡ Some x) (from : s < 64) (fits : w < 2 ^ 64) (plain : ArePlain p x s u)
+      (mere : captures_do_more rule ≡ true → AreMere p x s u) where
     inside : (t : ℕ) → (bit_at w t == 1) ≡ true → t < 64
     inside t on = elim (cases_lt t 64) [
       | inl small ↦ small
@@ -73,7 +77,8 @@ module _ (rule : RuleSet) (p : Position) (x : Man) (v : ToldThreats) (well : IsW
 
     -- by what spares a move off them
     risky_by : ((m : Move) → is_pseudo_legal rule p m ≡ true → m.from ≡ s → m.to < 64 → (bit_at w m.to == 1) ≡ true → (bit_at u m.to == 1) ≡ false
-        → (bit_at r m.to == 1) ≡ false → IsPlainMove p x m → mates_behind rule (position_after rule p m) 0 ≡ []) → AreRisky rule p s w (bit_and w (bit_or u r))
+        → (bit_at r m.to == 1) ≡ false → IsPlainMove p x m → (captures_do_more rule ≡ true → IsMereMove p x m)
+        → mates_behind rule (position_after rule p m) 0 ≡ []) → AreRisky rule p s w (bit_and w (bit_or u r))
     risky_by spares = record {
       settled = λ m legal origin on off.
           let small = inside m.to on in
@@ -81,7 +86,8 @@ module _ (rule : RuleSet) (p : Position) (x : Man) (v : ToldThreats) (well : IsW
           let both : (bit_at (bit_or u r) m.to == 1) ≡ false = off_second w (bit_or u r) m.to off on in
           let goes : may_go p x s m.to ≡ true = ap (λ (n : ℕ). may_go p x n m.to) (sym origin)
           ∙ may_go_aimed rule p x m (ap (man_on p.men) origin ∙ here) (arrival_needed rule p m small may) in
-          spares m may origin small on (off_left u r m.to both) (off_right u r m.to both) (plain.plain m origin small goes (off_left u r m.to both));
+          spares m may origin small on (off_left u r m.to both) (off_right u r m.to both) (plain.plain m origin small goes (off_left u r m.to both))
+          (λ circe. (mere circe).mere m origin small goes (off_left u r m.to both));
     }
 
     module _ (fits_u : u < 2 ^ 64) where
@@ -89,13 +95,14 @@ module _ (rule : RuleSet) (p : Position) (x : Man) (v : ToldThreats) (well : IsW
       pub steps_are_risky : same_kind x.kind King ≡ true
           → ((t : ℕ) → t < 64 → (bit_at (bit_and w (bit_not w64 u)) t == 1) ≡ true → (bit_at r t == 1) ≡ false → IsSafeStep v.siege t)
           → AreRisky rule p s w (bit_and w (bit_or u r))
-      steps_are_risky king safe = risky_by (λ m may origin small on off none plain.
-          king_spared m may (ap (man_on p.men) origin ∙ here) small (rw origin from) plain king (safe m.to small (denied_on w u m.to fits_u small on off) none))
+      steps_are_risky king safe = risky_by (λ m may origin small on off none plain mere.
+          king_spared m may (ap (man_on p.men) origin ∙ here) small (rw origin from) plain mere king
+          (safe m.to small (denied_on w u m.to fits_u small on off) none))
 
       -- for another man's moves
       pub moves_are_risky : same_kind x.kind King ≡ false
           → ((t : ℕ) → (bit_at (bit_and w (bit_not w64 u)) t == 1) ≡ true → (bit_at r t == 1) ≡ false → IsSafeMove v.siege s t)
           → AreRisky rule p s w (bit_and w (bit_or u r))
-      moves_are_risky mortal safe = risky_by (λ m may origin small on off none plain.
-          man_spared m may (ap (man_on p.men) origin ∙ here) small (rw origin from) plain mortal
+      moves_are_risky mortal safe = risky_by (λ m may origin small on off none plain mere.
+          man_spared m may (ap (man_on p.men) origin ∙ here) small (rw origin from) plain mere mortal
           (rw origin (safe m.to (denied_on w u m.to fits_u small on off) none)))

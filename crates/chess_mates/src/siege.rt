@@ -4,14 +4,16 @@
 ghost use Rattle.std.specs.Prelude.{◌≡◌, ◌≢◌, ◌<◌, ◌==◌, ◌⊎◌, ℕ, Some, true, false};
 ghost use Rattle.std.specs.Int.{bit_at};
 ghost use Rattle.chess_core.specs.Castling.{has_unmoved};
-ghost use Rattle.chess_core.specs.Position.{king_square, other};
+ghost use Rattle.chess_core.specs.Position.{king_square, other, same_kind};
+ghost use Rattle.chess_core.specs.Squares.{file_of};
 ghost use Rattle.chess_core.specs.WellFormed.{IsWellFormed};
-ghost use Rattle.chess_core.specs.declared.man.Kind.TheVariants.{King};
+ghost use Rattle.chess_core.specs.declared.man.Kind.TheVariants.{King, Pawn};
 ghost use Rattle.chess_core.specs.declared.man.Man.{Man};
 ghost use Rattle.chess_mates.specs.declared.siege.Siege.{Siege};
 ghost use Rattle.chess_core.specs.ties.Words.{squares_of};
 ghost use Rattle.chess_mates.specs.ties.LastingFlights.{IsLeft};
-ghost use Rattle.chess_mates.specs.ties.Siege.{AreArrivals, AreAttackers, AreCastlingSquares, AreGuardsWithout, AreHurdles, AreReached, AreThreats, AreWeak, IsAttacker, IsCastlingHarmless, IsCheckWord, IsField, IsHarmless, IsLifted, IsMet, IsNear, IsNoCheck, IsOff, IsReached, IsRiskAt, IsRiskBehind, IsSafeMove, IsSafeStep, IsSiege, IsSiegeOf, IsWeak, LeavesOne, is_leaper, is_rider};
+ghost use Rattle.chess_mates.specs.ties.Siege.{AreArrivals, AreAttackers, AreCastlingSquares, AreClosed, AreGuardsWithout, AreHomes, AreHomesOf, AreHurdles, AreReached, AreThreats, AreWeak, IsAttacker, IsCastlingHarmless, IsCheckWord, IsField, IsHarmless, IsLifted, IsMet, IsNear, IsNoCheck, IsOff, IsReached, IsRiskAt, IsRiskBehind, IsSafeMove, IsSafeStep, IsSiege, IsSiegeOf, IsWeak, LeavesOne, is_leaper, is_rider};
+ghost use Rattle.chess_rules.specs.Play.{rebirth};
 ghost use Rattle.chess_rules.specs.ties.Targets.{is_promoting};
 
 use crate::lasting_flights::open_reach;
@@ -22,6 +24,7 @@ use chess_core::square::{Square, Squares};
 use chess_rules::leaps::king_leaps;
 use chess_rules::lines::straight_lines;
 use chess_rules::reach::reach_over;
+use chess_rules::rules::Rules;
 use chess_rules::words::{contains, next_bit, only};
 
 // The squares of a side's men kind by kind, fairy men apart.
@@ -37,7 +40,7 @@ pub(crate) struct Attackers {
 }
 
 // The men around the defender's king, who stands on `king`: the squares of the defender's men, of the attackers, and of
-// the hurdles; those to which a rook of theirs may castle.
+// the hurdles; those to which a rook of theirs may castle; those to which the king isn't said to flee.
 #[derive(Clone, Copy)]
 pub(crate) struct Siege {
     king: Square,
@@ -46,6 +49,7 @@ pub(crate) struct Siege {
     hurdles: Squares,
     men: Attackers,
     castled: Squares,
+    closed: Squares,
 }
 
 // A king's square, the squares next to it to which he might go, attacks apart, and those of the lines from there: the
@@ -183,7 +187,7 @@ fn critical_after(near: Squares, enemies: Squares, man: Man, targets: Squares) -
 }
 
 // The first rank and the last.
-const LAST_RANKS: Squares = 0xff00_0000_0000_00ff;
+pub(crate) const LAST_RANKS: Squares = 0xff00_0000_0000_00ff;
 
 // Whether the man may promote on one of the squares.
 #[tactic(auto, using(crate::proofs::LastingFlights::no_last_rank, crate::proofs::Risks::no_pawn_arrives))]
@@ -432,7 +436,7 @@ fn field_of(siege: &Siege, king: Square) -> Field
     let diagonal = reach_over(siege.hurdles, Colour::White, Kind::Bishop, king);
     Field {
         king,
-        near: king_leaps(king) & !siege.own & !siege.men.kings,
+        near: king_leaps(king) & !siege.closed & !siege.men.kings,
         straight,
         diagonal,
         lines: straight | diagonal,
@@ -538,12 +542,101 @@ fn hurdles_of(own: Squares, enemies: Squares, king: Square, lifted: Option<Squar
     (own | enemies) & !only(Some(king)) & !only(lifted)
 }
 
+// The squares on which a man of the kind, who is no pawn, may be reborn.
+#[tactic(auto, using(crate::proofs::Homes::home_on))]
+fn homes_of(colour: Colour, kind: Kind) -> Squares
+    ensures { same_kind kind Pawn ≡ false → (t r : ℕ) → rebirth colour kind t ≡ Some r
+        → (bit_at result r == 1) ≡ true }
+{
+    match (colour, kind) {
+        (_, Kind::King) => 0,
+        (_, Kind::Pawn) => 0,
+        (Colour::White, Kind::Queen) => 0x08,
+        (Colour::Black, Kind::Queen) => 0x0800_0000_0000_0000,
+        (Colour::White, Kind::Rook) => 0x81,
+        (Colour::Black, Kind::Rook) => 0x8100_0000_0000_0000,
+        (Colour::White, Kind::Bishop) => 0x24,
+        (Colour::Black, Kind::Bishop) => 0x2400_0000_0000_0000,
+        (Colour::White, Kind::Knight) => 0x42,
+        (Colour::Black, Kind::Knight) => 0x4200_0000_0000_0000,
+        (Colour::White, _) => 0xff00_0000_0000_0000,
+        (Colour::Black, _) => 0xff,
+    }
+}
+
+// The square on which a pawn who is captured on the file of this square is reborn.
+fn pawn_home(colour: Colour, from: Square) -> Squares
+    ensures { (t r : ℕ) → file_of t ≡ file_of from → rebirth colour Pawn t ≡ Some r
+        → (bit_at result r == 1) ≡ true }
+{
+    match colour {
+        Colour::White => only(Square::new(from.file(), 2)),
+        Colour::Black => only(Square::new(from.file(), 7)),
+    }
+}
+
+// The squares on which the pawns may be reborn.
+fn pawn_homes(colour: Colour, pawns: Squares) -> Squares
+    ensures { (s : ℕ) → s < 64 → (bit_at pawns s == 1) ≡ true → (t r : ℕ) → file_of t ≡ file_of s
+        → rebirth colour Pawn t ≡ Some r → (bit_at result r == 1) ≡ true }
+{
+    let mut homes = 0u64;
+    let mut number = 0u8;
+    while let Some(from) = next_bit(pawns, number) {
+        let home = pawn_home(colour, from);
+        homes |= home;
+        number = from.index() + 1;
+    }
+    homes
+}
+
+// The squares on which men of the kind may be reborn, if the colour has any.
+fn homes_on(board: &Board, colour: Colour, kind: Kind) -> Squares
+    ensures { AreHomesOf board.now.men colour kind result }
+{
+    let men = board.squares(colour, kind);
+    if kind.is(Kind::Pawn) {
+        return pawn_homes(colour, men);
+    }
+    if men == 0 {
+        return 0;
+    }
+    homes_of(colour, kind)
+}
+
+// The squares on which men of the colour may be reborn.
+fn home_squares(board: &Board, colour: Colour) -> Squares
+    ensures { AreHomes board.now.men colour result }
+{
+    homes_on(board, colour, Kind::Queen)
+        | homes_on(board, colour, Kind::Rook)
+        | homes_on(board, colour, Kind::Bishop)
+        | homes_on(board, colour, Kind::Knight)
+        | homes_on(board, colour, Kind::Pawn)
+        | homes_on(board, colour, Kind::Grasshopper)
+        | homes_on(board, colour, Kind::Nightrider)
+}
+
+// The squares to which the king of the side to move isn't said to flee: those of his men, and in Circe all those on which
+// a man stands or may be reborn.
+#[tactic(auto, using(crate::proofs::Homes::all_closed, crate::proofs::Homes::own_closed))]
+fn closed_squares<R: Rules>(board: &Board) -> Squares
+    ensures { AreClosed R.rule board.now result }
+{
+    let turn = board.turn();
+    let own = board.side(turn);
+    if !R::captures_do_more() {
+        return own;
+    }
+    own | board.side(turn.other()) | home_squares(board, turn)
+}
+
 // The siege by the board's men of the king of the side to move, who stands on the square.
-pub(crate) fn siege_of(board: &Board, king: Square) -> Siege
+pub(crate) fn siege_of<R: Rules>(board: &Board, king: Square) -> Siege
     ensures siege { IsSiege result }
     ensures king { result.king ≡ king }
     ensures of { IsWellFormed board.now → king_square board.now.men board.now.turn ≡ Some king
-        → IsSiegeOf board.now result }
+        → IsSiegeOf R.rule board.now result }
 {
     let enemy = board.turn().other();
     let own = board.side(board.turn());
@@ -555,6 +648,7 @@ pub(crate) fn siege_of(board: &Board, king: Square) -> Siege
         hurdles: hurdles_of(own, enemies, king, None),
         men: attackers_on(board, enemy),
         castled: castling_squares(board, enemy),
+        closed: closed_squares::<R>(board),
     }
 }
 
@@ -571,9 +665,9 @@ fn lifted_from(siege: &Siege, from: Square) -> Siege
 }
 
 // Whether these are the men on the board, the defender to move.
-pub(crate) fn is_of(siege: &Siege, board: &Board) -> bool
+pub(crate) fn is_of<R: Rules>(siege: &Siege, board: &Board) -> bool
     requires { IsWellFormed board.now }
-    ensures { result ≡ true → IsSiegeOf board.now siege.now }
+    ensures { result ≡ true → IsSiegeOf R.rule board.now siege.now }
 {
     let men = &siege.men;
     let colour = men.colour;
@@ -589,6 +683,7 @@ pub(crate) fn is_of(siege: &Siege, board: &Board) -> bool
         & (men.knights == board.squares(colour, Kind::Knight))
         & (men.pawns == board.squares(colour, Kind::Pawn))
         & (siege.castled == castling_squares(board, colour))
+        & (siege.closed == closed_squares::<R>(board))
 }
 
 // The risk of the siege's own king. On the lines of all riders hurdles count too.

@@ -5,14 +5,16 @@ ghost use Rattle.chess_core.specs.Position.{king_square};
 ghost use Rattle.chess_core.specs.WellFormed.{IsWellFormed};
 ghost use Rattle.chess_core.specs.declared.man.Move.{Move};
 ghost use Rattle.chess_mates.specs.ties.Mates.{mates_behind};
-ghost use Rattle.chess_mates.specs.ties.Threats.{ArePlain, AreRisky, AreThreatsOf, HasNoFairy, IsPassing, IsTold};
+ghost use Rattle.chess_mates.specs.ties.Threats.{AreMere, ArePlain, AreRisky, AreThreatsOf, HasNoFairy, IsPassing, IsTold};
 ghost use Rattle.chess_rules.specs.Legal.{is_legal};
 ghost use Rattle.chess_rules.specs.Play.{position_after};
-ghost use Rattle.chess_rules.specs.RuleSet.{RuleSet};
+ghost use Rattle.chess_rules.specs.RuleSet.{captures_do_more};
 ghost use Rattle.chess_rules.specs.ties.Targets.{may_go};
 
 use crate::open_board::pawns_before;
-use crate::siege::{Risk, Siege, critical_from, is_of, risk_of_siege, risky_steps, siege_of};
+use crate::siege::{
+    LAST_RANKS, Risk, Siege, critical_from, is_of, risk_of_siege, risky_steps, siege_of,
+};
 use chess_core::board::Board;
 use chess_core::man::{Colour, Kind, Man, Move};
 use chess_core::square::{Square, Squares};
@@ -48,7 +50,7 @@ fn contested_squares(board: &Board, man: Man, from: Square) -> Squares
 
 // The squares to which the man on `from` can't go but by castling or capturing en passant, or so that he might be
 // captured so.
-fn unplain_squares(board: &Board, man: Man, from: Square) -> Squares
+fn special_squares(board: &Board, man: Man, from: Square) -> Squares
     ensures { ArePlain board.now man from result }
 {
     // For the proof: a square's number is below 64.
@@ -62,14 +64,42 @@ fn unplain_squares(board: &Board, man: Man, from: Square) -> Squares
     0
 }
 
-// Whether threats can be told: not in Circe, nor where the side that isn't to move has a grasshopper or a nightrider.
+// The squares to which the man can't go but by capturing or being promoted.
+fn altering_squares(board: &Board, man: Man, from: Square) -> Squares
+    ensures { AreMere board.now man from result }
+{
+    // For the proof: a square's number is below 64.
+    let _small = from.index();
+    let men = board.side(Colour::White) | board.side(Colour::Black);
+    if man.kind.is(Kind::Pawn) {
+        men | only(board.crossed()) | LAST_RANKS
+    } else {
+        men
+    }
+}
+
+// The squares for which nothing is told of the man on `from`: in Circe captures and promotions too.
+fn unplain_squares<R: Rules>(board: &Board, man: Man, from: Square) -> Squares
+    ensures plain { ArePlain board.now man from result }
+    ensures mere { captures_do_more R.rule ≡ true → AreMere board.now man from result }
+{
+    let special = special_squares(board, man, from);
+    if !R::captures_do_more() {
+        return special;
+    }
+    special | altering_squares(board, man, from)
+}
+
+// Whether threats can be told: not where the side that isn't to move has a grasshopper or a nightrider, nor where captures
+// do more than that men are reborn.
 fn can_be_told<R: Rules>(board: &Board) -> bool
     ensures { result ≡ true → IsTold R.rule board.now }
 {
-    !R::captures_do_more() && has_no_fairy(board, board.turn().other())
+    (!R::captures_do_more() || R::captures_are_reborn())
+        && has_no_fairy(board, board.turn().other())
 }
 
-// Against so many men or fewer threats aren't told.
+// Against so many men or fewer threats aren't told, but in Circe, where `keeps_flight` tells nothing.
 const FEW_MEN: u32 = 7;
 
 /// What the side that isn't to move threatens, told once a position: to which squares the other side's men mustn't come
@@ -93,24 +123,25 @@ impl Model for Threats {
 
 impl Threats {
     /// The threats to the king of the side to move, who stands on the square.
-    pub fn of(board: &Board, king: Square) -> Threats
-        ensures { (rule : RuleSet) → IsWellFormed board.now → IsTold rule board.now
+    pub fn of<R: Rules>(board: &Board, king: Square) -> Threats
+        ensures { IsWellFormed board.now → IsTold R.rule board.now
             → king_square board.now.men board.now.turn ≡ Some king
-            → AreThreatsOf rule board.now result }
+            → AreThreatsOf R.rule board.now result }
     {
-        let siege = siege_of(board, king);
+        let siege = siege_of::<R>(board, king);
         Threats {
             risk: risk_of_siege(&siege),
             siege,
         }
     }
 
-    /// Whether they are told at all: not in Circe, nor where the side that isn't to move has a grasshopper or a
-    /// nightrider, or few men: there `keeps_flight` takes less time.
+    /// Whether they are told at all: not where the side that isn't to move has a grasshopper or a nightrider, nor, but in
+    /// Circe, where it has few men: there `keeps_flight` takes less time.
     pub fn are_told<R: Rules>(board: &Board) -> bool
         ensures { result ≡ true → IsTold R.rule board.now }
     {
-        board.side(board.turn().other()).count_ones() > FEW_MEN && can_be_told::<R>(board)
+        (R::captures_do_more() || board.side(board.turn().other()).count_ones() > FEW_MEN)
+            && can_be_told::<R>(board)
     }
 
     /// Whether these are the threats in the board's position: they hold in each with the same men and castlings and the
@@ -119,7 +150,7 @@ impl Threats {
         requires { IsWellFormed board.now }
         ensures { result ≡ true → AreThreatsOf R.rule board.now self.now }
     {
-        can_be_told::<R>(board) && is_of(&self.siege, board)
+        can_be_told::<R>(board) && is_of::<R>(&self.siege, board)
     }
 
     /// Those of the squares that the man on `from` mustn't come to lest a reply may mate. So he mustn't where kings castle
@@ -134,7 +165,7 @@ impl Threats {
         };
         // For the proof: a square's number is below 64.
         let _small = from.index();
-        let unplain = unplain_squares(board, man, from);
+        let unplain = unplain_squares::<R>(board, man, from);
         if man.kind.is(Kind::King) {
             let steps = squares & !unplain;
             return squares & (unplain | risky_steps(&self.siege, steps));

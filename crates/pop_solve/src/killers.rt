@@ -103,7 +103,7 @@ impl<R: Rules> Killers<R> {
                 return;
             }
         }
-        self.threats = Some(Threats::of(board, king));
+        self.threats = Some(Threats::of::<R>(board, king));
     }
 
     /// Whether no reply to this move mates, told by `keeps_flight` or by the threats in the board's position, which are kept

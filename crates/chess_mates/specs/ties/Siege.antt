@@ -1,10 +1,10 @@
 -- A king's siege, told over hurdles: the squares of all men but the king (own).
-use Rattle.std.specs.Prelude.{◌≡◌, ◌≢◌, ◌<◌, ◌==◌, ◌⊎◌, ◌+◌, ◌-◌, ℕ, Bool, true, false, List, Option, Some, None, map, if◌then◌else◌}
+use Rattle.std.specs.Prelude.{◌≡◌, ◌≢◌, ◌<◌, ◌==◌, ◌⊎◌, ◌+◌, ◌-◌, ℕ, Bool, true, false, List, Option, Some, None, is_some, map, if◌then◌else◌}
 use Rattle.std.specs.Int.{bit_at}
 use Rattle.std.specs.List.{list_any}
 use Rattle.chess_core.specs.Castling.{has_unmoved}
 use Rattle.chess_core.specs.Position.{Position, is_fairy, is_man, is_of_colour, king_square, man_on, other, same_kind}
-use Rattle.chess_core.specs.Squares.{squares}
+use Rattle.chess_core.specs.Squares.{file_of, squares}
 use Rattle.chess_core.specs.Steps.{queen_steps, straight_steps}
 use Rattle.chess_core.specs.declared.man.Colour.{Colour}
 use Rattle.chess_core.specs.declared.man.Colour.TheVariants.{White}
@@ -18,7 +18,9 @@ use Rattle.chess_mates.specs.declared.siege.Guards.{Guards}
 use Rattle.chess_mates.specs.declared.siege.Risk.{Risk}
 use Rattle.chess_mates.specs.declared.siege.Siege.{Siege}
 use Rattle.chess_mates.specs.ties.LastingFlights.{IsLeft}
+use Rattle.chess_rules.specs.Play.{rebirth}
 use Rattle.chess_rules.specs.Reaches.{leaps, reaches_as}
+use Rattle.chess_rules.specs.RuleSet.{RuleSet, captures_do_more}
 use Rattle.chess_rules.specs.ties.Lines.{is_on_some}
 use Rattle.chess_rules.specs.ties.Targets.{is_promoting, may_go}
 
@@ -105,8 +107,33 @@ pub record AreCastlingSquares (p : Position) (c : Colour) (w : ℕ) : Type 0 whe
   pub sides : (s : ℕ) → s < 64 → is_man (man_on p.men s) c King ≡ true
       → (has_unmoved p.unmoved s ≡ false) ⊎ (IsShut p c w (s + 3) (s + 1) × IsShut p c w (s - 4) (s - 1))
 
+-- z on s may be captured somewhere and reborn on r: a pawn on the file where he stands
+pub record IsHome (z : Man) (s r : ℕ) : Type 0 where
+  pub square : ℕ
+  pub file : same_kind z.kind Pawn ≡ true → file_of square ≡ file_of s
+  pub reborn : rebirth z.colour z.kind square ≡ Some r
+
+-- the word has each such square of the colour's men of this kind
+pub record AreHomesOf (men : List (Option Man)) (c : Colour) (k : Kind) (w : ℕ) : Type 0 where
+  pub homes : (s r : ℕ) (z : Man) → s < 64 → man_on men s ≡ Some z → z.colour ≡ c → z.kind ≡ k
+      → IsHome z s r → (bit_at w r == 1) ≡ true
+
+-- of all its men
+pub record AreHomes (men : List (Option Man)) (c : Colour) (w : ℕ) : Type 0 where
+  pub homes : (s r : ℕ) (z : Man) → s < 64 → man_on men s ≡ Some z → z.colour ≡ c → IsHome z s r
+      → (bit_at w r == 1) ≡ true
+
+-- the word has the squares of the side to move; where captures do more those of all men, and those on which
+-- one of its men may be reborn
+pub record AreClosed (rule : RuleSet) (p : Position) (w : ℕ) : Type 0 where
+  pub own : (s : ℕ) → s < 64 → is_of_colour (man_on p.men s) p.turn ≡ true
+      → (bit_at w s == 1) ≡ true
+  pub others : captures_do_more rule ≡ true → (s : ℕ) → s < 64
+      → is_some (man_on p.men s) ≡ true → (bit_at w s == 1) ≡ true
+  pub homes : captures_do_more rule ≡ true → AreHomes p.men p.turn w
+
 -- its men are those of the position, the defender to move
-pub record IsSiegeOf (p : Position) (v : Siege) : Type 0 where
+pub record IsSiegeOf (rule : RuleSet) (p : Position) (v : Siege) : Type 0 where
   pub colour : v.men.colour ≡ other p.turn
   pub men : AreAttackers p.men v.men
   pub own : v.own ≡ side_of p.men p.turn
@@ -115,6 +142,7 @@ pub record IsSiegeOf (p : Position) (v : Siege) : Type 0 where
   pub kings : (s : ℕ) → s < 64 → is_man (man_on p.men s) (other p.turn) King ≡ true
       → (bit_at v.men.kings s == 1) ≡ true
   pub castled : AreCastlingSquares p (other p.turn) v.castled
+  pub closed : AreClosed rule p v.closed
 
 -- wherever the defender comes, critical squares apart, another square of the word is left; where an enemy stands, x
 -- comes only after a capture there
@@ -212,11 +240,11 @@ pub record IsWeak (v : Siege) (g : Field) (r : Risk) (x : Man) (s : ℕ) : Type 
 pub record AreWeak (v : Siege) (g : Field) (r : Risk) : Type 0 where
   pub weak : (s : ℕ) (x : Man) → IsAttacker v.men x s → IsWeak v g r x s
 
--- the field of the king: squares next to him on which no man of his stands, nor the enemy's king; his lines
+-- the field of the king: squares next to him that aren't closed, and without the enemy's king; his lines
 pub record IsField (v : Siege) (g : Field) : Type 0 where
   pub next : (f : ℕ) → f < 64 → (bit_at g.near f == 1) ≡ true
       → list_any (leaps g.king f) queen_steps ≡ true
-  pub own : (f : ℕ) → f < 64 → (bit_at g.near f == 1) ≡ true → (bit_at v.own f == 1) ≡ false
+  pub free : (f : ℕ) → f < 64 → (bit_at g.near f == 1) ≡ true → (bit_at v.closed f == 1) ≡ false
   pub kings : (f : ℕ) → f < 64 → (bit_at g.near f == 1) ≡ true → (bit_at v.men.kings f == 1) ≡ false
   pub straight : (c : Colour)
       → IsReached v.hurdles (record { colour = c; kind = Rook }) g.king g.straight
@@ -250,6 +278,7 @@ pub record IsLike (v w : Siege) : Type 0 where
   pub enemies : w.enemies ≡ v.enemies
   pub men : w.men ≡ v.men
   pub castled : w.castled ≡ v.castled
+  pub closed : w.closed ≡ v.closed
 
 -- without a hurdle on this square
 pub record IsLifted (v : Siege) (from : ℕ) (w : Siege) : Type 0 where

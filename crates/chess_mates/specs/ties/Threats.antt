@@ -1,7 +1,8 @@
 -- Threats of mate, told before the defender's move (own).
-use Rattle.std.specs.Prelude.{◌≡◌, ◌<◌, ◌==◌, ℕ, true, false, List, [], Option, Some}
+use Rattle.std.specs.Prelude.{◌≡◌, ◌<◌, ◌==◌, ℕ, true, false, List, [], Option, Some, None}
 use Rattle.std.specs.Int.{bit_at}
 use Rattle.chess_core.specs.Position.{Position, is_fairy, man_on, other, same_kind}
+use Rattle.chess_core.specs.Squares.{file_of}
 use Rattle.chess_core.specs.declared.man.Colour.{Colour}
 use Rattle.chess_core.specs.declared.man.Kind.TheVariants.{Pawn}
 use Rattle.chess_core.specs.declared.man.Man.{Man}
@@ -12,17 +13,17 @@ use Rattle.chess_mates.specs.ties.Mates.{mates_behind}
 use Rattle.chess_mates.specs.ties.Siege.{AreThreats, IsSiegeOf}
 use Rattle.chess_rules.specs.Legal.{is_legal}
 use Rattle.chess_rules.specs.Play.{capture_square, halfway, is_castling, is_double_step, position_after}
-use Rattle.chess_rules.specs.RuleSet.{RuleSet, captures_do_more}
-use Rattle.chess_rules.specs.ties.Targets.{may_go}
+use Rattle.chess_rules.specs.RuleSet.{RuleSet, captures_are_reborn, captures_do_more}
+use Rattle.chess_rules.specs.ties.Targets.{is_promoting, may_go}
 
 -- no man of the colour is a fairy man
 pub record HasNoFairy (men : List (Option Man)) (c : Colour) : Type 0 where
   pub none : (s : ℕ) (x : Man) → s < 64 → man_on men s ≡ Some x → x.colour ≡ c
       → is_fairy x.kind ≡ false
 
--- threats are told: without Circe, against a side that has no fairy man
+-- threats are told: where all that captures do more is that men are reborn, against a side that has no fairy man
 pub record IsTold (rule : RuleSet) (p : Position) : Type 0 where
-  pub circe : captures_do_more rule ≡ false
+  pub captures : captures_do_more rule ≡ true → captures_are_reborn rule ≡ true
   pub fairies : HasNoFairy p.men (other p.turn)
 
 -- what is told: a siege, and the risk of its king
@@ -33,7 +34,7 @@ pub record ToldThreats : Type 0 where
 -- it is told of this position
 pub record AreThreatsOf (rule : RuleSet) (p : Position) (t : ToldThreats) : Type 0 where
   pub told : IsTold rule p
-  pub fits : IsSiegeOf p t.siege
+  pub fits : IsSiegeOf rule p t.siege
   pub threats : AreThreats t.siege t.risk
 
 -- if x goes two squares as a pawn, no enemy pawn might come to the square between
@@ -52,6 +53,17 @@ pub record IsPlainMove (p : Position) (x : Man) (m : Move) : Type 0 where
 pub record ArePlain (p : Position) (x : Man) (s w : ℕ) : Type 0 where
   pub plain : (m : Move) → m.from ≡ s → m.to < 64 → may_go p x s m.to ≡ true
       → (bit_at w m.to == 1) ≡ false → IsPlainMove p x m
+
+-- x captures nobody, isn't promoted, and as a pawn stays on his file
+pub record IsMereMove (p : Position) (x : Man) (m : Move) : Type 0 where
+  pub captures : capture_square p x m ≡ None
+  pub unpromoted : is_promoting x m.to ≡ false
+  pub file : same_kind x.kind Pawn ≡ true → file_of m.to ≡ file_of m.from
+
+-- so x moves from s to each square that isn't in the word
+pub record AreMere (p : Position) (x : Man) (s w : ℕ) : Type 0 where
+  pub mere : (m : Move) → m.from ≡ s → m.to < 64 → may_go p x s m.to ≡ true
+      → (bit_at w m.to == 1) ≡ false → IsMereMove p x m
 
 -- no reply mates after a legal move from s to one of the squares, but for risky ones
 pub record AreRisky (rule : RuleSet) (p : Position) (s squares risky : ℕ) : Type 0 where

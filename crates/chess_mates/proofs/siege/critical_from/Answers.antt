@@ -24,7 +24,7 @@ returns-else-contains c = λ t on off.
     let hidden : (bit_at c.args.risk.now.lines c.args.from == 1) ≡ false = sym c.contains.ensures ∙ c.if-contains.false in
     record {
       siege = c.args.siege.now;
-      like = record { siege = c.requires.siege; king = refl; own = refl; enemies = refl; men = refl; castled = refl };
+      like = record { siege = c.requires.siege; king = refl; own = refl; enemies = refl; men = refl; castled = refl; closed = refl };
       risk = c.args.risk.now;
       at = c.requires.risk;
       off = record { lines = λ on. hidden; critical = off };

@@ -4,8 +4,9 @@ use Rattle.chess_mates.proofs.Sieges.{attackers_are, siege_fits}
 use Rattle.chess_mates.proofs.siege.is_of.Goals as goal
 
 pub returns : goal.returns
-returns c = λ yes.
-    let castled = and_parts _ _ yes in
+returns g c = λ yes.
+    let closed = and_parts _ _ yes in
+    let castled = and_parts _ _ closed.0 in
     let knights = and_parts _ _ castled.0 in
     let bishops = and_parts _ _ knights.0 in
     let rooks = and_parts _ _ bishops.0 in
@@ -14,7 +15,7 @@ returns c = λ yes.
     let enemies = and_parts _ _ kings.0 in
     let own = and_parts _ _ enemies.0 in
     let kings_are = eqb-true _ _ enemies.1 ∙ c.squares.ensures.word in
-    siege_fits c.args.board.now c.args.siege.now
+    siege_fits g.R.Rules.rule c.args.board.now c.args.siege.now
     (same_colour-true _ _ (sym c.is.ensures ∙ c.if-not-is.false) ∙ c.other.ensures ∙ ap other c.turn.ensures)
     (search (rules, c.king_of.ensures, c.if-ne.false, c.turn-else-not-is.ensures))
     (eqb-true _ _ own.0 ∙ c.side.ensures ∙ ap (side_of c.args.board.now.men) c.turn-2.ensures) (eqb-true _ _ own.1 ∙ c.side-2.ensures)
@@ -23,3 +24,4 @@ returns c = λ yes.
     (eqb-true _ _ rooks.1 ∙ c.squares-4.ensures.word) (eqb-true _ _ bishops.1 ∙ c.squares-5.ensures.word)
     (eqb-true _ _ knights.1 ∙ c.squares-6.ensures.word))
     kings_are (rw (← eqb-true _ _ castled.1) at (c.castling_squares.ensures c.requires))
+    (rw (← eqb-true _ _ closed.1) at c.closed_squares.ensures)

@@ -10,6 +10,7 @@ returns c = record {
     enemies = refl;
     men = refl;
     castled = refl;
+    closed = refl;
   };
   off = c.hurdles_of.ensures.lifted c.args.from (omega (arith, c.index-small.ensures.value, c.index-small.ensures.small)) refl;
 }

@@ -4,12 +4,12 @@ use Rattle.chess_mates.proofs.Sieges.{siege_fits}
 use Rattle.chess_mates.proofs.siege.siege_of.Goals as goal
 
 pub returns-clause-siege : goal.returns-clause-siege
-returns-clause-siege c = record { hurdles = c.hurdles_of.ensures.are }
+returns-clause-siege g c = record { hurdles = c.hurdles_of.ensures.are }
 
 pub returns-clause-of : goal.returns-clause-of
-returns-clause-of c = λ well king.
+returns-clause-of g c = λ well king.
     let p = c.args.board.now in
     let men = c.attackers_on.ensures in
-    siege_fits p _ (men.colour ∙ c.other-enemy.ensures ∙ ap other c.turn.ensures) king (c.side-own.ensures ∙ ap (side_of p.men) c.turn-2.ensures)
+    siege_fits g.R.Rules.rule p _ (men.colour ∙ c.other-enemy.ensures ∙ ap other c.turn.ensures) king (c.side-own.ensures ∙ ap (side_of p.men) c.turn-2.ensures)
     (c.side-enemies.ensures ∙ ap (side_of p.men) (sym men.colour)) men.men (rw men.colour men.kings)
-    (rw men.colour (c.castling_squares.ensures well))
+    (rw men.colour (c.castling_squares.ensures well)) c.closed_squares.ensures

@@ -1,10 +1,10 @@
 use Rattle.chess_mates.proofs.threats.Threats.of.Goals as goal
 
 pub invariant_of-result : goal.invariant_of-result
-invariant_of-result c = c.risk_of_siege.ensures
+invariant_of-result g c = c.risk_of_siege.ensures
 
 pub returns : goal.returns
-returns c = λ rule well told king. record {
+returns g c = λ well told king. record {
   told = told;
   fits = c.siege_of-siege.ensures.of well king;
   threats = c.risk_of_siege.ensures;

@@ -22,7 +22,8 @@ returns-then-is g c =
     let siege = ap (λ (t : ToldThreats). t.siege) c.self.view_is in
     let here : man_on p.men c.args.from ≡ Some c.in-Some.man = sym c.man_at.ensures ∙ c.in-Some.is in
     steps_are_risky g.R.Rules.rule p c.in-Some.man v c.requires.well_formed c.requires.threats c.args.from c.args.squares c.unplain_squares-unplain.result
-    c.risky_steps.result here (omega (arith, c.index-small.ensures.value, c.index-small.ensures.small)) (omega arith) c.unplain_squares-unplain.ensures
+    c.risky_steps.result here (omega (arith, c.index-small.ensures.value, c.index-small.ensures.small)) (omega arith) c.unplain_squares-unplain.ensures.plain
+    c.unplain_squares-unplain.ensures.mere
     (omega arith) (sym c.is.ensures ∙ c.if-is.true) (rw siege at c.risky_steps.ensures)
 
 pub returns : goal.returns
@@ -32,5 +33,6 @@ returns g c =
     let siege = ap (λ (t : ToldThreats). t.siege) c.self.view_is in
     let here : man_on p.men c.args.from ≡ Some c.in-Some.man = sym c.man_at.ensures ∙ c.in-Some.is in
     moves_are_risky g.R.Rules.rule p c.in-Some.man v c.requires.well_formed c.requires.threats c.args.from c.args.squares c.unplain_squares-unplain.result
-    c.critical_from.result here (omega (arith, c.index-small.ensures.value, c.index-small.ensures.small)) (omega arith) c.unplain_squares-unplain.ensures
+    c.critical_from.result here (omega (arith, c.index-small.ensures.value, c.index-small.ensures.small)) (omega arith) c.unplain_squares-unplain.ensures.plain
+    c.unplain_squares-unplain.ensures.mere
     (omega arith) (sym c.is.ensures ∙ c.if-is.false) (rw siege at c.critical_from.ensures)
