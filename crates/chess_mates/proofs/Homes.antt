@@ -112,7 +112,7 @@ own_closed rule p c w turn side plain = let own : w ≡ side_of p.men p.turn = s
 }
 
 -- a man is one side's or the other's
-some_of : (o : Option Man) (c : Colour) → is_some o ≡ true → (is_of_colour o c ≡ true) ⊎ (is_of_colour o (other c) ≡ true)
+pub some_of : (o : Option Man) (c : Colour) → is_some o ≡ true → (is_of_colour o c ≡ true) ⊎ (is_of_colour o (other c) ≡ true)
 some_of o c h = grind (arith, cases_Bool (is_of_colour o c))
 
 -- in Circe

@@ -1,13 +1,15 @@
 -- What men reach over hurdles, the squares of a word, and later on the board.
 use Rattle.chess_rules.proofs.Basics.{Bool, List, None, Option, Some, [], ◌∷◌, and_from, and_parts, ap, arith, bit_at, bit_at-lt, bit_or, cases_lt, eq-eqb, false, false≢true, if◌then◌else◌, get_or-map-range_with_len, inl, inr, is_some, length, length-map-range_with_len, list_any, list_any-append, not, not-true, or_cases, or_left, or_right, refl, subst, suc, sym, true, zero, ℕ, ◌&&◌, ◌+◌, ◌-◌, ◌<◌, ◌≤◌, ◌==◌, ◌^◌, ◌||◌, ◌∙◌, ◌≡◌, ◌⊎◌}
-use Rattle.chess_rules.proofs.Basics.{cases_eq, ◌≢◌}
+use Rattle.chess_rules.proofs.Basics.{cases_Bool, cases_eq, find, range_with_len, ◌≢◌}
+use Rattle.chess_mates.proofs.Chess.{find_first}
+use Rattle.chess_mates.proofs.FarMen.{on_either}
 use Rattle.chess_mates.proofs.Chess.{Bishop, Colour, Grasshopper, Kind, King, Knight, Man, Nightrider, Pawn, Queen, Rook, Step, White, all_at, along, any_range_cases, any_range_false, diagonal_steps, is_clear, is_fairy, is_square, is_vacant_at, leaps, man_on, occupied_squares, other, queen_steps}
 use Rattle.chess_mates.proofs.Chess.{reaches_as, rides, same_kind, squares, straight_steps, word}
 use Rattle.chess_core.proofs.Ranges.{all_range_true, any_range_true}
 use Rattle.chess_core.proofs.Words.{square_word}
 use Rattle.chess_core.specs.ties.Words.{bit_of}
 use Rattle.chess_mates.specs.declared.siege.Attackers.{Attackers}
-use Rattle.chess_mates.specs.ties.Siege.{AreReached, IsAttacker, IsNear, IsReached, is_leaper, is_rider, men_on, squares_for}
+use Rattle.chess_mates.specs.ties.Siege.{AreReached, IsAttackedOver, IsAttacker, IsNear, IsReached, IsReachedFrom, is_leaper, is_rider, men_on, squares_for}
 use Rattle.chess_mates.specs.ties.Siege.{reached_over}
 use Rattle.chess_rules.proofs.Bits.{on_left, on_right, word_has}
 use Rattle.chess_rules.proofs.rays.Flips.{diagonal-back, king-back, knight-back, nightrider-back, pawn-back, queen_rides-back, straight-back}
@@ -21,6 +23,13 @@ reached_left d x s a b h = record { inside = λ t small r. on_left a b t (h.insi
 -- the second has
 pub reached_right : (d : ℕ) (x : Man) (s a b : ℕ) → IsReached d x s b → IsReached d x s (bit_or a b)
 reached_right d x s a b h = record { inside = λ t small r. on_right a b t (h.inside t small r) }
+
+-- a square of one of two words
+pub on_one : (a b i : ℕ) → (bit_at (bit_or a b) i == 1) ≡ true → ((bit_at a i == 1) ≡ true) ⊎ ((bit_at b i == 1) ≡ true)
+on_one a b i h = elim (cases_Bool (bit_at a i == 1)) [
+  | inl on ↦ inl on
+  | inr off ↦ inr (on_either a b i h off)
+]
 
 -- men on the squares of a word
 bit_small : (d s : ℕ) → bit_at d s ≡ bit_of (bit_at d s == 1)
@@ -39,14 +48,14 @@ on_word d s small = get_or-map-range_with_len (placed d) 0 64 s s None small (om
 is_one : (b : Bool) → is_some (one_if b) ≡ b
 is_one b = grind arith
 
-one_on : (d s : ℕ) → s < 64 → is_some (man_on (men_on d) s) ≡ (bit_at d s == 1)
+pub one_on : (d s : ℕ) → s < 64 → is_some (man_on (men_on d) s) ≡ (bit_at d s == 1)
 one_on d s small = ap (λ (o : Option Man). is_some o) (on_word d s small) ∙ is_one (bit_at d s == 1)
 
 -- the squares of men on the squares of a word are that word
 occupied_on : (d : ℕ) → d < 2 ^ 64 → d ≡ occupied_squares (men_on d)
 occupied_on d fits = square_word (λ s. is_some (man_on (men_on d) s)) d fits (λ s small. bit_small d s ∙ ap bit_of (sym (one_on d s small)))
 
-size_on : (d : ℕ) → length (men_on d) ≡ 64
+pub size_on : (d : ℕ) → length (men_on d) ≡ 64
 unfolding squares
 size_on d = length-map-range_with_len (placed d) 0 64
 
@@ -57,6 +66,17 @@ unfolding reached_over
 reached_is d x s r fits h = record {
   inside = λ t small reached. word_has (reaches_as (men_on d) x.colour x.kind s) r t (h (men_on d) (occupied_on d fits)) small ∙ reached;
 }
+
+-- and nothing else
+pub reached_alone : (d : ℕ) (x : Man) (s r : ℕ) → d < 2 ^ 64
+    → ((men : List (Option Man)) → d ≡ occupied_squares men → r ≡ word (reaches_as men x.colour x.kind s)) → (t : ℕ) → t < 64 → (bit_at r t == 1) ≡ true
+    → reached_over d x s t ≡ true
+unfolding reached_over
+reached_alone d x s r fits h t small on = sym (word_has (reaches_as (men_on d) x.colour x.kind s) r t (h (men_on d) (occupied_on d fits)) small) ∙ on
+
+-- for a loop over a word: each square found is one of it
+pub found_on : (w n k : ℕ) → find (λ s. bit_at w s == 1) (range_with_len n (64 - n)) ≡ Some k → (k < 64) × ((bit_at w k == 1) ≡ true)
+found_on w n k found = let first = find_first (λ s. bit_at w s == 1) n (64 - n) k found in (omega (arith, first.low, first.high), first.here)
 
 -- a man by his colour and his kind
 pub man_is : (x : Man) (c : Colour) (k : Kind) → x.colour ≡ c → x.kind ≡ k → record { colour = c; kind = k } ≡ x
@@ -116,6 +136,29 @@ module _ (d : ℕ) (a : Attackers) (region : ℕ) where
     by Pawn e = inr refl
     by Grasshopper e = absurd (false≢true (sym (off_zero s) ∙ ap (λ (j : Kind). bit_at (squares_for a j) s == 1) (sym e) ∙ i.on))
     by Nightrider e = absurd (false≢true (sym (off_zero s) ∙ ap (λ (j : Kind). bit_at (squares_for a j) s == 1) (sym e) ∙ i.on))
+
+  -- the converse: who is reached is attacked
+  abbrev ReachAlone : Kind → ℕ → Type 0
+  ReachAlone k w = (t : ℕ) → t < 64 → (bit_at w t == 1) ≡ true → IsReachedFrom d (record { colour = a.colour; kind = k }) (squares_for a k) t
+
+  attacked_by : (k : Kind) (t : ℕ) → IsReachedFrom d (record { colour = a.colour; kind = k }) (squares_for a k) t → IsAttackedOver d a t
+  attacked_by k t r = record {
+    from = r.from;
+    man = record { colour = a.colour; kind = k };
+    stands = record { small = r.small; mine = refl; on = r.on };
+    reaches = r.reaches;
+  }
+
+  -- for `ridden_squares` and `leapt_squares`
+  pub three_alone : (i j k : Kind) (q r b : ℕ) → ReachAlone i q → ReachAlone j r → ReachAlone k b → (t : ℕ) → t < 64
+      → (bit_at (bit_or (bit_or q r) b) t == 1) ≡ true → IsAttackedOver d a t
+  three_alone i j k q r b first second third t small on = elim (on_one (bit_or q r) b t on) [
+    | inr last ↦ attacked_by k t (third t small last)
+    | inl both ↦ elim (on_one q r t both) [
+      | inl one ↦ attacked_by i t (first t small one)
+      | inr two ↦ attacked_by j t (second t small two)
+    ]
+  ]
 
   -- for both together
   pub all_reach : (r l : ℕ) → AreReached d a region is_rider r → AreReached d a region is_leaper l → AreReached d a region (λ k. true) (bit_or r l)

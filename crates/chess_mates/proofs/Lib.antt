@@ -24,5 +24,6 @@ pub mod Standing
 pub mod Passing
 pub mod QuietCastling
 pub mod Sparing
+pub mod Barring
 pub mod Ways
 pub mod Excluded

@@ -19,7 +19,8 @@ use Rattle.chess_mates.proofs.CheckTargets.{last_rank_on}
 use Rattle.chess_mates.proofs.Risks.{bit_denied, no_pawn_arrives, none_at}
 use Rattle.chess_mates.proofs.Standing.{captured_there}
 
-on_denied : (w i : ℕ) → w < 2 ^ 64 → i < 64 → (bit_at (bit_not w64 w) i == 1) ≡ false → (bit_at w i == 1) ≡ true
+-- a square that isn't one of the others is one of the word
+pub on_denied : (w i : ℕ) → w < 2 ^ 64 → i < 64 → (bit_at (bit_not w64 w) i == 1) ≡ false → (bit_at w i == 1) ≡ true
 on_denied w i fits small off = true_from_ne_false _ (λ none. false≢true (sym off ∙ bit_denied w i fits small none))
 
 module _ (p : Position) (x : Man) (m : Move) (from : m.from < 64) (to : m.to < 64) where

@@ -1,5 +1,5 @@
 -- The words of risks: what a defender must avoid lest a reply may mate.
-use Rattle.chess_rules.proofs.Basics.{List, Option, Some, and_left, and_parts, ap, arith, bit_and, bit_at, bit_at-lt, bit_not, bit_or, cases_Bool, cases_eq, eq-eqb, eqb-true, false, false≢true, find, inl, inr, not, range_with_len, refl, subst, sym, true, true_from_ne_false, w64, ℕ, ◌+◌, ◌-◌, ◌<◌, ◌==◌, ◌^◌, ◌∙◌, ◌≡◌, ◌≢◌, ◌⊎◌}
+use Rattle.chess_rules.proofs.Basics.{List, Option, Some, and_left, and_parts, ap, arith, bit_and, bit_at, bit_at-lt, bit_not, bit_or, cases_Bool, cases_eq, eq-eqb, eqb-true, false, false≢true, find, inl, inr, not, range_with_len, refl, subst, sym, true, true_from_ne_false, w64, ℕ, ◌+◌, ◌-◌, ◌<◌, ◌==◌, ◌^◌, ◌∙◌, ◌≡◌, ◌≢◌}
 use Rattle.chess_mates.proofs.Chess.{AreApproaches, Bishop, Colour, Grasshopper, Kind, King, Knight, Man, Nightrider, Pawn, Position, Queen, Rook, is_promoting, find_first, is_square, leaps, may_go, occupied_squares, other}
 use Rattle.chess_mates.proofs.Chess.{reaches_as, rides, same_kind, same_kind-true, squares, word}
 use Rattle.chess_mates.specs.declared.siege.Attackers.{Attackers}
@@ -15,7 +15,7 @@ use Rattle.chess_mates.proofs.Hurdles.{all_reach, man_is, reached_is}
 use Rattle.chess_rules.proofs.listing_moves.Walks.{off_second}
 use Rattle.std.proofs.lemmas.Nat.Bits.{bit_at_not}
 use Rattle.chess_mates.proofs.CheckTargets.{last_rank_on}
-use Rattle.chess_mates.proofs.FarMen.{off_denied, on_either}
+use Rattle.chess_mates.proofs.FarMen.{off_denied}
 use Rattle.chess_rules.proofs.listing_moves.Walks.{off_zero, on_first}
 use Rattle.chess_mates.proofs.LastingFlights.{no_last_rank, on_both}
 use Rattle.chess_mates.specs.ties.LastingFlights as Flights
@@ -36,13 +36,6 @@ bit_denied b i fits small off = grind (arith, bit_at_not w64 b i fits small, bit
 -- for a square of the first of two words alone
 pub denied_on : (a b i : ℕ) → b < 2 ^ 64 → i < 64 → (bit_at a i == 1) ≡ true → (bit_at b i == 1) ≡ false → (bit_at (bit_and a (bit_not w64 b)) i == 1) ≡ true
 denied_on a b i fits small on off = on_both a (bit_not w64 b) i on (bit_denied b i fits small off)
-
--- a square of one of two words
-pub on_one : (a b i : ℕ) → (bit_at (bit_or a b) i == 1) ≡ true → ((bit_at a i == 1) ≡ true) ⊎ ((bit_at b i == 1) ≡ true)
-on_one a b i h = elim (cases_Bool (bit_at a i == 1)) [
-  | inl on ↦ inl on
-  | inr off ↦ inr (on_either a b i h off)
-]
 
 -- squares that are left
 module _ (near enemies w : ℕ) (x : Man) (t : ℕ) (all : (f : ℕ) → f < 64 → (bit_at w f == 1) ≡ true → IsLeft near x t f) where

@@ -1,22 +1,22 @@
 -- The men of a siege, its castlings and the king's field.
-use Rattle.chess_rules.proofs.Basics.{List, None, Option, Some, and_parts, ap, arith, bit_and, bit_at, bit_not, bit_or, eq-eqb, false, false≢true, inl, inr, list_any, list_any-append, or_cases, refl, subst, sym, true, w64, ℕ, ◌&&◌, ◌+◌, ◌-◌, ◌<◌, ◌==◌, ◌^◌, ◌||◌, ◌∙◌, ◌≡◌, ◌⊎◌}
+use Rattle.chess_rules.proofs.Basics.{List, None, Option, Some, and_parts, ap, arith, bit_and, bit_at, bit_not, bit_or, eq-eqb, false, false≢true, inl, inr, list_any, list_any-append, ne_eqb, or_cases, refl, subst, sym, true, w64, ℕ, ◌&&◌, ◌+◌, ◌-◌, ◌<◌, ◌==◌, ◌^◌, ◌||◌, ◌∙◌, ◌≡◌, ◌⊎◌}
 use Rattle.chess_mates.proofs.Chess.{Bishop, Colour, Grasshopper, IsWellFormed, Kind, King, Knight, Man, Nightrider, Pawn, Position, Queen, Rook, RuleSet, White, corner, is_fairy, is_man, is_on_some, is_of_colour, is_square, king_square, leaps, man_on, occupied_squares, other, queen_steps}
-use Rattle.chess_mates.proofs.Chess.{diagonal_steps, reaches_as, rides, same_colour, same_kind, side_of, squares, squares_of, straight_steps, word}
+use Rattle.chess_mates.proofs.Chess.{diagonal_steps, reaches_as, rides, same_colour, same_colour-true, same_kind, same_kind-true, side_of, squares, squares_of, straight_steps, word}
 use Rattle.chess_core.specs.Castling.{has_unmoved}
 use Rattle.chess_mates.specs.declared.siege.Attackers.{Attackers}
 use Rattle.chess_mates.specs.declared.siege.Field.{Field}
 use Rattle.chess_mates.specs.declared.siege.Risk.{Risk}
 use Rattle.chess_mates.specs.declared.siege.Siege.{Siege}
-use Rattle.chess_mates.specs.ties.Siege.{AreAttackers, AreCastlingSquares, AreClosed, AreHurdles, AreReached, AreThreats, AreWeak, IsCastlingHarmless, IsField, IsNear, IsRiskAt, IsShut, IsSiege, IsSiegeOf, is_rider, men_on, squares_for}
+use Rattle.chess_mates.specs.ties.Siege.{AreAttackers, AreCastlingSquares, AreClosed, AreHurdles, AreReached, AreThreats, AreWeak, IsAttacker, IsCastlingHarmless, IsField, IsHurdle, IsNear, IsRiskAt, IsShut, IsSiege, IsSiegeOf, IsWhole, is_rider, men_on, squares_for}
 use Rattle.chess_mates.specs.ties.Threats.{HasNoFairy}
 use Rattle.chess_mates.specs.ties.Siege.{reached_over}
 use Rattle.chess_rules.proofs.Bits.{off_left, off_right, on_left, on_right, word_has}
 use Rattle.chess_rules.proofs.Tests.{find_no}
 use Rattle.chess_rules.proofs.attacks.StayingInCheck.{king_there}
 use Rattle.chess_rules.proofs.listing_moves.Targeting.{every_square_on, false_by}
-use Rattle.chess_mates.proofs.Hurdles.{reached_is}
-use Rattle.chess_rules.proofs.listing_moves.Walks.{on_first}
-use Rattle.chess_mates.proofs.Risks.{on_one, off_word, none_on, weak_never}
+use Rattle.chess_mates.proofs.Hurdles.{man_is, on_one, reached_is}
+use Rattle.chess_rules.proofs.listing_moves.Walks.{off_zero, on_first}
+use Rattle.chess_mates.proofs.Risks.{denied_on, off_word, none_on, weak_never}
 use Rattle.chess_mates.proofs.LastingFlights.{on_both}
 
 -- the king's field
@@ -89,11 +89,12 @@ risk_is v k g r king field castling all = record {
 }
 
 -- with the lines of all riders
-pub threats_are : (v : Siege) (r : Risk) (w : ℕ) → IsSiege v → IsRiskAt v v.king r → AreReached v.hurdles v.men (bit_not w64 0) is_rider w
+pub threats_are : (v : Siege) (r : Risk) (w : ℕ) → IsSiege v → IsWhole v → IsRiskAt v v.king r → AreReached v.hurdles v.men (bit_not w64 0) is_rider w
     → AreThreats v (record { critical = r.critical; lines = bit_or r.lines w })
 unfolding reached_over
-threats_are v r w siege risk ridden = record {
+threats_are v r w siege whole risk ridden = record {
   siege = siege;
+  whole = whole;
   risk = record {
     field = risk.field;
     king = risk.king;
@@ -123,11 +124,30 @@ hurdles_are own enemies k o w only fits = record {
       );
 }
 
+-- all of them, where none is lifted
+pub hurdles_whole : (own enemies k o w : ℕ) → o ≡ word (λ t. is_square (Some k) t) → o < 2 ^ 64 → w ≡ word (λ t. is_square None t) → w < 2 ^ 64
+    → (e : ℕ) → e < 64 → IsHurdle own enemies k (bit_and (bit_and (bit_or own enemies) (bit_not w64 o)) (bit_not w64 w)) e
+hurdles_whole own enemies k o w only fits none low e small there ne =
+    denied_on (bit_and (bit_or own enemies) (bit_not w64 o)) w e low small
+    (denied_on (bit_or own enemies) o e fits small (elim there [
+      | inl mine ↦ on_left own enemies e mine
+      | inr enemy ↦ on_right own enemies e enemy
+    ]) (word_has (λ t. is_square (Some k) t) o e only small ∙ ne_eqb k e ne))
+    (word_has (λ t. is_square None t) w e none small)
+
 -- for a man who is lifted: his square isn't a hurdle
 pub lifted_off : (a w s : ℕ) (o : Option ℕ) → w ≡ word (λ t. is_square o t) → w < 2 ^ 64 → s < 64 → o ≡ Some s
     → (bit_at (bit_and a (bit_not w64 w)) s == 1) ≡ false
 lifted_off a w s o only fits small e = false_by _ (λ on. false≢true (sym (off_word a w s fits small on) ∙ word_has (λ t. is_square o t) w s only small
     ∙ ap (λ (u : Option ℕ). is_square u s) e ∙ eq-eqb s s refl))
+
+-- who is of this colour and kind
+is_the_man : (o : Option Man) (x : Man) (c : Colour) (k : Kind) → is_man o c k ≡ true → x.colour ≡ c → x.kind ≡ k → o ≡ Some x
+is_the_man (Some z) x c k h mine kind =
+    let both = and_parts _ _ h in
+    let same : z ≡ x = sym (man_is z c k (same_colour-true _ _ both.0) (same_kind-true z.kind k both.1)) ∙ man_is x c k mine kind in
+    ap (λ (y : Man). Some y) same
+is_the_man None x c k h mine kind = absurd (false≢true h)
 
 -- the men of the board
 pub attackers_are : (men : List (Option Man)) (a : Attackers) → a.kings ≡ squares_of men a.colour King → a.queens ≡ squares_of men a.colour Queen
@@ -136,7 +156,23 @@ pub attackers_are : (men : List (Option Man)) (a : Attackers) → a.kings ≡ sq
 unfolding squares_of
 attackers_are men a kings queens rooks bishops knights pawns = record {
   stand = λ s x small here mine plain. record { small = small; mine = mine; on = by s x small here mine plain x.kind refl };
+  alone = λ s x i. alone s x i x.kind refl i.on;
 } where
+  man_there : (s : ℕ) (x : Man) → IsAttacker a x s → (k : Kind) → x.kind ≡ k → (w : ℕ) → w ≡ word (λ s. is_man (man_on men s) a.colour k)
+      → (bit_at w s == 1) ≡ true → man_on men s ≡ Some x
+  man_there s x i k kind w e on =
+      is_the_man (man_on men s) x a.colour k (sym (word_has (λ s. is_man (man_on men s) a.colour k) w s e i.small) ∙ on) i.mine kind
+
+  alone : (s : ℕ) (x : Man) → IsAttacker a x s → (k : Kind) → x.kind ≡ k → (bit_at (squares_for a x.kind) s == 1) ≡ true → man_on men s ≡ Some x
+  alone s x i King e on = man_there s x i King e a.kings kings (rw e at on)
+  alone s x i Queen e on = man_there s x i Queen e a.queens queens (rw e at on)
+  alone s x i Rook e on = man_there s x i Rook e a.rooks rooks (rw e at on)
+  alone s x i Bishop e on = man_there s x i Bishop e a.bishops bishops (rw e at on)
+  alone s x i Knight e on = man_there s x i Knight e a.knights knights (rw e at on)
+  alone s x i Pawn e on = man_there s x i Pawn e a.pawns pawns (rw e at on)
+  alone s x i Grasshopper e on = absurd (false≢true (sym (off_zero s) ∙ (rw e at on)))
+  alone s x i Nightrider e on = absurd (false≢true (sym (off_zero s) ∙ (rw e at on)))
+
   self : (c : Colour) (k : Kind) → (same_colour c c && same_kind k k) ≡ true
   self c k = grind (arith, eq-eqb)
 

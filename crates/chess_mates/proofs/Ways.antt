@@ -1,10 +1,10 @@
 -- The ways of a defender to a square that isn't risky: his king goes, or another man, who may leave a line.
-use Rattle.chess_rules.proofs.Basics.{Option, Some, [], and_from, ap, bit_and, bit_at, bit_not, bit_or, cases_lt, cond-true, cond-false, false, false≢true, inl, inr, sym, subst, true, w64, ℕ, ◌<◌, ◌==◌, ◌^◌, ◌∙◌, ◌≡◌}
-use Rattle.chess_mates.proofs.Chess.{Colour, IsWellFormed, captures_do_more, King, Man, Move, Position, RuleSet, is_man, is_pseudo_legal, man_on, mates_behind, may_go, other, position_after}
+use Rattle.chess_rules.proofs.Basics.{Option, Some, [], and_from, ap, bit_and, bit_at, bit_not, bit_or, cases_lt, cond-true, cond-false, false, false≢true, inl, inr, sym, subst, true, w64, ℕ, ◌<◌, ◌==◌, ◌^◌, ◌∙◌, ◌≡◌, ◌⊎◌}
+use Rattle.chess_mates.proofs.Chess.{Colour, IsWellFormed, captures_do_more, King, Man, Move, Position, RuleSet, is_legal, is_man, is_pseudo_legal, man_on, mates_behind, may_go, other, position_after}
 use Rattle.chess_mates.proofs.Chess.{same_colour, same_kind}
 use Rattle.std.proofs.lemmas.Nat.Bits.{bit_at_above}
 use Rattle.chess_mates.specs.declared.siege.Attackers.{Attackers}
-use Rattle.chess_mates.specs.ties.Siege.{AreAttackers, AreCastlingSquares, AreClosed, IsSafeMove, IsSafeStep}
+use Rattle.chess_mates.specs.ties.Siege.{AreAttackers, AreCastlingSquares, AreClosed, IsBarred, IsSafeMove, IsSafeStep}
 use Rattle.chess_mates.specs.ties.Threats.{AreMere, ArePlain, AreRisky, AreThreatsOf, IsMereMove, IsPlainMove, ToldThreats}
 use Rattle.chess_rules.proofs.Bits.{off_left, off_right}
 use Rattle.chess_rules.proofs.Tests.{some_is}
@@ -15,19 +15,24 @@ use Rattle.chess_rules.proofs.listing_moves.Targeting.{arrival_needed}
 use Rattle.chess_rules.proofs.listing_moves.Walks.{off_second}
 use Rattle.chess_rules.proofs.making_moves.Pseudo.{made}
 use Rattle.chess_mates.proofs.Risks.{denied_on}
+use Rattle.chess_mates.proofs.Barring.{barred_is_illegal}
 use Rattle.chess_mates.proofs.Sparing.{no_mate_behind}
 use Rattle.chess_core.proofs.Kept.{same_colour-refl}
 
 module _ (rule : RuleSet) (p : Position) (x : Man) (v : ToldThreats) (well : IsWellFormed p) (threats : AreThreatsOf rule p v) where
   module _ (m : Move) (may : is_pseudo_legal rule p m ≡ true) (here : man_on p.men m.from ≡ Some x) (small : m.to < 64) (from : m.from < 64)
       (plain : IsPlainMove p x m) (mere : captures_do_more rule ≡ true → IsMereMove p x m) where
-    king_spared : same_kind x.kind King ≡ true → IsSafeStep v.siege m.to → mates_behind rule (position_after rule p m) 0 ≡ []
-    king_spared king safe =
-        let siege = threats.threats.siege in
+    at_king : same_kind x.kind King ≡ true → v.siege.king ≡ m.from
+    at_king king =
         let mine : x.colour ≡ p.turn = (made rule p m x may here).mine in
         let stands : is_man (man_on p.men m.from) p.turn King ≡ true =
         ap (λ (o : Option Man). is_man o p.turn King) here ∙ and_from _ _ (ap (λ (c : Colour). same_colour c p.turn) mine ∙ same_colour-refl p.turn) king in
-        let same : v.siege.king ≡ m.from = some_is v.siege.king m.from (threats.fits.king ∙ king_is p.men p.turn m.from well.kings from stands) in
+        some_is v.siege.king m.from (threats.fits.king ∙ king_is p.men p.turn m.from well.kings from stands)
+
+    king_spared : same_kind x.kind King ≡ true → IsSafeStep v.siege m.to → mates_behind rule (position_after rule p m) 0 ≡ []
+    king_spared king safe =
+        let siege = threats.threats.siege in
+        let same = at_king king in
         no_mate_behind rule p m x v.siege m.to safe.risk well may here small from (cond-true (same_kind x.kind King) _ _ king) (record {
           plain = plain;
           mere = mere;
@@ -39,6 +44,12 @@ module _ (rule : RuleSet) (p : Position) (x : Man) (v : ToldThreats) (well : IsW
           shut = record { shut = λ s z a rider on. absurd ((siege.hurdles.men m.from from on).1 same) };
           off_king = λ e inside on same. false≢true (sym safe.free ∙ (rw same at on));
         })
+
+    -- a step to a square that an attacker reaches isn't legal
+    king_barred : same_kind x.kind King ≡ true → IsBarred rule v.siege m.to → is_legal rule p m ≡ true → ⊥
+    king_barred king barred =
+        let t = threats.threats in
+        barred_is_illegal rule p m x v.siege well may here small plain mere king (at_king king) t.siege t.whole threats.fits barred
 
     man_spared : same_kind x.kind King ≡ false → IsSafeMove v.siege m.from m.to → mates_behind rule (position_after rule p m) 0 ≡ []
     man_spared mortal safe =
@@ -76,8 +87,8 @@ module _ (rule : RuleSet) (p : Position) (x : Man) (v : ToldThreats) (well : IsW
     ]
 
     -- by what spares a move off them
-    risky_by : ((m : Move) → is_pseudo_legal rule p m ≡ true → m.from ≡ s → m.to < 64 → (bit_at w m.to == 1) ≡ true → (bit_at u m.to == 1) ≡ false
-        → (bit_at r m.to == 1) ≡ false → IsPlainMove p x m → (captures_do_more rule ≡ true → IsMereMove p x m)
+    risky_by : ((m : Move) → is_legal rule p m ≡ true → is_pseudo_legal rule p m ≡ true → m.from ≡ s → m.to < 64 → (bit_at w m.to == 1) ≡ true
+        → (bit_at u m.to == 1) ≡ false → (bit_at r m.to == 1) ≡ false → IsPlainMove p x m → (captures_do_more rule ≡ true → IsMereMove p x m)
         → mates_behind rule (position_after rule p m) 0 ≡ []) → AreRisky rule p s w (bit_and w (bit_or u r))
     risky_by spares = record {
       settled = λ m legal origin on off.
@@ -86,23 +97,26 @@ module _ (rule : RuleSet) (p : Position) (x : Man) (v : ToldThreats) (well : IsW
           let both : (bit_at (bit_or u r) m.to == 1) ≡ false = off_second w (bit_or u r) m.to off on in
           let goes : may_go p x s m.to ≡ true = ap (λ (n : ℕ). may_go p x n m.to) (sym origin)
           ∙ may_go_aimed rule p x m (ap (man_on p.men) origin ∙ here) (arrival_needed rule p m small may) in
-          spares m may origin small on (off_left u r m.to both) (off_right u r m.to both) (plain.plain m origin small goes (off_left u r m.to both))
+          spares m legal may origin small on (off_left u r m.to both) (off_right u r m.to both) (plain.plain m origin small goes (off_left u r m.to both))
           (λ circe. (mere circe).mere m origin small goes (off_left u r m.to both));
     }
 
     module _ (fits_u : u < 2 ^ 64) where
       -- for the king's steps
       pub steps_are_risky : same_kind x.kind King ≡ true
-          → ((t : ℕ) → t < 64 → (bit_at (bit_and w (bit_not w64 u)) t == 1) ≡ true → (bit_at r t == 1) ≡ false → IsSafeStep v.siege t)
+          → ((t : ℕ) → t < 64 → (bit_at (bit_and w (bit_not w64 u)) t == 1) ≡ true → (bit_at r t == 1) ≡ false → IsSafeStep v.siege t ⊎ IsBarred rule v.siege t)
           → AreRisky rule p s w (bit_and w (bit_or u r))
-      steps_are_risky king safe = risky_by (λ m may origin small on off none plain mere.
-          king_spared m may (ap (man_on p.men) origin ∙ here) small (rw origin from) plain mere king
-          (safe m.to small (denied_on w u m.to fits_u small on off) none))
+      steps_are_risky king safe = risky_by (λ m legal may origin small on off none plain mere.
+          let there = ap (man_on p.men) origin ∙ here in
+          elim (safe m.to small (denied_on w u m.to fits_u small on off) none) [
+            | inl calm ↦ king_spared m may there small (rw origin from) plain mere king calm
+            | inr barred ↦ absurd (king_barred m may there small (rw origin from) plain mere king barred legal)
+          ])
 
       -- for another man's moves
       pub moves_are_risky : same_kind x.kind King ≡ false
           → ((t : ℕ) → (bit_at (bit_and w (bit_not w64 u)) t == 1) ≡ true → (bit_at r t == 1) ≡ false → IsSafeMove v.siege s t)
           → AreRisky rule p s w (bit_and w (bit_or u r))
-      moves_are_risky mortal safe = risky_by (λ m may origin small on off none plain mere.
+      moves_are_risky mortal safe = risky_by (λ m legal may origin small on off none plain mere.
           man_spared m may (ap (man_on p.men) origin ∙ here) small (rw origin from) plain mere mortal
           (rw origin (safe m.to (denied_on w u m.to fits_u small on off) none)))

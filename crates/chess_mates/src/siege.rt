@@ -1,7 +1,7 @@
 //! A king's siege: the squares that his side mustn't come to lest a reply may mate, told before its move. All men but
 //! the king are hurdles: each square on which one stands stays occupied, be it that he is captured, but for the squares
 //! that the defender and the attacker leave.
-ghost use Rattle.std.specs.Prelude.{◌≡◌, ◌≢◌, ◌<◌, ◌==◌, ◌⊎◌, ℕ, Some, true, false};
+ghost use Rattle.std.specs.Prelude.{◌≡◌, ◌≢◌, ◌<◌, ◌==◌, ◌⊎◌, ℕ, None, Some, true, false};
 ghost use Rattle.std.specs.Int.{bit_at};
 ghost use Rattle.chess_core.specs.Castling.{has_unmoved};
 ghost use Rattle.chess_core.specs.Position.{king_square, other, same_kind};
@@ -12,7 +12,7 @@ ghost use Rattle.chess_core.specs.declared.man.Man.{Man};
 ghost use Rattle.chess_mates.specs.declared.siege.Siege.{Siege};
 ghost use Rattle.chess_core.specs.ties.Words.{squares_of};
 ghost use Rattle.chess_mates.specs.ties.LastingFlights.{IsLeft};
-ghost use Rattle.chess_mates.specs.ties.Siege.{AreArrivals, AreAttackers, AreCastlingSquares, AreClosed, AreGuardsWithout, AreHomes, AreHomesOf, AreHurdles, AreReached, AreThreats, AreWeak, IsAttacker, IsCastlingHarmless, IsCheckWord, IsField, IsHarmless, IsLifted, IsMet, IsNear, IsNoCheck, IsOff, IsReached, IsRiskAt, IsRiskBehind, IsSafeMove, IsSafeStep, IsSiege, IsSiegeOf, IsWeak, LeavesOne, is_leaper, is_rider};
+ghost use Rattle.chess_mates.specs.ties.Siege.{AreArrivals, AreAttackers, AreCastlingSquares, AreClosed, AreGuardsWithout, AreHomes, AreHomesOf, AreHurdles, AreReached, AreThreats, AreWeak, IsAttackedOver, IsAttacker, IsBarred, IsCastlingHarmless, IsCheckWord, IsField, IsHarmless, IsHurdle, IsLifted, IsMet, IsNear, IsNoCheck, IsOff, IsReached, IsReachedFrom, IsRiskAt, IsRiskBehind, IsSafeMove, IsSafeStep, IsSiege, IsSiegeOf, IsWeak, IsWhole, LeavesOne, is_leaper, is_rider, reached_over};
 ghost use Rattle.chess_rules.specs.Play.{rebirth};
 ghost use Rattle.chess_rules.specs.ties.Targets.{is_promoting};
 
@@ -78,16 +78,19 @@ pub(crate) struct Risk {
 }
 
 // The squares that the man on `from` reaches over the hurdles.
-#[tactic(auto, using(crate::proofs::Hurdles::reached_is))]
 fn reach_from(hurdles: Squares, man: Man, from: Square) -> Squares
-    ensures { IsReached hurdles man from result }
+    ensures all { IsReached hurdles man from result }
+    ensures alone { (t : ℕ) → t < 64 → (bit_at result t == 1) ≡ true
+        → reached_over hurdles man from t ≡ true }
 {
     reach_over(hurdles, man.colour, man.kind, from)
 }
 
 // The same, but none if he reaches no square of the region, whoever stands on the board.
 fn reach_towards(hurdles: Squares, man: Man, from: Square, region: Squares) -> Squares
-    ensures { IsNear man from region → IsReached hurdles man from result }
+    ensures all { IsNear man from region → IsReached hurdles man from result }
+    ensures alone { (t : ℕ) → t < 64 → (bit_at result t == 1) ≡ true
+        → reached_over hurdles man from t ≡ true }
 {
     if open_reach(man, from) & region == 0 {
         return 0;
@@ -97,8 +100,10 @@ fn reach_towards(hurdles: Squares, man: Man, from: Square, region: Squares) -> S
 
 // Those that such men on the squares of a word reach.
 fn reach_together(hurdles: Squares, man: Man, squares: Squares, region: Squares) -> Squares
-    ensures { (s : ℕ) → s < 64 → (bit_at squares s == 1) ≡ true
+    ensures all { (s : ℕ) → s < 64 → (bit_at squares s == 1) ≡ true
         → IsNear man s region → IsReached hurdles man s result }
+    ensures alone { (t : ℕ) → t < 64 → (bit_at result t == 1) ≡ true
+        → IsReachedFrom hurdles man squares t }
 {
     let mut reached = 0u64;
     let mut number = 0u8;
@@ -118,16 +123,20 @@ fn reach_of(
     squares: Squares,
     region: Squares,
 ) -> Squares
-    ensures { (s : ℕ) → s < 64 → (bit_at squares s == 1) ≡ true
+    ensures all { (s : ℕ) → s < 64 → (bit_at squares s == 1) ≡ true
         → IsNear (record { colour = colour; kind = kind }) s region
         → IsReached hurdles (record { colour = colour; kind = kind }) s result }
+    ensures alone { (t : ℕ) → t < 64 → (bit_at result t == 1) ≡ true
+        → IsReachedFrom hurdles (record { colour = colour; kind = kind }) squares t }
 {
     reach_together(hurdles, Man { colour, kind }, squares, region)
 }
 
 // The squares that queens, rooks and bishops reach.
 fn ridden_squares(hurdles: Squares, men: &Attackers, region: Squares) -> Squares
-    ensures { AreReached hurdles men.now region is_rider result }
+    ensures all { AreReached hurdles men.now region is_rider result }
+    ensures alone { (t : ℕ) → t < 64 → (bit_at result t == 1) ≡ true
+        → IsAttackedOver hurdles men.now t }
 {
     let queens = reach_of(hurdles, men.colour, Kind::Queen, men.queens, region);
     let rooks = reach_of(hurdles, men.colour, Kind::Rook, men.rooks, region);
@@ -137,7 +146,9 @@ fn ridden_squares(hurdles: Squares, men: &Attackers, region: Squares) -> Squares
 
 // Those that knights, pawns and kings reach.
 fn leapt_squares(hurdles: Squares, men: &Attackers, region: Squares) -> Squares
-    ensures { AreReached hurdles men.now region is_leaper result }
+    ensures all { AreReached hurdles men.now region is_leaper result }
+    ensures alone { (t : ℕ) → t < 64 → (bit_at result t == 1) ≡ true
+        → IsAttackedOver hurdles men.now t }
 {
     let knights = reach_of(hurdles, men.colour, Kind::Knight, men.knights, region);
     let pawns = reach_of(hurdles, men.colour, Kind::Pawn, men.pawns, region);
@@ -538,6 +549,7 @@ fn attackers_on(board: &Board, colour: Colour) -> Attackers
 fn hurdles_of(own: Squares, enemies: Squares, king: Square, lifted: Option<Square>) -> Squares
     ensures are { AreHurdles own enemies king result }
     ensures lifted { (s : ℕ) → s < 64 → lifted ≡ Some s → (bit_at result s == 1) ≡ false }
+    ensures whole { lifted ≡ None → (e : ℕ) → e < 64 → IsHurdle own enemies king result e }
 {
     (own | enemies) & !only(Some(king)) & !only(lifted)
 }
@@ -634,6 +646,7 @@ fn closed_squares<R: Rules>(board: &Board) -> Squares
 // The siege by the board's men of the king of the side to move, who stands on the square.
 pub(crate) fn siege_of<R: Rules>(board: &Board, king: Square) -> Siege
     ensures siege { IsSiege result }
+    ensures whole { IsWhole result }
     ensures king { result.king ≡ king }
     ensures of { IsWellFormed board.now → king_square board.now.men board.now.turn ≡ Some king
         → IsSiegeOf R.rule board.now result }
@@ -688,7 +701,8 @@ pub(crate) fn is_of<R: Rules>(siege: &Siege, board: &Board) -> bool
 
 // The risk of the siege's own king. On the lines of all riders hurdles count too.
 pub(crate) fn risk_of_siege(siege: &Siege) -> Risk
-    requires { IsSiege siege.now }
+    requires siege { IsSiege siege.now }
+    requires whole { IsWhole siege.now }
     ensures { AreThreats siege.now result }
 {
     let risk = risk_at(siege, siege.king);
@@ -739,7 +753,7 @@ fn risky_step(siege: &Siege, to: Square) -> Squares
 }
 
 // Those of the squares to which he mustn't step.
-pub(crate) fn risky_steps(siege: &Siege, steps: Squares) -> Squares
+fn risky_among(siege: &Siege, steps: Squares) -> Squares
     ensures { (t : ℕ) → t < 64 → (bit_at steps t == 1) ≡ true → (bit_at result t == 1) ≡ false
         → IsSafeStep siege.now t }
 {
@@ -751,4 +765,27 @@ pub(crate) fn risky_steps(siege: &Siege, steps: Squares) -> Squares
         number = to.index() + 1;
     }
     risky
+}
+
+// The steps but for those to an empty square that an attacker reaches: they are illegal, unless attackers may stand still.
+#[tactic(auto, using(crate::proofs::Barring::barred_is))]
+fn unbarred_steps<R: Rules>(siege: &Siege, steps: Squares) -> Squares
+    ensures { (t : ℕ) → t < 64 → (bit_at steps t == 1) ≡ true
+        → (bit_at result t == 1) ≡ false → IsBarred R.rule siege.now t }
+{
+    if steps == 0 || R::faced_men_stand_still() {
+        return steps;
+    }
+    let ridden = ridden_squares(siege.hurdles, &siege.men, steps);
+    let leapt = leapt_squares(siege.hurdles, &siege.men, steps);
+    steps & (siege.hurdles | !(ridden | leapt))
+}
+
+// Those of the squares to which he mustn't step, of legal steps.
+pub(crate) fn risky_steps<R: Rules>(siege: &Siege, steps: Squares) -> Squares
+    ensures { (t : ℕ) → t < 64 → (bit_at steps t == 1) ≡ true → (bit_at result t == 1) ≡ false
+        → IsSafeStep siege.now t ⊎ IsBarred R.rule siege.now t }
+{
+    let unbarred = unbarred_steps::<R>(siege, steps);
+    risky_among(siege, unbarred)
 }

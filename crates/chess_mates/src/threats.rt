@@ -168,7 +168,7 @@ impl Threats {
         let unplain = unplain_squares::<R>(board, man, from);
         if man.kind.is(Kind::King) {
             let steps = squares & !unplain;
-            return squares & (unplain | risky_steps(&self.siege, steps));
+            return squares & (unplain | risky_steps::<R>(&self.siege, steps));
         }
         let others = squares & !unplain;
         squares & (unplain | critical_from(&self.siege, &self.risk, from, others))

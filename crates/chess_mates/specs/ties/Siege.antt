@@ -20,7 +20,7 @@ use Rattle.chess_mates.specs.declared.siege.Siege.{Siege}
 use Rattle.chess_mates.specs.ties.LastingFlights.{IsLeft}
 use Rattle.chess_rules.specs.Play.{rebirth}
 use Rattle.chess_rules.specs.Reaches.{leaps, reaches_as}
-use Rattle.chess_rules.specs.RuleSet.{RuleSet, captures_do_more}
+use Rattle.chess_rules.specs.RuleSet.{RuleSet, captures_do_more, faced_men_stand_still}
 use Rattle.chess_rules.specs.ties.Lines.{is_on_some}
 use Rattle.chess_rules.specs.ties.Targets.{is_promoting, may_go}
 
@@ -54,10 +54,11 @@ pub record IsAttacker (a : Attackers) (x : Man) (s : ℕ) : Type 0 where
   pub mine : x.colour ≡ a.colour
   pub on : (bit_at (squares_for a x.kind) s == 1) ≡ true
 
--- each man of their colour is, fairy men apart
+-- each man of their colour is, fairy men apart, and they alone
 pub record AreAttackers (men : List (Option Man)) (a : Attackers) : Type 0 where
   pub stand : (s : ℕ) (x : Man) → s < 64 → man_on men s ≡ Some x → x.colour ≡ a.colour
       → is_fairy x.kind ≡ false → IsAttacker a x s
+  pub alone : (s : ℕ) (x : Man) → IsAttacker a x s → man_on men s ≡ Some x
 
 -- rides along a queen's lines
 abbrev pub is_rider : Kind → Bool
@@ -87,6 +88,20 @@ pub record AreReached (d : ℕ) (a : Attackers) (region : ℕ) (kinds : Kind →
   pub reach : (s : ℕ) (x : Man) → IsAttacker a x s → kinds x.kind ≡ true → IsNear x s region
       → IsReached d x s w
 
+-- x on one of the squares reaches t over the hurdles
+pub record IsReachedFrom (d : ℕ) (x : Man) (squares t : ℕ) : Type 0 where
+  pub from : ℕ
+  pub small : from < 64
+  pub on : (bit_at squares from == 1) ≡ true
+  pub reaches : reached_over d x from t ≡ true
+
+-- one of the attackers does
+pub record IsAttackedOver (d : ℕ) (a : Attackers) (t : ℕ) : Type 0 where
+  pub from : ℕ
+  pub man : Man
+  pub stands : IsAttacker a man from
+  pub reaches : reached_over d man from t ≡ true
+
 -- the hurdles are men of both sides, and not the king on k
 pub record AreHurdles (own enemies k d : ℕ) : Type 0 where
   pub men : (e : ℕ) → e < 64 → (bit_at d e == 1) ≡ true
@@ -95,6 +110,16 @@ pub record AreHurdles (own enemies k d : ℕ) : Type 0 where
 -- so are those of a siege
 pub record IsSiege (v : Siege) : Type 0 where
   pub hurdles : AreHurdles v.own v.enemies v.king v.hurdles
+
+-- a man on e, who isn't the king on k, is one of the hurdles
+abbrev pub IsHurdle : ℕ → ℕ → ℕ → ℕ → ℕ → Type 0
+IsHurdle own enemies k d e =
+    ((bit_at own e == 1) ≡ true) ⊎ ((bit_at enemies e == 1) ≡ true) → k ≢ e
+    → (bit_at d e == 1) ≡ true
+
+-- all men of a siege but the king are hurdles
+pub record IsWhole (v : Siege) : Type 0 where
+  pub hurdles : (e : ℕ) → e < 64 → IsHurdle v.own v.enemies v.king v.hurdles e
 
 -- the rook in the corner has moved, or a man of the colour stands on the square beside the king, or the word has it
 abbrev pub IsShut : Position → Colour → ℕ → ℕ → ℕ → Type 0
@@ -294,6 +319,7 @@ pub record IsRiskBehind (v : Siege) (from : ℕ) (r : Risk) : Type 0 where
 -- the risk of the siege's king, told with the lines of all riders
 pub record AreThreats (v : Siege) (r : Risk) : Type 0 where
   pub siege : IsSiege v
+  pub whole : IsWhole v
   pub risk : IsRiskAt v v.king r
   pub rides : (s : ℕ) (x : Man) → IsAttacker v.men x s → is_rider x.kind ≡ true
       → IsReached v.hurdles x s r.lines
@@ -318,3 +344,9 @@ pub record IsSafeStep (v : Siege) (t : ℕ) : Type 0 where
   pub risk : Risk
   pub at : IsRiskAt v t risk
   pub off : (bit_at risk.critical t == 1) ≡ false
+
+-- the king mayn't step to t, since an attacker who doesn't stand still reaches it, where nobody stands
+pub record IsBarred (rule : RuleSet) (v : Siege) (t : ℕ) : Type 0 where
+  pub able : faced_men_stand_still rule ≡ false
+  pub free : (bit_at v.hurdles t == 1) ≡ false
+  pub attacked : IsAttackedOver v.hurdles v.men t

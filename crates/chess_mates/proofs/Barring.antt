@@ -1,0 +1,152 @@
+-- A king's step to an empty square that an attacker reaches over the hurdles is illegal.
+use Rattle.chess_rules.proofs.Basics.{cases_lt, or_lt, ◌&&◌, Bool, List, None, Option, Some, and_from, and_left, ap, arith, bit_and, bit_at, bit_not, bit_or, cases_Bool, cases_eq, cond-true, false, false≢true, inl, inr, is_some, length, not, refl, sym, true, w64, ℕ, ◌<◌, ◌==◌, ◌^◌, ◌∙◌, ◌≡◌, ◌≢◌}
+use Rattle.chess_mates.proofs.Chess.{Colour, IsWellFormed, King, Man, Move, Position, RuleSet, captures_do_more, in_check, is_attacked, is_attacked_at, is_attacker, is_legal, is_of_colour, is_paralysed, is_pseudo_legal, king_square, man_on, other, position_after, reaches, reaches_as, same_colour, same_kind, side_of, some_square_true}
+use Rattle.chess_mates.specs.declared.siege.Siege.{Siege}
+use Rattle.chess_mates.specs.ties.Siege.{IsAttackedOver, IsBarred, IsSiege, IsSiegeOf, IsWhole, men_on}
+use Rattle.chess_mates.specs.ties.Siege.{reached_over}
+use Rattle.chess_mates.specs.ties.Threats.{IsMereMove, IsPlainMove}
+use Rattle.chess_rules.specs.RuleSet.{faced_men_stand_still}
+use Rattle.chess_core.proofs.Kept.{same_colour-refl}
+use Rattle.chess_rules.proofs.Bits.{off_left, off_right, word_has}
+use Rattle.chess_rules.proofs.attacks.Exposing.{king_is_after}
+use Rattle.chess_rules.proofs.attacks.Shielding.{simple_after}
+use Rattle.chess_rules.proofs.listing_moves.Targeting.{false_by}
+use Rattle.chess_rules.proofs.listing_moves.Walks.{off_second}
+use Rattle.chess_rules.proofs.making_moves.Fits.{arrived}
+use Rattle.chess_rules.proofs.making_moves.Pseudo.{IsMade, made, on_board}
+use Rattle.chess_rules.proofs.making_moves.Stays.{after_well_formed}
+use Rattle.chess_mates.proofs.Homes.{some_of}
+use Rattle.chess_mates.proofs.Hurdles.{on_one, one_on, size_on}
+use Rattle.chess_mates.proofs.Landing.{StandAlike, reaches_alike}
+use Rattle.chess_mates.proofs.Passing.{on_denied}
+use Rattle.chess_mates.proofs.Standing.{not_mine_enemy, some_side, stays_there, stood, unfree}
+
+-- for `unbarred_steps`: a step that is passed over comes to an empty square that is reached
+pub barred_is : (rule : RuleSet) (v : Siege) (w r l t : ℕ) → faced_men_stand_still rule ≡ false → r < 2 ^ 64 → l < 2 ^ 64
+    → ((t : ℕ) → t < 64 → (bit_at r t == 1) ≡ true → IsAttackedOver v.hurdles v.men t)
+    → ((t : ℕ) → t < 64 → (bit_at l t == 1) ≡ true → IsAttackedOver v.hurdles v.men t) → t < 64 → (bit_at w t == 1) ≡ true
+    → (bit_at (bit_and w (bit_or v.hurdles (bit_not w64 (bit_or r l)))) t == 1) ≡ false → IsBarred rule v t
+barred_is rule v w r l t able fits_r fits_l ridden leapt small on off =
+    let none = off_second w (bit_or v.hurdles (bit_not w64 (bit_or r l))) t off on in
+    record {
+      able = able;
+      free = off_left v.hurdles (bit_not w64 (bit_or r l)) t none;
+      attacked = elim (on_one r l t (on_denied (bit_or r l) t (or_lt 64 r l fits_r fits_l) small (off_right v.hurdles (bit_not w64 (bit_or r l)) t none))) [
+        | inl y ↦ ridden t small y
+        | inr y ↦ leapt t small y
+      ];
+    }
+
+same_test : (a b : Bool) → (a ≡ true → b ≡ true) → (b ≡ true → a ≡ true) → a ≡ b
+same_test a b f g = grind (arith, cases_Bool a, cases_Bool b)
+
+not_both : (a b : Bool) → (a && not b) ≡ true → b ≡ true → ⊥
+not_both a b h e = grind arith
+
+able_strikes : (s : ℕ) (men : List (Option Man)) (t : ℕ) (z : Man) → man_on men s ≡ Some z → reaches_as men z.colour z.kind s t ≡ true → reaches men s t ≡ true
+unfolding reaches
+able_strikes s men t z here h = rw here h
+
+-- the king, who is x, steps to such a square
+module _ (rule : RuleSet) (p : Position) (m : Move) (x : Man) (v : Siege) (well : IsWellFormed p) (may : is_pseudo_legal rule p m ≡ true)
+    (here : man_on p.men m.from ≡ Some x) (small : m.to < 64) (plain : IsPlainMove p x m) (mere : captures_do_more rule ≡ true → IsMereMove p x m)
+    (king : same_kind x.kind King ≡ true) (at_king : v.king ≡ m.from) (siege : IsSiege v) (whole : IsWhole v) (fits : IsSiegeOf rule p v)
+    (barred : IsBarred rule v m.to) where
+  is : IsMade rule p x m
+  is = made rule p m x may here
+
+  abbrev q : Position
+  q = position_after rule p m
+
+  men_q : q.men ≡ arrived p x m
+  men_q = simple_after rule p x m here plain.castling (λ c. (mere c).captures)
+
+  king_q : king_square q.men p.turn ≡ Some m.to
+  king_q =
+      ap (λ (l : List (Option Man)). king_square l p.turn) men_q ∙ king_is_after rule p x m well is small plain.castling
+      ∙ cond-true (same_kind x.kind King) _ _ king
+
+  -- who stands elsewhere stays
+  kept : (e : ℕ) → e ≢ m.from → e ≢ m.to → man_on q.men e ≡ man_on p.men e
+  kept e off ne = ap (λ (l : List (Option Man)). man_on l e) men_q ∙ stays_there p x m e plain.captures off ne
+
+  -- the hurdles are all men but the king
+  hurdle_is : (e : ℕ) → e < 64 → e ≢ m.from → is_some (man_on p.men e) ≡ (bit_at v.hurdles e == 1)
+  unfolding side_of
+  hurdle_is e low off = same_test _ _
+      (λ some. whole.hurdles e low (elim (some_of (man_on p.men e) p.turn some) [
+        | inl mine ↦ inl (word_has (λ s. is_of_colour (man_on p.men s) p.turn) v.own e fits.own low ∙ mine)
+        | inr enemy ↦ inr (word_has (λ s. is_of_colour (man_on p.men s) (other p.turn)) v.enemies e fits.enemies low ∙ enemy)
+      ]) (λ same. off (sym same ∙ at_king)))
+      (λ on. elim (siege.hurdles.men e low on).0 [
+        | inl mine ↦ some_side _ p.turn (sym (word_has (λ s. is_of_colour (man_on p.men s) p.turn) v.own e fits.own low) ∙ mine)
+        | inr enemy ↦ some_side _ (other p.turn) (sym (word_has (λ s. is_of_colour (man_on p.men s) (other p.turn)) v.enemies e fits.enemies low) ∙ enemy)
+      ])
+
+  beyond : (men : List (Option Man)) (e : ℕ) → length men ≡ 64 → (e < 64 → ⊥) → is_some (man_on men e) ≡ false
+  beyond men e size high = by (man_on men e) refl where
+    by : (o : Option Man) → man_on men e ≡ o → is_some o ≡ false
+    by None h = refl
+    by (Some z) h = absurd (high (on_board men e z size h))
+
+  left : is_some (man_on q.men m.from) ≡ false
+  left = by (man_on q.men m.from) refl where
+    by : (o : Option Man) → man_on q.men m.from ≡ o → is_some o ≡ false
+    by None h = refl
+    by (Some z) h = elim (stood p x m m.from z (omega (arith, small, well.size)) (sym (ap (λ (l : List (Option Man)). man_on l m.from) men_q) ∙ h)) [
+      | inl came ↦ absurd (unfree p.turn (man_on p.men m.to) is.arrival (ap (λ (o : Option Man). is_of_colour o p.turn) (ap (man_on p.men) (sym came.0) ∙ here)
+          ∙ ap (λ (c : Colour). same_colour c p.turn) is.mine ∙ same_colour-refl p.turn))
+      | inr stays ↦ absurd (stays.1.0 refl)
+    ]
+
+  alike : StandAlike (men_on v.hurdles) q.men m.to
+  alike = record {
+    alike = λ e ne. elim (cases_lt e 64) [
+      | inr high ↦
+          beyond (men_on v.hurdles) e (size_on v.hurdles) (λ low. omega (arith, low, high))
+          ∙ sym (beyond q.men e (after_well_formed rule p m well may).size (λ low. omega (arith, low, high)))
+      | inl low ↦ one_on v.hurdles e low ∙ elim (cases_eq e m.from) [
+        | inl same ↦
+            false_by _ (λ on. (siege.hurdles.men e low on).1 (at_king ∙ sym same))
+            ∙ sym (ap (λ (o : Option Man). is_some o) (ap (man_on q.men) same) ∙ left)
+        | inr off ↦ sym (ap (λ (o : Option Man). is_some o) (kept e off ne) ∙ hurdle_is e low off)
+      ]
+    ];
+  }
+
+  a : IsAttackedOver v.hurdles v.men m.to
+  a = barred.attacked
+
+  stood_a : man_on p.men a.from ≡ Some a.man
+  stood_a = fits.men.alone a.from a.man a.stands
+
+  enemy_a : a.man.colour ≡ other p.turn
+  enemy_a = a.stands.mine ∙ fits.colour
+
+  -- he doesn't stand where the king does or arrives
+  not_from : a.from ≢ m.from
+  not_from e = false≢true (sym (not_mine_enemy x p.turn is.mine)
+      ∙ ap (λ (o : Option Man). is_of_colour o (other p.turn)) (sym here ∙ ap (man_on p.men) (sym e) ∙ stood_a)
+      ∙ ap (λ (c : Colour). same_colour c (other p.turn)) enemy_a ∙ same_colour-refl (other p.turn))
+
+  not_to : a.from ≢ m.to
+  not_to e = false≢true (sym barred.free ∙ rw (← e) (sym (hurdle_is a.from a.stands.small not_from) ∙ ap (λ (o : Option Man). is_some o) stood_a))
+
+  there : man_on q.men a.from ≡ Some a.man
+  there = kept a.from not_from not_to ∙ stood_a
+
+  strikes : is_attacker rule q.men m.to (other p.turn) a.from ≡ true
+  unfolding is_attacker is_paralysed reached_over
+  strikes = and_from _ _ (and_from _ _ (ap (λ (o : Option Man). is_of_colour o (other p.turn)) there
+      ∙ ap (λ (c : Colour). same_colour c (other p.turn)) enemy_a ∙ same_colour-refl (other p.turn))
+      (ap not (and_left (faced_men_stand_still rule) _ barred.able)))
+      (able_strikes a.from q.men m.to a.man there (sym (reaches_alike (men_on v.hurdles) q.men a.man.colour a.man.kind a.from m.to alike) ∙ a.reaches))
+
+  checked : in_check rule q.men p.turn ≡ true
+  unfolding in_check is_attacked
+  checked = ap (λ (o : Option ℕ). is_attacked_at rule q.men o (other p.turn)) king_q
+      ∙ some_square_true (is_attacker rule q.men m.to (other p.turn)) a.from a.stands.small strikes
+
+  pub barred_is_illegal : is_legal rule p m ≡ true → ⊥
+  unfolding is_legal
+  barred_is_illegal legal = not_both (is_pseudo_legal rule p m) (in_check rule q.men p.turn) legal checked
