@@ -131,7 +131,7 @@ fn count_one_by_one<R: Rules>(
 
 // The same, where all are surely legal without looking at them.
 #[tactic(auto, using(crate::proofs::listing_moves::Counting::count_by_word))]
-fn count_origin<R: Rules>(
+pub(crate) fn count_origin<R: Rules>(
     board: &mut Board,
     known: Known,
     squares: Squares,

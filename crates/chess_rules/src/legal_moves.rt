@@ -15,7 +15,7 @@ use crate::legal::is_legal;
 use crate::moves::{Moves, triple};
 use crate::rules::Rules;
 use crate::shields::shield_squares;
-use crate::sift::Sift;
+use crate::sift::{Sift, Sifted, next_left};
 use crate::sought::{Sought, next_passing};
 use crate::targets::{Kept, TRIPLES, arrivals};
 use chess_core::board::Board;
@@ -176,44 +176,46 @@ impl<R: Rules> LegalMoves<R> {
     }
 
     /// The first legal move behind the place that the sieve leaves, on which the place then stands; those
-    /// passed over fail its test. Where there is none: `None`, and the place stands behind all triples. The
+    /// passed over fail its test, and are counted. Where there is none the place stands behind all triples. The
     /// board is unchanged. Place and sieve must be of the board's position.
     #[tactic(auto, using(crate::proofs::listing_moves::Sifting::next_sifted))]
-    pub fn next_sifted<S: Sift>(&mut self, sift: &S, board: &mut Board) -> Option<Move>
+    pub fn next_sifted<S: Sift>(&mut self, sift: &mut S, board: &mut Board) -> Sifted
         requires well_formed { IsWellFormed board.old }
         requires place { IsPlaceIn R.rule board.old self.old }
-        requires fits { S.fits sift.now R.rule board.old }
-        ensures place { self.new ≡ record self.old { place = place_of result } }
+        requires fits { S.fits sift.old R.rule board.old }
+        ensures place { self.new ≡ record self.old { place = place_of result.found } }
         ensures within { IsPlaceIn R.rule board.old self.new }
-        ensures passed { MatchOption result
-            (filter (S.test R.rule board.old) (moves_behind R.rule board.old self.old.place) ≡ [])
+        ensures passed { MatchOption result.found
+            ((filter (S.test R.rule board.old) (moves_behind R.rule board.old self.old.place) ≡ [])
+            × (result.passed ≡ length (moves_behind R.rule board.old self.old.place)))
             (λ m. IsSifted R.rule board.old (S.test R.rule board.old) self.old.place
-            self.new.place m) }
+            self.new.place result.passed m) }
         ensures behind { moves_behind R.rule board.old self.old.place
             ≡ moves_between R.rule board.old self.old.place self.new.place
             ++ moves_behind R.rule board.old self.new.place }
-        ensures legal { IfSome result (λ m. is_legal R.rule board.old m ≡ true) }
-        ensures onward { IfSome result (λ m. self.old.place < self.new.place) }
+        ensures legal { IfSome result.found (λ m. is_legal R.rule board.old m ≡ true) }
+        ensures onward { IfSome result.found (λ m. self.old.place < self.new.place) }
+        ensures same { sift.new ≡ sift.old }
         ensures board { board.new ≡ board.old }
     {
-        let sifted = Sifted {
-            known: Known {
-                shield_squares: self.shield_squares,
-                evasion_squares: self.evasion_squares,
-            },
-            sift,
+        let known = Known {
+            shield_squares: self.shield_squares,
+            evasion_squares: self.evasion_squares,
         };
-        let mut kept = Kept {
-            origin: None,
-            squares: 0,
-        };
-        let number = next_passing::<R, Sifted<S>>(board, &sifted, &mut kept, self.number, TRIPLES);
+        let mut passed = 0;
+        let number = next_left::<R, S>(board, known, sift, self.number, &mut passed);
         if number < TRIPLES {
             self.number = number + 1;
-            return Some(triple(number));
+            return Sifted {
+                found: Some(triple(number)),
+                passed,
+            };
         }
         self.number = TRIPLES;
-        None
+        Sifted {
+            found: None,
+            passed,
+        }
     }
 
     /// How many legal moves lie behind the place and not behind `end`. The board is unchanged. The place
@@ -299,45 +301,6 @@ impl Sought for Known {
     }
 
     ghost idle = { λ rule p m h. is_legal-idle rule p m h };
-}
-
-/// The same with a sieve, where the legal moves that it leaves are looked for.
-#[derive(Drop)]
-struct Sifted<'a, S> {
-    known: Known,
-    sift: &'a S,
-}
-
-impl<'a, S: Sift> Sought for Sifted<'a, S> {
-    ghost use Rattle.chess_rules.specs.Legal.{is_legal};
-    ghost use Rattle.chess_rules.specs.ties.Idle.{is_wanted-idle};
-    ghost use Rattle.chess_rules.specs.ties.Sifting.{is_wanted};
-
-    ghost test = { λ rule p. is_wanted rule p (S.test rule p) };
-
-    ghost found = { is_legal };
-
-    ghost fits = { λ s rule p. ⟦<Known as Sought>⟧.fits s.known rule p × S.fits s.sift.now rule p };
-
-    fn origins<R: Rules>(&self, board: &Board) -> Squares {
-        own_origins::<R>(board)
-    }
-
-    #[tactic(auto, using(crate::proofs::listing_moves::Sifting::wanted_candidates, std::proofs::lemmas::Bool::and_left))]
-    fn candidates<R: Rules>(&self, board: &Board, from: Square) -> Squares {
-        let squares = candidates::<R>(board, self.known.evasion_squares, from);
-        if squares == 0 {
-            return 0;
-        }
-        squares & self.sift.sift::<R>(board, from, squares)
-    }
-
-    fn is_found<R: Rules>(&self, board: &mut Board, m: Move) -> bool {
-        let known = &self.known;
-        is_legal::<R>(board, known.shield_squares, known.evasion_squares, m)
-    }
-
-    ghost idle = { λ rule p m h. is_wanted-idle rule p (S.test rule p) m h };
 }
 
 // The squares from which the side to move has a legal move, and perhaps more: those of its men.

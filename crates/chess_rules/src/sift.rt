@@ -1,16 +1,27 @@
 //! A sieve for legal moves: those that it takes needn't be looked at one by one.
-ghost use Rattle.std.specs.Prelude.{◌≡◌};
+ghost use Rattle.std.specs.Prelude.{◌≡◌, ◌+◌, ◌*◌, ◌<◌, ◌≤◌, length, true};
 ghost use Rattle.chess_core.specs.WellFormed.{IsWellFormed};
-ghost use Rattle.chess_rules.specs.ties.Sifting.{AreSifted};
+ghost use Rattle.chess_rules.specs.Legal.{is_legal};
+ghost use Rattle.chess_rules.specs.ties.Counting.{IsKnownIn};
+ghost use Rattle.chess_rules.specs.ties.Places.{HaveNone, moves_between, triple_at};
+ghost use Rattle.chess_rules.specs.ties.Sifting.{AreSifted, is_wanted};
+ghost use Rattle.chess_rules.specs.ties.Targets.{AreCandidates};
 
+use crate::counting::count_origin;
+use crate::legal::is_legal;
+use crate::legal_moves::{Known, candidates, own_origins};
+use crate::moves::triple;
 use crate::rules::Rules;
+use crate::targets::{PER_ORIGIN, TRIPLES, next_from};
+use crate::words::next_bit;
 use chess_core::board::Board;
+use chess_core::man::Move;
 use chess_core::square::{Square, Squares};
 
 /// A sieve for the legal moves of a position, by the squares to which they go: it takes moves that fail a test,
 /// and leaves all that pass it, and perhaps more. Also told is when it is one of a position.
 pub trait Sift {
-    ghost use Rattle.std.specs.Prelude.{Bool};
+    ghost use Rattle.std.specs.Prelude.{Bool, ◌≡◌};
     ghost use Rattle.chess_core.specs.Position.{Position};
     ghost use Rattle.chess_core.specs.declared.man.Move.{Move};
     ghost use Rattle.chess_rules.specs.RuleSet.{RuleSet};
@@ -19,9 +30,113 @@ pub trait Sift {
 
     ghost fits: { Self → RuleSet → Position → Type 0 };
 
-    /// Those of the squares to which a legal move of the man on `from` may pass the test, and perhaps more.
-    fn sift<R: Rules>(&self, board: &Board, from: Square, squares: Squares) -> Squares
+    /// Those of the squares to which a legal move of the man on `from` may pass the test, and perhaps more. What the
+    /// sieve keeps for the next question isn't seen.
+    fn sift<R: Rules>(&mut self, board: &Board, from: Square, squares: Squares) -> Squares
         requires well_formed { IsWellFormed board.now }
-        requires fits { fits self.now R.rule board.now }
-        ensures { AreSifted R.rule board.now (test R.rule board.now) from squares result };
+        requires fits { fits self.old R.rule board.now }
+        ensures sifted { AreSifted R.rule board.now (test R.rule board.now) from squares result }
+        ensures same { self.new ≡ self.old };
+}
+
+/// What a walk past the moves that a sieve takes comes to.
+#[derive(Clone, Copy)]
+pub struct Sifted {
+    /// The first legal move that the sieve leaves, if there is one.
+    pub found: Option<Move>,
+    /// How many legal moves lie before it, or behind the place where it began if there is none.
+    pub passed: u16,
+}
+
+// Of the squares to which the man on `from` may go by a legal move those that the sieve leaves.
+#[tactic(auto, using(crate::proofs::listing_moves::Sifting::wanted_candidates))]
+fn wanted_squares<R: Rules, S: Sift>(
+    board: &Board,
+    sift: &mut S,
+    from: Square,
+    squares: Squares,
+) -> Squares
+    requires well_formed { IsWellFormed board.now }
+    requires fits { S.fits sift.old R.rule board.now }
+    requires squares { AreCandidates R.rule board.now (is_legal R.rule board.now) from squares }
+    ensures wanted { AreCandidates R.rule board.now
+        (is_wanted R.rule board.now (S.test R.rule board.now)) from result }
+    ensures same { sift.new ≡ sift.old }
+{
+    if squares == 0 {
+        return 0;
+    }
+    squares & sift.sift::<R>(board, from, squares)
+}
+
+// The first triple of the man on `from` that is a legal move to one of the squares, from the one numbered `start` on, each
+// counted from the origin's first; 448 where there is none. The board is unchanged.
+fn next_wanted<R: Rules, S: Sift>(
+    board: &mut Board,
+    known: Known,
+    squares: Squares,
+    from: Square,
+    start: u16,
+) -> u16
+    requires well_formed { IsWellFormed board.old }
+    requires known { IsKnownIn R.rule board.old known }
+    requires squares { AreCandidates R.rule board.old
+        (is_wanted R.rule board.old (S.test R.rule board.old)) from squares }
+    requires start { start ≤ 448 }
+    ensures low { start ≤ result }
+    ensures high { result ≤ 448 }
+    ensures none { HaveNone (is_wanted R.rule board.old (S.test R.rule board.old))
+        (448 * from + start) (448 * from + result) }
+    ensures legal { result < 448
+        → is_legal R.rule board.old (triple_at (448 * from + result)) ≡ true }
+    ensures board { board.new ≡ board.old }
+{
+    let first = u16::from(from.index()) * PER_ORIGIN;
+    let mut at = next_from(board, from, squares, start);
+    while at < PER_ORIGIN {
+        let m = triple(first + at);
+        if is_legal::<R>(board, known.shield_squares, known.evasion_squares, m) {
+            return at;
+        }
+        at = next_from(board, from, squares, at + 1);
+    }
+    PER_ORIGIN
+}
+
+// The number of the first legal move that the sieve leaves, from the triple numbered `start` on; 28,672 where there is
+// none. The legal moves before it, which it takes, are counted. The board is unchanged.
+pub(crate) fn next_left<R: Rules, S: Sift>(
+    board: &mut Board,
+    known: Known,
+    sift: &mut S,
+    start: u16,
+    passed: &mut u16,
+) -> u16
+    requires well_formed { IsWellFormed board.old }
+    requires known { IsKnownIn R.rule board.old known }
+    requires fits { S.fits sift.old R.rule board.old }
+    requires none { passed.old ≡ 0 }
+    ensures low { result < 28672 → start ≤ result }
+    ensures high { result ≤ 28672 }
+    ensures none { HaveNone (is_wanted R.rule board.old (S.test R.rule board.old)) start result }
+    ensures legal { result < 28672 → is_legal R.rule board.old (triple_at result) ≡ true }
+    ensures passed { passed.new ≡ length (moves_between R.rule board.old start result) }
+    ensures same { sift.new ≡ sift.old }
+    ensures board { board.new ≡ board.old }
+{
+    let origins = own_origins::<R>(board);
+    let mut number = start;
+    while let Some(from) = next_bit(origins, (number / PER_ORIGIN) as u8) {
+        let first = u16::from(from.index()) * PER_ORIGIN;
+        let squares = candidates::<R>(board, known.evasion_squares, from);
+        let wanted = wanted_squares::<R, S>(board, sift, from, squares);
+        let begin = number.saturating_sub(first);
+        let at = next_wanted::<R, S>(board, known, wanted, from, begin);
+        *passed += count_origin::<R>(board, known, squares, from, begin, at);
+        if at < PER_ORIGIN {
+            return first + at;
+        }
+        number = first + PER_ORIGIN;
+    }
+    TRIPLES
 }

@@ -82,6 +82,29 @@ module _ (rule : RuleSet) (p : Position) where
           ]
         ]
 
+    -- those up to a triple of the next origin are those so far and its own before that one
+    pub passed_on : (start number s a n z : ℕ) → start ≤ number → find (λ q. bit_at o q == 1) (range_with_len (number / 448) (64 - number / 448)) ≡ Some s
+        → n ≡ 448 * s → z ≡ number - n → z ≤ a → a ≤ 448
+        → between start (n + a) ≡ between start number + between (448 * s + z) (448 * s + a)
+    passed_on start number s a n z low found first from more few =
+        omega (
+          arith,
+          count_cut start number (n + a) low (omega (arith, from, more)),
+          by_origin number (n + a) s n z a found first from (omega (arith, few)),
+          none_left (n + 448) (n + a) (omega (arith, few)),
+        )
+
+    -- where no origin is left those so far are all
+    pub passed_all : (start number : ℕ) → start ≤ number → find (λ q. bit_at o q == 1) (range_with_len (number / 448) (64 - number / 448)) ≡ None
+        → between start 28672 ≡ between start number
+    passed_all start number low none = elim (cases_lt number 28672) [
+      | inl lt ↦ omega (arith, count_cut start number 28672 low (omega (arith, lt)), no_origin number 28672 none)
+      | inr ge ↦ elim (cases_lt start 28672) [
+        | inl small ↦ omega (arith, count_cut start 28672 number (omega (arith, small)) ge, ap length (between-past rule p 28672 number (omega arith)))
+        | inr past ↦ ap length (between-past rule p start 28672 past) ∙ sym (ap length (between-past rule p start number past))
+      ]
+    ]
+
   module _ (s w : ℕ) (small : s < 64) (are : AreCandidates rule p (is_legal rule p) s w) where
     -- triples that are no moves don't count
     pub count_barren : (a b e : ℕ) → a ≤ b → b ≤ 448 → IsBarrenFrom p s w a b → between (448 * s + a) e ≡ between (448 * s + b) e

@@ -1,7 +1,7 @@
 -- The legal moves that a sieve takes, passed over by walking from candidate to candidate.
-use Rattle.std.proofs.lemmas.List.{append_assoc}
+use Rattle.std.proofs.lemmas.List.{append-nil, append_assoc}
 use Rattle.chess_core.proofs.Ranges.{second_fails}
-use Rattle.chess_rules.proofs.Basics.{Bool, [], and_left, ap, append_cancel_right, arith, bit_and, bit_at, cases_Bool, cases_lt, false, filter, filter-append, rules, sym, true, ℕ, ◌++◌, ◌+◌, ◌<◌, ◌==◌, ◌∙◌, ◌∷◌, ◌≡◌, ◌≤◌}
+use Rattle.chess_rules.proofs.Basics.{Bool, [], and_left, ap, append_cancel_right, arith, bit_and, bit_at, cases_Bool, cases_lt, false, filter, filter-append, length, rules, sym, true, ℕ, ◌++◌, ◌+◌, ◌<◌, ◌==◌, ◌∙◌, ◌∷◌, ◌≡◌, ◌≤◌}
 use Rattle.chess_rules.proofs.Chess.{AreCandidates, AreOrigins, HaveNone, Move, Position, RuleSet, is_legal, moves_behind, moves_between, triple_at}
 use Rattle.chess_rules.proofs.listing_moves.Between.{behind_cut, between-past}
 use Rattle.chess_rules.proofs.listing_moves.Places.{moves_behind-end, moves_behind-here, moves_behind-skip, over, place_of_none, place_of_triple}
@@ -19,6 +19,10 @@ module _ (rule : RuleSet) (p : Position) (test : Move → Bool) where
       → AreCandidates rule p (is_wanted rule p test) s (bit_and w v)
   wanted_candidates s w v are sifted = search (rules, and_left, cases_Bool, off_second, on_first, second_fails)
 
+  -- who has no legal move has none that is wanted
+  pub wanted_origins : (o : ℕ) → AreOrigins (is_legal rule p) o → AreOrigins (is_wanted rule p test) o
+  wanted_origins o own = record { elsewhere = λ m from to off. and_left _ (test m) (own.elsewhere m from to off) }
+
   wanted-skip : (n : ℕ) → n < 28672 → is_wanted rule p test (triple_at n) ≡ false
       → filter test (moves_behind rule p n) ≡ filter test (moves_behind rule p (n + 1))
   wanted-skip n lt h = search (rules, second_fails, moves_behind-here, moves_behind-skip)
@@ -30,12 +34,13 @@ module _ (rule : RuleSet) (p : Position) (test : Move → Bool) where
       over (λ n. filter test (moves_behind rule p n)) (is_wanted rule p test) wanted-skip [] (λ n ge. ap (filter test) (moves_behind-end rule p n ge))
 
   -- up to a legal move, by its number
-  pub sifted_numbered : (a n : ℕ) → a ≤ n → n < 28672 → HaveNone (is_wanted rule p test) a n → is_legal rule p (triple_at n) ≡ true
-      → IsSifted rule p test a (n + 1) (triple_at n)
-  sifted_numbered a n le lt none h =
+  pub sifted_numbered : (a n c : ℕ) → a ≤ n → n < 28672 → c ≡ length (moves_between rule p a n) → HaveNone (is_wanted rule p test) a n
+      → is_legal rule p (triple_at n) ≡ true → IsSifted rule p test a (n + 1) c (triple_at n)
+  sifted_numbered a n c le lt count none h =
       let cut = behind_cut rule p a n le in
       record {
         over = moves_between rule p a n;
+        counted = count;
         passed = append_cancel_right (moves_between rule p a (n + 1)) (moves_between rule p a n ++ triple_at n ∷ []) (moves_behind rule p (n + 1))
             (grind (arith, append_assoc, behind_cut, moves_behind-here));
         none = append_cancel_right (filter test (moves_between rule p a n)) [] (filter test (moves_behind rule p n))
@@ -47,5 +52,12 @@ module _ (rule : RuleSet) (p : Position) (test : Move → Bool) where
   pub sifted_missing : (a b : ℕ) → 28672 ≤ b → b ≤ 28672 → HaveNone (is_wanted rule p test) a b → filter test (moves_behind rule p a) ≡ []
   sifted_missing a b ge le none = grind (arith, moves_behind-end, wanted-none)
 
+-- all that lie behind a place lie before the end
+pub counted_behind : (rule : RuleSet) (p : Position) (a b c : ℕ) → 28672 ≤ b → b ≤ 28672 → c ≡ length (moves_between rule p a b)
+    → c ≡ length (moves_behind rule p a)
+counted_behind rule p a b c ge le count =
+    count ∙ ap length (sym (moved_on rule p a b (λ lt. absurd (omega (arith, lt, ge))) ∙ ap (λ l. moves_between rule p a b ++ l) (moves_behind-end rule p b ge)
+    ∙ append-nil (moves_between rule p a b)))
+
 -- for the next legal move that a sieve leaves
-pub ruleset next_sifted = (moved_on, place_of_none, place_of_triple, sifted_missing, sifted_numbered)
+pub ruleset next_sifted = (counted_behind, moved_on, place_of_none, place_of_triple, sifted_missing, sifted_numbered)

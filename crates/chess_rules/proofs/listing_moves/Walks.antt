@@ -1,5 +1,5 @@
 -- No move is missed by walking from candidate to candidate.
-use Rattle.chess_rules.proofs.Basics.{Bool, None, Some, and_right, ap, arith, bit_and, bit_at, bit_at-lt, bit_at-zero, bit_at_and, cases_Bool, cases_lt, eq-eqb, eqb-true, false, find, inl, inr, not, range_with_len, refl, rules, true, ℕ, ◌%◌, ◌*◌, ◌+◌, ◌-◌, ◌/◌, ◌<◌, ◌==◌, ◌≡◌, ◌≤◌}
+use Rattle.chess_rules.proofs.Basics.{Bool, None, Some, and_right, ap, arith, bit_and, bit_at, bit_at-lt, bit_at-zero, bit_at_and, cases_Bool, cases_eq, cases_lt, eq-eqb, eqb-true, false, find, inl, inr, not, range_with_len, refl, rules, true, ℕ, ◌%◌, ◌*◌, ◌+◌, ◌-◌, ◌/◌, ◌<◌, ◌==◌, ◌≡◌, ◌≤◌}
 use Rattle.chess_rules.proofs.Chess.{AreCandidates, AreEvasionsFrom, AreOrigins, HaveNone, IsAimed, IsBarrenFrom, IsNamed, Move, Position, RuleSet, find_first, find_no, is_arrival, is_legal, is_pseudo_legal, promotion_at, side_of, triple_at, word}
 use Rattle.chess_rules.proofs.Bits.{word_has}
 use Rattle.chess_rules.proofs.listing_moves.Targeting.{arrival_needed, false_by, own_moves}
@@ -49,6 +49,21 @@ module _ (rule : RuleSet) (p : Position) (test : Move → Bool) (needs : (m : Mo
         (omega (arith, hi, le)) (h.fails rule (k - 448 * s) (omega (arith, lo)) (omega (arith, lo, hi))));
   }
 
+  -- past one that fails too
+  pub none-onward : (s w z a b : ℕ) → b ≤ 448 → AreCandidates rule p test s w → HaveNone test (448 * s + z) (448 * s + a)
+      → test (triple_at (448 * s + a)) ≡ false → IsBarrenFrom p s w (a + 1) b → HaveNone test (448 * s + z) (448 * s + b)
+  none-onward s w z a b le are past fails here =
+      let behind = none-from s w (a + 1) b le are here in
+      record {
+        fails = λ k lo hi. elim (cases_lt k (448 * s + a)) [
+          | inl lt ↦ past.fails k lo lt
+          | inr ge ↦ elim (cases_eq k (448 * s + a)) [
+            | inl e ↦ rw e fails
+            | inr ne ↦ behind.fails k (omega (arith, ge, ne)) hi
+          ]
+        ];
+      }
+
   -- the squares of the side to move are all its origins
   pub own-origins : (o : ℕ) → o ≡ side_of p.men p.turn → AreOrigins test o
   unfolding side_of
@@ -61,19 +76,19 @@ module _ (rule : RuleSet) (p : Position) (test : Move → Bool) (needs : (m : Mo
   none-missed a b o h le none = grind arith
 
   -- up to a triple of the next origin
-  pub none-origin : (start number s a o w n z : ℕ) → AreOrigins test o → HaveNone test start number
-      → find (λ q. bit_at o q == 1) (range_with_len (number / 448) (64 - number / 448)) ≡ Some s → a ≤ 448 → AreCandidates rule p test s w → n ≡ 448 * s
-      → z ≡ number - n → IsBarrenFrom p s w z a → HaveNone test start (n + a)
-  none-origin start number s a o w n z h past found le are at off here =
+  pub none-origin : (start number s a o n z : ℕ) → AreOrigins test o → HaveNone test start number
+      → find (λ q. bit_at o q == 1) (range_with_len (number / 448) (64 - number / 448)) ≡ Some s → n ≡ 448 * s → z ≡ number - n
+      → HaveNone test (448 * s + z) (448 * s + a) → HaveNone test start (n + a)
+  none-origin start number s a o n z h past found at off here =
       let f = find_first (λ q. bit_at o q == 1) (number / 448) (64 - number / 448) s found in
       rw at (elim (cases_lt (448 * s) number) [
         | inl lt ↦
             let e : 448 * s + z ≡ number = omega (arith, lt, at, off) in
-            none-join start number (448 * s + a) past (rw e at (none-from s w z a le are here))
+            none-join start number (448 * s + a) past (rw e at here)
         | inr ge ↦
             let e : 448 * s + z ≡ 448 * s = omega (arith, ge, at, off) in
             let before = none-missed number (448 * s) o h (omega (arith, f.high, f.low)) (λ q lo hi. f.before q lo (omega (arith, hi))) in
-            none-join start (448 * s) (448 * s + a) (none-join start number (448 * s) past before) (rw e at (none-from s w z a le are here))
+            none-join start (448 * s) (448 * s + a) (none-join start number (448 * s) past before) (rw e at here)
       ])
 
   -- up to the end, where there is none

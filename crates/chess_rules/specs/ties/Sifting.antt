@@ -1,5 +1,5 @@
 -- Legal moves that a sieve takes (own).
-use Rattle.std.specs.Prelude.{◌≡◌, ℕ, Bool, true, false, ◌&&◌, ◌==◌, List, [], ◌∷◌, ◌++◌, filter}
+use Rattle.std.specs.Prelude.{◌≡◌, ℕ, Bool, true, false, ◌&&◌, ◌==◌, List, [], ◌∷◌, ◌++◌, filter, length}
 use Rattle.std.specs.Int.{bit_at}
 use Rattle.chess_core.specs.Position.{Position}
 use Rattle.chess_core.specs.declared.man.Move.{Move}
@@ -17,9 +17,10 @@ pub record AreSifted (rule : RuleSet) (p : Position) (test : Move → Bool) (s w
 abbrev pub is_wanted : RuleSet → Position → (Move → Bool) → Move → Bool
 is_wanted rule p test m = is_legal rule p m && test m
 
--- behind the place a up to the place b lie the legal moves `over`, none of which passes the test, and then m
-pub record IsSifted (rule : RuleSet) (p : Position) (test : Move → Bool) (a b : ℕ) (m : Move) : Type
-    0 where
+-- behind the place a up to the place b lie the n legal moves `over`, none of which passes the test, and then m
+pub record IsSifted (rule : RuleSet) (p : Position) (test : Move → Bool) (a b n : ℕ) (m : Move) :
+    Type 0 where
   pub over : List Move
+  pub counted : n ≡ length over
   pub passed : moves_between rule p a b ≡ over ++ m ∷ []
   pub none : filter test over ≡ []
