@@ -1,4 +1,4 @@
-//! How many legal moves lie between two places, most of them counted by words of squares.
+//! How many legal moves of one origin lie between two triples, most of them counted by words of squares.
 ghost use Rattle.std.specs.Prelude.{◌≡◌, ◌*◌, ◌+◌, ◌/◌, ◌^◌, ◌<◌, ◌≤◌, ◌==◌, ℕ, count_ones, length, true};
 ghost use Rattle.std.specs.Int.{bit_at};
 ghost use Rattle.chess_core.specs.WellFormed.{IsWellFormed};
@@ -8,16 +8,16 @@ ghost use Rattle.chess_rules.specs.Legal.{is_legal, last_rank};
 ghost use Rattle.chess_rules.specs.ties.Counting.{AreLegal, IsKnownIn, is_unsure};
 ghost use Rattle.chess_rules.specs.ties.Places.{moves_between};
 ghost use Rattle.chess_rules.specs.ties.Shields.{may_expose};
-ghost use Rattle.chess_rules.specs.ties.Targets.{AreCandidates, AreKept, is_promoting};
+ghost use Rattle.chess_rules.specs.ties.Targets.{AreCandidates, is_promoting};
 
 use crate::evasions::eventful_captures;
 use crate::legal::is_legal;
-use crate::legal_moves::{Known, candidates, own_origins};
+use crate::legal_moves::Known;
 use crate::moves::triple;
 use crate::rules::Rules;
 use crate::shields::fairy_lines;
-use crate::targets::{Kept, PER_ORIGIN, next_from};
-use crate::words::{contains, next_bit, only};
+use crate::targets::{PER_ORIGIN, next_from};
+use crate::words::{contains, only};
 use chess_core::board::Board;
 use chess_core::man::{Colour, Kind, Man};
 use chess_core::square::{Square, Squares};
@@ -153,51 +153,4 @@ pub(crate) fn count_origin<R: Rules>(
         return count_from(squares, ((start + 6) / 7) as u8).saturating_sub(behind);
     }
     count_one_by_one::<R>(board, known, squares, from, start, end)
-}
-
-// The squares to which the man on `from` may go by a legal move, and perhaps more: as kept, if they are.
-fn squares_from<R: Rules>(board: &Board, known: Known, kept: &Kept, from: Square) -> Squares
-    requires well_formed { IsWellFormed board.now }
-    requires known { IsKnownIn R.rule board.now known }
-    requires kept { AreKept R.rule board.now (is_legal R.rule board.now) kept.now }
-    ensures { AreCandidates R.rule board.now (is_legal R.rule board.now) from result }
-{
-    if kept.origin == Some(from) {
-        kept.squares
-    } else {
-        candidates::<R>(board, known.evasion_squares, from)
-    }
-}
-
-// How many legal moves there are among the triples numbered from `start` on and below `end`. The board is
-// unchanged.
-#[tactic(auto, using(crate::proofs::listing_moves::Counting::by_origins))]
-pub(crate) fn count_between<R: Rules>(
-    board: &mut Board,
-    known: Known,
-    kept: &Kept,
-    start: u16,
-    end: u16,
-) -> u16
-    requires well_formed { IsWellFormed board.old }
-    requires known { IsKnownIn R.rule board.old known }
-    requires kept { AreKept R.rule board.old (is_legal R.rule board.old) kept.now }
-    ensures count { result ≡ length (moves_between R.rule board.old start end) }
-    ensures board { board.new ≡ board.old }
-{
-    let origins = own_origins::<R>(board);
-    let mut count = 0u16;
-    let mut number = start;
-    while number < end {
-        let Some(from) = next_bit(origins, (number / PER_ORIGIN) as u8) else {
-            return count;
-        };
-        let first = u16::from(from.index()) * PER_ORIGIN;
-        let squares = squares_from::<R>(board, known, kept, from);
-        let begin = number.saturating_sub(first);
-        let stop = end.saturating_sub(first).min(PER_ORIGIN);
-        count += count_origin::<R>(board, known, squares, from, begin, stop);
-        number = first + PER_ORIGIN;
-    }
-    count
 }

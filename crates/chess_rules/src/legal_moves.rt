@@ -9,7 +9,6 @@ ghost use Rattle.chess_rules.specs.ties.Places.{HaveNone, IsPlaceIn, first_behin
 ghost use Rattle.chess_rules.specs.ties.Sifting.{IsSifted};
 ghost use Rattle.chess_rules.specs.ties.Targets.{AreCandidates, AreKept, AreOrigins, IsAimed};
 
-use crate::counting::count_between;
 use crate::evasions::{evasion_squares, evasions_from};
 use crate::legal::is_legal;
 use crate::moves::{Moves, triple};
@@ -216,21 +215,6 @@ impl<R: Rules> LegalMoves<R> {
             found: None,
             passed,
         }
-    }
-
-    /// How many legal moves lie behind the place and not behind `end`. The board is unchanged. The place
-    /// must be one in the board's position.
-    pub fn count_until(&self, end: Moves<R>, board: &mut Board) -> u16
-        requires well_formed { IsWellFormed board.old }
-        requires place { IsPlaceIn R.rule board.old self.now }
-        ensures count { result ≡ length (moves_between R.rule board.old self.now.place end) }
-        ensures board { board.new ≡ board.old }
-    {
-        let known = Known {
-            shield_squares: self.shield_squares,
-            evasion_squares: self.evasion_squares,
-        };
-        count_between::<R>(board, known, &self.targets, self.number, end.number())
     }
 }
 

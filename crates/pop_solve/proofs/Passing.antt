@@ -26,36 +26,27 @@ module _ (rule : RuleSet) (p : Position) where
       let back : place_of (Some m) - 1 ≡ w.0 = omega (arith, at) in
       rw (back, at) (rw w.2 at (moves_behind-here rule p w.0 w.1 (rw w.2 lawful)))
 
-  -- all moves behind a place lie before the end
-  to_end : (place : ℕ) → moves_between rule p place 28672 ≡ moves_behind rule p place
-  to_end place = elim (cases_lt place 28672) [
-    | inl lt ↦ sym (behind_cut rule p place 28672 (omega (arith, lt)) ∙ (rw (moves_behind-end rule p 28672 (omega arith)) (append-nil _)))
-    | inr ge ↦ between-past rule p place 28672 ge ∙ sym (moves_behind-end rule p place ge)
-  ]
-
   -- what the sieve passes over is settled
-  pub sifted : (place next count before after n : ℕ) (o : Option Move) → IsWellFormed p → next ≡ place_of o → IfSome o (λ m. is_legal rule p m ≡ true)
-      → MatchOption o (filter (allows_mate rule p) (moves_behind rule p place) ≡ []) (λ m. IsSifted rule p (allows_mate rule p) place next m)
-      → IfSome o (λ m. place < next) → count ≡ length (moves_between rule p place next) → MatchOption o (n ≡ count) (λ m. n + 1 ≡ count)
-      → after ≡ min (before + n) (2 ^ 64 - 1) → IsNextUnsettled rule p place next before after o
-  unfolding place_of
-  sifted place next count before after n None sound at lawful none onward all number counted = record {
+  pub sifted : (place next n before after : ℕ) (o : Option Move) → IsWellFormed p → next ≡ place_of o → IfSome o (λ m. is_legal rule p m ≡ true)
+      → MatchOption o ((filter (allows_mate rule p) (moves_behind rule p place) ≡ []) × (n ≡ length (moves_behind rule p place)))
+      (λ m. IsSifted rule p (allows_mate rule p) place next n m)
+      → IfSome o (λ m. place < next) → after ≡ min (before + n) (2 ^ 64 - 1) → IsNextUnsettled rule p place next before after o
+  sifted place next n before after None sound at lawful none onward counted = record {
     mid = 28672;
     over = moves_behind rule p place;
     passed = rw (moves_behind-end rule p 28672 (omega arith)) (sym (append-nil (moves_behind rule p place)));
     here = moves_behind-end rule p 28672 (omega arith);
-    fits = record { none = none; counts = rw (← to_end place, ← at, ← all, ← number) counted };
+    fits = record { none = none.0; counts = rw none.1 at counted };
   }
-  sifted place next count before after n (Some m) sound at lawful passed onward all number counted =
+  sifted place next n before after (Some m) sound at lawful passed onward counted =
       let back = behind_back m sound lawful in
-      let cut = behind_cut rule p place next (omega (arith, onward)) in
-      let long : length passed.over ≡ n = omega (arith, all, number, ap length passed.passed, length-append passed.over (m ∷ [])) in (
+      let cut = behind_cut rule p place next (omega (arith, onward)) in (
         record {
           mid = next - 1;
           over = passed.over;
           passed = cut ∙ (rw (passed.passed, at, back) (append_assoc passed.over (m ∷ []) (moves_behind rule p (place_of (Some m)))));
           here = rw at back;
-          fits = record { none = passed.none; counts = rw long counted };
+          fits = record { none = passed.none; counts = rw passed.counted at counted };
         },
         lawful,
       )

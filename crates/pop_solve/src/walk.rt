@@ -280,39 +280,29 @@ fn may_settle(plan: Plan, left: usize) -> bool
     left == 2 && plan.play == Play::Help && is_for_mate(plan.goal)
 }
 
-/// How many of `count` moves come before the one that was found as the last of them, if one was.
-fn count_before(found: &Option<Move>, count: u64) -> u64
-    requires { IfSome found.now (λ m. 0 < count) }
-    ensures { MatchOption found.now (result ≡ count) (λ m. result + 1 ≡ count) }
-{
-    if found.is_some() { count - 1 } else { count }
-}
-
 /// The next move behind the place that some reply may mate, as far as the threats say. Those that are passed over are
 /// counted, each as the frame that it would have opened.
 fn next_risky<R: Rules>(
-    threats: &Threats,
+    threats: &mut Threats,
     known: &mut Option<LegalMoves<R>>,
     place: &mut Moves<R>,
     board: &mut Board,
     opened: &mut u64,
 ) -> Option<Move>
     requires well_formed { IsWellFormed board.old }
-    requires threats { AreThreatsOf R.rule board.old threats.now }
+    requires threats { AreThreatsOf R.rule board.old threats.old }
     requires known { IfSome known.old (λ k. IsPlaceIn R.rule board.old k) }
     ensures unchanged { board.new ≡ board.old }
     ensures within { IfSome known.new (λ k. IsPlaceIn R.rule board.old k) }
     ensures next { IsNextUnsettled R.rule board.old place.old place.new opened.old opened.new
         result }
 {
-    let before = moves_at::<R>(*known, *place, board);
-    let mut moves = before;
-    let found = moves.next_sifted(threats, board);
-    let count = u64::from(before.count_until(moves.place(), board));
-    *opened = opened.saturating_add(count_before(&found, count));
+    let mut moves = moves_at::<R>(*known, *place, board);
+    let sifted = moves.next_sifted(threats, board);
+    *opened = opened.saturating_add(u64::from(sifted.passed));
     *place = moves.place();
     *known = Some(moves);
-    found
+    sifted.found
 }
 
 /// The same as far as `keeps_flight` says.
@@ -356,7 +346,7 @@ fn next_unsettled<R: Rules>(
 {
     history.killers.tell_threats(board);
     let opened = &mut history.opened;
-    match &history.killers.threats {
+    match &mut history.killers.threats {
         Some(threats) => next_risky::<R>(threats, known, place, board, opened),
         None => next_without_flight::<R>(known, place, board, opened),
     }

@@ -54,14 +54,14 @@ module _ (rule : RuleSet) (p : Position) where
     missed a b le none = none-missed rule p (is_legal rule p) (λ m h. is_legal-idle rule p m h) a b o own le none
 
     -- where no origin is left there is no move
-    pub no_origin : (a e : ℕ) → find (λ q. bit_at o q == 1) (range_with_len (a / 448) (64 - a / 448)) ≡ None → between a e ≡ 0
+    no_origin : (a e : ℕ) → find (λ q. bit_at o q == 1) (range_with_len (a / 448) (64 - a / 448)) ≡ None → between a e ≡ 0
     no_origin a e none =
         ap length (between-none-is_legal rule p a 28672 e (λ lt. absurd (omega (arith, lt))) (omega arith)
         (missed a 28672 (omega arith) (λ q lo hi. find_no (λ q. bit_at o q == 1) (a / 448) (64 - a / 448) q none lo (omega (arith, hi))))
         ∙ between-past rule p 28672 e (omega arith))
 
     -- else those of the next one come first, as far as they lie before the end, and then those of later ones
-    pub by_origin : (a e s n z m : ℕ) → find (λ q. bit_at o q == 1) (range_with_len (a / 448) (64 - a / 448)) ≡ Some s → n ≡ 448 * s → z ≡ a - n
+    by_origin : (a e s n z m : ℕ) → find (λ q. bit_at o q == 1) (range_with_len (a / 448) (64 - a / 448)) ≡ Some s → n ≡ 448 * s → z ≡ a - n
         → m ≡ min (e - n) 448 → between a e ≡ between (448 * s + z) (448 * s + m) + between (n + 448) e
     by_origin a e s n z m found first from to =
         let f = find_first (λ q. bit_at o q == 1) (a / 448) (64 - a / 448) s found in
@@ -164,9 +164,6 @@ module _ (rule : RuleSet) (p : Position) where
       pub count_by_word : (a b : ℕ) → a ≤ b → b ≤ 448
           → between (448 * s + a) (448 * s + b) + count_ones (w / 2 ^ ((b + 6) / 7)) ≡ count_ones (w / 2 ^ ((a + 6) / 7))
       count_by_word a b le hi = counted (b - a) a b (omega (arith, le)) hi
-
--- for the walk from origin to origin
-pub ruleset by_origins = (by_origin, few_between, no_origin, none_left)
 
 -- for that from triple to triple
 pub ruleset by_triples = (count_barren, count_here, few_between, none_left)
