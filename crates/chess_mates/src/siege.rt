@@ -1,7 +1,7 @@
 //! A king's siege: the squares that his side mustn't come to lest a reply may mate, told before its move. All men but
 //! the king are hurdles: each square on which one stands stays occupied, be it that he is captured, but for the squares
 //! that the defender and the attacker leave.
-ghost use Rattle.std.specs.Prelude.{◌≡◌, ◌≢◌, ◌<◌, ◌==◌, ◌⊎◌, ℕ, None, Some, true, false};
+ghost use Rattle.std.specs.Prelude.{◌≡◌, ◌≢◌, ◌<◌, ◌==◌, ◌⊎◌, ℕ, IfSome, None, Some, true, false};
 ghost use Rattle.std.specs.Int.{bit_at};
 ghost use Rattle.chess_core.specs.Castling.{has_unmoved};
 ghost use Rattle.chess_core.specs.Position.{king_square, other, same_kind};
@@ -75,6 +75,13 @@ pub(crate) struct Guards {
 pub(crate) struct Risk {
     critical: Squares,
     lines: Squares,
+}
+
+// The risk of a defender who leaves a line on which he is a hurdle.
+#[derive(Clone, Copy)]
+pub(crate) struct RiskBehind {
+    from: Square,
+    risk: Risk,
 }
 
 // The squares that the man on `from` reaches over the hurdles.
@@ -720,12 +727,36 @@ fn risk_behind(siege: &Siege, from: Square) -> Risk
     risk_at(&lifted, siege.king)
 }
 
+// The same, as kept if it is of that man; it is kept for his other moves.
+fn kept_risk_behind(siege: &Siege, kept: &mut Option<RiskBehind>, from: Square) -> Risk
+    requires { IfSome kept.old (λ b. IsRiskBehind siege.now b.from b.risk) }
+    ensures risk { IsRiskBehind siege.now from result }
+    ensures kept { IfSome kept.new (λ b. IsRiskBehind siege.now b.from b.risk) }
+{
+    if let Some(behind) = *kept {
+        if behind.from == from {
+            return behind.risk;
+        }
+    }
+    let risk = risk_behind(siege, from);
+    *kept = Some(RiskBehind { from, risk });
+    risk
+}
+
 // Those of the squares that the man on `from`, who isn't the king, mustn't come to, and perhaps more: told by the siege's
 // own risk, unless he leaves a line on which he is a hurdle. Nothing gets better by that.
-pub(crate) fn critical_from(siege: &Siege, risk: &Risk, from: Square, squares: Squares) -> Squares
-    requires { AreThreats siege.now risk.now }
-    ensures { (t : ℕ) → (bit_at squares t == 1) ≡ true → (bit_at result t == 1) ≡ false
+pub(crate) fn critical_from(
+    siege: &Siege,
+    risk: &Risk,
+    kept: &mut Option<RiskBehind>,
+    from: Square,
+    squares: Squares,
+) -> Squares
+    requires threats { AreThreats siege.now risk.now }
+    requires kept { IfSome kept.old (λ b. IsRiskBehind siege.now b.from b.risk) }
+    ensures safe { (t : ℕ) → (bit_at squares t == 1) ≡ true → (bit_at result t == 1) ≡ false
         → IsSafeMove siege.now from t }
+    ensures kept { IfSome kept.new (λ b. IsRiskBehind siege.now b.from b.risk) }
 {
     // For the proof: a square's number is below 64.
     let _small = from.index();
@@ -733,7 +764,7 @@ pub(crate) fn critical_from(siege: &Siege, risk: &Risk, from: Square, squares: S
         return squares;
     }
     if contains(risk.lines, from) {
-        risk_behind(siege, from).critical
+        kept_risk_behind(siege, kept, from).critical
     } else {
         risk.critical
     }

@@ -13,7 +13,7 @@ ghost use Rattle.chess_rules.specs.ties.Targets.{may_go};
 
 use crate::open_board::pawns_before;
 use crate::siege::{
-    LAST_RANKS, Risk, Siege, critical_from, is_of, risk_of_siege, risky_steps, siege_of,
+    LAST_RANKS, Risk, RiskBehind, Siege, critical_from, is_of, risk_of_siege, risky_steps, siege_of,
 };
 use chess_core::board::Board;
 use chess_core::man::{Colour, Kind, Man, Move};
@@ -108,17 +108,21 @@ const FEW_MEN: u32 = 7;
 pub struct Threats {
     siege: Siege,
     risk: Risk,
+    // Of the last man who left a line.
+    behind: Option<RiskBehind>,
 }
 
 impl Model for Threats {
-    ghost use Rattle.chess_mates.specs.ties.Siege.{AreThreats};
+    ghost use Rattle.std.specs.Prelude.{IfSome};
+    ghost use Rattle.chess_mates.specs.ties.Siege.{AreThreats, IsRiskBehind};
     ghost use Rattle.chess_mates.specs.ties.Threats.{ToldThreats};
 
     ghost Value = { ToldThreats };
 
     ghost view = { λ t. record { siege = t.siege; risk = t.risk } };
 
-    ghost invariant = { λ t. AreThreats t.siege t.risk };
+    ghost invariant = { λ t. AreThreats t.siege t.risk
+        × IfSome t.behind (λ b. IsRiskBehind t.siege b.from b.risk) };
 }
 
 impl Threats {
@@ -132,6 +136,7 @@ impl Threats {
         Threats {
             risk: risk_of_siege(&siege),
             siege,
+            behind: None,
         }
     }
 
@@ -155,10 +160,16 @@ impl Threats {
 
     /// Those of the squares that the man on `from` mustn't come to lest a reply may mate. So he mustn't where kings castle
     /// or capture, and where a pawn captures en passant or might be captured so.
-    pub fn risky_squares<R: Rules>(&self, board: &Board, from: Square, squares: Squares) -> Squares
+    pub fn risky_squares<R: Rules>(
+        &mut self,
+        board: &Board,
+        from: Square,
+        squares: Squares,
+    ) -> Squares
         requires well_formed { IsWellFormed board.now }
-        requires threats { AreThreatsOf R.rule board.now self.now }
-        ensures { AreRisky R.rule board.now from squares result }
+        requires threats { AreThreatsOf R.rule board.now self.old }
+        ensures risky { AreRisky R.rule board.now from squares result }
+        ensures same { self.new ≡ self.old }
     {
         let Some(man) = board.man_at(from) else {
             return 0;
@@ -171,16 +182,18 @@ impl Threats {
             return squares & (unplain | risky_steps::<R>(&self.siege, steps));
         }
         let others = squares & !unplain;
-        squares & (unplain | critical_from(&self.siege, &self.risk, from, others))
+        let critical = critical_from(&self.siege, &self.risk, &mut self.behind, from, others);
+        squares & (unplain | critical)
     }
 
     /// Whether the move doesn't come to such a square, so that no reply mates. `false` says nothing.
-    pub fn rule_out_mate<R: Rules>(&self, board: &Board, m: &Move) -> bool
+    pub fn rule_out_mate<R: Rules>(&mut self, board: &Board, m: &Move) -> bool
         requires well_formed { IsWellFormed board.now }
         requires legal { is_legal R.rule board.now m.now ≡ true }
-        requires threats { AreThreatsOf R.rule board.now self.now }
-        ensures { result ≡ true
+        requires threats { AreThreatsOf R.rule board.now self.old }
+        ensures settled { result ≡ true
             → mates_behind R.rule (position_after R.rule board.now m.now) 0 ≡ [] }
+        ensures same { self.new ≡ self.old }
     {
         // For the proof: a square's number is below 64.
         let _small = m.to.index();

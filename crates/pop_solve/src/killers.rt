@@ -118,7 +118,7 @@ impl<R: Rules> Killers<R> {
             return true;
         }
         self.tell_threats(board);
-        let Some(threats) = &self.threats else {
+        let Some(threats) = &mut self.threats else {
             return false;
         };
         threats.rule_out_mate::<R>(board, m)

@@ -6,8 +6,8 @@ use Rattle.chess_mates.proofs.Ways.{moves_are_risky, steps_are_risky}
 use Rattle.chess_mates.specs.ties.Threats.{ToldThreats}
 use Rattle.chess_mates.proofs.threats.Threats.risky_squares.Goals as goal
 
-pub returns-in_default : goal.returns-in_default
-returns-in_default g c = record {
+pub returns-in_default-clause-risky : goal.returns-in_default-clause-risky
+returns-in_default-clause-risky g c = record {
   settled = λ m legal origin on off.
       let x = maker g.R.Rules.rule c.args.board.now m (is_pseudo_legal-from_legal g.R.Rules.rule c.args.board.now m legal) in
       let none = sym c.man_at.ensures ∙ c.in_default.is in
@@ -15,8 +15,8 @@ returns-in_default g c = record {
       absurd (cc);
 }
 
-pub returns-then-is : goal.returns-then-is
-returns-then-is g c =
+pub returns-then-is-clause-risky : goal.returns-then-is-clause-risky
+returns-then-is-clause-risky g c =
     let p = c.args.board.now in
     let v = c.args.self.now in
     let siege = ap (λ (t : ToldThreats). t.siege) c.self.view_is in
@@ -26,13 +26,13 @@ returns-then-is g c =
     c.unplain_squares-unplain.ensures.mere
     (omega arith) (sym c.is.ensures ∙ c.if-is.true) (rw siege at c.risky_steps.ensures)
 
-pub returns : goal.returns
-returns g c =
+pub returns-clause-risky : goal.returns-clause-risky
+returns-clause-risky g c =
     let p = c.args.board.now in
     let v = c.args.self.now in
     let siege = ap (λ (t : ToldThreats). t.siege) c.self.view_is in
     let here : man_on p.men c.args.from ≡ Some c.in-Some.man = sym c.man_at.ensures ∙ c.in-Some.is in
     moves_are_risky g.R.Rules.rule p c.in-Some.man v c.requires.well_formed c.requires.threats c.args.from c.args.squares c.unplain_squares-unplain.result
-    c.critical_from.result here (omega (arith, c.index-small.ensures.value, c.index-small.ensures.small)) (omega arith) c.unplain_squares-unplain.ensures.plain
+    c.critical_from-critical.result here (omega (arith, c.index-small.ensures.value, c.index-small.ensures.small)) (omega arith) c.unplain_squares-unplain.ensures.plain
     c.unplain_squares-unplain.ensures.mere
-    (omega arith) (sym c.is.ensures ∙ c.if-is.false) (rw siege at c.critical_from.ensures)
+    (omega arith) (sym c.is.ensures ∙ c.if-is.false) (rw siege at c.critical_from-critical.ensures.safe)

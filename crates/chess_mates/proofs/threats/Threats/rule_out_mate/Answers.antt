@@ -5,8 +5,8 @@ use Rattle.chess_rules.proofs.Bits.{word_has}
 use Rattle.chess_rules.proofs.listing_moves.Walks.{off_zero}
 use Rattle.chess_mates.proofs.threats.Threats.rule_out_mate.Goals as goal
 
-pub returns : goal.returns
-returns g c = λ yes.
+pub returns-clause-settled : goal.returns-clause-settled
+returns-clause-settled g c = λ yes.
     let m = c.args.m.now in
     let from : c.m.inside.from ≡ m.from = ap (λ (v : Move). v.from) c.m.view_is in
     let to : c.m.inside.to ≡ m.to = ap (λ (v : Move). v.to) c.m.view_is in
@@ -14,4 +14,4 @@ returns g c = λ yes.
     let there : (bit_at c.only.result m.to == 1) ≡ true = word_has (λ t. is_square (Some c.m.inside.to) t) c.only.result m.to c.only.ensures small
     ∙ eq-eqb c.m.inside.to m.to to in
     let none : (bit_at c.risky_squares.result m.to == 1) ≡ false = ap (λ (w : ℕ). bit_at w m.to == 1) (eqb-true _ _ yes) ∙ off_zero m.to in
-    c.risky_squares.ensures.settled m c.requires.legal (sym from) there none
+    c.risky_squares.ensures.risky.settled m c.requires.legal (sym from) there none
