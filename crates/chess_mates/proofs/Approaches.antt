@@ -1,6 +1,9 @@
 -- From where pawns come to a square: so many squares before it, or behind it.
-use Rattle.chess_rules.proofs.Basics.{Bool, agree_below, agree_below_at, and_from, and_parts, ap, arith, bit_at, bit_or, eqb-true, false, inl, inr, list_any, not, not-true, or_cases, or_left, or_right, refl, rules, sym, true, ℕ, ◌%◌, ◌&&◌, ◌*◌, ◌+◌, ◌-◌, ◌/◌, ◌<◌, ◌==◌, ◌^◌, ◌||◌, ◌∙◌, ◌≡◌, ◌≤◌}
-use Rattle.chess_mates.proofs.Chess.{AreApproaches, Black, Colour, Pawn, Position, White, along, is_advance, leaps, may_go, pawn_capture_steps, queen_steps, rank_of, reaches_as}
+use Rattle.chess_rules.proofs.Basics.{Bool, None, agree_below, agree_below_at, and_from, and_parts, ap, arith, bit_at, bit_or, eqb-true, false, false≢true, if◌then◌else◌, inl, inr, list_any, not, not-true, or_cases, or_left, or_right, refl, rules, sym, true, ℕ, ◌%◌, ◌&&◌, ◌*◌, ◌+◌, ◌-◌, ◌/◌, ◌<◌, ◌==◌, ◌^◌, ◌||◌, ◌∙◌, ◌≡◌, ◌≤◌}
+use Rattle.chess_mates.proofs.Chess.{AreApproaches, Black, Colour, Pawn, Position, White, along, is_advance, is_square, leaps, man_on, may_go, other, pawn_capture_steps, queen_steps, rank_of, reaches_as, same_colour}
+use Rattle.chess_mates.specs.ties.Threats.{AreCapturers}
+use Rattle.chess_rules.specs.Legal.{forward, second_rank}
+use Rattle.chess_rules.proofs.making_moves.Pseudo.{pawn_goes}
 use Rattle.std.proofs.Math.Nat.{div-add-mod}
 use Rattle.std.proofs.lemmas.Nat.{pow_pos, shr-shr}
 use Rattle.std.proofs.lemmas.Nat.Bits.{bit_at_cat_high, bit_at_cat_low}
@@ -50,6 +53,11 @@ pawn_goes_so p c s t h = search (rules, advances, and_parts, or_cases, or_left, 
 abbrev pawn_distance : ℕ → ℕ → Bool
 pawn_distance s t = ((is_on 7 s t || is_on 8 s t) || is_on 9 s t) || is_on 16 s t
 
+-- those of a pawn's captures
+abbrev takes_distance : Colour → ℕ → ℕ → Bool
+takes_distance White s t = is_on 7 s t || is_on 9 s t
+takes_distance Black s t = is_on 7 t s || is_on 9 t s
+
 abbrev pawn_distance_by : Colour → ℕ → ℕ → Bool
 pawn_distance_by White s t = pawn_distance s t
 pawn_distance_by Black s t = pawn_distance t s
@@ -68,6 +76,63 @@ pawns_far Black s t p q = unfold along leaps in implied _ _ (pairs (λ s t. not 
 -- two ranks away
 abbrev is_far : ℕ → ℕ → Bool
 is_far s t = rank_of s + 2 == rank_of t || rank_of t + 2 == rank_of s
+
+-- a pawn goes two ranks only by stepping, to a square where nobody stands
+takes_near : (c : Colour) (s t : ℕ) → s < 64 → t < 64 → is_far s t ≡ true → list_any (leaps s t) (pawn_capture_steps c) ≡ false
+unfolding along leaps
+takes_near White s t p q far = not-true _ (implied _ _ (pairs (λ s t. not (is_far s t) || not (list_any (leaps s t) (pawn_capture_steps White))) refl s t p q) far)
+takes_near Black s t p q far = not-true _ (implied _ _ (pairs (λ s t. not (is_far s t) || not (list_any (leaps s t) (pawn_capture_steps Black))) refl s t p q) far)
+
+pub far_is_vacant : (p : Position) (c : Colour) (s t : ℕ) → s < 64 → t < 64 → may_go p (record { colour = c; kind = Pawn }) s t ≡ true → is_far s t ≡ true
+    → man_on p.men t ≡ None
+unfolding may_go reaches_as
+far_is_vacant p c s t low high goes far = elim (or_cases _ _ goes) [
+  | inl takes ↦ absurd (false≢true (sym (takes_near c s t low high far) ∙ (and_parts _ _ takes).0))
+  | inr steps ↦ (pawn_goes p (record { colour = c; kind = Pawn }) (record { from = s; to = t; promo = None }) steps).empty
+]
+
+-- how a pawn goes: he captures, or steps once, or twice from his second rank
+abbrev pawn_steps : Colour → ℕ → ℕ → Bool
+pawn_steps c s t = is_square (along s (forward c) 1) t || (rank_of s == second_rank c && is_square (along s (forward c) 2) t)
+
+pub takes_or_steps : (p : Position) (c : Colour) (s t : ℕ) → may_go p (record { colour = c; kind = Pawn }) s t ≡ true
+    → (list_any (leaps s t) (pawn_capture_steps c) || pawn_steps c s t) ≡ true
+unfolding may_go reaches_as
+takes_or_steps p c s t goes = search (rules, and_parts, or_cases, or_left, or_right)
+
+-- the square over which he goes twice, and from where one of the other colour steps there
+abbrev is_over : Colour → ℕ → ℕ → Bool
+is_over White h t = rank_of h == 3 && t == h + 8
+is_over Black h t = rank_of h == 6 && h == t + 8
+
+over_is : (c : Colour) (s t : ℕ) → s < 64 → t < 64 → (pawn_steps c s t && is_far s t) ≡ true → is_over c ((s + t) / 2) t ≡ true
+unfolding along
+over_is White s t p q = implied _ _ (pairs (λ s t. not (pawn_steps White s t && is_far s t) || is_over White ((s + t) / 2) t) refl s t p q)
+over_is Black s t p q = implied _ _ (pairs (λ s t. not (pawn_steps Black s t && is_far s t) || is_over Black ((s + t) / 2) t) refl s t p q)
+
+steps_back : (c : Colour) (s h : ℕ) → s < 64 → h < 64 → (pawn_steps (other c) s h && rank_of h == (if same_colour c White then 3 else 6)) ≡ true → is_over c h s ≡ true
+unfolding along
+steps_back White s h p q = implied _ _ (pairs (λ s h. not (pawn_steps Black s h && rank_of h == 3) || is_over White h s) refl s h p q)
+steps_back Black s h p q = implied _ _ (pairs (λ s h. not (pawn_steps White s h && rank_of h == 6) || is_over Black h s) refl s h p q)
+
+same_over : (c : Colour) (h s t : ℕ) → is_over c h s ≡ true → is_over c h t ≡ true → s ≡ t
+same_over White h s t a b = grind (arith, and_parts, eqb-true)
+same_over Black h s t a b = grind (arith, and_parts, eqb-true)
+
+over_rank : (c : Colour) (h t : ℕ) → is_over c h t ≡ true → (rank_of h == (if same_colour c White then 3 else 6)) ≡ true
+over_rank White h t a = (and_parts _ _ a).0
+over_rank Black h t a = (and_parts _ _ a).0
+
+-- who steps to that square stands where the pawn arrives
+pub steps_from_there : (p : Position) (c : Colour) (s t u : ℕ) → s < 64 → t < 64 → u < 64 → (s + t) / 2 < 64
+    → may_go p (record { colour = c; kind = Pawn }) s t ≡ true → is_far s t ≡ true → pawn_steps (other c) u ((s + t) / 2) ≡ true → u ≡ t
+steps_from_there p c s t u low high inside mid goes far steps =
+    let there : is_over c ((s + t) / 2) t ≡ true = over_is c s t low high
+    (and_from _ _ (elim (or_cases _ _ (takes_or_steps p c s t goes)) [
+      | inl takes ↦ absurd (false≢true (sym (takes_near c s t low high far) ∙ takes))
+      | inr ahead ↦ ahead
+    ]) far) in
+    same_over c ((s + t) / 2) u t (steps_back c u ((s + t) / 2) inside mid (and_from _ _ steps (over_rank c _ t there))) there
 
 -- for double steps: no step goes so far, and a pawn that does goes over the next square ahead
 pub no_far_step : (s t : ℕ) → s < 64 → t < 64 → is_far s t ≡ true → list_any (leaps s t) queen_steps ≡ false
@@ -114,4 +179,20 @@ pub black_pawns_before : (w : ℕ) → AreApproaches (record { colour = Black; k
     (bit_or (bit_or (bit_or (w * 2 ^ 7 % 2 ^ 64) (w * 2 ^ 8 % 2 ^ 64)) (w * 2 ^ 9 % 2 ^ 64)) (w * 2 ^ 16 % 2 ^ 64))
 black_pawns_before w = record {
   approach = λ p s t small inside goes on. black_steps w s t small on (pawns_far Black s t small inside (pawn_goes_so p Black s t goes));
+}
+
+takes_far : (c : Colour) (s t : ℕ) → s < 64 → t < 64 → list_any (leaps s t) (pawn_capture_steps c) ≡ true → takes_distance c s t ≡ true
+unfolding along leaps
+takes_far White s t p q = implied _ _ (pairs (λ s t. not (list_any (leaps s t) (pawn_capture_steps White)) || takes_distance White s t) refl s t p q)
+takes_far Black s t p q = implied _ _ (pairs (λ s t. not (list_any (leaps s t) (pawn_capture_steps Black)) || takes_distance Black s t) refl s t p q)
+
+-- for `capturers_before`
+pub white_capturers : (w : ℕ) → AreCapturers White w (bit_or (w / 2 ^ 7) (w / 2 ^ 9))
+white_capturers w = record {
+  capture = λ s t small inside takes on. on_either _ _ _ _ s (down w s t small on 7) (down w s t small on 9) (takes_far White s t small inside takes);
+}
+
+pub black_capturers : (w : ℕ) → AreCapturers Black w (bit_or (w * 2 ^ 7 % 2 ^ 64) (w * 2 ^ 9 % 2 ^ 64))
+black_capturers w = record {
+  capture = λ s t small inside takes on. on_either _ _ _ _ s (up w s t small on 7) (up w s t small on 9) (takes_far Black s t small inside takes);
 }

@@ -1,10 +1,10 @@
 -- Moves that are plain: who castles, captures en passant or might be captured so.
 use Rattle.chess_rules.proofs.Basics.{None, Some, and_right, bit_or, cond-false, cond-true, inl, inr, is_some, or_cases, or_from, Option, and_from, and_left, and_parts, ap, bit_and, bit_at, bit_not, false, false≢true, list_any, not-true, refl, sym, true, true_from_ne_false, w64, ℕ, ◌&&◌, ◌+◌, ◌||◌, ◌<◌, ◌==◌, ◌^◌, ◌∙◌, ◌≡◌}
-use Rattle.chess_mates.proofs.Chess.{AreApproaches, Black, White, is_of_colour, side_of, Colour, King, Man, Move, Pawn, Position, halfway, is_advance, is_man, is_square, leaps, man_on, may_go, other, queen_steps, rank_of, same_colour, same_kind, same_kind-true, word}
+use Rattle.chess_mates.proofs.Chess.{Black, White, is_of_colour, side_of, Colour, King, Man, Move, Pawn, Position, halfway, is_advance, is_man, is_square, leaps, man_on, may_go, other, queen_steps, rank_of, same_colour, same_kind, same_kind-true, word}
 use Rattle.chess_mates.proofs.Chess.{squares_of}
 use Rattle.chess_rules.specs.Play.{is_castling}
 use Rattle.chess_core.specs.Squares.{file_of}
-use Rattle.chess_mates.specs.ties.Threats.{IsMereMove, IsPassing, IsPlainMove}
+use Rattle.chess_mates.specs.ties.Threats.{AreCapturers, IsMereMove, IsPassing, IsPlainMove}
 use Rattle.chess_rules.specs.Play.{capture_square}
 use Rattle.chess_core.proofs.Kept.{same_colour-refl}
 use Rattle.chess_rules.proofs.Bits.{off_left, off_right, on_left, on_right, word_has}
@@ -12,7 +12,7 @@ use Rattle.chess_rules.proofs.listing_moves.Targeting.{false_by}
 use Rattle.chess_rules.proofs.making_moves.Fits.{capture_of_piece, no_capture, pawn_is_no_king}
 use Rattle.chess_rules.proofs.making_moves.Pseudo.{king_is_no_pawn, pawn_goes}
 use Rattle.chess_rules.proofs.rays.Tables.{king_step_is_no_castling}
-use Rattle.chess_mates.proofs.Approaches.{goes_over_next, no_far_step}
+use Rattle.chess_mates.proofs.Approaches.{far_is_vacant, goes_over_next, no_far_step, steps_from_there, takes_or_steps}
 use Rattle.chess_mates.proofs.Hurdles.{man_is}
 use Rattle.chess_mates.proofs.LastingFlights.{on_both}
 use Rattle.chess_mates.proofs.CheckTargets.{last_rank_on}
@@ -33,25 +33,30 @@ module _ (p : Position) (x : Man) (m : Move) (from : m.from < 64) (to : m.to < 6
           ∙ sym (word_has (λ t. list_any (leaps m.from t) queen_steps) n m.to near to) ∙ on_denied n m.to fits to off));
     }
 
-    -- for a pawn past whom none stands
-    pub passes_freely : (w l : ℕ) → may_go p x m.from m.to ≡ true → AreApproaches (record { colour = other p.turn; kind = Pawn }) (bit_and a n) w
-        → l ≡ squares_of p.men (other p.turn) Pawn → bit_and w l ≡ 0 → IsPassing p x m
+    -- for a pawn beside whom none will stand
+    pub passes_freely : (w l : ℕ) → may_go p x m.from m.to ≡ true → AreCapturers (other x.colour) (bit_and a n) w
+        → l ≡ squares_of p.men (other x.colour) Pawn → bit_and w l ≡ 0 → IsPassing p x m
     unfolding squares_of
     passes_freely w l goes before pawns none = record {
-      freely = λ double q s z small low here enemy pawn. false_by _ (λ comes.
+      freely = λ double q s z small low here enemy pawn. false_by (may_go q z s (halfway m)) (λ comes.
           let both = and_parts _ _ double in
-          let over = goes_over_next p x.colour m.from m.to from to
-          (rw (← man_is x x.colour Pawn refl (same_kind-true x.kind Pawn both.0)) at goes) both.1 in
+          let pawn_x = rw (← man_is x x.colour Pawn refl (same_kind-true x.kind Pawn both.0)) at goes in
+          let over = goes_over_next p x.colour m.from m.to from to pawn_x both.1 in
           let there : (bit_at (bit_and a n) (halfway m) == 1) ≡ true = on_both a n (halfway m)
           (word_has (is_advance x.colour m.from) a (halfway m) ahead low ∙ over.0)
           (word_has (λ t. list_any (leaps m.from t) queen_steps) n (halfway m) near low ∙ over.1) in
           let kind : z.kind ≡ Pawn = same_kind-true z.kind Pawn pawn in
-          let comes_from : (bit_at w s == 1) ≡ true =
-          before.approach q s (halfway m) small low (rw (← man_is z (other p.turn) Pawn enemy kind) at comes) there in
-          let stands : (bit_at l s == 1) ≡ true = word_has (λ t. is_man (man_on p.men t) (other p.turn) Pawn) l s pawns small
-          ∙ ap (λ (o : Option Man). is_man o (other p.turn) Pawn) here
-          ∙ and_from _ _ (ap (λ (c : Colour). same_colour c (other p.turn)) enemy ∙ same_colour-refl (other p.turn)) pawn in
-          none_at (bit_and w l) s none (on_both w l s comes_from stands));
+          elim (or_cases _ _ (takes_or_steps q (other x.colour) s (halfway m) (rw (← man_is z (other x.colour) Pawn enemy kind) at comes))) [
+            | inl takes ↦
+                let stands : (bit_at l s == 1) ≡ true = word_has (λ t. is_man (man_on p.men t) (other x.colour) Pawn) l s pawns small
+                ∙ ap (λ (o : Option Man). is_man o (other x.colour) Pawn) here
+                ∙ and_from _ _ (ap (λ (c : Colour). same_colour c (other x.colour)) enemy ∙ same_colour-refl (other x.colour)) pawn in
+                none_at (bit_and w l) s none (on_both w l s (before.capture s (halfway m) small low takes there) stands)
+            | inr steps ↦
+                let at : s ≡ m.to = steps_from_there p x.colour m.from m.to s from to small low pawn_x both.1 steps in
+                let empty = far_is_vacant p x.colour m.from m.to from to pawn_x both.1 in
+                let stood : None ≡ Some z = sym (ap (man_on p.men) at ∙ empty) ∙ here in cc
+          ]);
     }
 
   -- where the man captures nobody, and isn't promoted

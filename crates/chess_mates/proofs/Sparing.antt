@@ -259,7 +259,7 @@ module _ (rule : RuleSet) (p : Position) (m : Move) (x : Man) (v : Siege) (k : �
       | inl double ↦ ap (λ (b : Bool). is_square (if b then Some (halfway m) else None) n.to) double ∙ false_by _ (λ h.
           let at : halfway m ≡ n.to = eqb-true (halfway m) n.to h in
           let low : halfway m < 64 = omega (arith, at, to) in
-          false≢true (sym (i.plain.passing.freely double q n.from y from_small low stood_y enemy_y pawn) ∙ ap (λ (t : ℕ). may_go q y n.from t) at ∙ goes_y))
+          false≢true (sym (i.plain.passing.freely double q n.from y from_small low stood_y (enemy_y ∙ ap other (sym is.mine)) pawn) ∙ ap (λ (t : ℕ). may_go q y n.from t) at ∙ goes_y))
     ]
 
     captures_q : (s : ℕ) → capture_square q y n ≡ Some s → s ≡ n.to

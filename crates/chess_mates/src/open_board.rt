@@ -4,6 +4,7 @@ ghost use Rattle.std.specs.Int.{bit_at};
 ghost use Rattle.chess_core.specs.Position.{Position};
 ghost use Rattle.chess_core.specs.declared.man.Kind.TheVariants.{Pawn};
 ghost use Rattle.chess_mates.specs.ties.CheckSquares.{AreApproaches};
+ghost use Rattle.chess_mates.specs.ties.Threats.{AreCapturers};
 ghost use Rattle.chess_rules.specs.ties.Targets.{may_go};
 
 use chess_core::man::{Colour, Kind, Man};
@@ -39,5 +40,16 @@ pub(crate) fn pawns_before(colour: Colour, targets: Squares) -> Squares
     match colour {
         Colour::White => targets >> 7 | targets >> 8 | targets >> 9 | targets >> 16,
         Colour::Black => targets << 7 | targets << 8 | targets << 9 | targets << 16,
+    }
+}
+
+// The squares from which a pawn of this colour might capture on one of the targets, and perhaps more, as above.
+#[tactic(auto, using(crate::proofs::Approaches::black_capturers, crate::proofs::Approaches::white_capturers))]
+pub(crate) fn capturers_before(colour: Colour, targets: Squares) -> Squares
+    ensures { AreCapturers colour targets result }
+{
+    match colour {
+        Colour::White => targets >> 7 | targets >> 9,
+        Colour::Black => targets << 7 | targets << 9,
     }
 }

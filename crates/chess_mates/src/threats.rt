@@ -11,7 +11,7 @@ ghost use Rattle.chess_rules.specs.Play.{position_after};
 ghost use Rattle.chess_rules.specs.RuleSet.{captures_do_more};
 ghost use Rattle.chess_rules.specs.ties.Targets.{may_go};
 
-use crate::open_board::pawns_before;
+use crate::open_board::capturers_before;
 use crate::siege::{
     LAST_RANKS, Risk, RiskBehind, Siege, critical_from, is_of, risk_of_siege, risky_steps, siege_of,
 };
@@ -31,18 +31,17 @@ fn has_no_fairy(board: &Board, colour: Colour) -> bool
     board.squares(colour, Kind::Grasshopper) | board.squares(colour, Kind::Nightrider) == 0
 }
 
-// The squares more than a step away, if an enemy pawn might come to the next square ahead of a pawn on `from`: then he
-// might capture who goes past it.
+// The squares more than a step away, if an enemy pawn might capture on the next square ahead of a pawn on `from`.
 fn contested_squares(board: &Board, man: Man, from: Square) -> Squares
     ensures { (m : Move) → m.from ≡ from → m.to < 64 → may_go board.now man from m.to ≡ true
         → (bit_at result m.to == 1) ≡ false → IsPassing board.now man m }
 {
     // For the proof: a square's number is below 64.
     let _small = from.index();
-    let enemy = board.turn().other();
+    let enemy = man.colour.other();
     let near = king_leaps(from);
     let next = pawn_advances(man.colour, from) & near;
-    if pawns_before(enemy, next) & board.squares(enemy, Kind::Pawn) == 0 {
+    if capturers_before(enemy, next) & board.squares(enemy, Kind::Pawn) == 0 {
         return 0;
     }
     !near

@@ -1,6 +1,7 @@
 -- Threats of mate, told before the defender's move (own).
 use Rattle.std.specs.Prelude.{◌≡◌, ◌<◌, ◌==◌, ℕ, true, false, List, [], Option, Some, None}
 use Rattle.std.specs.Int.{bit_at}
+use Rattle.std.specs.List.{list_any}
 use Rattle.chess_core.specs.Position.{Position, is_fairy, man_on, other, same_kind}
 use Rattle.chess_core.specs.Squares.{file_of}
 use Rattle.chess_core.specs.declared.man.Colour.{Colour}
@@ -11,6 +12,8 @@ use Rattle.chess_mates.specs.declared.siege.Risk.{Risk}
 use Rattle.chess_mates.specs.declared.siege.Siege.{Siege}
 use Rattle.chess_mates.specs.ties.Mates.{mates_behind}
 use Rattle.chess_mates.specs.ties.Siege.{AreThreats, IsSiegeOf}
+use Rattle.chess_core.specs.Steps.{pawn_capture_steps}
+use Rattle.chess_rules.specs.Reaches.{leaps}
 use Rattle.chess_rules.specs.Legal.{is_legal}
 use Rattle.chess_rules.specs.Play.{capture_square, halfway, is_castling, is_double_step, position_after}
 use Rattle.chess_rules.specs.RuleSet.{RuleSet, captures_are_reborn, captures_do_more}
@@ -37,10 +40,15 @@ pub record AreThreatsOf (rule : RuleSet) (p : Position) (t : ToldThreats) : Type
   pub fits : IsSiegeOf rule p t.siege
   pub threats : AreThreats t.siege t.risk
 
+-- the word has each square from which a pawn of colour c captures on one of the targets
+pub record AreCapturers (c : Colour) (targets w : ℕ) : Type 0 where
+  pub capture : (s t : ℕ) → s < 64 → t < 64 → list_any (leaps s t) (pawn_capture_steps c) ≡ true
+      → (bit_at targets t == 1) ≡ true → (bit_at w s == 1) ≡ true
+
 -- if x goes two squares as a pawn, no enemy pawn might come to the square between
 pub record IsPassing (p : Position) (x : Man) (m : Move) : Type 0 where
   pub freely : is_double_step x m ≡ true → (q : Position) (s : ℕ) (z : Man) → s < 64
-      → halfway m < 64 → man_on p.men s ≡ Some z → z.colour ≡ other p.turn
+      → halfway m < 64 → man_on p.men s ≡ Some z → z.colour ≡ other x.colour
       → same_kind z.kind Pawn ≡ true → may_go q z s (halfway m) ≡ false
 
 -- x doesn't castle, captures only where he arrives, and passes freely
