@@ -12,7 +12,7 @@ ghost use Rattle.chess_core.specs.declared.man.Man.{Man};
 ghost use Rattle.chess_mates.specs.declared.siege.Siege.{Siege};
 ghost use Rattle.chess_core.specs.ties.Words.{squares_of};
 ghost use Rattle.chess_mates.specs.ties.LastingFlights.{IsLeft};
-ghost use Rattle.chess_mates.specs.ties.Siege.{AreArrivals, AreAttackers, AreCastlingSquares, AreClosed, AreGuardsWithout, AreHomes, AreHomesOf, AreHurdles, AreReached, AreThreats, AreWeak, IsAttackedOver, IsAttacker, IsBarred, IsCastlingHarmless, IsCheckWord, IsField, IsHarmless, IsHurdle, IsLifted, IsMet, IsNear, IsNoCheck, IsOff, IsReached, IsReachedFrom, IsRiskAt, IsRiskBehind, IsSafeMove, IsSafeStep, IsSiege, IsSiegeOf, IsWeak, IsWhole, LeavesOne, is_leaper, is_rider, reached_over};
+ghost use Rattle.chess_mates.specs.ties.Siege.{AreArrivals, AreAttackers, AreCastlingSquares, AreClosed, AreGuardsWithout, AreHomes, AreHomesOf, AreHurdles, AreReached, AreThreats, AreToldSteps, AreWeak, IsAttackedOver, IsAttacker, IsBarred, IsCastlingHarmless, IsCheckWord, IsField, IsHarmless, IsHurdle, IsLifted, IsMet, IsNear, IsNoCheck, IsOff, IsReached, IsReachedFrom, IsRiskAt, IsRiskBehind, IsSafeMove, IsSafeStep, IsSiege, IsSiegeOf, IsWeak, IsWhole, LeavesOne, is_leaper, is_rider, reached_over};
 ghost use Rattle.chess_rules.specs.Play.{rebirth};
 ghost use Rattle.chess_rules.specs.ties.Targets.{is_promoting};
 
@@ -82,6 +82,28 @@ pub(crate) struct Risk {
 pub(crate) struct RiskBehind {
     from: Square,
     risk: Risk,
+}
+
+// Steps of the king, and those of them that he mustn't make, if they are legal, under rules by which faced men stand still
+// or don't.
+#[derive(Clone, Copy)]
+pub(crate) struct ToldSteps {
+    steps: Squares,
+    stand_still: bool,
+    risky: Squares,
+}
+
+impl ToldSteps {
+    // No step, of which nothing is told.
+    pub(crate) fn none() -> ToldSteps
+        ensures { (v : Siege) → AreToldSteps v result }
+    {
+        ToldSteps {
+            steps: 0,
+            stand_still: false,
+            risky: 0,
+        }
+    }
 }
 
 // The squares that the man on `from` reaches over the hurdles.
@@ -813,10 +835,34 @@ fn unbarred_steps<R: Rules>(siege: &Siege, steps: Squares) -> Squares
 }
 
 // Those of the squares to which he mustn't step, of legal steps.
-pub(crate) fn risky_steps<R: Rules>(siege: &Siege, steps: Squares) -> Squares
+fn risky_steps<R: Rules>(siege: &Siege, steps: Squares) -> Squares
     ensures { (t : ℕ) → t < 64 → (bit_at steps t == 1) ≡ true → (bit_at result t == 1) ≡ false
         → IsSafeStep siege.now t ⊎ IsBarred R.rule siege.now t }
 {
     let unbarred = unbarred_steps::<R>(siege, steps);
     risky_among(siege, unbarred)
+}
+
+// The same, as kept if they are those; they are kept for the next question.
+pub(crate) fn kept_risky_steps<R: Rules>(
+    siege: &Siege,
+    kept: &mut ToldSteps,
+    steps: Squares,
+) -> Squares
+    requires { AreToldSteps siege.now kept.old }
+    ensures risky { (t : ℕ) → t < 64 → (bit_at steps t == 1) ≡ true
+        → (bit_at result t == 1) ≡ false → IsSafeStep siege.now t ⊎ IsBarred R.rule siege.now t }
+    ensures kept { AreToldSteps siege.now kept.new }
+{
+    let stand_still = R::faced_men_stand_still();
+    if kept.steps == steps && kept.stand_still == stand_still {
+        return kept.risky;
+    }
+    let risky = risky_steps::<R>(siege, steps);
+    *kept = ToldSteps {
+        steps,
+        stand_still,
+        risky,
+    };
+    risky
 }

@@ -13,7 +13,7 @@ ghost use Rattle.chess_rules.specs.ties.Targets.{may_go};
 
 use crate::open_board::capturers_before;
 use crate::siege::{
-    LAST_RANKS, Risk, RiskBehind, Siege, critical_from, is_of, risk_of_siege, risky_steps, siege_of,
+    LAST_RANKS, Risk, RiskBehind, Siege, ToldSteps, critical_from, is_of, kept_risky_steps, risk_of_siege, siege_of,
 };
 use chess_core::board::Board;
 use chess_core::man::{Colour, Kind, Man, Move};
@@ -109,11 +109,13 @@ pub struct Threats {
     risk: Risk,
     // Of the last man who left a line.
     behind: Option<RiskBehind>,
+    // Of the last steps that were asked for.
+    steps: ToldSteps,
 }
 
 impl Model for Threats {
     ghost use Rattle.std.specs.Prelude.{IfSome};
-    ghost use Rattle.chess_mates.specs.ties.Siege.{AreThreats, IsRiskBehind};
+    ghost use Rattle.chess_mates.specs.ties.Siege.{AreThreats, AreToldSteps, IsRiskBehind};
     ghost use Rattle.chess_mates.specs.ties.Threats.{ToldThreats};
 
     ghost Value = { ToldThreats };
@@ -121,7 +123,8 @@ impl Model for Threats {
     ghost view = { λ t. record { siege = t.siege; risk = t.risk } };
 
     ghost invariant = { λ t. AreThreats t.siege t.risk
-        × IfSome t.behind (λ b. IsRiskBehind t.siege b.from b.risk) };
+        × IfSome t.behind (λ b. IsRiskBehind t.siege b.from b.risk)
+        × AreToldSteps t.siege t.steps };
 }
 
 impl Threats {
@@ -136,6 +139,7 @@ impl Threats {
             risk: risk_of_siege(&siege),
             siege,
             behind: None,
+            steps: ToldSteps::none(),
         }
     }
 
@@ -178,7 +182,8 @@ impl Threats {
         let unplain = unplain_squares::<R>(board, man, from);
         if man.kind.is(Kind::King) {
             let steps = squares & !unplain;
-            return squares & (unplain | risky_steps::<R>(&self.siege, steps));
+            let risky = kept_risky_steps::<R>(&self.siege, &mut self.steps, steps);
+            return squares & (unplain | risky);
         }
         let others = squares & !unplain;
         let critical = critical_from(&self.siege, &self.risk, &mut self.behind, from, others);

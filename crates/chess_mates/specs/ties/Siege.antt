@@ -17,6 +17,7 @@ use Rattle.chess_mates.specs.declared.siege.Field.{Field}
 use Rattle.chess_mates.specs.declared.siege.Guards.{Guards}
 use Rattle.chess_mates.specs.declared.siege.Risk.{Risk}
 use Rattle.chess_mates.specs.declared.siege.Siege.{Siege}
+use Rattle.chess_mates.specs.declared.siege.ToldSteps.{ToldSteps}
 use Rattle.chess_mates.specs.ties.LastingFlights.{IsLeft}
 use Rattle.chess_rules.specs.Play.{rebirth}
 use Rattle.chess_rules.specs.Reaches.{leaps, reaches_as}
@@ -350,3 +351,9 @@ pub record IsBarred (rule : RuleSet) (v : Siege) (t : ℕ) : Type 0 where
   pub able : faced_men_stand_still rule ≡ false
   pub free : (bit_at v.hurdles t == 1) ≡ false
   pub attacked : IsAttackedOver v.hurdles v.men t
+
+-- each of these steps that isn't risky is safe, or barred by each rule as to faced men
+pub record AreToldSteps (v : Siege) (k : ToldSteps) : Type 0 where
+  pub told : (rule : RuleSet) → faced_men_stand_still rule ≡ k.stand_still → (t : ℕ) → t < 64
+      → (bit_at k.steps t == 1) ≡ true → (bit_at k.risky t == 1) ≡ false
+      → IsSafeStep v t ⊎ IsBarred rule v t

@@ -1,7 +1,7 @@
 use Rattle.chess_mates.proofs.threats.Threats.of.Goals as goal
 
 pub invariant_of-result : goal.invariant_of-result
-invariant_of-result g c = (c.risk_of_siege.ensures, record {})
+invariant_of-result g c = (c.risk_of_siege.ensures, record {}, c.none.ensures c.siege_of-siege.result)
 
 pub returns : goal.returns
 returns g c = λ well told king. record {
