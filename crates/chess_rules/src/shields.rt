@@ -186,16 +186,34 @@ pub(crate) fn is_plain<R: Rules>(board: &Board, man: Man, m: &Move) -> bool
         && !(R::captures_do_more() && board.man_at(m.to).is_some())
 }
 
-// Whether the man arrives on no line to the colour's king with a fairy man of the other colour, and its move
-// changes nothing but its own square.
+// Whether a man on the square may be a hurdle before the colour's king, or shut a nightrider's line to it;
+// `squares` are those from which a move may expose him, these among them.
 #[inline(always)]
-fn stands_aside<R: Rules>(board: &Board, man: Man, colour: Colour, m: &Move) -> bool
+#[tactic(auto, using(crate::proofs::attacks::Shielding::off_shields, crate::proofs::attacks::Shielding::between_is))]
+fn may_stand_between(board: &Board, colour: Colour, squares: Squares, square: Square) -> bool
+    requires { squares ≡ word (may_expose board.now.men colour) }
+    ensures { result ≡ may_stand_between board.now.men colour square }
+{
+    // For the proof: a square's number is below 64.
+    let _small = square.index();
+    contains(squares, square) && contains(fairy_lines(board, colour), square)
+}
+
+// Whether the man arrives on no line to the colour's king with a fairy man of the other colour, and its move
+// changes nothing but its own square; `squares` are those from which a move may expose the king.
+#[inline(always)]
+fn stands_aside<R: Rules>(
+    board: &Board,
+    man: Man,
+    colour: Colour,
+    squares: Squares,
+    m: &Move,
+) -> bool
+    requires { squares ≡ word (may_expose board.now.men colour) }
     ensures { result ≡ (not (may_stand_between board.now.men colour m.now.to)
         && is_plain R.rule board.now man m.now) }
 {
-    // For the proof: a square's number is below 64.
-    let _small = m.to.index();
-    !contains(fairy_lines(board, colour), m.to) && is_plain::<R>(board, man, m)
+    !may_stand_between(board, colour, squares, m.to) && is_plain::<R>(board, man, m)
 }
 
 /// Whether the move can't expose the colour's king; `squares` are those from which one may.
@@ -207,7 +225,8 @@ pub fn cannot_expose<R: Rules>(board: &Board, colour: Colour, squares: Squares, 
     // For the proof: a square's number is below 64.
     let _small = m.from.index();
     match board.man_at(m.from) {
-        Some(man) => !contains(squares, m.from) && stands_aside::<R>(board, man, colour, m),
+        Some(man) => !contains(squares, m.from)
+            && stands_aside::<R>(board, man, colour, squares, m),
         None => false,
     }
 }

@@ -419,17 +419,17 @@ pub cannot_expose_nobody : (rule : RuleSet) (p : Position) (c : Colour) (m : Mov
 unfolding cannot_expose
 cannot_expose_nobody rule p c m none = rw none refl
 
--- and its second half, by the word of the lines
-between_is : (men : List (Option Man)) (c : Colour) (w t n : ℕ) (b : Bool) → w ≡ word (may_stand_between men c) → t ≡ n → t < 64
-    → b ≡ (bit_at w t == 1) → b ≡ may_stand_between men c n
-between_is men c w t n b h same small e = e ∙ word_has (may_stand_between men c) w t h small ∙ ap (may_stand_between men c) same
+-- a square on a fairy line to a king is one from which a move may expose him
+expose_between : (men : List (Option Man)) (o : Option ℕ) (c : Colour) (s : ℕ) → may_expose_at men o c s ≡ false → is_on_fairy_line_at men o c s ≡ false
+expose_between men o c s h = grind (arith, or_parts)
 
--- where he stands aside
-pub stands_aside_is : (men : List (Option Man)) (c : Colour) (w t n : ℕ) (b u r : Bool) → w ≡ word (may_stand_between men c) → t ≡ n → t < 64
-    → b ≡ (bit_at w t == 1) → b ≡ false → r ≡ u → r ≡ (not (may_stand_between men c n) && u)
-stands_aside_is men c w t n b u r h same small e off plain = search (rules, between_is)
+-- so one that isn't in their word lies on none
+pub off_shields : (men : List (Option Man)) (c : Colour) (w t : ℕ) (b : Bool) → w ≡ word (may_expose men c) → t < 64 → b ≡ (bit_at w t == 1) → b ≡ false
+    → b ≡ may_stand_between men c t
+unfolding may_expose may_stand_between
+off_shields men c w t b h small e off = search (rules, expose_between, word_has)
 
--- and where he doesn't
-pub stands_between : (men : List (Option Man)) (c : Colour) (w t n : ℕ) (b u : Bool) → w ≡ word (may_stand_between men c) → t ≡ n → t < 64
-    → b ≡ (bit_at w t == 1) → b ≡ true → false ≡ (not (may_stand_between men c n) && u)
-stands_between men c w t n b u h same small e there = search (rules, between_is)
+-- and the word of the fairy lines tells of the others
+pub between_is : (men : List (Option Man)) (c : Colour) (w t : ℕ) (b : Bool) → w ≡ word (may_stand_between men c) → t < 64 → b ≡ (bit_at w t == 1)
+    → b ≡ may_stand_between men c t
+between_is men c w t b h small e = e ∙ word_has (may_stand_between men c) w t h small

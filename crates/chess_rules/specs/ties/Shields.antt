@@ -1,5 +1,5 @@
 -- Squares that shield a king along the lines to it, and moves that can't expose it (own).
-use Rattle.std.specs.Prelude.{ℕ, Bool, true, false, ◌&&◌, ◌||◌, ◌==◌, not, List, Option, Some, None, is_some}
+use Rattle.std.specs.Prelude.{ℕ, Bool, false, ◌&&◌, ◌||◌, ◌==◌, not, List, Option, Some, None, is_some}
 use Rattle.chess_core.specs.Squares.{is_square, some_square}
 pub use Rattle.chess_core.specs.Position.{is_fairy}
 use Rattle.chess_core.specs.Position.{Position, is_man, is_of_colour, king_square, man_on, other}
