@@ -7,7 +7,7 @@ ghost use Rattle.chess_core.specs.WellFormed.{IsWellFormed};
 ghost use Rattle.chess_core.specs.ties.Words.{word};
 ghost use Rattle.chess_rules.specs.Attacks.{in_check};
 ghost use Rattle.chess_mates.specs.ties.CheckSquares.{AreCastlingTargets, AreCheckSquares, AreCheckTargets, enemy, is_absent, may_check_from, check_squares_for, own_man, are_rebirths_quiet, rule_of_checks};
-ghost use Rattle.chess_rules.specs.ties.Shields.{cannot_expose, may_stand_between};
+ghost use Rattle.chess_rules.specs.ties.Shields.{cannot_expose};
 ghost use Rattle.chess_rules.specs.Legal.{is_legal, is_pseudo_legal};
 ghost use Rattle.chess_rules.specs.Play.{position_after};
 ghost use Rattle.chess_rules.specs.RuleSet.{captures_do_more};
@@ -26,9 +26,11 @@ use chess_rules::words::{contains, only};
 
 /// The squares from which a move may give check in a position: by exposing the king, or by a man of
 /// this kind that arrives there. A king gives none so: next to the other he would be in check himself.
+/// With them are kept the lines to the king with a fairy man on them.
 #[derive(Clone, Copy)]
 pub(crate) struct CheckSquares {
     shield_squares: Squares,
+    fairy_lines: Squares,
     straight: Squares,
     diagonal: Squares,
     knight: Squares,
@@ -66,6 +68,7 @@ pub(crate) fn check_squares(board: &Board, colour: Colour) -> CheckSquares
 {
     CheckSquares {
         shield_squares: shield_squares(board, colour),
+        fairy_lines: fairy_lines(board, colour),
         straight: check_squares_of(board, colour, Kind::Rook),
         diagonal: check_squares_of(board, colour, Kind::Bishop),
         knight: check_squares_of(board, colour, Kind::Knight),
@@ -148,18 +151,16 @@ fn special_targets(squares: &CheckSquares, kind: Kind, king: Option<Square>) -> 
 }
 
 // The squares to which a man of this kind must go to give check by a legal move, from any square that is no
-// shield square; a king from his own, `king`. `lines` are those to the enemy's king with a fairy man on them.
+// shield square; a king from his own, `king`.
 #[inline(always)]
 pub(crate) fn targets_off_shields<R: Rules>(
     board: &Board,
     squares: &CheckSquares,
     kind: Kind,
     king: Option<Square>,
-    lines: Squares,
 ) -> Squares
     requires well_formed { IsWellFormed board.now }
     requires squares { AreCheckSquares board.now.men (other board.now.turn) squares.now }
-    requires lines { lines ≡ word (may_stand_between board.now.men (other board.now.turn)) }
     ensures { (s : ℕ) (x : Man) → s < 64 → man_on board.now.men s ≡ Some x → x.kind ≡ kind
         → (same_kind kind King ≡ true → king ≡ Some s)
         → (bit_at squares.now.shield_squares s == 1) ≡ false
@@ -170,7 +171,7 @@ pub(crate) fn targets_off_shields<R: Rules>(
         | only(board.crossed())
         | special_targets(squares, kind, king)
         | checking_rebirths::<R>(board)
-        | lines
+        | squares.fairy_lines
 }
 
 // The squares to which this man must go from here to give check by a legal move.
@@ -185,8 +186,7 @@ fn check_targets<R: Rules>(board: &Board, squares: &CheckSquares, man: Man, from
     if contains(squares.shield_squares, from) {
         return !0;
     }
-    let lines = fairy_lines(board, board.turn().other());
-    targets_off_shields::<R>(board, squares, man.kind, Some(from), lines)
+    targets_off_shields::<R>(board, squares, man.kind, Some(from))
 }
 
 // Those of them to which the man on the square, if one stands there, might go, were the others gone.
