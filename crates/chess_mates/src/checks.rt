@@ -2,12 +2,12 @@
 ghost use Rattle.std.specs.Prelude.{◌≡◌, ◌<◌, ◌==◌, ℕ, None, Some, false, not, true, is_some};
 ghost use Rattle.std.specs.Int.{bit_at};
 ghost use Rattle.chess_core.specs.Position.{man_on, other, same_kind};
-ghost use Rattle.chess_core.specs.declared.man.Kind.TheVariants.{King, Pawn};
+ghost use Rattle.chess_core.specs.declared.man.Kind.TheVariants.{Bishop, King, Pawn, Rook};
 ghost use Rattle.chess_core.specs.WellFormed.{IsWellFormed};
 ghost use Rattle.chess_core.specs.ties.Words.{word};
 ghost use Rattle.chess_rules.specs.Attacks.{in_check};
 ghost use Rattle.chess_mates.specs.ties.CheckSquares.{AreCastlingTargets, AreCheckSquares, AreCheckTargets, enemy, is_absent, may_check_from, check_squares_for, own_man, are_rebirths_quiet, rule_of_checks};
-ghost use Rattle.chess_rules.specs.ties.Shields.{cannot_expose};
+ghost use Rattle.chess_rules.specs.ties.Shields.{cannot_expose, may_expose, may_stand_between};
 ghost use Rattle.chess_rules.specs.Legal.{is_legal, is_pseudo_legal};
 ghost use Rattle.chess_rules.specs.Play.{position_after};
 ghost use Rattle.chess_rules.specs.RuleSet.{captures_do_more};
@@ -21,7 +21,7 @@ use chess_rules::leaps::squares_aside;
 use chess_rules::lines::occupied;
 use chess_rules::outward::comes_as;
 use chess_rules::rules::{Orthodox, Rules};
-use chess_rules::shields::{cannot_expose, fairy_lines, shield_squares};
+use chess_rules::shields::{cannot_expose, fairy_lines, safety_seen};
 use chess_rules::words::{contains, only};
 
 /// The squares from which a move may give check in a position: by exposing the king, or by a man of
@@ -61,16 +61,41 @@ pub(crate) fn check_squares_of(board: &Board, colour: Colour, kind: Kind) -> Squ
     comes_as(occupied(board), enemy, kind, king)
 }
 
+// The squares from which a move may expose the colour's king, told by those from which a rook and a bishop may
+// give check to it, and by the fairy lines to it.
+#[inline(always)]
+fn shields_seen(
+    board: &Board,
+    colour: Colour,
+    straight: Squares,
+    diagonal: Squares,
+    lines: Squares,
+) -> Squares
+    requires straight { straight ≡ word (may_check_from board.now.men colour (enemy colour Rook)) }
+    requires diagonal { diagonal
+        ≡ word (may_check_from board.now.men colour (enemy colour Bishop)) }
+    requires lines { lines ≡ word (may_stand_between board.now.men colour) }
+    ensures { result ≡ word (may_expose board.now.men colour) }
+{
+    let Some(king) = board.king_of(colour) else {
+        return 0;
+    };
+    safety_seen(board, colour, king, straight, diagonal, lines).shields
+}
+
 // The squares from which a move may give check to the colour's king.
 #[inline(always)]
 pub(crate) fn check_squares(board: &Board, colour: Colour) -> CheckSquares
     ensures { AreCheckSquares board.now.men colour result }
 {
+    let lines = fairy_lines(board, colour);
+    let straight = check_squares_of(board, colour, Kind::Rook);
+    let diagonal = check_squares_of(board, colour, Kind::Bishop);
     CheckSquares {
-        shield_squares: shield_squares(board, colour),
-        fairy_lines: fairy_lines(board, colour),
-        straight: check_squares_of(board, colour, Kind::Rook),
-        diagonal: check_squares_of(board, colour, Kind::Bishop),
+        shield_squares: shields_seen(board, colour, straight, diagonal, lines),
+        fairy_lines: lines,
+        straight,
+        diagonal,
         knight: check_squares_of(board, colour, Kind::Knight),
         pawn: check_squares_of(board, colour, Kind::Pawn),
         grasshopper: check_squares_of(board, colour, Kind::Grasshopper),
