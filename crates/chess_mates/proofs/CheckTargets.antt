@@ -34,19 +34,21 @@ pub check_targets_all : (rule : RuleSet) (p : Position) (f : ℕ) → AreCheckTa
 check_targets_all rule p f = search (rules, every_square_on)
 
 module _ (rule : RuleSet) (p : Position) (x : Man) (s : CheckSquares) (f : ℕ) (well : IsWellFormed p) (here : man_on p.men f ≡ Some x)
-    (checks : AreCheckSquares p.men (other p.turn) s) (inside : f < 64) (covered : (bit_at s.shield_squares f == 1) ≡ false) (a b c d e : ℕ)
+    (checks : AreCheckSquares p.men (other p.turn) s) (inside : f < 64) (covered : (bit_at s.shield_squares f == 1) ≡ false) (a b c d : ℕ)
     (checked_from : a ≡ check_squares_for s x.kind) (crossed : b ≡ word (λ t. is_square p.crossed t))
     (promotes : same_kind x.kind Pawn ≡ true → c ≡ 18374686479671623935)
     (castles : same_kind x.kind King ≡ true → AreCastlingTargets s f c)
-    (reborn : captures_do_more rule ≡ true → d ≡ word (λ t. is_some (man_on p.men t))) (lines : e ≡ word (may_stand_between p.men (other p.turn))) where
+    (reborn : captures_do_more rule ≡ true → d ≡ word (λ t. is_some (man_on p.men t))) where
   module _ (m : Move) (at : m.from ≡ f) (small : m.to < 64) (may : is_pseudo_legal rule p m ≡ true)
       (apart : same_kind x.kind King ≡ true → may_check_from p.men (other p.turn) x m.to ≡ false)
-      (off-lines : (bit_at (bit_or (bit_or (bit_or (bit_or a b) c) d) e) m.to == 1) ≡ false) where
+      (off-lines : (bit_at (bit_or (bit_or (bit_or (bit_or a b) c) d) s.fairy_lines) m.to == 1) ≡ false) where
     off : (bit_at (bit_or (bit_or (bit_or a b) c) d) m.to == 1) ≡ false
-    off = off_left (bit_or (bit_or (bit_or a b) c) d) e m.to off-lines
+    off = off_left (bit_or (bit_or (bit_or a b) c) d) s.fairy_lines m.to off-lines
 
     aside : may_stand_between p.men (other p.turn) m.to ≡ false
-    aside = sym (word_has (may_stand_between p.men (other p.turn)) e m.to lines small) ∙ off_right (bit_or (bit_or (bit_or a b) c) d) e m.to off-lines
+    aside =
+        sym (word_has (may_stand_between p.men (other p.turn)) s.fairy_lines m.to checks.fairy_lines small)
+        ∙ off_right (bit_or (bit_or (bit_or a b) c) d) s.fairy_lines m.to off-lines
 
     stands : man_on p.men m.from ≡ Some x
     stands = ap (man_on p.men) at ∙ here
@@ -103,21 +105,21 @@ module _ (rule : RuleSet) (p : Position) (x : Man) (s : CheckSquares) (f : ℕ) 
 
 -- the captures that may be followed by a rebirth among them, where that may give check
 module _ (rule : RuleSet) (p : Position) (x : Man) (s : CheckSquares) (f : ℕ) (well : IsWellFormed p) (here : man_on p.men f ≡ Some x)
-    (checks : AreCheckSquares p.men (other p.turn) s) (inside : f < 64) (covered : (bit_at s.shield_squares f == 1) ≡ false) (a b c d e : ℕ)
+    (checks : AreCheckSquares p.men (other p.turn) s) (inside : f < 64) (covered : (bit_at s.shield_squares f == 1) ≡ false) (a b c d : ℕ)
     (checked_from : a ≡ check_squares_for s x.kind) (crossed : b ≡ word (λ t. is_square p.crossed t))
     (promotes : same_kind x.kind Pawn ≡ true → c ≡ 18374686479671623935)
     (castles : same_kind x.kind King ≡ true → AreCastlingTargets s f c)
-    (reborn : are_rebirths_quiet rule p.men p.turn ≡ false → captures_do_more rule ≡ true → d ≡ word (λ t. is_some (man_on p.men t)))
-    (lines : e ≡ word (may_stand_between p.men (other p.turn))) where
+    (reborn : are_rebirths_quiet rule p.men p.turn ≡ false → captures_do_more rule ≡ true → d ≡ word (λ t. is_some (man_on p.men t))) where
   by_rule : (m : Move) → m.from ≡ f → m.to < 64 → is_pseudo_legal rule p m ≡ true
       → (same_kind x.kind King ≡ true → may_check_from p.men (other p.turn) x m.to ≡ false)
-      → (bit_at (bit_or (bit_or (bit_or (bit_or a b) c) d) e) m.to == 1) ≡ false → in_check rule (position_after rule p m).men (other p.turn) ≡ false
+      → (bit_at (bit_or (bit_or (bit_or (bit_or a b) c) d) s.fairy_lines) m.to == 1) ≡ false
+      → in_check rule (position_after rule p m).men (other p.turn) ≡ false
   by_rule m at small may apart off = elim (cases_Bool (are_rebirths_quiet rule p.men p.turn)) [
     | inl quiet ↦
         let parts = quiet_parts rule p.men p.turn quiet in
         let may_so : is_pseudo_legal circe p m ≡ true = ap (λ (r : RuleSet). is_pseudo_legal r p m) (sym parts.0) ∙ may in
-        let unpromoted : m.promo ≡ None = unnamed orthodox p x s f well here checks inside covered a b c d e checked_from crossed promotes castles
-        (λ bad. absurd (false≢true bad)) lines m at small (pseudo_so p m may_so) apart off m.promo refl in
+        let unpromoted : m.promo ≡ None = unnamed orthodox p x s f well here checks inside covered a b c d checked_from crossed promotes castles
+        (λ bad. absurd (false≢true bad)) m at small (pseudo_so p m may_so) apart off m.promo refl in
         ap (λ (r : RuleSet). in_check r (position_after r p m).men (other p.turn)) parts.0
         ∙ rebirth_gives_no_check p x m well may_so (ap (man_on p.men) at ∙ here) unpromoted parts.1
         (grind (arith, no_check_elsewhere, false≢true, pseudo_so, off))
@@ -126,7 +128,7 @@ module _ (rule : RuleSet) (p : Position) (x : Man) (s : CheckSquares) (f : ℕ) 
   ]
 
   -- for a man who may check, uncover a check, castle, capture en passant or be followed by a rebirth: each by its own word
-  pub check_targets_some : AreCheckTargets rule p f (bit_or (bit_or (bit_or (bit_or a b) c) d) e)
+  pub check_targets_some : AreCheckTargets rule p f (bit_or (bit_or (bit_or (bit_or a b) c) d) s.fairy_lines)
   check_targets_some = grind (arith, by_rule, is_pseudo_legal-from_legal, kings_apart)
 
 -- the targets among the squares to which the man might go

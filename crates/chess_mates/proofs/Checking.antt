@@ -1,9 +1,11 @@
 -- The squares from which a move may give check, by kinds.
-use Rattle.chess_rules.proofs.Basics.{or_parts, rules, List, None, Option, Some, ap, arith, bit_at, bit_not, bit_or, cases_Bool, false, false≢true, inl, inr, list_any-append, or_left, sym, true, w64, ℕ, ◌&&◌, ◌<◌, ◌==◌, ◌||◌, ◌∙◌, ◌≡◌}
-use Rattle.chess_mates.proofs.Chess.{AreCheckSquares, Bishop, CheckSquares, Colour, IsWellFormed, Kind, King, Man, Move, Position, Queen, Rook, RuleSet, arriving_man, check_squares_for, in_check, is_absent, is_fairy, is_pseudo_legal, king_square, man_on, may_check_from, may_check_from_at, other, position_after, reaches_as, same_kind, squares_either, squares_of, squares_same, word}
+use Rattle.chess_rules.proofs.Basics.{or_parts, rules, List, None, Option, list_any, Some, ap, arith, bit_at, bit_not, bit_or, cases_Bool, false, false≢true, inl, inr, list_any-append, or_left, sym, true, w64, ℕ, ◌&&◌, ◌<◌, ◌==◌, ◌||◌, ◌∙◌, ◌≡◌}
+use Rattle.chess_mates.proofs.Chess.{AreCheckSquares, Bishop, CheckSquares, Colour, diagonal_steps, rides, straight_steps, IsWellFormed, Kind, King, Man, Move, Position, Queen, Rook, RuleSet, arriving_man, check_squares_for, in_check, is_absent, is_fairy, is_pseudo_legal, king_square, man_on, may_check_from, may_check_from_at, other, position_after, reaches_as, same_kind, squares_either, squares_of, squares_same, word}
 use Rattle.chess_mates.specs.ties.CheckSquares.{enemy}
-use Rattle.chess_rules.specs.ties.Shields.{cannot_expose}
+use Rattle.chess_rules.specs.ties.Shields.{AreRides, cannot_expose}
 use Rattle.chess_rules.proofs.Bits.{not_zero, word_empty, word_has, every_square}
+use Rattle.chess_rules.proofs.attacks.StayingInCheck.{king_there}
+use Rattle.chess_rules.proofs.rays.Flips.{diagonal-back, straight-back}
 use Rattle.chess_rules.proofs.attacks.Shielding.{other_twice, arriving_colour, cannot_expose_parts, plain_safe}
 use Rattle.chess_rules.proofs.making_moves.Pseudo.{made, on_board}
 
@@ -33,6 +35,20 @@ pub check_squares_of_some : (men : List (Option Man)) (c : Colour) (j : Kind) (k
     → w ≡ word (λ s. reaches_as men (other c) j s k) → w ≡ word (may_check_from men c (enemy c j))
 unfolding may_check_from
 check_squares_of_some men c j k w at present h = grind (arith, squares_same)
+
+-- a rook checks from where he would get from the king
+pub rook_squares : (men : List (Option Man)) (c : Colour) (k w : ℕ) → king_square men c ≡ Some k → w ≡ word (may_check_from men c (enemy c Rook))
+    → AreRides men (other c) Rook straight_steps k w
+unfolding may_check_from reaches_as
+rook_squares men c k w at h = inl (h ∙ squares_same _ (λ t. list_any (rides men k t) straight_steps) (λ t small.
+    ap (λ (o : Option ℕ). may_check_from_at men o (enemy c Rook) t) at ∙ straight-back men t k small (king_there men c k at).0))
+
+-- and a bishop
+pub bishop_squares : (men : List (Option Man)) (c : Colour) (k w : ℕ) → king_square men c ≡ Some k → w ≡ word (may_check_from men c (enemy c Bishop))
+    → AreRides men (other c) Bishop diagonal_steps k w
+unfolding may_check_from reaches_as
+bishop_squares men c k w at h = inl (h ∙ squares_same _ (λ t. list_any (rides men k t) diagonal_steps) (λ t small.
+    ap (λ (o : Option ℕ). may_check_from_at men o (enemy c Bishop) t) at ∙ diagonal-back men t k small (king_there men c k at).0))
 
 -- whether no such fairy man stands on the board, told by the word of his kind
 pub absent_is : (men : List (Option Man)) (c : Colour) (j : Kind) (w : ℕ) → w ≡ squares_of men c j

@@ -2,12 +2,12 @@
 ghost use Rattle.std.specs.Prelude.{◌≡◌, ◌<◌, ◌==◌, ℕ, None, Some, false, not, true, is_some};
 ghost use Rattle.std.specs.Int.{bit_at};
 ghost use Rattle.chess_core.specs.Position.{man_on, other, same_kind};
-ghost use Rattle.chess_core.specs.declared.man.Kind.TheVariants.{King, Pawn};
+ghost use Rattle.chess_core.specs.declared.man.Kind.TheVariants.{Bishop, King, Pawn, Rook};
 ghost use Rattle.chess_core.specs.WellFormed.{IsWellFormed};
 ghost use Rattle.chess_core.specs.ties.Words.{word};
 ghost use Rattle.chess_rules.specs.Attacks.{in_check};
 ghost use Rattle.chess_mates.specs.ties.CheckSquares.{AreCastlingTargets, AreCheckSquares, AreCheckTargets, enemy, is_absent, may_check_from, check_squares_for, own_man, are_rebirths_quiet, rule_of_checks};
-ghost use Rattle.chess_rules.specs.ties.Shields.{cannot_expose, may_stand_between};
+ghost use Rattle.chess_rules.specs.ties.Shields.{cannot_expose, may_expose, may_stand_between};
 ghost use Rattle.chess_rules.specs.Legal.{is_legal, is_pseudo_legal};
 ghost use Rattle.chess_rules.specs.Play.{position_after};
 ghost use Rattle.chess_rules.specs.RuleSet.{captures_do_more};
@@ -21,14 +21,16 @@ use chess_rules::leaps::squares_aside;
 use chess_rules::lines::occupied;
 use chess_rules::outward::comes_as;
 use chess_rules::rules::{Orthodox, Rules};
-use chess_rules::shields::{cannot_expose, fairy_lines, shield_squares};
+use chess_rules::shields::{cannot_expose, fairy_lines, safety_seen};
 use chess_rules::words::{contains, only};
 
 /// The squares from which a move may give check in a position: by exposing the king, or by a man of
 /// this kind that arrives there. A king gives none so: next to the other he would be in check himself.
+/// With them are kept the lines to the king with a fairy man on them.
 #[derive(Clone, Copy)]
 pub(crate) struct CheckSquares {
     shield_squares: Squares,
+    fairy_lines: Squares,
     straight: Squares,
     diagonal: Squares,
     knight: Squares,
@@ -59,15 +61,41 @@ pub(crate) fn check_squares_of(board: &Board, colour: Colour, kind: Kind) -> Squ
     comes_as(occupied(board), enemy, kind, king)
 }
 
+// The squares from which a move may expose the colour's king, told by those from which a rook and a bishop may
+// give check to it, and by the fairy lines to it.
+#[inline(always)]
+fn shields_seen(
+    board: &Board,
+    colour: Colour,
+    straight: Squares,
+    diagonal: Squares,
+    lines: Squares,
+) -> Squares
+    requires straight { straight ≡ word (may_check_from board.now.men colour (enemy colour Rook)) }
+    requires diagonal { diagonal
+        ≡ word (may_check_from board.now.men colour (enemy colour Bishop)) }
+    requires lines { lines ≡ word (may_stand_between board.now.men colour) }
+    ensures { result ≡ word (may_expose board.now.men colour) }
+{
+    let Some(king) = board.king_of(colour) else {
+        return 0;
+    };
+    safety_seen(board, colour, king, straight, diagonal, lines).shields
+}
+
 // The squares from which a move may give check to the colour's king.
 #[inline(always)]
 pub(crate) fn check_squares(board: &Board, colour: Colour) -> CheckSquares
     ensures { AreCheckSquares board.now.men colour result }
 {
+    let lines = fairy_lines(board, colour);
+    let straight = check_squares_of(board, colour, Kind::Rook);
+    let diagonal = check_squares_of(board, colour, Kind::Bishop);
     CheckSquares {
-        shield_squares: shield_squares(board, colour),
-        straight: check_squares_of(board, colour, Kind::Rook),
-        diagonal: check_squares_of(board, colour, Kind::Bishop),
+        shield_squares: shields_seen(board, colour, straight, diagonal, lines),
+        fairy_lines: lines,
+        straight,
+        diagonal,
         knight: check_squares_of(board, colour, Kind::Knight),
         pawn: check_squares_of(board, colour, Kind::Pawn),
         grasshopper: check_squares_of(board, colour, Kind::Grasshopper),
@@ -148,18 +176,16 @@ fn special_targets(squares: &CheckSquares, kind: Kind, king: Option<Square>) -> 
 }
 
 // The squares to which a man of this kind must go to give check by a legal move, from any square that is no
-// shield square; a king from his own, `king`. `lines` are those to the enemy's king with a fairy man on them.
+// shield square; a king from his own, `king`.
 #[inline(always)]
 pub(crate) fn targets_off_shields<R: Rules>(
     board: &Board,
     squares: &CheckSquares,
     kind: Kind,
     king: Option<Square>,
-    lines: Squares,
 ) -> Squares
     requires well_formed { IsWellFormed board.now }
     requires squares { AreCheckSquares board.now.men (other board.now.turn) squares.now }
-    requires lines { lines ≡ word (may_stand_between board.now.men (other board.now.turn)) }
     ensures { (s : ℕ) (x : Man) → s < 64 → man_on board.now.men s ≡ Some x → x.kind ≡ kind
         → (same_kind kind King ≡ true → king ≡ Some s)
         → (bit_at squares.now.shield_squares s == 1) ≡ false
@@ -170,7 +196,7 @@ pub(crate) fn targets_off_shields<R: Rules>(
         | only(board.crossed())
         | special_targets(squares, kind, king)
         | checking_rebirths::<R>(board)
-        | lines
+        | squares.fairy_lines
 }
 
 // The squares to which this man must go from here to give check by a legal move.
@@ -185,8 +211,7 @@ fn check_targets<R: Rules>(board: &Board, squares: &CheckSquares, man: Man, from
     if contains(squares.shield_squares, from) {
         return !0;
     }
-    let lines = fairy_lines(board, board.turn().other());
-    targets_off_shields::<R>(board, squares, man.kind, Some(from), lines)
+    targets_off_shields::<R>(board, squares, man.kind, Some(from))
 }
 
 // Those of them to which the man on the square, if one stands there, might go, were the others gone.

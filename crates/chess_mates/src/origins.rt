@@ -3,10 +3,9 @@ ghost use Rattle.std.specs.Prelude.{◌≡◌, ℕ, ◌<◌, ◌==◌, Some, fal
 ghost use Rattle.std.specs.Int.{bit_at};
 ghost use Rattle.chess_core.specs.Position.{man_on, other, same_kind};
 ghost use Rattle.chess_core.specs.WellFormed.{IsWellFormed};
-ghost use Rattle.chess_core.specs.ties.Words.{side_of, word};
+ghost use Rattle.chess_core.specs.ties.Words.{side_of};
 ghost use Rattle.chess_core.specs.declared.man.Kind.TheVariants.{King};
 ghost use Rattle.chess_mates.specs.ties.CheckSquares.{AreCheckOrigins, AreCheckSquares, AreCheckTargets, own_man};
-ghost use Rattle.chess_rules.specs.ties.Shields.{may_stand_between};
 
 use crate::checks::{CheckSquares, may_check_from_everywhere, targets_off_shields};
 use crate::open_board::{open_targets, pawns_before};
@@ -14,7 +13,6 @@ use chess_core::board::Board;
 use chess_core::man::{Kind, Man};
 use chess_core::square::{Square, Squares};
 use chess_rules::rules::Rules;
-use chess_rules::shields::fairy_lines;
 use chess_rules::words::{next_bit, only};
 
 // The squares of the mover's men of this kind from which no move exposes the enemy's king.
@@ -31,14 +29,13 @@ fn men_off_shields(board: &Board, squares: &CheckSquares, kind: Kind) -> Squares
 
 // The squares of the mover's pawns who couldn't come to a check square on an empty board.
 #[inline(always)]
-fn far_pawns<R: Rules>(board: &Board, squares: &CheckSquares, lines: Squares) -> Squares
+fn far_pawns<R: Rules>(board: &Board, squares: &CheckSquares) -> Squares
     requires well_formed { IsWellFormed board.now }
     requires squares { AreCheckSquares board.now.men (other board.now.turn) squares.now }
-    requires lines { lines ≡ word (may_stand_between board.now.men (other board.now.turn)) }
     ensures { (s : ℕ) → s < 64 → (bit_at result s == 1) ≡ true
         → AreCheckTargets R.rule board.now s 0 }
 {
-    let targets = targets_off_shields::<R>(board, squares, Kind::Pawn, None, lines);
+    let targets = targets_off_shields::<R>(board, squares, Kind::Pawn, None);
     men_off_shields(board, squares, Kind::Pawn) & !pawns_before(board.turn(), targets)
 }
 
@@ -55,10 +52,9 @@ fn is_far<R: Rules>(board: &Board, man: Man, from: Square, targets: Squares) -> 
 // The squares of the mover's men of this kind, no kings, who couldn't come to a check square on an empty
 // board.
 #[inline(always)]
-fn far_men<R: Rules>(board: &Board, squares: &CheckSquares, kind: Kind, lines: Squares) -> Squares
+fn far_men<R: Rules>(board: &Board, squares: &CheckSquares, kind: Kind) -> Squares
     requires well_formed { IsWellFormed board.now }
     requires squares { AreCheckSquares board.now.men (other board.now.turn) squares.now }
-    requires lines { lines ≡ word (may_stand_between board.now.men (other board.now.turn)) }
     requires no_king { same_kind kind King ≡ false }
     ensures { (s : ℕ) → s < 64 → (bit_at result s == 1) ≡ true
         → AreCheckTargets R.rule board.now s 0 }
@@ -71,7 +67,7 @@ fn far_men<R: Rules>(board: &Board, squares: &CheckSquares, kind: Kind, lines: S
     if men == 0 {
         return 0;
     }
-    let targets = targets_off_shields::<R>(board, squares, kind, None, lines);
+    let targets = targets_off_shields::<R>(board, squares, kind, None);
     let mut far = 0u64;
     let mut number = 0u8;
     while let Some(from) = next_bit(men, number) {
@@ -86,10 +82,9 @@ fn far_men<R: Rules>(board: &Board, squares: &CheckSquares, kind: Kind, lines: S
 // The square of the mover's king, if he couldn't come to a check square on an empty board, castling among
 // his moves.
 #[inline(always)]
-fn far_king<R: Rules>(board: &Board, squares: &CheckSquares, lines: Squares) -> Squares
+fn far_king<R: Rules>(board: &Board, squares: &CheckSquares) -> Squares
     requires well_formed { IsWellFormed board.now }
     requires squares { AreCheckSquares board.now.men (other board.now.turn) squares.now }
-    requires lines { lines ≡ word (may_stand_between board.now.men (other board.now.turn)) }
     ensures { (s : ℕ) → s < 64 → (bit_at result s == 1) ≡ true
         → AreCheckTargets R.rule board.now s 0 }
 {
@@ -100,7 +95,7 @@ fn far_king<R: Rules>(board: &Board, squares: &CheckSquares, lines: Squares) -> 
         colour: board.turn(),
         kind: Kind::King,
     };
-    let targets = targets_off_shields::<R>(board, squares, Kind::King, Some(from), lines);
+    let targets = targets_off_shields::<R>(board, squares, Kind::King, Some(from));
     if !is_far::<R>(board, king, from, targets) {
         return 0;
     }
@@ -124,11 +119,10 @@ pub(crate) fn check_origins<R: Rules>(board: &Board, squares: &CheckSquares) -> 
     if may_check_from_everywhere::<R>(board, squares) {
         return own;
     }
-    let lines = fairy_lines(board, board.turn().other());
-    let far = far_pawns::<R>(board, squares, lines)
-        | far_men::<R>(board, squares, Kind::Knight, lines)
-        | far_men::<R>(board, squares, Kind::Bishop, lines)
-        | far_men::<R>(board, squares, Kind::Rook, lines)
-        | far_king::<R>(board, squares, lines);
+    let far = far_pawns::<R>(board, squares)
+        | far_men::<R>(board, squares, Kind::Knight)
+        | far_men::<R>(board, squares, Kind::Bishop)
+        | far_men::<R>(board, squares, Kind::Rook)
+        | far_king::<R>(board, squares);
     own & !far
 }

@@ -44,8 +44,8 @@ unfoldable pub use Rattle.chess_rules.specs.ties.Outward.{hopped_from, rides_on}
 pub use Rattle.chess_rules.specs.ties.Places.{HaveNone, IsBarrenFrom, IsNamed, IsPlaceIn, promotion_at}
 unfoldable pub use Rattle.chess_rules.specs.ties.Places.{first_behind, moves_behind, moves_between, place_of, triple_at}
 pub use Rattle.chess_rules.specs.ties.Playing.{CanCastle, CanMove}
-pub use Rattle.chess_rules.specs.ties.Shields.{has_fairy_lines, is_fairy, is_lined, is_on_fairy_line_at, may_expose_at, rider_along, steps_along}
-unfoldable pub use Rattle.chess_rules.specs.ties.Shields.{has_fairy, is_behind, is_on_fairy_line, is_plain, is_reached, is_shut, may_expose, may_stand_between}
+pub use Rattle.chess_rules.specs.ties.Shields.{has_fairy_lines, is_fairy, AreRides, is_checker_at, is_lined, is_on_fairy_line_at, is_line_rider, may_expose_at, rider_along, steps_along}
+unfoldable pub use Rattle.chess_rules.specs.ties.Shields.{has_fairy, is_behind, is_checker, is_on_fairy_line, is_plain, is_reached, is_shut, may_expose, may_stand_between}
 pub use Rattle.chess_rules.specs.ties.Sight.{AreArrived, AreOthers, AreSeen, is_simple, king_after, sight_after}
 pub use Rattle.chess_rules.specs.ties.Targets.{AreCandidates, AreKept, AreOrigins, IsAimed, is_promoting, is_arrival_of, pawn_goes}
 unfoldable pub use Rattle.chess_rules.specs.ties.Targets.{is_arrival, may_go, steps_to}

@@ -11,6 +11,7 @@ use Rattle.chess_core.specs.Squares.{squares, some_square}
 use Rattle.chess_core.specs.Steps.{along, step_by, straight_steps}
 use Rattle.chess_core.specs.declared.man.Colour.TheVariants.{White, Black}
 use Rattle.chess_core.specs.declared.man.Kind.TheVariants.{King, Queen, Rook, Bishop, Knight, Grasshopper, Nightrider, Pawn}
+use Rattle.chess_core.specs.declared.man.Colour.{Colour}
 use Rattle.chess_core.specs.declared.man.Kind.{Kind}
 use Rattle.chess_core.specs.declared.man.Man.{Man}
 use Rattle.chess_rules.specs.Attacks.{faces, faces_its_like, in_check, is_attacked, is_paralysed, is_attacker}
@@ -20,7 +21,7 @@ use Rattle.chess_rules.specs.ties.Outward.{hopped_from, is_met, rides_on}
 use Rattle.chess_rules.specs.Play.{position_after, position_after_by, capture_square, moved_men, reborn_square, rebirth, unmoved_after}
 use Rattle.chess_rules.specs.Reaches.{hops, is_clear, leaps, reaches, reaches_as, rides}
 use Rattle.chess_rules.specs.RuleSet.{RuleSet, madrasi, orthodox}
-use Rattle.chess_rules.specs.ties.Shields.{cannot_expose, has_fairy, is_behind, is_plain, is_reached, is_shut, may_expose, may_stand_between, is_on_fairy_line}
+use Rattle.chess_rules.specs.ties.Shields.{cannot_expose, has_fairy, is_behind, is_checker, is_plain, is_reached, is_shut, may_expose, may_stand_between, is_on_fairy_line}
 use Rattle.chess_core.specs.ties.Words.{word, word_of}
 use Rattle.chess_rules.specs.ties.Sight.{sight_after}
 use Rattle.chess_rules.specs.ties.Targets.{may_go, pawn_goes, steps_to}
@@ -245,6 +246,22 @@ pub attacked_square_is_no_flight : (word (λ s. is_of_colour (man_on (set_up (on
     ≡ 2 ^ 56) × (is_reached (set_up (on Black Rook a8 ∷ [])) a1 Black ≡ true)
 unfolding word word_of squares some_square is_reached reaches reaches_as rides hops leaps is_clear along
 attacked_square_is_no_flight = (refl, refl)
+
+-- White Ka1 and one man more
+abbrev king_and : Colour → Kind → ℕ → List (Option Man)
+king_and c k s = set_up (on White King a1 ∷ on c k s ∷ [])
+
+-- a knight on b3 checks him, and so does a nightrider there; on b2 a bishop does, and a rook doesn't; on a8 an enemy rook does, and his own doesn't
+pub men_check_along_their_lines : (is_checker (king_and Black Knight b3) White b3 ≡ true) × (is_checker (king_and Black Nightrider b3) White b3 ≡ true)
+    × (is_checker (king_and Black Bishop b2) White b2 ≡ true) × (is_checker (king_and Black Rook b2) White b2 ≡ false)
+    × (is_checker (king_and Black Rook a8) White a8 ≡ true) × (is_checker (king_and White Rook a8) White a8 ≡ false)
+unfolding is_checker check_after_a_move
+men_check_along_their_lines = (refl, refl, refl, refl, refl, refl)
+
+-- while the rook gives check, a move may expose him even from h2, on none of his lines; a bishop on a8 gives none
+pub any_move_may_leave_a_check : (may_expose (king_and Black Rook a8) White h2 ≡ true) × (may_expose (king_and Black Bishop a8) White h2 ≡ false)
+unfolding may_expose is_reached is_on_fairy_line is_ahead is_on_some is_shut is_behind check_after_a_move
+any_move_may_leave_a_check = (refl, refl)
 
 -- after a capture en passant from e5 to d6 neither e5 nor d5 shuts a line, and d6 does; the captured pawn attacks nothing, and a man on b3 may
 pub captured_man_is_gone : (bit_at (sight_after opening_capture.men e5 (Some d5) d6).occupied e5 ≡ 0)

@@ -1,18 +1,17 @@
 //! The moves that answer a check.
 ghost use Rattle.std.specs.Prelude.{◌≡◌, ◌==◌, if◌then◌else◌, is_some, not, true};
-ghost use Rattle.chess_core.specs.Position.{man_on, other};
+ghost use Rattle.chess_core.specs.Position.{man_on};
 ghost use Rattle.chess_core.specs.WellFormed.{IsWellFormed};
 ghost use Rattle.chess_core.specs.ties.Words.{word};
 ghost use Rattle.chess_rules.specs.Attacks.{in_check};
 ghost use Rattle.chess_rules.specs.ties.Evasions.{AreEvasionsFrom, AreEvasions, has_fairy_lines_of};
-ghost use Rattle.chess_rules.specs.ties.Shields.{cannot_expose, is_plain, may_expose};
+ghost use Rattle.chess_rules.specs.ties.Shields.{cannot_expose, is_checker, is_plain, may_expose};
 ghost use Rattle.chess_rules.specs.Legal.{is_pseudo_legal};
 ghost use Rattle.chess_rules.specs.Play.{position_after};
 ghost use Rattle.chess_rules.specs.RuleSet.{captures_do_more};
 
 use crate::exposure::exposes;
 use crate::lines::occupied;
-use crate::outward::attackers;
 use crate::reach::reach_as;
 use crate::rules::Rules;
 use crate::shields::{cannot_expose, has_fairy_lines, is_plain};
@@ -32,27 +31,21 @@ fn has_fairy_lines_on(board: &Board, square: Square) -> bool
 }
 
 // The squares to which a move of another man than the king may go that ends a check to the colour's king,
-// unless it is no plain move: all of them where no check is seen. `shield_squares` are the squares from which
-// a move may expose the king: all of them where it is in check.
-pub(crate) fn evasion_squares<R: Rules>(
-    board: &Board,
-    colour: Colour,
-    shield_squares: Squares,
-) -> Squares
+// unless it is no plain move: all of them where no check is seen. `checkers` are the squares of the enemies that
+// reach the king.
+pub(crate) fn evasion_squares<R: Rules>(board: &Board, colour: Colour, checkers: Squares) -> Squares
+    requires { checkers ≡ word (is_checker board.now.men colour) }
     ensures { AreEvasions R.rule board.now.men colour result }
 {
-    if shield_squares != !0 {
+    let Some(checker) = next_bit(checkers, 0) else {
         return !0;
-    }
+    };
     let Some(king) = board.king_of(colour) else {
         return !0;
     };
     if R::faced_men_stand_still() {
         return !0;
     }
-    let Some(checker) = next_bit(attackers(board, king, colour.other()), 0) else {
-        return !0;
-    };
     if has_fairy_lines_on(board, checker) {
         return !0;
     }

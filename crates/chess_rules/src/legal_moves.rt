@@ -13,7 +13,7 @@ use crate::evasions::{evasion_squares, evasions_from};
 use crate::legal::is_legal;
 use crate::moves::{Moves, triple};
 use crate::rules::Rules;
-use crate::shields::shield_squares;
+use crate::shields::king_safety;
 use crate::sift::{Sift, Sifted, next_left};
 use crate::sought::{Sought, next_passing};
 use crate::targets::{Kept, TRIPLES, arrivals};
@@ -78,11 +78,11 @@ impl<R: Rules> LegalMoves<R> {
         ensures start { result.place ≡ 0 }
         ensures place { IsPlaceIn R.rule board.now result }
     {
-        let squares = shield_squares(board, board.turn());
+        let safety = king_safety(board, board.turn());
         LegalMoves {
             number: 0,
-            shield_squares: squares,
-            evasion_squares: evasion_squares::<R>(board, board.turn(), squares),
+            shield_squares: safety.shields,
+            evasion_squares: evasion_squares::<R>(board, board.turn(), safety.checkers),
             targets: Kept {
                 origin: None,
                 squares: 0,

@@ -119,7 +119,12 @@ fn leaping_attackers(
 
 // The squares of its fairy men that reach the square. Mostly there is none.
 #[inline(always)]
-fn fairy_attackers(board: &Board, sight: Sight, square: Square, colour: Colour) -> Squares
+pub(crate) fn fairy_attackers(
+    board: &Board,
+    sight: Sight,
+    square: Square,
+    colour: Colour,
+) -> Squares
     ensures { (men : List (Option Man)) → AreSeen board.now.men men colour sight
         → result ≡ word (λ s. is_fairy_man (man_on men s) colour && reaches men s square) }
 {
@@ -139,7 +144,7 @@ fn fairy_attackers(board: &Board, sight: Sight, square: Square, colour: Colour) 
 }
 
 // The squares of its kings, knights and pawns that reach the square.
-fn leapers_seen(board: &Board, sight: Sight, square: Square, colour: Colour) -> Squares
+pub(crate) fn leapers_seen(board: &Board, sight: Sight, square: Square, colour: Colour) -> Squares
     ensures { (men : List (Option Man)) → AreSeen board.now.men men colour sight
         → result ≡ word (λ s. is_leaping_man (man_on men s) colour && reaches men s square) }
 {

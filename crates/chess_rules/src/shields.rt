@@ -1,26 +1,27 @@
-//! The squares that shield a king, and the moves that can't expose it.
+//! How safe a king is, and the moves that can't expose it.
 ghost use Rattle.std.specs.Prelude.{◌≡◌, ◌==◌, ◌&&◌, ◌||◌, List, Option, is_some, not};
 ghost use Rattle.std.specs.Int.{bit_at};
 ghost use Rattle.std.specs.Int.Bits.{bit_or};
 ghost use Rattle.std.specs.List.{list_any};
-ghost use Rattle.chess_core.specs.Position.{is_man, man_on, other};
+ghost use Rattle.chess_core.specs.Position.{is_man, is_of_colour, king_square, man_on, other};
 ghost use Rattle.chess_core.specs.Squares.{is_square, some_square};
 ghost use Rattle.chess_core.specs.Steps.{diagonal_steps, straight_steps};
 ghost use Rattle.chess_core.specs.declared.man.Man.{Man};
 ghost use Rattle.chess_core.specs.declared.man.Kind.TheVariants.{Bishop, Queen, Rook};
 ghost use Rattle.chess_rules.specs.ties.Lines.{is_on_some, occupied_squares};
-ghost use Rattle.chess_rules.specs.Reaches.{rides};
+ghost use Rattle.chess_rules.specs.Reaches.{reaches, rides};
 ghost use Rattle.chess_core.specs.ties.Words.{squares_of, word};
-ghost use Rattle.chess_rules.specs.ties.Shields.{cannot_expose, has_fairy, has_fairy_lines, is_shut, is_plain, may_expose, may_stand_between, rider_along, steps_along};
+ghost use Rattle.chess_rules.specs.ties.Shields.{AreRides, cannot_expose, has_fairy, has_fairy_lines, is_checker, is_plain, is_line_rider, is_shut, may_expose, may_stand_between, rider_along, steps_along};
 ghost use Rattle.chess_rules.specs.RuleSet.{captures_do_more};
 
 use crate::lines::{
     diagonal_lines, diagonal_rides, knight_lines_with, occupied, queen_lines_with, straight_lines,
     straight_rides,
 };
-use crate::outward::is_reached;
+use crate::outward::{fairy_attackers, leapers_seen};
 use crate::play::is_castling;
 use crate::rules::Rules;
+use crate::sight::sight_now;
 use crate::words::{contains, next_bit, only};
 use chess_core::board::Board;
 use chess_core::man::{Colour, Kind, Man, Move};
@@ -130,16 +131,33 @@ fn line_riders(board: &Board, colour: Colour, lines: RiderLines) -> Squares
 
 // Those that stand on one of the lines of the square.
 fn riders_on_lines(board: &Board, colour: Colour, square: Square, lines: RiderLines) -> Squares
-    ensures { result ≡ word (λ q. (is_man (man_on board.now.men q) colour (rider_along lines)
-        || is_man (man_on board.now.men q) colour Queen)
-        && is_on_some (steps_along lines) square q) }
+    ensures { result ≡ word (is_line_rider board.now.men colour (rider_along lines)
+        (steps_along lines) square) }
 {
     line_riders(board, colour, lines) & lines.all(square)
 }
 
-// The squares that shut a line between the square and a rider of this colour. Mostly no such rider stands
-// on its lines.
-fn shut_squares(board: &Board, colour: Colour, square: Square, lines: RiderLines) -> Squares
+// The squares to which a rider gets from the square along these lines, if a rider of the colour stands on
+// them: mostly none does, and none is looked for.
+fn rides_to_riders(board: &Board, colour: Colour, square: Square, lines: RiderLines) -> Squares
+    ensures { AreRides board.now.men colour (rider_along lines) (steps_along lines) square result }
+{
+    if riders_on_lines(board, colour, square, lines) == 0 {
+        return 0;
+    }
+    lines.rides(occupied(board), square)
+}
+
+// The squares that shut a line between the square and a rider of this colour; `rides` are those to which a
+// rider gets from the square.
+fn shut_squares(
+    board: &Board,
+    colour: Colour,
+    square: Square,
+    lines: RiderLines,
+    rides: Squares,
+) -> Squares
+    requires { AreRides board.now.men colour (rider_along lines) (steps_along lines) square rides }
     ensures { result ≡ word (is_shut board.now.men colour (rider_along lines) (steps_along lines)
         square) }
 {
@@ -147,33 +165,116 @@ fn shut_squares(board: &Board, colour: Colour, square: Square, lines: RiderLines
     if riders == 0 {
         return 0;
     }
-    let occupied = occupied(board);
-    lines.rides(occupied, square) & ridden_squares(occupied, riders, lines)
+    rides & ridden_squares(occupied(board), riders, lines)
 }
 
-// The square of the colour's king, and those that shut a line between it and an enemy rider.
-fn shields_of(board: &Board, colour: Colour, king: Square) -> Squares
+// The square of the colour's king, and those that shut a line between it and an enemy rider; `straight` and
+// `diagonal` are those to which a rook and a bishop get from there.
+fn shields_of(
+    board: &Board,
+    colour: Colour,
+    king: Square,
+    straight: Squares,
+    diagonal: Squares,
+) -> Squares
+    requires straight { AreRides board.now.men (other colour) Rook straight_steps king straight }
+    requires diagonal { AreRides board.now.men (other colour) Bishop diagonal_steps king diagonal }
     ensures { result ≡ bit_or (bit_or (word (is_square (Some king)))
         (word (is_shut board.now.men (other colour) Rook straight_steps king)))
         (word (is_shut board.now.men (other colour) Bishop diagonal_steps king)) }
 {
     let enemy = colour.other();
     only(Some(king))
-        | shut_squares(board, enemy, king, RiderLines::Straight)
-        | shut_squares(board, enemy, king, RiderLines::Diagonal)
+        | shut_squares(board, enemy, king, RiderLines::Straight, straight)
+        | shut_squares(board, enemy, king, RiderLines::Diagonal, diagonal)
+}
+
+// The squares of the men of this colour that reach the square; `straight` and `diagonal` are those to which a
+// rook and a bishop get from there.
+#[inline(always)]
+fn checkers_of(
+    board: &Board,
+    colour: Colour,
+    square: Square,
+    straight: Squares,
+    diagonal: Squares,
+) -> Squares
+    requires straight { AreRides board.now.men colour Rook straight_steps square straight }
+    requires diagonal { AreRides board.now.men colour Bishop diagonal_steps square diagonal }
+    ensures { result ≡ word (λ s. is_of_colour (man_on board.now.men s) colour
+        && reaches board.now.men s square) }
+{
+    // For the proof: a square's number is below 64.
+    let _small = square.index();
+    let sight = sight_now(board);
+    leapers_seen(board, sight, square, colour)
+        | line_riders(board, colour, RiderLines::Straight) & straight
+        | line_riders(board, colour, RiderLines::Diagonal) & diagonal
+        | fairy_attackers(board, sight, square, colour)
+}
+
+/// How safe a king is: the squares of the enemies that reach him, be they paralysed or not, and those from
+/// which a move may expose him.
+#[derive(Clone, Copy)]
+pub struct KingSafety {
+    pub checkers: Squares,
+    pub shields: Squares,
+}
+
+/// How safe the colour's king is, told by the squares to which a rook and a bishop get from his, if an enemy
+/// rider stands on those lines, and by the fairy lines to him.
+pub fn safety_seen(
+    board: &Board,
+    colour: Colour,
+    king: Square,
+    straight: Squares,
+    diagonal: Squares,
+    lines: Squares,
+) -> KingSafety
+    requires king { king_square board.now.men colour ≡ Some king }
+    requires straight { AreRides board.now.men (other colour) Rook straight_steps king straight }
+    requires diagonal { AreRides board.now.men (other colour) Bishop diagonal_steps king diagonal }
+    requires lines { lines ≡ word (may_stand_between board.now.men colour) }
+    ensures checkers { result.checkers ≡ word (is_checker board.now.men colour) }
+    ensures shields { result.shields ≡ word (may_expose board.now.men colour) }
+{
+    let enemy = colour.other();
+    let checkers = checkers_of(board, enemy, king, straight, diagonal);
+    if checkers != 0 {
+        return KingSafety {
+            checkers,
+            shields: !0,
+        };
+    }
+    KingSafety {
+        checkers,
+        shields: shields_of(board, colour, king, straight, diagonal) | lines,
+    }
+}
+
+/// How safe the colour's king is.
+pub fn king_safety(board: &Board, colour: Colour) -> KingSafety
+    ensures checkers { result.checkers ≡ word (is_checker board.now.men colour) }
+    ensures shields { result.shields ≡ word (may_expose board.now.men colour) }
+{
+    let Some(king) = board.king_of(colour) else {
+        return KingSafety {
+            checkers: 0,
+            shields: 0,
+        };
+    };
+    let enemy = colour.other();
+    let straight = rides_to_riders(board, enemy, king, RiderLines::Straight);
+    let diagonal = rides_to_riders(board, enemy, king, RiderLines::Diagonal);
+    let lines = fairy_lines(board, colour);
+    safety_seen(board, colour, king, straight, diagonal, lines)
 }
 
 /// The squares from which a move may expose the colour's king.
 pub fn shield_squares(board: &Board, colour: Colour) -> Squares
     ensures { result ≡ word (may_expose board.now.men colour) }
 {
-    let Some(king) = board.king_of(colour) else {
-        return 0;
-    };
-    if is_reached(board, king, colour.other()) {
-        return !0;
-    }
-    shields_of(board, colour, king) | fairy_lines(board, colour)
+    king_safety(board, colour).shields
 }
 
 // Whether the man's move changes nothing but its own square.
@@ -186,16 +287,34 @@ pub(crate) fn is_plain<R: Rules>(board: &Board, man: Man, m: &Move) -> bool
         && !(R::captures_do_more() && board.man_at(m.to).is_some())
 }
 
-// Whether the man arrives on no line to the colour's king with a fairy man of the other colour, and its move
-// changes nothing but its own square.
+// Whether a man on the square may be a hurdle before the colour's king, or shut a nightrider's line to it;
+// `squares` are those from which a move may expose him, these among them.
 #[inline(always)]
-fn stands_aside<R: Rules>(board: &Board, man: Man, colour: Colour, m: &Move) -> bool
+#[tactic(auto, using(crate::proofs::attacks::Shielding::off_shields, crate::proofs::attacks::Shielding::between_is))]
+fn may_stand_between(board: &Board, colour: Colour, squares: Squares, square: Square) -> bool
+    requires { squares ≡ word (may_expose board.now.men colour) }
+    ensures { result ≡ may_stand_between board.now.men colour square }
+{
+    // For the proof: a square's number is below 64.
+    let _small = square.index();
+    contains(squares, square) && contains(fairy_lines(board, colour), square)
+}
+
+// Whether the man arrives on no line to the colour's king with a fairy man of the other colour, and its move
+// changes nothing but its own square; `squares` are those from which a move may expose the king.
+#[inline(always)]
+fn stands_aside<R: Rules>(
+    board: &Board,
+    man: Man,
+    colour: Colour,
+    squares: Squares,
+    m: &Move,
+) -> bool
+    requires { squares ≡ word (may_expose board.now.men colour) }
     ensures { result ≡ (not (may_stand_between board.now.men colour m.now.to)
         && is_plain R.rule board.now man m.now) }
 {
-    // For the proof: a square's number is below 64.
-    let _small = m.to.index();
-    !contains(fairy_lines(board, colour), m.to) && is_plain::<R>(board, man, m)
+    !may_stand_between(board, colour, squares, m.to) && is_plain::<R>(board, man, m)
 }
 
 /// Whether the move can't expose the colour's king; `squares` are those from which one may.
@@ -207,7 +326,8 @@ pub fn cannot_expose<R: Rules>(board: &Board, colour: Colour, squares: Squares, 
     // For the proof: a square's number is below 64.
     let _small = m.from.index();
     match board.man_at(m.from) {
-        Some(man) => !contains(squares, m.from) && stands_aside::<R>(board, man, colour, m),
+        Some(man) => !contains(squares, m.from)
+            && stands_aside::<R>(board, man, colour, squares, m),
         None => false,
     }
 }

@@ -17,7 +17,7 @@ use Rattle.chess_rules.specs.Play.{position_after}
 use Rattle.chess_rules.specs.Reaches.{reaches_as}
 use Rattle.chess_rules.specs.RuleSet.{RuleSet, captures_are_reborn, orthodox}
 use Rattle.chess_rules.specs.ties.Lines.{is_two_files_aside}
-use Rattle.chess_rules.specs.ties.Shields.{may_expose}
+use Rattle.chess_rules.specs.ties.Shields.{may_expose, may_stand_between}
 use Rattle.chess_rules.specs.ties.Targets.{may_go}
 
 -- it is a fairy man, and none of its colour and kind stands on the board
@@ -52,11 +52,12 @@ enemy c j = record { colour = other c; kind = j }
 abbrev pub own_man : Position → Kind → Man
 own_man p j = record { colour = p.turn; kind = j }
 
--- the words are those of the squares from which a move may expose the king of colour c, and from which
--- its enemies of each kind but kings may give check to it
+-- the words are those of the squares from which a move may expose the king of colour c, of the lines to it with
+-- a fairy man, and of the squares from which its enemies of each kind but kings may give check to it
 pub record AreCheckSquares (men : List (Option Man)) (c : Colour)
     (s : CheckSquares) : Type 0 where
   pub shield_squares : s.shield_squares ≡ word (may_expose men c)
+  pub fairy_lines : s.fairy_lines ≡ word (may_stand_between men c)
   pub straight : s.straight ≡ word (may_check_from men c (enemy c Rook))
   pub diagonal : s.diagonal ≡ word (may_check_from men c (enemy c Bishop))
   pub knight : s.knight ≡ word (may_check_from men c (enemy c Knight))

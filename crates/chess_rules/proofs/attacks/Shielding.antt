@@ -1,7 +1,7 @@
 -- A plain move from a square that a queen on the king's doesn't see opens no line to the king.
 use Rattle.chess_rules.proofs.Basics.{Bool, List, None, Option, Some, [], and_from, and_parts, and_right, ap, arith, bit_at, bit_not, bit_or, cases_Bool, cases_eq, cond-false, cond-true, eq-eqb, false, false_from_ne_true, false≢true, inl, inr, is_some, length, list_any, list_any-append, not, not-true, or_cases, or_left, or_parts, or_right, refl, rules, sym, true, w64, ℕ, ◌&&◌, ◌<◌, ◌==◌, ◌||◌, ◌∙◌, ◌∷◌, ◌≡◌, ◌≢◌}
 use Rattle.chess_rules.proofs.Chess.{AtMostOneKing, Bishop, Colour, Direction, East, Grasshopper, IsWellFormed, Kind, King, Man, Move, Nightrider, North, NorthEast, NorthWest, Position, Queen, Rook, RuleSet, South, SouthEast, SouthWest, Step, Straight, West, position_after_by, arriving_man, capture_square, is_attacked, is_attacked_at, position_after}
-use Rattle.chess_rules.proofs.Chess.{diagonal_steps, differs, find_first, has_fairy, hops, in_check, is_behind, is_castling, captures_do_more, is_man, is_on_fairy_line, is_on_fairy_line_at, is_on_some, is_plain, is_promotion_right, is_reached, is_shut, is_of_colour, is_square, is_vacant_at, king_square, knight_steps, man_on, man_on_at}
+use Rattle.chess_rules.proofs.Chess.{diagonal_steps, differs, find_first, has_fairy, hops, in_check, is_behind, is_castling, is_checker, is_checker_at, captures_do_more, is_man, is_on_fairy_line, is_on_fairy_line_at, is_on_some, is_plain, is_promotion_right, is_reached, is_shut, is_of_colour, is_square, is_vacant_at, king_square, knight_steps, man_on, man_on_at}
 use Rattle.chess_rules.proofs.Chess.{is_paralysed, is_pseudo_legal, may_expose, may_expose_at, may_stand_between, moved_men, other, queen_steps, reaches, reaches_as, rebirth_at, reborn_square, rider_along, rides, same_colour, same_kind, some_square_false, some_square_true, squares, squares_either, squares_of, squares_same, step_of, steps_along, straight_steps, is_attacker, word}
 use Rattle.chess_core.proofs.Ranges.{second_fails, find_square_some}
 use Rattle.chess_rules.specs.ties.Shields.{cannot_expose}
@@ -383,19 +383,41 @@ pub shield_squares_none : (men : List (Option Man)) (c : Colour) → king_square
 unfolding may_expose
 shield_squares_none men c h = word_empty (may_expose men c) (λ s b. ap (λ (o : Option ℕ). may_expose_at men o c s) h)
 
+-- nor does an enemy reach him
+pub checkers_none : (men : List (Option Man)) (c : Colour) → king_square men c ≡ None → 0 ≡ word (is_checker men c)
+unfolding is_checker
+checkers_none men c h = word_empty (is_checker men c) (λ s b. ap (λ (o : Option ℕ). is_checker_at men o c s) h)
+
+-- the enemies that reach a king's square
+abbrev reaching : List (Option Man) → Colour → ℕ → ℕ → Bool
+reaching men c k s = is_of_colour (man_on men s) (other c) && reaches men s k
+
+-- are those that reach him
+pub checkers_are : (men : List (Option Man)) (c : Colour) (k w : ℕ) → king_square men c ≡ Some k → w ≡ word (reaching men c k) → w ≡ word (is_checker men c)
+unfolding is_checker
+checkers_are men c k w at h = h ∙ squares_same (reaching men c k) (is_checker men c) (λ s b. sym (ap (λ (o : Option ℕ). is_checker_at men o c s) at))
+
+-- whether there is one, told by their word
+reached_by_word : (men : List (Option Man)) (c : Colour) (k w : ℕ) → w ≡ word (reaching men c k) → not (w == 0) ≡ is_reached men k (other c)
+unfolding is_reached
+reached_by_word men c k w h = ap (λ n. not (n == 0)) h ∙ not_zero (reaching men c k)
+
 -- with a king that an enemy reaches, they are all squares
-pub shield_squares_all : (men : List (Option Man)) (c : Colour) (k : ℕ) → king_square men c ≡ Some k → is_reached men k (other c) ≡ true
+pub shield_squares_all : (men : List (Option Man)) (c : Colour) (k w : ℕ) → king_square men c ≡ Some k → w ≡ word (reaching men c k) → (w ≡ 0 → ⊥)
     → bit_not w64 0 ≡ word (may_expose men c)
 unfolding may_expose
-shield_squares_all men c k at reached = search (rules, every_square, or_left)
+shield_squares_all men c k w at h some =
+    let reached : is_reached men k (other c) ≡ true = sym (reached_by_word men c k w h) ∙ ap not (differs w 0 some) in
+    search (rules, every_square, or_left)
 
 -- else his own, those that shut a line to him, and those on fairy lines
-pub shield_squares_some : (men : List (Option Man)) (c : Colour) (k w n : ℕ) → king_square men c ≡ Some k → is_reached men k (other c) ≡ false
+pub shield_squares_some : (men : List (Option Man)) (c : Colour) (k r w n : ℕ) → king_square men c ≡ Some k → r ≡ word (reaching men c k) → r ≡ 0
     → w ≡ bit_or (bit_or (word (is_square (Some k))) (word (is_shut men (other c) Rook straight_steps k)))
     (word (is_shut men (other c) Bishop diagonal_steps k))
     → n ≡ word (may_stand_between men c) → bit_or w n ≡ word (may_expose men c)
 unfolding may_expose may_stand_between
-shield_squares_some men c k w n at unreached h i =
+shield_squares_some men c k r w n at reachers none h i =
+    let unreached : is_reached men k (other c) ≡ false = sym (reached_by_word men c k r reachers) ∙ ap (λ (v : ℕ). not (v == 0)) none in
     let rook : ℕ → Bool = is_shut men (other c) Rook straight_steps k in
     let bishop : ℕ → Bool = is_shut men (other c) Bishop diagonal_steps k in
     (λ j. bit_or (h j) (i j))
@@ -419,17 +441,17 @@ pub cannot_expose_nobody : (rule : RuleSet) (p : Position) (c : Colour) (m : Mov
 unfolding cannot_expose
 cannot_expose_nobody rule p c m none = rw none refl
 
--- and its second half, by the word of the lines
-between_is : (men : List (Option Man)) (c : Colour) (w t n : ℕ) (b : Bool) → w ≡ word (may_stand_between men c) → t ≡ n → t < 64
-    → b ≡ (bit_at w t == 1) → b ≡ may_stand_between men c n
-between_is men c w t n b h same small e = e ∙ word_has (may_stand_between men c) w t h small ∙ ap (may_stand_between men c) same
+-- a square on a fairy line to a king is one from which a move may expose him
+expose_between : (men : List (Option Man)) (o : Option ℕ) (c : Colour) (s : ℕ) → may_expose_at men o c s ≡ false → is_on_fairy_line_at men o c s ≡ false
+expose_between men o c s h = grind (arith, or_parts)
 
--- where he stands aside
-pub stands_aside_is : (men : List (Option Man)) (c : Colour) (w t n : ℕ) (b u r : Bool) → w ≡ word (may_stand_between men c) → t ≡ n → t < 64
-    → b ≡ (bit_at w t == 1) → b ≡ false → r ≡ u → r ≡ (not (may_stand_between men c n) && u)
-stands_aside_is men c w t n b u r h same small e off plain = search (rules, between_is)
+-- so one that isn't in their word lies on none
+pub off_shields : (men : List (Option Man)) (c : Colour) (w t : ℕ) (b : Bool) → w ≡ word (may_expose men c) → t < 64 → b ≡ (bit_at w t == 1) → b ≡ false
+    → b ≡ may_stand_between men c t
+unfolding may_expose may_stand_between
+off_shields men c w t b h small e off = search (rules, expose_between, word_has)
 
--- and where he doesn't
-pub stands_between : (men : List (Option Man)) (c : Colour) (w t n : ℕ) (b u : Bool) → w ≡ word (may_stand_between men c) → t ≡ n → t < 64
-    → b ≡ (bit_at w t == 1) → b ≡ true → false ≡ (not (may_stand_between men c n) && u)
-stands_between men c w t n b u h same small e there = search (rules, between_is)
+-- and the word of the fairy lines tells of the others
+pub between_is : (men : List (Option Man)) (c : Colour) (w t : ℕ) (b : Bool) → w ≡ word (may_stand_between men c) → t < 64 → b ≡ (bit_at w t == 1)
+    → b ≡ may_stand_between men c t
+between_is men c w t b h small e = e ∙ word_has (may_stand_between men c) w t h small

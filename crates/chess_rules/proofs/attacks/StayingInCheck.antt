@@ -1,6 +1,6 @@
 -- A check that isn't met stays.
 use Rattle.chess_rules.proofs.Basics.{Bool, List, Option, Some, and_from, and_left, and_parts, ap, arith, bit_and, bit_at, bit_not, bit_or, eq-eqb, false, false≢true, list_any, list_any-append, not, or_left, or_parts, or_right, refl, rules, subst, sym, true, w64, ℕ, ◌&&◌, ◌<◌, ◌==◌, ◌∙◌, ◌≡◌, ◌≢◌}
-use Rattle.chess_rules.proofs.Chess.{AreEvasions, AtMostOneKing, Bishop, Colour, Grasshopper, IsWellFormed, Kind, King, Man, Move, Nightrider, Position, Queen, Rook, RuleSet, Step, arriving_man, find_first, first_of_and, in_check, is_arrival_free, is_attacked, is_attacked_at, has_fairy_lines, faced_men_stand_still, is_man, is_paralysed, is_plain, is_pseudo_legal, is_of_colour, is_square, is_vacant_at, king_square, man_on, other, position_after, queen_steps, reaches, reaches_as, rides, same_colour, same_kind, second_of_and, some_square_true, squares, squares_both, squares_either, is_attacker, word}
+use Rattle.chess_rules.proofs.Chess.{AreEvasions, AtMostOneKing, Bishop, Colour, Grasshopper, IsWellFormed, Kind, King, Man, Move, Nightrider, Position, Queen, Rook, RuleSet, Step, arriving_man, find_first, first_of_and, in_check, is_arrival_free, is_attacked, is_attacked_at, is_checker, is_checker_at, has_fairy_lines, faced_men_stand_still, is_man, is_paralysed, is_plain, is_pseudo_legal, is_of_colour, is_square, is_vacant_at, king_square, man_on, other, position_after, queen_steps, reaches, reaches_as, rides, same_colour, same_kind, second_of_and, some_square_true, squares, squares_both, squares_either, is_attacker, word}
 use Rattle.chess_rules.specs.ties.Evasions.{has_fairy_lines_of, IsNoEvasion}
 use Rattle.chess_rules.proofs.Bits.{word_has, every_square}
 use Rattle.chess_rules.proofs.attacks.Shielding.{IsPlain, IsShift, arrived_shift, king_is, man_there, men_after, other_differs, plain_parts}
@@ -132,10 +132,13 @@ evasion_squares_all rule men c = record {
 -- the squares that meet one check
 pub evasion_squares_one : (rule : RuleSet) (men : List (Option Man)) (c : Colour) (k s w n r t : ℕ) → king_square men c ≡ Some k
     → faced_men_stand_still rule ≡ false
-    → has_fairy_lines_of (man_on men s) ≡ false → t ≡ word (λ q. is_of_colour (man_on men q) (other c) && reaches men q k) → s < 64 → (bit_at t s == 1) ≡ true
+    → has_fairy_lines_of (man_on men s) ≡ false → t ≡ word (is_checker men c) → s < 64 → (bit_at t s == 1) ≡ true
     → w ≡ word (λ q. is_square (Some s) q) → n ≡ word (λ q. reaches_as men c Queen k q) → r ≡ word (λ q. reaches_as men c Queen s q)
     → AreEvasions rule men c (bit_or w (bit_and n r))
+unfolding is_checker
 evasion_squares_one rule men c k s w n r t at moving plain all small set h i j =
+    let checks : (is_of_colour (man_on men s) (other c) && reaches men s k) ≡ true =
+    ap (λ (o : Option ℕ). is_checker_at men o c s) (sym at) ∙ sym (word_has (is_checker men c) t s all small) ∙ set in
     search (rules, first_of_and, second_of_and, squares_both, squares_either, word_has)
 
 -- the same, for a word

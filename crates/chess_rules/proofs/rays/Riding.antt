@@ -1,7 +1,9 @@
 -- The words of the squares that shut lines.
 use Rattle.chess_rules.proofs.Basics.{Bool, List, Option, and_left, and_right, ap, arith, bit_and, bit_at, bit_at-zero, bit_or, cases_Bool, cases_eq, cases_lt, false, inl, inr, list_any, or_left, or_right, range_with_len, refl, rules, sym, ℕ, ◌&&◌, ◌+◌, ◌-◌, ◌<◌, ◌==◌, ◌||◌, ◌∙◌, ◌≡◌, ◌≤◌}
-use Rattle.chess_rules.proofs.Chess.{Colour, IsFirst, Kind, Man, Queen, Step, any_range_cases, any_range_false, any_range_true, is_behind, is_man, is_on_some, is_shut, man_on, rides, some_square, some_square_false, squares, squares_both, squares_either, squares_of, squares_same, word}
-use Rattle.chess_rules.proofs.attacks.Attacking.{some_square_same}
+use Rattle.chess_rules.proofs.Chess.{AreRides, Colour, IsFirst, Kind, Man, Queen, Step, any_range_cases, any_range_false, any_range_true, is_behind, is_on_some, is_line_rider, is_shut, rides, some_square, some_square_false, squares, squares_both, squares_either, squares_of, squares_same, word}
+use Rattle.std.specs.Int.Bits.{and_zero_r}
+use Rattle.chess_rules.specs.ties.Outward.{is_met}
+use Rattle.chess_rules.proofs.attacks.Attacking.{met, met_none, some_square_same}
 use Rattle.chess_rules.proofs.Bits.{word_empty, word_has}
 
 -- some number passes up to q, if some does below n, or q itself, and those between don't
@@ -56,34 +58,47 @@ ridden_all men ds w n r le h none =
     h ∙ squares_same (ridden_below men ds w n) (λ s. list_any (λ q. bit_at w q == 1 && list_any (rides men q s) ds) (range_with_len 0 64)) (λ s small.
     none_more (λ q. bit_at w q == 1 && list_any (rides men q s) ds) n 64 le (λ j lo hi. and_left (bit_at w j == 1) _ (none j lo hi)))
 
--- the riders on the lines of a square
-abbrev pub is_rider : List (Option Man) → Colour → Kind → List Step → ℕ → ℕ → Bool
-is_rider men e j ds k q = (is_man (man_on men q) e j || is_man (man_on men q) e Queen) && is_on_some ds k q
-
 -- the rooks or bishops and the queens on the lines from a square
 pub riders_are : (men : List (Option Man)) (e : Colour) (j : Kind) (ds : List Step) (k r l : ℕ) → r ≡ bit_or (squares_of men e j) (squares_of men e Queen)
-    → l ≡ word (is_on_some ds k) → bit_and r l ≡ word (is_rider men e j ds k)
+    → l ≡ word (is_on_some ds k) → bit_and r l ≡ word (is_line_rider men e j ds k)
 unfolding squares_of
 riders_are men e j ds k r l h g = search (rules, squares_both, squares_either)
 
 -- without such riders no square shuts a line
-pub none_shut : (men : List (Option Man)) (e : Colour) (j : Kind) (ds : List Step) (k w : ℕ) → w ≡ word (is_rider men e j ds k) → w ≡ 0
+pub none_shut : (men : List (Option Man)) (e : Colour) (j : Kind) (ds : List Step) (k w : ℕ) → w ≡ word (is_line_rider men e j ds k) → w ≡ 0
     → 0 ≡ word (is_shut men e j ds k)
 unfolding is_shut is_behind
 none_shut men e j ds k w h zero =
     word_empty (is_shut men e j ds k) (λ s small. and_right (list_any (rides men k s) ds) _
     (some_square_false (is_behind men e j ds k s) 64 (omega arith) (record {
-      fails = λ q lt. and_left (is_rider men e j ds k q) _ (sym (word_has (is_rider men e j ds k) w q h lt) ∙ ap (λ (n : ℕ). bit_at n q == 1) zero
+      fails = λ q lt. and_left (is_line_rider men e j ds k q) _ (sym (word_has (is_line_rider men e j ds k) w q h lt) ∙ ap (λ (n : ℕ). bit_at n q == 1) zero
           ∙ ap (λ (n : ℕ). n == 1) (bit_at-zero q));
     })))
 
--- else a square shuts a line exactly if the king's square and a rider both see it
-pub shut_are : (men : List (Option Man)) (e : Colour) (j : Kind) (ds : List Step) (k w n r : ℕ) → w ≡ word (is_rider men e j ds k)
-    → n ≡ word (λ t. list_any (rides men k t) ds) → r ≡ word (λ s. some_square (λ q. bit_at w q == 1 && list_any (rides men q s) ds))
+-- where one stands, the squares to which a rider gets from the square are known
+ridden_from : (men : List (Option Man)) (e : Colour) (j : Kind) (ds : List Step) (k w n : ℕ) → w ≡ word (is_line_rider men e j ds k) → (w ≡ 0 → ⊥)
+    → AreRides men e j ds k n → n ≡ word (λ t. list_any (rides men k t) ds)
+ridden_from men e j ds k w n h some i = grind arith
+
+-- then a square shuts a line exactly if the king's square and a rider both see it
+pub shut_are : (men : List (Option Man)) (e : Colour) (j : Kind) (ds : List Step) (k w n r : ℕ) → w ≡ word (is_line_rider men e j ds k) → (w ≡ 0 → ⊥)
+    → AreRides men e j ds k n → r ≡ word (λ s. some_square (λ q. bit_at w q == 1 && list_any (rides men q s) ds))
     → bit_and n r ≡ word (is_shut men e j ds k)
 unfolding is_shut is_behind
-shut_are men e j ds k w n r h i g =
-    (λ y. bit_and (i y) (g y)) ∙ squares_both (λ t. list_any (rides men k t) ds) (λ s. some_square (λ q. bit_at w q == 1 && list_any (rides men q s) ds))
+shut_are men e j ds k w n r h some i g =
+    (λ y. bit_and (ridden_from men e j ds k w n h some i y) (g y))
+    ∙ squares_both (λ t. list_any (rides men k t) ds) (λ s. some_square (λ q. bit_at w q == 1 && list_any (rides men q s) ds))
     ∙ squares_same _ (is_shut men e j ds k) (λ s small. ap (λ (b : Bool). list_any (rides men k s) ds && b)
     (some_square_same (λ q. bit_at w q == 1 && list_any (rides men q s) ds) (is_behind men e j ds k s)
-    (λ q lt. ap (λ (b : Bool). b && list_any (rides men q s) ds) (word_has (is_rider men e j ds k) w q h lt))))
+    (λ q lt. ap (λ (b : Bool). b && list_any (rides men q s) ds) (word_has (is_line_rider men e j ds k) w q h lt))))
+
+-- the riders on the squares to which a rider gets are those that are met there
+pub met_by_rides : (men : List (Option Man)) (e : Colour) (j : Kind) (ds : List Step) (k m w : ℕ) → m ≡ bit_or (squares_of men e j) (squares_of men e Queen)
+    → AreRides men e j ds k w → bit_and m w ≡ word (is_met men e j ds k)
+met_by_rides men e j ds k m w h i = (λ y. bit_and (h y) w) ∙ elim i [
+  | inl seen ↦ met men e j k (squares_of men e j) (squares_of men e Queen) w ds refl refl seen
+  | inr none ↦
+      (λ y. bit_and (bit_or (squares_of men e j) (squares_of men e Queen)) (none.0 y)) ∙ and_zero_r (bit_or (squares_of men e j) (squares_of men e Queen))
+      ∙ met_none men e j k (squares_of men e j) (squares_of men e Queen) (word (is_on_some ds k)) ds refl refl refl
+      (riders_are men e j ds k (bit_or (squares_of men e j) (squares_of men e Queen)) (word (is_on_some ds k)) refl refl ∙ none.1)
+]

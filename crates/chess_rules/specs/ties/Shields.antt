@@ -1,8 +1,9 @@
 -- Squares that shield a king along the lines to it, and moves that can't expose it (own).
-use Rattle.std.specs.Prelude.{ℕ, Bool, true, false, ◌&&◌, ◌||◌, ◌==◌, not, List, Option, Some, None, is_some}
+use Rattle.std.specs.Prelude.{◌≡◌, ◌⊎◌, ℕ, Bool, false, ◌&&◌, ◌||◌, ◌==◌, not, List, Option, Some, None, is_some}
 use Rattle.chess_core.specs.Squares.{is_square, some_square}
 pub use Rattle.chess_core.specs.Position.{is_fairy}
 use Rattle.chess_core.specs.Position.{Position, is_man, is_of_colour, king_square, man_on, other}
+use Rattle.chess_core.specs.ties.Words.{word}
 use Rattle.chess_core.specs.declared.man.Man.{Man}
 use Rattle.chess_core.specs.declared.man.Move.{Move}
 use Rattle.chess_core.specs.declared.man.Colour.{Colour}
@@ -53,18 +54,36 @@ is_on_fairy_line_at men (Some k) c t = is_on_fairy_line men (other c) k t
 unfoldable pub may_stand_between : List (Option Man) → Colour → ℕ → Bool
 may_stand_between men c t = is_on_fairy_line_at men (king_square men c) c t
 
--- a queen or a man of kind j, of colour e, stands on q, on one of the lines from k by these steps, and comes to s
--- by such a step
+-- a queen or a man of kind j, of colour e, stands on q, on one of the lines from k by these steps
+abbrev pub is_line_rider : List (Option Man) → Colour → Kind → List Step → ℕ → ℕ → Bool
+is_line_rider men e j ds k q =
+    (is_man (man_on men q) e j || is_man (man_on men q) e Queen) && is_on_some ds k q
+
+-- the word has the squares to which a rider gets from k by these steps; it may have none if no such man stands
+-- on their lines
+abbrev pub AreRides : List (Option Man) → Colour → Kind → List Step → ℕ → ℕ → Type 0
+AreRides men e j ds k w =
+    (w ≡ word (λ t. list_any (rides men k t) ds))
+    ⊎ ((w ≡ 0) × (word (is_line_rider men e j ds k) ≡ 0))
+
+-- such a man comes to s by such a step
 unfoldable pub is_behind : List (Option Man) → Colour → Kind → List Step → ℕ → ℕ → ℕ → Bool
-is_behind men e j ds k s q =
-    ((is_man (man_on men q) e j || is_man (man_on men q) e Queen) && is_on_some ds k q)
-    && list_any (rides men q s) ds
+is_behind men e j ds k s q = is_line_rider men e j ds k q && list_any (rides men q s) ds
 
 -- s shuts a line between k and such a man: both come to it
 unfoldable pub is_shut : List (Option Man) → Colour → Kind → List Step → ℕ → ℕ → Bool
 is_shut men e j ds k s = list_any (rides men k s) ds && some_square (is_behind men e j ds k s)
 
--- the same test for the king's square, if there is a king
+-- an enemy of colour c on s reaches the king's square, if there is a king
+abbrev pub is_checker_at : List (Option Man) → Option ℕ → Colour → ℕ → Bool
+is_checker_at men None c s = false
+is_checker_at men (Some k) c s = is_of_colour (man_on men s) (other c) && reaches men s k
+
+-- an enemy on s reaches the king of colour c, be it paralysed or not
+unfoldable pub is_checker : List (Option Man) → Colour → ℕ → Bool
+is_checker men c s = is_checker_at men (king_square men c) c s
+
+-- whether a move from s may expose the king on his square, if there is a king
 abbrev pub may_expose_at : List (Option Man) → Option ℕ → Colour → ℕ → Bool
 may_expose_at men None c s = false
 may_expose_at men (Some k) c s =

@@ -1,4 +1,4 @@
-use Rattle.chess_rules.proofs.Basics.{ap, rules, sym, ◌∙◌}
+use Rattle.chess_rules.proofs.Basics.{rules, sym, ◌∙◌}
 use Rattle.chess_rules.proofs.attacks.Attacking.{comes_back, comes_hopper}
 use Rattle.chess_rules.proofs.outward.comes_as.Goals as goal
 
