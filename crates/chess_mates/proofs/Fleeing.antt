@@ -1,5 +1,6 @@
 -- A flight after a move, told by the men that an attack on it sees.
 use Rattle.chess_rules.proofs.Basics.{Bool, List, None, Option, Some, and_from, and_left, and_parts, and_right, ap, arith, bit_and, bit_at, bit_at-lt, bit_at_and, bit_not, bit_or, cases_Bool, cases_eq, cond-false, cond-true, eq-eqb, eqb-true, false, false_from_ne_true, false≢true, inl, inr, is_some, length, list_any, not, not-true, or_left, or_parts, refl, rules, suc, sym, true, w64, zero, ℕ, ◌&&◌, ◌*◌, ◌+◌, ◌<◌, ◌==◌, ◌||◌, ◌∙◌, ◌≡◌, ◌≢◌}
+use Rattle.chess_rules.specs.ties.Places.{all_triples, per_arrival, per_origin}
 use Rattle.chess_mates.proofs.Chess.{AreOpen, AreSeen, Colour, IsWellFormed, King, Man, Move, Pawn, Position, RuleSet, any_range_cases, any_range_false, arriving_man, capture_square, differs, first_of_and, is_arrival_free, is_attacked, captures_do_more, is_legal, is_man, is_mate, is_nil, is_of_colour, is_square, king_after, king_square, leaps, man_on, mates, moves, position_after}
 use Rattle.chess_mates.proofs.Chess.{is_paralysed, is_pseudo_legal, is_reached, moves_behind, occupied_squares, other, queen_steps, reaches, reaches_as, reaches_of, same_colour, same_colour-true, same_kind, side_of, sight_lifted, sight_with, some_square, some_square_false, some_square_true, squares, squares_both, squares_either, squares_not}
 use Rattle.chess_mates.proofs.Chess.{squares_of, is_attacker, triple_at, without_man, word}
@@ -22,12 +23,12 @@ use Rattle.chess_mates.proofs.Stepping.{IsStep, arrival_alike, lifted_alike, lif
 use Rattle.chess_rules.proofs.listing_moves.Walks.{on_first}
 
 -- a legal move is one of the moves
-some_left : (rule : RuleSet) (p : Position) (n : ℕ) → n < 28672 → is_legal rule p (triple_at n) ≡ true → (j a : ℕ) → a + j ≡ n
+some_left : (rule : RuleSet) (p : Position) (n : ℕ) → n < all_triples → is_legal rule p (triple_at n) ≡ true → (j a : ℕ) → a + j ≡ n
     → is_nil (moves_behind rule p a) ≡ false
 some_left rule p n lt h zero a e = search (rules, moves_behind-here)
 some_left rule p n lt h (suc j) a e = grind (arith, cases_Bool, moves_behind-here, moves_behind-skip, some_left rule p n lt h j (a + 1) (omega (arith, e)))
 
-triple_there : (k t : ℕ) → t < 64 → triple_at (k * 448 + t * 7) ≡ record { from = k; to = t; promo = None }
+triple_there : (k t : ℕ) → t < 64 → triple_at (k * per_origin + t * per_arrival) ≡ record { from = k; to = t; promo = None }
 unfolding triple_at
 triple_there k t there = search rules
 
@@ -35,7 +36,8 @@ some_legal : (rule : RuleSet) (p : Position) (k t : ℕ) → k < 64 → t < 64 �
     → is_nil (moves rule p) ≡ false
 some_legal rule p k t small there h =
     ap is_nil (sym (moves_behind-start rule p))
-    ∙ some_left rule p (k * 448 + t * 7) (omega (arith, small, there)) (ap (is_legal rule p) (triple_there k t there) ∙ h) (k * 448 + t * 7) 0 (omega arith)
+    ∙ some_left rule p (k * per_origin + t * per_arrival) (omega (arith, small, there)) (ap (is_legal rule p) (triple_there k t there) ∙ h)
+    (k * per_origin + t * per_arrival) 0 (omega arith)
 
 -- a side with a flight isn't mated
 flight_is_legal : (rule : RuleSet) (p : Position) (o : Option ℕ) (t : ℕ) → king_square p.men p.turn ≡ o → t < 64 → is_flight_at rule p o t ≡ true

@@ -1,5 +1,6 @@
 -- Flights that one move can't take.
 use Rattle.chess_core.proofs.Kept.{same_colour-refl}
+use Rattle.chess_rules.specs.ties.Places.{all_triples}
 use Rattle.chess_rules.proofs.Basics.{List, None, Option, Some, [], and_from, and_left, and_parts, and_right, ap, arith, bit_and, bit_at, bit_at_and, bit_not, bit_or, cases_Bool, eq-eqb, eqb-true, false, false_from_ne_true, false≢true, find, inl, inr, list_any, list_any-append, not, or_cases, or_lt, range_with_len, refl, rules, sym, true, w64, ℕ, ◌&&◌, ◌<◌, ◌==◌, ◌^◌, ◌∙◌, ◌≡◌, ◌≢◌, ◌⊎◌}
 use Rattle.chess_mates.proofs.Chess.{Bishop, Colour, IsWellFormed, King, Knight, Man, Move, Pawn, Position, Queen, Rook, RuleSet, is_promoting, arriving_man, capture_square, diagonal_steps, find_first, is_arrival_free, is_attacked, is_castling, captures_do_more, is_man, is_on_some, is_pseudo_legal, is_of_colour, is_square, king_after, king_square, knight_steps, leaps, man_on, mates, mates_behind, may_go, other, pawn_capture_steps, position_after, queen_steps}
 use Rattle.chess_mates.proofs.Chess.{reaches, reaches_as, reaches_of, rides, same_colour, same_colour-true, side_of, some_square_false, some_square_true, squares_of, straight_steps, is_attacker, triple_at, word}
@@ -376,5 +377,5 @@ module _ (rule : RuleSet) (p : Position) (m : Move) (x : Man) (k w : ℕ) (well 
   -- for `keeps_flight`
   pub no_mate_behind : mates_behind rule q 0 ≡ []
   no_mate_behind =
-      mates_behind-none rule q 0 28672 (λ lt. omega arith) (omega arith) (record { fails = λ i lo hi. none_mates i })
-      ∙ mates_behind-end rule q 28672 (omega arith)
+      mates_behind-none rule q 0 all_triples (λ lt. omega arith) (omega arith) (record { fails = λ i lo hi. none_mates i })
+      ∙ mates_behind-end rule q all_triples (omega arith)

@@ -10,7 +10,7 @@ none_before : (xs ys : List Move) → xs ++ ys ≡ ys → xs ≡ []
 none_before xs ys e = append_cancel_right xs [] ys e
 
 -- the first move that mates behind a place, by its number
-pub next_mate_numbered : (rule : RuleSet) (p : Position) (start n : ℕ) → start ≤ n → n < 28672 → mates_behind rule p n ≡ mates_behind rule p start
+pub next_mate_numbered : (rule : RuleSet) (p : Position) (start n : ℕ) → start ≤ n → n < all_triples → mates_behind rule p n ≡ mates_behind rule p start
     → mates rule p (triple_at n) ≡ true → IsNextMate rule p start (n + 1) (triple_at n)
 unfolding mates_behind mates
 next_mate_numbered rule p start n le lt same h =
@@ -24,17 +24,17 @@ unfolding mates_behind mates_between
 cut_mates rule p a b le = grind (arith, behind_cut rule p a b le, filter-append (is_mating rule p) (moves_between rule p a b) (moves_behind rule p b))
 
 -- up to the first move that mates
-pub until-mate : (rule : RuleSet) (p : Position) (a n e : ℕ) → a ≤ n → n < e → n < 28672 → HaveNone (mates rule p) a n → mates rule p (triple_at n) ≡ true
+pub until-mate : (rule : RuleSet) (p : Position) (a n e : ℕ) → a ≤ n → n < e → n < all_triples → HaveNone (mates rule p) a n → mates rule p (triple_at n) ≡ true
     → mates_between rule p a e ≡ triple_at n ∷ mates_between rule p (n + 1) e
 until-mate rule p a n e low before fits none h =
     append_cancel_right (mates_between rule p a e) (triple_at n ∷ mates_between rule p (n + 1) e) (mates_behind rule p e)
     (grind (arith, cut_mates, mates_numbered, mates_behind-none))
 
 -- no mate lies before an end that the walk reaches
-pub until-mateless : (rule : RuleSet) (p : Position) (a n e : ℕ) → a < n → n ≤ 28672 → n ≤ e → (n < 28672 → e ≤ n) → HaveNone (mates rule p) a n
+pub until-mateless : (rule : RuleSet) (p : Position) (a n e : ℕ) → a < n → n ≤ all_triples → n ≤ e → (n < all_triples → e ≤ n) → HaveNone (mates rule p) a n
     → mates_between rule p a e ≡ []
 until-mateless rule p a n e lt fits before all none =
-    grind (arith, none_before, cut_mates rule p a e (omega (arith, lt, before)), mates_behind-none, cases_lt n 28672, mates_behind-end)
+    grind (arith, none_before, cut_mates rule p a e (omega (arith, lt, before)), mates_behind-none, cases_lt n all_triples, mates_behind-end)
 
 -- none lies between a place and one that isn't behind it
 pub mates_between-none : (rule : RuleSet) (p : Position) (a b : ℕ) → b ≤ a → mates_between rule p a b ≡ []
@@ -42,7 +42,7 @@ unfolding mates_between
 mates_between-none rule p a b le = rw (between-none rule p a b le) refl
 
 -- nor behind the last triple
-pub mates_between-past : (rule : RuleSet) (p : Position) (a b : ℕ) → 28672 ≤ a → mates_between rule p a b ≡ []
+pub mates_between-past : (rule : RuleSet) (p : Position) (a b : ℕ) → all_triples ≤ a → mates_between rule p a b ≡ []
 unfolding mates_between
 mates_between-past rule p a b ge = rw (between-past rule p a b ge) refl
 

@@ -7,7 +7,7 @@ use Rattle.chess_rules.specs.ties.Idle.{is_legal-idle}
 use Rattle.chess_rules.proofs.making_moves.Stays.{maker}
 use Rattle.chess_rules.proofs.listing_moves.Calls.{is_pseudo_legal-from_legal}
 
-mates_behind-here : (rule : RuleSet) (p : Position) (n : ℕ) → n < 28672 → mates rule p (triple_at n) ≡ true
+mates_behind-here : (rule : RuleSet) (p : Position) (n : ℕ) → n < all_triples → mates rule p (triple_at n) ≡ true
     → mates_behind rule p n ≡ (triple_at n ∷ mates_behind rule p (n + 1))
 unfolding mates_behind mates
 mates_behind-here rule p n lt h = search (rules, first_of_and, moves_behind-here, second_of_and)
@@ -18,12 +18,12 @@ unfolding mates
 not_mating rule p m h = and_left _ _ (is_legal-idle rule p m h)
 
 -- from the end on there are none
-pub mates_behind-end : (rule : RuleSet) (p : Position) (n : ℕ) → 28672 ≤ n → mates_behind rule p n ≡ []
+pub mates_behind-end : (rule : RuleSet) (p : Position) (n : ℕ) → all_triples ≤ n → mates_behind rule p n ≡ []
 unfolding mates_behind
 mates_behind-end rule p n ge = search (rules, moves_behind-end)
 
 -- over a stretch without mates
-pub mates_behind-none : (rule : RuleSet) (p : Position) (a b : ℕ) → (b < 28672 → a ≤ b) → b ≤ 28672 → HaveNone (mates rule p) a b
+pub mates_behind-none : (rule : RuleSet) (p : Position) (a b : ℕ) → (b < all_triples → a ≤ b) → b ≤ all_triples → HaveNone (mates rule p) a b
     → mates_behind rule p a ≡ mates_behind rule p b
 unfolding mates_behind mates
 mates_behind-none rule p a b low high h = wanted-none rule p (is_mating rule p) a b low high h
@@ -50,7 +50,7 @@ unfolding mates is_legal
 mates_after rule p m may = search rules
 
 -- the first move that mates from a place on, by its number
-pub mates_numbered : (rule : RuleSet) (p : Position) (start n : ℕ) → n < 28672 → mates_behind rule p n ≡ mates_behind rule p start
+pub mates_numbered : (rule : RuleSet) (p : Position) (start n : ℕ) → n < all_triples → mates_behind rule p n ≡ mates_behind rule p start
     → mates rule p (triple_at n) ≡ true → mates_behind rule p start ≡ (triple_at n ∷ mates_behind rule p (n + 1))
 mates_numbered rule p start n lt same h = sym same ∙ mates_behind-here rule p n lt h
 

@@ -1,5 +1,6 @@
 -- No reply mates after a defender's move without risk.
 use Rattle.chess_rules.proofs.Basics.{Bool, List, None, Option, Some, [], and_from, and_left, and_parts, and_right, ap, arith, bit_at, cases_Bool, cases_eq, eqb-true, false, false_from_ne_true, false≢true, if◌then◌else◌, inl, inr, is_some, list_any, not, or_parts, refl, subst, sym, true, ℕ, ◌-◌, ◌<◌, ◌==◌, ◌∙◌, ◌≡◌, ◌≢◌, ◌⊎◌}
+use Rattle.chess_rules.specs.ties.Places.{all_triples}
 use Rattle.chess_mates.proofs.Chess.{Colour, IsWellFormed, Kind, King, Man, Move, Pawn, Position, RuleSet, arriving_man, capture_square, corner, halfway, in_check, is_absent, is_arrival_free, is_attacked, is_attacked_at, is_castling, captures_do_more, is_fairy, is_legal, is_man, is_on_some, is_pseudo_legal, is_of_colour, is_square, king_after, king_square, leaps, man_on, mates, mates_behind, may_check_from, may_go, other, position_after, queen_steps}
 use Rattle.chess_mates.proofs.Chess.{position_after_by, reaches_as, same_colour, same_colour-true, same_kind, side_of, straight_steps, is_attacker, triple_at, word}
 use Rattle.chess_core.specs.Castling.{has_unmoved}
@@ -583,8 +584,8 @@ module _ (rule : RuleSet) (p : Position) (m : Move) (x : Man) (v : Siege) (k : �
   -- for each way of the defender
   pub no_mate_behind : mates_behind rule q 0 ≡ []
   no_mate_behind =
-      mates_behind-none rule q 0 28672 (λ lt. omega arith) (omega arith) (record { fails = λ j lo hi. none_mates j })
-      ∙ mates_behind-end rule q 28672 (omega arith)
+      mates_behind-none rule q 0 all_triples (λ lt. omega arith) (omega arith) (record { fails = λ j lo hi. none_mates j })
+      ∙ mates_behind-end rule q all_triples (omega arith)
 
 -- squares that aren't risky sift moves by whether some reply mates
 pub sifted_by_risk : (rule : RuleSet) (p : Position) (s squares risky : ℕ) → AreRisky rule p s squares risky

@@ -6,7 +6,7 @@ ghost use Rattle.chess_rules.specs.Attacks.{in_check};
 ghost use Rattle.chess_mates.specs.ties.CheckSquares.{AreCheckSquares};
 ghost use Rattle.chess_rules.specs.Legal.{is_legal, is_mate, is_pseudo_legal};
 ghost use Rattle.chess_mates.specs.ties.Mates.{IsMatingPlaceIn, IsNextMate, mates, mates_behind, mates_between};
-ghost use Rattle.chess_rules.specs.ties.Places.{HaveNone, place_of, place_onto, triple_at};
+ghost use Rattle.chess_rules.specs.ties.Places.{HaveNone, all_triples, place_of, place_onto, triple_at};
 ghost use Rattle.chess_rules.specs.Play.{position_after};
 ghost use Rattle.chess_rules.specs.ties.Targets.{AreCandidates, AreKept, AreOrigins, IsAimed};
 
@@ -187,7 +187,7 @@ pub(crate) fn next_mating<R: Rules>(
     requires well_formed { IsWellFormed board.old }
     requires squares { AreCheckSquares board.old.men (other board.old.turn) squares.now }
     requires kept { AreKept R.rule board.old (mates R.rule board.old) kept.old }
-    requires end { end ≤ 28672 }
+    requires end { end ≤ all_triples }
     ensures low { result < end → start ≤ result }
     ensures high { result ≤ end }
     ensures none { HaveNone (mates R.rule board.old) start result }

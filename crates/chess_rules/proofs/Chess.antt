@@ -41,7 +41,7 @@ pub use Rattle.chess_rules.specs.ties.Evasions.{AreEvasions, AreEvasionsFrom}
 pub use Rattle.chess_rules.specs.ties.Lines.{IsStop, direction_number, flat_steps, is_advance, is_two_files_aside, occupied_squares, place, passing_order_by, steep_steps, step_of}
 unfoldable pub use Rattle.chess_rules.specs.ties.Lines.{is_ahead, is_on_some, ray, rises}
 unfoldable pub use Rattle.chess_rules.specs.ties.Outward.{hopped_from, rides_on}
-pub use Rattle.chess_rules.specs.ties.Places.{HaveNone, IsBarrenFrom, IsNamed, IsPlaceIn, promotion_at}
+pub use Rattle.chess_rules.specs.ties.Places.{HaveNone, IsBarrenFrom, IsNamed, IsPlaceIn, all_triples, per_arrival, per_origin, promotion_at}
 unfoldable pub use Rattle.chess_rules.specs.ties.Places.{first_behind, moves_behind, moves_between, place_of, triple_at}
 pub use Rattle.chess_rules.specs.ties.Playing.{CanCastle, CanMove}
 pub use Rattle.chess_rules.specs.ties.Shields.{has_fairy_lines, is_fairy, AreRides, is_checker_at, is_lined, is_on_fairy_line_at, is_line_rider, may_expose_at, rider_along, steps_along}

@@ -3,7 +3,7 @@ use Rattle.std.proofs.Common.{◌≡◌, ℕ, ◌-◌, ◌/◌, ◌%◌, ◌^◌
 use Rattle.std.specs.Prelude.{◌==◌, ◌&&◌}
 use Rattle.std.specs.Int.{bit_at}
 use Rattle.std.specs.List.{range_with_len}
-use Rattle.chess_rules.specs.ties.Places.{IsBarrenFrom, moves_between, promotion_at, triple_at}
+use Rattle.chess_rules.specs.ties.Places.{IsBarrenFrom, moves_between, per_arrival, promotion_at, triple_at}
 use Rattle.std.proofs.lemmas.Bool.{agree_below_at, and_from, cases_lt, true_from_ne_false, true≢false, false≢true}
 use Rattle.chess_core.specs.Castling.{none_unmoved, has_unmoved, mark_unmoved, with_unmoved}
 use Rattle.chess_core.specs.Position.{Position, is_man, is_of_colour, king_square, man_on, may_promote, without_man}
@@ -117,7 +117,7 @@ arriving_man_shuts = (refl, refl)
 pub promotion_needs_its_man : (may_promote (position [] White) Grasshopper ≡ false) × (may_promote (position [] White) Queen ≡ true)
 promotion_needs_its_man = (refl, refl)
 
--- the last 448 triples are those of a man on h8
+-- the last per_origin triples are those of a man on h8
 pub last_triples_are_from_h8 : (triple_at 28224).from ≡ h8
 unfolding triple_at
 last_triples_are_from_h8 = refl
@@ -352,13 +352,13 @@ unfolding lines_to_a_king check_after_a_move
 nightriders_line_is_shut = (refl, refl, refl, refl, refl)
 
 -- a stretch without a move ends before a move to one of the word's squares
-ends_at : (p : Position) (s w k b : ℕ) → (bit_at w (k / 7) == 1) ≡ true
-    → is_pseudo_legal orthodox p (record { from = s; to = k / 7; promo = promotion_at (k % 7) }) ≡ true
+ends_at : (p : Position) (s w k b : ℕ) → (bit_at w (k / per_arrival) == 1) ≡ true
+    → is_pseudo_legal orthodox p (record { from = s; to = k / per_arrival; promo = promotion_at (k % per_arrival) }) ≡ true
     → IsBarrenFrom p s w 0 b → b ≤ k
 ends_at p s w k b on may barren = grind (arith, cases_lt, false≢true)
 
 -- of a rook on a1 to b1, and of a pawn that becomes a queen on e8
-pub stretch_ends_at_a_move : (w b : ℕ) → (bit_at w b1 == 1) ≡ true → IsBarrenFrom (position (on White Rook a1 ∷ []) White) a1 w 0 b → b ≤ 7
+pub stretch_ends_at_a_move : (w b : ℕ) → (bit_at w b1 == 1) ≡ true → IsBarrenFrom (position (on White Rook a1 ∷ []) White) a1 w 0 b → b ≤ per_arrival
 unfolding check_after_a_move
 stretch_ends_at_a_move w b there barren = ends_at (position (on White Rook a1 ∷ []) White) a1 w 7 b there refl barren
 

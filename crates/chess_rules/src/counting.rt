@@ -6,7 +6,7 @@ ghost use Rattle.chess_core.specs.ties.Words.{word};
 ghost use Rattle.chess_core.specs.Squares.{rank_of};
 ghost use Rattle.chess_rules.specs.Legal.{is_legal, last_rank};
 ghost use Rattle.chess_rules.specs.ties.Counting.{AreLegal, IsKnownIn, is_unsure};
-ghost use Rattle.chess_rules.specs.ties.Places.{moves_between};
+ghost use Rattle.chess_rules.specs.ties.Places.{moves_between, per_origin};
 ghost use Rattle.chess_rules.specs.ties.Shields.{may_expose};
 ghost use Rattle.chess_rules.specs.ties.Targets.{AreCandidates, is_promoting};
 
@@ -113,9 +113,9 @@ fn count_one_by_one<R: Rules>(
     requires known { IsKnownIn R.rule board.old known }
     requires squares { AreCandidates R.rule board.old (is_legal R.rule board.old) from squares }
     requires start { start ≤ end }
-    requires end { end ≤ 448 }
-    ensures count { result ≡ length (moves_between R.rule board.old (448 * from + start)
-        (448 * from + end)) }
+    requires end { end ≤ per_origin }
+    ensures count { result ≡ length (moves_between R.rule board.old (per_origin * from + start)
+        (per_origin * from + end)) }
     ensures board { board.new ≡ board.old }
 {
     let first = u16::from(from.index()) * PER_ORIGIN;
@@ -143,14 +143,15 @@ pub(crate) fn count_origin<R: Rules>(
     requires known { IsKnownIn R.rule board.old known }
     requires squares { AreCandidates R.rule board.old (is_legal R.rule board.old) from squares }
     requires start { start ≤ end }
-    requires end { end ≤ 448 }
-    ensures count { result ≡ length (moves_between R.rule board.old (448 * from + start)
-        (448 * from + end)) }
+    requires end { end ≤ per_origin }
+    ensures count { result ≡ length (moves_between R.rule board.old (per_origin * from + start)
+        (per_origin * from + end)) }
     ensures board { board.new ≡ board.old }
 {
     if are_surely_legal::<R>(board, known.shield_squares, from, squares) {
-        let behind = count_from(squares, ((end + 6) / 7) as u8);
-        return count_from(squares, ((start + 6) / 7) as u8).saturating_sub(behind);
+        let ahead = count_from(squares, ((start + PER_ARRIVAL - 1) / PER_ARRIVAL) as u8);
+        let behind = count_from(squares, ((end + PER_ARRIVAL - 1) / PER_ARRIVAL) as u8);
+        return ahead.saturating_sub(behind);
     }
     count_one_by_one::<R>(board, known, squares, from, start, end)
 }

@@ -5,7 +5,7 @@ ghost use Rattle.chess_core.specs.ties.Words.{word};
 ghost use Rattle.chess_rules.specs.ties.Evasions.{AreEvasions};
 ghost use Rattle.chess_rules.specs.ties.Shields.{may_expose};
 ghost use Rattle.chess_rules.specs.Legal.{is_legal};
-ghost use Rattle.chess_rules.specs.ties.Places.{HaveNone, IsPlaceIn, first_behind, moves_behind, moves_between, place_of, place_onto, triple_at};
+ghost use Rattle.chess_rules.specs.ties.Places.{HaveNone, IsPlaceIn, all_triples, first_behind, moves_behind, moves_between, place_of, place_onto, triple_at};
 ghost use Rattle.chess_rules.specs.ties.Sifting.{IsSifted};
 ghost use Rattle.chess_rules.specs.ties.Targets.{AreCandidates, AreKept, AreOrigins, IsAimed};
 
@@ -233,7 +233,7 @@ pub(crate) fn next_legal<R: Rules>(
     requires squares { squares ≡ word (may_expose board.old.men board.old.turn) }
     requires evasion_squares { AreEvasions R.rule board.old.men board.old.turn evasion_squares }
     requires kept { AreKept R.rule board.old (is_legal R.rule board.old) kept.old }
-    requires end { end ≤ 28672 }
+    requires end { end ≤ all_triples }
     ensures low { result < end → start ≤ result }
     ensures high { result ≤ end }
     ensures none { HaveNone (is_legal R.rule board.old) start result }

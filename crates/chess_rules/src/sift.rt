@@ -3,7 +3,7 @@ ghost use Rattle.std.specs.Prelude.{◌≡◌, ◌+◌, ◌*◌, ◌<◌, ◌≤
 ghost use Rattle.chess_core.specs.WellFormed.{IsWellFormed};
 ghost use Rattle.chess_rules.specs.Legal.{is_legal};
 ghost use Rattle.chess_rules.specs.ties.Counting.{IsKnownIn};
-ghost use Rattle.chess_rules.specs.ties.Places.{HaveNone, moves_between, triple_at};
+ghost use Rattle.chess_rules.specs.ties.Places.{all_triples, per_origin, HaveNone, moves_between, triple_at};
 ghost use Rattle.chess_rules.specs.ties.Sifting.{AreSifted, is_wanted};
 ghost use Rattle.chess_rules.specs.ties.Targets.{AreCandidates};
 
@@ -82,13 +82,13 @@ fn next_wanted<R: Rules, S: Sift>(
     requires known { IsKnownIn R.rule board.old known }
     requires squares { AreCandidates R.rule board.old
         (is_wanted R.rule board.old (S.test R.rule board.old)) from squares }
-    requires start { start ≤ 448 }
+    requires start { start ≤ per_origin }
     ensures low { start ≤ result }
-    ensures high { result ≤ 448 }
+    ensures high { result ≤ per_origin }
     ensures none { HaveNone (is_wanted R.rule board.old (S.test R.rule board.old))
-        (448 * from + start) (448 * from + result) }
-    ensures legal { result < 448
-        → is_legal R.rule board.old (triple_at (448 * from + result)) ≡ true }
+        (per_origin * from + start) (per_origin * from + result) }
+    ensures legal { result < per_origin
+        → is_legal R.rule board.old (triple_at (per_origin * from + result)) ≡ true }
     ensures board { board.new ≡ board.old }
 {
     let first = u16::from(from.index()) * PER_ORIGIN;
@@ -116,10 +116,10 @@ pub(crate) fn next_left<R: Rules, S: Sift>(
     requires known { IsKnownIn R.rule board.old known }
     requires fits { S.fits sift.old R.rule board.old }
     requires none { passed.old ≡ 0 }
-    ensures low { result < 28672 → start ≤ result }
-    ensures high { result ≤ 28672 }
+    ensures low { result < all_triples → start ≤ result }
+    ensures high { result ≤ all_triples }
     ensures none { HaveNone (is_wanted R.rule board.old (S.test R.rule board.old)) start result }
-    ensures legal { result < 28672 → is_legal R.rule board.old (triple_at result) ≡ true }
+    ensures legal { result < all_triples → is_legal R.rule board.old (triple_at result) ≡ true }
     ensures passed { passed.new ≡ length (moves_between R.rule board.old start result) }
     ensures same { sift.new ≡ sift.old }
     ensures board { board.new ≡ board.old }

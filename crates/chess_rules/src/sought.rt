@@ -2,7 +2,7 @@
 //! position.
 ghost use Rattle.std.specs.Prelude.{◌≡◌, ◌≤◌, ◌<◌, Some, true};
 ghost use Rattle.chess_core.specs.WellFormed.{IsWellFormed};
-ghost use Rattle.chess_rules.specs.ties.Places.{HaveNone, triple_at};
+ghost use Rattle.chess_rules.specs.ties.Places.{HaveNone, all_triples, triple_at};
 ghost use Rattle.chess_rules.specs.ties.Targets.{AreCandidates, AreKept, AreOrigins, IsAimed};
 
 use crate::moves::triple;
@@ -71,7 +71,7 @@ fn keep<R: Rules, S: Sought>(board: &Board, sought: &S, kept: Kept, from: Square
     }
 }
 
-// The first triple with one of these origins that may pass, from the one numbered `start` on; 28,672 where
+// The first triple with one of these origins that may pass, from the one numbered `start` on; TRIPLES where
 // there is none.
 fn next_candidate<R: Rules, S: Sought>(
     board: &Board,
@@ -84,10 +84,10 @@ fn next_candidate<R: Rules, S: Sought>(
     requires fits { S.fits sought.now R.rule board.now }
     requires origins { AreOrigins (S.test R.rule board.now) origins }
     requires kept { AreKept R.rule board.now (S.test R.rule board.now) kept.old }
-    ensures low { result < 28672 → start ≤ result }
-    ensures high { result ≤ 28672 }
+    ensures low { result < all_triples → start ≤ result }
+    ensures high { result ≤ all_triples }
     ensures none { HaveNone (S.test R.rule board.now) start result }
-    ensures aimed { result < 28672 → IsAimed R.rule board.now (triple_at result) }
+    ensures aimed { result < all_triples → IsAimed R.rule board.now (triple_at result) }
     ensures kept { AreKept R.rule board.now (S.test R.rule board.now) kept.new }
 {
     let mut number = start;
@@ -115,7 +115,7 @@ pub fn next_passing<R: Rules, S: Sought>(
     requires well_formed { IsWellFormed board.old }
     requires fits { S.fits sought.now R.rule board.old }
     requires kept { AreKept R.rule board.old (S.test R.rule board.old) kept.old }
-    requires end { end ≤ 28672 }
+    requires end { end ≤ all_triples }
     ensures low { result < end → start ≤ result }
     ensures high { result ≤ end }
     ensures none { HaveNone (S.test R.rule board.old) start result }

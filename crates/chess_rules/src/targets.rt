@@ -5,7 +5,7 @@ ghost use Rattle.chess_core.specs.Position.{man_on, same_kind};
 ghost use Rattle.chess_core.specs.declared.man.Kind.TheVariants.{Pawn};
 ghost use Rattle.chess_core.specs.ties.Words.{word};
 ghost use Rattle.chess_rules.specs.Legal.{is_arrival_free};
-ghost use Rattle.chess_rules.specs.ties.Places.{IsBarrenFrom, IsNamed};
+ghost use Rattle.chess_rules.specs.ties.Places.{IsBarrenFrom, IsNamed, per_origin};
 ghost use Rattle.chess_rules.specs.ties.Targets.{is_promoting, is_arrival, may_go, pawn_goes, steps_to};
 
 use crate::leaps::{king_leaps, pawn_advances, squares_aside};
@@ -18,11 +18,14 @@ use chess_core::board::Board;
 use chess_core::man::{Colour, Kind, Man};
 use chess_core::square::{Square, Squares};
 
-// How many triples have the same origin: 64 arrivals, 7 promotions with none.
-pub(crate) const PER_ORIGIN: u16 = 448;
+// How many triples have the same origin and arrival: the promotions, none being one too.
+pub(crate) const PER_ARRIVAL: u16 = 7;
 
-/// How many triples of origin, arrival and promotion there are, none being a promotion too: 64 times 64 times 7.
-pub const TRIPLES: u16 = 28672;
+// How many have the same origin.
+pub(crate) const PER_ORIGIN: u16 = 64 * PER_ARRIVAL;
+
+/// How many triples of origin, arrival and promotion there are.
+pub const TRIPLES: u16 = 64 * PER_ORIGIN;
 
 /// The candidates of one origin of a position, kept while its moves are walked.
 #[derive(Clone, Copy)]
@@ -118,29 +121,29 @@ fn is_promoting(man: Man, to: Square) -> bool
 // promotion.
 #[inline(always)]
 fn next_unpromoted(board: &Board, man: Man, from: Square, word: Squares, start: u16) -> u16
-    requires start { start ≤ 448 }
+    requires start { start ≤ per_origin }
     requires here { man_on board.now.men from ≡ Some man }
     requires no_pawn { same_kind man.kind Pawn ≡ false }
     ensures low { start ≤ result }
-    ensures high { result ≤ 448 }
+    ensures high { result ≤ per_origin }
     ensures barren { IsBarrenFrom board.now from word start result }
-    ensures named { result < 448 → IsNamed board.now from word result }
+    ensures named { result < per_origin → IsNamed board.now from word result }
 {
-    match next_bit(word, ((start + 6) / 7) as u8) {
-        Some(to) => u16::from(to.index()) * 7,
+    match next_bit(word, ((start + PER_ARRIVAL - 1) / PER_ARRIVAL) as u8) {
+        Some(to) => u16::from(to.index()) * PER_ARRIVAL,
         None => PER_ORIGIN,
     }
 }
 
 // The first triple with this origin that goes to one of the word's squares, with a promotion where a pawn
 // arrives on its last rank and none elsewhere, from the one numbered `start` on, each counted from the
-// origin's first; 448 where there is none.
+// origin's first; PER_ORIGIN where there is none.
 pub(crate) fn next_from(board: &Board, from: Square, word: Squares, start: u16) -> u16
-    requires { start ≤ 448 }
+    requires { start ≤ per_origin }
     ensures low { start ≤ result }
-    ensures high { result ≤ 448 }
+    ensures high { result ≤ per_origin }
     ensures barren { IsBarrenFrom board.now from word start result }
-    ensures named { result < 448 → IsNamed board.now from word result }
+    ensures named { result < per_origin → IsNamed board.now from word result }
 {
     let Some(man) = board.man_at(from) else {
         return PER_ORIGIN;
@@ -149,15 +152,15 @@ pub(crate) fn next_from(board: &Board, from: Square, word: Squares, start: u16) 
         return next_unpromoted(board, man, from, word, start);
     }
     let mut at = start;
-    while let Some(to) = next_bit(word, (at / 7) as u8) {
-        let first = u16::from(to.index()) * 7;
+    while let Some(to) = next_bit(word, (at / PER_ARRIVAL) as u8) {
+        let first = u16::from(to.index()) * PER_ARRIVAL;
         if is_promoting(man, to) {
             return if at <= first { first + 1 } else { at };
         }
         if at <= first {
             return first;
         }
-        at = first + 7;
+        at = first + PER_ARRIVAL;
     }
     PER_ORIGIN
 }

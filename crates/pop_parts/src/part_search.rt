@@ -29,9 +29,7 @@ use pop_solve::frame::Frame;
 use pop_solve::guess::guess_killers;
 use pop_solve::history::History;
 use pop_solve::killers::Killers;
-use pop_solve::phases::{
-    count_with, end, event_at, phase_half_moves, still_to_begin, total, walk_on,
-};
+use pop_solve::phases::{Walk, count_with, end, event_at, phase_half_moves, total, walk_on};
 use pop_solve::plan::Plan;
 use pop_solve::walk::{ends_with_mate, enter};
 use std::marker::Model;
@@ -144,7 +142,8 @@ fn give_first<R: Rules>(
     let stage = PartStage::Within {
         count: count_with(problem, frames.len(), 0),
     };
-    (stage, event_at::<R>(problem, phase, frames, board))
+    let walk = Walk::of(problem, phase);
+    (stage, event_at::<R>(problem, walk, frames, board))
 }
 
 /// Goes on within a part, of which `count` solutions have begun. Answers the stage behind the event and the event.
@@ -175,10 +174,10 @@ fn go_on_in_part<R: Rules, const N: usize>(
         (reverse frames.new.items) history.new.opened }
     ensures grows { min history.old.opened (2 ^ 64 - 1) ≤ history.new.opened }
 {
-    let limit = still_to_begin(problem, count);
-    if walk_on::<R, N>(problem, phase, limit, board, frames, history) {
+    let walk = Walk::of(problem, phase);
+    if walk_on::<R, N>(problem, walk, count, board, frames, history) {
         let count = count_with(problem, frames.len(), count);
-        let event = event_at::<R>(problem, phase, frames.as_slice(), board);
+        let event = event_at::<R>(problem, walk, frames.as_slice(), board);
         return (PartStage::Within { count }, event);
     }
     end::<R, N>(problem, phase, board, frames);

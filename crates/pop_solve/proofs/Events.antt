@@ -1,7 +1,7 @@
 -- What a call gives.
-use Rattle.pop_solve.proofs.Words.{AreKnown, ArrayVec, BareEvent, Barred, Before, Behind, Event, Frame, Gives, IsGiven, IsLinked, IsRoomy, IsSound, IsStanding, IsWalking, IsWellFormed, Line, List, MatchOption, Node, None, Option, Phase, Play, Posed, Position, RuleSet, Set, Shown, Stage, StandsOn, Total, Walks, Within, [], append_assoc, arith, begins_solution, cond, drop, eqb, event_of, events, events_from, false, flat_map, half_moves, is_barred, phase_count}
+use Rattle.pop_solve.proofs.Words.{AreKnown, ArrayVec, BareEvent, Barred, Before, Behind, Event, Frame, Gives, IsGiven, IsLinked, IsRoomy, IsSound, IsStanding, IsWalking, IsWellFormed, Line, List, MatchOption, Node, None, Option, Phase, Play, Posed, Position, RuleSet, Set, Shown, Stage, StandsOn, Total, Walks, Within, [], append_assoc, arith, begins_solution, cond, drop, eqb, event_of, events, events_from, false, flat_map, half_moves, is_barred, phase_count, Walk, walk_of, is_help_play, Bool, ap, ◌<◌, ◌∙◌}
 use Rattle.pop_solve.proofs.Words.{beginning_count, is_help, is_set, is_some, kept_paths, left_of, length, length-reverse, min, nat_tests, opening, option_map, path, path_event, phase_events, phase_half, phase_half_moves, phase_paths, phase_start, plan_of, play_start, position, refl, reverse, rules, moves_shown, last_shown, slice_get, solutions, suc, take, total, true, zero, ℕ, ◌+◌, ◌-◌, ◌^◌, ◌||◌, ◌∷◌, ◌≡◌, ◌≤◌}
-use Rattle.pop_solve.proofs.Sound.{in_range}
+use Rattle.pop_solve.proofs.Sound.{helps-form, in_range}
 use Rattle.pop_solve.proofs.Paths.{path-length, path_end-path}
 
 -- the event of a line
@@ -30,35 +30,64 @@ module _ (rule : RuleSet) (problem : Posed) (phase : Phase) (h : ℕ) (frames : 
   pub shallow : h ≤ 32 → length frames ≤ 33
   shallow least = omega (arith, room-length h (reverse frames) r.roomy, length-reverse frames)
 
+-- what a phase's walk is by
+module _ (problem : Posed) (walk : Walk) (is : walk ≡ walk_of problem walk.phase) where
+  -- the plan of the problem
+  pub plan-is : walk.plan ≡ plan_of problem
+  plan-is = ap (λ (w : Walk). w.plan) is
+
+  -- the half-moves of the phase
+  pub half_moves-are : walk.half_moves ≡ phase_half_moves problem walk.phase
+  half_moves-are = ap (λ (w : Walk). w.half_moves) is
+
+  helps : is_help_play walk.plan.play ≡ is_help problem.stipulation.form
+  helps = ap (λ (w : Walk). is_help_play w.plan.play) is ∙ helps-form problem.stipulation.form
+
+  -- no more than those of the play
+  pub half_moves-fit : (n : ℕ) → half_moves problem.stipulation < n → walk.half_moves < n
+  half_moves-fit n lt = rw half_moves-are (grind arith)
+
+  -- what walking on leaves
+  pub walks-are : (rule : RuleSet) (p : Position) (limit : ℕ) (old new : List Frame) (board : Position) (given : Bool)
+      → Walks rule walk.plan (is_help_play walk.plan.play) walk.half_moves p limit old new board given
+      → Walks rule (plan_of problem) (is_help problem.stipulation.form) (phase_half_moves problem walk.phase) p limit old new board given
+  walks-are rule p limit old new board given w = rw (helps, plan-is, half_moves-are) at w
+
 -- a path is given: the events to come lose their first
-module _ (rule : RuleSet) (problem : Posed) (phase : Phase) (count : ℕ) (old new : List Frame) (board : Position) (most : count ≤ problem.max_solutions)
-    (w : Walks rule (plan_of problem) (is_help problem.stipulation.form) (phase_half_moves problem phase) (phase_start problem phase)
+module _ (rule : RuleSet) (problem : Posed) (walk : Walk) (count : ℕ) (old new : List Frame) (board : Position) (most : count ≤ problem.max_solutions)
+    (w : Walks rule (plan_of problem) (is_help problem.stipulation.form) (phase_half_moves problem walk.phase) (phase_start problem walk.phase)
     (problem.max_solutions - count) old new board true) where
   abbrev more : ℕ
   more = cond (begins_solution (is_help problem.stipulation.form) (path new)) 1 0
 
   left-given : (next : ℕ) → next ≡ count + more
-      → left_of rule problem (Within phase count) old ≡ path_event problem phase (path new) ∷ left_of rule problem (Within phase next) new
+      → left_of rule problem (Within walk count) old ≡ path_event problem walk.phase (path new) ∷ left_of rule problem (Within walk next) new
   unfolding left_of
   left-given next e = search rules
 
 -- none is given: the total is left
-pub left-ended : (rule : RuleSet) (problem : Posed) (phase : Phase) (count : ℕ) (old new : List Frame) (board : Position)
-    → Walks rule (plan_of problem) (is_help problem.stipulation.form) (phase_half_moves problem phase) (phase_start problem phase)
+pub left-ended : (rule : RuleSet) (problem : Posed) (walk : Walk) (count : ℕ) (old new : List Frame) (board : Position)
+    → Walks rule (plan_of problem) (is_help problem.stipulation.form) (phase_half_moves problem walk.phase) (phase_start problem walk.phase)
     (problem.max_solutions - count) old new board false
-    → left_of rule problem (Within phase count) old ≡ total count (eqb count problem.max_solutions) ∷ cond (is_set phase) (events_from rule problem Play) []
+    → left_of rule problem (Within walk count) old ≡ total count (eqb count problem.max_solutions) ∷ cond (is_set walk.phase) (events_from rule problem Play) []
 unfolding left_of
-left-ended rule problem phase count old new board w = search rules
+left-ended rule problem walk count old new board w = search rules
 
 -- within a phase no more solutions have begun than the limit
-pub within-limit : (rule : RuleSet) (problem : Posed) (phase : Phase) (count : ℕ) (frames : List Frame) (board : Position)
-    → IsStanding rule problem (Within phase count) frames board → count ≤ problem.max_solutions
+pub within-limit : (rule : RuleSet) (problem : Posed) (walk : Walk) (count : ℕ) (frames : List Frame) (board : Position)
+    → IsStanding rule problem (Within walk count) frames board → count ≤ problem.max_solutions
 unfolding IsStanding
-within-limit rule problem phase count frames board s = s.1
+within-limit rule problem walk count frames board s = s.1
 
-module _ (rule : RuleSet) (problem : Posed) (phase : Phase) (count : ℕ) (old : List Frame) (frames : List Frame) (board : Position)
+-- it is walked as its problem asks
+pub walk-is : (rule : RuleSet) (problem : Posed) (walk : Walk) (count : ℕ) (frames : List Frame) (board : Position)
+    → IsStanding rule problem (Within walk count) frames board → walk ≡ walk_of problem walk.phase
+unfolding IsStanding
+walk-is rule problem walk count frames board s = s.2
+
+module _ (rule : RuleSet) (problem : Posed) (walk : Walk) (count : ℕ) (old : List Frame) (frames : List Frame) (board : Position)
     (most : count ≤ problem.max_solutions)
-    (w : Walks rule (plan_of problem) (is_help problem.stipulation.form) (phase_half_moves problem phase) (phase_start problem phase)
+    (w : Walks rule (plan_of problem) (is_help problem.stipulation.form) (phase_half_moves problem walk.phase) (phase_start problem walk.phase)
     (problem.max_solutions - count) old
     (reverse frames) board true) where
   -- a path that is given has a move
@@ -70,32 +99,32 @@ module _ (rule : RuleSet) (problem : Posed) (phase : Phase) (count : ℕ) (old :
   room-given = grind (arith, path-length, length-reverse, deep-given, nat_tests)
 
   gives-here : (next : ℕ) (event : Event) → next ≡ count + cond (is_help problem.stipulation.form || eqb (length frames) 2) 1 0
-      → event ≡ event_of rule problem (path_event problem phase (path (reverse frames)))
-      → Gives rule problem (left_of rule problem (Within phase count) old) (left_of rule problem (Within phase next) (reverse frames)) event board
+      → event ≡ event_of rule problem (path_event problem walk.phase (path (reverse frames)))
+      → Gives rule problem (left_of rule problem (Within walk count) old) (left_of rule problem (Within walk next) (reverse frames)) event board
       (length frames)
   gives-here next event n e = grind (arith, left-given, deep-given, path_end-path, path-length, length-reverse, nat_tests)
 
-  stands-here : (next : ℕ) → next ≡ count + cond (is_help problem.stipulation.form || eqb (length frames) 2) 1 0
-      → IsStanding rule problem (Within phase next) (reverse frames) board
+  stands-here : walk ≡ walk_of problem walk.phase → (next : ℕ) → next ≡ count + cond (is_help problem.stipulation.form || eqb (length frames) 2) 1 0
+      → IsStanding rule problem (Within walk next) (reverse frames) board
   unfolding IsStanding
-  stands-here next n = (w.walking, omega (arith, n, most, room-given))
+  stands-here is next n = (w.walking, omega (arith, n, most, room-given), is)
 
   -- once board and frames still stand as they were left
   module _ (left : List Frame) (stand : Position) (kept : left ≡ frames) (stays : stand ≡ board) where
     -- the call gives the path's event
     pub gives-given : (next : ℕ) (event : Event) → next ≡ count + cond (is_help problem.stipulation.form || eqb (length frames) 2) 1 0
-        → event ≡ event_of rule problem (path_event problem phase (path (reverse frames)))
-        → Gives rule problem (left_of rule problem (Within phase count) old) (left_of rule problem (Within phase next) (reverse left)) event stand (length left)
+        → event ≡ event_of rule problem (path_event problem walk.phase (path (reverse frames)))
+        → Gives rule problem (left_of rule problem (Within walk count) old) (left_of rule problem (Within walk next) (reverse left)) event stand (length left)
     gives-given next event n e = rw (kept, stays) (gives-here next event n e)
 
   -- it leaves the phase as it may stand
-  pub standing-given : (left : List Frame) (stand : Position) → left ≡ reverse frames → stand ≡ board → (next : ℕ)
-      → next ≡ count + cond (is_help problem.stipulation.form || eqb (length frames) 2) 1 0 → IsStanding rule problem (Within phase next) left stand
-  standing-given left stand kept stays next n = rw (kept, stays) (stands-here next n)
+  pub standing-given : (left : List Frame) (stand : Position) → left ≡ reverse frames → stand ≡ board → walk ≡ walk_of problem walk.phase → (next : ℕ)
+      → next ≡ count + cond (is_help problem.stipulation.form || eqb (length frames) 2) 1 0 → IsStanding rule problem (Within walk next) left stand
+  standing-given left stand kept stays is next n = rw (kept, stays) (stands-here is next n)
 
   -- the path fits a line's room
   pub shallow-given : IsSound problem → length frames ≤ 33
-  shallow-given s = shallow rule problem phase (phase_half_moves problem phase) frames board w.walking deep-given (at_most phase)
+  shallow-given s = shallow rule problem walk.phase (phase_half_moves problem walk.phase) frames board w.walking deep-given (at_most walk.phase)
     where
       at_most : (b : Phase) → cond (is_set b) (half_moves problem.stipulation - 1) (half_moves problem.stipulation) ≤ 32
       at_most Set = omega (arith, in_range problem s)
@@ -112,19 +141,19 @@ behind-standing : (rule : RuleSet) (problem : Posed) (phase : Phase) (board : Po
 unfolding IsStanding
 behind-standing rule problem phase board e = search rules
 
-module _ (rule : RuleSet) (problem : Posed) (phase : Phase) (stage : Stage) (new : List Frame) (board : Position)
-    (at : stage ≡ cond (is_set phase) (Before Play) Behind) (none : new ≡ []) where
+module _ (rule : RuleSet) (problem : Posed) (walk : Walk) (stage : Stage) (new : List Frame) (board : Position)
+    (at : stage ≡ cond (is_set walk.phase) (Before Play) Behind) (none : new ≡ []) where
   -- at the end of a phase its total is given
   pub gives-ended : (count depth : ℕ) (old mid : List Frame) (now : Position)
-      → Walks rule (plan_of problem) (is_help problem.stipulation.form) (phase_half_moves problem phase) (phase_start problem phase)
+      → Walks rule (plan_of problem) (is_help problem.stipulation.form) (phase_half_moves problem walk.phase) (phase_start problem walk.phase)
       (problem.max_solutions - count) old mid now false
-      → Gives rule problem (left_of rule problem (Within phase count) old) (left_of rule problem stage (reverse new))
+      → Gives rule problem (left_of rule problem (Within walk count) old) (left_of rule problem stage (reverse new))
       (Total count (eqb count problem.max_solutions)) board depth
   gives-ended count depth old mid now w = search (rules, left-ended, behind-left)
 
   -- the search then stands behind the phase
   pub standing-ended : board ≡ play_start problem → IsStanding rule problem stage (reverse new) board
-  standing-ended e = rw (at, none) (behind-standing rule problem phase board e)
+  standing-ended e = rw (at, none) (behind-standing rule problem walk.phase board e)
 
 -- a phase that isn't possible
 pub left-barred : (rule : RuleSet) (problem : Posed) (phase : Phase) (frames : List Frame) → is_barred rule problem phase ≡ true
@@ -137,13 +166,13 @@ pub left-begun : (rule : RuleSet) (problem : Posed) (phase : Phase) (old new : L
     → kept_paths (is_help problem.stipulation.form) problem.max_solutions (phase_paths rule problem phase new) ≡ flat_map (λ solution. solution)
     (take problem.max_solutions (solutions rule problem phase)) → beginning_count (is_help problem.stipulation.form) problem.max_solutions
     (phase_paths rule problem phase new) ≡ phase_count rule problem phase → left_of rule problem (Before phase) old ≡ opening phase ∷ left_of rule problem
-    (Within phase 0) new
+    (Within (walk_of problem phase) 0) new
 unfolding left_of phase_events
 left-begun rule problem phase old new e kept begun = search (rules, append_assoc)
 
 -- a phase stands on its root
 pub standing-begun : (rule : RuleSet) (problem : Posed) (phase : Phase) (f : Frame) (board : Position) → f.left ≡ phase_half_moves problem phase
-    → f.known ≡ None → board ≡ phase_start problem phase → IsWellFormed board → IsStanding rule problem (Within phase 0) (f ∷ []) board
+    → f.known ≡ None → board ≡ phase_start problem phase → IsWellFormed board → IsStanding rule problem (Within (walk_of problem phase) 0) (f ∷ []) board
 unfolding IsStanding IsLinked IsRoomy AreKnown position
 standing-begun rule problem phase f board l none e sound = search rules
 

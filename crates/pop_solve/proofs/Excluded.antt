@@ -1,6 +1,6 @@
 -- What the clauses of a search exclude: events given after the board was taken back or given twice, totals that say the wrong thing or come too early,
 -- mates passed over, and counts of events and frames that begin or grow otherwise.
-use Rattle.pop_solve.proofs.Words.{ArrayVec, BareEvent, Barred, Before, Bool, Event, Frame, Gives, GoesTo, IsGiven, IsOpened, Line, List, Move, Node, Phase, Plan, Posed, Position, RuleSet, Shown, Total, Within, [], allows_mate, ap, arith, eqb, event_of, false, filter, filter-append, first_phase, is_help_play, is_help, is_mating, is_walked_once, kept_paths, left_of, length, length-append, map, min, moves_behind, path_event, phase_paths, rest_open, total, true, ℕ, ◌++◌, ◌+◌, ◌-◌, ◌^◌, ◌<◌, ◌∷◌, ◌≡◌, ◌⊎◌}
+use Rattle.pop_solve.proofs.Words.{ArrayVec, BareEvent, Barred, Before, Bool, Event, Frame, Gives, GoesTo, IsGiven, IsOpened, Line, List, Move, Node, Plan, Posed, Position, RuleSet, Shown, Total, Within, [], allows_mate, ap, arith, eqb, event_of, false, filter, filter-append, first_phase, is_help_play, is_help, is_mating, is_walked_once, kept_paths, left_of, length, length-append, map, min, moves_behind, path_event, phase_paths, rest_open, total, true, ℕ, ◌++◌, ◌+◌, ◌-◌, ◌^◌, ◌<◌, ◌∷◌, ◌≡◌, ◌⊎◌, Walk}
 use Rattle.pop_input.specs.declared.stipulation.Goal.TheVariants.{Stalemate}
 
 module _ (rule : RuleSet) (problem : Posed) (old new : List BareEvent) (board : Position) where
@@ -12,24 +12,24 @@ module _ (rule : RuleSet) (problem : Posed) (old new : List BareEvent) (board : 
   pub no_node_without_frames : (depth half : ℕ) (move : Shown) → Gives rule problem old new (Node depth half move) board 0 → ⊥
   no_node_without_frames depth half move g = grind arith
 
-module _ (rule : RuleSet) (problem : Posed) (phase : Phase) (count : ℕ) (frames : List Frame) (new : List BareEvent) (c : ℕ) (s : Bool)
+module _ (rule : RuleSet) (problem : Posed) (walk : Walk) (count : ℕ) (frames : List Frame) (new : List BareEvent) (c : ℕ) (s : Bool)
     (board : Position) (depth : ℕ) where
   among : (paths : List (List Move)) (all : ℕ) (rest : List BareEvent) (bare : BareEvent)
-      → map (path_event problem phase) paths ++ total all (eqb all problem.max_solutions) ∷ rest ≡ bare ∷ new → Total c s ≡ event_of rule problem bare
+      → map (path_event problem walk.phase) paths ++ total all (eqb all problem.max_solutions) ∷ rest ≡ bare ∷ new → Total c s ≡ event_of rule problem bare
       → s ≡ eqb c problem.max_solutions
   among [] all rest bare l e = grind arith
   among (x ∷ xs) all rest bare l e = grind arith
 
   -- a total says that the limit ended the phase exactly where its count is the limit
-  pub total_says_stopped_at_limit : Gives rule problem (left_of rule problem (Within phase count) frames) new (Total c s) board depth
+  pub total_says_stopped_at_limit : Gives rule problem (left_of rule problem (Within walk count) frames) new (Total c s) board depth
       → s ≡ eqb c problem.max_solutions
   unfolding left_of
   total_says_stopped_at_limit g = among _ _ _ g.bare g.left g.event_is
 
   -- no total is given while a path is still to come
   pub no_total_before_the_last_path : (x : List Move) (xs : List (List Move))
-      → kept_paths (is_help problem.stipulation.form) (problem.max_solutions - count) (phase_paths rule problem phase frames) ≡ x ∷ xs
-      → Gives rule problem (left_of rule problem (Within phase count) frames) new (Total c s) board depth → ⊥
+      → kept_paths (is_help problem.stipulation.form) (problem.max_solutions - count) (phase_paths rule problem walk.phase frames) ≡ x ∷ xs
+      → Gives rule problem (left_of rule problem (Within walk count) frames) new (Total c s) board depth → ⊥
   unfolding left_of
   no_total_before_the_last_path x xs k g = grind arith
 

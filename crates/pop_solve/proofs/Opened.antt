@@ -1,5 +1,5 @@
 -- How many frames a search opens.
-use Rattle.pop_solve.proofs.Words.{BareEvent, Barred, Battle, BattlePlay, Before, Behind, Bool, Form, Frame, IsCounted, IsGiven, IsKeys, IsNarrow, IsOpened, IsSound, are_whites, List, Opens, OpensOn, Phase, Plan, Play, Posed, Position, RuleSet, Set, Stage, Tries, Within, [], ap, arith, cond, drop, eqb, false, fewest_from, fewest_left, first_phase, half_moves_of, inl, inr, HelpPlay}
+use Rattle.pop_solve.proofs.Words.{BareEvent, Barred, Battle, BattlePlay, Before, Behind, Bool, Form, Frame, IsCounted, IsGiven, IsKeys, IsNarrow, IsOpened, IsSound, are_whites, List, Opens, OpensOn, Phase, Plan, Play, Posed, Position, RuleSet, Set, Stage, Tries, Within, [], ap, arith, cond, drop, eqb, false, fewest_from, fewest_left, first_phase, half_moves_of, inl, inr, HelpPlay, Walk, walk_of}
 use Rattle.pop_solve.proofs.Words.{is_barred, is_set, is_stop, is_unstopped, left_of, min, not, phase_events, phase_fewest, phase_half_moves, phase_start, phase_walk, plan_of, play_of, position, refl, rest_fewest, rest_open, rules, seeks, has_variations, suc, to_open, total, tree_with, true, walk_from, zero, ℕ, ◌&&◌, ◌++◌, ◌+◌, ◌-◌, ◌<◌, ◌^◌, ◌∷◌, ◌≡◌, ◌≤◌, ◌⊎◌}
 use Rattle.pop_solve.proofs.Boards.{behind_start}
 use Rattle.pop_solve.proofs.Sound.{battle-play, help-play, some_way}
@@ -84,68 +84,68 @@ module _ (rule : RuleSet) (problem : Posed) where
 
     -- the root of a phase is counted
     pub opens-begun : (old : List Frame) (count count2 : ℕ) (left : List BareEvent) → (0 < f.left → count2 ≡ min (count + 1) (2 ^ 64 - 1))
-        → (f.left ≡ 0 → count2 ≡ count) → OpensOn rule problem (Before phase) (Within phase 0) old (f ∷ []) count count2 left
+        → (f.left ≡ 0 → count2 ≡ count) → OpensOn rule problem (Before phase) (Within (walk_of problem phase) 0) old (f ∷ []) count count2 left
     unfolding rest_open rest_fewest IsNarrow
     opens-begun old count count2 left more same = search (rules, from-open, opened-most, counted_by, from-fewest, narrow-begun)
 
   -- within a phase
-  module _ (phase : Phase) (count : ℕ) (old new : List Frame) (before after : ℕ)
-      (x : Opens rule (plan_of problem) (phase_start problem phase) old new before after)
-      (y : Tries rule (plan_of problem) (phase_half_moves problem phase) (phase_start problem phase) old new before after) where
-    walked-counted : play_of problem.stipulation.form ≡ HelpPlay → (walk : ℕ) → IsCounted walk before (to_open rule
-        (phase_start problem phase) old + later phase)
-        → IsCounted walk after (to_open rule (phase_start problem phase) new + later phase)
-    walked-counted h walk c = search (rules, counted-along, counted-apart)
+  module _ (walk : Walk) (count : ℕ) (old new : List Frame) (before after : ℕ)
+      (x : Opens rule (plan_of problem) (phase_start problem walk.phase) old new before after)
+      (y : Tries rule (plan_of problem) (phase_half_moves problem walk.phase) (phase_start problem walk.phase) old new before after) where
+    walked-counted : play_of problem.stipulation.form ≡ HelpPlay → (whole : ℕ) → IsCounted whole before (to_open rule
+        (phase_start problem walk.phase) old + later walk.phase)
+        → IsCounted whole after (to_open rule (phase_start problem walk.phase) new + later walk.phase)
+    walked-counted h whole c = search (rules, counted-along, counted-apart)
 
     abbrev Narrow : List Frame → Type 0
-    Narrow frames = (play_of problem.stipulation.form ≡ HelpPlay) ⊎ ((keys : IsKeys problem phase) × (are_whites keys.battle frames ≡ true))
+    Narrow frames = (play_of problem.stipulation.form ≡ HelpPlay) ⊎ ((keys : IsKeys problem walk.phase) × (are_whites keys.battle frames ≡ true))
 
-    keys_alone : IsKeys problem phase → has_variations (plan_of problem).tree ≡ false
+    keys_alone : IsKeys problem walk.phase → has_variations (plan_of problem).tree ≡ false
     keys_alone keys = ap (λ variation. has_variations (tree_with variation)) keys.keys
 
     narrowed : Narrow old → Narrow new
     narrowed (inl help) = inl help
     narrowed (inr w) = inr (w.0, x.whites w.0.battle w.0.fought (keys_alone w.0) w.1)
 
-    opened : Narrow old → after + to_open rule (phase_start problem phase) new ≤ before + to_open rule (phase_start problem phase) old
+    opened : Narrow old → after + to_open rule (phase_start problem walk.phase) new ≤ before + to_open rule (phase_start problem walk.phase) old
     opened (inl help) = x.helped help
     opened (inr w) = x.most w.0.battle w.0.fought (keys_alone w.0) w.1
 
     -- what a call opens that gives a path
     pub opens-given : (next : ℕ) (left : List BareEvent) (last : List Frame) → last ≡ new
-        → OpensOn rule problem (Within phase count) (Within phase next) old last before after left
+        → OpensOn rule problem (Within walk count) (Within walk next) old last before after left
     unfolding rest_open rest_fewest IsNarrow
     opens-given next left last kept = record {
       narrow = λ n. rw kept (narrowed n);
       most = λ n. rw kept (omega (arith, opened n));
-      counted = λ help u walk c. rw kept (walked-counted help walk c);
+      counted = λ help u whole c. rw kept (walked-counted help whole c);
       grows = y.grows;
       fewest = λ battle fought u. rw kept (omega (arith, y.fewest battle fought));
     }
 
     -- its end: where no phase is stopped, nothing is left to open
     nothing_open : (left : List BareEvent) → is_unstopped (total count (eqb count problem.max_solutions) ∷ left) ≡ true → count ≤ problem.max_solutions
-        → (new ≡ []) ⊎ (problem.max_solutions - count ≡ 0) → to_open rule (phase_start problem phase) new ≡ 0
+        → (new ≡ []) ⊎ (problem.max_solutions - count ≡ 0) → to_open rule (phase_start problem walk.phase) new ≡ 0
     unfolding to_open
     nothing_open left u most e = search rules
 
     nothing_fewest : (left : List BareEvent) → is_unstopped (total count (eqb count problem.max_solutions) ∷ left) ≡ true → count ≤ problem.max_solutions
         → (new ≡ []) ⊎ (problem.max_solutions - count ≡ 0)
-        → fewest_left rule (plan_of problem) (phase_half_moves problem phase) (phase_start problem phase) new ≡ 0
+        → fewest_left rule (plan_of problem) (phase_half_moves problem walk.phase) (phase_start problem walk.phase) new ≡ 0
     unfolding fewest_left
     nothing_fewest left u most e = search rules
 
     -- what it opens that ends the phase
-    pub opens-ended : (stage : Stage) (last : List Frame) (left : List BareEvent) → stage ≡ cond (is_set phase) (Before Play) Behind
+    pub opens-ended : (stage : Stage) (last : List Frame) (left : List BareEvent) → stage ≡ cond (is_set walk.phase) (Before Play) Behind
         → count ≤ problem.max_solutions → (new ≡ []) ⊎ (problem.max_solutions - count ≡ 0)
-        → OpensOn rule problem (Within phase count) stage old last before after (total count (eqb count problem.max_solutions) ∷ left)
+        → OpensOn rule problem (Within walk count) stage old last before after (total count (eqb count problem.max_solutions) ∷ left)
     unfolding rest_open rest_fewest IsNarrow
     opens-ended stage last left at most over = record {
-      narrow = λ n. rw at (behind phase n);
-      most = λ n. rw (at, rest-is phase) (grind arith);
-      counted = λ h u walk c. grind (arith, walked-counted h walk c, nothing_open);
+      narrow = λ n. rw at (behind walk.phase n);
+      most = λ n. rw (at, rest-is walk.phase) (grind arith);
+      counted = λ h u whole c. grind (arith, walked-counted h whole c, nothing_open);
       grows = y.grows;
-      fewest = λ battle h u. rw (at, fewest-is phase) (omega (arith, y.fewest battle h, nothing_fewest left u most over));
+      fewest = λ battle h u. rw (at, fewest-is walk.phase) (omega (arith, y.fewest battle h, nothing_fewest left u most over));
     }
       where
         rest-is : (b : Phase) → rest_open rule problem (cond (is_set b) (Before Play) Behind) last ≡ later b
@@ -199,7 +199,7 @@ module _ (rule : RuleSet) (problem : Posed) where
   rest-none (Before Set) frames e = absurd cc
   rest-none (Before Play) frames e = absurd cc
   rest-none Barred frames e = absurd cc
-  rest-none (Within phase count) frames e = absurd (some _ _ _ e)
+  rest-none (Within walk count) frames e = absurd (some _ _ _ e)
     where
       some : (xs : List BareEvent) (y : BareEvent) (ys : List BareEvent) → (xs ++ y ∷ ys) ≡ [] → ⊥
       some [] y ys e = cc
@@ -212,7 +212,7 @@ module _ (rule : RuleSet) (problem : Posed) where
   fewest-none (Before Set) frames e = absurd cc
   fewest-none (Before Play) frames e = absurd cc
   fewest-none Barred frames e = absurd cc
-  fewest-none (Within phase count) frames e = absurd (some _ _ _ e)
+  fewest-none (Within walk count) frames e = absurd (some _ _ _ e)
     where
       some : (xs : List BareEvent) (y : BareEvent) (ys : List BareEvent) → (xs ++ y ∷ ys) ≡ [] → ⊥
       some [] y ys e = cc

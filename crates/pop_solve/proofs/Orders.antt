@@ -1,5 +1,6 @@
 -- The moves of a position, stretch by stretch, are all its moves in another order.
 use Rattle.pop_solve.proofs.Words.{Bool, Earlier, Killer, List, Move, Order, Others, Position, RuleSet, [], all_moves_of, ap, append-nil, arith, belongs, between-here, between-none, between-past, between-skip, cases_Bool, cases_lt, comes_early, cond, eqb, false, filter, filter_agree, inl, inr, is_at, moves_ahead, moves_behind, moves_behind-end, moves_behind-here, moves_behind-skip, moves_between, moves_here, moves_later, nat_tests, not, place_of_triple, refl, rules, suc, sym, true, zero, ℕ, ◌&&◌, ◌++◌, ◌+◌, ◌-◌, ◌<◌, ◌∙◌, ◌∷◌, ◌≡◌, ◌≤◌}
+use Rattle.chess_rules.specs.ties.Places.{all_triples}
 use Rattle.chess_rules.specs.Legal.{moves as legal_moves}
 use Rattle.pop_solve.specs.declared.frame.Early.TheVariants.{NoMoves}
 use Rattle.pop_solve.proofs.Boards.{behind_start}
@@ -53,7 +54,8 @@ module _ (rule : RuleSet) (p : Position) (k : ℕ) where
       pass a (off a (omega arith) (omega (arith, e))) ∙ pass_all n (a + 1) b (omega (arith, e)) (λ i lo hi. off i (omega (arith, lo)) hi)
 
   none_behind : filter (is_at k) (moves_behind rule p k) ≡ []
-  none_behind = pass_all 28672 k (k + 28672) refl (λ i lo hi h. omega (arith, lo, h)) ∙ (rw (moves_behind-end rule p (k + 28672) (omega arith)) refl)
+  none_behind =
+      pass_all all_triples k (k + all_triples) refl (λ i lo hi h. omega (arith, lo, h)) ∙ (rw (moves_behind-end rule p (k + all_triples) (omega arith)) refl)
 
   here_alone : filter (is_at k) (moves_behind rule p (k - 1)) ≡ moves_between rule p (k - 1) k
   here_alone = search (rules, places, between-past, between-here, between-skip, between-none, none_behind)

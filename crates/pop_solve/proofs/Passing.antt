@@ -6,15 +6,15 @@ use Rattle.chess_rules.proofs.listing_moves.Members.{from_range}
 use Rattle.chess_rules.proofs.listing_moves.Places.{triples_numbered}
 use Rattle.chess_rules.proofs.listing_moves.Triples.{in_triples, made_is_triple}
 use Rattle.chess_rules.specs.Play.{position_after}
-use Rattle.chess_rules.specs.ties.Places.{place_of, triple_at}
+use Rattle.chess_rules.specs.ties.Places.{all_triples, place_of, triple_at}
 
 module _ (rule : RuleSet) (p : Position) where
   -- a legal move is one of the triples
-  numbered : (m : Move) → IsWellFormed p → is_legal rule p m ≡ true → (n : ℕ) × (n < 28672) × (triple_at n ≡ m)
+  numbered : (m : Move) → IsWellFormed p → is_legal rule p m ≡ true → (n : ℕ) × (n < all_triples) × (triple_at n ≡ m)
   numbered m sound lawful =
       let t = made_is_triple rule p m sound.size (is_pseudo_legal-from_legal rule p m lawful) in
-      let w = from_map triple_at (range_with_len 0 28672) m (rw triples_numbered at (in_triples m t.0 t.1 t.2)) in
-      let r = from_range 0 28672 w.0 w.1 in
+      let w = from_map triple_at (range_with_len 0 all_triples) m (rw triples_numbered at (in_triples m t.0 t.1 t.2)) in
+      let r = from_range 0 all_triples w.0 w.1 in
       (w.0, omega (arith, r), w.2)
 
   -- it stands behind the place before its own
@@ -32,10 +32,10 @@ module _ (rule : RuleSet) (p : Position) where
       (λ m. IsSifted rule p (allows_mate rule p) place next n m)
       → IfSome o (λ m. place < next) → after ≡ min (before + n) (2 ^ 64 - 1) → IsNextUnsettled rule p place next before after o
   sifted place next n before after None sound at lawful none onward counted = record {
-    mid = 28672;
+    mid = all_triples;
     over = moves_behind rule p place;
-    passed = rw (moves_behind-end rule p 28672 (omega arith)) (sym (append-nil (moves_behind rule p place)));
-    here = moves_behind-end rule p 28672 (omega arith);
+    passed = rw (moves_behind-end rule p all_triples (omega arith)) (sym (append-nil (moves_behind rule p place)));
+    here = moves_behind-end rule p all_triples (omega arith);
     fits = record { none = none.0; counts = rw none.1 at counted };
   }
   sifted place next n before after (Some m) sound at lawful passed onward counted =

@@ -1,5 +1,6 @@
 -- The outcomes of a step for frames listed from the bottom up, as the code holds them, and what its calls hand on.
 use Rattle.pop_solve.specs.declared.aim.Aim.{Aim}
+use Rattle.chess_rules.specs.ties.Places.{all_triples}
 use Rattle.pop_solve.proofs.Words.{AreKnown, Bool, CameFrom, CameFromAt, Counts, Frame, GoesTo, HasCounted, HelpPlay, IfSome, IsNextMate, IsNextOf, IsNextUnsettled, IsPlaceIn, IsWalking, LegalPlace, List, MatchOption, Mate, Option, Plan, Position, RuleSet, Steps, [], ap, append-nil, arith, chess, eqb, false, is_followed, is_given, walk_length, inl, inr, is_for_mate, is_mate, is_legal, length, length-reverse, mates_behind, nat_tests, moves_behind, moves_behind-end, position, refl, reverse, reverse-append, rules, seeks_last, smallest_tree, subst, suc, sym, true, undo_of, value, has_variations, ℕ, ◌++◌, ◌+◌, ◌-◌, ◌<◌, ◌∙◌, ◌∷◌, ◌≡◌, ◌≤◌, ◌⊎◌, Move}
 use Rattle.chess_rules.specs.Play.{position_after}
 use Rattle.pop_solve.proofs.Boards.{for_mate}
@@ -106,7 +107,7 @@ module _ (rule : RuleSet) (plan : Plan) (left : ℕ) (p : Position) (place next 
       → MatchOption o (mates_behind rule p place ≡ []) (λ m. IsNextMate rule p place next m × (is_legal rule p m ≡ true))
       → IsNextOf rule plan left p place next before after o
   unfolding mates_behind
-  next_mating o for last single e same = grind (arith, moves_behind-end rule p 28672 (omega arith), append-nil)
+  next_mating o for last single e same = grind (arith, moves_behind-end rule p all_triples (omega arith), append-nil)
 
   -- the next move that isn't settled is it with two half-moves left
   pub next_settling : (o : Option Move) → (plan.play ≡ HelpPlay) × (plan.goal ≡ Mate) × (left ≡ 2) → IsNextUnsettled rule p place next before after o

@@ -55,6 +55,7 @@ pub use Rattle.pop_events.specs.declared.event.Phase.{Phase}
 pub use Rattle.pop_events.specs.declared.event.Phase.TheVariants.{Play, Set}
 pub use Rattle.pop_solve.specs.declared.frame.Stretch.TheVariants.{Earlier, Killer, Others}
 pub use Rattle.pop_solve.specs.declared.phases.Stage.{Stage}
+pub use Rattle.pop_solve.specs.declared.phases.Walk.{Walk}
 pub use Rattle.pop_solve.specs.declared.phases.Stage.TheVariants.{Barred, Before, Behind, Within}
 pub use Rattle.pop_solve.specs.declared.plan.Plan.{Plan}
 pub use Rattle.pop_solve.specs.ties.Calls.{Counts}
@@ -65,7 +66,7 @@ unfoldable pub use Rattle.pop_solve.specs.ties.Frames.{AreKnown, IsDescending, I
 pub use Rattle.pop_solve.specs.ties.Marks.{is_for_mate}
 pub use Rattle.pop_solve.specs.ties.Phases.{Gives, IsGiven, IsKeys, IsOpened, OpensOn, Walks, begins_solution, phase_paths}
 unfoldable pub use Rattle.pop_solve.specs.ties.Phases.{IsNarrow, IsStanding, beginning_count, kept_paths, left_of, rest_fewest, rest_open}
-pub use Rattle.pop_solve.specs.ties.Plans.{is_help_play, plan_of, has_variations, tree_with}
+pub use Rattle.pop_solve.specs.ties.Plans.{is_help_play, plan_of, has_variations, tree_with, walk_of}
 pub use Rattle.pop_solve.specs.ties.Seen.{StandsOn, fewest_from, is_stop, is_unstopped, is_walked_once, phase_fewest, phase_walk, walk_from}
 pub use Rattle.pop_solve.specs.ties.Values.{decides, join, seeks}
 unfoldable pub use Rattle.pop_solve.specs.ties.Values.{joined_value, value}

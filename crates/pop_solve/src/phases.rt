@@ -6,7 +6,7 @@ ghost use Rattle.pop_input.specs.Posed.{IsSound};
 ghost use Rattle.pop_input.specs.Stipulations.{half_moves, is_help};
 ghost use Rattle.pop_solve.specs.Events.{first_phase, play_start, phase_half_moves as half_moves_of_phase, phase_start, phase_half as half_of_phase, event_of, is_barred, path_event, is_set, opening};
 ghost use Rattle.pop_solve.specs.ties.Walk.{IsEnded, IsWalking, Opens, Tries, path};
-ghost use Rattle.pop_solve.specs.ties.Plans.{is_help_play, plan_of};
+ghost use Rattle.pop_solve.specs.ties.Plans.{is_help_play, plan_of, walk_of};
 ghost use Rattle.pop_solve.specs.ties.Phases.{left_of, IsStanding, Walks, Gives, OpensOn};
 ghost use Rattle.pop_events.specs.declared.event.Event.TheVariants.{Total};
 ghost use Rattle.pop_events.specs.declared.event.Phase.TheVariants.{Play};
@@ -26,6 +26,14 @@ use chess_rules::rules::Rules;
 use pop_events::event::{Event, Phase};
 use pop_input::problem::Problem;
 
+/// How a phase is walked: what is walked of the problem, and with how many half-moves.
+#[derive(Clone, Copy)]
+pub struct Walk {
+    pub phase: Phase,
+    pub plan: Plan,
+    pub half_moves: usize,
+}
+
 /// Where a search stands among its phases; a phase is set play or the play.
 #[derive(Clone, Copy)]
 pub enum Stage {
@@ -33,8 +41,8 @@ pub enum Stage {
     Before { phase: Phase },
     /// In set play, which isn't possible.
     Barred,
-    /// Within a phase, of which `count` solutions have begun.
-    Within { phase: Phase, count: u32 },
+    /// Within a phase, walked so, of which `count` solutions have begun.
+    Within { walk: Walk, count: u32 },
     /// Behind the last.
     Behind,
 }
@@ -61,6 +69,19 @@ pub fn phase_half_moves(problem: &Problem, phase: Phase) -> usize
     }
 }
 
+impl Walk {
+    /// How a phase of a problem is walked.
+    pub fn of(problem: &Problem, phase: Phase) -> Walk
+        ensures { result ≡ walk_of problem.now phase }
+    {
+        Walk {
+            phase,
+            plan: Plan::of(problem),
+            half_moves: phase_half_moves(problem, phase),
+        }
+    }
+}
+
 /// The number of a phase's first half-move.
 fn phase_half(problem: &Problem, phase: Phase) -> u32
     ensures { result ≡ half_of_phase problem.now phase }
@@ -79,36 +100,33 @@ fn is_full(plan: Plan, depth: usize, limit: u32) -> bool
     limit == 0 && (plan.play == aim::Play::Help || depth == 1)
 }
 
-/// Walks on to the next path that is given, in a phase in which `limit` solutions are still to begin. Answers whether
-/// there is one.
+/// Walks on to the next path that is given, in a phase of which `count` solutions have begun. Answers whether there is one.
 pub fn walk_on<R: Rules, const N: usize>(
     problem: &Problem,
-    phase: Phase,
-    limit: u32,
+    walk: Walk,
+    count: u32,
     board: &mut Board,
     frames: &mut ArrayVec<Frame<R>, N>,
     history: &mut History<R>,
 ) -> bool
-    requires sound { IsSound problem.now }
-    requires room { half_moves problem.now.stipulation < N }
-    requires walking { IsWalking R.rule (half_moves_of_phase problem.now phase)
-        (phase_start problem.now phase)
+    requires room { walk.half_moves < N }
+    requires count { count ≤ problem.now.max_solutions }
+    requires walking { IsWalking R.rule walk.half_moves (phase_start problem.now walk.phase)
         (reverse frames.old.items) board.old }
-    ensures walks { Walks R.rule (plan_of problem.now) (is_help problem.now.stipulation.form)
-        (half_moves_of_phase problem.now phase) (phase_start problem.now phase) limit
+    ensures walks { Walks R.rule walk.plan (is_help_play walk.plan.play) walk.half_moves
+        (phase_start problem.now walk.phase) (problem.now.max_solutions - count)
         (reverse frames.old.items) (reverse frames.new.items)
         board.new result }
-    ensures opens { Opens R.rule (plan_of problem.now) (phase_start problem.now phase)
+    ensures opens { Opens R.rule walk.plan (phase_start problem.now walk.phase)
         (reverse frames.old.items)
         (reverse frames.new.items) history.old.opened history.new.opened }
-    ensures tries { Tries R.rule (plan_of problem.now) (half_moves_of_phase problem.now phase)
-        (phase_start problem.now phase) (reverse frames.old.items) (reverse frames.new.items)
+    ensures tries { Tries R.rule walk.plan walk.half_moves (phase_start problem.now walk.phase)
+        (reverse frames.old.items) (reverse frames.new.items)
         history.old.opened history.new.opened }
 {
-    let plan = Plan::of(problem);
-    let half_moves = phase_half_moves(problem, phase);
-    while !frames.is_empty() && !is_full(plan, frames.len(), limit) {
-        if step::<R, N>(plan, half_moves, board, frames, history) {
+    let limit = still_to_begin(problem, count);
+    while !frames.is_empty() && !is_full(walk.plan, frames.len(), limit) {
+        if step::<R, N>(walk.plan, walk.half_moves, board, frames, history) {
             return true;
         }
     }
@@ -116,15 +134,11 @@ pub fn walk_on<R: Rules, const N: usize>(
 }
 
 /// Closes all frames.
-fn close_all<R: Rules, const N: usize>(
-    half_moves: usize,
-    board: &mut Board,
-    frames: &mut ArrayVec<Frame<R>, N>,
-)
-    requires walking { (p : Position) × IsWalking R.rule half_moves p (reverse frames.old.items)
+fn close_all<R: Rules, const N: usize>(board: &mut Board, frames: &mut ArrayVec<Frame<R>, N>)
+    requires walking { (h : ℕ) × (p : Position) × IsWalking R.rule h p (reverse frames.old.items)
         board.old }
     ensures none { frames.new.items ≡ [] }
-    ensures back { (p : Position) → IsWalking R.rule half_moves p (reverse frames.old.items)
+    ensures back { (h : ℕ) (p : Position) → IsWalking R.rule h p (reverse frames.old.items)
         board.old → board.new ≡ p }
 {
     while let Some(top) = frames.pop() {
@@ -135,32 +149,32 @@ fn close_all<R: Rules, const N: usize>(
 /// The event of the path to the top frame, where the board stands.
 pub fn event_at<R: Rules>(
     problem: &Problem,
-    phase: Phase,
+    walk: Walk,
     frames: &[Frame<R>],
     board: &mut Board,
 ) -> Event
+    requires plan { walk.plan ≡ plan_of problem.now }
     requires deep { 2 ≤ length frames.now }
     requires shallow { length frames.now ≤ 33 }
-    requires walking { (h : ℕ) × IsWalking R.rule h (phase_start problem.now phase)
+    requires walking { (h : ℕ) × IsWalking R.rule h (phase_start problem.now walk.phase)
         (reverse frames.now) board.old }
-    requires ended { IsEnded R.rule (plan_of problem.now) (reverse frames.now) board.old }
+    requires ended { IsEnded R.rule walk.plan (reverse frames.now) board.old }
     ensures unchanged { board.new ≡ board.old }
     ensures event { result ≡ event_of R.rule problem.now
-        (path_event problem.now phase (path (reverse frames.now))) }
+        (path_event problem.now walk.phase (path (reverse frames.now))) }
 {
-    let half = phase_half(problem, phase);
-    let plan = Plan::of(problem);
+    let half = phase_half(problem, walk.phase);
     if problem.stipulation().form.is_help() {
         return Event::Line {
             half,
-            moves: line::<R>(plan.goal, frames, board),
+            moves: line::<R>(walk.plan.goal, frames, board),
         };
     }
     let depth = (frames.len() - 2) as u32;
     Event::Node {
         depth,
         half: half + depth,
-        shown: last_shown::<R>(plan, frames, board),
+        shown: last_shown::<R>(walk.plan, frames, board),
     }
 }
 
@@ -206,7 +220,8 @@ fn begin<R: Rules, const N: usize>(
     if !set_up::<R>(problem, phase, board) {
         return Stage::Barred;
     }
-    let left = phase_half_moves(problem, phase);
+    let walk = Walk::of(problem, phase);
+    let left = walk.half_moves;
     frames.push(Frame {
         place: Moves::start(),
         left,
@@ -214,7 +229,7 @@ fn begin<R: Rules, const N: usize>(
         ..Frame::default()
     });
     history.opened = opened_after(history.opened, left, false);
-    Stage::Within { phase, count: 0 }
+    Stage::Within { walk, count: 0 }
 }
 
 /// Ends a phase: closes its frames and puts the first position of the play on the board.
@@ -225,14 +240,13 @@ pub fn end<R: Rules, const N: usize>(
     frames: &mut ArrayVec<Frame<R>, N>,
 ) -> Stage
     requires sound { IsSound problem.now }
-    requires walking { IsWalking R.rule (half_moves_of_phase problem.now phase)
-        (phase_start problem.now phase)
+    requires walking { (h : ℕ) × IsWalking R.rule h (phase_start problem.now phase)
         (reverse frames.old.items) board.old }
     ensures stage { result ≡ (if is_set phase then Before Play else Behind) }
     ensures none { frames.new.items ≡ [] }
     ensures board { board.new ≡ play_start problem.now }
 {
-    close_all::<R, N>(phase_half_moves(problem, phase), board, frames);
+    close_all::<R, N>(board, frames);
     match phase {
         Phase::Set => {
             turn_back(board, &problem.diagram());
@@ -246,7 +260,7 @@ pub fn end<R: Rules, const N: usize>(
 #[tactic(auto, unfolding(crate::specs::ties::Phases::IsStanding))]
 fn go_on<R: Rules, const N: usize>(
     problem: &Problem,
-    phase: Phase,
+    walk: Walk,
     count: u32,
     board: &mut Board,
     frames: &mut ArrayVec<Frame<R>, N>,
@@ -254,26 +268,25 @@ fn go_on<R: Rules, const N: usize>(
 ) -> (Stage, Event)
     requires sound { IsSound problem.now }
     requires room { half_moves problem.now.stipulation < N }
-    requires standing { IsStanding R.rule problem.now (Within phase count)
+    requires standing { IsStanding R.rule problem.now (Within walk count)
         (reverse frames.old.items) board.old }
     ensures standing { IsStanding R.rule problem.now result.0 (reverse frames.new.items)
         board.new }
     ensures gives { Gives R.rule problem.now
-        (left_of R.rule problem.now (Within phase count) (reverse frames.old.items))
+        (left_of R.rule problem.now (Within walk count) (reverse frames.old.items))
         (left_of R.rule problem.now result.0 (reverse frames.new.items))
         result.1 board.new (array_vec_len frames.new) }
-    ensures opens { OpensOn R.rule problem.now (Within phase count) result.0
+    ensures opens { OpensOn R.rule problem.now (Within walk count) result.0
         (reverse frames.old.items)
         (reverse frames.new.items) history.old.opened history.new.opened
-        (left_of R.rule problem.now (Within phase count) (reverse frames.old.items)) }
+        (left_of R.rule problem.now (Within walk count) (reverse frames.old.items)) }
 {
-    let limit = still_to_begin(problem, count);
-    if walk_on::<R, N>(problem, phase, limit, board, frames, history) {
+    if walk_on::<R, N>(problem, walk, count, board, frames, history) {
         let count = count_with(problem, frames.len(), count);
-        let event = event_at::<R>(problem, phase, frames.as_slice(), board);
-        return (Stage::Within { phase, count }, event);
+        let event = event_at::<R>(problem, walk, frames.as_slice(), board);
+        return (Stage::Within { walk, count }, event);
     }
-    let stage = end::<R, N>(problem, phase, board, frames);
+    let stage = end::<R, N>(problem, walk.phase, board, frames);
     (stage, total(problem, count))
 }
 
@@ -348,8 +361,8 @@ pub(crate) fn advance<R: Rules, const N: usize>(
             *stage = Stage::Before { phase: Phase::Play };
             Some(Event::Impossible)
         }
-        Stage::Within { phase, count } => {
-            let (next, event) = go_on::<R, N>(problem, phase, count, board, frames, history);
+        Stage::Within { walk, count } => {
+            let (next, event) = go_on::<R, N>(problem, walk, count, board, frames, history);
             *stage = next;
             Some(event)
         }

@@ -2,7 +2,7 @@
 use Rattle.std.proofs.Math.Seq.{take-add}
 use Rattle.std.proofs.lemmas.List.{drop-drop}
 use Rattle.chess_rules.proofs.Basics.{List, [], ap, arith, drop, false, filter, filter-append, refl, rules, sym, take, take-append-drop, true, ℕ, ◌++◌, ◌+◌, ◌-◌, ◌<◌, ◌∙◌, ◌∷◌, ◌≡◌, ◌≤◌}
-use Rattle.chess_rules.proofs.Chess.{HaveNone, Move, Position, RuleSet, is_legal, moves, moves_behind, moves_between, triple_at, triples}
+use Rattle.chess_rules.proofs.Chess.{HaveNone, Move, Position, RuleSet, all_triples, is_legal, moves, moves_behind, moves_between, triple_at, triples}
 use Rattle.chess_rules.proofs.listing_moves.Places.{drop_triples, drop_triples_past, over}
 
 take-none : (n : ℕ) → take {A = Move} n [] ≡ []
@@ -14,36 +14,36 @@ unfolding moves_between
 between-none rule p a b le = let z : b - a ≡ 0 = omega (arith, le) in rw z refl
 
 -- nor behind the last triple
-pub between-past : (rule : RuleSet) (p : Position) (a b : ℕ) → 28672 ≤ a → moves_between rule p a b ≡ []
+pub between-past : (rule : RuleSet) (p : Position) (a b : ℕ) → all_triples ≤ a → moves_between rule p a b ≡ []
 unfolding moves_between
 between-past rule p a b ge = rw (drop_triples_past a ge, take-none (b - a)) refl
 
 -- the triple at the first place comes first, if it is legal
-pub between-here : (rule : RuleSet) (p : Position) (a b : ℕ) → a < 28672 → a < b → is_legal rule p (triple_at a) ≡ true
+pub between-here : (rule : RuleSet) (p : Position) (a b : ℕ) → a < all_triples → a < b → is_legal rule p (triple_at a) ≡ true
     → moves_between rule p a b ≡ triple_at a ∷ moves_between rule p (a + 1) b
 unfolding moves_between
 between-here rule p a b lt low h = search (rules, drop_triples)
 
 -- and is passed over, if it isn't
-pub between-skip : (rule : RuleSet) (p : Position) (a b : ℕ) → a < 28672 → is_legal rule p (triple_at a) ≡ false
+pub between-skip : (rule : RuleSet) (p : Position) (a b : ℕ) → a < all_triples → is_legal rule p (triple_at a) ≡ false
     → moves_between rule p a b ≡ moves_between rule p (a + 1) b
 unfolding moves_between
 between-skip rule p a b lt h = search (rules, between-none, drop_triples)
 
 -- over a stretch without moves
-pub between-none-is_legal : (rule : RuleSet) (p : Position) (a b e : ℕ) → (b < 28672 → a ≤ b) → b ≤ 28672 → HaveNone (is_legal rule p) a b
+pub between-none-is_legal : (rule : RuleSet) (p : Position) (a b e : ℕ) → (b < all_triples → a ≤ b) → b ≤ all_triples → HaveNone (is_legal rule p) a b
     → moves_between rule p a e ≡ moves_between rule p b e
 between-none-is_legal rule p a b e =
     over (λ n. moves_between rule p n e) (is_legal rule p) (λ n lt h. between-skip rule p n e lt h) [] (λ n ge. between-past rule p n e ge) a b
 
 -- up to the first legal one, and where none is left before the end
-pub until-is_legal : (rule : RuleSet) (p : Position) (a n e : ℕ) → a ≤ n → n < e → n < 28672 → HaveNone (is_legal rule p) a n
+pub until-is_legal : (rule : RuleSet) (p : Position) (a n e : ℕ) → a ≤ n → n < e → n < all_triples → HaveNone (is_legal rule p) a n
     → is_legal rule p (triple_at n) ≡ true
     → moves_between rule p a e ≡ triple_at n ∷ moves_between rule p (n + 1) e
 until-is_legal rule p a n e low before fits none h = grind (arith, between-none-is_legal, between-here rule p n e fits before h)
 
 -- where the walk gets to the end without one, no move lies before it
-pub until-end : (rule : RuleSet) (p : Position) (a n e : ℕ) → n ≤ 28672 → n ≤ e → (n < 28672 → e ≤ n) → HaveNone (is_legal rule p) a n
+pub until-end : (rule : RuleSet) (p : Position) (a n e : ℕ) → n ≤ all_triples → n ≤ e → (n < all_triples → e ≤ n) → HaveNone (is_legal rule p) a n
     → moves_between rule p a e ≡ []
 until-end rule p a n e fits before all none = search (rules, between-none, between-none-is_legal, between-past)
 

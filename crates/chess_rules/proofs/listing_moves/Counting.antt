@@ -7,9 +7,9 @@ use Rattle.std.specs.Int.{from_bool}
 use Rattle.std.specs.Int.Count.{ones_step}
 use Rattle.std.specs.Prelude.{count_ones, min}
 use Rattle.chess_rules.proofs.Basics.{Bool, None, Some, ap, arith, bit_at, cases_Bool, cases_eq, and_left, and_right, bit_at-lt, cases_lt, drop, false, find, inl, inr, length, length-append, range_with_len, refl, suc, sym, take, zero, ℕ, ◌%◌, ◌&&◌, ◌*◌, ◌+◌, ◌-◌, ◌/◌, ◌<◌, ◌==◌, ◌^◌, ◌∙◌, ◌≡◌, ◌≤◌}
-use Rattle.chess_rules.proofs.Chess.{AreCandidates, AreOrigins, HaveNone, IsBarrenFrom, Move, Position, RuleSet, differs, find_first, find_no, is_legal, moves_between, promotion_at, triple_at, triples}
+use Rattle.chess_rules.proofs.Chess.{AreCandidates, AreOrigins, HaveNone, IsBarrenFrom, Move, Position, RuleSet, all_triples, differs, find_first, find_no, is_legal, moves_between, per_arrival, per_origin, promotion_at, triple_at, triples}
 use Rattle.chess_rules.proofs.listing_moves.Between.{between-here, between-none, between-none-is_legal, between-past, between-skip, between_cut}
-use Rattle.chess_rules.proofs.listing_moves.Targeting.{named_by, no_promotion_here, some_named}
+use Rattle.chess_rules.proofs.listing_moves.Targeting.{arrival_from, named_by, no_promotion_here, some_named}
 use Rattle.chess_rules.proofs.listing_moves.Walks.{none-from, none-missed}
 use Rattle.chess_rules.specs.ties.Counting.{AreLegal}
 use Rattle.chess_rules.specs.ties.Idle.{is_legal-idle}
@@ -50,77 +50,81 @@ module _ (rule : RuleSet) (p : Position) where
   none_left a e le = ap length (between-none rule p a e le)
 
   module _ (o : ℕ) (own : AreOrigins (is_legal rule p) o) where
-    missed : (a b : ℕ) → b ≤ 28672 → ((s : ℕ) → a / 448 ≤ s → s < (b + 447) / 448 → (bit_at o s == 1) ≡ false) → HaveNone (is_legal rule p) a b
+    missed : (a b : ℕ) → b ≤ all_triples → ((s : ℕ) → a / per_origin ≤ s → per_origin * s < b → (bit_at o s == 1) ≡ false) → HaveNone (is_legal rule p) a b
     missed a b le none = none-missed rule p (is_legal rule p) (λ m h. is_legal-idle rule p m h) a b o own le none
 
     -- where no origin is left there is no move
-    no_origin : (a e : ℕ) → find (λ q. bit_at o q == 1) (range_with_len (a / 448) (64 - a / 448)) ≡ None → between a e ≡ 0
+    no_origin : (a e : ℕ) → find (λ q. bit_at o q == 1) (range_with_len (a / per_origin) (64 - a / per_origin)) ≡ None → between a e ≡ 0
     no_origin a e none =
-        ap length (between-none-is_legal rule p a 28672 e (λ lt. absurd (omega (arith, lt))) (omega arith)
-        (missed a 28672 (omega arith) (λ q lo hi. find_no (λ q. bit_at o q == 1) (a / 448) (64 - a / 448) q none lo (omega (arith, hi))))
-        ∙ between-past rule p 28672 e (omega arith))
+        ap length (between-none-is_legal rule p a all_triples e (λ lt. absurd (omega (arith, lt))) (omega arith)
+        (missed a all_triples (omega arith) (λ q lo hi. find_no (λ q. bit_at o q == 1) (a / per_origin) (64 - a / per_origin) q none lo (omega (arith, hi))))
+        ∙ between-past rule p all_triples e (omega arith))
 
     -- else those of the next one come first, as far as they lie before the end, and then those of later ones
-    by_origin : (a e s n z m : ℕ) → find (λ q. bit_at o q == 1) (range_with_len (a / 448) (64 - a / 448)) ≡ Some s → n ≡ 448 * s → z ≡ a - n
-        → m ≡ min (e - n) 448 → between a e ≡ between (448 * s + z) (448 * s + m) + between (n + 448) e
+    by_origin : (a e s n z m : ℕ) → find (λ q. bit_at o q == 1) (range_with_len (a / per_origin) (64 - a / per_origin)) ≡ Some s → n ≡ per_origin * s → z ≡ a - n
+        → m ≡ min (e - n) per_origin → between a e ≡ between (per_origin * s + z) (per_origin * s + m) + between (n + per_origin) e
     by_origin a e s n z m found first from to =
-        let f = find_first (λ q. bit_at o q == 1) (a / 448) (64 - a / 448) s found in
-        let b : ℕ = 448 * s + z in
-        let h = missed a (448 * s) (omega (arith, f.high, f.low)) (λ q lo hi. f.before q lo (omega (arith, hi))) in
+        let f = find_first (λ q. bit_at o q == 1) (a / per_origin) (64 - a / per_origin) s found in
+        let b : ℕ = per_origin * s + z in
+        let h = missed a (per_origin * s) (omega (arith, f.high, f.low)) (λ q lo hi. f.before q lo (omega (arith, hi))) in
         let onward = ap length (between-none-is_legal rule p a b e (λ lt. omega (arith, first, from)) (omega (arith, first, from, f.high, f.low))
         (record { fails = λ k lo hi. h.fails k lo (omega (arith, first, from, lo, hi)) })) in
-        onward ∙ elim (cases_lt e (n + 448)) [
-          | inr ge ↦ let stop : 448 * s + m ≡ n + 448 = omega (arith, first, to, ge) in rw stop (count_cut b (n + 448) e (omega (arith, first, from, f.low)) ge)
+        onward ∙ elim (cases_lt e (n + per_origin)) [
+          | inr ge ↦
+              let stop : per_origin * s + m ≡ n + per_origin = omega (arith, first, to, ge) in
+              rw stop (count_cut b (n + per_origin) e (omega (arith, first, from, f.low)) ge)
           | inl lt ↦ elim (cases_lt e n) [
             | inl none ↦ omega (
               arith,
               none_left b e (omega (arith, first, none)),
-              none_left b (448 * s + m) (omega (arith, to, none)),
-              none_left (n + 448) e (omega (arith, lt)),
+              none_left b (per_origin * s + m) (omega (arith, to, none)),
+              none_left (n + per_origin) e (omega (arith, lt)),
             )
-            | inr some ↦ let stop : 448 * s + m ≡ e = omega (arith, first, to, lt, some) in rw stop (omega (arith, none_left (n + 448) e (omega (arith, lt))))
+            | inr some ↦
+                let stop : per_origin * s + m ≡ e = omega (arith, first, to, lt, some) in
+                rw stop (omega (arith, none_left (n + per_origin) e (omega (arith, lt))))
           ]
         ]
 
     -- those up to a triple of the next origin are those so far and its own before that one
-    pub passed_on : (start number s a n z : ℕ) → start ≤ number → find (λ q. bit_at o q == 1) (range_with_len (number / 448) (64 - number / 448)) ≡ Some s
-        → n ≡ 448 * s → z ≡ number - n → z ≤ a → a ≤ 448
-        → between start (n + a) ≡ between start number + between (448 * s + z) (448 * s + a)
+    pub passed_on : (start number s a n z : ℕ) → start ≤ number → find (λ q. bit_at o q == 1) (range_with_len (number / per_origin) (64 - number / per_origin)) ≡ Some s
+        → n ≡ per_origin * s → z ≡ number - n → z ≤ a → a ≤ per_origin
+        → between start (n + a) ≡ between start number + between (per_origin * s + z) (per_origin * s + a)
     passed_on start number s a n z low found first from more few =
         omega (
           arith,
           count_cut start number (n + a) low (omega (arith, from, more)),
           by_origin number (n + a) s n z a found first from (omega (arith, few)),
-          none_left (n + 448) (n + a) (omega (arith, few)),
+          none_left (n + per_origin) (n + a) (omega (arith, few)),
         )
 
     -- where no origin is left those so far are all
-    pub passed_all : (start number : ℕ) → start ≤ number → find (λ q. bit_at o q == 1) (range_with_len (number / 448) (64 - number / 448)) ≡ None
-        → between start 28672 ≡ between start number
-    passed_all start number low none = elim (cases_lt number 28672) [
-      | inl lt ↦ omega (arith, count_cut start number 28672 low (omega (arith, lt)), no_origin number 28672 none)
-      | inr ge ↦ elim (cases_lt start 28672) [
-        | inl small ↦ omega (arith, count_cut start 28672 number (omega (arith, small)) ge, ap length (between-past rule p 28672 number (omega arith)))
-        | inr past ↦ ap length (between-past rule p start 28672 past) ∙ sym (ap length (between-past rule p start number past))
+    pub passed_all : (start number : ℕ) → start ≤ number → find (λ q. bit_at o q == 1) (range_with_len (number / per_origin) (64 - number / per_origin)) ≡ None
+        → between start all_triples ≡ between start number
+    passed_all start number low none = elim (cases_lt number all_triples) [
+      | inl lt ↦ omega (arith, count_cut start number all_triples low (omega (arith, lt)), no_origin number all_triples none)
+      | inr ge ↦ elim (cases_lt start all_triples) [
+        | inl small ↦ omega (arith, count_cut start all_triples number (omega (arith, small)) ge, ap length (between-past rule p all_triples number (omega arith)))
+        | inr past ↦ ap length (between-past rule p start all_triples past) ∙ sym (ap length (between-past rule p start number past))
       ]
     ]
 
   module _ (s w : ℕ) (small : s < 64) (are : AreCandidates rule p (is_legal rule p) s w) where
     -- triples that are no moves don't count
-    pub count_barren : (a b e : ℕ) → a ≤ b → b ≤ 448 → IsBarrenFrom p s w a b → between (448 * s + a) e ≡ between (448 * s + b) e
+    pub count_barren : (a b e : ℕ) → a ≤ b → b ≤ per_origin → IsBarrenFrom p s w a b → between (per_origin * s + a) e ≡ between (per_origin * s + b) e
     count_barren a b e lo hi h =
-        ap length (between-none-is_legal rule p (448 * s + a) (448 * s + b) e (λ lt. omega (arith, lo)) (omega (arith, hi, small))
+        ap length (between-none-is_legal rule p (per_origin * s + a) (per_origin * s + b) e (λ lt. omega (arith, lo)) (omega (arith, hi, small))
         (none-from rule p (is_legal rule p) (λ m h. is_legal-idle rule p m h) s w a b hi are h))
 
     -- one that is a move counts once
-    pub count_here : (a n e : ℕ) (legal : Bool) → a < 448 → n ≡ 448 * s + a → n < e → is_legal rule p (triple_at n) ≡ legal
-        → between n e ≡ from_bool legal + between (448 * s + (a + 1)) e
+    pub count_here : (a n e : ℕ) (legal : Bool) → a < per_origin → n ≡ per_origin * s + a → n < e → is_legal rule p (triple_at n) ≡ legal
+        → between n e ≡ from_bool legal + between (per_origin * s + (a + 1)) e
     count_here a n e legal inside at before h =
-        let next : 448 * s + (a + 1) ≡ n + 1 = omega (arith, at) in
+        let next : per_origin * s + (a + 1) ≡ n + 1 = omega (arith, at) in
         rw next (grind (arith, between-here rule p n e, between-skip rule p n e))
 
     module _ (legal : AreLegal rule p s w) where
-      legal_to : (t k : ℕ) → t < 64 → k < 7 → is_legal rule p (record { from = s; to = t; promo = promotion_at k }) ≡ (k == 0 && bit_at w t == 1)
+      legal_to : (t k : ℕ) → t < 64 → k < per_arrival → is_legal rule p (record { from = s; to = t; promo = promotion_at k }) ≡ (k == 0 && bit_at w t == 1)
       legal_to t k lt few = elim (cases_Bool (bit_at w t == 1)) [
         | inl on ↦ elim (cases_eq k 0) [
           | inl e ↦ rw e (legal.to t lt on ∙ sym on)
@@ -134,35 +138,40 @@ module _ (rule : RuleSet) (p : Position) where
       ]
 
       -- a triple is a move exactly where it goes to a square of the word and names no promotion
-      legal_is : (a : ℕ) → a < 448 → is_legal rule p (triple_at (448 * s + a)) ≡ (a % 7 == 0 && bit_at w (a / 7) == 1)
+      legal_is : (a : ℕ) → a < per_origin → is_legal rule p (triple_at (per_origin * s + a)) ≡ (a % per_arrival == 0 && bit_at w (a / per_arrival) == 1)
       unfolding triple_at
       legal_is a inside =
-          let from : (448 * s + a) / 448 ≡ s = omega (arith, inside) in
-          let to : (448 * s + a) / 7 % 64 ≡ a / 7 = omega (arith, inside) in
-          let promo : (448 * s + a) % 7 ≡ a % 7 = omega (arith, inside) in
-          rw (from, to, promo) (legal_to (a / 7) (a % 7) (omega (arith, inside)) (omega arith))
+          let from : (per_origin * s + a) / per_origin ≡ s = omega (arith, inside) in
+          let to : (per_origin * s + a) / per_arrival % 64 ≡ a / per_arrival = omega (arith, inside) in
+          let promo : (per_origin * s + a) % per_arrival ≡ a % per_arrival = omega (arith, inside) in
+          rw (from, to, promo) (legal_to (a / per_arrival) (a % per_arrival) (omega (arith, inside)) (omega arith))
 
-      one_more : (a : ℕ) → count_ones (w / 2 ^ ((a + 6) / 7)) ≡ from_bool (a % 7 == 0 && bit_at w (a / 7) == 1) + count_ones (w / 2 ^ ((a + 1 + 6) / 7))
-      one_more a = elim (cases_eq (a % 7) 0) [
-        | inl e ↦ let t : (a + 6) / 7 ≡ a / 7 = omega (arith, e) in let u : (a + 1 + 6) / 7 ≡ a / 7 + 1 = omega arith in rw (e, t, u) (ones_from w (a / 7))
-        | inr ne ↦ let t : (a + 1 + 6) / 7 ≡ (a + 6) / 7 = omega (arith, ne) in rw (t, differs (a % 7) 0 ne) (omega arith)
+      one_more : (a : ℕ)
+          → count_ones (w / 2 ^ arrival_from a) ≡ from_bool (a % per_arrival == 0 && bit_at w (a / per_arrival) == 1)
+          + count_ones (w / 2 ^ arrival_from (a + 1))
+      one_more a = elim (cases_eq (a % per_arrival) 0) [
+        | inl e ↦
+            let t : arrival_from a ≡ a / per_arrival = omega (arith, e) in
+            let u : arrival_from (a + 1) ≡ a / per_arrival + 1 = omega arith in
+            rw (e, t, u) (ones_from w (a / per_arrival))
+        | inr ne ↦ let t : arrival_from (a + 1) ≡ arrival_from a = omega (arith, ne) in rw (t, differs (a % per_arrival) 0 ne) (omega arith)
       ]
 
-      counted : (n a b : ℕ) → b ≡ a + n → b ≤ 448
-          → between (448 * s + a) (448 * s + b) + count_ones (w / 2 ^ ((b + 6) / 7)) ≡ count_ones (w / 2 ^ ((a + 6) / 7))
-      counted zero a b e le = let same : b ≡ a = omega (arith, e) in rw same (omega (arith, none_left (448 * s + a) (448 * s + a) (omega arith)))
+      counted : (n a b : ℕ) → b ≡ a + n → b ≤ per_origin
+          → between (per_origin * s + a) (per_origin * s + b) + count_ones (w / 2 ^ arrival_from b) ≡ count_ones (w / 2 ^ arrival_from a)
+      counted zero a b e le = let same : b ≡ a = omega (arith, e) in rw same (omega (arith, none_left (per_origin * s + a) (per_origin * s + a) (omega arith)))
       counted (suc n) a b e le =
           omega (
             arith,
             one_more a,
             counted n (a + 1) b (omega (arith, e)) le,
-            count_here a (448 * s + a) (448 * s + b) _ (omega (arith, e, le)) refl (omega (arith, e))
+            count_here a (per_origin * s + a) (per_origin * s + b) _ (omega (arith, e, le)) refl (omega (arith, e))
                 (legal_is a (omega (arith, e, le))),
           )
 
       -- where all are legal, the squares of the word are counted
-      pub count_by_word : (a b : ℕ) → a ≤ b → b ≤ 448
-          → between (448 * s + a) (448 * s + b) + count_ones (w / 2 ^ ((b + 6) / 7)) ≡ count_ones (w / 2 ^ ((a + 6) / 7))
+      pub count_by_word : (a b : ℕ) → a ≤ b → b ≤ per_origin
+          → between (per_origin * s + a) (per_origin * s + b) + count_ones (w / 2 ^ arrival_from b) ≡ count_ones (w / 2 ^ arrival_from a)
       count_by_word a b le hi = counted (b - a) a b (omega (arith, le)) hi
 
 -- for that from triple to triple

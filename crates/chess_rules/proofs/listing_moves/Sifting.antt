@@ -2,14 +2,14 @@
 use Rattle.std.proofs.lemmas.List.{append-nil, append_assoc}
 use Rattle.chess_core.proofs.Ranges.{second_fails}
 use Rattle.chess_rules.proofs.Basics.{Bool, [], and_left, ap, append_cancel_right, arith, bit_and, bit_at, cases_Bool, cases_lt, false, filter, filter-append, length, rules, sym, true, ℕ, ◌++◌, ◌+◌, ◌<◌, ◌==◌, ◌∙◌, ◌∷◌, ◌≡◌, ◌≤◌}
-use Rattle.chess_rules.proofs.Chess.{AreCandidates, AreOrigins, HaveNone, Move, Position, RuleSet, is_legal, moves_behind, moves_between, triple_at}
+use Rattle.chess_rules.proofs.Chess.{all_triples, AreCandidates, AreOrigins, HaveNone, Move, Position, RuleSet, is_legal, moves_behind, moves_between, triple_at}
 use Rattle.chess_rules.proofs.listing_moves.Between.{behind_cut, between-past}
 use Rattle.chess_rules.proofs.listing_moves.Places.{moves_behind-end, moves_behind-here, moves_behind-skip, over, place_of_none, place_of_triple}
 use Rattle.chess_rules.proofs.listing_moves.Walks.{off_second, on_first}
 use Rattle.chess_rules.specs.ties.Sifting.{AreSifted, IsSifted, is_wanted}
 
 -- for callers whose place has moved on, or stands behind all triples
-pub moved_on : (rule : RuleSet) (p : Position) (a b : ℕ) → (b < 28672 → a ≤ b)
+pub moved_on : (rule : RuleSet) (p : Position) (a b : ℕ) → (b < all_triples → a ≤ b)
     → moves_behind rule p a ≡ moves_between rule p a b ++ moves_behind rule p b
 moved_on rule p a b on = grind (arith, cases_lt, behind_cut, between-past, moves_behind-end)
 
@@ -23,18 +23,18 @@ module _ (rule : RuleSet) (p : Position) (test : Move → Bool) where
   pub wanted_origins : (o : ℕ) → AreOrigins (is_legal rule p) o → AreOrigins (is_wanted rule p test) o
   wanted_origins o own = record { elsewhere = λ m from to off. and_left _ (test m) (own.elsewhere m from to off) }
 
-  wanted-skip : (n : ℕ) → n < 28672 → is_wanted rule p test (triple_at n) ≡ false
+  wanted-skip : (n : ℕ) → n < all_triples → is_wanted rule p test (triple_at n) ≡ false
       → filter test (moves_behind rule p n) ≡ filter test (moves_behind rule p (n + 1))
   wanted-skip n lt h = search (rules, second_fails, moves_behind-here, moves_behind-skip)
 
   -- over a stretch without a wanted move the same moves that pass lie behind a place
-  pub wanted-none : (a b : ℕ) → (b < 28672 → a ≤ b) → b ≤ 28672 → HaveNone (is_wanted rule p test) a b
+  pub wanted-none : (a b : ℕ) → (b < all_triples → a ≤ b) → b ≤ all_triples → HaveNone (is_wanted rule p test) a b
       → filter test (moves_behind rule p a) ≡ filter test (moves_behind rule p b)
   wanted-none =
       over (λ n. filter test (moves_behind rule p n)) (is_wanted rule p test) wanted-skip [] (λ n ge. ap (filter test) (moves_behind-end rule p n ge))
 
   -- up to a legal move, by its number
-  pub sifted_numbered : (a n c : ℕ) → a ≤ n → n < 28672 → c ≡ length (moves_between rule p a n) → HaveNone (is_wanted rule p test) a n
+  pub sifted_numbered : (a n c : ℕ) → a ≤ n → n < all_triples → c ≡ length (moves_between rule p a n) → HaveNone (is_wanted rule p test) a n
       → is_legal rule p (triple_at n) ≡ true → IsSifted rule p test a (n + 1) c (triple_at n)
   sifted_numbered a n c le lt count none h =
       let cut = behind_cut rule p a n le in
@@ -49,11 +49,11 @@ module _ (rule : RuleSet) (p : Position) (test : Move → Bool) where
       }
 
   -- where the walk gets to the end, no move behind the place passes
-  pub sifted_missing : (a b : ℕ) → 28672 ≤ b → b ≤ 28672 → HaveNone (is_wanted rule p test) a b → filter test (moves_behind rule p a) ≡ []
+  pub sifted_missing : (a b : ℕ) → all_triples ≤ b → b ≤ all_triples → HaveNone (is_wanted rule p test) a b → filter test (moves_behind rule p a) ≡ []
   sifted_missing a b ge le none = grind (arith, moves_behind-end, wanted-none)
 
 -- all that lie behind a place lie before the end
-pub counted_behind : (rule : RuleSet) (p : Position) (a b c : ℕ) → 28672 ≤ b → b ≤ 28672 → c ≡ length (moves_between rule p a b)
+pub counted_behind : (rule : RuleSet) (p : Position) (a b c : ℕ) → all_triples ≤ b → b ≤ all_triples → c ≡ length (moves_between rule p a b)
     → c ≡ length (moves_behind rule p a)
 counted_behind rule p a b c ge le count =
     count ∙ ap length (sym (moved_on rule p a b (λ lt. absurd (omega (arith, lt, ge))) ∙ ap (λ l. moves_between rule p a b ++ l) (moves_behind-end rule p b ge)

@@ -1,7 +1,7 @@
 -- Where a man may go, and no move is missed by going from one such square to the next.
 use Rattle.chess_core.proofs.Kept.{same_colour-refl}
 use Rattle.chess_rules.proofs.Basics.{Bool, List, None, Option, Some, agree_below_at, and_from, and_parts, ap, arith, bit_at, bit_not, cases_Bool, cases_eq, cond-false, cond-true, false, find, inl, inr, is_some, or_left, or_right, range_with_len, refl, rules, sym, true, w64, ℕ, ◌%◌, ◌*◌, ◌+◌, ◌-◌, ◌/◌, ◌<◌, ◌==◌, ◌∙◌, ◌≡◌, ◌≤◌}
-use Rattle.chess_rules.proofs.Chess.{IsBarrenFrom, IsFirst, IsNamed, Kind, King, Man, Move, Pawn, Position, RuleSet, along, is_promoting, can_castle, file_of, find_first, find_no, can_go, is_advance, is_arrival, is_two_files_aside, is_castling, is_promotion_right, is_pseudo_legal, is_pseudo_legal_of, is_of_colour, is_square, man_on, may_castle, may_go, promotion_at, rank_of, reaches, reaches_as, same_colour, same_kind, square_at, squares_same, steps_to, word}
+use Rattle.chess_rules.proofs.Chess.{IsBarrenFrom, IsFirst, IsNamed, Kind, King, Man, Move, Pawn, Position, RuleSet, along, can_castle, can_go, file_of, find_first, find_no, is_advance, is_arrival, is_castling, is_of_colour, is_promoting, is_promotion_right, is_pseudo_legal, is_pseudo_legal_of, is_square, is_two_files_aside, man_on, may_castle, may_go, per_arrival, per_origin, promotion_at, rank_of, reaches, reaches_as, same_colour, same_kind, square_at, squares_same, steps_to, word}
 use Rattle.chess_rules.proofs.Bits.{word_empty}
 use Rattle.chess_rules.proofs.making_moves.Pseudo.{made}
 
@@ -89,6 +89,10 @@ own_moves p rule m (Some x) e h =
     false_by (is_pseudo_legal rule p m) (λ y. let c : x.colour ≡ p.turn = (made rule p m x y e).mine in let t : same_colour p.turn p.turn ≡ false = rw c at h in
     let u = same_colour-refl p.turn in cc)
 
+-- the first arrival whose triples are all numbered from a on, counted from their origin's first
+abbrev pub arrival_from : ℕ → ℕ
+arrival_from a = (a + per_arrival - 1) / per_arrival
+
 -- stretches of one origin
 from-empty : (p : Position) (s z a : ℕ) → IsBarrenFrom p s z a a
 from-empty p s z a = record { fails = λ rule k lo hi on. absurd (omega (arith, lo, hi)) }
@@ -102,11 +106,11 @@ pub from-join : (p : Position) (s z a b c : ℕ) → IsBarrenFrom p s z a b → 
 from-join p s z a b c x y = search rules
 
 -- no square of the word lies between
-from-missed : (p : Position) (s a b w : ℕ) → ((t : ℕ) → a / 7 ≤ t → t < (b + 6) / 7 → (bit_at w t == 1) ≡ false) → IsBarrenFrom p s w a b
+from-missed : (p : Position) (s a b w : ℕ) → ((t : ℕ) → a / per_arrival ≤ t → per_arrival * t < b → (bit_at w t == 1) ≡ false) → IsBarrenFrom p s w a b
 from-missed p s a b w none = search rules
 
 -- each promotion but the first names a kind
-pub some_named : (n : ℕ) → 1 ≤ n → n < 7 → is_some (promotion_at n) ≡ true
+pub some_named : (n : ℕ) → 1 ≤ n → n < per_arrival → is_some (promotion_at n) ≡ true
 some_named n lo hi = grind (arith, agree_below_at)
 
 -- that is, one kind
@@ -114,67 +118,74 @@ pub named_by : (o : Option Kind) → is_some o ≡ true → (k : Kind) × (o ≡
 named_by o h = grind arith
 
 -- on another rank than the last there is no promotion
-pub from-unpromoted : (p : Position) (x : Man) (s z t a : ℕ) → man_on p.men s ≡ Some x → is_promoting x t ≡ false → 7 * t < a → IsBarrenFrom p s z a (7 * t + 7)
+pub from-unpromoted : (p : Position) (x : Man) (s z t a : ℕ) → man_on p.men s ≡ Some x → is_promoting x t ≡ false → per_arrival * t < a
+    → IsBarrenFrom p s z a (per_arrival * t + per_arrival)
 from-unpromoted p x s z t a here h lt = record {
   fails = λ rule k lo hi on.
-      let to : k / 7 ≡ t = omega arith in
-      let some = named_by (promotion_at (k % 7)) (some_named (k % 7) (omega arith) (omega arith)) in
-      no_promotion_here rule p x (record { from = s; to = k / 7; promo = promotion_at (k % 7) }) some.0 here some.1 (rw to h);
+      let to : k / per_arrival ≡ t = omega arith in
+      let some = named_by (promotion_at (k % per_arrival)) (some_named (k % per_arrival) (omega arith) (omega arith)) in
+      no_promotion_here rule p x (record { from = s; to = k / per_arrival; promo = promotion_at (k % per_arrival) }) some.0 here some.1 (rw to h);
 }
 
 -- on the last there is one
-from-promoted : (p : Position) (x : Man) (s z t : ℕ) → man_on p.men s ≡ Some x → is_promoting x t ≡ true → IsBarrenFrom p s z (7 * t) (7 * t + 1)
+from-promoted : (p : Position) (x : Man) (s z t : ℕ) → man_on p.men s ≡ Some x → is_promoting x t ≡ true
+    → IsBarrenFrom p s z (per_arrival * t) (per_arrival * t + 1)
 from-promoted p x s z t here h = record {
   fails = λ rule k lo hi on.
-      let to : k / 7 ≡ t = omega arith in
-      let first : k % 7 ≡ 0 = omega arith in
-      promotion_missing rule p x (record { from = s; to = k / 7; promo = promotion_at (k % 7) }) here (rw first refl) (rw to h);
+      let to : k / per_arrival ≡ t = omega arith in
+      let first : k % per_arrival ≡ 0 = omega arith in
+      promotion_missing rule p x (record { from = s; to = k / per_arrival; promo = promotion_at (k % per_arrival) }) here (rw first refl) (rw to h);
 }
 
 -- up to the first target
-pub from-target : (p : Position) (s start at t w : ℕ) → IsBarrenFrom p s w start at → IsFirst (λ q. bit_at w q == 1) (at / 7) (64 - at / 7) t
-    → IsBarrenFrom p s w start (7 * t)
+pub from-target : (p : Position) (s start at t w : ℕ) → IsBarrenFrom p s w start at
+    → IsFirst (λ q. bit_at w q == 1) (at / per_arrival) (64 - at / per_arrival) t
+    → IsBarrenFrom p s w start (per_arrival * t)
 from-target p s start at t w past f = search rules
 
 -- and past the move to it without a promotion, where a pawn arrives on its last rank
 pub from-first : (p : Position) (x : Man) (s start at t w n : ℕ) → man_on p.men s ≡ Some x → IsBarrenFrom p s w start at
-    → find (λ q. bit_at w q == 1) (range_with_len (at / 7) (64 - at / 7)) ≡ Some t → is_promoting x t ≡ true → n ≡ 7 * t → IsBarrenFrom p s w start (n + 1)
+    → find (λ q. bit_at w q == 1) (range_with_len (at / per_arrival) (64 - at / per_arrival)) ≡ Some t → is_promoting x t ≡ true → n ≡ per_arrival * t
+    → IsBarrenFrom p s w start (n + 1)
 from-first p x s start at t w n here past found last e = search (rules, from-join, from-target p s start, find_first, from-promoted p x s w t here last)
 
 -- up to the end, where there is none
-pub from-none : (p : Position) (s start at w : ℕ) → IsBarrenFrom p s w start at → find (λ q. bit_at w q == 1) (range_with_len (at / 7) (64 - at / 7)) ≡ None
-    → IsBarrenFrom p s w start 448
+pub from-none : (p : Position) (s start at w : ℕ) → IsBarrenFrom p s w start at
+    → find (λ q. bit_at w q == 1) (range_with_len (at / per_arrival) (64 - at / per_arrival)) ≡ None
+    → IsBarrenFrom p s w start per_origin
 from-none p s start at w past none =
-    from-join p s w start at 448 past (from-missed p s at 448 w (λ q lo hi. find_no (λ q. bit_at w q == 1) (at / 7) (64 - at / 7) q none lo (omega arith)))
+    from-join p s w start at per_origin past (from-missed p s at per_origin w
+    (λ q lo hi. find_no (λ q. bit_at w q == 1) (at / per_arrival) (64 - at / per_arrival) q none lo (omega arith)))
 
 -- another man than a pawn never arrives as one
 pub no_pawn_arrives : (x : Man) (t : ℕ) → same_kind x.kind Pawn ≡ false → is_promoting x t ≡ false
 no_pawn_arrives x t h = rw h refl
 
 -- a man that is no pawn has no other triple to a square than that without a promotion
-from-plain : (p : Position) (x : Man) (s a w : ℕ) → man_on p.men s ≡ Some x → same_kind x.kind Pawn ≡ false → IsBarrenFrom p s w a (7 * ((a + 6) / 7))
-from-plain p x s a w here h = elim (cases_eq (a % 7) 0) [
-  | inl e ↦ let at : 7 * ((a + 6) / 7) ≡ a = omega (arith, e) in rw at (from-empty p s w a)
+from-plain : (p : Position) (x : Man) (s a w : ℕ) → man_on p.men s ≡ Some x → same_kind x.kind Pawn ≡ false
+    → IsBarrenFrom p s w a (per_arrival * arrival_from a)
+from-plain p x s a w here h = elim (cases_eq (a % per_arrival) 0) [
+  | inl e ↦ let at : per_arrival * arrival_from a ≡ a = omega (arith, e) in rw at (from-empty p s w a)
   | inr ne ↦
-      let at : 7 * ((a + 6) / 7) ≡ 7 * (a / 7) + 7 = omega (arith, ne) in
-      rw at (from-unpromoted p x s w (a / 7) a here (no_pawn_arrives x (a / 7) h) (omega (arith, ne)))
+      let at : per_arrival * arrival_from a ≡ per_arrival * (a / per_arrival) + per_arrival = omega (arith, ne) in
+      rw at (from-unpromoted p x s w (a / per_arrival) a here (no_pawn_arrives x (a / per_arrival) h) (omega (arith, ne)))
 ]
 
 -- for another man than a pawn, up to the next target
 pub plain-target : (p : Position) (x : Man) (s start t w : ℕ) → man_on p.men s ≡ Some x → same_kind x.kind Pawn ≡ false
-    → IsFirst (λ q. bit_at w q == 1) ((start + 6) / 7) (64 - (start + 6) / 7) t
-    → IsBarrenFrom p s w start (7 * t)
+    → IsFirst (λ q. bit_at w q == 1) (arrival_from start) (64 - arrival_from start) t
+    → IsBarrenFrom p s w start (per_arrival * t)
 plain-target p x s start t w here h f = grind (arith, from-target, from-plain p x s start w here h)
 
 -- or to the end, where there is none
 pub plain-none : (p : Position) (x : Man) (s start w : ℕ) → man_on p.men s ≡ Some x → same_kind x.kind Pawn ≡ false
-    → find (λ q. bit_at w q == 1) (range_with_len ((start + 6) / 7) (64 - (start + 6) / 7)) ≡ None
-    → IsBarrenFrom p s w start 448
+    → find (λ q. bit_at w q == 1) (range_with_len (arrival_from start) (64 - arrival_from start)) ≡ None
+    → IsBarrenFrom p s w start per_origin
 plain-none p x s start w here h none = search (rules, from-none, from-plain p x s start w here h)
 
 -- the triple that is found
-pub named_at : (p : Position) (x : Man) (s t n w : ℕ) → man_on p.men s ≡ Some x → (bit_at w t == 1) ≡ true → n / 7 ≡ t
-    → is_some (promotion_at (n % 7)) ≡ is_promoting x t → IsNamed p s w n
+pub named_at : (p : Position) (x : Man) (s t n w : ℕ) → man_on p.men s ≡ Some x → (bit_at w t == 1) ≡ true → n / per_arrival ≡ t
+    → is_some (promotion_at (n % per_arrival)) ≡ is_promoting x t → IsNamed p s w n
 named_at p x s t n w here set at named = record { man = x; here = here; inside = rw at set; promotion = rw at named }
 
 -- the first promotion names no kind
@@ -183,7 +194,7 @@ none_named n e = rw e refl
 
 -- for another man than a pawn it is the one without a promotion
 pub plain-named : (p : Position) (x : Man) (s t w : ℕ) → man_on p.men s ≡ Some x → same_kind x.kind Pawn ≡ false → (bit_at w t == 1) ≡ true
-    → IsNamed p s w (7 * t)
+    → IsNamed p s w (per_arrival * t)
 plain-named p x s t w here h set = grind (arith, named_at, none_named, no_pawn_arrives)
 
 -- the word of all squares has each square

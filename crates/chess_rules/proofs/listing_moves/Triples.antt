@@ -1,6 +1,6 @@
 -- The triples: which moves they are, in which order they stand, and that each legal move is one of them.
 use Rattle.chess_rules.proofs.Basics.{AllPairs, Bool, Contains, List, Option, Some, [], and_parts, ap, arith, false≢true, flat_map, inl, inr, length, list_any, map, or_cases, range_with_len, refl, rules, suc, true, zero, ℕ, ◌+◌, ◌-◌, ◌<◌, ◌↔◌, ◌∷◌, ◌≡◌, ◌⊎◌}
-use Rattle.chess_rules.proofs.Chess.{Bishop, Colour, Grasshopper, Kind, King, Knight, Man, Move, Nightrider, Pawn, Position, Queen, Rook, RuleSet, Step, along, along-is, can_castle, gait_of, goes_by, hops, is_nil, is_promotion_right, is_pseudo_legal, is_square, kind_steps, leaps, man_on, may_castle, may_promote, promotions, reaches, reaches_as, reaches_of, rides, squares, triple_at, triples}
+use Rattle.chess_rules.proofs.Chess.{Bishop, Colour, Grasshopper, Kind, King, Knight, Man, Move, Nightrider, Pawn, Position, Queen, Rook, RuleSet, Step, all_triples, along, along-is, can_castle, gait_of, goes_by, hops, is_nil, is_promotion_right, is_pseudo_legal, is_square, kind_steps, leaps, man_on, may_castle, may_promote, promotions, reaches, reaches_as, reaches_of, rides, squares, triple_at, triples}
 use Rattle.chess_core.specs.declared.man.Gait.{Gait}
 use Rattle.chess_core.specs.declared.man.Gait.TheVariants.{Hopper, Leaper, Rider}
 use Rattle.chess_core.specs.MoveOrder.{promotion_order, order_number}
@@ -38,7 +38,7 @@ next_rises : (n : ℕ) → n < 28671 → order_number (triple_at n) < order_numb
 unfolding triple_at
 next_rises n less = search rules
 
-later_rises : (d n : ℕ) → n + suc d < 28672 → order_number (triple_at n) < order_number (triple_at (n + suc d))
+later_rises : (d n : ℕ) → n + suc d < all_triples → order_number (triple_at n) < order_number (triple_at (n + suc d))
 later_rises zero n less = let e : n + 1 ≡ n + suc zero = omega arith in rw (← e) (next_rises n (omega (arith, less)))
 later_rises (suc d) n less = grind (arith, next_rises, later_rises d n (omega (arith, less)))
 
@@ -54,9 +54,9 @@ range_rises a (suc n) =
 -- the triples stand in the order of their numbers
 pub triples_rise : AllPairs (λ m n. order_number m < order_number n) triples
 triples_rise =
-    rw triples_numbered (pairs_map (λ j k. (j < k) × (k < 0 + 28672)) (λ m n. order_number m < order_number n) triple_at (range_with_len 0 28672)
+    rw triples_numbered (pairs_map (λ j k. (j < k) × (k < 0 + all_triples)) (λ m n. order_number m < order_number n) triple_at (range_with_len 0 all_triples)
     (λ j k w. let e : j + suc (k - j - 1) ≡ k = omega (arith, w) in rw e at (later_rises (k - j - 1) j (omega (arith, w))))
-    (range_rises 0 28672))
+    (range_rises 0 all_triples))
 
 -- Each move that may be made goes from a square to a square, with one of the promotions or none.
 

@@ -1,6 +1,6 @@
 -- No move is missed by walking from candidate to candidate.
 use Rattle.chess_rules.proofs.Basics.{Bool, None, Some, and_right, ap, arith, bit_and, bit_at, bit_at-lt, bit_at-zero, bit_at_and, cases_Bool, cases_eq, cases_lt, eq-eqb, eqb-true, false, find, inl, inr, not, range_with_len, refl, rules, true, ℕ, ◌%◌, ◌*◌, ◌+◌, ◌-◌, ◌/◌, ◌<◌, ◌==◌, ◌≡◌, ◌≤◌}
-use Rattle.chess_rules.proofs.Chess.{AreCandidates, AreEvasionsFrom, AreOrigins, HaveNone, IsAimed, IsBarrenFrom, IsNamed, Move, Position, RuleSet, find_first, find_no, is_arrival, is_legal, is_pseudo_legal, promotion_at, side_of, triple_at, word}
+use Rattle.chess_rules.proofs.Chess.{all_triples, per_origin, AreCandidates, AreEvasionsFrom, AreOrigins, HaveNone, IsAimed, IsBarrenFrom, IsNamed, Move, Position, RuleSet, find_first, find_no, is_arrival, is_legal, is_pseudo_legal, promotion_at, side_of, triple_at, word}
 use Rattle.chess_rules.proofs.Bits.{word_has}
 use Rattle.chess_rules.proofs.listing_moves.Targeting.{arrival_needed, false_by, own_moves}
 use Rattle.chess_rules.specs.ties.Idle.{is_legal-idle}
@@ -38,26 +38,28 @@ module _ (rule : RuleSet) (p : Position) (test : Move → Bool) (needs : (m : Mo
   none-move s w m are at small h = search (rules, cases_Bool)
 
   -- of an origin's candidates none passes over a stretch without a move
-  pub none-from : (s w a b : ℕ) → b ≤ 448 → AreCandidates rule p test s w → IsBarrenFrom p s w a b → HaveNone test (448 * s + a) (448 * s + b)
+  pub none-from : (s w a b : ℕ) → b ≤ per_origin → AreCandidates rule p test s w → IsBarrenFrom p s w a b
+      → HaveNone test (per_origin * s + a) (per_origin * s + b)
   unfolding triple_at
   none-from s w a b le are h = record {
     fails = λ k lo hi.
-        let from : k / 448 ≡ s = omega (arith, lo, hi, le) in
-        let to : k / 7 % 64 ≡ (k - 448 * s) / 7 = omega (arith, lo, hi, le) in
-        let promo : k % 7 ≡ (k - 448 * s) % 7 = omega (arith, lo, hi, le) in
-        rw (from, to, promo) (none-move s w (record { from = s; to = (k - 448 * s) / 7; promo = promotion_at ((k - 448 * s) % 7) }) are refl
-        (omega (arith, hi, le)) (h.fails rule (k - 448 * s) (omega (arith, lo)) (omega (arith, lo, hi))));
+        let from : k / per_origin ≡ s = omega (arith, lo, hi, le) in
+        let to : k / per_arrival % 64 ≡ (k - per_origin * s) / per_arrival = omega (arith, lo, hi, le) in
+        let promo : k % per_arrival ≡ (k - per_origin * s) % per_arrival = omega (arith, lo, hi, le) in
+        let m : Move = record { from = s; to = (k - per_origin * s) / per_arrival; promo = promotion_at ((k - per_origin * s) % per_arrival) } in
+        rw (from, to, promo) (none-move s w m are refl
+        (omega (arith, hi, le)) (h.fails rule (k - per_origin * s) (omega (arith, lo)) (omega (arith, lo, hi))));
   }
 
   -- past one that fails too
-  pub none-onward : (s w z a b : ℕ) → b ≤ 448 → AreCandidates rule p test s w → HaveNone test (448 * s + z) (448 * s + a)
-      → test (triple_at (448 * s + a)) ≡ false → IsBarrenFrom p s w (a + 1) b → HaveNone test (448 * s + z) (448 * s + b)
+  pub none-onward : (s w z a b : ℕ) → b ≤ per_origin → AreCandidates rule p test s w → HaveNone test (per_origin * s + z) (per_origin * s + a)
+      → test (triple_at (per_origin * s + a)) ≡ false → IsBarrenFrom p s w (a + 1) b → HaveNone test (per_origin * s + z) (per_origin * s + b)
   none-onward s w z a b le are past fails here =
       let behind = none-from s w (a + 1) b le are here in
       record {
-        fails = λ k lo hi. elim (cases_lt k (448 * s + a)) [
+        fails = λ k lo hi. elim (cases_lt k (per_origin * s + a)) [
           | inl lt ↦ past.fails k lo lt
-          | inr ge ↦ elim (cases_eq k (448 * s + a)) [
+          | inr ge ↦ elim (cases_eq k (per_origin * s + a)) [
             | inl e ↦ rw e fails
             | inr ne ↦ behind.fails k (omega (arith, ge, ne)) hi
           ]
@@ -70,46 +72,46 @@ module _ (rule : RuleSet) (p : Position) (test : Move → Bool) (needs : (m : Mo
   own-origins o h = grind (arith, own_moves, word_has)
 
   -- none of the squares from the first one on and before the next origin is in the word
-  pub none-missed : (a b o : ℕ) → AreOrigins test o → b ≤ 28672 → ((s : ℕ) → a / 448 ≤ s → s < (b + 447) / 448 → (bit_at o s == 1) ≡ false)
+  pub none-missed : (a b o : ℕ) → AreOrigins test o → b ≤ all_triples → ((s : ℕ) → a / per_origin ≤ s → per_origin * s < b → (bit_at o s == 1) ≡ false)
       → HaveNone test a b
   unfolding triple_at
   none-missed a b o h le none = grind arith
 
   -- up to a triple of the next origin
   pub none-origin : (start number s a o n z : ℕ) → AreOrigins test o → HaveNone test start number
-      → find (λ q. bit_at o q == 1) (range_with_len (number / 448) (64 - number / 448)) ≡ Some s → n ≡ 448 * s → z ≡ number - n
-      → HaveNone test (448 * s + z) (448 * s + a) → HaveNone test start (n + a)
+      → find (λ q. bit_at o q == 1) (range_with_len (number / per_origin) (64 - number / per_origin)) ≡ Some s → n ≡ per_origin * s → z ≡ number - n
+      → HaveNone test (per_origin * s + z) (per_origin * s + a) → HaveNone test start (n + a)
   none-origin start number s a o n z h past found at off here =
-      let f = find_first (λ q. bit_at o q == 1) (number / 448) (64 - number / 448) s found in
-      rw at (elim (cases_lt (448 * s) number) [
+      let f = find_first (λ q. bit_at o q == 1) (number / per_origin) (64 - number / per_origin) s found in
+      rw at (elim (cases_lt (per_origin * s) number) [
         | inl lt ↦
-            let e : 448 * s + z ≡ number = omega (arith, lt, at, off) in
-            none-join start number (448 * s + a) past (rw e at here)
+            let e : per_origin * s + z ≡ number = omega (arith, lt, at, off) in
+            none-join start number (per_origin * s + a) past (rw e at here)
         | inr ge ↦
-            let e : 448 * s + z ≡ 448 * s = omega (arith, ge, at, off) in
-            let before = none-missed number (448 * s) o h (omega (arith, f.high, f.low)) (λ q lo hi. f.before q lo (omega (arith, hi))) in
-            none-join start (448 * s) (448 * s + a) (none-join start number (448 * s) past before) (rw e at here)
+            let e : per_origin * s + z ≡ per_origin * s = omega (arith, ge, at, off) in
+            let before = none-missed number (per_origin * s) o h (omega (arith, f.high, f.low)) (λ q lo hi. f.before q lo (omega (arith, hi))) in
+            none-join start (per_origin * s) (per_origin * s + a) (none-join start number (per_origin * s) past before) (rw e at here)
       ])
 
   -- up to the end, where there is none
   pub none-end : (start number o : ℕ) → AreOrigins test o → HaveNone test start number
-      → find (λ q. bit_at o q == 1) (range_with_len (number / 448) (64 - number / 448)) ≡ None → HaveNone test start 28672
+      → find (λ q. bit_at o q == 1) (range_with_len (number / per_origin) (64 - number / per_origin)) ≡ None → HaveNone test start all_triples
   none-end start number o h past none =
-      none-join start number 28672 past (none-missed number 28672 o h (omega arith)
-      (λ q lo hi. find_no (λ q. bit_at o q == 1) (number / 448) (64 - number / 448) q none lo (omega (arith, hi))))
+      none-join start number all_triples past (none-missed number all_triples o h (omega arith)
+      (λ q lo hi. find_no (λ q. bit_at o q == 1) (number / per_origin) (64 - number / per_origin) q none lo (omega (arith, hi))))
 
 -- the triple that is found
-pub aimed_from : (rule : RuleSet) (p : Position) (test : Move → Bool) (s w a : ℕ) → a < 448 → AreCandidates rule p test s w → IsNamed p s w a
-    → IsAimed rule p (triple_at (448 * s + a))
+pub aimed_from : (rule : RuleSet) (p : Position) (test : Move → Bool) (s w a : ℕ) → a < per_origin → AreCandidates rule p test s w → IsNamed p s w a
+    → IsAimed rule p (triple_at (per_origin * s + a))
 unfolding triple_at
 aimed_from rule p test s w a lt are named =
-    let from : (448 * s + a) / 448 ≡ s = omega (arith, lt) in
-    let to : (448 * s + a) / 7 % 64 ≡ a / 7 = omega (arith, lt) in
-    let promo : (448 * s + a) % 7 ≡ a % 7 = omega (arith, lt) in
+    let from : (per_origin * s + a) / per_origin ≡ s = omega (arith, lt) in
+    let to : (per_origin * s + a) / per_arrival % 64 ≡ a / per_arrival = omega (arith, lt) in
+    let promo : (per_origin * s + a) % per_arrival ≡ a % per_arrival = omega (arith, lt) in
     rw (from, to, promo) (record {
       man = named.man;
       here = named.here;
-      arrival = are.inside (a / 7) (omega (arith, lt)) named.inside;
+      arrival = are.inside (a / per_arrival) (omega (arith, lt)) named.inside;
       promotion =
           named.promotion;
     })

@@ -18,7 +18,7 @@ use Rattle.pop_events.specs.declared.event.Phase.TheVariants.{Play}
 use Rattle.pop_solve.specs.declared.phases.Stage.{Stage}
 use Rattle.pop_solve.specs.declared.phases.Stage.TheVariants.{Before, Barred, Within, Behind}
 use Rattle.pop_solve.specs.declared.plan.Plan.{Plan}
-use Rattle.pop_solve.specs.ties.Plans.{plan_of}
+use Rattle.pop_solve.specs.ties.Plans.{plan_of, walk_of}
 
 module _ {M : Type 0} where
   -- whether a path begins a solution: each line does, and each node above which none stands
@@ -51,22 +51,23 @@ phase_paths rule problem phase frames =
 unfoldable pub left_of : RuleSet → Posed → Stage → List Frame → List BareEvent
 left_of rule problem (Before phase) frames = events_from rule problem phase
 left_of rule problem Barred frames = impossible ∷ events_from rule problem Play
-left_of rule problem (Within phase count) frames =
-    let paths = phase_paths rule problem phase frames in
+left_of rule problem (Within walk count) frames =
+    let paths = phase_paths rule problem walk.phase frames in
     let limit = problem.max_solutions - count in
     let all = count + beginning_count (is_help problem.stipulation.form) limit paths in
-    map (path_event problem phase) (kept_paths (is_help problem.stipulation.form) limit paths)
+    map (path_event problem walk.phase) (kept_paths (is_help problem.stipulation.form) limit paths)
     ++ total all (all == problem.max_solutions)
-    ∷ (if is_set phase then events_from rule problem Play else [])
+    ∷ (if is_set walk.phase then events_from rule problem Play else [])
 left_of rule problem Behind frames = []
 
 -- what holds of board and frames at a stage
 unfoldable pub IsStanding : RuleSet → Posed → Stage → List Frame → Position → Type 0
 IsStanding rule problem (Before phase) frames board = (frames ≡ []) × (board ≡ play_start problem)
 IsStanding rule problem Barred frames board = (frames ≡ []) × (board ≡ play_start problem)
-IsStanding rule problem (Within phase count) frames board =
-    IsWalking rule (phase_half_moves problem phase) (phase_start problem phase) frames board
-    × (count ≤ problem.max_solutions)
+IsStanding rule problem (Within walk count) frames board =
+    IsWalking rule (phase_half_moves problem walk.phase) (phase_start problem walk.phase) frames
+    board
+    × (count ≤ problem.max_solutions) × (walk ≡ walk_of problem walk.phase)
 IsStanding rule problem Behind frames board = (frames ≡ []) × (board ≡ play_start problem)
 
 -- what walking on in a phase leaves, at most `limit` solutions being still to begin
@@ -100,19 +101,19 @@ pub record Gives (rule : RuleSet) (problem : Posed) (old new : List BareEvent) (
 unfoldable pub rest_open : RuleSet → Posed → Stage → List Frame → ℕ
 rest_open rule problem (Before phase) frames = walk_from rule problem phase
 rest_open rule problem Barred frames = walk_from rule problem Play
-rest_open rule problem (Within phase count) frames =
-    to_open rule (phase_start problem phase) frames
-    + (if is_set phase then walk_from rule problem Play else 0)
+rest_open rule problem (Within walk count) frames =
+    to_open rule (phase_start problem walk.phase) frames
+    + (if is_set walk.phase then walk_from rule problem Play else 0)
 rest_open rule problem Behind frames = 0
 
 -- the fewest positions that have still to be tried
 unfoldable pub rest_fewest : RuleSet → Posed → Stage → List Frame → ℕ
 rest_fewest rule problem (Before phase) frames = fewest_from rule problem phase
 rest_fewest rule problem Barred frames = fewest_from rule problem Play
-rest_fewest rule problem (Within phase count) frames =
-    fewest_left rule (plan_of problem) (phase_half_moves problem phase) (phase_start problem phase)
-    frames
-    + (if is_set phase then fewest_from rule problem Play else 0)
+rest_fewest rule problem (Within walk count) frames =
+    fewest_left rule (plan_of problem) (phase_half_moves problem walk.phase)
+    (phase_start problem walk.phase) frames
+    + (if is_set walk.phase then fewest_from rule problem Play else 0)
 rest_fewest rule problem Behind frames = 0
 
 -- the play of a battle, whose keys alone are shown
@@ -127,9 +128,9 @@ unfoldable pub IsNarrow : Posed → Stage → List Frame → Type 0
 IsNarrow problem (Before phase) frames = (play_of problem.stipulation.form ≡ HelpPlay)
     ⊎ IsKeys problem phase
 IsNarrow problem Barred frames = play_of problem.stipulation.form ≡ HelpPlay
-IsNarrow problem (Within phase count) frames =
+IsNarrow problem (Within walk count) frames =
     (play_of problem.stipulation.form ≡ HelpPlay)
-    ⊎ ((keys : IsKeys problem phase) × (are_whites keys.battle frames ≡ true))
+    ⊎ ((keys : IsKeys problem walk.phase) × (are_whites keys.battle frames ≡ true))
 IsNarrow problem Behind frames = Unit {0}
 
 -- what a call opens, `left` being the events still to come before it

@@ -4,6 +4,9 @@ use Rattle.pop_input.specs.Posed.{Posed}
 use Rattle.pop_solve.specs.Plays.{play_of}
 use Rattle.pop_solve.specs.declared.aim.Play.{Play}
 use Rattle.pop_solve.specs.declared.aim.Play.TheVariants.{Help as HelpPlay, Battle as BattlePlay}
+use Rattle.pop_events.specs.declared.event.Phase.{Phase}
+use Rattle.pop_solve.specs.Events.{phase_half_moves}
+use Rattle.pop_solve.specs.declared.phases.Walk.{Walk}
 use Rattle.pop_solve.specs.declared.plan.Plan.{Plan}
 use Rattle.pop_solve.specs.declared.plan.Tree.{Tree}
 use Rattle.pop_solve.specs.declared.plan.Tree.TheVariants.{Keys, Variations}
@@ -24,6 +27,14 @@ plan_of problem = record {
   play = play_of problem.stipulation.form;
   goal = problem.stipulation.goal;
   tree = tree_with problem.variation;
+}
+
+-- how a phase of it is walked
+abbrev pub walk_of : Posed → Phase → Walk
+walk_of problem phase = record {
+  phase = phase;
+  plan = plan_of problem;
+  half_moves = phase_half_moves problem phase;
 }
 
 -- both sides help

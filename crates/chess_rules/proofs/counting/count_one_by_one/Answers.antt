@@ -1,12 +1,12 @@
 use Rattle.chess_rules.proofs.Basics.{arith, refl, sym, ◌*◌, ◌+◌, ◌∙◌, ◌≡◌}
-use Rattle.chess_rules.proofs.Chess.{is_legal}
+use Rattle.chess_rules.proofs.Chess.{is_legal, per_origin}
 use Rattle.chess_rules.proofs.listing_moves.Counting.{count_barren, count_here}
 use Rattle.chess_rules.proofs.listing_moves.Walks.{aimed_from}
 use Rattle.chess_rules.proofs.counting.count_one_by_one.Goals as goal
 
 pub is_legal-requires-clause-aimed : goal.is_legal-requires-clause-aimed
 is_legal-requires-clause-aimed g c =
-    let at : c.from-first.result * 448 ≡ 448 * c.args.from = omega (arith, c.from-first.ensures, c.index.ensures.value) in
+    let at : c.from-first.result * per_origin ≡ per_origin * c.args.from = omega (arith, c.from-first.ensures, c.index.ensures.value) in
     rw (c.loop-at.invariant.board, c.triple-m.ensures, at) (aimed_from g.R.Rules.rule c.args.board.now (is_legal g.R.Rules.rule c.args.board.now)
     c.args.from c.args.squares c.loop-at.at (omega arith) c.requires.squares (c.loop-at.invariant.named (omega arith)))
 
@@ -15,8 +15,8 @@ loop-at-preserved g c =
     let rule = g.R.Rules.rule in
     let p = c.args.board.now in
     let s = c.args.from in
-    let end = 448 * s + c.args.end in
-    let at : c.from-first.result * 448 ≡ 448 * s = omega (arith, c.from-first.ensures, c.index.ensures.value) in
+    let end = per_origin * s + c.args.end in
+    let at : c.from-first.result * per_origin ≡ per_origin * s = omega (arith, c.from-first.ensures, c.index.ensures.value) in
     let answer = rw (c.loop-at.invariant.board, c.triple-m.ensures, at) at c.is_legal.ensures.answer in
     let next = rw (c.is_legal.ensures.board, c.loop-at.invariant.board) at c.next_from-at-in-loop-at.ensures in
     record {

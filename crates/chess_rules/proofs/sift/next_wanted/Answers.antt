@@ -1,3 +1,4 @@
+use Rattle.chess_rules.specs.ties.Places.{per_origin}
 use Rattle.chess_rules.proofs.Basics.{and_left, arith, refl, sym, ◌*◌, ◌+◌, ◌∙◌, ◌≡◌}
 use Rattle.chess_rules.proofs.listing_moves.Walks.{aimed_from, none-from, none-onward}
 use Rattle.chess_rules.proofs.sift.next_wanted.Goals as goal
@@ -8,7 +9,7 @@ pub is_legal-requires-clause-aimed : goal.is_legal-requires-clause-aimed
 is_legal-requires-clause-aimed g c =
     let rule = g.R.Rules.rule in
     let p = c.args.board.now in
-    let at : c.from-first.result * 448 ≡ 448 * c.args.from = omega (arith, c.from-first.ensures, c.index.ensures.value) in
+    let at : c.from-first.result * per_origin ≡ per_origin * c.args.from = omega (arith, c.from-first.ensures, c.index.ensures.value) in
     rw (c.loop-at.invariant.board, c.triple-m.ensures, at) (aimed_from rule p (is_wanted rule p (g.S.Sift.test rule p)) c.args.from c.args.squares c.loop-at.at
     (omega arith) c.requires.squares (c.loop-at.invariant.named (omega arith)))
 
@@ -30,7 +31,7 @@ pub loop-at-preserved : goal.loop-at-preserved
 loop-at-preserved g c =
     let rule = g.R.Rules.rule in
     let p = c.args.board.now in
-    let at : c.from-first.result * 448 ≡ 448 * c.args.from = omega (arith, c.from-first.ensures, c.index.ensures.value) in
+    let at : c.from-first.result * per_origin ≡ per_origin * c.args.from = omega (arith, c.from-first.ensures, c.index.ensures.value) in
     let answer = rw (c.loop-at.invariant.board, c.triple-m.ensures, at) at c.is_legal.ensures.answer in
     let next = rw (c.is_legal.ensures.board, c.loop-at.invariant.board) at c.next_from-at-in-loop-at.ensures in
     record {

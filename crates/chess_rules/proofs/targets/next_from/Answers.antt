@@ -1,5 +1,5 @@
 use Rattle.chess_rules.proofs.Basics.{arith, bit_at, rules, sym, ◌%◌, ◌*◌, ◌+◌, ◌-◌, ◌/◌, ◌==◌, ◌∙◌, ◌≡◌}
-use Rattle.chess_rules.proofs.Chess.{find_first}
+use Rattle.chess_rules.proofs.Chess.{find_first, per_arrival}
 use Rattle.chess_rules.proofs.listing_moves.Targeting.{from-join, from-nobody, from-none, from-target, from-unpromoted, named_at, none_named, some_named, from-first}
 use Rattle.chess_rules.proofs.targets.next_from.Goals as goal
 
@@ -8,7 +8,7 @@ returns-in_default-clause-barren c = search (rules, from-nobody)
 
 pub returns-then-at-first-clause-barren : goal.returns-then-at-first-clause-barren
 returns-then-at-first-clause-barren c =
-    from-first c.args.board.now c.in-Some.man c.args.from c.args.start c.loop-to.at c.in-Some-next_bit.to c.args.word (c.from-first.result * 7)
+    from-first c.args.board.now c.in-Some.man c.args.from c.args.start c.loop-to.at c.in-Some-next_bit.to c.args.word (c.from-first.result * per_arrival)
     (sym c.man_at.ensures ∙ c.in-Some.is) c.loop-to.invariant.barren (sym c.next_bit.ensures.value ∙ c.in-Some-next_bit.is)
     (sym c.is_promoting.ensures ∙ c.if-is_promoting.true) (omega (arith, c.from-first.ensures, c.index.ensures.value))
 
@@ -18,14 +18,15 @@ returns-then-at-first-2-clause-barren c = search (rules, find_first, from-target
 pub loop-to-preserved : goal.loop-to-preserved
 loop-to-preserved c =
     let t = c.in-Some-next_bit.to in
-    let at : c.from-first.result * 7 ≡ 7 * t = omega (arith, c.from-first.ensures, c.index.ensures.value) in
+    let at : c.from-first.result * per_arrival ≡ per_arrival * t = omega (arith, c.from-first.ensures, c.index.ensures.value) in
     let first =
-    find_first (λ s. bit_at c.args.word s == 1) (c.loop-to.at / 7) (64 - c.loop-to.at / 7) t (sym c.next_bit.ensures.value ∙ c.in-Some-next_bit.is) in
+    find_first (λ s. bit_at c.args.word s == 1) (c.loop-to.at / per_arrival) (64 - c.loop-to.at / per_arrival) t
+    (sym c.next_bit.ensures.value ∙ c.in-Some-next_bit.is) in
     record {
       low = omega (arith, c.loop-to.invariant.low, first.low);
       high = omega (arith, c.from-first.ensures, c.index.ensures.small);
       barren =
-          rw at (from-join c.args.board.now c.args.from c.args.word c.args.start c.loop-to.at (7 * t + 7) c.loop-to.invariant.barren
+          rw at (from-join c.args.board.now c.args.from c.args.word c.args.start c.loop-to.at (per_arrival * t + per_arrival) c.loop-to.invariant.barren
           (from-unpromoted c.args.board.now c.in-Some.man c.args.from c.args.word t c.loop-to.at (sym c.man_at.ensures ∙ c.in-Some.is)
           (sym c.is_promoting.ensures ∙ c.if-is_promoting.false) (omega arith)));
     }
@@ -43,8 +44,9 @@ pub returns-then-at-first-2-clause-named : goal.returns-then-at-first-2-clause-n
 returns-then-at-first-2-clause-named c lt =
     let t = c.in-Some-next_bit.to in
     let first =
-    find_first (λ s. bit_at c.args.word s == 1) (c.loop-to.at / 7) (64 - c.loop-to.at / 7) t (sym c.next_bit.ensures.value ∙ c.in-Some-next_bit.is) in
-    let at : c.from-first.result * 7 ≡ 7 * t = omega (arith, c.from-first.ensures, c.index.ensures.value) in
-    named_at c.args.board.now c.in-Some.man c.args.from t (c.from-first.result * 7) c.args.word (sym c.man_at.ensures ∙ c.in-Some.is) first.here
+    find_first (λ s. bit_at c.args.word s == 1) (c.loop-to.at / per_arrival) (64 - c.loop-to.at / per_arrival) t
+    (sym c.next_bit.ensures.value ∙ c.in-Some-next_bit.is) in
+    let at : c.from-first.result * per_arrival ≡ per_arrival * t = omega (arith, c.from-first.ensures, c.index.ensures.value) in
+    named_at c.args.board.now c.in-Some.man c.args.from t (c.from-first.result * per_arrival) c.args.word (sym c.man_at.ensures ∙ c.in-Some.is) first.here
     (omega (arith, at))
-    (none_named (c.from-first.result * 7 % 7) (omega (arith, at)) ∙ sym (sym c.is_promoting.ensures ∙ c.if-is_promoting.false))
+    (none_named (c.from-first.result * per_arrival % per_arrival) (omega (arith, at)) ∙ sym (sym c.is_promoting.ensures ∙ c.if-is_promoting.false))

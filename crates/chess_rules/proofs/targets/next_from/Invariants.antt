@@ -1,13 +1,13 @@
 use Rattle.chess_rules.proofs.Basics.{◌-◌, ◌≤◌}
-use Rattle.chess_rules.proofs.Chess.{IsBarrenFrom}
+use Rattle.chess_rules.proofs.Chess.{IsBarrenFrom, per_origin}
 use Rattle.chess_rules.proofs.targets.next_from.Given as goal
 
 abbrev pub invariant-loop-to : goal.invariant-loop-to
 invariant-loop-to l = record {
   low : l.fn.start ≤ l.at;
-  high : l.at ≤ 448;
+  high : l.at ≤ per_origin;
   barren : IsBarrenFrom l.board l.fn.from l.fn.word l.fn.start l.at;
 }
 
 abbrev pub decreases-loop-to : goal.decreases-loop-to
-decreases-loop-to l = 448 - l.at
+decreases-loop-to l = per_origin - l.at

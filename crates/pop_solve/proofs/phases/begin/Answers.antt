@@ -1,4 +1,4 @@
-use Rattle.pop_solve.proofs.Words.{arith, Bool, IsStanding, false, not, refl, rules, true, ◌≡◌}
+use Rattle.pop_solve.proofs.Words.{arith, ap, Bool, Walk, IsStanding, false, not, refl, rules, true, ◌≡◌}
 use Rattle.pop_solve.proofs.Walking as walking
 use Rattle.pop_solve.proofs.Events as events
 use Rattle.pop_solve.proofs.Opened as opened
@@ -20,8 +20,8 @@ pub returns-clause-standing : goal.returns-clause-standing
 unfolding IsStanding
 returns-clause-standing g c =
     let set = rw c.if-not-set_up.false at c.set_up.ensures.board in
-    rw (c.push-2.ensures.items, walking.reverse-push, c.requires.standing.0)
-    (events.standing-begun g.R.Rules.rule c.args.problem.now c.args.phase _ _ c.phase_half_moves-left.ensures refl set
+    rw (c.of-walk.ensures, c.push-2.ensures.items, walking.reverse-push, c.requires.standing.0)
+    (events.standing-begun g.R.Rules.rule c.args.problem.now c.args.phase _ _ (ap (λ (w : Walk). w.half_moves) c.of-walk.ensures) refl set
     (rw set (start_sound c.args.problem.now c.requires.sound c.args.phase)))
 
 pub returns-clause-left : goal.returns-clause-left
@@ -33,7 +33,7 @@ returns-then-not-set_up-clause-opens g c = search (rules, opened.opens-barred, b
 
 pub returns-clause-opens : goal.returns-clause-opens
 unfolding IsStanding
-returns-clause-opens g c = rw (c.push-2.ensures.items, walking.reverse-push, c.requires.standing.0)
-    (opened.opens-begun g.R.Rules.rule c.args.problem.now c.requires.sound c.args.phase _ c.phase_half_moves-left.ensures c.start.ensures
+returns-clause-opens g c = rw (c.of-walk.ensures, c.push-2.ensures.items, walking.reverse-push, c.requires.standing.0)
+    (opened.opens-begun g.R.Rules.rule c.args.problem.now c.requires.sound c.args.phase _ (ap (λ (w : Walk). w.half_moves) c.of-walk.ensures) c.start.ensures
     (open_yet _ _ c.set_up.ensures.possible c.if-not-set_up.false) _ _ _ _
     (λ some. c.opened_after-history.ensures.more some refl) c.opened_after-history.ensures.none)

@@ -2,12 +2,13 @@ use Rattle.pop_solve.proofs.Words.{IsWalking, Opens, Tries, phase_start, reverse
 use Rattle.pop_solve.proofs.phases.walk_on.Given as goal
 
 abbrev pub invariant-loop-frames : goal.invariant-loop-frames
-invariant-loop-frames g l = IsWalking g.R.Rules.rule l.half_moves (phase_start l.problem l.fn.phase) (reverse l.frames.items) l.board
-    × (to_come g.R.Rules.rule l.plan l.half_moves (phase_start l.problem l.fn.phase) (reverse l.fn.frames.items)
-    ≡ to_come g.R.Rules.rule l.plan l.half_moves (phase_start l.problem l.fn.phase) (reverse l.frames.items))
-    × Opens g.R.Rules.rule l.plan (phase_start l.problem l.fn.phase) (reverse l.fn.frames.items) (reverse l.frames.items) l.fn.history.opened l.history.opened
-    × Tries g.R.Rules.rule l.plan l.half_moves (phase_start l.problem l.fn.phase) (reverse l.fn.frames.items)
+invariant-loop-frames g l = IsWalking g.R.Rules.rule l.fn.walk.half_moves (phase_start l.problem l.fn.walk.phase) (reverse l.frames.items) l.board
+    × (to_come g.R.Rules.rule l.fn.walk.plan l.fn.walk.half_moves (phase_start l.problem l.fn.walk.phase) (reverse l.fn.frames.items)
+    ≡ to_come g.R.Rules.rule l.fn.walk.plan l.fn.walk.half_moves (phase_start l.problem l.fn.walk.phase) (reverse l.frames.items))
+    × Opens g.R.Rules.rule l.fn.walk.plan (phase_start l.problem l.fn.walk.phase) (reverse l.fn.frames.items) (reverse l.frames.items)
+    l.fn.history.opened l.history.opened
+    × Tries g.R.Rules.rule l.fn.walk.plan l.fn.walk.half_moves (phase_start l.problem l.fn.walk.phase) (reverse l.fn.frames.items)
     (reverse l.frames.items) l.fn.history.opened l.history.opened
 
 abbrev pub decreases-loop-frames : goal.decreases-loop-frames
-decreases-loop-frames g l = walk_work g.R.Rules.rule l.half_moves (phase_start l.problem l.fn.phase) (reverse l.frames.items)
+decreases-loop-frames g l = walk_work g.R.Rules.rule l.fn.walk.half_moves (phase_start l.problem l.fn.walk.phase) (reverse l.frames.items)
