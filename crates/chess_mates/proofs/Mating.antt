@@ -1,4 +1,5 @@
 -- The moves that mate, by their numbers.
+use Rattle.chess_rules.specs.ties.Places.{all_triples}
 use Rattle.chess_rules.proofs.Basics.{[], and_left, and_right, arith, cases_Bool, false, not, refl, rules, sym, true, ℕ, ◌&&◌, ◌+◌, ◌<◌, ◌∙◌, ◌∷◌, ◌≡◌, ◌≤◌}
 use Rattle.chess_mates.proofs.Chess.{HaveNone, Move, Position, RuleSet, position_after_by, first_of_and, in_check, is_legal, is_mate, is_mating, is_pseudo_legal, mates, mates_behind, other, position_after, second_of_and, triple_at}
 use Rattle.chess_rules.proofs.listing_moves.Places.{moves_behind-end, moves_behind-here}

@@ -16,7 +16,7 @@ use crate::legal_moves::Known;
 use crate::moves::triple;
 use crate::rules::Rules;
 use crate::shields::fairy_lines;
-use crate::targets::{PER_ORIGIN, next_from};
+use crate::targets::{PER_ARRIVAL, PER_ORIGIN, next_from};
 use crate::words::{contains, only};
 use chess_core::board::Board;
 use chess_core::man::{Colour, Kind, Man};
