@@ -50,9 +50,9 @@ pawn_home_on c s k w home only t r file h =
     ∙ ap (λ (o : Option ℕ). is_square o r) (ap (λ (f : ℕ). square_at f k) (sym file) ∙ sym (home t) ∙ h) ∙ eq-eqb r r refl
 
 -- for `homes_on`: men of the kind, pawns apart
-pub homes_are : (men : List (Option Man)) (c : Colour) (k : Kind) (w : ℕ) → same_kind k Pawn ≡ false
+pub homes_are : (men : List (Option Man)) (c : Colour) (k : Kind) (w : ℕ)
     → ((t r : ℕ) → rebirth c k t ≡ Some r → (bit_at w r == 1) ≡ true) → AreHomesOf men c k w
-homes_are men c k w piece h = record {
+homes_are men c k w h = record {
   homes = λ s r z small here mine kind home. h home.square r (rw (mine, kind) at home.reborn);
 }
 

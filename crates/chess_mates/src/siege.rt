@@ -632,6 +632,7 @@ fn pawn_homes(colour: Colour, pawns: Squares) -> Squares
 }
 
 // The squares on which men of the kind may be reborn, if the colour has any.
+#[tactic(auto, using(crate::proofs::Homes::homes_are, crate::proofs::Homes::no_homes_are, crate::proofs::Homes::pawn_homes_are))]
 fn homes_on(board: &Board, colour: Colour, kind: Kind) -> Squares
     ensures { AreHomesOf board.now.men colour kind result }
 {
@@ -646,6 +647,7 @@ fn homes_on(board: &Board, colour: Colour, kind: Kind) -> Squares
 }
 
 // The squares on which men of the colour may be reborn.
+#[tactic(auto, using(crate::proofs::Homes::all_homes))]
 fn home_squares(board: &Board, colour: Colour) -> Squares
     ensures { AreHomes board.now.men colour result }
 {

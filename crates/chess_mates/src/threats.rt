@@ -161,8 +161,9 @@ impl Threats {
         can_be_told::<R>(board) && is_of::<R>(&self.siege, board)
     }
 
-    /// Those of the squares that the man on `from` mustn't come to lest a reply may mate. So he mustn't where kings castle
-    /// or capture, and where a pawn captures en passant or might be captured so.
+    /// Those of the squares that the man on `from` mustn't come to by a legal move lest a reply may mate. So he mustn't where
+    /// kings castle or capture, where a pawn captures en passant or might be captured so, and in Circe where anybody captures
+    /// or is promoted. What is told for the question is kept for the next ones.
     pub fn risky_squares<R: Rules>(
         &mut self,
         board: &Board,

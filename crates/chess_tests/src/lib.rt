@@ -11,6 +11,8 @@ mod compared;
 #[cfg(test)]
 mod count;
 #[cfg(test)]
+mod defended;
+#[cfg(test)]
 mod draw;
 #[cfg(test)]
 mod family;

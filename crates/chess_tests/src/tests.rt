@@ -2,5 +2,6 @@
 mod agreements;
 mod by_hand;
 mod counts;
+mod defences;
 mod positions;
 mod surveys;

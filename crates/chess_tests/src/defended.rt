@@ -1,0 +1,78 @@
+//! Positions before a defence in Circe: whether a mate follows a move after which none is told to.
+ghost use Rattle.std.specs.Prelude.{◌≡◌};
+ghost use Rattle.chess_core.specs.WellFormed.{IsWellFormed};
+
+use crate::draw::Draw;
+use crate::family::Family;
+use crate::plain::{Plain, Rule};
+use chess_core::{Board, Move};
+use chess_mates::threats::Threats;
+use chess_rules::{Circe, Moves};
+
+// What is told of the moves in the positions of a family.
+#[derive(Clone, Copy)]
+pub(crate) struct Defences {
+    // The number of the first position in which a mate follows a move after which none is told to.
+    pub(crate) wrong: Option<u64>,
+    // How many moves are told to be followed by none.
+    pub(crate) told: u32,
+}
+
+// Asks for so many positions of the family, the other side to move.
+pub(crate) fn defended(family: Family, count: u64) -> Defences {
+    let mut defences = Defences {
+        wrong: None,
+        told: 0,
+    };
+    for number in 0..count {
+        let mut diagram = family.diagram(&mut Draw::of(number));
+        diagram.turn = diagram.turn.other();
+        diagram.crossed = None;
+        if diagram.is_well_formed() {
+            let mut board = Board::of(&diagram);
+            if is_told_wrong(&mut board, &mut defences.told) {
+                defences.wrong = Some(number);
+                return defences;
+            }
+        }
+    }
+    defences
+}
+
+// Whether a mate follows one of the moves after which none is told to. The others told so are counted.
+fn is_told_wrong(board: &mut Board, told: &mut u32) -> bool
+    requires { IsWellFormed board.old }
+{
+    let plain = Plain::of(board);
+    let Some(king) = board.king_of(board.turn()) else {
+        return false;
+    };
+    if !Threats::are_told::<Circe>(board) {
+        return false;
+    }
+    let threats = Threats::of::<Circe>(board, king);
+    let mut place = Moves::<Circe>::start();
+    while let Some(m) = place.next(board) {
+        if threats.rule_out_mate::<Circe>(board, &m) {
+            if is_followed_by_mate(&plain, &m) {
+                return true;
+            }
+            *told = told.saturating_add(1);
+        }
+    }
+    false
+}
+
+// Whether some reply to the move mates, by the plain rules.
+fn is_followed_by_mate(plain: &Plain, m: &Move) -> bool {
+    let after = plain.after(Rule::Circe, m);
+    let replies = after.moves_but_for_check(Rule::Circe);
+    for reply in replies.as_slice() {
+        if after.is_legal(Rule::Circe, reply)
+            && after.after(Rule::Circe, reply).is_mate(Rule::Circe)
+        {
+            return true;
+        }
+    }
+    false
+}
