@@ -50,7 +50,9 @@ left_now men a o b z q ne h =
 -- every other square is as it was
 pub kept_now : (men : List (Option Man)) (a : ℕ) (o : Option ℕ) (b : ℕ) (z : Man) (q : ℕ) → q ≢ b → (is_square (Some a) q || is_square o q) ≡ false
     → man_on (gone_to men a o b z) q ≡ man_on men q
-kept_now men a o b z q ne h = search (rules, kept_at, man_on-with_other, or_parts)
+kept_now men a o b z q ne h =
+    let off = or_parts (is_square (Some a) q) (is_square o q) h in
+    man_on-with_other (without_at (without_man men a) o) b q z ne ∙ kept_at (without_man men a) o q off.1 ∙ kept_at men (Some a) q off.0
 
 is_gone : (h l t : Bool) → l ≡ true → t ≡ false → ((h && not l) || t) ≡ false
 is_gone h l t p q = grind arith
