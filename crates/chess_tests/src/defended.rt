@@ -50,7 +50,7 @@ fn is_told_wrong(board: &mut Board, told: &mut u32) -> bool
     if !Threats::are_told::<Circe>(board) {
         return false;
     }
-    let threats = Threats::of::<Circe>(board, king);
+    let mut threats = Threats::of::<Circe>(board, king);
     let mut place = Moves::<Circe>::start();
     while let Some(m) = place.next(board) {
         if threats.rule_out_mate::<Circe>(board, &m) {
