@@ -822,13 +822,16 @@ fn risky_among(siege: &Siege, steps: Squares) -> Squares
     risky
 }
 
+// Whether fewer steps are legal isn't asked: they are told at once.
+const FEW_STEPS: u32 = 3;
+
 // The steps but for those to an empty square that an attacker reaches: they are illegal, unless attackers may stand still.
 #[tactic(auto, using(crate::proofs::Barring::barred_is))]
 fn unbarred_steps<R: Rules>(siege: &Siege, steps: Squares) -> Squares
     ensures { (t : ℕ) → t < 64 → (bit_at steps t == 1) ≡ true
         → (bit_at result t == 1) ≡ false → IsBarred R.rule siege.now t }
 {
-    if steps == 0 || R::faced_men_stand_still() {
+    if steps.count_ones() < FEW_STEPS || R::faced_men_stand_still() {
         return steps;
     }
     let ridden = ridden_squares(siege.hurdles, &siege.men, steps);
