@@ -13,7 +13,8 @@ ghost use Rattle.chess_rules.specs.ties.Targets.{may_go};
 
 use crate::open_board::capturers_before;
 use crate::siege::{
-    LAST_RANKS, Risk, RiskBehind, Siege, ToldSteps, critical_from, is_of, kept_risky_steps, risk_of_siege, siege_of,
+    LAST_RANKS, Risk, RiskBehind, Siege, ToldSteps, critical_from, is_of, kept_risky_steps,
+    risk_of_siege, siege_of,
 };
 use chess_core::board::Board;
 use chess_core::man::{Colour, Kind, Man, Move};

@@ -3,7 +3,7 @@ use Rattle.std.proofs.Common.{◌≡◌, ℕ, ◌-◌, ◌/◌, ◌%◌, ◌^◌
 use Rattle.std.specs.Prelude.{◌==◌, ◌&&◌}
 use Rattle.std.specs.Int.{bit_at}
 use Rattle.std.specs.List.{range_with_len}
-use Rattle.chess_rules.specs.ties.Places.{per_origin, IsBarrenFrom, moves_between, per_arrival, promotion_at, triple_at}
+use Rattle.chess_rules.specs.ties.Places.{IsBarrenFrom, moves_between, per_arrival, promotion_at, triple_at}
 use Rattle.std.proofs.lemmas.Bool.{agree_below_at, and_from, cases_lt, true_from_ne_false, true≢false, false≢true}
 use Rattle.chess_core.specs.Castling.{none_unmoved, has_unmoved, mark_unmoved, with_unmoved}
 use Rattle.chess_core.specs.Position.{Position, is_man, is_of_colour, king_square, man_on, may_promote, without_man}

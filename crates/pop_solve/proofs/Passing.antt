@@ -1,7 +1,6 @@
 -- Moves that are passed over since no reply to them mates.
-use Rattle.pop_solve.proofs.Words.{AreSettled, IfSome, IsNextUnsettled, IsSifted, IsWellFormed, MatchOption, Move, None, Option, Passes, Position, RuleSet, Some, [], allows_mate, ap, append-nil, append_assoc, arith, false, filter, filter-append, from_map, inl, inr, is_legal, is_pseudo_legal-from_legal, length, length-append, mates_behind, min, moves_behind, moves_behind-end, moves_behind-here, moves_between, place_of_triple, range_with_len, refl, sym, true, ℕ, ◌++◌, ◌+◌, ◌-◌, ◌<◌, ◌^◌, ◌∙◌, ◌∷◌, ◌≡◌}
-use Rattle.std.proofs.lemmas.Bool.{cases_lt}
-use Rattle.chess_rules.proofs.listing_moves.Between.{behind_cut, between-past}
+use Rattle.pop_solve.proofs.Words.{AreSettled, IfSome, IsNextUnsettled, IsSifted, IsWellFormed, MatchOption, Move, None, Option, Passes, Position, RuleSet, Some, [], allows_mate, append-nil, append_assoc, arith, false, filter, filter-append, from_map, is_legal, is_pseudo_legal-from_legal, length, length-append, mates_behind, min, moves_behind, moves_behind-end, moves_behind-here, place_of_triple, range_with_len, refl, sym, true, ℕ, ◌++◌, ◌+◌, ◌-◌, ◌<◌, ◌^◌, ◌∙◌, ◌∷◌, ◌≡◌}
+use Rattle.chess_rules.proofs.listing_moves.Between.{behind_cut}
 use Rattle.chess_rules.proofs.listing_moves.Members.{from_range}
 use Rattle.chess_rules.proofs.listing_moves.Places.{triples_numbered}
 use Rattle.chess_rules.proofs.listing_moves.Triples.{in_triples, made_is_triple}

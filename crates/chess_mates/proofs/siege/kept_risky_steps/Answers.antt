@@ -1,4 +1,4 @@
-use Rattle.chess_rules.proofs.Basics.{arith, bit_at, true, ◌==◌, ◌≡◌}
+use Rattle.chess_rules.proofs.Basics.{arith, ◌≡◌}
 use Rattle.chess_rules.specs.RuleSet.{faced_men_stand_still}
 use Rattle.chess_mates.proofs.siege.kept_risky_steps.Goals as goal
 

@@ -1,4 +1,4 @@
-use Rattle.chess_rules.proofs.Basics.{arith, bit_at, refl, rules, sym, ◌*◌, ◌+◌, ◌-◌, ◌/◌, ◌==◌, ◌∙◌, ◌≡◌}
+use Rattle.chess_rules.proofs.Basics.{arith, bit_at, refl, sym, ◌*◌, ◌+◌, ◌-◌, ◌/◌, ◌==◌, ◌∙◌, ◌≡◌}
 use Rattle.chess_rules.proofs.Chess.{per_origin, find_first}
 use Rattle.chess_rules.proofs.listing_moves.Counting.{few_between, none_left, passed_all, passed_on}
 use Rattle.chess_rules.proofs.listing_moves.Sifting.{wanted_origins}

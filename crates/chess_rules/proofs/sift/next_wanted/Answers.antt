@@ -1,5 +1,5 @@
 use Rattle.chess_rules.specs.ties.Places.{per_origin}
-use Rattle.chess_rules.proofs.Basics.{and_left, arith, refl, sym, ◌*◌, ◌+◌, ◌∙◌, ◌≡◌}
+use Rattle.chess_rules.proofs.Basics.{and_left, arith, refl, sym, ◌*◌, ◌∙◌, ◌≡◌}
 use Rattle.chess_rules.proofs.listing_moves.Walks.{aimed_from, none-from, none-onward}
 use Rattle.chess_rules.proofs.sift.next_wanted.Goals as goal
 use Rattle.chess_rules.specs.ties.Idle.{is_wanted-idle}

@@ -1,4 +1,4 @@
-use Rattle.pop_solve.proofs.Words.{rules, refl, ◌∙◌}
+use Rattle.pop_solve.proofs.Words.{rules, refl}
 use Rattle.pop_solve.proofs.Passing as passing
 use Rattle.pop_solve.proofs.walk.next_without_flight.Goals as goal
 
