@@ -80,8 +80,10 @@ is_far s t = rank_of s + 2 == rank_of t || rank_of t + 2 == rank_of s
 -- a pawn goes two ranks only by stepping, to a square where nobody stands
 takes_near : (c : Colour) (s t : ℕ) → s < 64 → t < 64 → is_far s t ≡ true → list_any (leaps s t) (pawn_capture_steps c) ≡ false
 unfolding along leaps
-takes_near White s t p q far = not-true _ (implied _ _ (pairs (λ s t. not (is_far s t) || not (list_any (leaps s t) (pawn_capture_steps White))) refl s t p q) far)
-takes_near Black s t p q far = not-true _ (implied _ _ (pairs (λ s t. not (is_far s t) || not (list_any (leaps s t) (pawn_capture_steps Black))) refl s t p q) far)
+takes_near White s t p q far =
+    not-true _ (implied _ _ (pairs (λ s t. not (is_far s t) || not (list_any (leaps s t) (pawn_capture_steps White))) refl s t p q) far)
+takes_near Black s t p q far =
+    not-true _ (implied _ _ (pairs (λ s t. not (is_far s t) || not (list_any (leaps s t) (pawn_capture_steps Black))) refl s t p q) far)
 
 pub far_is_vacant : (p : Position) (c : Colour) (s t : ℕ) → s < 64 → t < 64 → may_go p (record { colour = c; kind = Pawn }) s t ≡ true → is_far s t ≡ true
     → man_on p.men t ≡ None
@@ -110,7 +112,8 @@ unfolding along
 over_is White s t p q = implied _ _ (pairs (λ s t. not (pawn_steps White s t && is_far s t) || is_over White ((s + t) / 2) t) refl s t p q)
 over_is Black s t p q = implied _ _ (pairs (λ s t. not (pawn_steps Black s t && is_far s t) || is_over Black ((s + t) / 2) t) refl s t p q)
 
-steps_back : (c : Colour) (s h : ℕ) → s < 64 → h < 64 → (pawn_steps (other c) s h && rank_of h == (if same_colour c White then 3 else 6)) ≡ true → is_over c h s ≡ true
+steps_back : (c : Colour) (s h : ℕ) → s < 64 → h < 64 → (pawn_steps (other c) s h && rank_of h == (if same_colour c White then 3 else 6)) ≡ true
+    → is_over c h s ≡ true
 unfolding along
 steps_back White s h p q = implied _ _ (pairs (λ s h. not (pawn_steps Black s h && rank_of h == 3) || is_over White h s) refl s h p q)
 steps_back Black s h p q = implied _ _ (pairs (λ s h. not (pawn_steps White s h && rank_of h == 6) || is_over Black h s) refl s h p q)

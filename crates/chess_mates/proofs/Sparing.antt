@@ -260,7 +260,8 @@ module _ (rule : RuleSet) (p : Position) (m : Move) (x : Man) (v : Siege) (k : �
       | inl double ↦ ap (λ (b : Bool). is_square (if b then Some (halfway m) else None) n.to) double ∙ false_by _ (λ h.
           let at : halfway m ≡ n.to = eqb-true (halfway m) n.to h in
           let low : halfway m < 64 = omega (arith, at, to) in
-          false≢true (sym (i.plain.passing.freely double q n.from y from_small low stood_y (enemy_y ∙ ap other (sym is.mine)) pawn) ∙ ap (λ (t : ℕ). may_go q y n.from t) at ∙ goes_y))
+          false≢true (sym (i.plain.passing.freely double q n.from y from_small low stood_y (enemy_y ∙ ap other (sym is.mine)) pawn)
+          ∙ ap (λ (t : ℕ). may_go q y n.from t) at ∙ goes_y))
     ]
 
     captures_q : (s : ℕ) → capture_square q y n ≡ Some s → s ≡ n.to
@@ -421,7 +422,8 @@ module _ (rule : RuleSet) (p : Position) (m : Move) (x : Man) (v : Siege) (k : �
               let near : IsNear z s u.region = record { square = t; small = inside; on = u.near; men = men; reaches = h } in
               false≢true (sym u.off ∙ (u.are.guards s z a (λ e. ne (sym e)) near).inside t inside
               (later_but u.are.hurdles men m.from n.from z.colour z.kind s t plain (λ e low on left off. stays e low (u.are.kept e low on).0 left off)
-              (λ rider on reach. false≢true (sym (u.shut (u.are.kept m.from from on).0) ∙ (u.are.rides s z a (λ e. ne (sym e)) rider near).inside m.from from reach))
+              (λ rider on reach. false≢true (sym (u.shut (u.are.kept m.from from on).0)
+              ∙ (u.are.rides s z a (λ e. ne (sym e)) rider near).inside m.from from reach))
               (λ rider on reach. (u.are.kept n.from from_small on).1 refl) h)))
 
           -- nor the king, unless y stood on one of his lines

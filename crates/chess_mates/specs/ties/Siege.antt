@@ -131,7 +131,8 @@ IsShut p c w corner next =
 -- the colour's king has moved, or the word has the squares to which a rook may castle
 pub record AreCastlingSquares (p : Position) (c : Colour) (w : ℕ) : Type 0 where
   pub sides : (s : ℕ) → s < 64 → is_man (man_on p.men s) c King ≡ true
-      → (has_unmoved p.unmoved s ≡ false) ⊎ (IsShut p c w (s + 3) (s + 1) × IsShut p c w (s - 4) (s - 1))
+      → (has_unmoved p.unmoved s ≡ false)
+      ⊎ (IsShut p c w (s + 3) (s + 1) × IsShut p c w (s - 4) (s - 1))
 
 -- z on s may be captured somewhere and reborn on r: a pawn on the file where he stands
 pub record IsHome (z : Man) (s r : ℕ) : Type 0 where

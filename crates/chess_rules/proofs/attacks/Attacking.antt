@@ -132,7 +132,8 @@ fairy_comer men c t s = is_fairy_man (man_on men s) c && reaches men s t
 abbrev pub leaping_comer : List (Option Man) → Colour → ℕ → ℕ → Bool
 leaping_comer men c t s = is_leaping_man (man_on men s) c && reaches men s t
 
-leaping_by_kind : (o : Option Man) (c : Colour) (r : Bool) → (((is_man o c King && r) || (is_man o c Knight && r)) || (is_man o c Pawn && r)) ≡ (is_leaping_man o c && r)
+leaping_by_kind : (o : Option Man) (c : Colour) (r : Bool)
+    → (((is_man o c King && r) || (is_man o c Knight && r)) || (is_man o c Pawn && r)) ≡ (is_leaping_man o c && r)
 leaping_by_kind o c r = grind arith
 
 -- kings, knights and pawns kind by kind

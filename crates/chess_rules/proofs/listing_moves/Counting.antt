@@ -61,8 +61,8 @@ module _ (rule : RuleSet) (p : Position) where
         ∙ between-past rule p all_triples e (omega arith))
 
     -- else those of the next one come first, as far as they lie before the end, and then those of later ones
-    by_origin : (a e s n z m : ℕ) → find (λ q. bit_at o q == 1) (range_with_len (a / per_origin) (64 - a / per_origin)) ≡ Some s → n ≡ per_origin * s → z ≡ a - n
-        → m ≡ min (e - n) per_origin → between a e ≡ between (per_origin * s + z) (per_origin * s + m) + between (n + per_origin) e
+    by_origin : (a e s n z m : ℕ) → find (λ q. bit_at o q == 1) (range_with_len (a / per_origin) (64 - a / per_origin)) ≡ Some s
+        → n ≡ per_origin * s → z ≡ a - n → m ≡ min (e - n) per_origin → between a e ≡ between (per_origin * s + z) (per_origin * s + m) + between (n + per_origin) e
     by_origin a e s n z m found first from to =
         let f = find_first (λ q. bit_at o q == 1) (a / per_origin) (64 - a / per_origin) s found in
         let b : ℕ = per_origin * s + z in
@@ -87,7 +87,8 @@ module _ (rule : RuleSet) (p : Position) where
         ]
 
     -- those up to a triple of the next origin are those so far and its own before that one
-    pub passed_on : (start number s a n z : ℕ) → start ≤ number → find (λ q. bit_at o q == 1) (range_with_len (number / per_origin) (64 - number / per_origin)) ≡ Some s
+    pub passed_on : (start number s a n z : ℕ) → start ≤ number
+        → find (λ q. bit_at o q == 1) (range_with_len (number / per_origin) (64 - number / per_origin)) ≡ Some s
         → n ≡ per_origin * s → z ≡ number - n → z ≤ a → a ≤ per_origin
         → between start (n + a) ≡ between start number + between (per_origin * s + z) (per_origin * s + a)
     passed_on start number s a n z low found first from more few =
@@ -104,7 +105,8 @@ module _ (rule : RuleSet) (p : Position) where
     passed_all start number low none = elim (cases_lt number all_triples) [
       | inl lt ↦ omega (arith, count_cut start number all_triples low (omega (arith, lt)), no_origin number all_triples none)
       | inr ge ↦ elim (cases_lt start all_triples) [
-        | inl small ↦ omega (arith, count_cut start all_triples number (omega (arith, small)) ge, ap length (between-past rule p all_triples number (omega arith)))
+        | inl small ↦
+            omega (arith, count_cut start all_triples number (omega (arith, small)) ge, ap length (between-past rule p all_triples number (omega arith)))
         | inr past ↦ ap length (between-past rule p start all_triples past) ∙ sym (ap length (between-past rule p start number past))
       ]
     ]

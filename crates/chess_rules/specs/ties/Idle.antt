@@ -14,6 +14,6 @@ unfolding is_legal
 is_legal-idle rule p m h = and_left _ _ h
 
 -- nor is it wanted
-pub is_wanted-idle : (rule : RuleSet) (p : Position) (test : Move → Bool) (m : Move) → is_pseudo_legal rule p m ≡ false
-    → is_wanted rule p test m ≡ false
+pub is_wanted-idle : (rule : RuleSet) (p : Position) (test : Move → Bool) (m : Move)
+    → is_pseudo_legal rule p m ≡ false → is_wanted rule p test m ≡ false
 is_wanted-idle rule p test m h = and_left _ _ (is_legal-idle rule p m h)

@@ -57,7 +57,8 @@ returns-then-at-lt-PER_ORIGIN-clause-none g c =
     let rule = g.R.Rules.rule in
     let p = c.args.board.now in
     none-origin rule p (is_wanted rule p (g.S.Sift.test rule p)) (λ m h. is_wanted-idle rule p (g.S.Sift.test rule p) m h) c.args.start c.loop-from.number
-    c.in-Some.from c.next_wanted-at.result c.own_origins-origins.result _ _ (wanted_origins rule p (g.S.Sift.test rule p) _ c.own_origins-origins.ensures) c.loop-from.invariant.none
+    c.in-Some.from c.next_wanted-at.result c.own_origins-origins.result _ _
+    (wanted_origins rule p (g.S.Sift.test rule p) _ c.own_origins-origins.ensures) c.loop-from.invariant.none
     (sym c.next_bit.ensures.value ∙ c.in-Some.is) (omega (arith, c.from-first.ensures, c.index.ensures.value)) c.saturating_sub-begin.ensures
     (rw c.loop-from.invariant.board at c.next_wanted-at.ensures.none)
 
@@ -70,7 +71,8 @@ loop-from-preserved g c =
     let all : c.next_wanted-at.result ≡ per_origin = omega (arith, c.next_wanted-at.ensures.high) in
     let first : c.from-first.result * per_origin ≡ per_origin * c.in-Some.from = omega (arith, c.from-first.ensures, c.index.ensures.value) in
     let found = sym c.next_bit.ensures.value ∙ c.in-Some.is in
-    let f = find_first (λ q. bit_at c.own_origins-origins.result q == 1) (c.loop-from.number / per_origin) (64 - c.loop-from.number / per_origin) c.in-Some.from found in
+    let f = find_first (λ q. bit_at c.own_origins-origins.result q == 1) (c.loop-from.number / per_origin)
+    (64 - c.loop-from.number / per_origin) c.in-Some.from found in
     record {
       board = c.count_origin.ensures.board ∙ c.next_wanted-at.ensures.board ∙ c.loop-from.invariant.board;
       same = c.wanted_squares-wanted.ensures.same ∙ c.loop-from.invariant.same;

@@ -22,9 +22,8 @@ returns-then-is-clause-risky g c =
     let siege = ap (λ (t : ToldThreats). t.siege) c.self.view_is in
     let here : man_on p.men c.args.from ≡ Some c.in-Some.man = sym c.man_at.ensures ∙ c.in-Some.is in
     steps_are_risky g.R.Rules.rule p c.in-Some.man v c.requires.well_formed c.requires.threats c.args.from c.args.squares c.unplain_squares-unplain.result
-    c.kept_risky_steps-risky.result here (omega (arith, c.index-small.ensures.value, c.index-small.ensures.small)) (omega arith) c.unplain_squares-unplain.ensures.plain
-    c.unplain_squares-unplain.ensures.mere
-    (omega arith) (sym c.is.ensures ∙ c.if-is.true) (rw siege at c.kept_risky_steps-risky.ensures.risky)
+    c.kept_risky_steps-risky.result here (omega (arith, c.index-small.ensures.value, c.index-small.ensures.small)) (omega arith)
+    c.unplain_squares-unplain.ensures.plain c.unplain_squares-unplain.ensures.mere (omega arith) (sym c.is.ensures ∙ c.if-is.true) (rw siege at c.kept_risky_steps-risky.ensures.risky)
 
 pub returns-clause-risky : goal.returns-clause-risky
 returns-clause-risky g c =
@@ -33,6 +32,5 @@ returns-clause-risky g c =
     let siege = ap (λ (t : ToldThreats). t.siege) c.self.view_is in
     let here : man_on p.men c.args.from ≡ Some c.in-Some.man = sym c.man_at.ensures ∙ c.in-Some.is in
     moves_are_risky g.R.Rules.rule p c.in-Some.man v c.requires.well_formed c.requires.threats c.args.from c.args.squares c.unplain_squares-unplain.result
-    c.critical_from-critical.result here (omega (arith, c.index-small.ensures.value, c.index-small.ensures.small)) (omega arith) c.unplain_squares-unplain.ensures.plain
-    c.unplain_squares-unplain.ensures.mere
-    (omega arith) (sym c.is.ensures ∙ c.if-is.false) (rw siege at c.critical_from-critical.ensures.safe)
+    c.critical_from-critical.result here (omega (arith, c.index-small.ensures.value, c.index-small.ensures.small)) (omega arith)
+    c.unplain_squares-unplain.ensures.plain c.unplain_squares-unplain.ensures.mere (omega arith) (sym c.is.ensures ∙ c.if-is.false) (rw siege at c.critical_from-critical.ensures.safe)
