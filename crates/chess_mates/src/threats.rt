@@ -99,9 +99,6 @@ fn can_be_told<R: Rules>(board: &Board) -> bool
         && has_no_fairy(board, board.turn().other())
 }
 
-// Against so many men or fewer threats aren't told, but in Circe, where `keeps_flight` tells nothing.
-const FEW_MEN: u32 = 7;
-
 /// What the side that isn't to move threatens, told once a position: to which squares the other side's men mustn't come
 /// lest a reply may mate.
 #[derive(Drop)]
@@ -145,11 +142,11 @@ impl Threats {
     }
 
     /// Whether they are told at all: not where the side that isn't to move has a grasshopper or a nightrider, nor, but in
-    /// Circe, where it has few men: there `keeps_flight` takes less time.
-    pub fn are_told<R: Rules>(board: &Board) -> bool
+    /// Circe, where it has so few men or fewer: there `keeps_flight` takes less time.
+    pub fn are_told<R: Rules>(board: &Board, few: u32) -> bool
         ensures { result ≡ true → IsTold R.rule board.now }
     {
-        (R::captures_do_more() || board.side(board.turn().other()).count_ones() > FEW_MEN)
+        (R::captures_do_more() || board.side(board.turn().other()).count_ones() > few)
             && can_be_told::<R>(board)
     }
 

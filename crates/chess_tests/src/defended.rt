@@ -47,7 +47,7 @@ fn is_told_wrong(board: &mut Board, told: &mut u32) -> bool
     let Some(king) = board.king_of(board.turn()) else {
         return false;
     };
-    if !Threats::are_told::<Circe>(board) {
+    if !Threats::are_told::<Circe>(board, 0) {
         return false;
     }
     let mut threats = Threats::of::<Circe>(board, king);

@@ -16,6 +16,9 @@ use chess_mates::threats::Threats;
 use chess_rules::moves::Moves;
 use chess_rules::rules::Rules;
 
+// Against so many men or fewer a selfmate asks for no threats: there `keeps_flight` takes less time.
+const FEW_IN_SELFMATES: u32 = 7;
+
 /// For each number of half-moves below 32 the places on the last two moves that decided a position with so many
 /// half-moves left. In a direct mate they are tried first in the next such position; that any place may stand here costs
 /// time alone. In a selfmate moves are tried in order: there the last one that decided is no good guess.
@@ -85,8 +88,8 @@ impl<R: Rules> Killers<R> {
         }
     }
 
-    /// Keeps the threats in the board's position, if they are told there, and else none.
-    pub(crate) fn tell_threats(&mut self, board: &Board)
+    /// Keeps the threats in the board's position, if they are told there against more than `few` men, and else none.
+    pub(crate) fn tell_threats(&mut self, board: &Board, few: u32)
         requires well_formed { IsWellFormed board.now }
         ensures { IfSome self.new.threats (λ t. AreThreatsOf R.rule board.now t) }
     {
@@ -94,7 +97,7 @@ impl<R: Rules> Killers<R> {
             self.threats = None;
             return;
         };
-        if !Threats::are_told::<R>(board) {
+        if !Threats::are_told::<R>(board, few) {
             self.threats = None;
             return;
         }
@@ -117,7 +120,7 @@ impl<R: Rules> Killers<R> {
         if keeps_flight::<R>(board, m) {
             return true;
         }
-        self.tell_threats(board);
+        self.tell_threats(board, FEW_IN_SELFMATES);
         let Some(threats) = &mut self.threats else {
             return false;
         };

@@ -330,6 +330,9 @@ fn next_without_flight<R: Rules>(
     None
 }
 
+// Against so many men or fewer help play asks for no threats: there `keeps_flight` takes less time.
+const FEW_IN_HELP_PLAY: u32 = 4;
+
 /// The next move behind the place that isn't settled: told by threats, or by `keeps_flight` where none are told.
 fn next_unsettled<R: Rules>(
     known: &mut Option<LegalMoves<R>>,
@@ -344,7 +347,7 @@ fn next_unsettled<R: Rules>(
     ensures next { IsNextUnsettled R.rule board.old place.old place.new history.old.opened
         history.new.opened result }
 {
-    history.killers.tell_threats(board);
+    history.killers.tell_threats(board, FEW_IN_HELP_PLAY);
     let opened = &mut history.opened;
     match &mut history.killers.threats {
         Some(threats) => next_risky::<R>(threats, known, place, board, opened),
