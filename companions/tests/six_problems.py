@@ -8,7 +8,7 @@ import tempfile
 import time
 import unittest
 from pathlib import Path
-from typing import Callable, List, Optional
+from typing import Callable, List
 
 import support
 
@@ -64,6 +64,11 @@ def has_worked(process: int) -> bool:
     return bool(fields) and int(fields[11]) >= os.sysconf("SC_CLK_TCK") // 10
 
 
+def heed_hangup() -> None:
+    """A hangup ends what is started, also where these tests run under nohup."""
+    signal.signal(signal.SIGHUP, signal.SIG_DFL)
+
+
 class SixProblems(unittest.TestCase):
     """A room with an input of six problems."""
 
@@ -94,7 +99,7 @@ class SixProblems(unittest.TestCase):
         self,
         *words: str,
         errors: int = subprocess.PIPE,
-        before: Optional[Callable[[], None]] = None,
+        before: Callable[[], None] = heed_hangup,
     ) -> "subprocess.Popen[bytes]":
         """A run of pops-many that goes on meanwhile; the test ends it with its children."""
         run = subprocess.Popen(
