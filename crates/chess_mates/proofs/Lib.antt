@@ -18,7 +18,7 @@ pub mod LastingFlights
 pub mod HoldBelow
 pub mod Hurdles
 pub mod Risks
-pub mod Homes
+pub mod HomeSquares
 pub mod Sieges
 pub mod Standing
 pub mod Passing

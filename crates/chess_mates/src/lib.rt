@@ -9,11 +9,13 @@ pub mod aims;
 mod checks;
 pub mod every_move;
 mod flights;
+mod homes;
 pub mod lasting_flights;
 pub mod mating_moves;
 mod open_board;
 mod origins;
 mod siege;
+mod steps;
 pub mod threats;
 
 pub use crate::aims::aims_at_king;

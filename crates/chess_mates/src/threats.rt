@@ -13,9 +13,9 @@ ghost use Rattle.chess_rules.specs.ties.Targets.{may_go};
 
 use crate::open_board::capturers_before;
 use crate::siege::{
-    LAST_RANKS, Risk, RiskBehind, Siege, ToldSteps, critical_from, is_of, kept_risky_steps,
-    risk_of_siege, siege_of,
+    LAST_RANKS, Risk, RiskBehind, Siege, critical_from, is_of, risk_of_siege, siege_of,
 };
+use crate::steps::{ToldSteps, kept_risky_steps};
 use chess_core::board::Board;
 use chess_core::man::{Colour, Kind, Man, Move};
 use chess_core::square::{Square, Squares};
