@@ -16,6 +16,7 @@ pub mod CheckTargets
 pub mod FarMen
 pub mod LastingFlights
 pub mod HoldBelow
+pub mod KindByKind
 pub mod Hurdles
 pub mod Risks
 pub mod HomeSquares

@@ -6,6 +6,7 @@
 #![tactic(auto)]
 
 pub mod aims;
+mod attackers;
 mod checks;
 pub mod every_move;
 mod flights;

@@ -9,11 +9,12 @@ ghost use Rattle.chess_core.specs.WellFormed.{IsWellFormed};
 ghost use Rattle.chess_core.specs.declared.man.Kind.TheVariants.{King, Pawn};
 ghost use Rattle.chess_core.specs.declared.man.Man.{Man};
 ghost use Rattle.chess_mates.specs.declared.siege.Siege.{Siege};
-ghost use Rattle.chess_core.specs.ties.Words.{squares_of};
+ghost use Rattle.chess_mates.specs.ties.Attackers.{IsAttacker};
 ghost use Rattle.chess_mates.specs.ties.LastingFlights.{IsLeft};
-ghost use Rattle.chess_mates.specs.ties.Siege.{AreArrivals, AreAttackers, AreCastlingSquares, AreGuardsWithout, AreHurdles, AreReached, AreThreats, AreWeak, IsAttackedOver, IsAttacker, IsCastlingHarmless, IsCheckWord, IsField, IsHarmless, IsHurdle, IsLifted, IsMet, IsNear, IsNoCheck, IsOff, IsReached, IsReachedFrom, IsRiskAt, IsRiskBehind, IsSafeMove, IsSiege, IsSiegeOf, IsWeak, IsWhole, LeavesOne, is_leaper, is_rider, reached_over};
+ghost use Rattle.chess_mates.specs.ties.Siege.{AreAdjacent, AreArrivals, AreCastlingSquares, AreGuardsWithout, AreHurdles, AreReached, AreThreats, AreWeak, IsAttackedOver, IsCastlingHarmless, IsCheckWord, IsField, IsHarmless, IsHurdle, IsLifted, IsMet, IsNear, IsNoCheck, IsOff, IsReached, IsReachedFrom, IsRiskAt, IsRiskBehind, IsSafeMove, IsSiege, IsSiegeOf, IsWeak, IsWhole, LeavesOne, is_leaper, is_rider, reached_over};
 ghost use Rattle.chess_rules.specs.ties.Targets.{is_promoting};
 
+use crate::attackers::{Attackers, attackers_on};
 use crate::homes::closed_squares;
 use crate::lasting_flights::open_reach;
 use crate::open_board::{open_targets, pawns_before};
@@ -25,18 +26,6 @@ use chess_rules::lines::straight_lines;
 use chess_rules::reach::reach_over;
 use chess_rules::rules::Rules;
 use chess_rules::words::{contains, next_bit, only};
-
-// The squares of a side's men kind by kind, fairy men apart.
-#[derive(Clone, Copy)]
-pub(crate) struct Attackers {
-    colour: Colour,
-    kings: Squares,
-    queens: Squares,
-    rooks: Squares,
-    bishops: Squares,
-    knights: Squares,
-    pawns: Squares,
-}
 
 // The men around the defender's king, who stands on `king`: the squares of the defender's men, of the attackers, and of
 // the hurdles; those to which a rook of theirs may castle; those to which the king isn't said to flee.
@@ -443,6 +432,14 @@ fn risk_of_all(siege: &Siege, field: &Field) -> Risk
     }
 }
 
+// The squares next to a king of the defender on this square to which he might go, attacks apart.
+#[tactic(auto, using(crate::proofs::Sieges::adjacent_are))]
+pub(crate) fn adjacent_squares(siege: &Siege, king: Square) -> Squares
+    ensures { AreAdjacent siege.now king result }
+{
+    king_leaps(king) & !siege.closed & !siege.men.kings
+}
+
 // The field of a king of the defender on this square.
 #[tactic(auto, using(crate::proofs::Sieges::field_is))]
 fn field_of(siege: &Siege, king: Square) -> Field
@@ -453,7 +450,7 @@ fn field_of(siege: &Siege, king: Square) -> Field
     let diagonal = reach_over(siege.hurdles, Colour::White, Kind::Bishop, king);
     Field {
         king,
-        near: king_leaps(king) & !siege.closed & !siege.men.kings,
+        near: adjacent_squares(siege, king),
         straight,
         diagonal,
         lines: straight | diagonal,
@@ -532,23 +529,6 @@ fn castling_squares(board: &Board, colour: Colour) -> Squares
         Square::numbered(at + 1),
     );
     long | short
-}
-
-// The men of the colour, fairy men apart.
-fn attackers_on(board: &Board, colour: Colour) -> Attackers
-    ensures colour { result.colour ≡ colour }
-    ensures kings { result.kings ≡ squares_of board.now.men colour King }
-    ensures men { AreAttackers board.now.men result }
-{
-    Attackers {
-        colour,
-        kings: board.squares(colour, Kind::King),
-        queens: board.squares(colour, Kind::Queen),
-        rooks: board.squares(colour, Kind::Rook),
-        bishops: board.squares(colour, Kind::Bishop),
-        knights: board.squares(colour, Kind::Knight),
-        pawns: board.squares(colour, Kind::Pawn),
-    }
 }
 
 // All men but the king, and perhaps without one of his.

@@ -5,12 +5,13 @@ ghost use Rattle.chess_core.specs.Position.{king_square};
 ghost use Rattle.chess_core.specs.WellFormed.{IsWellFormed};
 ghost use Rattle.chess_core.specs.declared.man.Move.{Move};
 ghost use Rattle.chess_mates.specs.ties.Mates.{mates_behind};
-ghost use Rattle.chess_mates.specs.ties.Threats.{AreMere, ArePlain, AreRisky, AreThreatsOf, HasNoFairy, IsPassing, IsTold};
+ghost use Rattle.chess_mates.specs.ties.Threats.{AreMere, ArePlain, AreRisky, AreThreatsOf, IsPassing, IsTold};
 ghost use Rattle.chess_rules.specs.Legal.{is_legal};
 ghost use Rattle.chess_rules.specs.Play.{position_after};
 ghost use Rattle.chess_rules.specs.RuleSet.{captures_do_more};
 ghost use Rattle.chess_rules.specs.ties.Targets.{may_go};
 
+use crate::attackers::has_no_fairy;
 use crate::open_board::capturers_before;
 use crate::siege::{
     LAST_RANKS, Risk, RiskBehind, Siege, critical_from, is_of, risk_of_siege, siege_of,
@@ -24,13 +25,6 @@ use chess_rules::rules::Rules;
 use chess_rules::sift::Sift;
 use chess_rules::words::only;
 use std::marker::Model;
-
-// Whether the colour has no fairy man.
-fn has_no_fairy(board: &Board, colour: Colour) -> bool
-    ensures { result ≡ true → HasNoFairy board.now.men colour }
-{
-    board.squares(colour, Kind::Grasshopper) | board.squares(colour, Kind::Nightrider) == 0
-}
 
 // The squares more than a step away, if an enemy pawn might capture on the next square ahead of a pawn on `from`.
 fn contested_squares(board: &Board, man: Man, from: Square) -> Squares

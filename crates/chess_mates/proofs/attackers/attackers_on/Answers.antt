@@ -1,5 +1,5 @@
 use Rattle.chess_mates.proofs.Sieges.{attackers_are}
-use Rattle.chess_mates.proofs.siege.attackers_on.Goals as goal
+use Rattle.chess_mates.proofs.attackers.attackers_on.Goals as goal
 
 pub returns-clause-men : goal.returns-clause-men
 returns-clause-men c =
