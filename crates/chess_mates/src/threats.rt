@@ -136,7 +136,7 @@ impl Threats {
     }
 
     /// Whether they are told at all: not where the side that isn't to move has a grasshopper or a nightrider, nor, but in
-    /// Circe, where it has so few men or fewer: there `keeps_flight` takes less time.
+    /// Circe, where it has only so few men or fewer.
     pub fn are_told<R: Rules>(board: &Board, few: u32) -> bool
         ensures { result ≡ true → IsTold R.rule board.now }
     {
