@@ -15,7 +15,7 @@ use Rattle.chess_rules.proofs.listing_moves.Walks.{off_second}
 use Rattle.chess_rules.proofs.making_moves.Fits.{arrived}
 use Rattle.chess_rules.proofs.making_moves.Pseudo.{IsMade, made, on_board}
 use Rattle.chess_rules.proofs.making_moves.Stays.{after_well_formed}
-use Rattle.chess_mates.proofs.Homes.{some_of}
+use Rattle.chess_mates.proofs.HomeSquares.{some_of}
 use Rattle.chess_mates.proofs.Hurdles.{on_one, one_on, size_on}
 use Rattle.chess_mates.proofs.Landing.{StandAlike, reaches_alike}
 use Rattle.chess_mates.proofs.Passing.{on_denied}

@@ -8,9 +8,11 @@ use Rattle.chess_mates.proofs.Chess.{reaches_as, rides, same_kind, squares, stra
 use Rattle.chess_core.proofs.Ranges.{all_range_true, any_range_true}
 use Rattle.chess_core.proofs.Words.{square_word}
 use Rattle.chess_core.specs.ties.Words.{bit_of}
-use Rattle.chess_mates.specs.declared.siege.Attackers.{Attackers}
-use Rattle.chess_mates.specs.ties.Siege.{AreReached, IsAttackedOver, IsAttacker, IsNear, IsReached, IsReachedFrom, is_leaper, is_rider, men_on, squares_for}
+use Rattle.chess_mates.specs.ties.Attackers.{IsAttacker, squares_for}
+use Rattle.chess_mates.specs.declared.attackers.Attackers.{Attackers}
+use Rattle.chess_mates.specs.ties.Siege.{AreReached, IsAttackedOver, IsNear, IsReached, IsReachedFrom, is_leaper, is_rider, men_on}
 use Rattle.chess_mates.specs.ties.Siege.{reached_over}
+use Rattle.chess_mates.proofs.KindByKind.{of_kind}
 use Rattle.chess_rules.proofs.Bits.{on_left, on_right, word_has}
 use Rattle.chess_rules.proofs.rays.Flips.{diagonal-back, king-back, knight-back, nightrider-back, pawn-back, queen_rides-back, straight-back}
 use Rattle.chess_rules.proofs.making_moves.Pseudo.{on_board}
@@ -78,10 +80,6 @@ reached_alone d x s r fits h t small on = sym (word_has (reaches_as (men_on d) x
 pub found_on : (w n k : ℕ) → find (λ s. bit_at w s == 1) (range_with_len n (64 - n)) ≡ Some k → (k < 64) × ((bit_at w k == 1) ≡ true)
 found_on w n k found = let first = find_first (λ s. bit_at w s == 1) n (64 - n) k found in (omega (arith, first.low, first.high), first.here)
 
--- a man by his colour and his kind
-pub man_is : (x : Man) (c : Colour) (k : Kind) → x.colour ≡ c → x.kind ≡ k → record { colour = c; kind = k } ≡ x
-man_is x c k colour kind = rw (← colour, ← kind) refl
-
 -- those that the attackers reach, kind by kind
 module _ (d : ℕ) (a : Attackers) (region : ℕ) where
   abbrev ReachAs : Kind → ℕ → Type 0
@@ -89,10 +87,7 @@ module _ (d : ℕ) (a : Attackers) (region : ℕ) where
       → IsReached d (record { colour = a.colour; kind = k }) s w
 
   by_kind : (k : Kind) (w s : ℕ) (x : Man) → ReachAs k w → IsAttacker a x s → x.kind ≡ k → IsNear x s region → IsReached d x s w
-  by_kind k w s x h i kind near =
-      let same = man_is x a.colour k i.mine kind in
-      subst (λ (y : Man). IsReached d y s w) same (h s i.small (ap (λ (j : Kind). bit_at (squares_for a j) s == 1) (sym kind) ∙ i.on)
-      (subst (λ (y : Man). IsNear y s region) (sym same) near))
+  by_kind k w s x h i kind near = of_kind a (λ y q. IsNear y q region → IsReached d y q w) k s x h i kind near
 
   -- for `ridden_squares`: what queens, rooks and bishops reach
   pub riders_reach : (q r b : ℕ) → ReachAs Queen q → ReachAs Rook r → ReachAs Bishop b → AreReached d a region is_rider (bit_or (bit_or q r) b)

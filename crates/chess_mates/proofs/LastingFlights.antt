@@ -6,6 +6,9 @@ use Rattle.chess_mates.proofs.Chess.{Bishop, Colour, IsWellFormed, King, Knight,
 use Rattle.chess_mates.proofs.Chess.{reaches, reaches_as, reaches_of, rides, same_colour, same_colour-true, side_of, some_square_false, some_square_true, squares_of, straight_steps, is_attacker, triple_at, word}
 use Rattle.chess_mates.specs.ties.Flights.{has_flight, is_flight, is_flight_at, is_open}
 use Rattle.std.proofs.Common.{IfSome}
+use Rattle.chess_mates.specs.declared.attackers.Attackers.{Attackers}
+use Rattle.chess_mates.specs.ties.Attackers.{AreAttackers, HasNoFairy, IsAttacker}
+use Rattle.chess_mates.proofs.KindByKind.{HoldsOf, of_all}
 use Rattle.chess_mates.specs.ties.LastingFlights.{AreApproached, AreGuarded, AreNear, AreReached, IsLeft, KeepsOne, LeaveOne, LeavesOne}
 use Rattle.chess_rules.proofs.Bits.{off_left, off_right, on_left, on_right, word_has}
 use Rattle.chess_core.specs.Steps.{gait_of, is_hopper}
@@ -84,21 +87,23 @@ reached_left x s a b h = record { inside = λ men t small r. on_left a b t (h.in
 pub reached_right : (x : Man) (s a b : ℕ) → AreReached x s b → AreReached x s (bit_or a b)
 reached_right x s a b h = record { inside = λ men t small r. on_right a b t (h.inside men t small r) }
 
--- for the man on a square, if there is one: what he reaches
-pub some_reach : (o : Option Man) (s r : ℕ) (y : Man) → o ≡ Some y → AreReached y s r → (x : Man) → o ≡ Some x → AreReached x s r
-some_reach o s r y here h x there = let same : x ≡ y = (let e : Some x ≡ Some y = sym there ∙ here in cc) in rw same h
+-- for `guarded_squares`
+pub all_guard : (a : Attackers) (k q r b n p : ℕ) → HoldsOf a (λ x s. AreReached x s k) King → HoldsOf a (λ x s. AreReached x s q) Queen
+    → HoldsOf a (λ x s. AreReached x s r) Rook → HoldsOf a (λ x s. AreReached x s b) Bishop → HoldsOf a (λ x s. AreReached x s n) Knight
+    → HoldsOf a (λ x s. AreReached x s p) Pawn → AreGuarded a (bit_or (bit_or (bit_or (bit_or (bit_or k q) r) b) n) p)
+all_guard a k q r b n p kings queens rooks bishops knights pawns = record {
+  guards = of_all a (λ x s. AreReached x s (bit_or (bit_or (bit_or (bit_or (bit_or k q) r) b) n) p))
+      (λ s low on. reached_left _ s _ p (reached_left _ s _ n (reached_left _ s _ b (reached_left _ s _ r (reached_left _ s k q (kings s low on))))))
+      (λ s low on. reached_left _ s _ p (reached_left _ s _ n (reached_left _ s _ b (reached_left _ s _ r (reached_right _ s k q (queens s low on))))))
+      (λ s low on. reached_left _ s _ p (reached_left _ s _ n (reached_left _ s _ b (reached_right _ s _ r (rooks s low on)))))
+      (λ s low on. reached_left _ s _ p (reached_left _ s _ n (reached_right _ s _ b (bishops s low on))))
+      (λ s low on. reached_left _ s _ p (reached_right _ s _ n (knights s low on)))
+      (λ s low on. reached_right _ s _ p (pawns s low on));
+}
 
--- what he leaves
-pub some_leaves : (o : Option Man) (s w : ℕ) (y : Man) → o ≡ Some y → LeavesOne w y s → (x : Man) → o ≡ Some x → LeavesOne w x s
-some_leaves o s w y here h x there = let same : x ≡ y = (let e : Some x ≡ Some y = sym there ∙ here in cc) in rw same h
-
--- a square of its side's word
-pub on_own : (men : List (Option Man)) (c : Colour) (w s : ℕ) (x : Man) → w ≡ side_of men c → s < 64 → man_on men s ≡ Some x → x.colour ≡ c
-    → (bit_at w s == 1) ≡ true
-unfolding side_of
-on_own men c w s x own small here mine =
-    word_has (λ q. is_of_colour (man_on men q) c) w s own small ∙ ap (λ (o : Option Man). is_of_colour o c) here ∙ ap (λ (d : Colour). same_colour d c) mine
-    ∙ same_colour-refl c
+-- for `open_guards`: all squares
+pub all_guarded : (a : Attackers) → AreGuarded a (bit_not w64 0)
+all_guarded a = record { guards = λ s x i. any_reach x s }
 
 -- neither on a last rank nor on a king's home
 pub on_both : (a b t : ℕ) → (bit_at a t == 1) ≡ true → (bit_at b t == 1) ≡ true → (bit_at (bit_and a b) t == 1) ≡ true
@@ -179,9 +184,8 @@ near_are p m k n s y o near own king only = record {
 }
 
 -- for `keeps_one`: the squares that nobody guards can't all be taken
-pub keeps_one : (p : Position) (w g : ℕ) → g < 2 ^ 64 → AreGuarded p.men (other p.turn) g → LeaveOne p.men (other p.turn) (bit_and w (bit_not w64 g))
-    → KeepsOne p w
-keeps_one p w g fits guards leave = record {
+pub keeps_one : (a : Attackers) (w g : ℕ) → g < 2 ^ 64 → AreGuarded a g → LeaveOne a (bit_and w (bit_not w64 g)) → KeepsOne a w
+keeps_one a w g fits guards leave = record {
   squares = bit_and w (bit_not w64 g);
   guarded = g;
   guards = guards;
@@ -192,7 +196,8 @@ keeps_one p w g fits guards leave = record {
 -- the king's move keeps a flight behind each move of the enemy
 module _ (rule : RuleSet) (p : Position) (m : Move) (x : Man) (k w : ℕ) (well : IsWellFormed p) (may : is_pseudo_legal rule p m ≡ true)
     (here : man_on p.men m.from ≡ Some x) (circe : captures_do_more rule ≡ false) (plain : is_castling x m ≡ false) (small : m.to < 64)
-    (king : king_after p x m ≡ Some k) (near : AreNear p m k w) (keeps : KeepsOne p w) where
+    (king : king_after p x m ≡ Some k) (near : AreNear p m k w) (a : Attackers) (men : AreAttackers p.men a) (colour : a.colour ≡ other p.turn)
+    (fairies : HasNoFairy p.men (other p.turn)) (keeps : KeepsOne a w) where
   is : IsMade rule p x m
   is = made rule p m x may here
 
@@ -224,6 +229,9 @@ module _ (rule : RuleSet) (p : Position) (m : Move) (x : Man) (k w : ℕ) (well 
     | inr kept ↦ kept.1.1
   ]
 
+  attacker : (s : ℕ) (v : Man) → s < 64 → man_on p.men s ≡ Some v → v.colour ≡ other p.turn → IsAttacker a v s
+  attacker s v inside there enemy = men.stand s v inside there (enemy ∙ sym colour) (fairies.none s v inside there enemy)
+
   module _ (n : Move) (to : n.to < 64) (can : is_pseudo_legal rule q n ≡ true) where
     abbrev y : Man
     y = (maker rule q n can).0
@@ -241,7 +249,7 @@ module _ (rule : RuleSet) (p : Position) (m : Move) (x : Man) (k w : ℕ) (well 
     from_small = on_board q.men n.from y well_q.size here_y
 
     leaves : LeavesOne keeps.squares y n.from
-    leaves = keeps.leave.leaves n.from y from_small (enemy_stood n.from y here_y enemy_y) enemy_y
+    leaves = keeps.leave.leaves n.from y (attacker n.from y from_small (enemy_stood n.from y here_y enemy_y) enemy_y)
 
     goes : may_go q y n.from n.to ≡ true
     goes = may_go_aimed rule q y n here_y (arrival_needed rule q n to can)
@@ -324,7 +332,7 @@ module _ (rule : RuleSet) (p : Position) (m : Move) (x : Man) (k w : ℕ) (well 
           | inr stays ↦
               let before = enemy_stood s v stays.1.1 enemy in
               false_from_ne_true _ (λ h.
-              false≢true (sym within.1 ∙ (keeps.guards.guards s v inside before enemy).inside then f left.small h))
+              false≢true (sym within.1 ∙ (keeps.guards.guards s v (attacker s v inside before enemy)).inside then f left.small h))
         ]
       ]
 

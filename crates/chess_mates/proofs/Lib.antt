@@ -16,9 +16,10 @@ pub mod CheckTargets
 pub mod FarMen
 pub mod LastingFlights
 pub mod HoldBelow
+pub mod KindByKind
 pub mod Hurdles
 pub mod Risks
-pub mod Homes
+pub mod HomeSquares
 pub mod Sieges
 pub mod Standing
 pub mod Passing

@@ -13,7 +13,7 @@ use Rattle.chess_rules.proofs.making_moves.Fits.{capture_of_piece, no_capture, p
 use Rattle.chess_rules.proofs.making_moves.Pseudo.{king_is_no_pawn, pawn_goes}
 use Rattle.chess_rules.proofs.rays.Tables.{king_step_is_no_castling}
 use Rattle.chess_mates.proofs.Approaches.{far_is_vacant, goes_over_next, no_far_step, steps_from_there, takes_or_steps}
-use Rattle.chess_mates.proofs.Hurdles.{man_is}
+use Rattle.chess_mates.proofs.KindByKind.{man_is}
 use Rattle.chess_mates.proofs.LastingFlights.{on_both}
 use Rattle.chess_mates.proofs.CheckTargets.{last_rank_on}
 use Rattle.chess_mates.proofs.Risks.{bit_denied, no_pawn_arrives, none_at}

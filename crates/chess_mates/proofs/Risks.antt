@@ -1,17 +1,19 @@
 -- The words of risks: what a defender must avoid lest a reply may mate.
-use Rattle.chess_rules.proofs.Basics.{List, Option, Some, and_left, and_parts, ap, arith, bit_and, bit_at, bit_at-lt, bit_not, bit_or, cases_Bool, cases_eq, eq-eqb, eqb-true, false, false≢true, find, inl, inr, not, range_with_len, refl, subst, sym, true, true_from_ne_false, w64, ℕ, ◌+◌, ◌-◌, ◌<◌, ◌==◌, ◌^◌, ◌∙◌, ◌≡◌, ◌≢◌}
+use Rattle.chess_rules.proofs.Basics.{List, Option, Some, and_left, and_parts, ap, arith, bit_and, bit_at, bit_at-lt, bit_not, bit_or, cases_Bool, cases_eq, eq-eqb, eqb-true, false, false≢true, find, inl, inr, not, range_with_len, refl, sym, true, true_from_ne_false, w64, ℕ, ◌+◌, ◌-◌, ◌<◌, ◌==◌, ◌^◌, ◌∙◌, ◌≡◌, ◌≢◌}
 use Rattle.chess_mates.proofs.Chess.{AreApproaches, Bishop, Colour, Grasshopper, Kind, King, Knight, Man, Nightrider, Pawn, Position, Queen, Rook, is_promoting, find_first, is_square, leaps, may_go, occupied_squares, other}
 use Rattle.chess_mates.proofs.Chess.{reaches_as, rides, same_kind, same_kind-true, squares, word}
-use Rattle.chess_mates.specs.declared.siege.Attackers.{Attackers}
+use Rattle.chess_mates.specs.ties.Attackers.{IsAttacker, squares_for}
+use Rattle.chess_mates.specs.declared.attackers.Attackers.{Attackers}
 use Rattle.chess_mates.specs.declared.siege.Field.{Field}
 use Rattle.chess_mates.specs.declared.siege.Guards.{Guards}
 use Rattle.chess_mates.specs.declared.siege.Risk.{Risk}
 use Rattle.chess_mates.specs.declared.siege.Siege.{Siege}
-use Rattle.chess_mates.specs.ties.Siege.{AreArrivals, AreGuardsWithout, AreReached, AreWeak, IsAttacker, IsCheckWord, IsHarmless, IsMet, IsNear, IsNoCheck, IsOff, IsReached, IsWeak, LeavesOne, is_leaper, is_rider, squares_for}
+use Rattle.chess_mates.specs.ties.Siege.{AreArrivals, AreGuardsWithout, AreReached, AreWeak, IsCheckWord, IsHarmless, IsMet, IsNear, IsNoCheck, IsOff, IsReached, IsWeak, LeavesOne, is_leaper, is_rider}
 use Rattle.chess_rules.proofs.Bits.{off_left, off_right, on_left, on_right, word_has}
 use Rattle.chess_rules.proofs.listing_moves.Targeting.{every_square_on, false_by}
 use Rattle.chess_rules.proofs.making_moves.Pseudo.{king_is_no_pawn}
-use Rattle.chess_mates.proofs.Hurdles.{all_reach, man_is, reached_is}
+use Rattle.chess_mates.proofs.Hurdles.{all_reach, reached_is}
+use Rattle.chess_mates.proofs.KindByKind.{of_all}
 use Rattle.chess_rules.proofs.listing_moves.Walks.{off_second}
 use Rattle.std.proofs.lemmas.Nat.Bits.{bit_at_not}
 use Rattle.chess_mates.proofs.CheckTargets.{last_rank_on}
@@ -334,10 +336,6 @@ module _ (v : Siege) (g : Field) where
   abbrev WeakAs : Kind → Risk → Type 0
   WeakAs j r = (s : ℕ) → s < 64 → (bit_at (squares_for v.men j) s == 1) ≡ true → IsWeak v g r (record { colour = v.men.colour; kind = j }) s
 
-  weak_kind : (j : Kind) (r : Risk) (s : ℕ) (x : Man) → WeakAs j r → IsAttacker v.men x s → x.kind ≡ j → IsWeak v g r x s
-  weak_kind j r s x h i kind = subst (λ (y : Man). IsWeak v g r y s) (man_is x v.men.colour j i.mine kind)
-      (h s i.small (ap (λ (j : Kind). bit_at (squares_for v.men j) s == 1) (sym kind) ∙ i.on))
-
   left : (q r : Risk) (s : ℕ) (x : Man) → IsWeak v g q x s → IsWeak v g (Both q r) x s
   left q r s x h = record { weak = λ a b small inside off. h.weak a b small inside (off_one v.hurdles q r a b off) }
 
@@ -347,13 +345,12 @@ module _ (v : Siege) (g : Field) where
   -- for `risk_of_all`
   pub all_weak : (K Q R B N P : Risk) → WeakAs King K → WeakAs Queen Q → WeakAs Rook R → WeakAs Bishop B → WeakAs Knight N → WeakAs Pawn P
       → AreWeak v g (Both (Both (Both (Both (Both K Q) R) B) N) P)
-  all_weak K Q R B N P kings queens rooks bishops knights pawns = record { weak = λ s x i. by s x i x.kind refl } where
-    by : (s : ℕ) (x : Man) → IsAttacker v.men x s → (j : Kind) → x.kind ≡ j → IsWeak v g (Both (Both (Both (Both (Both K Q) R) B) N) P) x s
-    by s x i King e = left _ P s x (left _ N s x (left _ B s x (left _ R s x (left K Q s x (weak_kind King K s x kings i e)))))
-    by s x i Queen e = left _ P s x (left _ N s x (left _ B s x (left _ R s x (right K Q s x (weak_kind Queen Q s x queens i e)))))
-    by s x i Rook e = left _ P s x (left _ N s x (left _ B s x (right _ R s x (weak_kind Rook R s x rooks i e))))
-    by s x i Bishop e = left _ P s x (left _ N s x (right _ B s x (weak_kind Bishop B s x bishops i e)))
-    by s x i Knight e = left _ P s x (right _ N s x (weak_kind Knight N s x knights i e))
-    by s x i Pawn e = right _ P s x (weak_kind Pawn P s x pawns i e)
-    by s x i Grasshopper e = absurd (false≢true (sym (off_zero s) ∙ ap (λ (j : Kind). bit_at (squares_for v.men j) s == 1) (sym e) ∙ i.on))
-    by s x i Nightrider e = absurd (false≢true (sym (off_zero s) ∙ ap (λ (j : Kind). bit_at (squares_for v.men j) s == 1) (sym e) ∙ i.on))
+  all_weak K Q R B N P kings queens rooks bishops knights pawns = record {
+    weak = of_all v.men (λ x s. IsWeak v g (Both (Both (Both (Both (Both K Q) R) B) N) P) x s)
+        (λ s low on. left _ P s _ (left _ N s _ (left _ B s _ (left _ R s _ (left K Q s _ (kings s low on))))))
+        (λ s low on. left _ P s _ (left _ N s _ (left _ B s _ (left _ R s _ (right K Q s _ (queens s low on))))))
+        (λ s low on. left _ P s _ (left _ N s _ (left _ B s _ (right _ R s _ (rooks s low on)))))
+        (λ s low on. left _ P s _ (left _ N s _ (right _ B s _ (bishops s low on))))
+        (λ s low on. left _ P s _ (right _ N s _ (knights s low on)))
+        (λ s low on. right _ P s _ (pawns s low on));
+  }

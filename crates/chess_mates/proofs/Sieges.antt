@@ -3,33 +3,40 @@ use Rattle.chess_rules.proofs.Basics.{List, None, Option, Some, and_parts, ap, a
 use Rattle.chess_mates.proofs.Chess.{Bishop, Colour, Grasshopper, IsWellFormed, Kind, King, Knight, Man, Nightrider, Pawn, Position, Queen, Rook, RuleSet, White, corner, is_fairy, is_man, is_on_some, is_of_colour, is_square, king_square, leaps, man_on, occupied_squares, other, queen_steps}
 use Rattle.chess_mates.proofs.Chess.{diagonal_steps, reaches_as, rides, same_colour, same_colour-true, same_kind, same_kind-true, side_of, squares, squares_of, straight_steps, word}
 use Rattle.chess_core.specs.Castling.{has_unmoved}
-use Rattle.chess_mates.specs.declared.siege.Attackers.{Attackers}
+use Rattle.chess_mates.specs.ties.Attackers.{AreAttackers, HasNoFairy, IsAttacker, squares_for}
+use Rattle.chess_mates.specs.declared.attackers.Attackers.{Attackers}
 use Rattle.chess_mates.specs.declared.siege.Field.{Field}
 use Rattle.chess_mates.specs.declared.siege.Risk.{Risk}
 use Rattle.chess_mates.specs.declared.siege.Siege.{Siege}
-use Rattle.chess_mates.specs.ties.Siege.{AreAttackers, AreCastlingSquares, AreClosed, AreHurdles, AreReached, AreThreats, AreWeak, IsAttacker, IsCastlingHarmless, IsField, IsHurdle, IsNear, IsRiskAt, IsShut, IsSiege, IsSiegeOf, IsWhole, is_rider, men_on, squares_for}
-use Rattle.chess_mates.specs.ties.Threats.{HasNoFairy}
+use Rattle.chess_mates.specs.ties.Siege.{AreAdjacent, AreCastlingSquares, AreClosed, AreHurdles, AreReached, AreThreats, AreWeak, IsCastlingHarmless, IsField, IsHurdle, IsNear, IsRiskAt, IsShut, IsSiege, IsSiegeOf, IsWhole, is_rider, men_on}
 use Rattle.chess_mates.specs.ties.Siege.{reached_over}
 use Rattle.chess_rules.proofs.Bits.{off_left, off_right, on_left, on_right, word_has}
 use Rattle.chess_rules.proofs.Tests.{find_no}
 use Rattle.chess_rules.proofs.attacks.StayingInCheck.{king_there}
 use Rattle.chess_rules.proofs.listing_moves.Targeting.{every_square_on, false_by}
-use Rattle.chess_mates.proofs.Hurdles.{man_is, on_one, reached_is}
+use Rattle.chess_mates.proofs.Hurdles.{on_one, reached_is}
+use Rattle.chess_mates.proofs.KindByKind.{man_is}
 use Rattle.chess_rules.proofs.listing_moves.Walks.{off_zero, on_first}
 use Rattle.chess_mates.proofs.Risks.{denied_on, off_word, none_on, weak_never}
 use Rattle.chess_mates.proofs.LastingFlights.{on_both}
 
--- the king's field
-pub field_is : (v : Siege) (k n r b : ℕ) → n ≡ word (λ t. list_any (leaps k t) queen_steps) → v.hurdles < 2 ^ 64 → v.closed < 2 ^ 64 → v.men.kings < 2 ^ 64
-    → ((men : List (Option Man)) → v.hurdles ≡ occupied_squares men → r ≡ word (reaches_as men White Rook k))
-    → ((men : List (Option Man)) → v.hurdles ≡ occupied_squares men → b ≡ word (reaches_as men White Bishop k))
-    → IsField v
-    (record { king = k; near = bit_and (bit_and n (bit_not w64 v.closed)) (bit_not w64 v.men.kings); straight = r; diagonal = b; lines = bit_or r b })
-unfolding reached_over reaches_as
-field_is v k n r b near hurdles closed kings rook bishop = record {
+-- for `adjacent_squares`
+pub adjacent_are : (v : Siege) (k n : ℕ) → n ≡ word (λ t. list_any (leaps k t) queen_steps) → v.closed < 2 ^ 64 → v.men.kings < 2 ^ 64
+    → AreAdjacent v k (bit_and (bit_and n (bit_not w64 v.closed)) (bit_not w64 v.men.kings))
+adjacent_are v k n near closed kings = record {
   next = λ f small on. sym (word_has (λ t. list_any (leaps k t) queen_steps) n f near small) ∙ on_first n _ f (on_first _ _ f on);
   free = λ f small on. off_word n v.closed f closed small (on_first _ _ f on);
   kings = λ f small on. off_word _ v.men.kings f kings small on;
+}
+
+-- the king's field
+pub field_is : (v : Siege) (k n r b : ℕ) → AreAdjacent v k n → v.hurdles < 2 ^ 64
+    → ((men : List (Option Man)) → v.hurdles ≡ occupied_squares men → r ≡ word (reaches_as men White Rook k))
+    → ((men : List (Option Man)) → v.hurdles ≡ occupied_squares men → b ≡ word (reaches_as men White Bishop k))
+    → IsField v (record { king = k; near = n; straight = r; diagonal = b; lines = bit_or r b })
+unfolding reached_over reaches_as
+field_is v k n r b near hurdles rook bishop = record {
+  near = near;
   straight = λ c. record { inside = straight };
   diagonal = λ c. record { inside = diagonal };
   lines = λ c. record {

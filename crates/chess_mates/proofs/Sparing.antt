@@ -7,13 +7,14 @@ use Rattle.chess_core.specs.Castling.{has_unmoved}
 use Rattle.chess_core.specs.Squares.{file_of}
 use Rattle.chess_rules.specs.Play.{captured_man, is_double_step, rebirth}
 use Rattle.chess_rules.specs.RuleSet.{captures_are_reborn}
+use Rattle.chess_mates.specs.ties.Attackers.{HasNoFairy, IsAttacker, squares_for}
 use Rattle.chess_mates.specs.declared.siege.Field.{Field}
 use Rattle.chess_mates.specs.declared.siege.Risk.{Risk}
 use Rattle.chess_mates.specs.declared.siege.Siege.{Siege}
 use Rattle.chess_mates.specs.ties.Flights.{has_flight}
-use Rattle.chess_mates.specs.ties.Siege.{IsHome, IsArrival, IsAttacker, IsCastlingHarmless, IsCheckWord, IsFlight, IsNear, IsOff, IsQuiet, IsRiskAt, IsShut, IsShutAt, IsSiege, IsSiegeOf, IsUnguarded, IsWeakAt, is_rider, men_on, squares_for}
+use Rattle.chess_mates.specs.ties.Siege.{IsHome, IsArrival, IsCastlingHarmless, IsCheckWord, IsFlight, IsNear, IsOff, IsQuiet, IsRiskAt, IsShut, IsShutAt, IsSiege, IsSiegeOf, IsUnguarded, IsWeakAt, is_rider, men_on}
 use Rattle.chess_mates.specs.ties.Mates.{allows_mate}
-use Rattle.chess_mates.specs.ties.Threats.{AreRisky, HasNoFairy, IsMereMove, IsPlainMove}
+use Rattle.chess_mates.specs.ties.Threats.{AreRisky, IsMereMove, IsPlainMove}
 use Rattle.chess_rules.specs.ties.Sifting.{AreSifted}
 use Rattle.chess_mates.specs.ties.Siege.{reached_over}
 use Rattle.chess_rules.proofs.Bits.{word_has}
@@ -493,13 +494,13 @@ module _ (rule : RuleSet) (p : Position) (m : Move) (x : Man) (v : Siege) (k : �
         on_f = flight.left.on
 
         open_f : (bit_at v.closed f == 1) ≡ false
-        open_f = i.at.is.free f in_f on_f
+        open_f = i.at.is.near.free f in_f on_f
 
         own_f : is_of_colour (man_on p.men f) p.turn ≡ false
         own_f = false_by _ (λ own. false≢true (sym open_f ∙ i.fits.closed.own f in_f own))
 
         no_king_f : is_man (man_on p.men f) (other p.turn) King ≡ false
-        no_king_f = false_by _ (λ king. false≢true (sym (i.at.is.kings f in_f on_f) ∙ i.fits.kings f in_f king))
+        no_king_f = false_by _ (λ king. false≢true (sym (i.at.is.near.kings f in_f on_f) ∙ i.fits.kings f in_f king))
 
         -- who stands there stood there before
         stood_f : (z : Man) → man_on r.men f ≡ Some z → man_on p.men f ≡ Some z
@@ -561,7 +562,7 @@ module _ (rule : RuleSet) (p : Position) (m : Move) (x : Man) (v : Siege) (k : �
         flees : has_flight rule r ≡ true
         flees =
             has_one rule r p.turn k f well_r turn_r king_r in_f (ap (λ (c : ℕ). list_any (leaps c f) queen_steps) (sym i.at.king)
-            ∙ i.at.is.next f in_f on_f)
+            ∙ i.at.is.near.next f in_f on_f)
             free_f vacant_f unreached
 
       unmated_plainly : mates rule q n ≡ false

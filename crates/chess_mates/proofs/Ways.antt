@@ -1,10 +1,11 @@
 -- The ways of a defender to a square that isn't risky: his king goes, or another man, who may leave a line.
-use Rattle.chess_rules.proofs.Basics.{Option, Some, [], and_from, ap, bit_and, bit_at, bit_not, bit_or, cases_lt, cond-true, cond-false, false, false≢true, inl, inr, sym, subst, true, w64, ℕ, ◌<◌, ◌==◌, ◌^◌, ◌∙◌, ◌≡◌, ◌⊎◌}
-use Rattle.chess_mates.proofs.Chess.{Colour, IsWellFormed, captures_do_more, King, Man, Move, Position, RuleSet, is_legal, is_man, is_pseudo_legal, man_on, mates_behind, may_go, other, position_after}
+use Rattle.chess_rules.proofs.Basics.{Option, agree_below_at, list_any, refl, Some, [], and_from, ap, bit_and, bit_at, bit_not, bit_or, cases_lt, cond-true, cond-false, false, false≢true, inl, inr, sym, subst, true, w64, ℕ, ◌<◌, ◌==◌, ◌^◌, ◌∙◌, ◌≡◌}
+use Rattle.chess_mates.proofs.Chess.{Colour, along, leaps, queen_steps, IsWellFormed, captures_do_more, King, Man, Move, Position, RuleSet, is_legal, is_man, is_pseudo_legal, man_on, mates_behind, may_go, other, position_after}
 use Rattle.chess_mates.proofs.Chess.{same_colour, same_kind}
 use Rattle.std.proofs.lemmas.Nat.Bits.{bit_at_above}
-use Rattle.chess_mates.specs.declared.siege.Attackers.{Attackers}
-use Rattle.chess_mates.specs.ties.Siege.{AreAttackers, AreCastlingSquares, AreClosed, IsBarred, IsSafeMove, IsSafeStep}
+use Rattle.chess_mates.specs.ties.Attackers.{AreAttackers}
+use Rattle.chess_mates.specs.declared.attackers.Attackers.{Attackers}
+use Rattle.chess_mates.specs.ties.Siege.{AreCastlingSquares, AreClosed, IsBarred, IsSafeMove, IsSafeStep, IsSettledStep, IsSparedStep, KeepsFlight}
 use Rattle.chess_mates.specs.ties.Threats.{AreMere, ArePlain, AreRisky, AreThreatsOf, IsMereMove, IsPlainMove, ToldThreats}
 use Rattle.chess_rules.proofs.Bits.{off_left, off_right}
 use Rattle.chess_rules.proofs.Tests.{some_is}
@@ -15,9 +16,16 @@ use Rattle.chess_rules.proofs.listing_moves.Targeting.{arrival_needed}
 use Rattle.chess_rules.proofs.listing_moves.Walks.{off_second}
 use Rattle.chess_rules.proofs.making_moves.Pseudo.{made}
 use Rattle.chess_mates.proofs.Risks.{denied_on}
+use Rattle.chess_mates.proofs.LastingFlights.{no_mate_behind as flight_behind}
+use Rattle.chess_rules.proofs.listing_moves.Targeting.{false_by}
 use Rattle.chess_mates.proofs.Barring.{barred_is_illegal}
 use Rattle.chess_mates.proofs.Sparing.{no_mate_behind}
 use Rattle.chess_core.proofs.Kept.{same_colour-refl}
+
+-- no step stays where it begins
+no_step_back : (t : ℕ) → t < 64 → list_any (leaps t t) queen_steps ≡ false
+unfolding along leaps
+no_step_back t small = agree_below_at (λ n. list_any (leaps n n) queen_steps) (λ _. false) 64 t refl small
 
 module _ (rule : RuleSet) (p : Position) (x : Man) (v : ToldThreats) (well : IsWellFormed p) (threats : AreThreatsOf rule p v) where
   module _ (m : Move) (may : is_pseudo_legal rule p m ≡ true) (here : man_on p.men m.from ≡ Some x) (small : m.to < 64) (from : m.from < 64)
@@ -29,8 +37,8 @@ module _ (rule : RuleSet) (p : Position) (x : Man) (v : ToldThreats) (well : IsW
         ap (λ (o : Option Man). is_man o p.turn King) here ∙ and_from _ _ (ap (λ (c : Colour). same_colour c p.turn) mine ∙ same_colour-refl p.turn) king in
         some_is v.siege.king m.from (threats.fits.king ∙ king_is p.men p.turn m.from well.kings from stands)
 
-    king_spared : same_kind x.kind King ≡ true → IsSafeStep v.siege m.to → mates_behind rule (position_after rule p m) 0 ≡ []
-    king_spared king safe =
+    king_safe : same_kind x.kind King ≡ true → IsSafeStep v.siege m.to → mates_behind rule (position_after rule p m) 0 ≡ []
+    king_safe king safe =
         let siege = threats.threats.siege in
         let same = at_king king in
         no_mate_behind rule p m x v.siege m.to safe.risk well may here small from (cond-true (same_kind x.kind King) _ _ king) (record {
@@ -44,6 +52,21 @@ module _ (rule : RuleSet) (p : Position) (x : Man) (v : ToldThreats) (well : IsW
           shut = record { shut = λ s z a rider on. absurd ((siege.hurdles.men m.from from on).1 same) };
           off_king = λ e inside on same. false≢true (sym safe.free ∙ (rw same at on));
         })
+
+    -- a step after which he keeps a flight
+    king_keeps : same_kind x.kind King ≡ true → KeepsFlight rule v.siege m.to → mates_behind rule (position_after rule p m) 0 ≡ []
+    king_keeps king kept =
+        let fits = threats.fits in
+        let near = kept.adjacent in
+        flight_behind rule p m x m.to kept.near well may here kept.captures plain.castling small (cond-true (same_kind x.kind King) _ _ king) (record {
+          next = near.next;
+          arrival = λ f low on same. false≢true (sym (no_step_back f low) ∙ (rw (← same) at (near.next f low on)));
+          own = λ f low on. false_by _ (λ own. false≢true (sym (near.free f low on) ∙ fits.closed.own f low own));
+          king = λ f low on. false_by _ (λ king. false≢true (sym (near.kings f low on) ∙ fits.kings f low king));
+        }) v.siege.men fits.men fits.colour threats.told.fairies kept.keeps
+
+    king_spared : same_kind x.kind King ≡ true → IsSparedStep rule v.siege m.to → mates_behind rule (position_after rule p m) 0 ≡ []
+    king_spared king spared = elim spared [ inl safe ↦ king_safe king safe | inr kept ↦ king_keeps king kept ]
 
     -- a step to a square that an attacker reaches isn't legal
     king_barred : same_kind x.kind King ≡ true → IsBarred rule v.siege m.to → is_legal rule p m ≡ true → ⊥
@@ -104,7 +127,7 @@ module _ (rule : RuleSet) (p : Position) (x : Man) (v : ToldThreats) (well : IsW
     module _ (fits_u : u < 2 ^ 64) where
       -- for the king's steps
       pub steps_are_risky : same_kind x.kind King ≡ true
-          → ((t : ℕ) → t < 64 → (bit_at (bit_and w (bit_not w64 u)) t == 1) ≡ true → (bit_at r t == 1) ≡ false → IsSafeStep v.siege t ⊎ IsBarred rule v.siege t)
+          → ((t : ℕ) → t < 64 → (bit_at (bit_and w (bit_not w64 u)) t == 1) ≡ true → (bit_at r t == 1) ≡ false → IsSettledStep rule v.siege t)
           → AreRisky rule p s w (bit_and w (bit_or u r))
       steps_are_risky king safe = risky_by (λ m legal may origin small on off none plain mere.
           let there = ap (man_on p.men) origin ∙ here in

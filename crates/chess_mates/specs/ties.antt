@@ -1,4 +1,5 @@
 pub mod Aims
+pub mod Attackers
 pub mod CheckSquares
 pub mod Flights
 pub mod Idle

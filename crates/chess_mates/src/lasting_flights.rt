@@ -2,12 +2,13 @@
 //! stood on the board, so it doesn't matter who goes, captures or is captured.
 ghost use Rattle.std.specs.Prelude.{◌≡◌, ◌≢◌, ◌<◌, ◌==◌, [], ℕ, IfSome, Some, not, true, false};
 ghost use Rattle.std.specs.Int.{bit_at};
-ghost use Rattle.chess_core.specs.Position.{man_on, same_kind};
+ghost use Rattle.chess_core.specs.Position.{other, same_kind};
 ghost use Rattle.chess_core.specs.SquareNames.{e1, e8};
 ghost use Rattle.chess_core.specs.Steps.{gait_of, is_hopper};
 ghost use Rattle.chess_core.specs.WellFormed.{IsWellFormed};
 ghost use Rattle.chess_core.specs.declared.man.Kind.TheVariants.{King};
 ghost use Rattle.chess_core.specs.declared.man.Man.{Man};
+ghost use Rattle.chess_mates.specs.ties.Attackers.{HasNoFairy};
 ghost use Rattle.chess_mates.specs.ties.LastingFlights.{AreApproached, AreGuarded, AreNear, AreReached, IsLeft, KeepsOne, LeaveOne, LeavesOne};
 ghost use Rattle.chess_mates.specs.ties.Mates.{mates_behind};
 ghost use Rattle.chess_rules.specs.Legal.{is_legal};
@@ -16,6 +17,7 @@ ghost use Rattle.chess_rules.specs.RuleSet.{captures_do_more};
 ghost use Rattle.chess_rules.specs.ties.Sight.{king_after};
 ghost use Rattle.chess_rules.specs.ties.Targets.{is_promoting};
 
+use crate::attackers::{Attackers, attackers_on, has_no_fairy};
 use crate::open_board::open_targets;
 use chess_core::board::Board;
 use chess_core::man::{Colour, Kind, Man, Move};
@@ -42,37 +44,33 @@ pub(crate) fn open_reach(man: Man, from: Square) -> Squares
     }
 }
 
-// The squares that the man on `from`, if there is one, reaches so.
-#[tactic(auto, using(crate::proofs::LastingFlights::some_reach))]
-fn open_reach_from(board: &Board, from: Square) -> Squares
-    ensures { (x : Man) → man_on board.now.men from ≡ Some x → AreReached x from result }
+// Those that the men of this kind reach so, who stand on the squares of a word.
+fn open_reach_of(colour: Colour, kind: Kind, squares: Squares) -> Squares
+    ensures { (s : ℕ) → s < 64 → (bit_at squares s == 1) ≡ true
+        → AreReached (record { colour = colour; kind = kind }) s result }
 {
-    match board.man_at(from) {
-        Some(man) => open_reach(man, from),
-        None => 0,
-    }
-}
-
-// Those that the men on the squares of a word reach so.
-fn reach_together(board: &Board, men: Squares) -> Squares
-    ensures { (s : ℕ) (x : Man) → s < 64 → (bit_at men s == 1) ≡ true
-        → man_on board.now.men s ≡ Some x → AreReached x s result }
-{
+    let man = Man { colour, kind };
     let mut reached = 0u64;
     let mut number = 0u8;
-    while let Some(from) = next_bit(men, number) {
-        let more = open_reach_from(board, from);
+    while let Some(from) = next_bit(squares, number) {
+        let more = open_reach(man, from);
         reached |= more;
         number = from.index() + 1;
     }
     reached
 }
 
-// Those that some man of the colour reaches so.
-fn guarded_squares(board: &Board, colour: Colour) -> Squares
-    ensures { AreGuarded board.now.men colour result }
+// Those that some man reaches so.
+#[tactic(auto, using(crate::proofs::LastingFlights::all_guard))]
+pub(crate) fn guarded_squares(men: &Attackers) -> Squares
+    ensures { AreGuarded men.now result }
 {
-    reach_together(board, board.side(colour))
+    open_reach_of(men.colour, Kind::King, men.kings)
+        | open_reach_of(men.colour, Kind::Queen, men.queens)
+        | open_reach_of(men.colour, Kind::Rook, men.rooks)
+        | open_reach_of(men.colour, Kind::Bishop, men.bishops)
+        | open_reach_of(men.colour, Kind::Knight, men.knights)
+        | open_reach_of(men.colour, Kind::Pawn, men.pawns)
 }
 
 // The first of the squares that is left once the man has come to `to`.
@@ -149,26 +147,15 @@ fn leaves_one(squares: Squares, man: Man, from: Square) -> bool
     leaves_one_each(squares, man, targets & taking)
 }
 
-// Whether the man on the square, if there is one, leaves one so.
-#[tactic(auto, using(crate::proofs::LastingFlights::some_leaves))]
-fn leaves_one_from(board: &Board, squares: Squares, from: Square) -> bool
-    ensures { result ≡ true → (x : Man) → man_on board.now.men from ≡ Some x
-        → LeavesOne squares x from }
+// Whether each man of this kind leaves one so, who stands on a square of the word.
+fn each_leaves_one(squares: Squares, colour: Colour, kind: Kind, men: Squares) -> bool
+    ensures { result ≡ true → (s : ℕ) → s < 64 → (bit_at men s == 1) ≡ true
+        → LeavesOne squares (record { colour = colour; kind = kind }) s }
 {
-    match board.man_at(from) {
-        Some(man) => leaves_one(squares, man, from),
-        None => true,
-    }
-}
-
-// Whether each man on the squares of a word leaves one so.
-fn leave_one_each(board: &Board, squares: Squares, men: Squares) -> bool
-    ensures { result ≡ true → (s : ℕ) (x : Man) → s < 64 → (bit_at men s == 1) ≡ true
-        → man_on board.now.men s ≡ Some x → LeavesOne squares x s }
-{
+    let man = Man { colour, kind };
     let mut number = 0u8;
     while let Some(from) = next_bit(men, number) {
-        if !leaves_one_from(board, squares, from) {
+        if !leaves_one(squares, man, from) {
             return false;
         }
         number = from.index() + 1;
@@ -176,11 +163,26 @@ fn leave_one_each(board: &Board, squares: Squares, men: Squares) -> bool
     true
 }
 
-// Whether each man of the colour does.
-fn leave_one(board: &Board, squares: Squares, colour: Colour) -> bool
-    ensures { result ≡ true → LeaveOne board.now.men colour squares }
+// Whether each man does.
+fn leave_one(squares: Squares, men: &Attackers) -> bool
+    ensures { result ≡ true → LeaveOne men.now squares }
 {
-    leave_one_each(board, squares, board.side(colour))
+    if !each_leaves_one(squares, men.colour, Kind::Queen, men.queens) {
+        return false;
+    }
+    if !each_leaves_one(squares, men.colour, Kind::Rook, men.rooks) {
+        return false;
+    }
+    if !each_leaves_one(squares, men.colour, Kind::Bishop, men.bishops) {
+        return false;
+    }
+    if !each_leaves_one(squares, men.colour, Kind::Knight, men.knights) {
+        return false;
+    }
+    if !each_leaves_one(squares, men.colour, Kind::Pawn, men.pawns) {
+        return false;
+    }
+    each_leaves_one(squares, men.colour, Kind::King, men.kings)
 }
 
 // The square of the mover's king after this man's move, castling apart.
@@ -204,14 +206,14 @@ fn near_squares(board: &Board, m: &Move, king: Square) -> Squares
     king_leaps(king) & !board.side(mover) & !enemy_king & !only(Some(m.to))
 }
 
-// Whether those of the squares that no enemy reaches, were the others gone, can't all be taken with one move.
+// Whether those of the squares that none of the men reaches, were the others gone, can't all be taken with one move.
 #[tactic(auto, using(crate::proofs::LastingFlights::keeps_one))]
-fn keeps_one(board: &Board, near: Squares) -> bool
-    ensures { result ≡ true → KeepsOne board.now near }
+pub(crate) fn keeps_one(men: &Attackers, guarded: Squares, near: Squares) -> bool
+    requires { AreGuarded men.now guarded }
+    ensures { result ≡ true → KeepsOne men.now near }
 {
-    let enemy = board.turn().other();
-    let squares = near & !guarded_squares(board, enemy);
-    squares != 0 && leave_one(board, squares, enemy)
+    let squares = near & !guarded;
+    squares != 0 && leave_one(squares, men)
 }
 
 // Where the enemy has more men than these such flights are rare, and are not looked for.
@@ -219,12 +221,13 @@ const MOST_MEN: u32 = 7;
 
 // Whether such flights are looked for: not in Circe, nor beside many enemies or their fairy men.
 fn are_looked_for<R: Rules>(board: &Board) -> bool
-    ensures { result ≡ true → captures_do_more R.rule ≡ false }
+    ensures captures { result ≡ true → captures_do_more R.rule ≡ false }
+    ensures fairies { result ≡ true → HasNoFairy board.now.men (other board.now.turn) }
 {
     let enemy = board.turn().other();
     !R::captures_do_more()
         && board.side(enemy).count_ones() <= MOST_MEN
-        && board.squares(enemy, Kind::Grasshopper) | board.squares(enemy, Kind::Nightrider) == 0
+        && has_no_fairy(board, enemy)
 }
 
 // Whether the man doesn't castle.
@@ -257,5 +260,10 @@ pub fn keeps_flight<R: Rules>(board: &Board, m: &Move) -> bool
         return false;
     };
     let near = near_squares(board, m, king);
-    near != 0 && keeps_one(board, near)
+    if near == 0 {
+        return false;
+    }
+    let enemy = board.turn().other();
+    let men = attackers_on(board, enemy);
+    keeps_one(&men, guarded_squares(&men), near)
 }

@@ -6,14 +6,17 @@
 #![tactic(auto)]
 
 pub mod aims;
+mod attackers;
 mod checks;
 pub mod every_move;
 mod flights;
+mod homes;
 pub mod lasting_flights;
 pub mod mating_moves;
 mod open_board;
 mod origins;
 mod siege;
+mod steps;
 pub mod threats;
 
 pub use crate::aims::aims_at_king;

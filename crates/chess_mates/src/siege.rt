@@ -4,18 +4,18 @@
 ghost use Rattle.std.specs.Prelude.{◌≡◌, ◌≢◌, ◌<◌, ◌==◌, ◌⊎◌, ℕ, IfSome, None, Some, true, false};
 ghost use Rattle.std.specs.Int.{bit_at};
 ghost use Rattle.chess_core.specs.Castling.{has_unmoved};
-ghost use Rattle.chess_core.specs.Position.{king_square, other, same_kind};
-ghost use Rattle.chess_core.specs.Squares.{file_of};
+ghost use Rattle.chess_core.specs.Position.{king_square, other};
 ghost use Rattle.chess_core.specs.WellFormed.{IsWellFormed};
 ghost use Rattle.chess_core.specs.declared.man.Kind.TheVariants.{King, Pawn};
 ghost use Rattle.chess_core.specs.declared.man.Man.{Man};
 ghost use Rattle.chess_mates.specs.declared.siege.Siege.{Siege};
-ghost use Rattle.chess_core.specs.ties.Words.{squares_of};
+ghost use Rattle.chess_mates.specs.ties.Attackers.{IsAttacker};
 ghost use Rattle.chess_mates.specs.ties.LastingFlights.{IsLeft};
-ghost use Rattle.chess_mates.specs.ties.Siege.{AreArrivals, AreAttackers, AreCastlingSquares, AreClosed, AreGuardsWithout, AreHomes, AreHomesOf, AreHurdles, AreReached, AreThreats, AreToldSteps, AreWeak, IsAttackedOver, IsAttacker, IsBarred, IsCastlingHarmless, IsCheckWord, IsField, IsHarmless, IsHurdle, IsLifted, IsMet, IsNear, IsNoCheck, IsOff, IsReached, IsReachedFrom, IsRiskAt, IsRiskBehind, IsSafeMove, IsSafeStep, IsSiege, IsSiegeOf, IsWeak, IsWhole, LeavesOne, is_leaper, is_rider, reached_over};
-ghost use Rattle.chess_rules.specs.Play.{rebirth};
+ghost use Rattle.chess_mates.specs.ties.Siege.{AreAdjacent, AreArrivals, AreCastlingSquares, AreGuardsWithout, AreHurdles, AreReached, AreThreats, AreWeak, IsAttackedOver, IsCastlingHarmless, IsCheckWord, IsField, IsHarmless, IsHurdle, IsLifted, IsMet, IsNear, IsNoCheck, IsOff, IsReached, IsReachedFrom, IsRiskAt, IsRiskBehind, IsSafeMove, IsSiege, IsSiegeOf, IsWeak, IsWhole, LeavesOne, is_leaper, is_rider, reached_over};
 ghost use Rattle.chess_rules.specs.ties.Targets.{is_promoting};
 
+use crate::attackers::{Attackers, attackers_on};
+use crate::homes::closed_squares;
 use crate::lasting_flights::open_reach;
 use crate::open_board::{open_targets, pawns_before};
 use chess_core::board::Board;
@@ -27,18 +27,6 @@ use chess_rules::reach::reach_over;
 use chess_rules::rules::Rules;
 use chess_rules::words::{contains, next_bit, only};
 
-// The squares of a side's men kind by kind, fairy men apart.
-#[derive(Clone, Copy)]
-pub(crate) struct Attackers {
-    colour: Colour,
-    kings: Squares,
-    queens: Squares,
-    rooks: Squares,
-    bishops: Squares,
-    knights: Squares,
-    pawns: Squares,
-}
-
 // The men around the defender's king, who stands on `king`: the squares of the defender's men, of the attackers, and of
 // the hurdles; those to which a rook of theirs may castle; those to which the king isn't said to flee.
 #[derive(Clone, Copy)]
@@ -46,8 +34,8 @@ pub(crate) struct Siege {
     king: Square,
     own: Squares,
     enemies: Squares,
-    hurdles: Squares,
-    men: Attackers,
+    pub(crate) hurdles: Squares,
+    pub(crate) men: Attackers,
     castled: Squares,
     closed: Squares,
 }
@@ -73,7 +61,7 @@ pub(crate) struct Guards {
 // The squares that a defender mustn't come to lest a reply may mate, and those of all lines on which hurdles count.
 #[derive(Clone, Copy)]
 pub(crate) struct Risk {
-    critical: Squares,
+    pub(crate) critical: Squares,
     lines: Squares,
 }
 
@@ -82,28 +70,6 @@ pub(crate) struct Risk {
 pub(crate) struct RiskBehind {
     from: Square,
     risk: Risk,
-}
-
-// Steps of the king, and those of them that he mustn't make, if they are legal, under rules by which faced men stand still
-// or don't.
-#[derive(Clone, Copy)]
-pub(crate) struct ToldSteps {
-    steps: Squares,
-    stand_still: bool,
-    risky: Squares,
-}
-
-impl ToldSteps {
-    // No step, of which nothing is told.
-    pub(crate) fn none() -> ToldSteps
-        ensures { (v : Siege) → AreToldSteps v result }
-    {
-        ToldSteps {
-            steps: 0,
-            stand_still: false,
-            risky: 0,
-        }
-    }
 }
 
 // The squares that the man on `from` reaches over the hurdles.
@@ -162,7 +128,7 @@ fn reach_of(
 }
 
 // The squares that queens, rooks and bishops reach.
-fn ridden_squares(hurdles: Squares, men: &Attackers, region: Squares) -> Squares
+pub(crate) fn ridden_squares(hurdles: Squares, men: &Attackers, region: Squares) -> Squares
     ensures all { AreReached hurdles men.now region is_rider result }
     ensures alone { (t : ℕ) → t < 64 → (bit_at result t == 1) ≡ true
         → IsAttackedOver hurdles men.now t }
@@ -174,7 +140,7 @@ fn ridden_squares(hurdles: Squares, men: &Attackers, region: Squares) -> Squares
 }
 
 // Those that knights, pawns and kings reach.
-fn leapt_squares(hurdles: Squares, men: &Attackers, region: Squares) -> Squares
+pub(crate) fn leapt_squares(hurdles: Squares, men: &Attackers, region: Squares) -> Squares
     ensures all { AreReached hurdles men.now region is_leaper result }
     ensures alone { (t : ℕ) → t < 64 → (bit_at result t == 1) ≡ true
         → IsAttackedOver hurdles men.now t }
@@ -466,6 +432,14 @@ fn risk_of_all(siege: &Siege, field: &Field) -> Risk
     }
 }
 
+// The squares next to a king of the defender on this square to which he might go, attacks apart.
+#[tactic(auto, using(crate::proofs::Sieges::adjacent_are))]
+pub(crate) fn adjacent_squares(siege: &Siege, king: Square) -> Squares
+    ensures { AreAdjacent siege.now king result }
+{
+    king_leaps(king) & !siege.closed & !siege.men.kings
+}
+
 // The field of a king of the defender on this square.
 #[tactic(auto, using(crate::proofs::Sieges::field_is))]
 fn field_of(siege: &Siege, king: Square) -> Field
@@ -476,7 +450,7 @@ fn field_of(siege: &Siege, king: Square) -> Field
     let diagonal = reach_over(siege.hurdles, Colour::White, Kind::Bishop, king);
     Field {
         king,
-        near: king_leaps(king) & !siege.closed & !siege.men.kings,
+        near: adjacent_squares(siege, king),
         straight,
         diagonal,
         lines: straight | diagonal,
@@ -557,23 +531,6 @@ fn castling_squares(board: &Board, colour: Colour) -> Squares
     long | short
 }
 
-// The men of the colour, fairy men apart.
-fn attackers_on(board: &Board, colour: Colour) -> Attackers
-    ensures colour { result.colour ≡ colour }
-    ensures kings { result.kings ≡ squares_of board.now.men colour King }
-    ensures men { AreAttackers board.now.men result }
-{
-    Attackers {
-        colour,
-        kings: board.squares(colour, Kind::King),
-        queens: board.squares(colour, Kind::Queen),
-        rooks: board.squares(colour, Kind::Rook),
-        bishops: board.squares(colour, Kind::Bishop),
-        knights: board.squares(colour, Kind::Knight),
-        pawns: board.squares(colour, Kind::Pawn),
-    }
-}
-
 // All men but the king, and perhaps without one of his.
 fn hurdles_of(own: Squares, enemies: Squares, king: Square, lifted: Option<Square>) -> Squares
     ensures are { AreHurdles own enemies king result }
@@ -581,97 +538,6 @@ fn hurdles_of(own: Squares, enemies: Squares, king: Square, lifted: Option<Squar
     ensures whole { lifted ≡ None → (e : ℕ) → e < 64 → IsHurdle own enemies king result e }
 {
     (own | enemies) & !only(Some(king)) & !only(lifted)
-}
-
-// The squares on which a man of the kind, who is no pawn, may be reborn.
-#[tactic(auto, using(crate::proofs::Homes::home_on))]
-fn homes_of(colour: Colour, kind: Kind) -> Squares
-    ensures { same_kind kind Pawn ≡ false → (t r : ℕ) → rebirth colour kind t ≡ Some r
-        → (bit_at result r == 1) ≡ true }
-{
-    match (colour, kind) {
-        (_, Kind::King) => 0,
-        (_, Kind::Pawn) => 0,
-        (Colour::White, Kind::Queen) => 0x08,
-        (Colour::Black, Kind::Queen) => 0x0800_0000_0000_0000,
-        (Colour::White, Kind::Rook) => 0x81,
-        (Colour::Black, Kind::Rook) => 0x8100_0000_0000_0000,
-        (Colour::White, Kind::Bishop) => 0x24,
-        (Colour::Black, Kind::Bishop) => 0x2400_0000_0000_0000,
-        (Colour::White, Kind::Knight) => 0x42,
-        (Colour::Black, Kind::Knight) => 0x4200_0000_0000_0000,
-        (Colour::White, _) => 0xff00_0000_0000_0000,
-        (Colour::Black, _) => 0xff,
-    }
-}
-
-// The square on which a pawn who is captured on the file of this square is reborn.
-fn pawn_home(colour: Colour, from: Square) -> Squares
-    ensures { (t r : ℕ) → file_of t ≡ file_of from → rebirth colour Pawn t ≡ Some r
-        → (bit_at result r == 1) ≡ true }
-{
-    match colour {
-        Colour::White => only(Square::new(from.file(), 2)),
-        Colour::Black => only(Square::new(from.file(), 7)),
-    }
-}
-
-// The squares on which the pawns may be reborn.
-fn pawn_homes(colour: Colour, pawns: Squares) -> Squares
-    ensures { (s : ℕ) → s < 64 → (bit_at pawns s == 1) ≡ true → (t r : ℕ) → file_of t ≡ file_of s
-        → rebirth colour Pawn t ≡ Some r → (bit_at result r == 1) ≡ true }
-{
-    let mut homes = 0u64;
-    let mut number = 0u8;
-    while let Some(from) = next_bit(pawns, number) {
-        let home = pawn_home(colour, from);
-        homes |= home;
-        number = from.index() + 1;
-    }
-    homes
-}
-
-// The squares on which men of the kind may be reborn, if the colour has any.
-#[tactic(auto, using(crate::proofs::Homes::homes_are, crate::proofs::Homes::no_homes_are, crate::proofs::Homes::pawn_homes_are))]
-fn homes_on(board: &Board, colour: Colour, kind: Kind) -> Squares
-    ensures { AreHomesOf board.now.men colour kind result }
-{
-    let men = board.squares(colour, kind);
-    if kind.is(Kind::Pawn) {
-        return pawn_homes(colour, men);
-    }
-    if men == 0 {
-        return 0;
-    }
-    homes_of(colour, kind)
-}
-
-// The squares on which men of the colour may be reborn.
-#[tactic(auto, using(crate::proofs::Homes::all_homes))]
-fn home_squares(board: &Board, colour: Colour) -> Squares
-    ensures { AreHomes board.now.men colour result }
-{
-    homes_on(board, colour, Kind::Queen)
-        | homes_on(board, colour, Kind::Rook)
-        | homes_on(board, colour, Kind::Bishop)
-        | homes_on(board, colour, Kind::Knight)
-        | homes_on(board, colour, Kind::Pawn)
-        | homes_on(board, colour, Kind::Grasshopper)
-        | homes_on(board, colour, Kind::Nightrider)
-}
-
-// The squares to which the king of the side to move isn't said to flee: those of his men, and in Circe all those on which
-// a man stands or may be reborn.
-#[tactic(auto, using(crate::proofs::Homes::all_closed, crate::proofs::Homes::own_closed))]
-fn closed_squares<R: Rules>(board: &Board) -> Squares
-    ensures { AreClosed R.rule board.now result }
-{
-    let turn = board.turn();
-    let own = board.side(turn);
-    if !R::captures_do_more() {
-        return own;
-    }
-    own | board.side(turn.other()) | home_squares(board, turn)
 }
 
 // The siege by the board's men of the king of the side to move, who stands on the square.
@@ -792,82 +658,4 @@ pub(crate) fn critical_from(
     } else {
         risk.critical
     }
-}
-
-// The square, if the king mustn't step there: a man stands on it, or a reply may mate him there.
-fn risky_step(siege: &Siege, to: Square) -> Squares
-    ensures { (bit_at result to == 1) ≡ false → IsSafeStep siege.now to }
-{
-    // For the proof: a square's number is below 64.
-    let _small = to.index();
-    let step = only(Some(to));
-    if contains(siege.hurdles, to) {
-        return step;
-    }
-    step & risk_at(siege, to).critical
-}
-
-// Those of the squares to which he mustn't step.
-fn risky_among(siege: &Siege, steps: Squares) -> Squares
-    ensures { (t : ℕ) → t < 64 → (bit_at steps t == 1) ≡ true → (bit_at result t == 1) ≡ false
-        → IsSafeStep siege.now t }
-{
-    let mut risky = 0u64;
-    let mut number = 0u8;
-    while let Some(to) = next_bit(steps, number) {
-        let more = risky_step(siege, to);
-        risky |= more;
-        number = to.index() + 1;
-    }
-    risky
-}
-
-// Whether fewer steps are legal isn't asked: they are told at once.
-const FEW_STEPS: u32 = 3;
-
-// The steps but for those to an empty square that an attacker reaches: they are illegal, unless attackers may stand still.
-#[tactic(auto, using(crate::proofs::Barring::barred_is))]
-fn unbarred_steps<R: Rules>(siege: &Siege, steps: Squares) -> Squares
-    ensures { (t : ℕ) → t < 64 → (bit_at steps t == 1) ≡ true
-        → (bit_at result t == 1) ≡ false → IsBarred R.rule siege.now t }
-{
-    if steps.count_ones() < FEW_STEPS || R::faced_men_stand_still() {
-        return steps;
-    }
-    let ridden = ridden_squares(siege.hurdles, &siege.men, steps);
-    let leapt = leapt_squares(siege.hurdles, &siege.men, steps);
-    steps & (siege.hurdles | !(ridden | leapt))
-}
-
-// Those of the squares to which he mustn't step, of legal steps.
-fn risky_steps<R: Rules>(siege: &Siege, steps: Squares) -> Squares
-    ensures { (t : ℕ) → t < 64 → (bit_at steps t == 1) ≡ true → (bit_at result t == 1) ≡ false
-        → IsSafeStep siege.now t ⊎ IsBarred R.rule siege.now t }
-{
-    let unbarred = unbarred_steps::<R>(siege, steps);
-    risky_among(siege, unbarred)
-}
-
-// The same, as kept if they are those; they are kept for the next question.
-pub(crate) fn kept_risky_steps<R: Rules>(
-    siege: &Siege,
-    kept: &mut ToldSteps,
-    steps: Squares,
-) -> Squares
-    requires { AreToldSteps siege.now kept.old }
-    ensures risky { (t : ℕ) → t < 64 → (bit_at steps t == 1) ≡ true
-        → (bit_at result t == 1) ≡ false → IsSafeStep siege.now t ⊎ IsBarred R.rule siege.now t }
-    ensures kept { AreToldSteps siege.now kept.new }
-{
-    let stand_still = R::faced_men_stand_still();
-    if kept.steps == steps && kept.stand_still == stand_still {
-        return kept.risky;
-    }
-    let risky = risky_steps::<R>(siege, steps);
-    *kept = ToldSteps {
-        steps,
-        stand_still,
-        risky,
-    };
-    risky
 }

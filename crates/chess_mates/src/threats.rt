@@ -5,17 +5,18 @@ ghost use Rattle.chess_core.specs.Position.{king_square};
 ghost use Rattle.chess_core.specs.WellFormed.{IsWellFormed};
 ghost use Rattle.chess_core.specs.declared.man.Move.{Move};
 ghost use Rattle.chess_mates.specs.ties.Mates.{mates_behind};
-ghost use Rattle.chess_mates.specs.ties.Threats.{AreMere, ArePlain, AreRisky, AreThreatsOf, HasNoFairy, IsPassing, IsTold};
+ghost use Rattle.chess_mates.specs.ties.Threats.{AreMere, ArePlain, AreRisky, AreThreatsOf, IsPassing, IsTold};
 ghost use Rattle.chess_rules.specs.Legal.{is_legal};
 ghost use Rattle.chess_rules.specs.Play.{position_after};
 ghost use Rattle.chess_rules.specs.RuleSet.{captures_do_more};
 ghost use Rattle.chess_rules.specs.ties.Targets.{may_go};
 
+use crate::attackers::has_no_fairy;
 use crate::open_board::capturers_before;
 use crate::siege::{
-    LAST_RANKS, Risk, RiskBehind, Siege, ToldSteps, critical_from, is_of, kept_risky_steps,
-    risk_of_siege, siege_of,
+    LAST_RANKS, Risk, RiskBehind, Siege, critical_from, is_of, risk_of_siege, siege_of,
 };
+use crate::steps::{ToldSteps, kept_risky_steps};
 use chess_core::board::Board;
 use chess_core::man::{Colour, Kind, Man, Move};
 use chess_core::square::{Square, Squares};
@@ -24,13 +25,6 @@ use chess_rules::rules::Rules;
 use chess_rules::sift::Sift;
 use chess_rules::words::only;
 use std::marker::Model;
-
-// Whether the colour has no fairy man.
-fn has_no_fairy(board: &Board, colour: Colour) -> bool
-    ensures { result ≡ true → HasNoFairy board.now.men colour }
-{
-    board.squares(colour, Kind::Grasshopper) | board.squares(colour, Kind::Nightrider) == 0
-}
 
 // The squares more than a step away, if an enemy pawn might capture on the next square ahead of a pawn on `from`.
 fn contested_squares(board: &Board, man: Man, from: Square) -> Squares
@@ -142,7 +136,7 @@ impl Threats {
     }
 
     /// Whether they are told at all: not where the side that isn't to move has a grasshopper or a nightrider, nor, but in
-    /// Circe, where it has so few men or fewer: there `keeps_flight` takes less time.
+    /// Circe, where it has only so few men or fewer.
     pub fn are_told<R: Rules>(board: &Board, few: u32) -> bool
         ensures { result ≡ true → IsTold R.rule board.now }
     {

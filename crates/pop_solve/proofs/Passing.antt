@@ -1,10 +1,9 @@
 -- Moves that are passed over since no reply to them mates.
-use Rattle.pop_solve.proofs.Words.{AreSettled, IfSome, IsNextUnsettled, IsSifted, IsWellFormed, MatchOption, Move, None, Option, Passes, Position, RuleSet, Some, [], allows_mate, append-nil, append_assoc, arith, false, filter, filter-append, from_map, is_legal, is_pseudo_legal-from_legal, length, length-append, mates_behind, min, moves_behind, moves_behind-end, moves_behind-here, place_of_triple, range_with_len, refl, sym, true, ℕ, ◌++◌, ◌+◌, ◌-◌, ◌<◌, ◌^◌, ◌∙◌, ◌∷◌, ◌≡◌}
+use Rattle.pop_solve.proofs.Words.{List, AreSettled, IfSome, IsNextUnsettled, IsSifted, IsWellFormed, MatchOption, Move, None, Option, Passes, Position, RuleSet, Some, [], allows_mate, append-nil, append_assoc, arith, filter, from_map, is_legal, is_pseudo_legal-from_legal, length, min, moves_behind, moves_behind-end, moves_behind-here, place_of_triple, range_with_len, refl, sym, true, ℕ, ◌+◌, ◌-◌, ◌<◌, ◌^◌, ◌∙◌, ◌∷◌, ◌≡◌}
 use Rattle.chess_rules.proofs.listing_moves.Between.{behind_cut}
 use Rattle.chess_rules.proofs.listing_moves.Members.{from_range}
 use Rattle.chess_rules.proofs.listing_moves.Places.{triples_numbered}
 use Rattle.chess_rules.proofs.listing_moves.Triples.{in_triples, made_is_triple}
-use Rattle.chess_rules.specs.Play.{position_after}
 use Rattle.chess_rules.specs.ties.Places.{all_triples, place_of, triple_at}
 
 module _ (rule : RuleSet) (p : Position) where
@@ -50,32 +49,19 @@ module _ (rule : RuleSet) (p : Position) where
         lawful,
       )
 
-  -- a move that no reply mates doesn't allow mate
-  pub no_mate_allowed : (m : Move) → mates_behind rule (position_after rule p m) 0 ≡ [] → allows_mate rule p m ≡ false
-  no_mate_allowed m none = rw none refl
-
-  -- before the first move none is passed over
-  pub passes_none : (place before : ℕ) → before < 2 ^ 64 → Passes rule p place (moves_behind rule p place) (AreSettled rule p before before)
-  passes_none place before range = record {
+  none_over : (place before : ℕ) (rest : List Move) → before < 2 ^ 64 → moves_behind rule p place ≡ rest
+      → Passes rule p place rest (AreSettled rule p before before)
+  none_over place before rest range here = record {
     mid = place;
     over = [];
     passed = refl;
-    here = refl;
+    here = here;
     fits = record { none = refl; counts = omega (arith, range) };
   }
 
-  -- one more is passed over
-  pub passes_one : (place at next before between after : ℕ) (m : Move)
-      → Passes rule p place (moves_behind rule p at) (AreSettled rule p before between) → moves_behind rule p at ≡ m ∷ moves_behind rule p next
-      → mates_behind rule (position_after rule p m) 0 ≡ [] → after ≡ min (between + 1) (2 ^ 64 - 1)
-      → Passes rule p place (moves_behind rule p next) (AreSettled rule p before after)
-  passes_one place at next before between after m g e none counted = record {
-    mid = next;
-    over = g.over ++ m ∷ [];
-    passed = g.passed ∙ (rw (g.here, e) (sym (append_assoc g.over (m ∷ []) (moves_behind rule p next))));
-    here = refl;
-    fits = record {
-      none = filter-append (allows_mate rule p) g.over (m ∷ []) ∙ (rw (g.fits.none, no_mate_allowed m none) refl);
-      counts = omega (arith, counted, g.fits.counts, length-append g.over (m ∷ []));
-    };
-  }
+  -- where no threats are told no move is passed over
+  pub none_passed : (place next before : ℕ) (o : Option Move) → before < 2 ^ 64
+      → MatchOption o (moves_behind rule p place ≡ []) (λ m. (moves_behind rule p place ≡ m ∷ moves_behind rule p next) × (is_legal rule p m ≡ true))
+      → IsNextUnsettled rule p place next before before o
+  none_passed place next before None range here = none_over place before [] range here
+  none_passed place next before (Some m) range here = (none_over place before (m ∷ moves_behind rule p next) range here.0, here.1)

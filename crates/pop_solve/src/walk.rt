@@ -29,7 +29,6 @@ use crate::value::{seeks, value_of};
 use arrayvec::ArrayVec;
 use chess_core::board::Board;
 use chess_core::man::Move;
-use chess_mates::lasting_flights::keeps_flight;
 use chess_mates::threats::Threats;
 use chess_rules::legal_moves::LegalMoves;
 use chess_rules::moves::Moves;
@@ -305,35 +304,8 @@ fn next_risky<R: Rules>(
     sifted.found
 }
 
-/// The same as far as `keeps_flight` says.
-fn next_without_flight<R: Rules>(
-    known: &mut Option<LegalMoves<R>>,
-    place: &mut Moves<R>,
-    board: &mut Board,
-    opened: &mut u64,
-) -> Option<Move>
-    requires well_formed { IsWellFormed board.old }
-    requires known { IfSome known.old (λ k. IsPlaceIn R.rule board.old k) }
-    ensures unchanged { board.new ≡ board.old }
-    ensures within { IfSome known.new (λ k. IsPlaceIn R.rule board.old k) }
-    ensures next { IsNextUnsettled R.rule board.old place.old place.new opened.old opened.new
-        result }
-{
-    // For the proof: the count is below 2^64.
-    let _counted = *opened;
-    while let Some(by) = next_move::<R>(known, place, board) {
-        if !keeps_flight::<R>(board, &by) {
-            return Some(by);
-        }
-        *opened = opened.saturating_add(1);
-    }
-    None
-}
-
-// Against so many men or fewer help play asks for no threats: there `keeps_flight` takes less time.
-const FEW_IN_HELP_PLAY: u32 = 4;
-
-/// The next move behind the place that isn't settled: told by threats, or by `keeps_flight` where none are told.
+/// The next move behind the place that isn't settled: each where no threats are told.
+#[tactic(auto, using(crate::proofs::Passing::none_passed))]
 fn next_unsettled<R: Rules>(
     known: &mut Option<LegalMoves<R>>,
     place: &mut Moves<R>,
@@ -347,11 +319,13 @@ fn next_unsettled<R: Rules>(
     ensures next { IsNextUnsettled R.rule board.old place.old place.new history.old.opened
         history.new.opened result }
 {
-    history.killers.tell_threats(board, FEW_IN_HELP_PLAY);
+    // For the proof: the count is below 2^64.
+    let _counted = history.opened;
+    history.killers.tell_threats(board, 0);
     let opened = &mut history.opened;
     match &mut history.killers.threats {
         Some(threats) => next_risky::<R>(threats, known, place, board, opened),
-        None => next_without_flight::<R>(known, place, board, opened),
+        None => next_move::<R>(known, place, board),
     }
 }
 

@@ -1,15 +1,16 @@
 -- Flights that the other side can't take with one move: none of its men would reach them, whoever else stood on the
 -- board (a composer's word; own).
-use Rattle.std.specs.Prelude.{◌≡◌, ◌≢◌, ◌<◌, ◌==◌, ℕ, true, false, List, Option, Some}
+use Rattle.std.specs.Prelude.{◌≡◌, ◌≢◌, ◌<◌, ◌==◌, ℕ, true, false, List, Option}
 use Rattle.std.specs.Int.{bit_at}
 use Rattle.std.specs.List.{list_any}
 use Rattle.chess_core.specs.Position.{Position, is_man, is_of_colour, man_on, other, same_kind}
 use Rattle.chess_core.specs.SquareNames.{e1, e8}
 use Rattle.chess_core.specs.Steps.{queen_steps}
-use Rattle.chess_core.specs.declared.man.Colour.{Colour}
 use Rattle.chess_core.specs.declared.man.Kind.TheVariants.{King}
 use Rattle.chess_core.specs.declared.man.Man.{Man}
 use Rattle.chess_core.specs.declared.man.Move.{Move}
+use Rattle.chess_mates.specs.declared.attackers.Attackers.{Attackers}
+use Rattle.chess_mates.specs.ties.Attackers.{IsAttacker}
 use Rattle.chess_rules.specs.Reaches.{leaps, reaches_as}
 use Rattle.chess_rules.specs.ties.Targets.{is_promoting, may_go}
 
@@ -25,9 +26,9 @@ pub record AreApproached (x : Man) (t w : ℕ) : Type 0 where
       → reaches_as men x.colour x.kind s t ≡ true
       → (bit_at w s == 1) ≡ true
 
--- it has those that each man of colour c reaches
-pub record AreGuarded (men : List (Option Man)) (c : Colour) (w : ℕ) : Type 0 where
-  pub guards : (s : ℕ) (x : Man) → s < 64 → man_on men s ≡ Some x → x.colour ≡ c → AreReached x s w
+-- it has those that each of these men reaches
+pub record AreGuarded (a : Attackers) (w : ℕ) : Type 0 where
+  pub guards : (s : ℕ) (x : Man) → IsAttacker a x s → AreReached x s w
 
 -- once x has come to t, f is left of the word: he stands on another square, and doesn't reach f, whoever else
 -- stands on the board
@@ -44,9 +45,9 @@ pub record LeavesOne (w : ℕ) (x : Man) (s : ℕ) : Type 0 where
       → is_promoting x t ≡ false
   pub away : same_kind x.kind King ≡ true → (s ≢ e1) × (s ≢ e8)
 
--- so does each man of colour c
-pub record LeaveOne (men : List (Option Man)) (c : Colour) (w : ℕ) : Type 0 where
-  pub leaves : (s : ℕ) (x : Man) → s < 64 → man_on men s ≡ Some x → x.colour ≡ c → LeavesOne w x s
+-- so does each of these men
+pub record LeaveOne (a : Attackers) (w : ℕ) : Type 0 where
+  pub leaves : (s : ℕ) (x : Man) → IsAttacker a x s → LeavesOne w x s
 
 -- squares next to k on which no man of the mover stands, neither before the move nor after it, nor the enemy's king
 pub record AreNear (p : Position) (m : Move) (k w : ℕ) : Type 0 where
@@ -57,11 +58,11 @@ pub record AreNear (p : Position) (m : Move) (k w : ℕ) : Type 0 where
   pub king : (f : ℕ) → f < 64 → (bit_at w f == 1) ≡ true
       → is_man (man_on p.men f) (other p.turn) King ≡ false
 
--- the enemy can't take each square of the word with one move: one is left of those that he doesn't guard
-pub record KeepsOne (p : Position) (w : ℕ) : Type 0 where
+-- these men can't take each square of the word with one move: one is left of those that they don't guard
+pub record KeepsOne (a : Attackers) (w : ℕ) : Type 0 where
   pub squares : ℕ
   pub guarded : ℕ
-  pub guards : AreGuarded p.men (other p.turn) guarded
-  pub leave : LeaveOne p.men (other p.turn) squares
+  pub guards : AreGuarded a guarded
+  pub leave : LeaveOne a squares
   pub within : (f : ℕ) → f < 64 → (bit_at squares f == 1) ≡ true
       → ((bit_at w f == 1) ≡ true) × ((bit_at guarded f == 1) ≡ false)

@@ -3,7 +3,7 @@ use Rattle.std.specs.Prelude.{◌≡◌, ◌≢◌, ◌<◌, ◌==◌, ◌⊎◌
 use Rattle.std.specs.Int.{bit_at}
 use Rattle.std.specs.List.{list_any}
 use Rattle.chess_core.specs.Castling.{has_unmoved}
-use Rattle.chess_core.specs.Position.{Position, is_fairy, is_man, is_of_colour, king_square, man_on, other, same_kind}
+use Rattle.chess_core.specs.Position.{Position, is_man, is_of_colour, king_square, man_on, other, same_kind}
 use Rattle.chess_core.specs.Squares.{file_of, squares}
 use Rattle.chess_core.specs.Steps.{queen_steps, straight_steps}
 use Rattle.chess_core.specs.declared.man.Colour.{Colour}
@@ -12,13 +12,14 @@ use Rattle.chess_core.specs.declared.man.Kind.{Kind}
 use Rattle.chess_core.specs.declared.man.Kind.TheVariants.{King, Queen, Rook, Bishop, Knight, Pawn}
 use Rattle.chess_core.specs.declared.man.Man.{Man}
 use Rattle.chess_core.specs.ties.Words.{side_of}
-use Rattle.chess_mates.specs.declared.siege.Attackers.{Attackers}
+use Rattle.chess_mates.specs.declared.attackers.Attackers.{Attackers}
 use Rattle.chess_mates.specs.declared.siege.Field.{Field}
 use Rattle.chess_mates.specs.declared.siege.Guards.{Guards}
 use Rattle.chess_mates.specs.declared.siege.Risk.{Risk}
 use Rattle.chess_mates.specs.declared.siege.Siege.{Siege}
-use Rattle.chess_mates.specs.declared.siege.ToldSteps.{ToldSteps}
-use Rattle.chess_mates.specs.ties.LastingFlights.{IsLeft}
+use Rattle.chess_mates.specs.declared.steps.ToldSteps.{ToldSteps}
+use Rattle.chess_mates.specs.ties.Attackers.{AreAttackers, IsAttacker}
+use Rattle.chess_mates.specs.ties.LastingFlights.{IsLeft, KeepsOne}
 use Rattle.chess_rules.specs.Play.{rebirth}
 use Rattle.chess_rules.specs.Reaches.{leaps, reaches_as}
 use Rattle.chess_rules.specs.RuleSet.{RuleSet, captures_do_more, faced_men_stand_still}
@@ -38,28 +39,6 @@ reached_over d x s t = reaches_as (men_on d) x.colour x.kind s t
 -- the word has each square that x on s reaches so
 pub record IsReached (d : ℕ) (x : Man) (s w : ℕ) : Type 0 where
   pub inside : (t : ℕ) → t < 64 → reached_over d x s t ≡ true → (bit_at w t == 1) ≡ true
-
--- the squares of a kind's men; of fairy men none
-abbrev pub squares_for : Attackers → Kind → ℕ
-squares_for a King = a.kings
-squares_for a Queen = a.queens
-squares_for a Rook = a.rooks
-squares_for a Bishop = a.bishops
-squares_for a Knight = a.knights
-squares_for a Pawn = a.pawns
-squares_for a _ = 0
-
--- x may be one of these men, on s
-pub record IsAttacker (a : Attackers) (x : Man) (s : ℕ) : Type 0 where
-  pub small : s < 64
-  pub mine : x.colour ≡ a.colour
-  pub on : (bit_at (squares_for a x.kind) s == 1) ≡ true
-
--- each man of their colour is, fairy men apart, and they alone
-pub record AreAttackers (men : List (Option Man)) (a : Attackers) : Type 0 where
-  pub stand : (s : ℕ) (x : Man) → s < 64 → man_on men s ≡ Some x → x.colour ≡ a.colour
-      → is_fairy x.kind ≡ false → IsAttacker a x s
-  pub alone : (s : ℕ) (x : Man) → IsAttacker a x s → man_on men s ≡ Some x
 
 -- rides along a queen's lines
 abbrev pub is_rider : Kind → Bool
@@ -267,12 +246,15 @@ pub record IsWeak (v : Siege) (g : Field) (r : Risk) (x : Man) (s : ℕ) : Type 
 pub record AreWeak (v : Siege) (g : Field) (r : Risk) : Type 0 where
   pub weak : (s : ℕ) (x : Man) → IsAttacker v.men x s → IsWeak v g r x s
 
--- the field of the king: squares next to him that aren't closed, and without the enemy's king; his lines
+-- squares next to k that aren't closed, and without the enemy's king
+pub record AreAdjacent (v : Siege) (k w : ℕ) : Type 0 where
+  pub next : (f : ℕ) → f < 64 → (bit_at w f == 1) ≡ true → list_any (leaps k f) queen_steps ≡ true
+  pub free : (f : ℕ) → f < 64 → (bit_at w f == 1) ≡ true → (bit_at v.closed f == 1) ≡ false
+  pub kings : (f : ℕ) → f < 64 → (bit_at w f == 1) ≡ true → (bit_at v.men.kings f == 1) ≡ false
+
+-- the field of the king: such squares next to him; his lines
 pub record IsField (v : Siege) (g : Field) : Type 0 where
-  pub next : (f : ℕ) → f < 64 → (bit_at g.near f == 1) ≡ true
-      → list_any (leaps g.king f) queen_steps ≡ true
-  pub free : (f : ℕ) → f < 64 → (bit_at g.near f == 1) ≡ true → (bit_at v.closed f == 1) ≡ false
-  pub kings : (f : ℕ) → f < 64 → (bit_at g.near f == 1) ≡ true → (bit_at v.men.kings f == 1) ≡ false
+  pub near : AreAdjacent v g.king g.near
   pub straight : (c : Colour)
       → IsReached v.hurdles (record { colour = c; kind = Rook }) g.king g.straight
   pub diagonal : (c : Colour)
@@ -353,8 +335,24 @@ pub record IsBarred (rule : RuleSet) (v : Siege) (t : ℕ) : Type 0 where
   pub free : (bit_at v.hurdles t == 1) ≡ false
   pub attacked : IsAttackedOver v.hurdles v.men t
 
--- each of these steps that isn't risky is safe, or barred by each rule as to faced men
+-- the king may step to t, where captures do no more, and keeps a flight there, whatever is played then
+pub record KeepsFlight (rule : RuleSet) (v : Siege) (t : ℕ) : Type 0 where
+  pub captures : captures_do_more rule ≡ false
+  pub near : ℕ
+  pub adjacent : AreAdjacent v t near
+  pub keeps : KeepsOne v.men near
+
+-- no reply mates after the king's step to t
+abbrev pub IsSparedStep : RuleSet → Siege → ℕ → Type 0
+IsSparedStep rule v t = IsSafeStep v t ⊎ KeepsFlight rule v t
+
+-- so it is, or the step is illegal
+abbrev pub IsSettledStep : RuleSet → Siege → ℕ → Type 0
+IsSettledStep rule v t = IsSparedStep rule v t ⊎ IsBarred rule v t
+
+-- each of these steps that isn't risky is settled, by each rule as to faced men and captures
 pub record AreToldSteps (v : Siege) (k : ToldSteps) : Type 0 where
-  pub told : (rule : RuleSet) → faced_men_stand_still rule ≡ k.stand_still → (t : ℕ) → t < 64
+  pub told : (rule : RuleSet) → faced_men_stand_still rule ≡ k.stand_still
+      → captures_do_more rule ≡ k.do_more → (t : ℕ) → t < 64
       → (bit_at k.steps t == 1) ≡ true → (bit_at k.risky t == 1) ≡ false
-      → IsSafeStep v t ⊎ IsBarred rule v t
+      → IsSettledStep rule v t

@@ -1,8 +1,8 @@
 -- Threats of mate, told before the defender's move (own).
-use Rattle.std.specs.Prelude.{◌≡◌, ◌<◌, ◌==◌, ℕ, true, false, List, [], Option, Some, None}
+use Rattle.std.specs.Prelude.{◌≡◌, ◌<◌, ◌==◌, ℕ, true, false, [], Some, None}
 use Rattle.std.specs.Int.{bit_at}
 use Rattle.std.specs.List.{list_any}
-use Rattle.chess_core.specs.Position.{Position, is_fairy, man_on, other, same_kind}
+use Rattle.chess_core.specs.Position.{Position, man_on, other, same_kind}
 use Rattle.chess_core.specs.Squares.{file_of}
 use Rattle.chess_core.specs.declared.man.Colour.{Colour}
 use Rattle.chess_core.specs.declared.man.Kind.TheVariants.{Pawn}
@@ -10,6 +10,7 @@ use Rattle.chess_core.specs.declared.man.Man.{Man}
 use Rattle.chess_core.specs.declared.man.Move.{Move}
 use Rattle.chess_mates.specs.declared.siege.Risk.{Risk}
 use Rattle.chess_mates.specs.declared.siege.Siege.{Siege}
+use Rattle.chess_mates.specs.ties.Attackers.{HasNoFairy}
 use Rattle.chess_mates.specs.ties.Mates.{mates_behind}
 use Rattle.chess_mates.specs.ties.Siege.{AreThreats, IsSiegeOf}
 use Rattle.chess_core.specs.Steps.{pawn_capture_steps}
@@ -18,11 +19,6 @@ use Rattle.chess_rules.specs.Legal.{is_legal}
 use Rattle.chess_rules.specs.Play.{capture_square, halfway, is_castling, is_double_step, position_after}
 use Rattle.chess_rules.specs.RuleSet.{RuleSet, captures_are_reborn, captures_do_more}
 use Rattle.chess_rules.specs.ties.Targets.{is_promoting, may_go}
-
--- no man of the colour is a fairy man
-pub record HasNoFairy (men : List (Option Man)) (c : Colour) : Type 0 where
-  pub none : (s : ℕ) (x : Man) → s < 64 → man_on men s ≡ Some x → x.colour ≡ c
-      → is_fairy x.kind ≡ false
 
 -- threats are told: where all that captures do more is that men are reborn, against a side that has no fairy man
 pub record IsTold (rule : RuleSet) (p : Position) : Type 0 where

@@ -2,7 +2,7 @@ use Rattle.chess_rules.proofs.Basics.{bit_or, falseâ‰¢true, refl, subst, sym, â—
 use Rattle.chess_mates.proofs.Chess.{AreApproaches, Man, Pawn, same_kind-true}
 use Rattle.chess_rules.proofs.Bits.{off_left, off_right}
 use Rattle.chess_rules.proofs.listing_moves.Targeting.{every_square_on}
-use Rattle.chess_mates.proofs.Hurdles.{man_is}
+use Rattle.chess_mates.proofs.KindByKind.{man_is}
 use Rattle.chess_mates.proofs.Risks.{harmless_idly, king_targets, pawn_idly}
 use Rattle.chess_mates.proofs.siege.suspect_squares.Goals as goal
 

@@ -1,0 +1,14 @@
+use Rattle.chess_rules.proofs.Basics.{Some, true, ◌-◌, ◌==◌, ◌≡◌, ℕ}
+use Rattle.std.specs.Int.{bit_at}
+use Rattle.chess_core.specs.Squares.{file_of}
+use Rattle.chess_mates.proofs.Chess.{Pawn}
+use Rattle.chess_mates.proofs.HoldBelow.{HoldBelow}
+use Rattle.chess_rules.specs.Play.{rebirth}
+use Rattle.chess_mates.proofs.homes.pawn_homes.Given as goal
+
+abbrev pub invariant-loop-from : goal.invariant-loop-from
+invariant-loop-from l =
+    HoldBelow l.pawns (λ s. (t r : ℕ) → file_of t ≡ file_of s → rebirth l.colour Pawn t ≡ Some r → (bit_at l.homes r == 1) ≡ true) l.number
+
+abbrev pub decreases-loop-from : goal.decreases-loop-from
+decreases-loop-from l = 64 - l.number

@@ -1,0 +1,11 @@
+use Rattle.chess_rules.proofs.Basics.{false, ◌-◌, ◌==◌, ◌≡◌}
+use Rattle.std.specs.Int.{bit_at}
+use Rattle.chess_mates.proofs.HoldBelow.{HoldBelow}
+use Rattle.chess_mates.specs.ties.Siege.{IsSparedStep}
+use Rattle.chess_mates.proofs.steps.risky_among.Given as goal
+
+abbrev pub invariant-loop-to : goal.invariant-loop-to
+invariant-loop-to g l = HoldBelow l.steps (λ t. (bit_at l.risky t == 1) ≡ false → IsSparedStep g.R.Rules.rule l.siege t) l.number
+
+abbrev pub decreases-loop-to : goal.decreases-loop-to
+decreases-loop-to g l = 64 - l.number

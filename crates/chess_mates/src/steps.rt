@@ -1,0 +1,141 @@
+//! The steps of a king who is besieged: those that he mustn't make lest a reply may mate.
+ghost use Rattle.std.specs.Prelude.{◌≡◌, ◌<◌, ◌==◌, ℕ, true, false};
+ghost use Rattle.std.specs.Int.{bit_at};
+ghost use Rattle.chess_mates.specs.declared.siege.Siege.{Siege};
+ghost use Rattle.chess_mates.specs.ties.LastingFlights.{AreGuarded};
+ghost use Rattle.chess_mates.specs.ties.Siege.{AreToldSteps, IsBarred, IsSettledStep, IsSparedStep, KeepsFlight};
+
+use crate::attackers::Attackers;
+use crate::lasting_flights::{guarded_squares, keeps_one};
+use crate::siege::{Siege, adjacent_squares, leapt_squares, ridden_squares, risk_at};
+use chess_core::square::{Square, Squares};
+use chess_rules::rules::Rules;
+use chess_rules::words::{contains, next_bit, only};
+
+// Steps of the king, and those of them that he mustn't make, if they are legal, under rules by which faced men stand still
+// or don't, and captures do more or don't.
+#[derive(Clone, Copy)]
+pub(crate) struct ToldSteps {
+    steps: Squares,
+    stand_still: bool,
+    do_more: bool,
+    risky: Squares,
+}
+
+impl ToldSteps {
+    // No step, of which nothing is told.
+    pub(crate) fn none() -> ToldSteps
+        ensures { (v : Siege) → AreToldSteps v result }
+    {
+        ToldSteps {
+            steps: 0,
+            stand_still: false,
+            do_more: false,
+            risky: 0,
+        }
+    }
+}
+
+// The squares that the men reach, were all others gone. Where captures do more nothing is told by them, and they are all.
+#[tactic(auto, using(crate::proofs::LastingFlights::all_guarded))]
+fn open_guards<R: Rules>(men: &Attackers) -> Squares
+    ensures { AreGuarded men.now result }
+{
+    if R::captures_do_more() {
+        return !0;
+    }
+    guarded_squares(men)
+}
+
+// Whether the king keeps a flight after the step, whatever is played then.
+fn keeps_flight_at<R: Rules>(siege: &Siege, guarded: Squares, to: Square) -> bool
+    requires { AreGuarded siege.now.men guarded }
+    ensures { result ≡ true → KeepsFlight R.rule siege.now to }
+{
+    !R::captures_do_more() && keeps_one(&siege.men, guarded, adjacent_squares(siege, to))
+}
+
+// The square, if the king mustn't step there: a reply may mate him there, or a man stands on it, unless he keeps a flight.
+fn risky_step<R: Rules>(siege: &Siege, guarded: Squares, to: Square) -> Squares
+    requires { AreGuarded siege.now.men guarded }
+    ensures { (bit_at result to == 1) ≡ false → IsSparedStep R.rule siege.now to }
+{
+    // For the proof: a square's number is below 64.
+    let _small = to.index();
+    if keeps_flight_at::<R>(siege, guarded, to) {
+        return 0;
+    }
+    let step = only(Some(to));
+    if contains(siege.hurdles, to) {
+        return step;
+    }
+    step & risk_at(siege, to).critical
+}
+
+// Those of the squares to which he mustn't step.
+fn risky_among<R: Rules>(siege: &Siege, steps: Squares) -> Squares
+    ensures { (t : ℕ) → t < 64 → (bit_at steps t == 1) ≡ true → (bit_at result t == 1) ≡ false
+        → IsSparedStep R.rule siege.now t }
+{
+    let guarded = open_guards::<R>(&siege.men);
+    let mut risky = 0u64;
+    let mut number = 0u8;
+    while let Some(to) = next_bit(steps, number) {
+        let more = risky_step::<R>(siege, guarded, to);
+        risky |= more;
+        number = to.index() + 1;
+    }
+    risky
+}
+
+// Whether fewer steps are legal isn't asked: they are told at once.
+const FEW_STEPS: u32 = 3;
+
+// The steps but for those to an empty square that an attacker reaches: they are illegal, unless attackers may stand still.
+#[tactic(auto, using(crate::proofs::Barring::barred_is))]
+fn unbarred_steps<R: Rules>(siege: &Siege, steps: Squares) -> Squares
+    ensures { (t : ℕ) → t < 64 → (bit_at steps t == 1) ≡ true
+        → (bit_at result t == 1) ≡ false → IsBarred R.rule siege.now t }
+{
+    if steps.count_ones() < FEW_STEPS || R::faced_men_stand_still() {
+        return steps;
+    }
+    let ridden = ridden_squares(siege.hurdles, &siege.men, steps);
+    let leapt = leapt_squares(siege.hurdles, &siege.men, steps);
+    steps & (siege.hurdles | !(ridden | leapt))
+}
+
+// Those of the squares to which he mustn't step, of legal steps.
+fn risky_steps<R: Rules>(siege: &Siege, steps: Squares) -> Squares
+    ensures { (t : ℕ) → t < 64 → (bit_at steps t == 1) ≡ true → (bit_at result t == 1) ≡ false
+        → IsSettledStep R.rule siege.now t }
+{
+    let unbarred = unbarred_steps::<R>(siege, steps);
+    risky_among::<R>(siege, unbarred)
+}
+
+// The same, as kept if they are those; they are kept for the next question.
+pub(crate) fn kept_risky_steps<R: Rules>(
+    siege: &Siege,
+    kept: &mut ToldSteps,
+    steps: Squares,
+) -> Squares
+    requires { AreToldSteps siege.now kept.old }
+    ensures risky { (t : ℕ) → t < 64 → (bit_at steps t == 1) ≡ true
+        → (bit_at result t == 1) ≡ false → IsSettledStep R.rule siege.now t }
+    ensures kept { AreToldSteps siege.now kept.new }
+{
+    let stand_still = R::faced_men_stand_still();
+    let do_more = R::captures_do_more();
+    if kept.steps == steps && kept.stand_still == stand_still && kept.do_more == do_more {
+        return kept.risky;
+    }
+    let risky = risky_steps::<R>(siege, steps);
+    *kept = ToldSteps {
+        steps,
+        stand_still,
+        do_more,
+        risky,
+    };
+    risky
+}
