@@ -12,7 +12,7 @@ ghost use Rattle.chess_core.specs.declared.man.Man.{Man};
 ghost use Rattle.chess_mates.specs.declared.siege.Siege.{Siege};
 ghost use Rattle.chess_core.specs.ties.Words.{squares_of};
 ghost use Rattle.chess_mates.specs.ties.LastingFlights.{IsLeft};
-ghost use Rattle.chess_mates.specs.ties.Siege.{AreArrivals, AreAttackers, AreCastlingSquares, AreClosed, AreGuardsWithout, AreHomes, AreHomesOf, AreHurdles, AreReached, AreThreats, AreToldSteps, AreWeak, IsAttackedOver, IsAttacker, IsBarred, IsCastlingHarmless, IsCheckWord, IsField, IsHarmless, IsHurdle, IsLifted, IsMet, IsNear, IsNoCheck, IsOff, IsReached, IsReachedFrom, IsRiskAt, IsRiskBehind, IsSafeMove, IsSafeStep, IsSiege, IsSiegeOf, IsWeak, IsWhole, LeavesOne, is_leaper, is_rider, reached_over};
+ghost use Rattle.chess_mates.specs.ties.Siege.{AreArrivals, AreAttackers, AreCaptureSquares, AreCastlingSquares, AreClosed, AreGuardsWithout, AreHomes, AreHomesOf, AreHurdles, AreReached, AreThreats, AreToldSteps, AreWeak, IsAttackedOver, IsAttacker, IsBarred, IsCastlingHarmless, IsCheckWord, IsField, IsHarmless, IsHurdle, IsLifted, IsMet, IsNear, IsNoCheck, IsOff, IsReached, IsReachedFrom, IsRiskAt, IsRiskBehind, IsSafeMove, IsSafeStep, IsSiege, IsSiegeOf, IsWeak, IsWhole, LeavesOne, is_leaper, is_rider, reached_over};
 ghost use Rattle.chess_rules.specs.Play.{rebirth};
 ghost use Rattle.chess_rules.specs.ties.Targets.{is_promoting};
 
@@ -52,12 +52,13 @@ pub(crate) struct Siege {
     closed: Squares,
 }
 
-// A king's square, the squares next to it to which he might go, attacks apart, and those of the lines from there: the
-// straight ones, the diagonals, and all.
+// A king's square, the squares next to it to which he might go, attacks apart, those on which he might capture who comes
+// there, and those of the lines from there: the straight ones, the diagonals, and all.
 #[derive(Clone, Copy)]
 pub(crate) struct Field {
     king: Square,
     near: Squares,
+    captures: Squares,
     straight: Squares,
     diagonal: Squares,
     lines: Squares,
@@ -309,7 +310,7 @@ fn watched_squares(guards: &Guards, king: Square, reached: Squares, targets: Squ
 }
 
 // The risk that the man goes from `from` to one of the squares that he reaches: to one of the targets, or to any if
-// another attacker checks once he has gone.
+// another attacker checks once he has gone. None where the king captures him.
 fn risk_of_going(
     siege: &Siege,
     field: &Field,
@@ -323,16 +324,18 @@ fn risk_of_going(
 {
     // For the proof: a square's number is below 64.
     let _small = field.king.index();
-    let guards = guards_without(siege, from, field.near | only(Some(field.king)));
+    let region = field.near | field.captures | only(Some(field.king));
+    let guards = guards_without(siege, from, region);
     let watched = watched_squares(&guards, field.king, reached, targets);
-    if may_promote_on(man, watched) {
+    let left = watched & !(field.captures & !guards.guarded);
+    if may_promote_on(man, left) {
         return Risk {
             critical: !0,
             lines: 0,
         };
     }
     Risk {
-        critical: critical_after(field.near & !guards.guarded, siege.enemies, man, watched),
+        critical: critical_after(field.near & !guards.guarded, siege.enemies, man, left),
         lines: guards.ridden,
     }
 }
@@ -466,6 +469,18 @@ fn risk_of_all(siege: &Siege, field: &Field) -> Risk
     }
 }
 
+// The squares next to the king on which he may capture, attacks apart: in Circe, where attackers stand on closed squares,
+// none.
+#[tactic(auto, using(crate::proofs::Sieges::captures_are, crate::proofs::Sieges::no_captures))]
+fn capture_squares(siege: &Siege, king: Square) -> Squares
+    ensures { AreCaptureSquares siege.now king result }
+{
+    if siege.closed & siege.enemies != 0 {
+        return 0;
+    }
+    king_leaps(king)
+}
+
 // The field of a king of the defender on this square.
 #[tactic(auto, using(crate::proofs::Sieges::field_is))]
 fn field_of(siege: &Siege, king: Square) -> Field
@@ -477,6 +492,7 @@ fn field_of(siege: &Siege, king: Square) -> Field
     Field {
         king,
         near: king_leaps(king) & !siege.closed & !siege.men.kings,
+        captures: capture_squares(siege, king),
         straight,
         diagonal,
         lines: straight | diagonal,
