@@ -309,6 +309,15 @@ fn watched_squares(guards: &Guards, king: Square, reached: Squares, targets: Squ
     }
 }
 
+// Those of the squares on which the king can't capture who comes there.
+fn uncaptured_squares(field: &Field, guards: &Guards, squares: Squares) -> Squares
+    ensures { (t : ℕ) → t < 64 → (bit_at squares t == 1) ≡ true
+        → (bit_at result t == 1) ≡ false → ((bit_at field.now.captures t == 1) ≡ true)
+        × ((bit_at guards.now.guarded t == 1) ≡ false) }
+{
+    squares & (!field.captures | guards.guarded)
+}
+
 // The risk that the man goes from `from` to one of the squares that he reaches: to one of the targets, or to any if
 // another attacker checks once he has gone. None where the king captures him.
 fn risk_of_going(
@@ -327,7 +336,7 @@ fn risk_of_going(
     let region = field.near | field.captures | only(Some(field.king));
     let guards = guards_without(siege, from, region);
     let watched = watched_squares(&guards, field.king, reached, targets);
-    let left = watched & !(field.captures & !guards.guarded);
+    let left = uncaptured_squares(field, &guards, watched);
     if may_promote_on(man, left) {
         return Risk {
             critical: !0,
