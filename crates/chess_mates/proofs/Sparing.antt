@@ -458,10 +458,6 @@ module _ (rule : RuleSet) (p : Position) (m : Move) (x : Man) (v : Siege) (k : �
           let apart = rw square at (kings_apart rule q y n well_q here_y to lawful king) in
           king_reaches r.men q.men y.colour y.kind n.to k (same_kind-true y.kind King king) ∙ (or_parts (is_absent q.men y) _ apart).1
 
-      king_near : same_kind y.kind King ≡ true → list_any (leaps k n.to) queen_steps ≡ true → reaches_as r.men y.colour y.kind n.to k ≡ true
-      unfolding reaches_as
-      king_near king near = rw (same_kind-true y.kind King king) (king-back n.to k to at_k ∙ near)
-
       -- where he gives no check
       module _ (quiet : IsQuiet v g w.checks y n.from m.from n.to) (lawful : is_legal rule q n ≡ true) where
         comes : reaches_as r.men y.colour y.kind n.to k ≡ false
@@ -490,7 +486,7 @@ module _ (rule : RuleSet) (p : Position) (m : Move) (x : Man) (v : Siege) (k : �
         no_check = ap (λ (o : Option ℕ). is_attacked_at rule r.men o (other p.turn)) king_r ∙ nobody_strikes rule r.men k p.turn unseen
 
       -- a free square next to the king that nobody reaches
-      module _ (f : ℕ) (in_f : f < 64) (near : list_any (leaps g.king f) queen_steps ≡ true) (free : is_arrival_free p.turn (man_on r.men f) ≡ true)
+      module _ (f : ℕ) (in_f : f < 64) (near : list_any (leaps k f) queen_steps ≡ true) (free : is_arrival_free p.turn (man_on r.men f) ≡ true)
           (vacant : captures_do_more rule ≡ true → man_on r.men f ≡ None) (unguarded : IsUnguarded v n.from m.from f)
           (comes_off : f ≢ n.to → (men : List (Option Man)) → reaches_as men (arriving_man y n.promo).colour (arriving_man y n.promo).kind n.to f ≡ false) where
         -- nobody attacks the king who has gone there
@@ -522,7 +518,7 @@ module _ (rule : RuleSet) (p : Position) (m : Move) (x : Man) (v : Siege) (k : �
           ]
 
         flees : has_flight rule r ≡ true
-        flees = has_one rule r p.turn k f well_r turn_r king_r in_f (ap (λ (c : ℕ). list_any (leaps c f) queen_steps) (sym i.at.king) ∙ near) free vacant unreached
+        flees = has_one rule r p.turn k f well_r turn_r king_r in_f near free vacant unreached
 
       -- a flight that is left
       module _ (flight : IsFlight v g y n.from m.from m.to n.to) where
@@ -574,45 +570,42 @@ module _ (rule : RuleSet) (p : Position) (m : Move) (x : Man) (v : Siege) (k : �
         left_flees : has_flight rule r ≡ true
         left_flees =
             let same : arriving_man y n.promo ≡ y = ap (arriving_man y) (unnamed q y n n.promo flight.plain is_n.promotion) in
-            flees f in_f (i.at.is.next f in_f on_f) free_f vacant_f flight.unguarded (λ ne men. rw same (flight.left.unreached men))
+            flees f in_f (ap (λ (c : ℕ). list_any (leaps c f) queen_steps) (sym i.at.king) ∙ i.at.is.next f in_f on_f) free_f vacant_f flight.unguarded
+            (λ ne men. rw same (flight.left.unreached men))
 
       -- he captures who has come
       module _ (captured : IsCaptured v g n.from m.from n.to) where
         came_r : man_on r.men n.to ≡ Some (arriving_man y n.promo)
         came_r =
             let came = there_now q.men n.from (capture_square q y n) n.to (arriving_man y n.promo) (omega (arith, to, well_q.size)) in
-            elim (same_or_new n.to) [
-              | inl same ↦ same ∙ came
-              | inr new ↦ absurd (let none = new.0 in cc)
-            ]
+            grind (arith, same_or_new n.to, came)
 
         enemy_from : (bit_at v.enemies n.from == 1) ≡ true
         unfolding side_of
         enemy_from =
             word_has (λ s. is_of_colour (man_on p.men s) (other p.turn)) v.enemies n.from i.fits.enemies from_small
-            ∙ ap (λ (o : Option Man). is_of_colour o (other p.turn)) stood_y ∙ ap (λ (c : Colour). same_colour c (other p.turn)) enemy_y
-            ∙ same_colour-refl (other p.turn)
+            ∙ rw (stood_y, enemy_y) (same_colour-refl (other p.turn))
 
-        plainly : captures_do_more rule ≡ true → ⊥
-        plainly circe =
-            false≢true (sym (i.at.is.captures.off n.to n.from captured.on from_small enemy_from)
-            ∙ i.fits.closed.others circe n.from from_small (ap (λ (o : Option Man). is_some o) stood_y))
+        near : list_any (leaps k n.to) queen_steps ≡ true
+        near = rw i.at.king at (i.at.is.captures.next n.to to captured.on)
 
         capture_flees : same_kind y.kind King ≡ false → has_flight rule r ≡ true
         capture_flees mortal =
-            flees n.to to (i.at.is.captures.next n.to to captured.on)
+            flees n.to to near
             (ap (is_arrival_free p.turn) came_r ∙ free_man p.turn (Some (arriving_man y n.promo))
             (ap (λ (c : Colour). same_colour c p.turn) (arriving_colour y n.promo) ∙ not_mine y p.turn enemy_y)
             (and_right _ _ (false_by _ (λ king. false≢true (sym mortal
             ∙ ap (λ (z : Man). same_kind z.kind King) (sym (arriving_king q y n n.promo is_n.promotion king)) ∙ king)))))
-            (λ circe. absurd (plainly circe)) captured.unguarded (λ ne. absurd (ne refl))
+            (λ circe. absurd (false≢true (sym (i.at.is.captures.off n.to n.from captured.on from_small enemy_from)
+            ∙ i.fits.closed.others circe n.from from_small (ap (λ (o : Option Man). is_some o) stood_y))))
+            captured.unguarded (λ ne. absurd (ne refl))
 
         unmated_captured : mates rule q n ≡ false
+        unfolding reaches_as
         unmated_captured = elim (cases_Bool (same_kind y.kind King)) [
           | inr mortal ↦ sym (no_mate_with_flight rule q n (capture_flees mortal))
-          | inl king ↦ sym (no_mate_quietly rule q n (λ lawful.
-              absurd (false≢true (sym (king_comes lawful king) ∙ king_near king
-              (ap (λ (c : ℕ). list_any (leaps c n.to) queen_steps) (sym i.at.king) ∙ i.at.is.captures.next n.to to captured.on)))))
+          | inl king ↦ sym (no_mate_quietly rule q n (λ lawful. absurd (false≢true (sym (king_comes lawful king)
+              ∙ rw (same_kind-true y.kind King king) (king-back n.to k to at_k ∙ near)))))
         ]
 
       unmated_plainly : mates rule q n ≡ false
