@@ -8,7 +8,7 @@ use Rattle.chess_mates.specs.declared.siege.Field.{Field}
 use Rattle.chess_mates.specs.declared.siege.Guards.{Guards}
 use Rattle.chess_mates.specs.declared.siege.Risk.{Risk}
 use Rattle.chess_mates.specs.declared.siege.Siege.{Siege}
-use Rattle.chess_mates.specs.ties.Siege.{AreArrivals, AreGuardsWithout, AreReached, AreWeak, IsCheckWord, IsHarmless, IsMet, IsNear, IsNoCheck, IsOff, IsReached, IsWeak, LeavesOne, is_leaper, is_rider}
+use Rattle.chess_mates.specs.ties.Siege.{AreArrivals, AreGuardsWithout, AreReached, AreWeak, IsCheckWord, IsHarmless, IsMet, IsNear, IsNoCheck, IsOff, IsReached, IsWeak, LeavesOne, is_leaper, is_rider, IsUnguarded}
 use Rattle.chess_rules.proofs.Bits.{off_left, off_right, on_left, on_right, word_has}
 use Rattle.chess_rules.proofs.listing_moves.Targeting.{every_square_on, false_by}
 use Rattle.chess_rules.proofs.making_moves.Pseudo.{king_is_no_pawn}
@@ -176,47 +176,52 @@ guards_are v s region o r l a only fits others rides leaps = record {
 pub never_off : (d l a b : ℕ) → b < 64 → IsOff d (record { critical = bit_not w64 0; lines = l }) a b → ⊥
 never_off d l a b small off = false≢true (sym off.critical ∙ every_square_on b small)
 
--- one attacker goes
-pub met_is : (v : Siege) (g : Field) (x : Man) (s targets watched c o : ℕ) (gs : Guards) (a b t : ℕ)
-    → o ≡ word (λ q. is_square (Some g.king) q) → g.king < 64 → b < 64 → t < 64 → g.near < 2 ^ 64 → gs.guarded < 2 ^ 64
-    → AreGuardsWithout v s (bit_or g.near o) gs → IsOff v.hurdles (record { critical = c; lines = gs.ridden }) a b
-    → ((bit_at gs.guarded g.king == 1) ≡ true → (bit_at watched t == 1) ≡ true)
-    → ((bit_at gs.guarded g.king == 1) ≡ false → watched ≡ targets)
-    → ((q : ℕ) → q < 64 → (bit_at watched q == 1) ≡ true → is_promoting x q ≡ false)
-    → ((q : ℕ) → q < 64 → (bit_at watched q == 1) ≡ true → LeavesOne (bit_and g.near (bit_not w64 gs.guarded)) v.enemies c x q)
-    → IsMet v g x s targets a b t
-met_is v g x s targets watched c o gs a b t only at_king inside small near fits are off every shut plain leaves there =
-    elim (cases_Bool (bit_at watched t == 1)) [
+-- for `uncaptured_squares`
+pub captured_on : (w c g t : ℕ) → c < 2 ^ 64 → t < 64 → (bit_at w t == 1) ≡ true → (bit_at (bit_and w (bit_or (bit_not w64 c) g)) t == 1) ≡ false
+    → ((bit_at c t == 1) ≡ true) × ((bit_at g t == 1) ≡ false)
+captured_on w c g t fits small on off =
+    let neither = off_second w (bit_or (bit_not w64 c) g) t off on in
+    (true_from_ne_false _ (λ none. false≢true (sym (off_left _ g t neither) ∙ bit_denied c t fits small none)), off_right _ g t neither)
+
+-- one attacker goes, and the guards of the others are those of a word with the squares next to the king and his own
+module _ (v : Siege) (g : Field) (s o : ℕ) (gs : Guards) (a : ℕ) (are : AreGuardsWithout v s (bit_or (bit_or g.near g.captures) o) gs)
+    (shut : (bit_at v.hurdles a == 1) ≡ true → (bit_at gs.ridden a == 1) ≡ false) where
+  unguarded_at : (f : ℕ) → (bit_at (bit_or (bit_or g.near g.captures) o) f == 1) ≡ true → (bit_at gs.guarded f == 1) ≡ false → IsUnguarded v s a f
+  unguarded_at f near unseen = record { region = bit_or (bit_or g.near g.captures) o; near = near; guards = gs; are = are; shut = shut; off = unseen }
+
+  -- for `risk_of_going`: a flight is left, or the king captures him, or he comes to no square that is watched
+  pub met_is : (x : Man) (targets watched left c b t : ℕ) → o ≡ word (λ q. is_square (Some g.king) q) → g.king < 64 → b < 64 → t < 64 → gs.guarded < 2 ^ 64
+      → (bit_at c b == 1) ≡ false
+      → ((bit_at gs.guarded g.king == 1) ≡ true → (bit_at watched t == 1) ≡ true)
+      → ((bit_at gs.guarded g.king == 1) ≡ false → watched ≡ targets)
+      → ((bit_at watched t == 1) ≡ true → (bit_at left t == 1) ≡ false → ((bit_at g.captures t == 1) ≡ true) × ((bit_at gs.guarded t == 1) ≡ false))
+      → ((q : ℕ) → q < 64 → (bit_at left q == 1) ≡ true → is_promoting x q ≡ false)
+      → ((q : ℕ) → q < 64 → (bit_at left q == 1) ≡ true → LeavesOne (bit_and g.near (bit_not w64 gs.guarded)) v.enemies c x q)
+      → IsMet v g x s targets a b t
+  met_is x targets watched left c b t only at_king inside small fits off every same captured plain leaves there = elim (cases_Bool (bit_at left t == 1)) [
+    | inl on ↦
+        let one = (leaves t small on).left b inside off there in
+        let near = on_first g.near _ one.0 one.1.on in
+        inr (inr (record {
+          plain = plain t small on;
+          square = one.0;
+          left = record { small = one.1.small; on = near; off = one.1.off; unreached = one.1.unreached };
+          unguarded = unguarded_at one.0 (on_left _ o one.0 (on_left g.near g.captures one.0 near))
+              (off_denied g.near gs.guarded one.0 fits one.1.small one.1.on);
+          elsewhere = one.2;
+        }))
+    | inr free ↦ elim (cases_Bool (bit_at watched t == 1)) [
       | inl on ↦
-          let one = (leaves t small on).left b inside off.critical there in
-          inr (record {
-            plain = plain t small on;
-            square = one.0;
-            left = record { small = one.1.small; on = on_first g.near _ one.0 one.1.on; off = one.1.off; unreached = one.1.unreached };
-            unguarded = record {
-              region = bit_or g.near o;
-              near = on_left g.near o one.0 (on_first g.near _ one.0 one.1.on);
-              guards = gs;
-              are = are;
-              shut = off.lines;
-              off = off_denied g.near gs.guarded one.0 fits one.1.small one.1.on;
-            };
-            elsewhere = one.2;
-          })
+          let there = captured on free in
+          inr (inl (record { on = there.0; unguarded = unguarded_at t (on_left _ o t (on_right g.near g.captures t there.0)) there.1 }))
       | inr none ↦
           let unchecked : (bit_at gs.guarded g.king == 1) ≡ false = false_by _ (λ on. false≢true (sym none ∙ every on)) in
           inl (
-            ap (λ (w : ℕ). bit_at w t == 1) (sym (shut unchecked)) ∙ none,
-            record {
-              region = bit_or g.near o;
-              near = on_right g.near o g.king (word_has (λ q. is_square (Some g.king) q) o g.king only at_king ∙ eq-eqb g.king g.king refl);
-              guards = gs;
-              are = are;
-              shut = off.lines;
-              off = unchecked;
-            },
+            ap (λ (w : ℕ). bit_at w t == 1) (sym (same unchecked)) ∙ none,
+            unguarded_at g.king (on_right _ o g.king (word_has (λ q. is_square (Some g.king) q) o g.king only at_king ∙ eq-eqb g.king g.king refl)) unchecked,
           )
     ]
+  ]
 
 module _ (v : Siege) (g : Field) (checks : ℕ) (x : Man) (s reached targets : ℕ) (are : AreArrivals v.hurdles x s reached)
     (quiet : (t : ℕ) → t < 64 → (bit_at reached t == 1) ≡ true → (bit_at targets t == 1) ≡ false → IsNoCheck checks x t) where

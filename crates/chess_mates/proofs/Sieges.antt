@@ -8,7 +8,7 @@ use Rattle.chess_mates.specs.declared.attackers.Attackers.{Attackers}
 use Rattle.chess_mates.specs.declared.siege.Field.{Field}
 use Rattle.chess_mates.specs.declared.siege.Risk.{Risk}
 use Rattle.chess_mates.specs.declared.siege.Siege.{Siege}
-use Rattle.chess_mates.specs.ties.Siege.{AreAdjacent, AreCastlingSquares, AreClosed, AreHurdles, AreReached, AreThreats, AreWeak, IsCastlingHarmless, IsField, IsHurdle, IsNear, IsRiskAt, IsShut, IsSiege, IsSiegeOf, IsWhole, is_rider, men_on}
+use Rattle.chess_mates.specs.ties.Siege.{AreAdjacent, AreCastlingSquares, AreClosed, AreHurdles, AreReached, AreThreats, AreWeak, IsCastlingHarmless, IsField, IsHurdle, IsNear, IsRiskAt, IsShut, IsSiege, IsSiegeOf, IsWhole, is_rider, men_on, AreCaptureSquares}
 use Rattle.chess_mates.specs.ties.Siege.{reached_over}
 use Rattle.chess_rules.proofs.Bits.{off_left, off_right, on_left, on_right, word_has}
 use Rattle.chess_rules.proofs.Tests.{find_no}
@@ -17,7 +17,7 @@ use Rattle.chess_rules.proofs.listing_moves.Targeting.{every_square_on, false_by
 use Rattle.chess_mates.proofs.Hurdles.{on_one, reached_is}
 use Rattle.chess_mates.proofs.KindByKind.{man_is}
 use Rattle.chess_rules.proofs.listing_moves.Walks.{off_zero, on_first}
-use Rattle.chess_mates.proofs.Risks.{denied_on, off_word, none_on, weak_never}
+use Rattle.chess_mates.proofs.Risks.{denied_on, none_at, off_word, none_on, weak_never}
 use Rattle.chess_mates.proofs.LastingFlights.{on_both}
 
 -- for `adjacent_squares`
@@ -29,14 +29,30 @@ adjacent_are v k n near closed kings = record {
   kings = λ f small on. off_word _ v.men.kings f kings small on;
 }
 
+-- for `capture_squares`: where no attacker stands on a closed square
+pub captures_are : (v : Siege) (k n : ℕ) → n ≡ word (λ t. list_any (leaps k t) queen_steps) → bit_and v.closed v.enemies ≡ 0 → AreCaptureSquares v k n
+captures_are v k n near none = record {
+  next = λ f small on. sym (word_has (λ t. list_any (leaps k t) queen_steps) n f near small) ∙ on;
+  off = λ f s on small enemy. false_by _ (λ closed. none_at (bit_and v.closed v.enemies) s none (on_both v.closed v.enemies s closed enemy));
+}
+
+-- elsewhere none
+pub no_captures : (v : Siege) (k : ℕ) → AreCaptureSquares v k 0
+no_captures v k = record {
+  next = λ f small on. absurd (none_at 0 f refl on);
+  off = λ f s on small enemy. absurd (none_at 0 f refl on);
+}
+
 -- the king's field
-pub field_is : (v : Siege) (k n r b : ℕ) → AreAdjacent v k n → v.hurdles < 2 ^ 64
+pub field_is : (v : Siege) (k n c r b : ℕ) → AreAdjacent v k n → v.hurdles < 2 ^ 64
     → ((men : List (Option Man)) → v.hurdles ≡ occupied_squares men → r ≡ word (reaches_as men White Rook k))
     → ((men : List (Option Man)) → v.hurdles ≡ occupied_squares men → b ≡ word (reaches_as men White Bishop k))
-    → IsField v (record { king = k; near = n; straight = r; diagonal = b; lines = bit_or r b })
+    → AreCaptureSquares v k c
+    → IsField v (record { king = k; near = n; captures = c; straight = r; diagonal = b; lines = bit_or r b })
 unfolding reached_over reaches_as
-field_is v k n r b near hurdles rook bishop = record {
+field_is v k n c r b near hurdles rook bishop captures = record {
   near = near;
+  captures = captures;
   straight = λ c. record { inside = straight };
   diagonal = λ c. record { inside = diagonal };
   lines = λ c. record {

@@ -12,7 +12,7 @@ use Rattle.chess_mates.specs.declared.siege.Field.{Field}
 use Rattle.chess_mates.specs.declared.siege.Risk.{Risk}
 use Rattle.chess_mates.specs.declared.siege.Siege.{Siege}
 use Rattle.chess_mates.specs.ties.Flights.{has_flight}
-use Rattle.chess_mates.specs.ties.Siege.{IsHome, IsArrival, IsCastlingHarmless, IsCheckWord, IsFlight, IsNear, IsOff, IsQuiet, IsRiskAt, IsShut, IsShutAt, IsSiege, IsSiegeOf, IsUnguarded, IsWeakAt, is_rider, men_on}
+use Rattle.chess_mates.specs.ties.Siege.{IsHome, IsArrival, IsCastlingHarmless, IsCheckWord, IsFlight, IsNear, IsOff, IsQuiet, IsRiskAt, IsShut, IsShutAt, IsSiege, IsSiegeOf, IsUnguarded, IsWeakAt, is_rider, men_on, IsCaptured}
 use Rattle.chess_mates.specs.ties.Mates.{allows_mate}
 use Rattle.chess_mates.specs.ties.Threats.{AreRisky, IsMereMove, IsPlainMove}
 use Rattle.chess_rules.specs.ties.Sifting.{AreSifted}
@@ -25,7 +25,8 @@ use Rattle.chess_rules.proofs.attacks.StayingInCheck.{king_there}
 use Rattle.chess_rules.proofs.listing_moves.Arrivals.{may_go_aimed}
 use Rattle.chess_rules.proofs.listing_moves.Targeting.{arrival_needed, false_by}
 use Rattle.chess_rules.proofs.rays.Ends.{square_is}
-use Rattle.chess_rules.proofs.making_moves.Fits.{arrived, arrived_other, capture_of_piece, castle_of, taken}
+use Rattle.chess_rules.proofs.rays.Flips.{king-back}
+use Rattle.chess_rules.proofs.making_moves.Fits.{arrived, arrived_other, arriving_king, capture_of_piece, castle_of, taken}
 use Rattle.chess_rules.proofs.making_moves.Pseudo.{IsCastle, IsMade, made, on_board}
 use Rattle.chess_rules.proofs.making_moves.Stays.{IsReborn, after_well_formed, captured_enemy, maker, reborn_is}
 use Rattle.chess_mates.proofs.Rebirths.{after_is}
@@ -449,18 +450,21 @@ module _ (rule : RuleSet) (p : Position) (m : Move) (x : Man) (v : Siege) (k : �
               (λ rider on reach. false≢true (sym w.off ∙ (word_at y w.checks w.word).inside n.from from_small reach))
               (sym (reaches_back men y.colour y.kind n.to k to at_k (no_hopper y.kind plain_y)) ∙ h))))
 
+      -- kings stay apart
+      king_comes : is_legal rule q n ≡ true → same_kind y.kind King ≡ true → reaches_as r.men y.colour y.kind n.to k ≡ false
+      unfolding may_check_from reaches_as
+      king_comes lawful king =
+          let square : king_square q.men (other q.turn) ≡ Some k =
+          ap (λ (c : Colour). king_square q.men c) (ap other turn_q ∙ other_twice p.turn) ∙ king_q in
+          let apart = rw square at (kings_apart rule q y n well_q here_y to lawful king) in
+          king_reaches r.men q.men y.colour y.kind n.to k (same_kind-true y.kind King king) ∙ (or_parts (is_absent q.men y) _ apart).1
+
       -- where he gives no check
       module _ (quiet : IsQuiet v g w.checks y n.from m.from n.to) (lawful : is_legal rule q n ≡ true) where
         comes : reaches_as r.men y.colour y.kind n.to k ≡ false
-        unfolding may_check_from reaches_as
         comes = elim (cases_Bool (same_kind y.kind King)) [
           | inr mortal ↦ quiet_off r.men stays_r (quiet.check.off mortal)
-          | inl king ↦
-              let kind : y.kind ≡ King = same_kind-true y.kind King king in
-              let square : king_square q.men (other q.turn) ≡ Some k =
-              ap (λ (c : Colour). king_square q.men c) (ap other turn_q ∙ other_twice p.turn) ∙ king_q in
-              let apart = rw square at (kings_apart rule q y n well_q here_y to lawful king) in
-              king_reaches r.men q.men y.colour y.kind n.to k kind ∙ (or_parts (is_absent q.men y) _ apart).1
+          | inl king ↦ king_comes lawful king
         ]
 
         unseen : (s : ℕ) (z : Man) → s < 64 → man_on r.men s ≡ Some z → z.colour ≡ other p.turn → reaches_as r.men z.colour z.kind s k ≡ false
@@ -481,6 +485,41 @@ module _ (rule : RuleSet) (p : Position) (m : Move) (x : Man) (v : Siege) (k : �
         no_check : in_check rule r.men p.turn ≡ false
         unfolding in_check is_attacked is_attacker
         no_check = ap (λ (o : Option ℕ). is_attacked_at rule r.men o (other p.turn)) king_r ∙ nobody_strikes rule r.men k p.turn unseen
+
+      -- a free square next to the king that nobody reaches
+      module _ (f : ℕ) (in_f : f < 64) (near : list_any (leaps k f) queen_steps ≡ true) (free : is_arrival_free p.turn (man_on r.men f) ≡ true)
+          (vacant : captures_do_more rule ≡ true → man_on r.men f ≡ None) (unguarded : IsUnguarded v n.from m.from f)
+          (comes_off : f ≢ n.to → (men : List (Option Man)) → reaches_as men (arriving_man y n.promo).colour (arriving_man y n.promo).kind n.to f ≡ false) where
+        -- nobody attacks the king who has gone there
+        module _ (z : Man) (stands : IsKingOn r.men p.turn k z) where
+          abbrev fled : List (Option Man)
+          fled = arrived r z (step_to k f)
+
+          stays_then : (e : ℕ) → e < 64 → (bit_at v.hurdles e == 1) ≡ true → e ≢ m.from → e ≢ n.from → is_some (man_on fled e) ≡ true
+          stays_then e inside on left off = elim (cases_eq e f) [
+            | inl same ↦
+                ap (λ (o : Option Man). is_some o)
+                (ap (man_on fled) same ∙ there_now r.men k (capture_square r z (step_to k f)) f z (omega (arith, in_f, well_r.size)))
+            | inr ne ↦
+                ap (λ (o : Option Man). is_some o) (arrived_other r z (step_to k f) e (i.off_king e inside on)
+                (λ s cap e. ne (e ∙ capture_of_piece r z (step_to k f) s (and_left_king z stands.king) cap)) ne) ∙ stays_r e inside on left off
+          ]
+
+          unreached : (s : ℕ) (u : Man) → s < 64 → man_on fled s ≡ Some u → u.colour ≡ other p.turn → reaches_as fled u.colour u.kind s f ≡ false
+          unreached s u inside there enemy = elim (stood r z (step_to k f) s u (omega (arith, in_f, well_r.size)) there) [
+            | inl came ↦
+                absurd (false≢true (sym (not_mine u p.turn enemy) ∙ ap (λ (u : Man). same_colour u.colour p.turn) came.1 ∙ stands.mine))
+            | inr kept ↦ elim (enemy_r s u kept.1.1 enemy) [
+              | inl came ↦ rw (came.1, came.0) (comes_off (λ e. kept.0 (came.0 ∙ sym e)) fled)
+              | inr stays ↦
+                  let before = enemy_stood s u stays.1.1 enemy in
+                  unguarded_off fled stays_then s f u in_f (attacker s u inside before enemy) stays.1.0
+                  (i.fairies.none s u inside before enemy) unguarded
+            ]
+          ]
+
+        flees : has_flight rule r ≡ true
+        flees = has_one rule r p.turn k f well_r turn_r king_r in_f near free vacant unreached
 
       -- a flight that is left
       module _ (flight : IsFlight v g y n.from m.from m.to n.to) where
@@ -529,45 +568,53 @@ module _ (rule : RuleSet) (p : Position) (m : Move) (x : Man) (v : Siege) (k : �
           by None e = refl
           by (Some z) e = absurd (false≢true (sym open_f ∙ i.fits.closed.others circe f in_f (ap (λ (o : Option Man). is_some o) (stood_f z e))))
 
-        -- nobody attacks the king who has gone there
-        module _ (z : Man) (stands : IsKingOn r.men p.turn k z) where
-          abbrev fled : List (Option Man)
-          fled = arrived r z (step_to k f)
+        left_flees : has_flight rule r ≡ true
+        left_flees =
+            let same : arriving_man y n.promo ≡ y = ap (arriving_man y) (unnamed q y n n.promo flight.plain is_n.promotion) in
+            flees f in_f (ap (λ (c : ℕ). list_any (leaps c f) queen_steps) (sym i.at.king) ∙ i.at.is.near.next f in_f on_f) free_f vacant_f flight.unguarded
+            (λ ne men. rw same (flight.left.unreached men))
 
-          stays_then : (e : ℕ) → e < 64 → (bit_at v.hurdles e == 1) ≡ true → e ≢ m.from → e ≢ n.from → is_some (man_on fled e) ≡ true
-          stays_then e inside on left off = elim (cases_eq e f) [
-            | inl same ↦
-                ap (λ (o : Option Man). is_some o)
-                (ap (man_on fled) same ∙ there_now r.men k (capture_square r z (step_to k f)) f z (omega (arith, in_f, well_r.size)))
-            | inr ne ↦
-                ap (λ (o : Option Man). is_some o) (arrived_other r z (step_to k f) e (i.off_king e inside on)
-                (λ s cap e. ne (e ∙ capture_of_piece r z (step_to k f) s (and_left_king z stands.king) cap)) ne) ∙ stays_r e inside on left off
-          ]
+      -- he captures who has come
+      module _ (captured : IsCaptured v g n.from m.from n.to) where
+        came_r : man_on r.men n.to ≡ Some (arriving_man y n.promo)
+        came_r =
+            let came = there_now q.men n.from (capture_square q y n) n.to (arriving_man y n.promo) (omega (arith, to, well_q.size)) in
+            grind (arith, same_or_new n.to, came)
 
-          unreached : (s : ℕ) (u : Man) → s < 64 → man_on fled s ≡ Some u → u.colour ≡ other p.turn → reaches_as fled u.colour u.kind s f ≡ false
-          unreached s u inside there enemy = elim (stood r z (step_to k f) s u (omega (arith, in_f, well_r.size)) there) [
-            | inl came ↦
-                absurd (false≢true (sym (not_mine u p.turn enemy) ∙ ap (λ (u : Man). same_colour u.colour p.turn) came.1 ∙ stands.mine))
-            | inr kept ↦ elim (enemy_r s u kept.1.1 enemy) [
-              | inl came ↦
-                  let same : u ≡ y = came.1 ∙ ap (arriving_man y) (unnamed q y n n.promo flight.plain is_n.promotion) in
-                  rw (same, came.0) (flight.left.unreached fled)
-              | inr stays ↦
-                  let before = enemy_stood s u stays.1.1 enemy in
-                  unguarded_off fled stays_then s f u in_f (attacker s u inside before enemy) stays.1.0
-                  (i.fairies.none s u inside before enemy) flight.unguarded
-            ]
-          ]
+        enemy_from : (bit_at v.enemies n.from == 1) ≡ true
+        unfolding side_of
+        enemy_from =
+            word_has (λ s. is_of_colour (man_on p.men s) (other p.turn)) v.enemies n.from i.fits.enemies from_small
+            ∙ rw (stood_y, enemy_y) (same_colour-refl (other p.turn))
 
-        flees : has_flight rule r ≡ true
-        flees =
-            has_one rule r p.turn k f well_r turn_r king_r in_f (ap (λ (c : ℕ). list_any (leaps c f) queen_steps) (sym i.at.king)
-            ∙ i.at.is.near.next f in_f on_f)
-            free_f vacant_f unreached
+        near : list_any (leaps k n.to) queen_steps ≡ true
+        near = rw i.at.king at (i.at.is.captures.next n.to to captured.on)
+
+        capture_flees : same_kind y.kind King ≡ false → has_flight rule r ≡ true
+        capture_flees mortal =
+            flees n.to to near
+            (ap (is_arrival_free p.turn) came_r ∙ free_man p.turn (Some (arriving_man y n.promo))
+            (ap (λ (c : Colour). same_colour c p.turn) (arriving_colour y n.promo) ∙ not_mine y p.turn enemy_y)
+            (and_right _ _ (false_by _ (λ king. false≢true (sym mortal
+            ∙ ap (λ (z : Man). same_kind z.kind King) (sym (arriving_king q y n n.promo is_n.promotion king)) ∙ king)))))
+            (λ circe. absurd (false≢true (sym (i.at.is.captures.off n.to n.from captured.on from_small enemy_from)
+            ∙ i.fits.closed.others circe n.from from_small (ap (λ (o : Option Man). is_some o) stood_y))))
+            captured.unguarded (λ ne. absurd (ne refl))
+
+        unmated_captured : mates rule q n ≡ false
+        unfolding reaches_as
+        unmated_captured = elim (cases_Bool (same_kind y.kind King)) [
+          | inr mortal ↦ sym (no_mate_with_flight rule q n (capture_flees mortal))
+          | inl king ↦ sym (no_mate_quietly rule q n (λ lawful. absurd (false≢true (sym (king_comes lawful king)
+              ∙ rw (same_kind-true y.kind King king) (king-back n.to k to at_k ∙ near)))))
+        ]
 
       unmated_plainly : mates rule q n ≡ false
       unmated_plainly = elim (w.mild.each n.to arrival recaptures) [
-        | inr flight ↦ sym (no_mate_with_flight rule q n (flees flight))
+        | inr ways ↦ elim ways [
+          | inl captured ↦ unmated_captured captured
+          | inr flight ↦ sym (no_mate_with_flight rule q n (left_flees flight))
+        ]
         | inl quiet ↦ sym (no_mate_quietly rule q n (λ lawful. ap (in_check rule r.men) (ap other turn_q ∙ other_twice p.turn) ∙ no_check quiet lawful))
       ]
 

@@ -11,7 +11,7 @@ ghost use Rattle.chess_core.specs.declared.man.Man.{Man};
 ghost use Rattle.chess_mates.specs.declared.siege.Siege.{Siege};
 ghost use Rattle.chess_mates.specs.ties.Attackers.{IsAttacker};
 ghost use Rattle.chess_mates.specs.ties.LastingFlights.{IsLeft};
-ghost use Rattle.chess_mates.specs.ties.Siege.{AreAdjacent, AreArrivals, AreCastlingSquares, AreGuardsWithout, AreHurdles, AreReached, AreThreats, AreWeak, IsAttackedOver, IsCastlingHarmless, IsCheckWord, IsField, IsHarmless, IsHurdle, IsLifted, IsMet, IsNear, IsNoCheck, IsOff, IsReached, IsReachedFrom, IsRiskAt, IsRiskBehind, IsSafeMove, IsSiege, IsSiegeOf, IsWeak, IsWhole, LeavesOne, is_leaper, is_rider, reached_over};
+ghost use Rattle.chess_mates.specs.ties.Siege.{AreAdjacent, AreArrivals, AreCastlingSquares, AreGuardsWithout, AreHurdles, AreReached, AreThreats, AreWeak, IsAttackedOver, IsCastlingHarmless, IsCheckWord, IsField, IsHarmless, IsHurdle, IsLifted, IsMet, IsNear, IsNoCheck, IsOff, IsReached, IsReachedFrom, IsRiskAt, IsRiskBehind, IsSafeMove, IsSiege, IsSiegeOf, IsWeak, IsWhole, LeavesOne, is_leaper, is_rider, reached_over, AreCaptureSquares};
 ghost use Rattle.chess_rules.specs.ties.Targets.{is_promoting};
 
 use crate::attackers::{Attackers, attackers_on};
@@ -40,12 +40,13 @@ pub(crate) struct Siege {
     closed: Squares,
 }
 
-// A king's square, the squares next to it to which he might go, attacks apart, and those of the lines from there: the
-// straight ones, the diagonals, and all.
+// A king's square, the squares next to it to which he might go, attacks apart, those on which he might capture who comes
+// there, and those of the lines from there: the straight ones, the diagonals, and all.
 #[derive(Clone, Copy)]
 pub(crate) struct Field {
     king: Square,
     near: Squares,
+    captures: Squares,
     straight: Squares,
     diagonal: Squares,
     lines: Squares,
@@ -274,8 +275,17 @@ fn watched_squares(guards: &Guards, king: Square, reached: Squares, targets: Squ
     }
 }
 
+// Those of the squares on which the king can't capture who comes there.
+fn uncaptured_squares(field: &Field, guards: &Guards, squares: Squares) -> Squares
+    ensures { (t : ℕ) → t < 64 → (bit_at squares t == 1) ≡ true
+        → (bit_at result t == 1) ≡ false → ((bit_at field.now.captures t == 1) ≡ true)
+        × ((bit_at guards.now.guarded t == 1) ≡ false) }
+{
+    squares & (!field.captures | guards.guarded)
+}
+
 // The risk that the man goes from `from` to one of the squares that he reaches: to one of the targets, or to any if
-// another attacker checks once he has gone.
+// another attacker checks once he has gone. None where the king captures him.
 fn risk_of_going(
     siege: &Siege,
     field: &Field,
@@ -289,16 +299,18 @@ fn risk_of_going(
 {
     // For the proof: a square's number is below 64.
     let _small = field.king.index();
-    let guards = guards_without(siege, from, field.near | only(Some(field.king)));
+    let region = field.near | field.captures | only(Some(field.king));
+    let guards = guards_without(siege, from, region);
     let watched = watched_squares(&guards, field.king, reached, targets);
-    if may_promote_on(man, watched) {
+    let left = uncaptured_squares(field, &guards, watched);
+    if may_promote_on(man, left) {
         return Risk {
             critical: !0,
             lines: 0,
         };
     }
     Risk {
-        critical: critical_after(field.near & !guards.guarded, siege.enemies, man, watched),
+        critical: critical_after(field.near & !guards.guarded, siege.enemies, man, left),
         lines: guards.ridden,
     }
 }
@@ -440,6 +452,18 @@ pub(crate) fn adjacent_squares(siege: &Siege, king: Square) -> Squares
     king_leaps(king) & !siege.closed & !siege.men.kings
 }
 
+// The squares next to the king on which he may capture, attacks apart: in Circe, where attackers stand on closed squares,
+// none.
+#[tactic(auto, using(crate::proofs::Sieges::captures_are, crate::proofs::Sieges::no_captures))]
+fn capture_squares(siege: &Siege, king: Square) -> Squares
+    ensures { AreCaptureSquares siege.now king result }
+{
+    if siege.closed & siege.enemies != 0 {
+        return 0;
+    }
+    king_leaps(king)
+}
+
 // The field of a king of the defender on this square.
 #[tactic(auto, using(crate::proofs::Sieges::field_is))]
 fn field_of(siege: &Siege, king: Square) -> Field
@@ -451,6 +475,7 @@ fn field_of(siege: &Siege, king: Square) -> Field
     Field {
         king,
         near: adjacent_squares(siege, king),
+        captures: capture_squares(siege, king),
         straight,
         diagonal,
         lines: straight | diagonal,

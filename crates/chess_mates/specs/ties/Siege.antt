@@ -211,11 +211,20 @@ pub record IsFlight (v : Siege) (g : Field) (x : Man) (s a b t : ℕ) : Type 0 w
   pub unguarded : IsUnguarded v s a square
   pub elsewhere : square ≢ b
 
+-- or the king captures x on t
+pub record IsCaptured (v : Siege) (g : Field) (s a t : ℕ) : Type 0 where
+  pub on : (bit_at g.captures t == 1) ≡ true
+  pub unguarded : IsUnguarded v s a t
+
+-- one or the other
+abbrev pub LeavesFlight : Siege → Field → Man → ℕ → ℕ → ℕ → ℕ → Type 0
+LeavesFlight v g x s a b t = IsCaptured v g s a t ⊎ IsFlight v g x s a b t
+
 -- so it is unless t is none of the targets and no other attacker checks then
 abbrev pub IsMet : Siege → Field → Man → ℕ → ℕ → ℕ → ℕ → ℕ → Type 0
 IsMet v g x s targets a b t =
     ((bit_at v.enemies t == 1) ≡ true → b ≡ t)
-    → (((bit_at targets t == 1) ≡ false) × IsUnguarded v s a g.king) ⊎ IsFlight v g x s a b t
+    → (((bit_at targets t == 1) ≡ false) × IsUnguarded v s a g.king) ⊎ LeavesFlight v g x s a b t
 
 -- x doesn't check from t, nor does he uncover a check
 pub record IsQuiet (v : Siege) (g : Field) (checks : ℕ) (x : Man) (s a t : ℕ) : Type 0 where
@@ -225,7 +234,7 @@ pub record IsQuiet (v : Siege) (g : Field) (checks : ℕ) (x : Man) (s a t : ℕ
 -- wherever x goes from s, he gives no check or leaves a flight
 pub record IsMild (v : Siege) (g : Field) (checks : ℕ) (x : Man) (s a b : ℕ) : Type 0 where
   pub each : (t : ℕ) → IsArrival v.hurdles x s t → ((bit_at v.enemies t == 1) ≡ true → b ≡ t)
-      → IsQuiet v g checks x s a t ⊎ IsFlight v g x s a b t
+      → IsQuiet v g checks x s a t ⊎ LeavesFlight v g x s a b t
 
 -- so it is after each move without this risk
 pub record IsHarmless (v : Siege) (g : Field) (checks : ℕ) (r : Risk) (x : Man) (s : ℕ) : Type
@@ -252,9 +261,16 @@ pub record AreAdjacent (v : Siege) (k w : ℕ) : Type 0 where
   pub free : (f : ℕ) → f < 64 → (bit_at w f == 1) ≡ true → (bit_at v.closed f == 1) ≡ false
   pub kings : (f : ℕ) → f < 64 → (bit_at w f == 1) ≡ true → (bit_at v.men.kings f == 1) ≡ false
 
--- the field of the king: such squares next to him; his lines
+-- the word has squares next to k, but none if an attacker stands on a closed square
+pub record AreCaptureSquares (v : Siege) (k w : ℕ) : Type 0 where
+  pub next : (f : ℕ) → f < 64 → (bit_at w f == 1) ≡ true → list_any (leaps k f) queen_steps ≡ true
+  pub off : (f s : ℕ) → (bit_at w f == 1) ≡ true → s < 64 → (bit_at v.enemies s == 1) ≡ true
+      → (bit_at v.closed s == 1) ≡ false
+
+-- the field of the king: such squares next to him, and those on which he may capture; his lines
 pub record IsField (v : Siege) (g : Field) : Type 0 where
   pub near : AreAdjacent v g.king g.near
+  pub captures : AreCaptureSquares v g.king g.captures
   pub straight : (c : Colour)
       → IsReached v.hurdles (record { colour = c; kind = Rook }) g.king g.straight
   pub diagonal : (c : Colour)

@@ -9,9 +9,9 @@ returns-then-may_promote_on c = λ a b t inside small off low on there. absurd (
 pub returns : goal.returns
 returns c = λ a b t inside small off low on.
     let watched = c.watched_squares-watched in
-    met_is c.args.siege.now c.args.field.now c.args.man c.args.from c.args.targets watched.result c.critical_after.result
-    c.only.result c.guards_without-guards.result a b t c.only.ensures (omega (arith, c.index-small.ensures.value, c.index-small.ensures.small))
-    small low (omega arith) (omega arith) c.guards_without-guards.ensures off
+    met_is c.args.siege.now c.args.field.now c.args.from c.only.result c.guards_without-guards.result a c.guards_without-guards.ensures off.lines
+    c.args.man c.args.targets watched.result c.uncaptured_squares-left.result c.critical_after.result b t c.only.ensures
+    (omega (arith, c.index-small.ensures.value, c.index-small.ensures.small)) small low (omega arith) off.critical
     (λ every. ap (λ (w : ℕ). bit_at w t == 1) (watched.ensures.all every) ∙ on)
-    (λ shut. watched.ensures.some shut)
+    (λ shut. watched.ensures.some shut) (c.uncaptured_squares-left.ensures t low)
     (c.may_promote_on.ensures c.if-may_promote_on.false) c.critical_after.ensures
