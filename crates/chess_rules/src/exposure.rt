@@ -116,6 +116,7 @@ fn some_free_after<R: Rules>(board: &Board, sight: Sight, man: Man, m: &Move, wo
 }
 
 // Whether the other side than the man's attacks the square then.
+#[inline(always)]
 fn is_attacked_after<R: Rules>(
     board: &Board,
     sight: Sight,
