@@ -252,6 +252,7 @@ fn keeps_its_kind(m: &Move) -> bool
 
 // Whether the move may give check, if it is legal: where it answers `false`, it gives none. A promoted man
 // may see through the square that the pawn left, so a promotion always may.
+#[inline(always)]
 pub(crate) fn may_check<R: Rules>(board: &Board, squares: &CheckSquares, m: &Move) -> bool
     requires well_formed { IsWellFormed board.now }
     requires pseudo { is_pseudo_legal R.rule board.now m.now ≡ true }

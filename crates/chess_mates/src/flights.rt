@@ -95,6 +95,7 @@ fn open_squares<R: Rules>(board: &Board, sight: Sight, king: Square) -> Squares
 
 // The first of the squares that no man of the colour attacks once the enemy king stands there, the man
 // that moved apart.
+#[inline(always)]
 fn first_safe(board: &Board, sight: Sight, squares: Squares, colour: Colour) -> Option<Square>
     ensures within { IfSome result (λ t. (t < 64) × ((bit_at squares t == 1) ≡ true)) }
     ensures safe { IfSome result (λ t. (men : List (Option Man))

@@ -389,6 +389,7 @@ fn suspect_squares(field: &Field, man: Man, checks: Squares) -> Squares
 }
 
 // The risk of the men of this kind, who stand on the squares. Where one of them checks now, nothing is told.
+#[inline(always)]
 fn risk_of(siege: &Siege, field: &Field, kind: Kind, squares: Squares) -> Risk
     requires { IsField siege.now field.now }
     ensures { (s : ℕ) → s < 64 → (bit_at squares s == 1) ≡ true

@@ -116,6 +116,7 @@ fn some_free_after<R: Rules>(board: &Board, sight: Sight, man: Man, m: &Move, wo
 }
 
 // Whether the other side than the man's attacks the square then.
+#[inline(always)]
 fn is_attacked_after<R: Rules>(
     board: &Board,
     sight: Sight,
@@ -137,6 +138,7 @@ fn is_attacked_after<R: Rules>(
 
 // Whether the move leaves its mover in check, told without playing it: by an attack on the squares as they
 // will be. `None` where more changes than is seen there.
+#[inline(always)]
 fn exposes_unplayed<R: Rules>(board: &Board, m: &Move) -> Option<bool>
     requires well_formed { IsWellFormed board.now }
     requires pseudo { is_pseudo_legal R.rule board.now m.now ≡ true }

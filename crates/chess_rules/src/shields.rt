@@ -253,6 +253,7 @@ pub fn safety_seen(
 }
 
 /// How safe the colour's king is.
+#[inline(always)]
 pub fn king_safety(board: &Board, colour: Colour) -> KingSafety
     ensures checkers { result.checkers ≡ word (is_checker board.now.men colour) }
     ensures shields { result.shields ≡ word (may_expose board.now.men colour) }
