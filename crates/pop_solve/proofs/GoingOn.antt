@@ -1,5 +1,5 @@
 -- How many half-moves a line goes on below a move, and what is reached where it ends.
-use Rattle.pop_solve.proofs.Words.{Battle, BattlePlay, Bool, Game, HelpPlay, Plan, PlayOfSides, arith, cond, ends_variation, eqb, false, fewest_half_moves, least_length_from, is_followed, walk_length, inl, inr, nat_tests, shown_length, refl, rules, seeks, suc, true, value, has_variations, zero, ℕ, ◌*◌, ◌+◌, ◌-◌, ◌/◌, ◌<◌, ◌||◌, ◌≡◌, ◌≤◌, ◌⊎◌}
+use Rattle.pop_solve.proofs.Words.{Battle, BattlePlay, Bool, Game, HelpPlay, Plan, PlayOfSides, arith, cond, ends_variation, eqb, false, fewest_half_moves, least_length_from, is_followed, walk_length, inl, inr, nat_tests, shown_length, refl, rules, seeks, suc, true, value, has_variations, zero, ℕ, ◌*◌, ◌+◌, ◌-◌, ◌/◌, ◌<◌, ◌||◌, ◌≡◌, ◌≤◌, ◌⊎◌, is_given}
 
 -- a test by its two answers
 pub cases : (b : Bool) → (b ≡ false) ⊎ (b ≡ true)
@@ -56,6 +56,12 @@ module _ {P M : Type 0} (game : Game P M) where
       → ends_variation play variation (walk_length play variation game t q) ≡ true → game.goal q ≡ true
   ended-reached HelpPlay variation root t q f e = absurd cc
   ended-reached (BattlePlay battle) variation root t q f e = search (rules, followed-last, walk_length-none, nat_tests)
+
+-- in a battle each path is given
+pub given-battle : {P M : Type 0} (plan : Plan) (game : Game P M) (battle : Battle) (t : ℕ) (q : P) → plan.play ≡ BattlePlay battle
+    → is_given plan.play game t q ≡ true
+unfolding is_given
+given-battle plan game battle t q fought = rw fought refl
 
 -- in help play the walk follows each move, with the half-moves that are left
 pub walk_length-help : {P M : Type 0} (plan : Plan) (game : Game P M) (t : ℕ) (q : P) → plan.play ≡ HelpPlay

@@ -1,6 +1,8 @@
 -- The first solutions of a phase, by the paths that begin them.
-use Rattle.pop_solve.proofs.Words.{Battle, BattlePlay, Bool, Frame, Game, HelpPlay, IsWalking, List, Plan, PlayOfSides, Position, RuleSet, Steps, Walks, [], ap, append-nil, arith, beginning_count, begins_solution, chess, cond, eqb, false, is_given, is_help_play, kept_paths, length, map, moves_behind, nat_tests, path, position, refl, rules, shown_paths, suc, to_come, true, zero, ℕ, ◌&&◌, ◌++◌, ◌+◌, ◌-◌, ◌<◌, ◌||◌, ◌∙◌, ◌∷◌, ◌≡◌}
+use Rattle.pop_solve.proofs.Words.{Battle, BattlePlay, Bool, Frame, Game, HelpPlay, IsWalking, List, Plan, PlayOfSides, Position, RuleSet, Steps, Walks, [], ap, append-nil, arith, beginning_count, begins_solution, chess, cond, eqb, false, is_given, is_help_play, kept_paths, length, map, moves_behind, nat_tests, path, position, refl, rules, shown_paths, suc, to_come, true, zero, ℕ, ◌&&◌, ◌++◌, ◌+◌, ◌-◌, ◌<◌, ◌||◌, ◌∙◌, ◌∷◌, ◌≡◌, and_parts}
 use Rattle.pop_solve.proofs.Paths.{path-length}
+use Rattle.std.proofs.lemmas.List.{map-id, nil_from_length}
+use Rattle.pop_solve.proofs.GoingOn.{given-battle}
 
 -- where no path is to come no solution begins
 pub beginning_count-nil : (M : Type 0) (help : Bool) (n : ℕ) → beginning_count {M = M} help n [] ≡ 0
@@ -38,40 +40,31 @@ module _ {M : Type 0} where
 
   -- lines behind no move
   pub map-same : (xs : List (List M)) → map (λ line. [] ++ line) xs ≡ xs
-  map-same [] = refl
-  map-same (x ∷ xs) = ap (λ ys. x ∷ ys) (map-same xs)
+  map-same xs = map-id xs
 
   root-same : (xs : List (List M)) → map (λ line. [] ++ line) xs ++ [] ≡ xs
   root-same xs = append-nil (map (λ line. [] ++ line) xs) ∙ map-same xs
 
 -- the first path by the moves of a root in battle play begins a solution
 module _ {P M : Type 0} (plan : Plan) (game : Game P M) (battle : Battle) (fought : plan.play ≡ BattlePlay battle) where
-  gives-battle : (t : ℕ) (q : P) → is_given plan.play game t q ≡ true
-  unfolding is_given
-  gives-battle t q = rw fought refl
-
   keep-shown_paths : (root : Bool) (k left : ℕ) (p : P) (ms : List M) → kept_paths false 0 (shown_paths plan game root k left p ms) ≡ []
   unfolding shown_paths kept_paths
   keep-shown_paths root zero left p ms = search (rules, keep-nil)
   keep-shown_paths root (suc k) zero p ms = search (rules, keep-nil)
   keep-shown_paths root (suc k) (suc t) p [] = search (rules, keep-nil)
-  keep-shown_paths root (suc k) (suc t) p (m ∷ ms) = search (rules, gives-battle, keep-shown_paths root (suc k) (suc t) p ms)
+  keep-shown_paths root (suc k) (suc t) p (m ∷ ms) = search (rules, given-battle plan game battle, keep-shown_paths root (suc k) (suc t) p ms)
 
   beginning_count-shown_paths : (root : Bool) (k left : ℕ) (p : P) (ms : List M) → beginning_count false 0 (shown_paths plan game root k left p ms) ≡ 0
   unfolding shown_paths beginning_count
   beginning_count-shown_paths root zero left p ms = search (rules, beginning_count-nil)
   beginning_count-shown_paths root (suc k) zero p ms = search (rules, beginning_count-nil)
   beginning_count-shown_paths root (suc k) (suc t) p [] = search (rules, beginning_count-nil)
-  beginning_count-shown_paths root (suc k) (suc t) p (m ∷ ms) = search (rules, gives-battle, beginning_count-shown_paths root (suc k) (suc t) p ms)
+  beginning_count-shown_paths root (suc k) (suc t) p (m ∷ ms) = search (rules, given-battle plan game battle, beginning_count-shown_paths root (suc k) (suc t) p ms)
 
 one_frame : (frames : List Frame) → eqb (length frames) 1 ≡ true → (f : Frame) × (frames ≡ f ∷ [])
 one_frame [] e = absurd (grind (arith, nat_tests))
 one_frame (f ∷ []) e = (f, refl)
 one_frame (f ∷ (g ∷ below)) e = absurd (grind (arith, nat_tests))
-
-no_frame : (frames : List Frame) → length frames ≡ 0 → frames ≡ []
-no_frame [] e = refl
-no_frame (f ∷ below) e = absurd (omega (arith, e))
 
 module _ (rule : RuleSet) (plan : Plan) (h : ℕ) (p : Position) where
   -- the paths to come from the root alone
@@ -98,16 +91,12 @@ module _ (rule : RuleSet) (plan : Plan) (h : ℕ) (p : Position) where
     -- the walk ends once no frame is left
     pub walks_none : (limit : ℕ) (board : Position) → IsWalking rule h p mid board → length mid ≡ 0
         → Walks rule plan (is_help_play plan.play) h p limit old mid board false
-    walks_none limit board r e = search (rules, none, keep-nil, no_frame, beginning_count-nil)
-
-    both_true : (a b : Bool) → (a && b) ≡ true → (a ≡ true) × (b ≡ true)
-    both_true a b e = search rules
+    walks_none limit board r e = search (rules, none, keep-nil, nil_from_length, beginning_count-nil)
 
     -- it ends where the limit is reached and no solution is on the way
     pub walks_full : (limit : ℕ) (board : Position) → IsWalking rule h p mid board → (eqb limit 0 && (is_help_play plan.play || eqb (length mid) 1)) ≡ true
         → Walks rule plan (is_help_play plan.play) h p limit old mid board false
-    walks_full limit board r e = let x = both_true (eqb limit 0) (is_help_play plan.play || eqb (length mid) 1) e in grind
-        (arith, nat_tests, full plan.play refl mid x.1, none)
+    walks_full limit board r e = grind (arith, nat_tests, and_parts, full plan.play refl mid, none)
 
     room : (n : ℕ) (b : Bool) → (eqb n 0 && b) ≡ false → b ≡ true → 0 < n
     room n b e t = search rules

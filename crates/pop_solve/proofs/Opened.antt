@@ -1,5 +1,5 @@
 -- How many frames a search opens.
-use Rattle.pop_solve.proofs.Words.{BareEvent, Barred, Battle, BattlePlay, Before, Behind, Bool, Form, Frame, IsCounted, IsGiven, IsKeys, IsNarrow, IsOpened, IsSound, are_whites, List, Opens, OpensOn, Phase, Plan, Play, Posed, Position, RuleSet, Set, Stage, Tries, Within, [], ap, arith, cond, drop, eqb, false, fewest_from, fewest_left, first_phase, half_moves_of, inl, inr, HelpPlay, Walk, walk_of}
+use Rattle.pop_solve.proofs.Words.{BareEvent, Barred, Battle, BattlePlay, Before, Behind, Bool, Form, Frame, IsCounted, IsGiven, IsKeys, IsNarrow, IsOpened, IsSound, are_whites, List, Opens, OpensOn, Phase, Plan, Play, Posed, Position, RuleSet, Set, Stage, Tries, Within, [], ap, arith, cond, drop, eqb, false, fewest_from, fewest_left, first_phase, half_moves_of, inl, inr, HelpPlay, Walk, walk_of, and_parts}
 use Rattle.pop_solve.proofs.Words.{is_barred, is_set, is_stop, is_unstopped, left_of, min, not, phase_events, phase_fewest, phase_half_moves, phase_start, phase_walk, plan_of, play_of, position, refl, rest_fewest, rest_open, rules, seeks, has_variations, suc, to_open, total, tree_with, true, walk_from, zero, ℕ, ◌&&◌, ◌++◌, ◌+◌, ◌-◌, ◌<◌, ◌^◌, ◌∷◌, ◌≡◌, ◌≤◌, ◌⊎◌}
 use Rattle.pop_solve.proofs.Boards.{behind_start}
 use Rattle.pop_solve.proofs.Sound.{battle-play, help-play, some_way}
@@ -182,16 +182,16 @@ module _ (rule : RuleSet) (problem : Posed) where
   all-drop : (k : ℕ) (xs : List BareEvent) → is_unstopped xs ≡ true → is_unstopped (drop k xs) ≡ true
   all-drop zero xs e = e
   all-drop (suc k) [] e = e
-  all-drop (suc k) (x ∷ xs) e = all-drop k xs (second (not (is_stop x)) (is_unstopped xs) e)
-    where
-      second : (a b : Bool) → (a && b) ≡ true → b ≡ true
-      second true b e = e
-      second false b e = absurd cc
+  all-drop (suc k) (x ∷ xs) e = all-drop k xs (and_parts (not (is_stop x)) (is_unstopped xs) e).1
 
   -- the counts hold on after a call
   pub opened-on : (old new : Stage) (frames last : List Frame) (before after given : ℕ) (left : List BareEvent) → IsGiven rule problem left given
       → OpensOn rule problem old new frames last before after left → IsOpened rule problem old frames before → IsOpened rule problem new last after
   opened-on old new frames last before after given left g x o = search (rules, all-drop)
+
+  some : (xs : List BareEvent) (y : BareEvent) (ys : List BareEvent) → (xs ++ y ∷ ys) ≡ [] → ⊥
+  some [] y ys e = cc
+  some (x ∷ xs) y ys e = cc
 
   -- at the end nothing is to be opened
   pub rest-none : (stage : Stage) (frames : List Frame) → left_of rule problem stage frames ≡ [] → rest_open rule problem stage frames ≡ 0
@@ -200,10 +200,6 @@ module _ (rule : RuleSet) (problem : Posed) where
   rest-none (Before Play) frames e = absurd cc
   rest-none Barred frames e = absurd cc
   rest-none (Within walk count) frames e = absurd (some _ _ _ e)
-    where
-      some : (xs : List BareEvent) (y : BareEvent) (ys : List BareEvent) → (xs ++ y ∷ ys) ≡ [] → ⊥
-      some [] y ys e = cc
-      some (x ∷ xs) y ys e = cc
   rest-none Behind frames e = refl
 
   -- nor is anything to be tried
@@ -213,10 +209,6 @@ module _ (rule : RuleSet) (problem : Posed) where
   fewest-none (Before Play) frames e = absurd cc
   fewest-none Barred frames e = absurd cc
   fewest-none (Within walk count) frames e = absurd (some _ _ _ e)
-    where
-      some : (xs : List BareEvent) (y : BareEvent) (ys : List BareEvent) → (xs ++ y ∷ ys) ≡ [] → ⊥
-      some [] y ys e = cc
-      some (x ∷ xs) y ys e = cc
   fewest-none Behind frames e = refl
 
 pub ruleset all_opened = (rest-none, fewest-none)

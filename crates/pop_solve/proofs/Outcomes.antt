@@ -1,7 +1,7 @@
 -- The outcomes of a step, for frames listed from the top down.
 use Rattle.pop_solve.proofs.Words.{AreKnown, Battle, Bool, CameFrom, CameFromAt, Counts, Frame, GoesTo, HelpPlay, IfSome, IsCounted, IsLinked, IsPlaceIn, IsRoomy, IsWalking, are_whites, LegalPlace, List, Move, Option, Plan, Position, RuleSet, Steps, Undo, [], after_well_formed, ap, arith, chess, eqb, false, fewest_left, is_followed, is_given, walk_length, inl, inr, is_legal, is_pseudo_legal-from_legal, length, min, moves_behind, opened_frame, path, position, refl, rules, seeks, suc, to_come, to_open, true, walk_work, undo_of, has_variations, walk_behind, ℕ, ◌+◌, ◌-◌, ◌<◌, ◌^◌, ◌∷◌, ◌≡◌, ◌≤◌, ◌⊎◌}
 use Rattle.chess_rules.specs.Play.{position_after}
-use Rattle.pop_solve.proofs.Tests.{learned, moved}
+use Rattle.pop_solve.proofs.Tests.{learned, moved, came_from}
 use Rattle.pop_solve.proofs.GoingOn.{no_zero, walk_length-help, follows-help, walk_length-keys, walk_length-most, ended-reached}
 use Rattle.pop_solve.proofs.ToCome.{one, walk_count-start, walk_behind-none, come-pass, come-enter, tries-pass, tries-enter, turns-pass, turns-enter, open-next, open-enter, come-close, tries-close, turns-close, open-close, steps-skip}
 
@@ -17,21 +17,15 @@ module _ (rule : RuleSet) (plan : Plan) where
 
 -- what undoes the top frame
 module _ (rule : RuleSet) (h : ℕ) (p : Position) where
-  CameFrom-top : (f g : Frame) (below : List Frame) (board : Position) → IsWalking rule h p (f ∷ (g ∷ below)) board
-      → CameFromAt rule f board (position rule p (g ∷ below))
-  unfolding IsLinked position
-  CameFrom-top f g below board r = search rules
-
   -- a frame above the lowest came from a position
   pub CameFrom-deep : (f : Frame) (below : List Frame) (board : Position) → IsWalking rule h p (f ∷ below) board → 0 < length below → CameFrom rule f board
-  CameFrom-deep f [] board r deep = absurd (omega (arith, deep))
-  CameFrom-deep f (g ∷ below) board r deep = (position rule p (g ∷ below), CameFrom-top f g below board r)
+  CameFrom-deep f below board r deep = (position rule p below, came_from rule p f below board r.linked r.board_at deep)
 
   -- the walk goes on once the top frame is closed
   pub walking-close : (f : Frame) (below : List Frame) (board after : Position) → IsWalking rule h p (f ∷ below) board → (length below ≡ 0 → after ≡ board)
       → ((q : Position) → 0 < length below → CameFromAt rule f board q → after ≡ q) → IsWalking rule h p below after
   unfolding IsLinked IsRoomy AreKnown position
-  walking-close f below board after r lowest before = search (rules, CameFrom-top)
+  walking-close f below board after r lowest before = search (rules, came_from)
 
   -- the top frame has room for its half-moves
   pub top_room : (f : Frame) (below : List Frame) (board : Position) → IsWalking rule h p (f ∷ below) board → f.left + length below ≤ h

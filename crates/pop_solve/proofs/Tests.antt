@@ -7,6 +7,7 @@ use Rattle.pop_solve.specs.declared.aim.Aim.{Aim}
 use Rattle.pop_solve.proofs.Orders.{same_start}
 use Rattle.pop_solve.specs.declared.frame.Stretch.{Stretch}
 use Rattle.pop_solve.proofs.SmallestTrees.{trees-next, trees-end, trees-start}
+use Rattle.std.proofs.lemmas.List.{nil_from_length}
 
 -- the frame with its place moved on
 abbrev pub moved : Frame → ℕ → Frame
@@ -202,16 +203,11 @@ module _ (rule : RuleSet) (p : Position) where
   top_cut : (f : Frame) (below : List Frame) (board : Position) → IsTesting rule p (f ∷ below) board → 0 < f.left
   top_cut f below board r = cut-top f below r.cut
 
-  -- what undoes the top frame
-  pub CameFrom-top : (f g : Frame) (below : List Frame) (board : Position) → IsTesting rule p (f ∷ (g ∷ below)) board
-      → CameFromAt rule f board (position rule p (g ∷ below))
+  -- a frame above the lowest came from the position below
+  pub came_from : (f : Frame) (below : List Frame) (board : Position) → IsLinked rule p (f ∷ below) → board ≡ position rule p (f ∷ below)
+      → 0 < length below → CameFromAt rule f board (position rule p below)
   unfolding IsLinked position
-  CameFrom-top f g below board r = record { sound = r.linked.0; legal = r.linked.1; led = r.board_at; undone = r.linked.2 }
-
-  -- a frame above the lowest came from a position
-  pub CameFrom-deep : (f : Frame) (below : List Frame) (board : Position) → IsTesting rule p (f ∷ below) board → 0 < length below → CameFrom rule f board
-  CameFrom-deep f [] board r deep = absurd (omega (arith, deep))
-  CameFrom-deep f (g ∷ below) board r deep = (position rule p (g ∷ below), CameFrom-top f g below board r)
+  came_from f below board l at deep = search rules
 
   testing-close : (f : Frame) (below : List Frame) (board after : Position) → IsTesting rule p (f ∷ below) board → 0 < length below
       → ((q : Position) → CameFromAt rule f board q → after ≡ q) → IsTesting rule p below after
@@ -260,7 +256,9 @@ module _ (rule : RuleSet) (aim : Aim) (floor : ℕ) (top : Frame) (old new : Lis
 
   -- what closing a frame asks for
   pub close_asks : (p board : Position) (depth : ℕ) → depth ≡ length new → IsTesting rule p (tests floor old) board → floor < depth → CameFrom rule top board
-  close_asks p board depth d r deep = CameFrom-deep rule p top (tests floor new) board (testing_top p board r) (omega (arith, length-tests floor new, d))
+  close_asks p board depth d r deep =
+      let t = testing_top p board r in
+      (_, came_from rule p top (tests floor new) board t.linked t.board_at (omega (arith, length-tests floor new, d)))
 
   module _ (board after : Position) (depth : ℕ) (v : Bool) (was is result : Option Bool) (d : depth ≡ length new)
       (lowest : depth ≤ floor → (result ≡ Some v) × (after ≡ board)) (above : floor < depth → (result ≡ None) × (is ≡ Some v))
@@ -417,10 +415,6 @@ pub testing_same : (rule : RuleSet) (p : Position) (frames : List Frame) (board 
     → IsTesting rule p frames now
 testing_same rule p frames board now r e = rw e r
 
-nil_of : (xs : List Frame) → length xs ≡ 0 → xs ≡ []
-nil_of [] e = refl
-nil_of (x ∷ xs) e = absurd (omega (arith, e))
-
 -- a test of the position p, of the value v, over the frames `under`
 pub record IsUnderway (rule : RuleSet) (aim : Aim) (floor : ℕ) (p : Position) (N : ℕ) (v : Bool) (under frames : List Frame) (answer : Option Bool)
     (board : Position) (opened most fewest : ℕ) : Type 0 where
@@ -442,7 +436,7 @@ module _ (rule : RuleSet) (aim : Aim) where
       (before + walk_count (legal_moves rule) (position_after rule) left p) (before + smallest_tree aim.battle (chess aim.goal rule) left p)
   unfolding pending_value delivered_value IsLinked IsDescending AreKnown position to_test to_try to_try_with
   begins floor p N left k board before count by undo under frames kn low put within room more one_more at sound d =
-      let none : tests floor under ≡ [] = nil_of (tests floor under) (omega (arith, length-tests floor under, low)) in
+      let none : tests floor under ≡ [] = nil_from_length (tests floor under) (omega (arith, length-tests floor under, low)) in
       grind (arith, tests-push, length-append, walk_count-start, fewest-start, rest-start, take-append-le, take_all)
 
   -- each turn leaves it under way

@@ -1,8 +1,8 @@
 -- What the walk shows is the tree that the definitions name.
-use Rattle.pop_solve.proofs.Words.{Battle, BattlePlay, Bool, Direct, Game, HelpPlay, List, Plan, Selfmate, [], continuations, ap, append-nil, arith, best_moves, cond, eqb, every_move, false, fewest_half_moves, filter, least_length_from, flat_map, flat_map_single, is_followed, is_given, walk_length, keeps_win, least_moves, lines_to_goal, list_all, map, nat_tests, node, nodes_below, not, shown_length, refl, rules, seeks, shown_paths, suc, sym, true, value, has_variations, zero, ℕ, ◌%◌, ◌&&◌, ◌*◌, ◌++◌, ◌+◌, ◌-◌, ◌/◌, ◌<◌, ◌||◌, ◌∙◌, ◌∷◌, ◌≡◌, ◌≤◌}
-use Rattle.pop_solve.proofs.Battles.{value-is_lost, value-is_self_lost}
+use Rattle.pop_solve.proofs.Words.{Battle, BattlePlay, Bool, Direct, Game, HelpPlay, List, Plan, Selfmate, [], continuations, ap, append-nil, arith, best_moves, cond, eqb, every_move, false, fewest_half_moves, filter, least_length_from, flat_map, flat_map_single, is_followed, is_given, walk_length, keeps_win, least_moves, lines_to_goal, list_all, map, nat_tests, node, nodes_below, not, shown_length, refl, rules, seeks, shown_paths, suc, sym, true, value, has_variations, zero, ℕ, ◌%◌, ◌&&◌, ◌*◌, ◌++◌, ◌+◌, ◌-◌, ◌/◌, ◌<◌, ◌||◌, ◌∙◌, ◌∷◌, ◌≡◌, ◌≤◌, and_parts}
+use Rattle.pop_solve.proofs.Battles.{value-is_lost, value-is_self_lost, value-zero}
 use Rattle.pop_solve.proofs.Lengths.{length-more}
-use Rattle.pop_solve.proofs.GoingOn.{length_most, walk_length-keys}
+use Rattle.pop_solve.proofs.GoingOn.{length_most, walk_length-keys, given-battle, walk_length-help}
 use Rattle.pop_solve.proofs.Least.{least_moves-direct, least_moves-selfmate}
 
 -- the half-moves of a battle of so many moves
@@ -14,19 +14,14 @@ halves Selfmate k = 2 * k
 module _ {A B : Type 0} where
   -- joined lists that are alike one by one
   pub flat-same : (F G : A → List B) (xs : List A) → ((x : A) → F x ≡ G x) → flat_map F xs ≡ flat_map G xs
-  flat-same F G [] e = refl
-  flat-same F G (x ∷ xs) e = rw (e x, flat-same F G xs e) refl
+  flat-same F G xs e = ap (λ f. flat_map f xs) (λ i x. e x i)
 
   -- where all pass the test
   flat-all : (test : A → Bool) (F G : A → List B) (xs : List A) → list_all test xs ≡ true → ((x : A) → test x ≡ true → F x ≡ G x)
       → flat_map F xs ≡ flat_map G xs
   flat-all test F G [] t e = refl
   flat-all test F G (x ∷ xs) t e =
-      let b = both (test x) (list_all test xs) t in rw (e x b.0, flat-all test F G xs b.1 e) refl
-    where
-      both : (a b : Bool) → (a && b) ≡ true → (a ≡ true) × (b ≡ true)
-      both true b e = (refl, e)
-      both false b e = absurd cc
+      let b = and_parts (test x) (list_all test xs) t in rw (e x b.0, flat-all test F G xs b.1 e) refl
 
   -- by those that pass it
   pub flat-filter : (test other : A → Bool) (F G : A → List B) (xs : List A) → ((x : A) → test x ≡ other x) → ((x : A) → test x ≡ true → F x ≡ G x)
@@ -47,17 +42,13 @@ module _ {P M : Type 0} (game : Game P M) where
         → cond b ((m ∷ []) ∷ []) [] ++ map (λ line. m ∷ line) xs ≡ map (λ line. m ∷ line) ys
     by_move b m xs ys e = search rules
 
-    walk_length-whole : (t : ℕ) (q : P) → walk_length plan.play (has_variations plan.tree) game t q ≡ t
-    unfolding walk_length
-    walk_length-whole t q = rw help refl
-
     -- by some of the moves
     pub shown_paths-moves : (root : Bool) (k : ℕ) (p : P) (ms : List M)
         → shown_paths plan game root (suc k) (suc k) p ms ≡ flat_map (λ m. map (λ line. m ∷ line) (lines_to_goal game k (game.after p m))) ms
     unfolding shown_paths is_followed is_given lines_to_goal
     shown_paths-moves root zero p ms = grind (arith, flat-same, by_move, append-nil)
     shown_paths-moves root (suc k) p ms =
-        flat-same _ _ ms (λ m. grind (arith, by_move, walk_length-whole, nat_tests, shown_paths-moves false k (game.after p m) (game.moves (game.after p m))))
+        flat-same _ _ ms (λ m. grind (arith, by_move, walk_length-help, nat_tests, shown_paths-moves false k (game.after p m) (game.moves (game.after p m))))
 
     -- so from all moves of a position
     pub shown_paths-help : (root : Bool) (k : ℕ) (p : P) → shown_paths plan game root (suc k) (suc k) p (game.moves p) ≡ lines_to_goal game (suc k) p
@@ -120,10 +111,6 @@ module _ {P M : Type 0} (game : Game P M) where
   pub unflip : (b : Bool) → not b ≡ false → b ≡ true
   unflip b e = search rules
 
-  value-end-zero : (battle : Battle) (q : P) → value battle game 0 q ≡ game.goal q
-  unfolding value
-  value-end-zero battle q = refl
-
   -- in battle play
   module _ (plan : Plan) (battle : Battle) (fought : plan.play ≡ BattlePlay battle) where
     -- a move that is tested, and one that isn't
@@ -136,10 +123,6 @@ module _ {P M : Type 0} (game : Game P M) where
     unfolding is_followed
     by_none t q s = rw (fought, s) refl
 
-    given_always : (t : ℕ) (q : P) → is_given plan.play game t q ≡ true
-    unfolding is_given
-    given_always t q = rw fought refl
-
     -- what the walk shows by some moves, as nodes
     abbrev pub beneath : ℕ → ℕ → P → List (List M)
     beneath k t q = shown_paths plan game false k (walk_length plan.play (has_variations plan.tree) game t q) q (game.moves q)
@@ -149,7 +132,7 @@ module _ {P M : Type 0} (game : Game P M) where
         → shown_paths plan game root (suc k) (suc t) p ms
         ≡ flat_map (λ m. cond (is_followed plan.play game root t (game.after p m)) (node m (beneath k t (game.after p m))) []) ms
     unfolding shown_paths
-    as_nodes root k t p ms = search (rules, flat-same, given_always)
+    as_nodes root k t p ms = search (rules, flat-same, given-battle)
 
     -- the moves of White in his least length, over anything
     white : (n k t : ℕ) (q : P) (G : M → List (List M)) → seeks battle t ≡ true → 0 < t → t ≤ 2 * n → t ≤ suc k → game.goal q ≡ false
@@ -222,7 +205,7 @@ module _ {P M : Type 0} (game : Game P M) where
 
       -- what the walk shows below a move that is shown
       tie : (n k t : ℕ) (q : P) → value battle game t q ≡ true → t ≤ k → t ≤ 2 * n → Tie n k t q
-      tie n k zero q v room most = tie-goal n k 0 q (sym (value-end-zero battle q) ∙ v)
+      tie n k zero q v room most = tie-goal n k 0 q (sym (value-zero game battle q) ∙ v)
       tie n zero (suc t) q v room most = absurd (omega (arith, room))
       tie n (suc k) (suc t) q v room most =
           split (game.goal q) refl (tie-goal n (suc k) (suc t) q) (tie-white n k t q (λ l r a b c. tie n k l r a b c) v room most)
@@ -275,7 +258,7 @@ module _ {P M : Type 0} (game : Game P M) where
             → shown_paths plan game false h2 (shown_length battle game h2 r) r (game.moves r) ≡ cond g []
             (map (λ m. m ∷ []) (best_moves battle game n r))
         no_variation e h2 i true g = open-goal h2 r g
-        no_variation e zero i false g = absurd (grind (arith, value-end-zero))
+        no_variation e zero i false g = absurd (grind (arith, value-zero))
         no_variation e (suc k) i false g =
             white n k (suc k) r (λ m. (m ∷ []) ∷ []) (rw i at s) (omega arith) (rw i at most) (omega arith) g (rw i at v)
             (λ l m s2 less v2. ap (node m) (beneath-none k l (game.after r m) e s2))

@@ -1,5 +1,5 @@
 -- The value of a position by what its tests say.
-use Rattle.pop_solve.proofs.Words.{Battle, Bool, Game, List, Selfmate, [], arith, can_move, cond, every_move, false, joined_value, length, list_any, not, refl, rules, seeks, some_move, suc, true, value, zero, ℕ, ◌%◌, ◌&&◌, ◌<◌, ◌||◌, ◌∷◌, ◌≡◌}
+use Rattle.pop_solve.proofs.Words.{Battle, Bool, Game, List, Selfmate, [], arith, can_move, cond, every_move, false, joined_value, length, list_any, not, refl, rules, seeks, some_move, suc, true, value, zero, ℕ, ◌%◌, ◌&&◌, ◌<◌, ◌||◌, ◌∷◌, ◌≡◌, and_parts}
 use Rattle.pop_solve.specs.declared.aim.Battle.TheVariants.{Direct}
 use Rattle.std.specs.Prelude.{◌==◌}
 
@@ -8,10 +8,6 @@ module _ {P M : Type 0} (battle : Battle) (game : Game P M) where
   pub value-last : (t : ℕ) (p : P) → t ≡ 0 → value battle game t p ≡ game.goal p
   unfolding value
   value-last t p z = search rules
-
-  -- a conjunction by its parts
-  pub both : (a b : Bool) → (a && b) ≡ true → (a ≡ true) × (b ≡ true)
-  both a b e = search rules
 
   -- the last half-move
   pub value-mates : (p : P) → battle ≡ Direct → value battle game 1 p ≡ some_move game game.goal p
@@ -30,7 +26,7 @@ module _ {P M : Type 0} (battle : Battle) (game : Game P M) where
 
   -- White with a half-move that nothing ends before
   pub value-free : (t : ℕ) (p : P) → 0 < t → (t % 2 == 1 && seeks battle t) ≡ true → value battle game t p ≡ joined_value battle game t p (game.moves p)
-  value-free t p some e = grind (arith, both, value-joined_value)
+  value-free t p some e = grind (arith, and_parts, value-joined_value)
 
   -- with a move, and the goal not reached
   pub value-open : (t : ℕ) (p : P) → 0 < t → can_move game p ≡ true → game.goal p ≡ false → value battle game t p ≡ joined_value battle game t p (game.moves p)
