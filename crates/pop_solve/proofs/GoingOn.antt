@@ -26,15 +26,11 @@ module _ {P M : Type 0} (game : Game P M) where
       → cond (z || goal) 0 (cond s (least_length_from battle game q ((t - fewest_half_moves battle) / 2) (fewest_half_moves battle)) t) ≤ t
   length_most battle t q z s goal e u = search (rules, least_length_from-most, nat_tests)
 
-  shown_length-most : (battle : Battle) (t : ℕ) (q : P) → shown_length battle game t q ≤ t
-  unfolding shown_length
-  shown_length-most battle t q = length_most battle t q (eqb t 0) (seeks battle t) (game.goal q) refl refl
-
   -- so is that with which the walk goes on
   pub walk_length-most : (play : PlayOfSides) (variation : Bool) (t : ℕ) (q : P) → walk_length play variation game t q ≤ t
-  unfolding walk_length
+  unfolding walk_length shown_length
   walk_length-most HelpPlay variation t q = omega arith
-  walk_length-most (BattlePlay battle) variation t q = search (rules, shown_length-most)
+  walk_length-most (BattlePlay battle) variation t q = search (rules, length_most)
 
 module _ {P M : Type 0} (game : Game P M) where
   -- a line goes on with no half-move only where none is left or the goal is reached
@@ -43,19 +39,12 @@ module _ {P M : Type 0} (game : Game P M) where
   least_length_from-some battle q zero a some = some
   least_length_from-some battle q (suc n) a some = search (rules, least_length_from-some battle q n)
 
-  walk_length-none : (battle : Battle) (t : ℕ) (q : P) → walk_length (BattlePlay battle) true game t q ≡ 0 → (t ≡ 0) ⊎ (game.goal q ≡ true)
-  unfolding walk_length shown_length
-  walk_length-none battle t q l = grind (arith, least_length_from-some, nat_tests)
-
-  followed-last : (battle : Battle) (root : Bool) (q : P) → seeks battle 1 ≡ true → is_followed (BattlePlay battle) game root 0 q ≡ true → game.goal q ≡ true
-  unfolding is_followed value
-  followed-last battle root q white f = search rules
-
   -- where a variation ends that is followed, the goal is reached
   pub ended-reached : (play : PlayOfSides) (variation root : Bool) (t : ℕ) (q : P) → is_followed play game root t q ≡ true
       → ends_variation play variation (walk_length play variation game t q) ≡ true → game.goal q ≡ true
+  unfolding is_followed value walk_length shown_length
   ended-reached HelpPlay variation root t q f e = absurd cc
-  ended-reached (BattlePlay battle) variation root t q f e = search (rules, followed-last, walk_length-none, nat_tests)
+  ended-reached (BattlePlay battle) variation root t q f e = search (rules, nat_tests, least_length_from-some)
 
 -- in a battle each path is given
 pub given-battle : {P M : Type 0} (plan : Plan) (game : Game P M) (battle : Battle) (t : ℕ) (q : P) → plan.play ≡ BattlePlay battle

@@ -42,9 +42,6 @@ module _ {M : Type 0} where
   pub map-same : (xs : List (List M)) → map (λ line. [] ++ line) xs ≡ xs
   map-same xs = map-id xs
 
-  root-same : (xs : List (List M)) → map (λ line. [] ++ line) xs ++ [] ≡ xs
-  root-same xs = append-nil (map (λ line. [] ++ line) xs) ∙ map-same xs
-
 -- the first path by the moves of a root in battle play begins a solution
 module _ {P M : Type 0} (plan : Plan) (game : Game P M) (battle : Battle) (fought : plan.play ≡ BattlePlay battle) where
   keep-shown_paths : (root : Bool) (k left : ℕ) (p : P) (ms : List M) → kept_paths false 0 (shown_paths plan game root k left p ms) ≡ []
@@ -70,7 +67,7 @@ module _ (rule : RuleSet) (plan : Plan) (h : ℕ) (p : Position) where
   -- the paths to come from the root alone
   pub to_come-root : (f : Frame) → to_come rule plan h p (f ∷ []) ≡ shown_paths plan (chess plan.goal rule) true (h - 0) f.left p (moves_behind rule p f.place)
   unfolding to_come path position
-  to_come-root f = root-same _
+  to_come-root f = search (rules, append-nil, map-same)
 
   -- with none to begin, and none on the way
   full : (play : PlayOfSides) → plan.play ≡ play → (frames : List Frame) → (is_help_play play || eqb (length frames) 1) ≡ true

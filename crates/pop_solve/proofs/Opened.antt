@@ -25,10 +25,6 @@ module _ (rule : RuleSet) (plan : Plan) (p : Position) where
       → Tries rule plan h p old new a c
   tries-then h old mid new a b c x y = search rules
 
--- what is opened in a later phase, counted apart
-counted-apart : (walk later opened rest : ℕ) → IsCounted walk opened (rest + later) → IsCounted (walk - later) opened rest
-counted-apart walk later opened rest c = search rules
-
 counted-along : (walk later opened rest : ℕ) → later ≤ walk → IsCounted (walk - later) opened rest → IsCounted walk opened (rest + later)
 counted-along walk later opened rest l c = search rules
 
@@ -68,14 +64,10 @@ module _ (rule : RuleSet) (problem : Posed) where
     from-open : walk_from rule problem phase ≡ one rule plan f.left + (to_open rule (phase_start problem phase) (f ∷ []) + later phase)
     from-open = search (rules, root-open, one)
 
-    root-fewest : phase_fewest rule problem phase ≡ cond (eqb f.left 0) 0 1 + fewest_left rule plan (phase_half_moves problem phase)
-        (phase_start problem phase) (f ∷ [])
-    unfolding fewest_left position
-    root-fewest = grind (arith, behind_start)
-
     from-fewest : fewest_from rule problem phase ≡ cond
         (eqb f.left 0) 0 1 + (fewest_left rule plan (phase_half_moves problem phase) (phase_start problem phase) (f ∷ []) + later_fewest phase)
-    from-fewest = search (rules, root-fewest)
+    unfolding fewest_left position
+    from-fewest = search (rules, behind_start)
 
     narrow-begun : (play_of problem.stipulation.form ≡ HelpPlay) ⊎ IsKeys problem phase
         → (play_of problem.stipulation.form ≡ HelpPlay) ⊎ ((keys : IsKeys problem phase) × (are_whites keys.battle (f ∷ []) ≡ true))
@@ -95,7 +87,7 @@ module _ (rule : RuleSet) (problem : Posed) where
     walked-counted : play_of problem.stipulation.form ≡ HelpPlay → (whole : ℕ) → IsCounted whole before (to_open rule
         (phase_start problem walk.phase) old + later walk.phase)
         → IsCounted whole after (to_open rule (phase_start problem walk.phase) new + later walk.phase)
-    walked-counted h whole c = search (rules, counted-along, counted-apart)
+    walked-counted h whole c = search (rules, counted-along)
 
     abbrev Narrow : List Frame → Type 0
     Narrow frames = (play_of problem.stipulation.form ≡ HelpPlay) ⊎ ((keys : IsKeys problem walk.phase) × (are_whites keys.battle frames ≡ true))

@@ -5,16 +5,6 @@ use Rattle.pop_solve.proofs.Tests.{learned, moved, came_from}
 use Rattle.pop_solve.proofs.GoingOn.{no_zero, walk_length-help, follows-help, walk_length-keys, walk_length-most, ended-reached}
 use Rattle.pop_solve.proofs.ToCome.{one, walk_count-start, walk_behind-none, come-pass, come-enter, tries-pass, tries-enter, turns-pass, turns-enter, open-next, open-enter, come-close, tries-close, turns-close, open-close, steps-skip}
 
-module _ (rule : RuleSet) (plan : Plan) where
-  -- what the place of the top frame leaves as it is
-  IsLinked-moved : (p : Position) (f : Frame) (place : ℕ) (below : List Frame) → IsLinked rule p (f ∷ below) → IsLinked rule p (moved f place ∷ below)
-  unfolding IsLinked
-  IsLinked-moved p f place below l = search rules
-
-  position-moved : (p : Position) (f : Frame) (place : ℕ) (below : List Frame) → position rule p (moved f place ∷ below) ≡ position rule p (f ∷ below)
-  unfolding position
-  position-moved p f place below = search rules
-
 -- what undoes the top frame
 module _ (rule : RuleSet) (h : ℕ) (p : Position) where
   -- a frame above the lowest came from a position
@@ -32,10 +22,6 @@ module _ (rule : RuleSet) (h : ℕ) (p : Position) where
   unfolding IsRoomy
   top_room f below board r = r.roomy.0
 
-  known-moved : (f : Frame) (place : ℕ) (below : List Frame) → AreKnown rule p (f ∷ below) → AreKnown rule p (moved f place ∷ below)
-  unfolding AreKnown position
-  known-moved f place below k = search rules
-
   -- the top frame learns something of its position
   pub walking-learned : (f : Frame) (known : Option LegalPlace) (below : List Frame) (board : Position) → IsWalking rule h p (f ∷ below) board
       → IfSome known (IsPlaceIn rule board) → IsWalking rule h p (learned f known ∷ below) board
@@ -45,8 +31,8 @@ module _ (rule : RuleSet) (h : ℕ) (p : Position) where
   -- or once its place has moved on
   pub walking-moved : (f : Frame) (next : ℕ) (below : List Frame) (board after : Position) → IsWalking rule h p (f ∷ below) board → after ≡ board
       → IsWalking rule h p (moved f next ∷ below) after
-  unfolding IsRoomy
-  walking-moved f next below board after r e = search (rules, IsLinked-moved, known-moved, position-moved)
+  unfolding IsRoomy IsLinked AreKnown position
+  walking-moved f next below board after r e = search rules
 
   walking-enter : (plan : Plan) (f : Frame) (next : ℕ) (m : Move) (tried : ℕ) (below : List Frame) (board after : Position)
       → IsWalking rule h p (f ∷ below) board → tried < f.left → is_legal rule board m ≡ true → after ≡ position_after rule board m

@@ -47,23 +47,11 @@ module _ (goal : Goal) (rule : RuleSet) where
   path_end-path p (f ∷ []) = search rules
   path_end-path p (f ∷ (g ∷ below)) = search (rules, path_end-append, path_end-path p (g ∷ below))
 
-  along-more : (p : Position) (f : Frame) (fs : List Frame) → 0 < length fs
-      → moves_shown goal rule p (path (f ∷ fs)) ≡ moves_shown goal rule p (path fs) ++ shown_move goal rule (position rule p fs) f.by ∷ []
-  along-more p f fs some = search (rules, path-more, along-append, path_end-path)
-
-  last-more : (p : Position) (f : Frame) (fs : List Frame) → 0 < length fs
-      → last_shown goal rule p (path (f ∷ fs)) ≡ shown_move goal rule (position rule p fs) f.by
-  last-more p f fs some = rw (path-more f fs some, last-append p (path fs) f.by, path_end-path p fs) refl
-
 module _ (rule : RuleSet) where
   -- and leads to its position
   pub position-more : (p : Position) (f : Frame) (fs : List Frame) → 0 < length fs → position rule p (f ∷ fs) ≡ position_after rule (position rule p fs) f.by
   unfolding position
   position-more p f fs some = search rules
-
-  linked-is_legal : (p : Position) (f : Frame) (fs : List Frame) → 0 < length fs → IsLinked rule p (f ∷ fs) → is_legal rule (position rule p fs) f.by ≡ true
-  unfolding IsLinked
-  linked-is_legal p f fs some l = search rules
 
   linked-cut : (p : Position) (xs ys : List Frame) → IsLinked rule p (xs ++ ys) → IsLinked rule p ys
   unfolding IsLinked
@@ -93,7 +81,8 @@ module _ (rule : RuleSet) where
 
     -- played again from there the move is legal
     pub forth-is_legal : (p : Position) → IsLinked rule p (reverse upper) → is_legal rule (position rule p (reverse lower)) f.by ≡ true
-    forth-is_legal p l = grind (arith, linked-is_legal, stacked, length-reverse)
+    unfolding IsLinked
+    forth-is_legal p l = search (rules, stacked, length-reverse)
 
     -- and leads to the top frame's position
     pub forth-position : (p : Position) → position rule p (reverse upper) ≡ position_after rule (position rule p (reverse lower)) f.by
@@ -115,21 +104,16 @@ module _ (rule : RuleSet) where
     pub forth-along : (goal : Goal) (p : Position)
         → moves_shown goal rule p (path (reverse upper)) ≡ moves_shown goal rule p (path (reverse lower)) ++ shown_move goal rule
         (position rule p (reverse lower)) f.by ∷ []
-    forth-along goal p = grind (arith, stacked, along-more, length-reverse)
+    forth-along goal p = search (rules, stacked, length-reverse, path-more, along-append, path_end-path)
 
     -- shown alone it is the same
     pub forth-last : (goal : Goal) (p : Position) → last_shown goal rule p (path (reverse upper)) ≡ shown_move goal rule (position rule p (reverse lower)) f.by
-    forth-last goal p = grind (arith, stacked, last-more, length-reverse)
-
-  -- with one frame left, or none, the board stands on the first position
-  one-position : (p : Position) (frames : List Frame) → length frames ≤ 1 → position rule p frames ≡ p
-  unfolding position
-  one-position p [] few = refl
-  one-position p frames few = grind arith
+    forth-last goal p = search (rules, stacked, length-reverse, path-more, last-append, path_end-path)
 
   -- the lowest frame stands on the first position
   pub first-position : (p : Position) (frames : List Frame) (k : ℕ) → k ≤ 1 → position rule p (reverse (take k frames)) ≡ p
-  first-position p frames k few = search (rules, one-position, length-reverse)
+  unfolding position
+  first-position p frames k few = search (rules, length-reverse)
 
   -- no move leads there
   pub first-path : (goal : Goal) (p : Position) (frames : List Frame) → moves_shown goal rule p (path (reverse (take 1 frames))) ≡ []

@@ -10,14 +10,10 @@ some_way problem s = grind arith
 pub in_range : (problem : Posed) → IsSound problem → half_moves problem.stipulation ≤ 32
 in_range problem s = grind arith
 
--- set play's first position is well formed
-nothing_crossed : (p : Position) → is_crossed_right p.men (other p.turn) None ≡ true
-unfolding is_crossed_right
-nothing_crossed p = refl
-
 -- the first position of each phase is well formed
 pub start_sound : (problem : Posed) → IsSound problem → (phase : Phase) → IsWellFormed (phase_start problem phase)
-start_sound problem s phase = grind (arith, nothing_crossed)
+unfolding is_crossed_right
+start_sound problem s phase = search rules
 
 -- help play and battles, told by the form
 pub helps-form : (form : Form) → is_help_play (play_of form) ≡ is_help form

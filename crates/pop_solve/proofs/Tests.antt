@@ -58,12 +58,6 @@ module _ (rule : RuleSet) (aim : Aim) where
   unfolding joined_value
   rest-start t q o = search (rules, any-start, all-start)
 
-  -- a frame that its last answer decides, and one that it doesn't
-  pending_value-decided : (p : Position) (f : Frame) (below : List Frame) (answer : Option Bool) → answer ≡ Some (seeks aim.battle f.left)
-      → pending_value rule aim p (f ∷ below) answer ≡ delivered_value rule aim p below (seeks aim.battle f.left)
-  unfolding pending_value delivered_value
-  pending_value-decided p f below answer e = grind arith
-
   pending_value-undecided : (p : Position) (f : Frame) (below : List Frame) (answer : Option Bool)
       → (answer ≡ None) ⊎ (answer ≡ Some (not (seeks aim.battle f.left)))
       → pending_value rule aim p (f ∷ below) answer ≡ delivered_value rule aim p below
@@ -76,26 +70,13 @@ module _ (rule : RuleSet) (aim : Aim) where
   unfolding pending_value
   delivered_value-some p below v some = search rules
 
-  delivered_value-none : (p : Position) (below : List Frame) (v : Bool) → length below ≡ 0 → delivered_value rule aim p below v ≡ v
-  unfolding delivered_value
-  delivered_value-none p [] v none = refl
-  delivered_value-none p (g ∷ below) v none = absurd (omega (arith, none))
-
   -- the same of the positions that have to be tried
   abbrev pub fewest : ℕ → Position → List Move → ℕ
   fewest left P ms = smallest_below aim.battle (chess aim.goal rule) left P ms
 
-  same-fewest : (t : ℕ) (q : Position) (o : Order) → fewest t q (first rule q o) ≡ fewest t q (legal_moves rule q)
-  unfolding smallest_below
-  same-fewest t q o = search (rules, sum-start, least-start)
-
   fewest-start : (t : ℕ) (q : Position) (o : Order) → smallest_tree aim.battle (chess aim.goal rule) t q ≤ 1 + fewest t q (first rule q o)
-  fewest-start t q o = rw (same-fewest t q o) (trees-start aim.battle (chess aim.goal rule) t q)
-
-  try-decided : (p : Position) (f : Frame) (below : List Frame) (answer : Option Bool) → answer ≡ Some (seeks aim.battle f.left)
-      → to_try rule aim p (f ∷ below) answer ≡ to_try_with rule aim p below (seeks aim.battle f.left)
-  unfolding to_try to_try_with
-  try-decided p f below answer e = grind arith
+  unfolding smallest_below
+  fewest-start t q o = search (rules, trees-start, sum-start, least-start)
 
   try-undecided : (p : Position) (f : Frame) (below : List Frame) (answer : Option Bool) → (answer ≡ None) ⊎ (answer ≡ Some (not (seeks aim.battle f.left)))
       → to_try rule aim p (f ∷ below) answer ≡ fewest f.left (position rule p (f ∷ below)) (untried_moves rule (position rule p (f ∷ below)) f) + to_try_with
@@ -107,11 +88,6 @@ module _ (rule : RuleSet) (aim : Aim) where
   try-some : (p : Position) (below : List Frame) (v : Bool) → 0 < length below → to_try_with rule aim p below v ≡ to_try rule aim p below (Some v)
   unfolding to_try
   try-some p below v some = search rules
-
-  try-none : (p : Position) (below : List Frame) (v : Bool) → length below ≡ 0 → to_try_with rule aim p below v ≡ 0
-  unfolding to_try_with
-  try-none p [] v none = refl
-  try-none p (g ∷ below) v none = absurd (omega (arith, none))
 
   steps-start : (t : ℕ) (q : Position) (o : Order) → work_from rule t q ≡ 1 + work_among rule t q (first rule q o)
   unfolding work_from work_among
@@ -160,67 +136,21 @@ module _ (rule : RuleSet) (aim : Aim) where
     unfolding to_test position
     open-settled = rw (left, walk-next t P (untried_moves rule P f) (moves_ahead rule P f.order s next) m e) (omega arith)
 
-    module _ (undo : Undo) (k : Order) (kq : Option LegalPlace) where
-      delivered_value-open : (v : Bool) → v ≡ joined_value aim.battle (chess aim.goal rule) t (position_after rule P m)
-          (legal_moves rule (position_after rule P m))
-          → delivered_value rule aim p (passed f next s kn ∷ below) v ≡ pending_value rule aim p (tested_frame k m undo t kq ∷ (passed f next s kn ∷ below))
-          None
-      unfolding pending_value position
-      delivered_value-open v d = search (rules, rest-start)
-
-      try-open : (v : Bool) → v ≡ joined_value aim.battle (chess aim.goal rule) t (position_after rule P m) (legal_moves rule (position_after rule P m))
-          → smallest_tree aim.battle (chess aim.goal rule) t (position_after rule P m) + to_try_with rule aim p (passed f next s kn ∷ below) v ≤ 1 + to_try rule
-          aim p
-          (tested_frame k m undo t kq ∷ (passed f next s kn ∷ below)) None
-      unfolding to_try position
-      try-open v d = let n = fewest-start t (position_after rule P m) k in rw (d, sym (rest-start t (position_after rule P m) k)) (omega (arith, n))
-
-      work-open : test_work rule p (tested_frame k m undo t kq ∷ (passed f next s kn ∷ below)) < test_work rule p (f ∷ below)
-      unfolding test_work position
-      work-open =
-          rw (left, steps-next t P (untried_moves rule P f) (moves_ahead rule P f.order s next) m e, steps-start t (position_after rule P m) k) (omega arith)
-
-      open-open : 0 < t → 1 + to_test rule p (tested_frame k m undo t kq ∷ (passed f next s kn ∷ below)) ≤ to_test rule p (f ∷ below)
-      unfolding to_test position
-      open-open some =
-          rw (left, walk-next t P (untried_moves rule P f) (moves_ahead rule P f.order s next) m e, walk_count-start t (position_after rule P m) k some)
-          (omega arith)
-
   -- closing a frame opens none
   pub open-close : (p : Position) (f : Frame) (below : List Frame) → to_test rule p below ≤ to_test rule p (f ∷ below)
   unfolding to_test
   open-close p f below = omega arith
 
-  work-close : (p : Position) (f : Frame) (below : List Frame) → test_work rule p below < test_work rule p (f ∷ below)
-  unfolding test_work
-  work-close p f below = omega arith
-
 module _ (rule : RuleSet) (p : Position) where
-  cut-top : (f : Frame) (below : List Frame) → IsDescending (f ∷ below) → 0 < f.left
-  unfolding IsDescending
-  cut-top f below c = search rules
-
   top_cut : (f : Frame) (below : List Frame) (board : Position) → IsTesting rule p (f ∷ below) board → 0 < f.left
-  top_cut f below board r = cut-top f below r.cut
+  unfolding IsDescending
+  top_cut f below board r = search rules
 
   -- a frame above the lowest came from the position below
   pub came_from : (f : Frame) (below : List Frame) (board : Position) → IsLinked rule p (f ∷ below) → board ≡ position rule p (f ∷ below)
       → 0 < length below → CameFromAt rule f board (position rule p below)
   unfolding IsLinked position
   came_from f below board l at deep = search rules
-
-  testing-close : (f : Frame) (below : List Frame) (board after : Position) → IsTesting rule p (f ∷ below) board → 0 < length below
-      → ((q : Position) → CameFromAt rule f board q → after ≡ q) → IsTesting rule p below after
-  unfolding IsLinked IsDescending AreKnown position
-  testing-close f below board after r deep before = search rules
-
-  room-close : (f : Frame) (below : List Frame) (board : Position) → IsTesting rule p (f ∷ below) board → 0 < length below → f.left + 1 ≡ left_at_top below
-  unfolding IsDescending
-  room-close f below board r deep = search rules
-
-  lowest-back : (f : Frame) (below : List Frame) (board : Position) → IsTesting rule p (f ∷ below) board → length below ≡ 0 → board ≡ p
-  unfolding position
-  lowest-back f below board r none = search rules
 
   testing-settled : (f : Frame) (next : ℕ) (s : Stretch) (kn : Option LegalPlace) (below : List Frame) (board : Position)
       → IsTesting rule p (f ∷ below) board → IfSome kn (IsPlaceIn rule board) → IsTesting rule p (passed f next s kn ∷ below) board
@@ -268,24 +198,14 @@ module _ (rule : RuleSet) (aim : Aim) (floor : ℕ) (top : Frame) (old new : Lis
         → pending_value rule aim p (top ∷ tests floor new) was ≡ delivered_value rule aim p (tests floor new) v
         → to_try rule aim p (top ∷ tests floor new) was ≡ to_try_with rule aim p (tests floor new) v → MatchOption result
         (Turns rule aim floor p old new was is after count count) (λ w. Ends rule aim floor p old new was after count count w)
-    close_turns count p r e left = elim (cases_lt floor depth) [
-      | inl deep ↦ rw (above deep).0 (record {
-        testing = testing-close rule p top (tests floor new) board after (testing_top p board r)
-            (omega (arith, length-tests floor new, d)) (λ q cf. before q deep cf);
-        same = grind (arith, popped, delivered_value-some, length-tests);
-        falls = rw popped (work-close rule aim p top (tests floor new));
-        above = omega (arith, d);
-        base = base_new;
-        counted = rw popped (omega (arith, open-close rule aim p top (tests floor new)));
-        tried = rw (popped, (above deep).1) (omega (arith, left, try-some rule aim p (tests floor new) v (omega (arith, length-tests floor new, d))));
-      })
-      | inr low ↦ grind (arith, popped, delivered_value-none, length-tests, lowest-back, take_all, base_new, try-none)
-    ]
+    unfolding IsLinked IsDescending AreKnown position test_work delivered_value to_try_with
+    close_turns count p r e left = search (rules, cases_lt, testing_top, length-tests, popped, delivered_value-some, base_new, open-close, try-some, take_all)
 
     -- closing keeps the room
     pub close_room : (p : Position) (N : ℕ) → IsTesting rule p (tests floor old) board → left_at_top (tests floor old) + length old ≤ N + 1
         → IfNone result (left_at_top (tests floor new) + length new ≤ N + 1)
-    close_room p N r room = grind (arith, cases_lt, room-close, testing_top, length-tests, popped, length-append)
+    unfolding IsDescending
+    close_room p N r room = search (rules, cases_lt, testing_top, length-tests, popped, length-append)
 
   module _ (place : ℕ) (s : Stretch) (kn : Option LegalPlace) (m : Move) (board after : Position) (N : ℕ) (was : Option Bool) (last : List Frame)
       (some : 0 < top.left) (open_yet : (was ≡ None) ⊎ (was ≡ Some (not (seeks aim.battle top.left))))
@@ -323,29 +243,31 @@ module _ (rule : RuleSet) (aim : Aim) (floor : ℕ) (top : Frame) (old new : Lis
       descend_testing (Some v) d = rw (settled_last v d, d.1) (testing-settled rule p top place s kn _ board (testing_top p board r) within)
 
       descend_same : (is : Option Bool) → Descends is → pending_value rule aim p (tests floor old) was ≡ pending_value rule aim p (tests floor last) is
-      descend_same None d = rw (opened_last d, popped)
-          (pending_value-undecided rule aim p top (tests floor new) was open_yet ∙ delivered_value-next rule aim p top _ place s m _ kn left_is here
-          ∙ delivered_value-open rule aim p top _ place s m _ kn left_is here _ d.3.order d.3.known _ (rw (← at) d.1))
+      unfolding pending_value position
+      descend_same None d = search (rules, opened_last, popped, pending_value-undecided, delivered_value-next, left_is, here, rest-start)
       descend_same (Some v) d = rw (settled_last v d, popped)
           (pending_value-undecided rule aim p top (tests floor new) was open_yet ∙ delivered_value-next rule aim p top _ place s m _ kn left_is here
           ∙ ap (delivered_value rule aim p _) (rw (← at) (sym d.0)) ∙ delivered_value-some rule aim p _ v (omega arith))
 
       descend_falls : (is : Option Bool) → Descends is → test_work rule p (tests floor last) < test_work rule p (tests floor old)
-      descend_falls None d = rw (opened_last d, popped) (search (rules, here, work-open, left_is))
+      unfolding test_work position
+      descend_falls None d = search (rules, opened_last, popped, here, left_is, steps-next, steps-start)
       descend_falls (Some v) d = rw (settled_last v d, popped) (search (rules, here, work-settled, left_is))
 
       descend_counted : (is : Option Bool) → Descends is → (before count : ℕ)
           → MatchOption is (count ≤ before + 1) (λ _. count ≤ before + walk_count (legal_moves rule) (position_after rule) (top.left - 1)
           (position_after rule board m))
           → count + to_test rule p (tests floor last) ≤ before + to_test rule p (tests floor old)
-      descend_counted None d before count o = rw (opened_last d, popped) (search (rules, at, here, open-open, left_is))
+      unfolding to_test position
+      descend_counted None d before count o = search (rules, opened_last, popped, here, left_is, walk-next, walk_count-start)
       descend_counted (Some v) d before count o = rw (settled_last v d, popped) (search (rules, at, here, open-settled, left_is))
 
       descend_tried : (is : Option Bool) → Descends is → (before count : ℕ)
           → MatchOption is (HasCounted before count 1) (λ _. HasCounted before count
           (smallest_tree aim.battle (chess aim.goal rule) (top.left - 1) (position_after rule
           board m))) → min (before + to_try rule aim p (tests floor old) was) (2 ^ 64 - 1) ≤ count + to_try rule aim p (tests floor last) is
-      descend_tried None d before count tries = rw (opened_last d, popped) (search (rules, at, here, try-undecided, try-next, try-open, left_is))
+      unfolding to_try position
+      descend_tried None d before count tries = search (rules, opened_last, popped, here, try-undecided, try-next, left_is, fewest-start, rest-start)
       descend_tried (Some v) d before count tries = rw (settled_last v d, popped)
           (let n = try-next rule aim p top (tests floor new) place s m _ kn left_is here in search (rules, at, try-undecided, try-some))
 
@@ -387,7 +309,8 @@ module _ (rule : RuleSet) (aim : Aim) (floor : ℕ) (top : Frame) (old new : Lis
   -- the value of a frame that its answer decides, and of one with no move left
   pub decided_value : (p : Position) (was : Option Bool) → was ≡ Some (seeks aim.battle top.left)
       → pending_value rule aim p (top ∷ tests floor new) was ≡ delivered_value rule aim p (tests floor new) (seeks aim.battle top.left)
-  decided_value p was e = pending_value-decided rule aim p top (tests floor new) was e
+  unfolding pending_value delivered_value
+  decided_value p was e = search rules
 
   -- where no move is left untried and none decided, all moves did together
   pub exhausted_value : (p board : Position) (was : Option Bool) → IsTesting rule p (tests floor old) board
@@ -398,7 +321,8 @@ module _ (rule : RuleSet) (aim : Aim) (floor : ℕ) (top : Frame) (old new : Lis
   -- and the positions that are to be tried then
   pub decided_left : (p : Position) (was : Option Bool) → was ≡ Some (seeks aim.battle top.left)
       → to_try rule aim p (top ∷ tests floor new) was ≡ to_try_with rule aim p (tests floor new) (seeks aim.battle top.left)
-  decided_left p was e = try-decided rule aim p top (tests floor new) was e
+  unfolding to_try to_try_with
+  decided_left p was e = search rules
 
   -- then nothing is left to be tried there
   pub exhausted_left : (p board : Position) (was : Option Bool) → IsTesting rule p (tests floor old) board

@@ -201,11 +201,6 @@ module _ (rule : RuleSet) (plan : Plan) where
     unfolding is_followed value
     follows-last low q battle fought white for misses = search rules
 
-    fewest_for-last : (low : Bool) (q : Position) (battle : Battle) → plan.play ≡ BattlePlay battle → seeks battle 1 ≡ true
-        → fewest_for plan.play (has_variations plan.tree) (chess plan.goal rule) low 0 q ≡ 0
-    unfolding smallest_tree
-    fewest_for-last low q battle fought white = search rules
-
     -- a last move that doesn't mate gives no path, where the side seeks mate
     pub skipped : (low : Bool) (fuel : ℕ) → seeks_last plan.play ≡ true → plan.goal ≡ Mate → (m : Move) (ms : List Move) → is_mating rule P m ≡ false
         → shown_paths plan (chess plan.goal rule) low fuel 1 P (m ∷ ms) ≡ shown_paths plan (chess plan.goal rule) low fuel 1 P ms
@@ -223,8 +218,8 @@ module _ (rule : RuleSet) (plan : Plan) where
     fewest-skipped : (low : Bool) (fuel : ℕ) → seeks_last plan.play ≡ true → plan.goal ≡ Mate → (battle : Battle) → plan.play ≡ BattlePlay battle
         → (m : Move) (ms : List Move) → is_mating rule P m ≡ false
         → fewest_walked plan (chess plan.goal rule) low fuel 1 P (m ∷ ms) ≡ fewest_walked plan (chess plan.goal rule) low fuel 1 P ms
-    unfolding fewest_walked
-    fewest-skipped low fuel last for battle fought m ms misses = search (rules, fewest-next, fewest_for-last, follows-last)
+    unfolding fewest_walked smallest_tree
+    fewest-skipped low fuel last for battle fought m ms misses = search (rules, fewest-next, follows-last)
 
     none_of : (ms : List Move) → sum_by (λ m. walk_count (legal_moves rule) (position_after rule) 0 (position_after rule P m)) ms ≡ 0
     unfolding walk_count
@@ -246,27 +241,14 @@ module _ (rule : RuleSet) (plan : Plan) where
         (legal_moves rule P) [] (rw (← behind_start rule P) none) in
         (rw all at skip) ∙ shown_paths-none false fuel 1 P [] (inr refl)
 
-    gives-more : (q : Position) → is_given plan.play (chess plan.goal rule) 1 q ≡ false
-    unfolding is_given
-    gives-more q = rw help refl
-
     no_mates : (P : Position) (m : Move) → allows_mate rule P m ≡ false → mates_behind rule (position_after rule P m) 0 ≡ []
     no_mates P m none = search rules
 
     pub settled : (P : Position) (low : Bool) (fuel : ℕ) (m : Move) (ms : List Move) → allows_mate rule P m ≡ false
         → shown_paths plan (chess plan.goal rule) low fuel 2 P (m ∷ ms) ≡ shown_paths plan (chess plan.goal rule) low fuel 2 P ms
-    unfolding shown_paths
+    unfolding shown_paths is_given
     settled P low zero m ms none = refl
-    settled P low (suc fuel) m ms none =
-        let q = position_after rule P m in
-        let game = chess plan.goal rule in
-        rw (
-          shown_paths-next low fuel 1 P m ms,
-          follows-help plan game low 1 q help,
-          gives-more q,
-          walk_length-help plan game 1 q help,
-          mateless q fuel (no_mates P m none),
-        ) refl
+    settled P low (suc fuel) m ms none = search (rules, shown_paths-next, follows-help, walk_length-help, mateless, no_mates)
 
   -- each move counts one, with a half-move left behind it
   each_one : (P : Position) (ms : List Move) → sum_by (λ m. walk_count (legal_moves rule) (position_after rule) 1 (position_after rule P m)) ms ≡ length ms
@@ -326,15 +308,6 @@ module _ (rule : RuleSet) (plan : Plan) where
     unfolding walk_behind
     each k e = rw (e, each_one P (moves_behind rule P f.place), each_one P (moves_behind rule P g.mid)) (ap length g.passed ∙ length-append g.over _)
 
-    -- so many frames are counted that are then no longer to be opened
-    open-skip : (n : ℕ) × (to_open rule p (f ∷ below) ≡ n + to_open rule p later)
-        × (((n ≡ 0) × (between ≡ before)) ⊎ ((plan.play ≡ HelpPlay) × (between ≡ min (before + n) (2 ^ 64 - 1))))
-    unfolding to_open position
-    open-skip = elim g.fits [
-      | inl e ↦ (0, search (rules, nothing, same), inl (refl, e.0))
-      | inr e ↦ (length g.over, omega (arith, each f.left e.2), inr (e.0, e.3.counts))
-    ]
-
     tries-skip : (battle : Battle) → plan.play ≡ BattlePlay battle → fewest_left rule plan h p (f ∷ below) ≡ fewest_left rule plan h p later
     unfolding fewest_left position
     tries-skip battle fought = ap (λ n. n + fewest_left rule plan h p below)
@@ -344,5 +317,5 @@ module _ (rule : RuleSet) (plan : Plan) where
     -- what follows moves that are passed over follows from before them
     pub steps-skip : (new : List Frame) (board : Position) (after : ℕ) (given : Bool) → Steps rule plan h p later new board between after given
         → Steps rule plan h p (f ∷ below) new board before after given
-    unfolding are_whites
-    steps-skip new board after given s = search (rules, come-skip, open-skip, tries-skip, turns-skip)
+    unfolding are_whites to_open position
+    steps-skip new board after given s = search (rules, come-skip, tries-skip, turns-skip, nothing, same, each)
