@@ -1,5 +1,5 @@
 -- The first solutions of a phase, by the paths that begin them.
-use Rattle.pop_solve.proofs.Words.{Battle, BattlePlay, Bool, Frame, Game, HelpPlay, IsWalking, List, Plan, PlayOfSides, Position, RuleSet, Steps, Walks, [], ap, append-nil, arith, beginning_count, begins_solution, chess, cond, eqb, false, is_given, is_help_play, kept_paths, length, map, moves_behind, nat_tests, path, position, refl, rules, shown_paths, suc, to_come, true, zero, ℕ, ◌&&◌, ◌++◌, ◌+◌, ◌-◌, ◌<◌, ◌||◌, ◌∙◌, ◌∷◌, ◌≡◌, and_parts}
+use Rattle.pop_solve.proofs.Words.{Battle, BattlePlay, Bool, Frame, Game, IsWalking, List, Plan, PlayOfSides, Position, RuleSet, Steps, Walks, [], append-nil, arith, beginning_count, begins_solution, chess, cond, eqb, false, is_help_play, kept_paths, length, map, moves_behind, nat_tests, path, position, refl, rules, shown_paths, suc, to_come, true, zero, ℕ, ◌&&◌, ◌++◌, ◌+◌, ◌-◌, ◌<◌, ◌||◌, ◌∷◌, ◌≡◌, and_parts}
 use Rattle.pop_solve.proofs.Paths.{path-length}
 use Rattle.std.proofs.lemmas.List.{map-id, nil_from_length}
 use Rattle.pop_solve.proofs.GoingOn.{given-battle}
@@ -72,12 +72,7 @@ module _ (rule : RuleSet) (plan : Plan) (h : ℕ) (p : Position) where
   -- with none to begin, and none on the way
   full : (play : PlayOfSides) → plan.play ≡ play → (frames : List Frame) → (is_help_play play || eqb (length frames) 1) ≡ true
       → (kept_paths (is_help_play play) 0 (to_come rule plan h p frames) ≡ []) × (beginning_count (is_help_play play) 0 (to_come rule plan h p frames) ≡ 0)
-  full HelpPlay same frames e = (keep-help _, beginning_count-help _)
-  full (BattlePlay battle) same frames e =
-      let game = chess plan.goal rule in
-      let one = one_frame frames e in
-      rw (one.1, to_come-root one.0)
-      (keep-shown_paths plan game battle same _ _ _ _ _, beginning_count-shown_paths plan game battle same _ _ _ _ _)
+  full v0 same frames e = search (rules, keep-help, beginning_count-help, one_frame, to_come-root, keep-shown_paths, beginning_count-shown_paths)
 
   none : (frames : List Frame) → length frames ≡ 0 → to_come rule plan h p frames ≡ []
   unfolding to_come

@@ -1,5 +1,5 @@
 -- The paths of trees.
-use Rattle.pop_solve.proofs.Words.{AllPairs, AllPairs-filter, Battle, Bool, Contains, Game, List, [], continuations, ap, arith, best_moves, cond, false, false≢true, filter, first_in, flat_map, flat_map_single, from_filter, from_flat_map, from_map, in_cases, in_filter, in_flat_map, in_map, inl, inr, keeps_win, later_in, least_moves, list_any, map, node, nodes_below, none_in_nil, or_cases, or_left, or_right, pairs_flat_map, pairs_map, pairs_nil, pairs_of, refl, rules, is_in_set_play, set_tree, subst, suc, sym, take, take-map, tree, true, zero, ℕ, ◌++◌, ◌-◌, ◌↔◌, ◌∙◌, ◌∷◌, ◌≡◌, ◌≢◌, ◌⊎◌}
+use Rattle.pop_solve.proofs.Words.{AllPairs, AllPairs-filter, Battle, Bool, Contains, Game, List, [], continuations, ap, arith, best_moves, cond, false, false≢true, filter, first_in, flat_map, flat_map_single, from_filter, from_flat_map, from_map, in_cases, in_filter, in_flat_map, in_map, inl, inr, keeps_win, later_in, list_any, map, node, nodes_below, none_in_nil, or_cases, or_left, or_right, pairs_flat_map, pairs_map, pairs_nil, pairs_of, refl, rules, is_in_set_play, set_tree, subst, suc, take, take-map, tree, true, zero, ℕ, ◌++◌, ◌-◌, ◌↔◌, ◌∙◌, ◌∷◌, ◌≡◌, ◌≢◌, ◌⊎◌}
 use Rattle.std.proofs.lemmas.List.Folds.{flat_map-map}
 use Rattle.pop_solve.proofs.theorems.Lists.{HasBeginnings, StandsBefore}
 

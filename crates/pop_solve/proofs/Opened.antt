@@ -1,6 +1,6 @@
 -- How many frames a search opens.
-use Rattle.pop_solve.proofs.Words.{BareEvent, Barred, Battle, BattlePlay, Before, Behind, Bool, Form, Frame, IsCounted, IsGiven, IsKeys, IsNarrow, IsOpened, IsSound, are_whites, List, Opens, OpensOn, Phase, Plan, Play, Posed, Position, RuleSet, Set, Stage, Tries, Within, [], ap, arith, cond, drop, eqb, false, fewest_from, fewest_left, first_phase, half_moves_of, inl, inr, HelpPlay, Walk, walk_of, and_parts}
-use Rattle.pop_solve.proofs.Words.{is_barred, is_set, is_stop, is_unstopped, left_of, min, not, phase_events, phase_fewest, phase_half_moves, phase_start, phase_walk, plan_of, play_of, position, refl, rest_fewest, rest_open, rules, seeks, has_variations, suc, to_open, total, tree_with, true, walk_from, zero, ℕ, ◌&&◌, ◌++◌, ◌+◌, ◌-◌, ◌<◌, ◌^◌, ◌∷◌, ◌≡◌, ◌≤◌, ◌⊎◌}
+use Rattle.pop_solve.proofs.Words.{BareEvent, Barred, Battle, BattlePlay, Before, Behind, Form, Frame, IsCounted, IsGiven, IsKeys, IsNarrow, IsOpened, IsSound, are_whites, List, Opens, OpensOn, Phase, Plan, Play, Posed, Position, RuleSet, Set, Stage, Tries, Within, [], ap, arith, cond, drop, eqb, false, fewest_from, fewest_left, first_phase, half_moves_of, inl, inr, HelpPlay, Walk, walk_of, and_parts}
+use Rattle.pop_solve.proofs.Words.{is_barred, is_set, is_stop, is_unstopped, left_of, min, not, phase_events, phase_fewest, phase_half_moves, phase_start, phase_walk, plan_of, play_of, position, refl, rest_fewest, rest_open, rules, seeks, has_variations, suc, to_open, total, tree_with, true, walk_from, zero, ℕ, ◌++◌, ◌+◌, ◌-◌, ◌<◌, ◌^◌, ◌∷◌, ◌≡◌, ◌≤◌, ◌⊎◌}
 use Rattle.pop_solve.proofs.Boards.{behind_start}
 use Rattle.pop_solve.proofs.Sound.{battle-play, help-play, some_way}
 use Rattle.pop_solve.proofs.ToCome.{one, walk_count-start}
@@ -100,8 +100,7 @@ module _ (rule : RuleSet) (problem : Posed) where
     narrowed (inr w) = inr (w.0, x.whites w.0.battle w.0.fought (keys_alone w.0) w.1)
 
     opened : Narrow old → after + to_open rule (phase_start problem walk.phase) new ≤ before + to_open rule (phase_start problem walk.phase) old
-    opened (inl help) = x.helped help
-    opened (inr w) = x.most w.0.battle w.0.fought (keys_alone w.0) w.1
+    opened v0 = search (rules, keys_alone)
 
     -- what a call opens that gives a path
     pub opens-given : (next : ℕ) (left : List BareEvent) (last : List Frame) → last ≡ new
@@ -188,19 +187,11 @@ module _ (rule : RuleSet) (problem : Posed) where
   -- at the end nothing is to be opened
   pub rest-none : (stage : Stage) (frames : List Frame) → left_of rule problem stage frames ≡ [] → rest_open rule problem stage frames ≡ 0
   unfolding left_of rest_open phase_events
-  rest-none (Before Set) frames e = absurd cc
-  rest-none (Before Play) frames e = absurd cc
-  rest-none Barred frames e = absurd cc
-  rest-none (Within walk count) frames e = absurd (some _ _ _ e)
-  rest-none Behind frames e = refl
+  rest-none v0 frames e = search (rules, some)
 
   -- nor is anything to be tried
   pub fewest-none : (stage : Stage) (frames : List Frame) → left_of rule problem stage frames ≡ [] → rest_fewest rule problem stage frames ≡ 0
   unfolding left_of rest_fewest phase_events
-  fewest-none (Before Set) frames e = absurd cc
-  fewest-none (Before Play) frames e = absurd cc
-  fewest-none Barred frames e = absurd cc
-  fewest-none (Within walk count) frames e = absurd (some _ _ _ e)
-  fewest-none Behind frames e = refl
+  fewest-none v0 frames e = search (rules, some)
 
 pub ruleset all_opened = (rest-none, fewest-none)

@@ -76,17 +76,8 @@ module _ (rule : RuleSet) (plan : Plan) (h : ℕ) (p : Position) (f : Frame) (be
   steps-close : (after : Position) (count : ℕ) → (f.left ≡ 0) ⊎ (moves_behind rule board f.place ≡ []) → (length below ≡ 0 → after ≡ board)
       → ((q : Position) → 0 < length below → CameFromAt rule f board q → after ≡ q) → Steps rule plan h p (f ∷ below) below after count count false
   steps-close after count e lowest before =
-      let walking = walking-close rule h p f below board after r lowest before in
-      let here : (f.left ≡ 0) ⊎ (moves_behind rule (position rule p (f ∷ below)) f.place ≡ []) = rw (← r.board_at) e in
-      let o = open-close rule plan p f below here in
-      grind (
-        arith,
-        walking,
-        come-close,
-        turns-close rule plan h p f below,
-        whites-cut,
-        tries-close rule plan h p f below here,
-      )
+      search (rules, walking-close rule h p f below board after r lowest before, come-close, turns-close rule plan h p f below, whites-cut, open-close,
+      tries-close)
 
   module _ (next : ℕ) (m : Move) (t : ℕ) (left : f.left ≡ suc t) (e : moves_behind rule board f.place ≡ m ∷ moves_behind rule board next) where
     here : moves_behind rule (position rule p (f ∷ below)) f.place ≡ m ∷ moves_behind rule (position rule p (f ∷ below)) next

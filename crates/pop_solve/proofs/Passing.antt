@@ -1,5 +1,5 @@
 -- Moves that are passed over since no reply to them mates.
-use Rattle.pop_solve.proofs.Words.{AreSettled, IfSome, IsNextUnsettled, IsSifted, IsWellFormed, MatchOption, Move, None, Option, Passes, Position, RuleSet, Some, [], allows_mate, append-nil, append_assoc, arith, false, filter, filter-append, from_map, is_legal, is_pseudo_legal-from_legal, length, length-append, mates_behind, min, moves_behind, moves_behind-end, moves_behind-here, place_of_triple, range_with_len, refl, sym, true, ℕ, ◌++◌, ◌+◌, ◌-◌, ◌<◌, ◌^◌, ◌∙◌, ◌∷◌, ◌≡◌}
+use Rattle.pop_solve.proofs.Words.{AreSettled, IfSome, IsNextUnsettled, IsSifted, IsWellFormed, MatchOption, Move, None, Option, Passes, Position, RuleSet, Some, [], allows_mate, append-nil, append_assoc, arith, false, filter, filter-append, from_map, is_legal, is_pseudo_legal-from_legal, length, length-append, mates_behind, min, moves_behind, moves_behind-end, moves_behind-here, place_of_triple, range_with_len, refl, sym, true, ℕ, ◌+◌, ◌-◌, ◌<◌, ◌^◌, ◌∙◌, ◌∷◌, ◌≡◌, rules}
 use Rattle.chess_rules.proofs.listing_moves.Between.{behind_cut}
 use Rattle.chess_rules.proofs.listing_moves.Members.{from_range}
 use Rattle.chess_rules.proofs.listing_moves.Places.{triples_numbered}
@@ -19,11 +19,7 @@ module _ (rule : RuleSet) (p : Position) where
   -- it stands behind the place before its own
   behind_back : (m : Move) → IsWellFormed p → is_legal rule p m ≡ true
       → moves_behind rule p (place_of (Some m) - 1) ≡ m ∷ moves_behind rule p (place_of (Some m))
-  behind_back m sound lawful =
-      let w = numbered m sound lawful in
-      let at : place_of (Some m) ≡ w.0 + 1 = rw w.2 at (place_of_triple w.0 w.1) in
-      let back : place_of (Some m) - 1 ≡ w.0 = omega (arith, at) in
-      rw (back, at) (rw w.2 at (moves_behind-here rule p w.0 w.1 (rw w.2 lawful)))
+  behind_back m sound lawful = search (rules, numbered, place_of_triple, moves_behind-here)
 
   -- what the sieve passes over is settled
   pub sifted : (place next n before after : ℕ) (o : Option Move) → IsWellFormed p → next ≡ place_of o → IfSome o (λ m. is_legal rule p m ≡ true)
@@ -56,26 +52,13 @@ module _ (rule : RuleSet) (p : Position) where
 
   -- before the first move none is passed over
   pub passes_none : (place before : ℕ) → before < 2 ^ 64 → Passes rule p place (moves_behind rule p place) (AreSettled rule p before before)
-  passes_none place before range = record {
-    mid = place;
-    over = [];
-    passed = refl;
-    here = refl;
-    fits = record { none = refl; counts = omega (arith, range) };
-  }
+  passes_none place before range = search rules
 
   -- one more is passed over
   pub passes_one : (place at next before between after : ℕ) (m : Move)
       → Passes rule p place (moves_behind rule p at) (AreSettled rule p before between) → moves_behind rule p at ≡ m ∷ moves_behind rule p next
       → mates_behind rule (position_after rule p m) 0 ≡ [] → after ≡ min (between + 1) (2 ^ 64 - 1)
       → Passes rule p place (moves_behind rule p next) (AreSettled rule p before after)
-  passes_one place at next before between after m g e none counted = record {
-    mid = next;
-    over = g.over ++ m ∷ [];
-    passed = g.passed ∙ (rw (g.here, e) (sym (append_assoc g.over (m ∷ []) (moves_behind rule p next))));
-    here = refl;
-    fits = record {
-      none = filter-append (allows_mate rule p) g.over (m ∷ []) ∙ (rw (g.fits.none, no_mate_allowed m none) refl);
-      counts = omega (arith, counted, g.fits.counts, length-append g.over (m ∷ []));
-    };
-  }
+  passes_one place at next before between after m g e none counted =
+      search (rules, append_assoc g.over (m ∷ []) (moves_behind rule p next), filter-append (allows_mate rule p) g.over (m ∷ []), no_mate_allowed m none,
+      length-append g.over (m ∷ []))

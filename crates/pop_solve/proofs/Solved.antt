@@ -165,8 +165,7 @@ module _ (rule : RuleSet) (problem : Posed) (stated : IsSound problem) where
       (phase_start problem phase))) (solutions_by play rule problem phase)
   unfolding help_lines set_tree
   cut phase HelpPlay e zero z = rw z (search (rules, shown_paths-zero, none-cut))
-  cut phase HelpPlay e (suc h) z = rw (z, shown_paths-help (game_of rule problem) plan e true h (phase_start problem phase))
-      (record { kept = lines-kept problem.max_solutions _; begun = lines-begun problem.max_solutions _ })
+  cut phase HelpPlay e (suc h) z = search (rules, shown_paths-help (game_of rule problem) plan e true h (phase_start problem phase), lines-kept, lines-begun)
   cut Set (BattlePlay battle) e zero z = rw z (search (rules, shown_paths-zero, none-cut))
   cut Set (BattlePlay battle) e (suc h) z =
       rw z (rw (shown_paths-varied problem.variation) at (set-cut (game_of rule problem) plan battle e problem.stipulation.n h problem.max_solutions
@@ -184,6 +183,5 @@ module _ (rule : RuleSet) (problem : Posed) (stated : IsSound problem) where
       → IsCutInto (is_help problem.stipulation.form) problem.max_solutions (phase_paths rule problem phase (f ∷ [])) (solutions rule problem phase)
   unfolding solutions
   root-solutions phase f l b =
-      let h : phase_half_moves problem phase - 0 ≡ phase_half_moves problem phase = omega arith in
-      let r = to_come-root rule plan (phase_half_moves problem phase) (phase_start problem phase) f in
-      rw (← helps-form problem.stipulation.form, r, h, l, b) (cut phase (play_of problem.stipulation.form) refl (phase_half_moves problem phase) refl)
+      search (rules, to_come-root rule plan (phase_half_moves problem phase) (phase_start problem phase) f, helps-form problem.stipulation.form, cut phase
+      (play_of problem.stipulation.form) refl (phase_half_moves problem phase) refl)

@@ -1,5 +1,5 @@
 -- One turn of a test over frames.
-use Rattle.pop_solve.proofs.Words.{AreKnown, Bool, CameFrom, CameFromAt, Ends, Frame, HasCounted, IfNone, IfSome, IsDescending, IsLinked, IsOpenedOn, IsPlaceIn, IsTesting, IsWellFormed, Killer, LegalPlace, List, MatchOption, Move, None, Option, Order, Position, RuleSet, Some, Turns, Undo, [], after_well_formed, ap, arith, cases_lt, chess, cond, delivered_value, drop, drop-append-le, inl, inr, is_legal, join, joined_value, least_of, length, length-append, length-drop, length-reverse, moves_ahead}
+use Rattle.pop_solve.proofs.Words.{AreKnown, Bool, CameFrom, CameFromAt, Ends, Frame, HasCounted, IfNone, IfSome, IsDescending, IsLinked, IsOpenedOn, IsPlaceIn, IsTesting, IsWellFormed, Killer, LegalPlace, List, MatchOption, Move, None, Option, Order, Position, RuleSet, Some, Turns, Undo, [], after_well_formed, ap, arith, cases_lt, chess, cond, delivered_value, drop, drop-append-le, is_legal, join, joined_value, least_of, length, length-append, length-drop, length-reverse, moves_ahead}
 use Rattle.pop_solve.proofs.Words.{is_pseudo_legal-from_legal, list_all, list_any, min, not, pending_value, position, refl, reverse, reverse-append, rules, seeks, smallest_below, smallest_tree, work_from, work_among, subst, suc, sum_by, sum_by-cons, sym, take, take-append-le, take_all, tested_frame, tests, to_test, to_try, to_try_with, left_at_top, true, undo_of, untried_moves, value, walk_among, walk_count, test_work, ℕ, ◌&&◌, ◌++◌, ◌+◌, ◌-◌, ◌<◌, ◌^◌, ◌||◌, ◌∙◌, ◌∷◌, ◌≡◌, ◌≤◌, ◌⊎◌}
 use Rattle.chess_rules.specs.Play.{position_after}
 use Rattle.chess_rules.specs.Legal.{moves as legal_moves}
