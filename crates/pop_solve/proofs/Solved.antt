@@ -3,7 +3,7 @@ use Rattle.pop_solve.proofs.Words.{Battle, BattlePlay, Bool, Direct, Form, Frame
 use Rattle.chess_rules.specs.Legal.{moves as legal_moves}
 use Rattle.pop_solve.proofs.Sound.{helps-form, some_way}
 use Rattle.pop_solve.proofs.Battles.{value-wins, value-self_wins}
-use Rattle.pop_solve.proofs.Trees.{as_nodes, beneath, by_test, flat-filter, flip, half-some, halves, halves-seek, keeps-value, nodes_below-key, nodes_below-set, seeks-step, shown_paths-help, shown_paths-zero, unflip}
+use Rattle.pop_solve.proofs.Trees.{as_nodes, beneath, by_test, flat-filter, halves, halves-seek, keeps-value, nodes_below-key, nodes_below-set, shown_paths-help, shown_paths-zero}
 use Rattle.pop_solve.proofs.Kept.{keep-nil, beginning_count-nil, to_come-root}
 
 -- what is kept of a list of paths, and the solutions begun: `sols` are its solutions
@@ -121,32 +121,25 @@ module _ {P M : Type 0} (game : Game P M) (plan : Plan) (battle : Battle) (fough
   set_value Direct n h r e = grind (arith, value-wins game (n - 2) r)
   set_value Selfmate n h r e = grind (arith, value-self_wins game (n - 1) r)
 
+  two_on : (battle : Battle) (h : ℕ) → seeks battle (suc h + 1) ≡ true → seeks battle h ≡ true
+  two_on battle h s = search rules
+
   -- the play: the tree
   pub tree-cut : (n h max : ℕ) (p : P) (ms : List M) → suc h ≡ halves battle n
       → IsCutInto false max (shown_paths plan game true (suc h) (suc h) p ms) (tree_by battle game (has_variations plan.tree) n (suc h) p ms)
   tree-cut n h max p ms e =
-      let k = half-some game battle n (omega (arith, e)) in
-      let e2 : suc h ≡ halves battle (suc k.0) = e ∙ ap (halves battle) k.1 in
-      let l : halves battle (suc k.0) - 1 ≡ h = omega (arith, e2) in
       let one : suc h - 1 ≡ h = omega arith in
-      let s : seeks battle (suc h) ≡ true = rw e2 (halves-seek game battle k.0) in
-      let same : (m : M) → value battle game h (game.after p m) ≡ keeps_win battle game n (game.after p m) =
-      grind (arith, keeps-value) in
-      rw one (root-cut game plan battle fought h max p ms _ _ same (λ m v. nodes_below-key game plan battle fought n h (game.after p m) s (grind arith) v))
+      rw one (root-cut game plan battle fought h max p ms _ _ (λ m. keeps-value game battle n h (game.after p m) e)
+      (λ m v. nodes_below-key game plan battle fought n h (game.after p m) (halves-seek game battle n h e) (grind arith) v))
 
   -- set play
   pub set-cut : (n h max : ℕ) (p : P) (ms : List M) → suc h ≡ halves battle n - 1
       → IsCutInto false max (shown_paths plan game true (suc h) (suc h) p ms) (set_by battle game (has_variations plan.tree) n h p ms)
   set-cut n h max p ms e =
-      let k = half-some game battle n (omega (arith, e)) in
-      let e2 : suc h + 1 ≡ halves battle (suc k.0) = omega (arith, e, ap (halves battle) k.1) in
-      let s : seeks battle (suc h + 1) ≡ true = rw e2 (halves-seek game battle k.0) in
-      let s1 : seeks battle (suc h) ≡ false = flip game _ (sym (seeks-step game battle (suc h)) ∙ s) in
-      let one : suc h ≡ h + 1 = omega arith in
-      let s2 : seeks battle (h + 1) ≡ false = rw (← one) s1 in
-      let s3 : seeks battle h ≡ true = unflip game _ (sym (seeks-step game battle h) ∙ s2) in
+      let s : seeks battle (suc h + 1) ≡ true = halves-seek game battle n (suc h) (omega (arith, e)) in
+      let s2 : seeks battle h ≡ true = two_on battle h s in
       root-cut game plan battle fought h max p ms _ _ (λ m. set_value battle n h (game.after p m) e)
-      (λ m v. nodes_below-set game plan battle fought n h (game.after p m) s3 (grind arith) v)
+      (λ m v. nodes_below-set game plan battle fought n h (game.after p m) s2 (grind arith) v)
 
 -- a phase of no half-moves
 none-cut : {M : Type 0} (help : Bool) (n : ℕ) → IsCutInto {M = M} help n [] []

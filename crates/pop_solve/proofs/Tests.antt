@@ -278,15 +278,9 @@ module _ (rule : RuleSet) (aim : Aim) (floor : ℕ) (top : Frame) (old new : Lis
         → MatchOption is (HasCounted before count 1) (λ _. HasCounted before count
         (smallest_tree aim.battle (chess aim.goal rule) (top.left - 1) (position_after rule
         board m))) → (p : Position) → IsTesting rule p (tests floor old) board → Turns rule aim floor p old last was is after before count
-    descend_turns is d before count o tries p r = record {
-      testing = descend_testing p r is d;
-      same = descend_same p r is d;
-      falls = descend_falls p r is d;
-      above = grind (arith, length-append);
-      base = grind (arith, take-append-le, length-append);
-      counted = descend_counted p r is d before count o;
-      tried = descend_tried p r is d before count tries;
-    }
+    descend_turns is d before count o tries p r =
+        search (rules, descend_testing p r is d, descend_same p r is d, descend_falls p r is d, length-append, take-append-le, descend_counted p r is d before
+        count o, descend_tried p r is d before count tries)
 
     -- playing it keeps the room
     pub descend_room : (is : Option Bool) → Descends is → left_at_top (tests floor old) + length old ≤ N + 1
@@ -360,8 +354,7 @@ module _ (rule : RuleSet) (aim : Aim) where
       (before + walk_count (legal_moves rule) (position_after rule) left p) (before + smallest_tree aim.battle (chess aim.goal rule) left p)
   unfolding pending_value delivered_value IsLinked IsDescending AreKnown position to_test to_try to_try_with
   begins floor p N left k board before count by undo under frames kn low put within room more one_more at sound d =
-      let none : tests floor under ≡ [] = nil_from_length (tests floor under) (omega (arith, length-tests floor under, low)) in
-      grind (arith, tests-push, length-append, walk_count-start, fewest-start, rest-start, take-append-le, take_all)
+      search (rules, length-tests floor under, tests-push, length-append, walk_count-start, fewest-start, rest-start, take-append-le, take_all)
 
   -- each turn leaves it under way
   pub goes_on : (floor : ℕ) (p : Position) (N : ℕ) (v : Bool) (under old new : List Frame) (was is : Option Bool) (board after : Position) (before count most

@@ -143,9 +143,7 @@ module _ (rule : RuleSet) (plan : Plan) where
     -- so does following it
     pub turns-enter : (undo : Undo) (tried : ℕ) → walk_work rule h p (opened_frame m undo tried ∷ (moved f next ∷ below)) < walk_work rule h p (f ∷ below)
     unfolding walk_work position
-    turns-enter undo tried =
-        let less : h - suc (length below) ≡ k = omega arith in
-        rw (fuel, less, work_behind-next rule k (position rule p (f ∷ below)) f.place next m e, steps-start rule k q) (omega arith)
+    turns-enter undo tried = search (rules, work_behind-next rule k (position rule p (f ∷ below)) f.place next m e, steps-start rule k q)
 
     -- the next move opens what it can, and the others theirs
     pub open-next : to_open rule p (f ∷ below) ≡ walk_count (legal_moves rule) (position_after rule) t q + to_open rule p (moved f next ∷ below)
@@ -205,15 +203,7 @@ module _ (rule : RuleSet) (plan : Plan) where
     pub skipped : (low : Bool) (fuel : ℕ) → seeks_last plan.play ≡ true → plan.goal ≡ Mate → (m : Move) (ms : List Move) → is_mating rule P m ≡ false
         → shown_paths plan (chess plan.goal rule) low fuel 1 P (m ∷ ms) ≡ shown_paths plan (chess plan.goal rule) low fuel 1 P ms
     unfolding shown_paths
-    skipped low zero last for m ms misses = refl
-    skipped low (suc fuel) last for m ms misses =
-        let q = position_after rule P m in
-        let game = chess plan.goal rule in
-        rw (shown_paths-next low fuel 0 P m ms) (elim (ways plan.play) [
-          | inl help ↦ rw (follows-help plan game low 0 q help, gives-last q help for misses, walk_length-help plan game 0 q help)
-              (ends low fuel fuel m q (legal_moves rule q) ms)
-          | inr way ↦ rw (follows-last low q way.0 way.1 (rw way.1 at last) for misses) refl
-        ])
+    skipped low v1 last for m ms misses = search (rules, shown_paths-next, ways, follows-help, gives-last, walk_length-help, ends, follows-last)
 
     fewest-skipped : (low : Bool) (fuel : ℕ) → seeks_last plan.play ≡ true → plan.goal ≡ Mate → (battle : Battle) → plan.play ≡ BattlePlay battle
         → (m : Move) (ms : List Move) → is_mating rule P m ≡ false
@@ -247,8 +237,7 @@ module _ (rule : RuleSet) (plan : Plan) where
     pub settled : (P : Position) (low : Bool) (fuel : ℕ) (m : Move) (ms : List Move) → allows_mate rule P m ≡ false
         → shown_paths plan (chess plan.goal rule) low fuel 2 P (m ∷ ms) ≡ shown_paths plan (chess plan.goal rule) low fuel 2 P ms
     unfolding shown_paths is_given
-    settled P low zero m ms none = refl
-    settled P low (suc fuel) m ms none = search (rules, shown_paths-next, follows-help, walk_length-help, mateless, no_mates)
+    settled v0 low v2 m ms none = search (rules, shown_paths-next, follows-help, walk_length-help, mateless, no_mates)
 
   -- each move counts one, with a half-move left behind it
   each_one : (P : Position) (ms : List Move) → sum_by (λ m. walk_count (legal_moves rule) (position_after rule) 1 (position_after rule P m)) ms ≡ length ms

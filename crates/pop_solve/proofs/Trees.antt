@@ -64,9 +64,10 @@ module _ {P M : Type 0} (game : Game P M) where
   seeks-halves Direct t s some = let e : t % 2 ≡ 1 = grind (arith, nat_tests) in (t / 2, omega (arith, e))
 
   -- the test of a move of White
-  pub keeps-value : (battle : Battle) (k : ℕ) (q : P) → keeps_win battle game (suc k) q ≡ value battle game (halves battle (suc k) - 1) q
-  keeps-value Direct k q = let n : suc k - 1 ≡ k = omega arith in let h : 2 * suc k - 1 - 1 ≡ 2 * k = omega arith in rw (n, h) (sym (value-is_lost game k q))
-  keeps-value Selfmate k q = let h : 2 * suc k - 1 ≡ suc (2 * k) = omega arith in rw h (sym (value-is_self_lost game k q))
+  pub keeps-value : (battle : Battle) (k l : ℕ) (q : P) → suc l ≡ halves battle k → value battle game l q ≡ keeps_win battle game k q
+  keeps-value Direct k l q e = let h : l ≡ 2 * (k - 1) = omega (arith, e) in rw h (value-is_lost game (k - 1) q)
+  keeps-value Selfmate zero l q e = absurd (omega (arith, e))
+  keeps-value Selfmate (suc k) l q e = let h : l ≡ suc (2 * k) = omega (arith, e) in rw h (value-is_self_lost game k q)
 
   -- the least length by half-moves is that of the least number of moves
   least_moves-halves : (battle : Battle) (n t : ℕ) (q : P) → seeks battle t ≡ true → 0 < t → t ≤ 2 * n → game.goal q ≡ false → value battle game t q ≡ true
@@ -76,11 +77,6 @@ module _ {P M : Type 0} (game : Game P M) where
       grind (arith, seeks-halves Selfmate t s some, length-more, least_moves-selfmate game q open_yet n)
   least_moves-halves Direct zero t q s some most open_yet v = absurd (omega (arith, some, most))
   least_moves-halves Direct (suc n) t q s some most open_yet v = grind (arith, seeks-halves Direct t s some, length-more, least_moves-direct game q n)
-
-  -- a battle with a half-move has a move
-  pub half-some : (battle : Battle) (k : ℕ) → 0 < halves battle k → (j : ℕ) × (k ≡ suc j)
-  half-some Selfmate k some = (k - 1, omega (arith, some))
-  half-some Direct k some = (k - 1, omega (arith, some))
 
   -- the value of Black's position holds after each of his moves
   value-black : (battle : Battle) (t : ℕ) (q : P) → game.goal q ≡ false → seeks battle (suc t) ≡ false → value battle game (suc t) q ≡ true
@@ -100,8 +96,9 @@ module _ {P M : Type 0} (game : Game P M) where
   least_length_from-least_moves battle q (suc n) a = search (rules, least_length_from-least_moves battle q n (a + 2))
 
   -- White is to move with all half-moves of a battle left
-  pub halves-seek : (battle : Battle) (k : ℕ) → seeks battle (halves battle (suc k)) ≡ true
-  halves-seek battle k = search rules
+  pub halves-seek : (battle : Battle) (k l : ℕ) → suc l ≡ halves battle k → seeks battle (l + 1) ≡ true
+  halves-seek Direct k l e = let odd : (l + 1) % 2 ≡ 1 = omega (arith, e) in grind (arith, nat_tests)
+  halves-seek Selfmate k l e = let even : (l + 1) % 2 ≡ 0 = omega (arith, e) in grind (arith, nat_tests)
 
   -- what isn't true is false
   pub flip : (b : Bool) → not b ≡ true → b ≡ false
@@ -143,30 +140,23 @@ module _ {P M : Type 0} (game : Game P M) where
     unfolding shown_length
     white n k zero q G s some most room open_yet v each = absurd (omega (arith, some))
     white n k (suc t) q G s some most room open_yet v each =
-        let z : eqb (suc t) 0 ≡ false = grind arith in
-        let L = least_length_from battle game q ((suc t - fewest_half_moves battle) / 2) (fewest_half_moves battle) in
-        let h : L ≡ halves battle (least_moves battle game n q) = grind (arith, least_moves-halves) in
-        rw (z, open_yet, s) (go L refl h)
+        rw (z, open_yet, s) (go L refl (grind (arith, least_moves-halves)))
       where
-        z0 : eqb (suc t) 0 ≡ false
-        z0 = grind arith
+        z : eqb (suc t) 0 ≡ false
+        z = grind arith
 
-        L0 : ℕ
-        L0 = least_length_from battle game q ((suc t - fewest_half_moves battle) / 2) (fewest_half_moves battle)
+        L : ℕ
+        L = least_length_from battle game q ((suc t - fewest_half_moves battle) / 2) (fewest_half_moves battle)
 
-        go : (x : ℕ) → L0 ≡ x → x ≡ halves battle (least_moves battle game n q)
+        go : (x : ℕ) → L ≡ x → x ≡ halves battle (least_moves battle game n q)
             → shown_paths plan game false (suc k) x q (game.moves q) ≡ flat_map G (best_moves battle game n q)
         go zero e h = absurd (grind (arith, least_length_from-least_moves))
         go (suc l) e h =
-            let j = half-some battle (least_moves battle game n q) (omega (arith, h)) in
-            let h2 : suc l ≡ halves battle (suc j.0) = h ∙ ap (halves battle) j.1 in
-            let n2 : l + 1 ≡ halves battle (suc j.0) = omega (arith, h2) in
-            let l2 : halves battle (suc j.0) - 1 ≡ l = omega (arith, h2) in
-            let s2 : seeks battle (l + 1) ≡ true = rw n2 (halves-seek battle j.0) in
-            let most2 : L0 ≤ suc t = length_most game battle (suc t) q false true false z0 s in
-            as_nodes false k l q (game.moves q)
-            ∙ flat-filter _ (λ m. keeps_win battle game (least_moves battle game n q) (game.after q m)) _ G (game.moves q)
-            (grind (arith, by_test, keeps-value))
+            let least = least_moves battle game n q in
+            let s2 = halves-seek battle least l h in
+            let most2 : L ≤ suc t = length_most game battle (suc t) q false true false z s in
+            as_nodes false k l q (game.moves q) ∙ flat-filter _ (λ m. keeps_win battle game least (game.after q m)) _ G (game.moves q)
+            (λ m. by_test false l (game.after q m) s2 ∙ keeps-value battle least l (game.after q m) h)
             (λ m v2. each l m s2 (omega (arith, e, most2)) (sym (by_test false l (game.after q m) s2) ∙ v2))
 
     open-goal : (k : ℕ) (q : P) → game.goal q ≡ true → shown_paths plan game false k (shown_length battle game k q) q (game.moves q) ≡ []
@@ -231,19 +221,16 @@ module _ {P M : Type 0} (game : Game P M) where
     beneath-set k t q s = search rules
 
     -- below a key
-    pub nodes_below-key : (n h : ℕ) (q : P) → seeks battle (suc h) ≡ true → suc h ≤ 2 * n → value battle game h q ≡ true
+    pub nodes_below-key : (n h : ℕ) (q : P) → seeks battle (h + 1) ≡ true → suc h ≤ 2 * n → value battle game h q ≡ true
         → beneath h h q ≡ cond (has_variations plan.tree) (nodes_below battle game n h q) []
     nodes_below-key n h q s most v = go (has_variations plan.tree) refl
       where
-        s1 : seeks battle (h + 1) ≡ true
-        s1 = let one : suc h ≡ h + 1 = omega arith in rw (← one) s
-
         go : (b : Bool) → has_variations plan.tree ≡ b → beneath h h q ≡ cond b (nodes_below battle game n h q) []
         go true e =
             beneath-is e h h q ∙ tie e n h h q v (omega arith) (omega (arith, most))
             ∙ ap (λ x. cond x (continuations battle game n h q) (nodes_below battle game n h q))
-            (flip _ (sym (seeks-step battle h) ∙ s1))
-        go false e = beneath-none h h q e s1
+            (flip _ (sym (seeks-step battle h) ∙ s))
+        go false e = beneath-none h h q e s
 
     -- below a first move of Black in set play
     pub nodes_below-set : (n h : ℕ) (r : P) → seeks battle h ≡ true → h ≤ 2 * n → value battle game h r ≡ true

@@ -1,5 +1,5 @@
 -- The trees of battle play, over any game: which moves stand in them, that no path stands twice, and in which order the paths stand.
-use Rattle.pop_solve.proofs.Words.{AllPairs, Battle, Bool, Contains, Game, List, [], continuations, arith, best_moves, false, from_filter, in_filter, keeps_win, least_moves, nodes_below, none_in_nil, pairs_weaker, refl, is_in_set_play, set_tree, suc, sym, take, tree, true, wins_in, zero, ℕ, ◌-◌, ◌↔◌, ◌∙◌, ◌∷◌, ◌≡◌, ◌≢◌, ◌≤◌}
+use Rattle.pop_solve.proofs.Words.{AllPairs, Battle, Bool, Contains, Game, List, [], continuations, arith, best_moves, false, from_filter, in_filter, keeps_win, least_moves, nodes_below, none_in_nil, pairs_weaker, refl, is_in_set_play, set_tree, suc, sym, take, tree, true, wins_in, zero, ℕ, ◌-◌, ◌↔◌, ◌∙◌, ◌∷◌, ◌≡◌, ◌≢◌, ◌≤◌, rules}
 use Rattle.pop_solve.proofs.Nodes.{any_from_element, element_from_any, answers_more, answers_zero, beginnings, below_more, below_zero, deeper_unless, first_play_holds, first_set_play_holds, in_order, play_holds, roots_are, roots_unless, deeper_are, set_play_holds, tree_paths, set_tree_paths, set_tree_none, from_nodes, below_key, kept, below_set}
 use Rattle.pop_solve.proofs.theorems.Lengths.{no_win_in_none, wins_by_a_move, wins_in_least}
 use Rattle.pop_solve.proofs.theorems.Lists.{HasBeginnings, StandsBefore, never_before_itself, paths}
@@ -70,9 +70,7 @@ module _ {P M : Type 0} (battle : Battle) (game : Game P M) (n : ℕ) where
 
   -- Where White wins within n moves he has a best continuation.
   pub some_best_where_won : (r : P) → wins_in battle game n r ≡ true → (m : M) × IsBest r m
-  some_best_where_won r h =
-      let won : wins_in battle game (least_moves battle game n r) r ≡ true = wins_in_least game battle n r h in
-      grind (arith, element_from_any, wins_by_a_move, no_win_in_none)
+  some_best_where_won r h = search (rules, wins_in_least game battle n r h, element_from_any, wins_by_a_move, no_win_in_none)
 
   -- Below a position in which White moves, with half-moves left and the goal not reached, his best continuations stand.
   pub continuations_are : (h : ℕ) (r : P) (m : M) → Contains (continuations battle game n h r) (m ∷ []) ↔ ((1 ≤ h) × (game.goal r ≡ false) × IsBest r m)
