@@ -78,12 +78,12 @@ module _ (rule : RuleSet) (p : Position) where
   -- and the place that was moved on to it stands on it
   pub on_mate_behind : (place : ℕ) (o : Option Move) → true ≡ is_some o → place ≡ place_of o → IfSome o (λ m. mates rule p m ≡ true)
       → IsOnMate rule p place
-  on_mate_behind place v1 some at found = search rules
+  on_mate_behind place o some at found = search rules
 
   -- the place on which a search left off is that of the mate it found
   pub on_mate_before : (old place : ℕ) (o : Option Move) → true ≡ is_some o → place ≡ place_onto o old → IfSome o (λ m. mates rule p m ≡ true)
       → IsOnMate rule p place
-  on_mate_before old place v2 some at found = search rules
+  on_mate_before old place o some at found = search rules
 
 -- with a half-move left there is something to walk
 pub walk_count-some : {P M : Type 0} (moves : P → List M) (after : P → M → P) (left : ℕ) (p : P) → 0 < left → 1 ≤ walk_count moves after left p

@@ -57,11 +57,6 @@ module _ (rule : RuleSet) (problem : Posed) (walk : Walk) (count : ℕ) (old new
   abbrev more : ℕ
   more = cond (begins_solution (is_help problem.stipulation.form) (path new)) 1 0
 
-  left-given : (next : ℕ) → next ≡ count + more
-      → left_of rule problem (Within walk count) old ≡ path_event problem walk.phase (path new) ∷ left_of rule problem (Within walk next) new
-  unfolding left_of
-  left-given next e = search rules
-
 -- none is given: the total is left
 pub left-ended : (rule : RuleSet) (problem : Posed) (walk : Walk) (count : ℕ) (old new : List Frame) (board : Position)
     → Walks rule (plan_of problem) (is_help problem.stipulation.form) (phase_half_moves problem walk.phase) (phase_start problem walk.phase)
@@ -101,7 +96,8 @@ module _ (rule : RuleSet) (problem : Posed) (walk : Walk) (count : ℕ) (old : L
     pub gives-given : (next : ℕ) (event : Event) → next ≡ count + cond (is_help problem.stipulation.form || eqb (length frames) 2) 1 0
         → event ≡ event_of rule problem (path_event problem walk.phase (path (reverse frames)))
         → Gives rule problem (left_of rule problem (Within walk count) old) (left_of rule problem (Within walk next) (reverse left)) event stand (length left)
-    gives-given next event n e = search (rules, left-given, deep-given, path_end-path, path-length, length-reverse, nat_tests)
+    unfolding left_of
+    gives-given next event n e = search (rules, deep-given, path_end-path, path-length, length-reverse, nat_tests)
 
   -- it leaves the phase as it may stand
   pub standing-given : (left : List Frame) (stand : Position) → left ≡ reverse frames → stand ≡ board → walk ≡ walk_of problem walk.phase → (next : ℕ)

@@ -29,7 +29,7 @@ module _ {P M : Type 0} (game : Game P M) where
   -- so is that with which the walk goes on
   pub walk_length-most : (play : PlayOfSides) (variation : Bool) (t : ℕ) (q : P) → walk_length play variation game t q ≤ t
   unfolding walk_length shown_length
-  walk_length-most v0 variation t q = search (rules, length_most)
+  walk_length-most play variation t q = search (rules, length_most)
 
 module _ {P M : Type 0} (game : Game P M) where
   -- a line goes on with no half-move only where none is left or the goal is reached
@@ -42,7 +42,7 @@ module _ {P M : Type 0} (game : Game P M) where
   pub ended-reached : (play : PlayOfSides) (variation root : Bool) (t : ℕ) (q : P) → is_followed play game root t q ≡ true
       → ends_variation play variation (walk_length play variation game t q) ≡ true → game.goal q ≡ true
   unfolding is_followed value walk_length shown_length
-  ended-reached v0 variation root t q f e = search (rules, nat_tests, least_length_from-some)
+  ended-reached play variation root t q f e = search (rules, nat_tests, least_length_from-some)
 
 -- in a battle each path is given
 pub given-battle : {P M : Type 0} (plan : Plan) (game : Game P M) (battle : Battle) (t : ℕ) (q : P) → plan.play ≡ BattlePlay battle

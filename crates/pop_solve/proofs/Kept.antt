@@ -1,5 +1,5 @@
 -- The first solutions of a phase, by the paths that begin them.
-use Rattle.pop_solve.proofs.Words.{Battle, BattlePlay, Bool, Frame, Game, IsWalking, List, Plan, PlayOfSides, Position, RuleSet, Steps, Walks, [], append-nil, arith, beginning_count, begins_solution, chess, cond, eqb, false, is_help_play, kept_paths, length, map, moves_behind, nat_tests, path, position, refl, rules, shown_paths, suc, to_come, true, zero, ℕ, ◌&&◌, ◌++◌, ◌+◌, ◌-◌, ◌<◌, ◌||◌, ◌∷◌, ◌≡◌, and_parts}
+use Rattle.pop_solve.proofs.Words.{Battle, BattlePlay, Bool, Frame, Game, IsWalking, List, Plan, PlayOfSides, Position, RuleSet, Steps, Walks, [], append-nil, arith, beginning_count, begins_solution, chess, cond, eqb, false, is_help_play, kept_paths, length, map, moves_behind, nat_tests, path, position, refl, rules, shown_paths, suc, to_come, true, zero, ℕ, ◌&&◌, ◌++◌, ◌+◌, ◌-◌, ◌<◌, ◌||◌, ◌∷◌, ◌≡◌, and_parts, HelpPlay}
 use Rattle.pop_solve.proofs.Paths.{path-length}
 use Rattle.std.proofs.lemmas.List.{map-id, nil_from_length}
 use Rattle.pop_solve.proofs.GoingOn.{given-battle}
@@ -28,15 +28,10 @@ module _ {M : Type 0} where
   beginning_count-next help n x xs b e some = search rules
 
   -- where every path begins a solution, none is kept with none to begin
-  keep-help : (xs : List (List M)) → kept_paths true 0 xs ≡ []
-  unfolding kept_paths
-  keep-help [] = refl
-  keep-help (x ∷ xs) = refl
-
-  beginning_count-help : (xs : List (List M)) → beginning_count true 0 xs ≡ 0
-  unfolding beginning_count
-  beginning_count-help [] = refl
-  beginning_count-help (x ∷ xs) = refl
+  full-help : (xs : List (List M)) → (kept_paths true 0 xs ≡ []) × (beginning_count true 0 xs ≡ 0)
+  unfolding kept_paths beginning_count
+  full-help [] = (refl, refl)
+  full-help (x ∷ xs) = (refl, refl)
 
   -- lines behind no move
   pub map-same : (xs : List (List M)) → map (λ line. [] ++ line) xs ≡ xs
@@ -44,19 +39,13 @@ module _ {M : Type 0} where
 
 -- the first path by the moves of a root in battle play begins a solution
 module _ {P M : Type 0} (plan : Plan) (game : Game P M) (battle : Battle) (fought : plan.play ≡ BattlePlay battle) where
-  keep-shown_paths : (root : Bool) (k left : ℕ) (p : P) (ms : List M) → kept_paths false 0 (shown_paths plan game root k left p ms) ≡ []
-  unfolding shown_paths kept_paths
-  keep-shown_paths root zero left p ms = search (rules, keep-nil)
-  keep-shown_paths root (suc k) zero p ms = search (rules, keep-nil)
-  keep-shown_paths root (suc k) (suc t) p [] = search (rules, keep-nil)
-  keep-shown_paths root (suc k) (suc t) p (m ∷ ms) = search (rules, given-battle plan game battle, keep-shown_paths root (suc k) (suc t) p ms)
-
-  beginning_count-shown_paths : (root : Bool) (k left : ℕ) (p : P) (ms : List M) → beginning_count false 0 (shown_paths plan game root k left p ms) ≡ 0
-  unfolding shown_paths beginning_count
-  beginning_count-shown_paths root zero left p ms = search (rules, beginning_count-nil)
-  beginning_count-shown_paths root (suc k) zero p ms = search (rules, beginning_count-nil)
-  beginning_count-shown_paths root (suc k) (suc t) p [] = search (rules, beginning_count-nil)
-  beginning_count-shown_paths root (suc k) (suc t) p (m ∷ ms) = search (rules, given-battle plan game battle, beginning_count-shown_paths root (suc k) (suc t) p ms)
+  full-battle : (root : Bool) (k left : ℕ) (p : P) (ms : List M)
+      → (kept_paths false 0 (shown_paths plan game root k left p ms) ≡ []) × (beginning_count false 0 (shown_paths plan game root k left p ms) ≡ 0)
+  unfolding shown_paths kept_paths beginning_count
+  full-battle root zero left p ms = search rules
+  full-battle root (suc k) zero p ms = search rules
+  full-battle root (suc k) (suc t) p [] = search rules
+  full-battle root (suc k) (suc t) p (m ∷ ms) = search (rules, given-battle plan game battle, full-battle root (suc k) (suc t) p ms)
 
 one_frame : (frames : List Frame) → eqb (length frames) 1 ≡ true → (f : Frame) × (frames ≡ f ∷ [])
 one_frame [] e = absurd (grind (arith, nat_tests))
@@ -72,7 +61,9 @@ module _ (rule : RuleSet) (plan : Plan) (h : ℕ) (p : Position) where
   -- with none to begin, and none on the way
   full : (play : PlayOfSides) → plan.play ≡ play → (frames : List Frame) → (is_help_play play || eqb (length frames) 1) ≡ true
       → (kept_paths (is_help_play play) 0 (to_come rule plan h p frames) ≡ []) × (beginning_count (is_help_play play) 0 (to_come rule plan h p frames) ≡ 0)
-  full v0 same frames e = search (rules, keep-help, beginning_count-help, one_frame, to_come-root, keep-shown_paths, beginning_count-shown_paths)
+  full HelpPlay same frames e = full-help _
+  full (BattlePlay battle) same frames e =
+      let one = one_frame frames e in rw (one.1, to_come-root one.0) (full-battle plan (chess plan.goal rule) battle same _ _ _ _ _)
 
   none : (frames : List Frame) → length frames ≡ 0 → to_come rule plan h p frames ≡ []
   unfolding to_come

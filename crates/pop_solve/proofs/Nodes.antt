@@ -43,13 +43,6 @@ module _ {M : Type 0} where
         let w = from_map (λ path. m ∷ path) below (m ∷ path) r in
         grind arith
   ]
-    where
-      rest : List M → List M
-      rest [] = []
-      rest (y ∷ ys) = ys
-
-      tail_of : (xs ys : List M) → xs ≡ ys → rest xs ≡ rest ys
-      tail_of xs ys e = ap rest e
 
   module _ (f : M → List (List M)) where
     -- a path of nodes: its first move is one of theirs, and the others are none or a path below it

@@ -64,11 +64,6 @@ module _ (rule : RuleSet) (problem : Posed) where
     from-open : walk_from rule problem phase ≡ one rule plan f.left + (to_open rule (phase_start problem phase) (f ∷ []) + later phase)
     from-open = search (rules, root-open, one)
 
-    from-fewest : fewest_from rule problem phase ≡ cond
-        (eqb f.left 0) 0 1 + (fewest_left rule plan (phase_half_moves problem phase) (phase_start problem phase) (f ∷ []) + later_fewest phase)
-    unfolding fewest_left position
-    from-fewest = search (rules, behind_start)
-
     narrow-begun : (play_of problem.stipulation.form ≡ HelpPlay) ⊎ IsKeys problem phase
         → (play_of problem.stipulation.form ≡ HelpPlay) ⊎ ((keys : IsKeys problem phase) × (are_whites keys.battle (f ∷ []) ≡ true))
     narrow-begun (inl help) = inl help
@@ -77,8 +72,8 @@ module _ (rule : RuleSet) (problem : Posed) where
     -- the root of a phase is counted
     pub opens-begun : (old : List Frame) (count count2 : ℕ) (left : List BareEvent) → (0 < f.left → count2 ≡ min (count + 1) (2 ^ 64 - 1))
         → (f.left ≡ 0 → count2 ≡ count) → OpensOn rule problem (Before phase) (Within (walk_of problem phase) 0) old (f ∷ []) count count2 left
-    unfolding rest_open rest_fewest IsNarrow
-    opens-begun old count count2 left more same = search (rules, from-open, opened-most, counted_by, from-fewest, narrow-begun)
+    unfolding rest_open rest_fewest IsNarrow fewest_left position
+    opens-begun old count count2 left more same = search (rules, from-open, opened-most, counted_by, narrow-begun, behind_start)
 
   -- within a phase
   module _ (walk : Walk) (count : ℕ) (old new : List Frame) (before after : ℕ)
@@ -100,7 +95,7 @@ module _ (rule : RuleSet) (problem : Posed) where
     narrowed (inr w) = inr (w.0, x.whites w.0.battle w.0.fought (keys_alone w.0) w.1)
 
     opened : Narrow old → after + to_open rule (phase_start problem walk.phase) new ≤ before + to_open rule (phase_start problem walk.phase) old
-    opened v0 = search (rules, keys_alone)
+    opened n = search (rules, keys_alone)
 
     -- what a call opens that gives a path
     pub opens-given : (next : ℕ) (left : List BareEvent) (last : List Frame) → last ≡ new
@@ -187,11 +182,11 @@ module _ (rule : RuleSet) (problem : Posed) where
   -- at the end nothing is to be opened
   pub rest-none : (stage : Stage) (frames : List Frame) → left_of rule problem stage frames ≡ [] → rest_open rule problem stage frames ≡ 0
   unfolding left_of rest_open phase_events
-  rest-none v0 frames e = search (rules, some)
+  rest-none stage frames e = search (rules, some)
 
   -- nor is anything to be tried
   pub fewest-none : (stage : Stage) (frames : List Frame) → left_of rule problem stage frames ≡ [] → rest_fewest rule problem stage frames ≡ 0
   unfolding left_of rest_fewest phase_events
-  fewest-none v0 frames e = search (rules, some)
+  fewest-none stage frames e = search (rules, some)
 
 pub ruleset all_opened = (rest-none, fewest-none)

@@ -5,6 +5,7 @@ use Rattle.pop_solve.proofs.Sound.{helps-form, some_way}
 use Rattle.pop_solve.proofs.Battles.{value-wins, value-self_wins}
 use Rattle.pop_solve.proofs.Trees.{as_nodes, beneath, by_test, flat-filter, halves, halves-seek, keeps-value, nodes_below-key, nodes_below-set, shown_paths-help, shown_paths-zero}
 use Rattle.pop_solve.proofs.Kept.{keep-nil, beginning_count-nil, to_come-root}
+use Rattle.std.proofs.lemmas.List.Folds.{list_all-append}
 
 -- what is kept of a list of paths, and the solutions begun: `sols` are its solutions
 pub record IsCutInto {M : Type 0} (help : Bool) (n : ℕ) (paths : List (List M)) (sols : List (List (List M))) : Type 0 where
@@ -33,37 +34,20 @@ some [] = false
 some (x ∷ xs) = true
 
 module _ {M : Type 0} where
-  over-kept : (n : ℕ) (m : M) (ys rest : List (List M)) → list_all some ys ≡ true
-      → kept_paths false n (map (λ path. m ∷ path) ys ++ rest) ≡ map (λ path. m ∷ path) ys ++ kept_paths false n rest
-  unfolding kept_paths
-  over-kept n m [] rest a = search rules
-  over-kept n m (y ∷ ys) rest a = search (rules, nat_tests, over-kept n m ys rest)
+  over : (n : ℕ) (m : M) (ys rest : List (List M)) → list_all some ys ≡ true
+      → (kept_paths false n (map (λ path. m ∷ path) ys ++ rest) ≡ map (λ path. m ∷ path) ys ++ kept_paths false n rest)
+      × (beginning_count false n (map (λ path. m ∷ path) ys ++ rest) ≡ beginning_count false n rest)
+  unfolding kept_paths beginning_count
+  over n m [] rest a = search rules
+  over n m (y ∷ ys) rest a = search (rules, nat_tests, over n m ys rest)
 
-  over-begun : (n : ℕ) (m : M) (ys rest : List (List M)) → list_all some ys ≡ true
-      → beginning_count false n (map (λ path. m ∷ path) ys ++ rest) ≡ beginning_count false n rest
-  unfolding beginning_count
-  over-begun n m [] rest a = refl
-  over-begun n m (y ∷ ys) rest a = search (rules, nat_tests, over-begun n m ys rest)
-
-  nodes-kept : (X : M → List (List M)) → ((m : M) → list_all some (X m) ≡ true) → (n : ℕ) (ms : List M)
-      → kept_paths false n (flat_map (λ m. node m (X m)) ms) ≡ flat_map (λ solution. solution) (take n (map (λ m. node m (X m)) ms))
-  unfolding kept_paths
-  nodes-kept X full zero [] = search rules
-  nodes-kept X full zero (m ∷ ms) = search rules
-  nodes-kept X full (suc n) [] = search rules
-  nodes-kept X full (suc n) (m ∷ ms) = search (rules, over-kept, nodes-kept X full n ms)
-
-  nodes-begun : (X : M → List (List M)) → ((m : M) → list_all some (X m) ≡ true) → (n : ℕ) (ms : List M)
-      → beginning_count false n (flat_map (λ m. node m (X m)) ms) ≡ length (take n (map (λ m. node m (X m)) ms))
-  unfolding beginning_count
-  nodes-begun X full zero [] = refl
-  nodes-begun X full zero (m ∷ ms) = refl
-  nodes-begun X full (suc n) [] = refl
-  nodes-begun X full (suc n) (m ∷ ms) = omega (arith, over-begun n m (X m) (flat_map (λ x. node x (X x)) ms) (full m), nodes-begun X full n ms)
-
-  all-append : (xs ys : List (List M)) → list_all some xs ≡ true → list_all some ys ≡ true → list_all some (xs ++ ys) ≡ true
-  all-append [] ys a b = b
-  all-append (x ∷ xs) ys a b = search (rules, all-append xs ys)
+  nodes-cut : (X : M → List (List M)) → ((m : M) → list_all some (X m) ≡ true) → (n : ℕ) (ms : List M)
+      → IsCutInto false n (flat_map (λ m. node m (X m)) ms) (map (λ m. node m (X m)) ms)
+  unfolding kept_paths beginning_count
+  nodes-cut X full zero [] = search rules
+  nodes-cut X full zero (m ∷ ms) = search rules
+  nodes-cut X full (suc n) [] = search rules
+  nodes-cut X full (suc n) (m ∷ ms) = search (rules, over n m (X m) (flat_map (λ x. node x (X x)) ms) (full m), nodes-cut X full n ms)
 
   all-over : (m : M) (xs : List (List M)) → list_all some (map (λ path. m ∷ path) xs) ≡ true
   all-over m [] = refl
@@ -81,7 +65,7 @@ module _ {P M : Type 0} (game : Game P M) (plan : Plan) where
   shown_paths-full root zero left p ms = search rules
   shown_paths-full root (suc k) zero p ms = search rules
   shown_paths-full root (suc k) (suc t) p [] = search rules
-  shown_paths-full root (suc k) (suc t) p (m ∷ ms) = search (rules, all-append, all-over, shown_paths-full root (suc k) (suc t) p ms)
+  shown_paths-full root (suc k) (suc t) p (m ∷ ms) = search (rules, list_all-append, all-over, shown_paths-full root (suc k) (suc t) p ms)
 
   -- the root in battle play: those of its moves that pass the test, each with what stands below it
   root-cut : (battle : Battle) (fought : plan.play ≡ BattlePlay battle) (h n : ℕ) (p : P) (ms : List M) (other : M → Bool) (G : M → List (List M))
@@ -97,7 +81,7 @@ module _ {P M : Type 0} (game : Game P M) (plan : Plan) where
       let b : map (λ m. node m (X m)) (filter T ms) ≡ map (λ m. node m (G m)) (filter other ms) =
       map-filter T other _ _ ms same (λ m t. ap (node m) (each m t)) in
       let full : (m : M) → list_all some (X m) ≡ true = grind (arith, shown_paths-full) in
-      grind (arith, nodes-kept, ms, nodes-begun X full n (filter T ms))
+      rw (a, ← b) (nodes-cut X full n (filter T ms))
 
 -- half-moves of a battle
 pub halves-form : (form : Form) (n : ℕ) (battle : Battle) → play_of form ≡ BattlePlay battle → half_moves_of form n ≡ halves battle n

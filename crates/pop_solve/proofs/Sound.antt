@@ -29,7 +29,7 @@ help-form form e = sym (helps-form form) ∙ ap is_help_play e
 
 -- any other form is a battle
 pub battle-play : (form : Form) → is_help form ≡ false → (battle : Battle) × (play_of form ≡ BattlePlay battle)
-battle-play v0 e = search rules
+battle-play form e = search rules
 
 -- and no battle is help play
 pub battle-form : (form : Form) (battle : Battle) → play_of form ≡ BattlePlay battle → is_help form ≡ false

@@ -178,9 +178,6 @@ module _ (rule : RuleSet) (aim : Aim) (floor : ℕ) (top : Frame) (old new : Lis
   popped : tests floor old ≡ top ∷ tests floor new
   popped = grind (arith, tests-push, length-append)
 
-  base_new : take floor new ≡ take floor old
-  base_new = grind (arith, take-append-le, length-append)
-
   testing_top : (p board : Position) → IsTesting rule p (tests floor old) board → IsTesting rule p (top ∷ tests floor new) board
   testing_top p board r = let P : List Frame → Type 0 = λ fs. IsTesting rule p fs board in subst P popped r
 
@@ -199,7 +196,8 @@ module _ (rule : RuleSet) (aim : Aim) (floor : ℕ) (top : Frame) (old new : Lis
         → to_try rule aim p (top ∷ tests floor new) was ≡ to_try_with rule aim p (tests floor new) v → MatchOption result
         (Turns rule aim floor p old new was is after count count) (λ w. Ends rule aim floor p old new was after count count w)
     unfolding IsLinked IsDescending AreKnown position test_work delivered_value to_try_with
-    close_turns count p r e left = search (rules, cases_lt, testing_top, length-tests, popped, delivered_value-some, base_new, open-close, try-some, take_all)
+    close_turns count p r e left =
+        search (rules, cases_lt, testing_top, length-tests, popped, delivered_value-some, open-close, try-some, take_all, take-append-le, length-append)
 
     -- closing keeps the room
     pub close_room : (p : Position) (N : ℕ) → IsTesting rule p (tests floor old) board → left_at_top (tests floor old) + length old ≤ N + 1

@@ -188,10 +188,6 @@ module _ (rule : RuleSet) (plan : Plan) where
     unfolding shown_paths
     ends low fuel k m q qs ms = search rules
 
-    gives-last : (q : Position) → plan.play ≡ HelpPlay → plan.goal ≡ Mate → is_mate rule q ≡ false → is_given plan.play (chess plan.goal rule) 0 q ≡ false
-    unfolding is_given
-    gives-last q help for misses = rw (help, for, misses) refl
-
     -- in direct play a move that doesn't mate isn't followed, and tries nothing
     follows-last : (low : Bool) (q : Position) (battle : Battle) → plan.play ≡ BattlePlay battle → seeks battle 1 ≡ true → plan.goal ≡ Mate
         → is_mate rule q ≡ false
@@ -202,8 +198,8 @@ module _ (rule : RuleSet) (plan : Plan) where
     -- a last move that doesn't mate gives no path, where the side seeks mate
     pub skipped : (low : Bool) (fuel : ℕ) → seeks_last plan.play ≡ true → plan.goal ≡ Mate → (m : Move) (ms : List Move) → is_mating rule P m ≡ false
         → shown_paths plan (chess plan.goal rule) low fuel 1 P (m ∷ ms) ≡ shown_paths plan (chess plan.goal rule) low fuel 1 P ms
-    unfolding shown_paths
-    skipped low v1 last for m ms misses = search (rules, shown_paths-next, ways, follows-help, gives-last, walk_length-help, ends, follows-last)
+    unfolding shown_paths is_given
+    skipped low fuel last for m ms misses = search (rules, shown_paths-next, ways, follows-help, walk_length-help, ends, follows-last)
 
     fewest-skipped : (low : Bool) (fuel : ℕ) → seeks_last plan.play ≡ true → plan.goal ≡ Mate → (battle : Battle) → plan.play ≡ BattlePlay battle
         → (m : Move) (ms : List Move) → is_mating rule P m ≡ false
@@ -237,7 +233,7 @@ module _ (rule : RuleSet) (plan : Plan) where
     pub settled : (P : Position) (low : Bool) (fuel : ℕ) (m : Move) (ms : List Move) → allows_mate rule P m ≡ false
         → shown_paths plan (chess plan.goal rule) low fuel 2 P (m ∷ ms) ≡ shown_paths plan (chess plan.goal rule) low fuel 2 P ms
     unfolding shown_paths is_given
-    settled v0 low v2 m ms none = search (rules, shown_paths-next, follows-help, walk_length-help, mateless, no_mates)
+    settled P low fuel m ms none = search (rules, shown_paths-next, follows-help, walk_length-help, mateless, no_mates)
 
   -- each move counts one, with a half-move left behind it
   each_one : (P : Position) (ms : List Move) → sum_by (λ m. walk_count (legal_moves rule) (position_after rule) 1 (position_after rule P m)) ms ≡ length ms
@@ -284,10 +280,6 @@ module _ (rule : RuleSet) (plan : Plan) where
     unfolding work_behind
     fewer k = search (rules, sum_by-append)
 
-    turns-skip : walk_work rule h p later ≤ walk_work rule h p (f ∷ below)
-    unfolding walk_work position
-    turns-skip = let s = fewer (h - length below) in omega (arith, s)
-
     same : (k : ℕ) → moves_behind rule P f.place ≡ moves_behind rule P g.mid → walk_behind rule k P f.place ≡ walk_behind rule k P g.mid
     unfolding walk_behind
     same k e = search rules
@@ -306,5 +298,5 @@ module _ (rule : RuleSet) (plan : Plan) where
     -- what follows moves that are passed over follows from before them
     pub steps-skip : (new : List Frame) (board : Position) (after : ℕ) (given : Bool) → Steps rule plan h p later new board between after given
         → Steps rule plan h p (f ∷ below) new board before after given
-    unfolding are_whites to_open position
-    steps-skip new board after given s = search (rules, come-skip, tries-skip, turns-skip, nothing, same, each)
+    unfolding are_whites to_open position walk_work
+    steps-skip new board after given s = search (rules, come-skip, tries-skip, nothing, same, each, fewer)

@@ -1,8 +1,8 @@
 -- What the walk shows is the tree that the definitions name.
-use Rattle.pop_solve.proofs.Words.{Battle, BattlePlay, Bool, Direct, Game, HelpPlay, List, Plan, Selfmate, [], continuations, ap, append-nil, arith, best_moves, cond, eqb, every_move, false, fewest_half_moves, filter, least_length_from, flat_map, flat_map_single, is_followed, is_given, walk_length, keeps_win, least_moves, lines_to_goal, list_all, map, nat_tests, node, nodes_below, not, shown_length, refl, rules, seeks, shown_paths, suc, sym, true, value, has_variations, zero, ℕ, ◌%◌, ◌*◌, ◌++◌, ◌+◌, ◌-◌, ◌/◌, ◌<◌, ◌||◌, ◌∙◌, ◌∷◌, ◌≡◌, ◌≤◌, and_parts}
+use Rattle.pop_solve.proofs.Words.{Battle, BattlePlay, Bool, Direct, Game, HelpPlay, List, Plan, Selfmate, [], continuations, ap, append-nil, arith, best_moves, cond, eqb, every_move, false, fewest_half_moves, filter, least_length_from, flat_map, flat_map_single, is_followed, is_given, walk_length, keeps_win, least_moves, lines_to_goal, list_all, map, nat_tests, node, nodes_below, not, shown_length, refl, rules, seeks, shown_paths, suc, sym, true, value, has_variations, zero, ℕ, ◌%◌, ◌*◌, ◌++◌, ◌+◌, ◌-◌, ◌/◌, ◌<◌, ◌||◌, ◌∙◌, ◌∷◌, ◌≡◌, ◌≤◌, and_parts, inl, inr}
 use Rattle.pop_solve.proofs.Battles.{value-is_lost, value-is_self_lost, value-zero}
 use Rattle.pop_solve.proofs.Lengths.{length-more}
-use Rattle.pop_solve.proofs.GoingOn.{length_most, walk_length-keys, given-battle, walk_length-help}
+use Rattle.pop_solve.proofs.GoingOn.{length_most, walk_length-keys, given-battle, walk_length-help, cases}
 use Rattle.pop_solve.proofs.Least.{least_moves-direct, least_moves-selfmate}
 
 -- the half-moves of a battle of so many moves
@@ -198,18 +198,13 @@ module _ {P M : Type 0} (game : Game P M) where
       tie n k zero q v room most = tie-goal n k 0 q (sym (value-zero game battle q) ∙ v)
       tie n zero (suc t) q v room most = absurd (omega (arith, room))
       tie n (suc k) (suc t) q v room most =
-          split (game.goal q) refl (tie-goal n (suc k) (suc t) q) (tie-white n k t q (λ l r a b c. tie n k l r a b c) v room most)
-          (tie-black n k t q (λ l r a b c. tie n k l r a b c) v room most)
-        where
-          split : (g : Bool) → game.goal q ≡ g → (game.goal q ≡ true → Tie n (suc k) (suc t) q)
-              → (game.goal q ≡ false → seeks battle (suc t) ≡ true → Tie n (suc k) (suc t) q)
-              → (game.goal q ≡ false → seeks battle (suc t) ≡ false → Tie n (suc k) (suc t) q) → Tie n (suc k) (suc t) q
-          split true e a b c = a e
-          split false e a b c = side (seeks battle (suc t)) refl
-            where
-              side : (s : Bool) → seeks battle (suc t) ≡ s → Tie n (suc k) (suc t) q
-              side true f = b e f
-              side false f = c e f
+          elim (cases (game.goal q)) [
+            | inl open_yet ↦ elim (cases (seeks battle (suc t))) [
+              | inl black ↦ tie-black n k t q (λ l r a b c. tie n k l r a b c) v room most open_yet black
+              | inr white ↦ tie-white n k t q (λ l r a b c. tie n k l r a b c) v room most open_yet white
+            ]
+            | inr g ↦ tie-goal n (suc k) (suc t) q g
+          ]
 
     -- where no variations are shown, nothing stands below a move of White
     beneath-none : (k t : ℕ) (q : P) → has_variations plan.tree ≡ false → seeks battle (t + 1) ≡ true → beneath k t q ≡ []
@@ -223,14 +218,11 @@ module _ {P M : Type 0} (game : Game P M) where
     -- below a key
     pub nodes_below-key : (n h : ℕ) (q : P) → seeks battle (h + 1) ≡ true → suc h ≤ 2 * n → value battle game h q ≡ true
         → beneath h h q ≡ cond (has_variations plan.tree) (nodes_below battle game n h q) []
-    nodes_below-key n h q s most v = go (has_variations plan.tree) refl
-      where
-        go : (b : Bool) → has_variations plan.tree ≡ b → beneath h h q ≡ cond b (nodes_below battle game n h q) []
-        go true e =
-            beneath-is e h h q ∙ tie e n h h q v (omega arith) (omega (arith, most))
-            ∙ ap (λ x. cond x (continuations battle game n h q) (nodes_below battle game n h q))
-            (flip _ (sym (seeks-step battle h) ∙ s))
-        go false e = beneath-none h h q e s
+    nodes_below-key n h q s most v = elim (cases (has_variations plan.tree)) [
+      | inl alone ↦ beneath-none h h q alone s ∙ (rw alone refl)
+      | inr e ↦ let black = flip _ (sym (seeks-step battle h) ∙ s) in
+          beneath-is e h h q ∙ tie e n h h q v (omega arith) (omega (arith, most)) ∙ (rw (black, e) refl)
+    ]
 
     -- below a first move of Black in set play
     pub nodes_below-set : (n h : ℕ) (r : P) → seeks battle h ≡ true → h ≤ 2 * n → value battle game h r ≡ true
@@ -254,7 +246,5 @@ module _ {P M : Type 0} (game : Game P M) where
         go : (b : Bool) → has_variations plan.tree ≡ b
             → beneath h h r ≡ cond b (continuations battle game n h r)
             (cond (game.goal r) [] (map (λ m. m ∷ []) (best_moves battle game n r)))
-        go true e =
-            beneath-is e h h r ∙ tie e n h h r v (omega arith) most
-            ∙ ap (λ x. cond x (continuations battle game n h r) (nodes_below battle game n h r)) s
+        go true e = beneath-is e h h r ∙ tie e n h h r v (omega arith) most ∙ (rw s refl)
         go false e = beneath-set h h r s1 ∙ no_variation e h refl (game.goal r) refl

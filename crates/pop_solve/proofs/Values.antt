@@ -1,7 +1,8 @@
 -- The value of a position by what its tests say.
-use Rattle.pop_solve.proofs.Words.{Battle, Bool, Game, List, Selfmate, [], arith, can_move, cond, every_move, false, joined_value, length, list_any, not, refl, rules, seeks, some_move, suc, true, value, zero, ℕ, ◌%◌, ◌&&◌, ◌<◌, ◌||◌, ◌∷◌, ◌≡◌, and_parts}
+use Rattle.pop_solve.proofs.Words.{Battle, Bool, Game, List, Selfmate, [], arith, can_move, cond, every_move, false, joined_value, length, list_any, not, refl, rules, seeks, some_move, suc, true, value, zero, ℕ, ◌%◌, ◌&&◌, ◌<◌, ◌||◌, ◌∷◌, ◌≡◌, and_parts, nat_tests}
 use Rattle.pop_solve.specs.declared.aim.Battle.TheVariants.{Direct}
 use Rattle.std.specs.Prelude.{◌==◌}
+use Rattle.std.proofs.lemmas.List.{nil_from_length}
 
 module _ {P M : Type 0} (battle : Battle) (game : Game P M) where
   -- with no half-move left the goal decides
@@ -36,16 +37,9 @@ module _ {P M : Type 0} (battle : Battle) (game : Game P M) where
   pub value-stuck : (t : ℕ) (p : P) → 0 < t → can_move game p ≡ false → value battle game t p ≡ (t % 2 == 0 && game.goal p)
   unfolding value
   value-stuck zero p some k = absurd (omega (arith, some))
-  value-stuck (suc t) p some k = stuck _ (seeks battle (suc t)) (can_move game p) _ (game.moves p) k (none (game.moves p) k)
-    where
-      none : (ms : List M) → not (length ms == 0) ≡ false → ms ≡ []
-      none [] e = refl
-      none (m ∷ ms) e = absurd (grind (arith, e))
-
-      stuck : (e s c b : Bool) (ms : List M) → c ≡ false → ms ≡ [] → (e || cond s (list_any (λ m. value battle game t (game.after p m)) ms) (c && b)) ≡ e
-      stuck true s c b ms h k = refl
-      stuck false true c b ms h k = rw k refl
-      stuck false false c b ms h k = rw h refl
+  value-stuck (suc t) p some k =
+      let none : game.moves p ≡ [] = nil_from_length (game.moves p) (grind (arith, nat_tests)) in
+      grind arith
 
 pub ruleset last_half_move = (value-mates, value-forced)
 
