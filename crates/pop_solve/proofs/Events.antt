@@ -129,12 +129,6 @@ module _ (rule : RuleSet) (problem : Posed) (walk : Walk) (stage : Stage) (new :
   unfolding IsStanding
   standing-ended e = search rules
 
--- a phase that isn't possible
-pub left-barred : (rule : RuleSet) (problem : Posed) (phase : Phase) (frames : List Frame) → is_barred rule problem phase ≡ true
-    → left_of rule problem (Before phase) frames ≡ opening phase ∷ left_of rule problem Barred frames
-unfolding left_of phase_events
-left-barred rule problem phase frames e = search rules
-
 -- a phase begins
 pub left-begun : (rule : RuleSet) (problem : Posed) (phase : Phase) (old new : List Frame) → is_barred rule problem phase ≡ false
     → kept_paths (is_help problem.stipulation.form) problem.max_solutions (phase_paths rule problem phase new) ≡ flat_map (λ solution. solution)
@@ -161,10 +155,6 @@ drop-next : {A : Type 0} (k : ℕ) (xs : List A) (y : A) (ys : List A) → y ∷
 drop-next zero xs y ys e = grind arith
 drop-next (suc k) [] y ys e = absurd cc
 drop-next (suc k) (x ∷ xs) y ys e = drop-next k xs y ys e
-
--- a search that has given nothing has all events to come
-pub given-all : (rule : RuleSet) (problem : Posed) → IsGiven rule problem (events rule problem) 0
-given-all rule problem = search rules
 
 -- an event that is given is counted
 pub given-event : (rule : RuleSet) (problem : Posed) (event : Option Event) (old new : List BareEvent) (board : Position) (depth given given2 : ℕ)

@@ -35,24 +35,16 @@ module _ {M : Type 0} where
     | inr r ↦ let w = from_map (λ path. m ∷ path) below path r in (w.0, w.2)
   ]
 
-  -- and is the node itself or goes on by one of the paths below it
-  continues : (m : M) (below : List (List M)) (path : List M) → Contains (node m below) (m ∷ path) → (path ≡ []) ⊎ Contains below path
-  continues m below path c = elim (in_cases (m ∷ []) (map (λ path. m ∷ path) below) (m ∷ path) c) [
-    | inl same ↦ inl cc
-    | inr r ↦
-        let w = from_map (λ path. m ∷ path) below (m ∷ path) r in
-        grind arith
-  ]
-
   module _ (f : M → List (List M)) where
     -- a path of nodes: its first move is one of theirs, and the others are none or a path below it
     pub from_nodes : (ms : List M) (m : M) (path : List M) → Contains (flat_map (λ m. node m (f m)) ms) (m ∷ path)
         → Contains ms m × ((path ≡ []) ⊎ Contains (f m) path)
     from_nodes ms m path c =
         let w = from_flat_map (λ m. node m (f m)) ms (m ∷ path) c in
-        let s = starts w.0 (f w.0) (m ∷ path) w.2 in
-        let same : w.0 ≡ m = cc in
-        (subst (Contains ms) same w.1, continues m (f m) path (subst (λ k. Contains (node k (f k)) (m ∷ path)) same w.2))
+        elim (in_cases (w.0 ∷ []) (map (λ path. w.0 ∷ path) (f w.0)) (m ∷ path) w.2) [
+          | inl same ↦ grind arith
+          | inr r ↦ let u = from_map (λ path. w.0 ∷ path) (f w.0) (m ∷ path) r in grind arith
+        ]
 
     root_in_nodes : (ms : List M) (m : M) → Contains ms m → Contains (flat_map (λ m. node m (f m)) ms) (m ∷ [])
     root_in_nodes ms m c = in_flat_map (λ m. node m (f m)) ms m (m ∷ []) c (first_in (m ∷ []) (map (λ path. m ∷ path) (f m)))
@@ -95,13 +87,6 @@ module _ {M : Type 0} where
 in_unless : {X : Type 0} (g : Bool) (xs : List X) (x : X) → Contains (cond g [] xs) x ↔ ((g ≡ false) × Contains xs x)
 in_unless g xs x = search rules
 
-module _ {M : Type 0} where
-  nil_not_empty : HasNoEmpty {M = M} []
-  nil_not_empty path c e = none_in_nil path c
-
-  nil_has_beginnings : HasBeginnings {M = M} []
-  nil_has_beginnings x xs ys c = absurd (none_in_nil ((x ∷ xs) ++ ys) c)
-
 -- Q holds of no paths, and of nodes of moves that are Ok, as those of a position are, over lists of which it holds: so it holds of trees
 pub record HoldsOfTrees {P M : Type 0} (game : Game P M) (Ok : List M → Type 0) (Q : List (List M) → Type 0) : Type 0 where
   pub moves : (p : P) → Ok (game.moves p)
@@ -112,7 +97,12 @@ pub record HoldsOfTrees {P M : Type 0} (game : Game P M) (Ok : List M → Type 0
 module _ {P M : Type 0} (game : Game P M) where
   -- paths with their beginnings
   pub beginnings : HoldsOfTrees game (λ ms. Unit {0}) HasBeginnings
-  beginnings = record { moves = λ p. tt; some = λ test ms ok. tt; none = nil_has_beginnings; nodes = λ f ms ok each. nodes_have_beginnings f each ms }
+  beginnings = record {
+    moves = λ p. tt;
+    some = λ test ms ok. tt;
+    none = λ x xs ys c. absurd (none_in_nil ((x ∷ xs) ++ ys) c);
+    nodes = λ f ms ok each. nodes_have_beginnings f each ms;
+  }
 
   -- paths in order, none of them empty, where the moves are in order
   pub in_order : (before : M → M → Type 0) → ((p : P) → AllPairs before (game.moves p))
@@ -120,7 +110,7 @@ module _ {P M : Type 0} (game : Game P M) where
   in_order before order = record {
     moves = order;
     some = AllPairs-filter before;
-    none = (nil_not_empty, pairs_nil (StandsBefore before));
+    none = (λ path c e. none_in_nil path c, pairs_nil (StandsBefore before));
     nodes = λ f ms ok each. (nodes_not_empty f ms, nodes_stand f before ms ok (λ m. (each m).1) (λ m. (each m).0));
   }
 

@@ -45,12 +45,6 @@ module _ (rule : RuleSet) (problem : Posed) where
   abbrev later_fewest : Phase → ℕ
   later_fewest phase = cond (is_set phase) (phase_fewest rule problem Play) 0
 
-  -- a phase that isn't possible
-  pub opens-barred : (phase : Phase) (old new : List Frame) (count : ℕ) (left : List BareEvent) → is_barred rule problem phase ≡ true
-      → OpensOn rule problem (Before phase) Barred old new count count left
-  unfolding rest_open rest_fewest IsNarrow
-  opens-barred phase old new count left e = search rules
-
   -- a phase begins: its root is opened
   module _ (sound : IsSound problem) (phase : Phase) (f : Frame) (left_is : f.left ≡ phase_half_moves problem phase) (place_is : f.place ≡ 0)
       (possible : is_barred rule problem phase ≡ false) where

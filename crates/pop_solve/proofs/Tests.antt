@@ -235,40 +235,6 @@ module _ (rule : RuleSet) (aim : Aim) (floor : ℕ) (top : Frame) (old new : Lis
       here : untried_moves rule (position rule p (top ∷ tests floor new)) top ≡ m ∷ moves_ahead rule (position rule p (top ∷ tests floor new)) top.order s place
       here = rw (← at) next
 
-      descend_testing : (is : Option Bool) → Descends is → IsTesting rule p (tests floor last) after
-      descend_testing None d = rw (opened_last d, d.2)
-          (testing-open rule p top place s m d.3.order _ kn d.3.known _ board (testing_top p board r) lawful d.0 left_is within d.3.within)
-      descend_testing (Some v) d = rw (settled_last v d, d.1) (testing-settled rule p top place s kn _ board (testing_top p board r) within)
-
-      descend_same : (is : Option Bool) → Descends is → pending_value rule aim p (tests floor old) was ≡ pending_value rule aim p (tests floor last) is
-      unfolding pending_value position
-      descend_same None d = search (rules, opened_last, popped, pending_value-undecided, delivered_value-next, left_is, here, rest-start)
-      descend_same (Some v) d = rw (settled_last v d, popped)
-          (pending_value-undecided rule aim p top (tests floor new) was open_yet ∙ delivered_value-next rule aim p top _ place s m _ kn left_is here
-          ∙ ap (delivered_value rule aim p _) (rw (← at) (sym d.0)) ∙ delivered_value-some rule aim p _ v (omega arith))
-
-      descend_falls : (is : Option Bool) → Descends is → test_work rule p (tests floor last) < test_work rule p (tests floor old)
-      unfolding test_work position
-      descend_falls None d = search (rules, opened_last, popped, here, left_is, steps-next, steps-start)
-      descend_falls (Some v) d = rw (settled_last v d, popped) (search (rules, here, work-settled, left_is))
-
-      descend_counted : (is : Option Bool) → Descends is → (before count : ℕ)
-          → MatchOption is (count ≤ before + 1) (λ _. count ≤ before + walk_count (legal_moves rule) (position_after rule) (top.left - 1)
-          (position_after rule board m))
-          → count + to_test rule p (tests floor last) ≤ before + to_test rule p (tests floor old)
-      unfolding to_test position
-      descend_counted None d before count o = search (rules, opened_last, popped, here, left_is, walk-next, walk_count-start)
-      descend_counted (Some v) d before count o = rw (settled_last v d, popped) (search (rules, at, here, open-settled, left_is))
-
-      descend_tried : (is : Option Bool) → Descends is → (before count : ℕ)
-          → MatchOption is (HasCounted before count 1) (λ _. HasCounted before count
-          (smallest_tree aim.battle (chess aim.goal rule) (top.left - 1) (position_after rule
-          board m))) → min (before + to_try rule aim p (tests floor old) was) (2 ^ 64 - 1) ≤ count + to_try rule aim p (tests floor last) is
-      unfolding to_try position
-      descend_tried None d before count tries = search (rules, opened_last, popped, here, try-undecided, try-next, left_is, fewest-start, rest-start)
-      descend_tried (Some v) d before count tries = rw (settled_last v d, popped)
-          (let n = try-next rule aim p top (tests floor new) place s m _ kn left_is here in search (rules, at, try-undecided, try-some))
-
     -- a move that is played hands its value down or opens a frame
     pub descend_turns : (is : Option Bool) → Descends is → (before count : ℕ)
         → MatchOption is (count ≤ before + 1) (λ _. count ≤ before + walk_count (legal_moves rule) (position_after rule) (top.left - 1)
@@ -276,9 +242,29 @@ module _ (rule : RuleSet) (aim : Aim) (floor : ℕ) (top : Frame) (old new : Lis
         → MatchOption is (HasCounted before count 1) (λ _. HasCounted before count
         (smallest_tree aim.battle (chess aim.goal rule) (top.left - 1) (position_after rule
         board m))) → (p : Position) → IsTesting rule p (tests floor old) board → Turns rule aim floor p old last was is after before count
-    descend_turns is d before count o tries p r =
-        search (rules, descend_testing p r is d, descend_same p r is d, descend_falls p r is d, length-append, take-append-le, descend_counted p r is d before
-        count o, descend_tried p r is d before count tries)
+    unfolding pending_value position test_work to_test to_try
+    descend_turns None d before count o tries p r = record {
+      testing = rw (opened_last d, d.2)
+          (testing-open rule p top place s m d.3.order _ kn d.3.known _ board (testing_top p board r) lawful d.0 left_is within d.3.within);
+      same = search (rules, opened_last, popped, pending_value-undecided, delivered_value-next, left_is, here p r, rest-start);
+      falls = search (rules, opened_last, popped, here p r, left_is, steps-next, steps-start);
+      above = grind (arith, length-append);
+      base = grind (arith, take-append-le, length-append);
+      counted = search (rules, opened_last, popped, here p r, left_is, walk-next, walk_count-start);
+      tried = search (rules, opened_last, popped, here p r, try-undecided, try-next, left_is, fewest-start, rest-start);
+    }
+    descend_turns (Some v) d before count o tries p r = record {
+      testing = rw (settled_last v d, d.1) (testing-settled rule p top place s kn _ board (testing_top p board r) within);
+      same = rw (settled_last v d, popped)
+          (pending_value-undecided rule aim p top (tests floor new) was open_yet ∙ delivered_value-next rule aim p top _ place s m _ kn left_is (here p r)
+          ∙ ap (delivered_value rule aim p _) (rw (← at p r) (sym d.0)) ∙ delivered_value-some rule aim p _ v (omega arith));
+      falls = rw (settled_last v d, popped) (search (rules, here p r, work-settled, left_is));
+      above = grind (arith, length-append);
+      base = grind (arith, take-append-le, length-append);
+      counted = rw (settled_last v d, popped) (search (rules, at p r, here p r, open-settled, left_is));
+      tried = rw (settled_last v d, popped)
+          (let n = try-next rule aim p top (tests floor new) place s m _ kn left_is (here p r) in search (rules, at p r, try-undecided, try-some));
+    }
 
     -- playing it keeps the room
     pub descend_room : (is : Option Bool) → Descends is → left_at_top (tests floor old) + length old ≤ N + 1

@@ -248,12 +248,6 @@ module _ (rule : RuleSet) (plan : Plan) where
     abbrev P : Position
     P = position rule p (f ∷ below)
 
-    abbrev deepest : Bool
-    deepest = eqb (length below) 0
-
-    abbrev room : ℕ
-    room = h - length below
-
     abbrev later : List Frame
     later = moved f g.mid ∷ below
 
@@ -273,8 +267,8 @@ module _ (rule : RuleSet) (plan : Plan) where
     come-skip : to_come rule plan h p (f ∷ below) ≡ to_come rule plan h p later
     unfolding to_come position path
     come-skip = ap (λ lines. map (λ line. path (f ∷ below) ++ line) lines ++ to_come rule plan h p below)
-        (same-later (λ n ms. shown_paths plan (chess plan.goal rule) deepest room n P ms) (skipped P deepest room)
-        (λ help for. settled help for P deepest room))
+        (same-later (λ n ms. shown_paths plan (chess plan.goal rule) (eqb (length below) 0) (h - length below) n P ms) (skipped P _ _)
+        (λ help for. settled help for P _ _))
 
     fewer : (k : ℕ) → work_behind rule k P g.mid ≤ work_behind rule k P f.place
     unfolding work_behind
@@ -292,8 +286,8 @@ module _ (rule : RuleSet) (plan : Plan) where
     tries-skip : (battle : Battle) → plan.play ≡ BattlePlay battle → fewest_left rule plan h p (f ∷ below) ≡ fewest_left rule plan h p later
     unfolding fewest_left position
     tries-skip battle fought = ap (λ n. n + fewest_left rule plan h p below)
-        (same-later (λ n ms. fewest_walked plan (chess plan.goal rule) deepest room n P ms)
-        (λ last for. fewest-skipped P deepest room last for battle fought) (λ help. absurd (let e : HelpPlay ≡ BattlePlay battle = sym help ∙ fought in cc)))
+        (same-later (λ n ms. fewest_walked plan (chess plan.goal rule) (eqb (length below) 0) (h - length below) n P ms)
+        (λ last for. fewest-skipped P _ _ last for battle fought) (λ help. absurd (let e : HelpPlay ≡ BattlePlay battle = sym help ∙ fought in cc)))
 
     -- what follows moves that are passed over follows from before them
     pub steps-skip : (new : List Frame) (board : Position) (after : ℕ) (given : Bool) → Steps rule plan h p later new board between after given

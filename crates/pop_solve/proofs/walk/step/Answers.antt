@@ -3,8 +3,8 @@ use Rattle.pop_solve.proofs.Walking as walking
 use Rattle.pop_solve.proofs.walk.step.Goals as goal
 
 pub step_back-requires : goal.step_back-requires
-step_back-requires g c =
-    search (rules, walking.close_asks, c.in-Some.ensures.items, c.requires.walking.1, c.next_of.ensures.unchanged, c.len-depth.ensures.value)
+step_back-requires g c = λ deep. rw c.next_of.ensures.unchanged
+    (walking.back_asks g.R.Rules.rule c.args.half_moves _ _ _ c.in-Some.ensures.items _ _ _ c.requires.walking.1 c.len-depth.ensures.value deep)
 
 pub returns-in_default-next_of : goal.returns-in_default-next_of
 returns-in_default-next_of g c = record {
