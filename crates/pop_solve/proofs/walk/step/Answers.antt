@@ -26,20 +26,4 @@ returns g c = record {
 }
 
 pub enter-requires : goal.enter-requires
-enter-requires g c =
-    let at = c.next_of.ensures.unchanged in
-    let next = c.in-Some-next_of.ensures.next in
-    let taken = rw (← c.top.view_is) at c.in-Some.ensures.items in
-    let room = walking.room_left g.R.Rules.rule c.args.plan c.args.half_moves _ _ _ taken _ _ c.requires.walking.1 in (
-      search rules,
-      (
-        search rules,
-        (
-          rw at c.requires.walking.1.sound,
-          (
-            omega (arith, room, next.0, c.requires.room, c.push.ensures.len),
-            (rw at next.2, rw at c.in-Some-next_of.ensures.mated),
-          ),
-        ),
-      ),
-    )
+enter-requires g c = search (rules, walking.room_left)
