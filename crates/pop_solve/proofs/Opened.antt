@@ -55,9 +55,6 @@ module _ (rule : RuleSet) (problem : Posed) where
     unfolding to_open position
     root-open = rw (possible, place_is, ← left_is) (omega (arith, walk_count-start rule plan f.left (phase_start problem phase)))
 
-    from-open : walk_from rule problem phase ≡ one rule plan f.left + (to_open rule (phase_start problem phase) (f ∷ []) + later phase)
-    from-open = search (rules, root-open, one)
-
     narrow-begun : (play_of problem.stipulation.form ≡ HelpPlay) ⊎ IsKeys problem phase
         → (play_of problem.stipulation.form ≡ HelpPlay) ⊎ ((keys : IsKeys problem phase) × (are_whites keys.battle (f ∷ []) ≡ true))
     narrow-begun (inl help) = inl help
@@ -67,7 +64,7 @@ module _ (rule : RuleSet) (problem : Posed) where
     pub opens-begun : (old : List Frame) (count count2 : ℕ) (left : List BareEvent) → (0 < f.left → count2 ≡ min (count + 1) (2 ^ 64 - 1))
         → (f.left ≡ 0 → count2 ≡ count) → OpensOn rule problem (Before phase) (Within (walk_of problem phase) 0) old (f ∷ []) count count2 left
     unfolding rest_open rest_fewest IsNarrow fewest_left position
-    opens-begun old count count2 left more same = search (rules, from-open, opened-most, counted_by, narrow-begun, behind_start)
+    opens-begun old count count2 left more same = search (rules, opened-most, counted_by, narrow-begun, behind_start, root-open)
 
   -- within a phase
   module _ (walk : Walk) (count : ℕ) (old new : List Frame) (before after : ℕ)
@@ -121,26 +118,12 @@ module _ (rule : RuleSet) (problem : Posed) where
         → OpensOn rule problem (Within walk count) stage old last before after (total count (eqb count problem.max_solutions) ∷ left)
     unfolding rest_open rest_fewest IsNarrow
     opens-ended stage last left at most over = record {
-      narrow = λ n. rw at (behind walk.phase n);
-      most = λ n. rw (at, rest-is walk.phase) (grind arith);
+      narrow = λ n. rw at (grind arith);
+      most = λ n. rw at (grind arith);
       counted = λ h u whole c. grind (arith, walked-counted h whole c, nothing_open);
       grows = y.grows;
-      fewest = λ battle h u. rw (at, fewest-is walk.phase) (omega (arith, y.fewest battle h, nothing_fewest left u most over));
+      fewest = λ battle h u. rw at (grind (arith, y.fewest battle h, nothing_fewest left u most over));
     }
-      where
-        rest-is : (b : Phase) → rest_open rule problem (cond (is_set b) (Before Play) Behind) last ≡ later b
-        rest-is Set = refl
-        rest-is Play = refl
-
-        fewest-is : (b : Phase) → rest_fewest rule problem (cond (is_set b) (Before Play) Behind) last ≡ later_fewest b
-        fewest-is Set = refl
-        fewest-is Play = refl
-
-        behind : (b : Phase) → (play_of problem.stipulation.form ≡ HelpPlay) ⊎ ((keys : IsKeys problem b) × (are_whites keys.battle old ≡ true))
-            → IsNarrow problem (cond (is_set b) (Before Play) Behind) last
-        behind Set (inl h) = inl h
-        behind Set (inr k) = let f : true ≡ false = k.0.play in absurd cc
-        behind Play n = tt
 
   -- a call that walked again from the phase's first position would count what had been opened before twice
   pub no_second_walk : (old new : Stage) (frames last : List Frame) (before after again walk : ℕ) (left : List BareEvent)

@@ -187,16 +187,20 @@ module _ (rule : RuleSet) (aim : Aim) (floor : ℕ) (top : Frame) (old new : Lis
       let t = testing_top p board r in
       (_, came_from rule p top (tests floor new) board t.linked t.board_at (omega (arith, length-tests floor new, d)))
 
+  -- with v for the value of the top frame those below have its value, and as many positions left to try
+  abbrev HandsDown : Position → Option Bool → Bool → Type 0
+  HandsDown p was v = (pending_value rule aim p (top ∷ tests floor new) was ≡ delivered_value rule aim p (tests floor new) v)
+      × (to_try rule aim p (top ∷ tests floor new) was ≡ to_try_with rule aim p (tests floor new) v)
+
   module _ (board after : Position) (depth : ℕ) (v : Bool) (was is result : Option Bool) (d : depth ≡ length new)
       (lowest : depth ≤ floor → (result ≡ Some v) × (after ≡ board)) (above : floor < depth → (result ≡ None) × (is ≡ Some v))
       (before : (q : Position) → floor < depth → CameFromAt rule top board q → after ≡ q) where
     -- a frame that is closed ends the test or hands its value down
     pub close_turns : (count : ℕ) (p : Position) → IsTesting rule p (tests floor old) board
-        → pending_value rule aim p (top ∷ tests floor new) was ≡ delivered_value rule aim p (tests floor new) v
-        → to_try rule aim p (top ∷ tests floor new) was ≡ to_try_with rule aim p (tests floor new) v → MatchOption result
-        (Turns rule aim floor p old new was is after count count) (λ w. Ends rule aim floor p old new was after count count w)
+        → HandsDown p was v → MatchOption result (Turns rule aim floor p old new was is after count count)
+        (λ w. Ends rule aim floor p old new was after count count w)
     unfolding IsLinked IsDescending AreKnown position test_work delivered_value to_try_with
-    close_turns count p r e left =
+    close_turns count p r hands =
         search (rules, cases_lt, testing_top, length-tests, popped, delivered_value-some, open-close, try-some, take_all, take-append-le, length-append)
 
     -- closing keeps the room
@@ -284,33 +288,18 @@ module _ (rule : RuleSet) (aim : Aim) (floor : ℕ) (top : Frame) (old new : Lis
   pub top_room : (N : ℕ) → left_at_top (tests floor old) + length old ≤ N + 1 → length new + top.left ≤ N
   top_room N room = let t : left_at_top (tests floor old) ≡ top.left = ap left_at_top popped in grind (arith, length-append)
 
-  -- the value of a frame that its answer decides, and of one with no move left
-  pub decided_value : (p : Position) (was : Option Bool) → was ≡ Some (seeks aim.battle top.left)
-      → pending_value rule aim p (top ∷ tests floor new) was ≡ delivered_value rule aim p (tests floor new) (seeks aim.battle top.left)
-  unfolding pending_value delivered_value
-  decided_value p was e = search rules
+  -- a frame that its answer decides hands that down
+  pub decided : (p : Position) (was : Option Bool) → was ≡ Some (seeks aim.battle top.left) → HandsDown p was (seeks aim.battle top.left)
+  unfolding pending_value delivered_value to_try to_try_with
+  decided p was e = search rules
 
   -- where no move is left untried and none decided, all moves did together
-  pub exhausted_value : (p board : Position) (was : Option Bool) → IsTesting rule p (tests floor old) board
-      → (was ≡ None) ⊎ (was ≡ Some (not (seeks aim.battle top.left))) → untried_moves rule board top ≡ []
-      → pending_value rule aim p (top ∷ tests floor new) was ≡ delivered_value rule aim p (tests floor new) (not (seeks aim.battle top.left))
-  exhausted_value p board was r u e = grind (arith, testing_top p board r, pending_value-undecided rule aim p top (tests floor new) was u, rest-none, top_some)
-
-  -- and the positions that are to be tried then
-  pub decided_left : (p : Position) (was : Option Bool) → was ≡ Some (seeks aim.battle top.left)
-      → to_try rule aim p (top ∷ tests floor new) was ≡ to_try_with rule aim p (tests floor new) (seeks aim.battle top.left)
-  unfolding to_try to_try_with
-  decided_left p was e = search rules
-
-  -- then nothing is left to be tried there
-  pub exhausted_left : (p board : Position) (was : Option Bool) → IsTesting rule p (tests floor old) board
-      → (was ≡ None) ⊎ (was ≡ Some (not (seeks aim.battle top.left))) → untried_moves rule board top ≡ []
-      → to_try rule aim p (top ∷ tests floor new) was ≡ to_try_with rule aim p (tests floor new) (not (seeks aim.battle top.left))
-  exhausted_left p board was r u e =
-      let at : board ≡ position rule p (top ∷ tests floor new) = (testing_top p board r).board_at in
-      let none : untried_moves rule (position rule p (top ∷ tests floor new)) top ≡ [] = rw (← at) e in
+  pub exhausted : (p board : Position) (was : Option Bool) → IsTesting rule p (tests floor old) board
+      → (was ≡ None) ⊎ (was ≡ Some (not (seeks aim.battle top.left))) → untried_moves rule board top ≡ [] → HandsDown p was (not (seeks aim.battle top.left))
+  exhausted p board was r u e =
+      let none : untried_moves rule (position rule p (top ∷ tests floor new)) top ≡ [] = rw (← (testing_top p board r).board_at) e in
       let v = rest-none rule aim top.left (position rule p (top ∷ tests floor new)) _ (top_some p board r) none in
-      grind (arith, try-undecided, trees-end)
+      (grind (arith, pending_value-undecided rule aim p top (tests floor new) was u), grind (arith, try-undecided, trees-end))
 
 -- a call that leaves the board as it was
 pub testing_same : (rule : RuleSet) (p : Position) (frames : List Frame) (board now : Position) → IsTesting rule p frames board → now ≡ board
