@@ -76,8 +76,7 @@ module _ (rule : RuleSet) (plan : Plan) (h : ℕ) (p : Position) (f : Frame) (be
   steps-close : (after : Position) (count : ℕ) → (f.left ≡ 0) ⊎ (moves_behind rule board f.place ≡ []) → (length below ≡ 0 → after ≡ board)
       → ((q : Position) → 0 < length below → CameFromAt rule f board q → after ≡ q) → Steps rule plan h p (f ∷ below) below after count count false
   steps-close after count e lowest before =
-      search (rules, walking-close rule h p f below board after r lowest before, come-close, turns-close rule plan h p f below, whites-cut, open-close,
-      tries-close)
+      search (rules, walking-close rule h p f below board after r lowest before, come-close, turns-close, whites-cut, open-close, tries-close)
 
   module _ (next : ℕ) (m : Move) (t : ℕ) (left : f.left ≡ suc t) (e : moves_behind rule board f.place ≡ m ∷ moves_behind rule board next) where
     here : moves_behind rule (position rule p (f ∷ below)) f.place ≡ m ∷ moves_behind rule (position rule p (f ∷ below)) next
@@ -91,9 +90,8 @@ module _ (rule : RuleSet) (plan : Plan) (h : ℕ) (p : Position) (f : Frame) (be
 
     -- its next move is passed over
     pub steps-pass : (after : Position) (opened opened2 : ℕ)
-        → is_followed plan.play (chess plan.goal rule) (eqb (length below) 0) t (position_after rule board m)
-        ≡ false
-        → after ≡ board → Counts rule plan (eqb (length below) 0) t (position_after rule board m) opened opened2
+        → is_followed plan.play (chess plan.goal rule) (eqb (length below) 0) t (position_after rule board m) ≡ false → after ≡ board
+        → Counts rule plan (eqb (length below) 0) t (position_after rule board m) opened opened2
         → Steps rule plan h p (f ∷ below) (moved f next ∷ below) after opened opened2 false
     steps-pass after opened opened2 b at x =
         let o = open-next rule plan h p f next m below _ t fuel left here in
@@ -143,9 +141,8 @@ module _ (rule : RuleSet) (plan : Plan) (h : ℕ) (p : Position) (f : Frame) (be
 -- a frame is closed once moves that have no paths have been passed over
 pub skips-close : (rule : RuleSet) (plan : Plan) (h : ℕ) (p : Position) (f : Frame) (below : List Frame) (board : Position)
     → IsWalking rule h p (f ∷ below) board → (after : Position) (before count : ℕ)
-    → ((f.left ≡ 0) × (count ≡ before)) ⊎ GoesTo rule plan f.left (position rule p (f ∷ below)) f.place [] before count
-    → (length below ≡ 0 → after ≡ board) → ((q : Position) → 0 < length below → CameFromAt rule f board q → after ≡ q)
-    → Steps rule plan h p (f ∷ below) below after before count false
+    → ((f.left ≡ 0) × (count ≡ before)) ⊎ GoesTo rule plan f.left (position rule p (f ∷ below)) f.place [] before count → (length below ≡ 0 → after ≡ board)
+    → ((q : Position) → 0 < length below → CameFromAt rule f board q → after ≡ q) → Steps rule plan h p (f ∷ below) below after before count false
 skips-close rule plan h p f below board r after before count (inl e) lowest back = rw e.1
     (steps-close rule plan h p f below board r after before (inl e.0) lowest back)
 skips-close rule plan h p f below board r after before count (inr g) lowest back = steps-skip rule plan h p f below [] before count g below after count false

@@ -55,10 +55,8 @@ module _ (rule : RuleSet) (p : Position) where
   passes_none place before range = search rules
 
   -- one more is passed over
-  pub passes_one : (place at next before between after : ℕ) (m : Move)
-      → Passes rule p place (moves_behind rule p at) (AreSettled rule p before between) → moves_behind rule p at ≡ m ∷ moves_behind rule p next
-      → mates_behind rule (position_after rule p m) 0 ≡ [] → after ≡ min (between + 1) (2 ^ 64 - 1)
+  pub passes_one : (place at next before between after : ℕ) (m : Move) → Passes rule p place (moves_behind rule p at) (AreSettled rule p before between)
+      → moves_behind rule p at ≡ m ∷ moves_behind rule p next → mates_behind rule (position_after rule p m) 0 ≡ [] → after ≡ min (between + 1) (2 ^ 64 - 1)
       → Passes rule p place (moves_behind rule p next) (AreSettled rule p before after)
   passes_one place at next before between after m g e none counted =
-      search (rules, append_assoc g.over (m ∷ []) (moves_behind rule p next), filter-append (allows_mate rule p) g.over (m ∷ []), no_mate_allowed m none,
-      length-append g.over (m ∷ []))
+      search (rules, append_assoc, filter-append (allows_mate rule p) g.over (m ∷ []), no_mate_allowed m none, length-append g.over (m ∷ []))

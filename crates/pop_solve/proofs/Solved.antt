@@ -160,5 +160,5 @@ module _ (rule : RuleSet) (problem : Posed) (stated : IsSound problem) where
       → IsCutInto (is_help problem.stipulation.form) problem.max_solutions (phase_paths rule problem phase (f ∷ [])) (solutions rule problem phase)
   unfolding solutions
   root-solutions phase f l b =
-      search (rules, to_come-root rule plan (phase_half_moves problem phase) (phase_start problem phase) f, helps-form problem.stipulation.form, cut phase
-      (play_of problem.stipulation.form) refl (phase_half_moves problem phase) refl)
+      let r = to_come-root rule plan (phase_half_moves problem phase) (phase_start problem phase) f in
+      search (rules, r, helps-form, cut phase _ refl _ refl)

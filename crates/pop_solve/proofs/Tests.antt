@@ -79,9 +79,8 @@ module _ (rule : RuleSet) (aim : Aim) where
   fewest-start t q o = search (rules, trees-start, sum-start, least-start)
 
   try-undecided : (p : Position) (f : Frame) (below : List Frame) (answer : Option Bool) → (answer ≡ None) ⊎ (answer ≡ Some (not (seeks aim.battle f.left)))
-      → to_try rule aim p (f ∷ below) answer ≡ fewest f.left (position rule p (f ∷ below)) (untried_moves rule (position rule p (f ∷ below)) f) + to_try_with
-      rule aim
-      p below (rest f.left (position rule p (f ∷ below)) (untried_moves rule (position rule p (f ∷ below)) f))
+      → to_try rule aim p (f ∷ below) answer ≡ fewest f.left (position rule p (f ∷ below)) (untried_moves rule (position rule p (f ∷ below)) f)
+      + to_try_with rule aim p below (rest f.left (position rule p (f ∷ below)) (untried_moves rule (position rule p (f ∷ below)) f))
   unfolding to_try to_try_with
   try-undecided p f below answer e = search rules
 
@@ -119,10 +118,9 @@ module _ (rule : RuleSet) (aim : Aim) where
     unfolding delivered_value position
     delivered_value-next = search (rules, rest-next)
 
-    try-next : fewest f.left P (untried_moves rule P f) + to_try_with rule aim p below (rest f.left P (untried_moves rule P f)) ≤ smallest_tree aim.battle
-        (chess aim.goal
-        rule) t (position_after rule P m) + to_try_with rule aim p (passed f next s kn ∷ below)
-        (value aim.battle (chess aim.goal rule) t (position_after rule P m))
+    try-next : fewest f.left P (untried_moves rule P f) + to_try_with rule aim p below (rest f.left P (untried_moves rule P f))
+        ≤ smallest_tree aim.battle (chess aim.goal rule) t (position_after rule P m)
+        + to_try_with rule aim p (passed f next s kn ∷ below) (value aim.battle (chess aim.goal rule) t (position_after rule P m))
     unfolding to_try_with position
     try-next = search (rules, trees-next, rest-next)
 
@@ -130,9 +128,8 @@ module _ (rule : RuleSet) (aim : Aim) where
     unfolding test_work position
     work-settled = rw (left, steps-next t P (untried_moves rule P f) (moves_ahead rule P f.order s next) m e) (omega arith)
 
-    open-settled : walk_count (legal_moves rule) (position_after rule) t (position_after rule P m) + to_test rule p (passed f next s kn ∷ below) ≤ to_test rule
-        p
-        (f ∷ below)
+    open-settled : walk_count (legal_moves rule) (position_after rule) t (position_after rule P m) + to_test rule p (passed f next s kn ∷ below)
+        ≤ to_test rule p (f ∷ below)
     unfolding to_test position
     open-settled = rw (left, walk-next t P (untried_moves rule P f) (moves_ahead rule P f.order s next) m e) (omega arith)
 
@@ -196,9 +193,8 @@ module _ (rule : RuleSet) (aim : Aim) (floor : ℕ) (top : Frame) (old new : Lis
       (lowest : depth ≤ floor → (result ≡ Some v) × (after ≡ board)) (above : floor < depth → (result ≡ None) × (is ≡ Some v))
       (before : (q : Position) → floor < depth → CameFromAt rule top board q → after ≡ q) where
     -- a frame that is closed ends the test or hands its value down
-    pub close_turns : (count : ℕ) (p : Position) → IsTesting rule p (tests floor old) board
-        → HandsDown p was v → MatchOption result (Turns rule aim floor p old new was is after count count)
-        (λ w. Ends rule aim floor p old new was after count count w)
+    pub close_turns : (count : ℕ) (p : Position) → IsTesting rule p (tests floor old) board → HandsDown p was v
+        → MatchOption result (Turns rule aim floor p old new was is after count count) (λ w. Ends rule aim floor p old new was after count count w)
     unfolding IsLinked IsDescending AreKnown position test_work delivered_value to_try_with
     close_turns count p r hands =
         search (rules, cases_lt, testing_top, length-tests, popped, delivered_value-some, open-close, try-some, take_all, take-append-le, length-append)

@@ -17,8 +17,7 @@ abbrev pub given_path : Bool → List Move → List (List Move)
 given_path b L = cond b (L ∷ []) []
 
 -- a line behind a path and a move
-pub map-path : (L : List Move) (m : Move) (xs : List (List Move))
-    → map (λ line. L ++ line) (map (λ line. m ∷ line) xs) ≡ map (λ line. (L ++ m ∷ []) ++ line) xs
+pub map-path : (L : List Move) (m : Move) (xs : List (List Move)) → map (λ line. L ++ line) (map (λ line. m ∷ line) xs) ≡ map (λ line. (L ++ m ∷ []) ++ line) xs
 map-path L m [] = refl
 map-path L m (x ∷ xs) = rw (append_assoc L (m ∷ []) x, map-path L m xs)
 
@@ -59,11 +58,10 @@ module _ (rule : RuleSet) (plan : Plan) where
   -- the positions to be tried for the next move, and for the others
   fewest-next : (root : Bool) (k t : ℕ) (P : Position) (m : Move) (ms : List Move)
       → fewest_walked plan (chess plan.goal rule) root (suc k) (suc t) P (m ∷ ms)
-      ≡ (fewest_for plan.play (has_variations plan.tree) (chess plan.goal rule) root t (position_after rule P m) + cond
-      (is_followed plan.play (chess plan.goal rule) root t (position_after rule P m))
-      (fewest_walked plan (chess plan.goal rule) false k (walk_length plan.play (has_variations plan.tree) (chess plan.goal rule) t
-      (position_after rule P m)) (position_after rule P m) (legal_moves rule (position_after rule P m))) 0) + fewest_walked plan (chess plan.goal rule) root
-      (suc k) (suc t) P ms
+      ≡ (fewest_for plan.play (has_variations plan.tree) (chess plan.goal rule) root t (position_after rule P m)
+      + cond (is_followed plan.play (chess plan.goal rule) root t (position_after rule P m)) (fewest_walked plan (chess plan.goal rule) false k (walk_length
+      plan.play (has_variations plan.tree) (chess plan.goal rule) t (position_after rule P m)) (position_after rule P m) (legal_moves rule (position_after rule
+      P m))) 0) + fewest_walked plan (chess plan.goal rule) root (suc k) (suc t) P ms
   unfolding fewest_walked
   fewest-next root k t P m ms = search (rules, sum_by-cons)
 
@@ -182,16 +180,14 @@ module _ (rule : RuleSet) (plan : Plan) where
   -- moves that have no paths: at the last half-move those that don't mate, by a side that seeks mate
   module _ (P : Position) where
     ends : (low : Bool) (fuel k : ℕ) (m : Move) (q : Position) (qs ms : List Move)
-        → map (λ line. m ∷ line) (shown_paths plan (chess plan.goal rule) false k 0 q qs)
-        ++ shown_paths plan (chess plan.goal rule) low (suc fuel) 1 P ms ≡ shown_paths plan
-        (chess plan.goal rule) low (suc fuel) 1 P ms
+        → map (λ line. m ∷ line) (shown_paths plan (chess plan.goal rule) false k 0 q qs) ++ shown_paths plan (chess plan.goal rule) low (suc fuel) 1 P ms
+        ≡ shown_paths plan (chess plan.goal rule) low (suc fuel) 1 P ms
     unfolding shown_paths
     ends low fuel k m q qs ms = search rules
 
     -- in direct play a move that doesn't mate isn't followed, and tries nothing
     follows-last : (low : Bool) (q : Position) (battle : Battle) → plan.play ≡ BattlePlay battle → seeks battle 1 ≡ true → plan.goal ≡ Mate
-        → is_mate rule q ≡ false
-        → is_followed plan.play (chess plan.goal rule) low 0 q ≡ false
+        → is_mate rule q ≡ false → is_followed plan.play (chess plan.goal rule) low 0 q ≡ false
     unfolding is_followed value
     follows-last low q battle fought white for misses = search rules
 

@@ -111,8 +111,7 @@ module _ {P M : Type 0} (game : Game P M) where
   -- in battle play
   module _ (plan : Plan) (battle : Battle) (fought : plan.play ≡ BattlePlay battle) where
     -- a move that is tested, and one that isn't
-    pub by_test : (root : Bool) (t : ℕ) (q : P) → (root || seeks battle (t + 1)) ≡ true
-        → is_followed plan.play game root t q ≡ value battle game t q
+    pub by_test : (root : Bool) (t : ℕ) (q : P) → (root || seeks battle (t + 1)) ≡ true → is_followed plan.play game root t q ≡ value battle game t q
     unfolding is_followed
     by_test root t q s = rw (fought, s) refl
 
@@ -176,15 +175,13 @@ module _ {P M : Type 0} (game : Game P M) where
       unfolding shown_length
       tie-goal n k t q g = search (rules, shown_paths-zero, nothing)
 
-      tie-white : (n k t : ℕ) (q : P) → ((l : ℕ) (r : P) → value battle game l r ≡ true → l ≤ k → l ≤ 2 * n → Tie n k l r)
-          → value battle game (suc t) q ≡ true → suc t ≤ suc k → suc t ≤ 2 * n → game.goal q ≡ false
-          → seeks battle (suc t) ≡ true → Tie n (suc k) (suc t) q
+      tie-white : (n k t : ℕ) (q : P) → ((l : ℕ) (r : P) → value battle game l r ≡ true → l ≤ k → l ≤ 2 * n → Tie n k l r) → value battle game (suc t) q ≡ true
+          → suc t ≤ suc k → suc t ≤ 2 * n → game.goal q ≡ false → seeks battle (suc t) ≡ true → Tie n (suc k) (suc t) q
       unfolding continuations
       tie-white n k t q ih v room most g s = search (rules, white, flip, seeks-step, beneath-is)
 
-      tie-black : (n k t : ℕ) (q : P) → ((l : ℕ) (r : P) → value battle game l r ≡ true → l ≤ k → l ≤ 2 * n → Tie n k l r)
-          → value battle game (suc t) q ≡ true → suc t ≤ suc k → suc t ≤ 2 * n → game.goal q ≡ false
-          → seeks battle (suc t) ≡ false → Tie n (suc k) (suc t) q
+      tie-black : (n k t : ℕ) (q : P) → ((l : ℕ) (r : P) → value battle game l r ≡ true → l ≤ k → l ≤ 2 * n → Tie n k l r) → value battle game (suc t) q ≡ true
+          → suc t ≤ suc k → suc t ≤ 2 * n → game.goal q ≡ false → seeks battle (suc t) ≡ false → Tie n (suc k) (suc t) q
       unfolding nodes_below shown_length
       tie-black n k t q ih v room most g s =
           let z : eqb (suc t) 0 ≡ false = grind arith in
