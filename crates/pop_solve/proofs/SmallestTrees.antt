@@ -36,11 +36,6 @@ module _ {P M : Type 0} (battle : Battle) (game : Game P M) where
   unfolding smallest_tree smallest_below
   trees-start t p = search rules
 
-  -- where no move is left, and with one half-move left
-  pub tree-none : (t : ℕ) (p : P) → can_move game p ≡ false → smallest_tree battle game t p ≡ 0
-  unfolding smallest_tree
-  tree-none t p e = search rules
-
   -- with no half-move left nothing is tried
   pub tree-zero : (t : ℕ) (p : P) → t ≡ 0 → smallest_tree battle game t p ≡ 0
   unfolding smallest_tree

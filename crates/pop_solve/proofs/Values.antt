@@ -5,11 +5,6 @@ use Rattle.std.specs.Prelude.{◌==◌}
 use Rattle.std.proofs.lemmas.List.{nil_from_length}
 
 module _ {P M : Type 0} (battle : Battle) (game : Game P M) where
-  -- with no half-move left the goal decides
-  pub value-last : (t : ℕ) (p : P) → t ≡ 0 → value battle game t p ≡ game.goal p
-  unfolding value
-  value-last t p z = search rules
-
   -- the last half-move
   pub value-mates : (p : P) → battle ≡ Direct → value battle game 1 p ≡ some_move game game.goal p
   unfolding value
