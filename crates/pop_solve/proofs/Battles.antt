@@ -12,7 +12,8 @@ module _ {P M : Type 0} (game : Game P M) where
   unfolding value
   direct-even t p e = rw (e) refl
 
-  value-zero : (battle : Battle) (q : P) → value battle game 0 q ≡ game.goal q
+  -- with no half-move left the goal decides
+  pub value-zero : (battle : Battle) (q : P) → value battle game 0 q ≡ game.goal q
   unfolding value
   value-zero battle q = refl
 

@@ -76,16 +76,13 @@ module _ (rule : RuleSet) (p : Position) where
   no_mate a b b' next last q o o' behind before start cut same none none' = grind arith
 
   -- and the place that was moved on to it stands on it
-  pub on_mate_behind : (place : ℕ) (o : Option Move) → true ≡ is_some o → place ≡ place_of o → IfSome o (λ m. mates rule p m ≡ true)
-      → IsOnMate rule p place
-  on_mate_behind place None some at found = absurd cc
-  on_mate_behind place (Some m) some at found = record { by = m; here = at; mates = found }
+  pub on_mate_behind : (place : ℕ) (o : Option Move) → true ≡ is_some o → place ≡ place_of o → IfSome o (λ m. mates rule p m ≡ true) → IsOnMate rule p place
+  on_mate_behind place o some at found = search rules
 
   -- the place on which a search left off is that of the mate it found
   pub on_mate_before : (old place : ℕ) (o : Option Move) → true ≡ is_some o → place ≡ place_onto o old → IfSome o (λ m. mates rule p m ≡ true)
       → IsOnMate rule p place
-  on_mate_before old place None some at found = absurd cc
-  on_mate_before old place (Some m) some at found = record { by = m; here = at; mates = found }
+  on_mate_before old place o some at found = search rules
 
 -- with a half-move left there is something to walk
 pub walk_count-some : {P M : Type 0} (moves : P → List M) (after : P → M → P) (left : ℕ) (p : P) → 0 < left → 1 ≤ walk_count moves after left p
@@ -94,8 +91,7 @@ walk_count-some moves after left p some = search rules
 
 -- a move that is found says that there is one, wherever it was looked for
 module _ (goal : Goal) (rule : RuleSet) (p : Position) where
-  some-within : (before here behind : List Move) (m : Move) (more : List Move) → here ≡ m ∷ more
-      → not (eqb (length (before ++ (here ++ behind))) 0) ≡ true
+  some-within : (before here behind : List Move) (m : Move) (more : List Move) → here ≡ m ∷ more → not (eqb (length (before ++ (here ++ behind))) 0) ≡ true
   some-within [] here behind m more e = rw e (grind (arith, nat_tests))
   some-within (x ∷ before) here behind m more e = grind (arith, nat_tests)
 

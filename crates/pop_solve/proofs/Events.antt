@@ -1,5 +1,5 @@
 -- What a call gives.
-use Rattle.pop_solve.proofs.Words.{AreKnown, ArrayVec, BareEvent, Barred, Before, Behind, Event, Frame, Gives, IsGiven, IsLinked, IsRoomy, IsSound, IsStanding, IsWalking, IsWellFormed, Line, List, MatchOption, Node, None, Option, Phase, Play, Posed, Position, RuleSet, Set, Shown, Stage, StandsOn, Total, Walks, Within, [], append_assoc, arith, begins_solution, cond, drop, eqb, event_of, events, events_from, false, flat_map, half_moves, is_barred, phase_count, Walk, walk_of, is_help_play, Bool, ap, ◌<◌, ◌∙◌}
+use Rattle.pop_solve.proofs.Words.{AreKnown, ArrayVec, BareEvent, Barred, Before, Behind, Event, Frame, Gives, IsGiven, IsLinked, IsRoomy, IsSound, IsStanding, IsWalking, IsWellFormed, Line, List, MatchOption, Node, None, Option, Phase, Play, Posed, Position, RuleSet, Set, Shown, Stage, StandsOn, Total, Walks, Within, [], append_assoc, arith, begins_solution, cond, drop, eqb, event_of, events, events_from, false, flat_map, half_moves, is_barred, phase_count, Walk, walk_of, is_help_play, Bool, ap, ◌<◌}
 use Rattle.pop_solve.proofs.Words.{beginning_count, is_help, is_set, is_some, kept_paths, left_of, length, length-reverse, min, nat_tests, opening, option_map, path, path_event, phase_events, phase_half, phase_half_moves, phase_paths, phase_start, plan_of, play_start, position, refl, reverse, rules, moves_shown, last_shown, slice_get, solutions, suc, take, total, true, zero, ℕ, ◌+◌, ◌-◌, ◌^◌, ◌||◌, ◌∷◌, ◌≡◌, ◌≤◌}
 use Rattle.pop_solve.proofs.Sound.{helps-form, in_range}
 use Rattle.pop_solve.proofs.Paths.{path-length, path_end-path}
@@ -40,9 +40,6 @@ module _ (problem : Posed) (walk : Walk) (is : walk ≡ walk_of problem walk.pha
   pub half_moves-are : walk.half_moves ≡ phase_half_moves problem walk.phase
   half_moves-are = ap (λ (w : Walk). w.half_moves) is
 
-  helps : is_help_play walk.plan.play ≡ is_help problem.stipulation.form
-  helps = ap (λ (w : Walk). is_help_play w.plan.play) is ∙ helps-form problem.stipulation.form
-
   -- no more than those of the play
   pub half_moves-fit : (n : ℕ) → half_moves problem.stipulation < n → walk.half_moves < n
   half_moves-fit n lt = rw half_moves-are (grind arith)
@@ -51,7 +48,7 @@ module _ (problem : Posed) (walk : Walk) (is : walk ≡ walk_of problem walk.pha
   pub walks-are : (rule : RuleSet) (p : Position) (limit : ℕ) (old new : List Frame) (board : Position) (given : Bool)
       → Walks rule walk.plan (is_help_play walk.plan.play) walk.half_moves p limit old new board given
       → Walks rule (plan_of problem) (is_help problem.stipulation.form) (phase_half_moves problem walk.phase) p limit old new board given
-  walks-are rule p limit old new board given w = rw (helps, plan-is, half_moves-are) at w
+  walks-are rule p limit old new board given w = search (rules, plan-is, half_moves-are, helps-form)
 
 -- a path is given: the events to come lose their first
 module _ (rule : RuleSet) (problem : Posed) (walk : Walk) (count : ℕ) (old new : List Frame) (board : Position) (most : count ≤ problem.max_solutions)
@@ -59,11 +56,6 @@ module _ (rule : RuleSet) (problem : Posed) (walk : Walk) (count : ℕ) (old new
     (problem.max_solutions - count) old new board true) where
   abbrev more : ℕ
   more = cond (begins_solution (is_help problem.stipulation.form) (path new)) 1 0
-
-  left-given : (next : ℕ) → next ≡ count + more
-      → left_of rule problem (Within walk count) old ≡ path_event problem walk.phase (path new) ∷ left_of rule problem (Within walk next) new
-  unfolding left_of
-  left-given next e = search rules
 
 -- none is given: the total is left
 pub left-ended : (rule : RuleSet) (problem : Posed) (walk : Walk) (count : ℕ) (old new : List Frame) (board : Position)
@@ -98,29 +90,20 @@ module _ (rule : RuleSet) (problem : Posed) (walk : Walk) (count : ℕ) (old : L
   pub room-given : cond (is_help problem.stipulation.form || eqb (length frames) 2) 1 0 ≤ problem.max_solutions - count
   room-given = grind (arith, path-length, length-reverse, deep-given, nat_tests)
 
-  gives-here : (next : ℕ) (event : Event) → next ≡ count + cond (is_help problem.stipulation.form || eqb (length frames) 2) 1 0
-      → event ≡ event_of rule problem (path_event problem walk.phase (path (reverse frames)))
-      → Gives rule problem (left_of rule problem (Within walk count) old) (left_of rule problem (Within walk next) (reverse frames)) event board
-      (length frames)
-  gives-here next event n e = grind (arith, left-given, deep-given, path_end-path, path-length, length-reverse, nat_tests)
-
-  stands-here : walk ≡ walk_of problem walk.phase → (next : ℕ) → next ≡ count + cond (is_help problem.stipulation.form || eqb (length frames) 2) 1 0
-      → IsStanding rule problem (Within walk next) (reverse frames) board
-  unfolding IsStanding
-  stands-here is next n = (w.walking, omega (arith, n, most, room-given), is)
-
   -- once board and frames still stand as they were left
   module _ (left : List Frame) (stand : Position) (kept : left ≡ frames) (stays : stand ≡ board) where
     -- the call gives the path's event
     pub gives-given : (next : ℕ) (event : Event) → next ≡ count + cond (is_help problem.stipulation.form || eqb (length frames) 2) 1 0
         → event ≡ event_of rule problem (path_event problem walk.phase (path (reverse frames)))
         → Gives rule problem (left_of rule problem (Within walk count) old) (left_of rule problem (Within walk next) (reverse left)) event stand (length left)
-    gives-given next event n e = rw (kept, stays) (gives-here next event n e)
+    unfolding left_of
+    gives-given next event n e = search (rules, deep-given, path_end-path, path-length, length-reverse, nat_tests)
 
   -- it leaves the phase as it may stand
   pub standing-given : (left : List Frame) (stand : Position) → left ≡ reverse frames → stand ≡ board → walk ≡ walk_of problem walk.phase → (next : ℕ)
       → next ≡ count + cond (is_help problem.stipulation.form || eqb (length frames) 2) 1 0 → IsStanding rule problem (Within walk next) left stand
-  standing-given left stand kept stays is next n = rw (kept, stays) (stands-here is next n)
+  unfolding IsStanding
+  standing-given left stand kept stays is next n = search (rules, room-given)
 
   -- the path fits a line's room
   pub shallow-given : IsSound problem → length frames ≤ 33
@@ -130,17 +113,6 @@ module _ (rule : RuleSet) (problem : Posed) (walk : Walk) (count : ℕ) (old : L
       at_most Set = omega (arith, in_range problem s)
       at_most Play = in_range problem s
 
--- what stands behind a phase
-behind-left : (rule : RuleSet) (problem : Posed) (phase : Phase) (frames : List Frame)
-    → left_of rule problem (cond (is_set phase) (Before Play) Behind) frames ≡ cond (is_set phase) (events_from rule problem Play) []
-unfolding left_of
-behind-left rule problem phase frames = search rules
-
-behind-standing : (rule : RuleSet) (problem : Posed) (phase : Phase) (board : Position) → board ≡ play_start problem
-    → IsStanding rule problem (cond (is_set phase) (Before Play) Behind) [] board
-unfolding IsStanding
-behind-standing rule problem phase board e = search rules
-
 module _ (rule : RuleSet) (problem : Posed) (walk : Walk) (stage : Stage) (new : List Frame) (board : Position)
     (at : stage ≡ cond (is_set walk.phase) (Before Play) Behind) (none : new ≡ []) where
   -- at the end of a phase its total is given
@@ -149,17 +121,13 @@ module _ (rule : RuleSet) (problem : Posed) (walk : Walk) (stage : Stage) (new :
       (problem.max_solutions - count) old mid now false
       → Gives rule problem (left_of rule problem (Within walk count) old) (left_of rule problem stage (reverse new))
       (Total count (eqb count problem.max_solutions)) board depth
-  gives-ended count depth old mid now w = search (rules, left-ended, behind-left)
+  unfolding left_of
+  gives-ended count depth old mid now w = search (rules, left-ended)
 
   -- the search then stands behind the phase
   pub standing-ended : board ≡ play_start problem → IsStanding rule problem stage (reverse new) board
-  standing-ended e = rw (at, none) (behind-standing rule problem walk.phase board e)
-
--- a phase that isn't possible
-pub left-barred : (rule : RuleSet) (problem : Posed) (phase : Phase) (frames : List Frame) → is_barred rule problem phase ≡ true
-    → left_of rule problem (Before phase) frames ≡ opening phase ∷ left_of rule problem Barred frames
-unfolding left_of phase_events
-left-barred rule problem phase frames e = search rules
+  unfolding IsStanding
+  standing-ended e = search rules
 
 -- a phase begins
 pub left-begun : (rule : RuleSet) (problem : Posed) (phase : Phase) (old new : List Frame) → is_barred rule problem phase ≡ false
@@ -187,10 +155,6 @@ drop-next : {A : Type 0} (k : ℕ) (xs : List A) (y : A) (ys : List A) → y ∷
 drop-next zero xs y ys e = grind arith
 drop-next (suc k) [] y ys e = absurd cc
 drop-next (suc k) (x ∷ xs) y ys e = drop-next k xs y ys e
-
--- a search that has given nothing has all events to come
-pub given-all : (rule : RuleSet) (problem : Posed) → IsGiven rule problem (events rule problem) 0
-given-all rule problem = search rules
 
 -- an event that is given is counted
 pub given-event : (rule : RuleSet) (problem : Posed) (event : Option Event) (old new : List BareEvent) (board : Position) (depth given given2 : ℕ)

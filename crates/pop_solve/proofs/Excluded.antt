@@ -78,7 +78,6 @@ module _ (rule : RuleSet) (plan : Plan) (p : Position) (place before after : ℕ
 
 -- so where the next move mates, it is the next solution
 pub first_mate_is_next : (rule : RuleSet) (plan : Plan) (p : Position) (place before after : ℕ) (m n : Move) (more rest : List Move)
-    → moves_behind rule p place ≡ m ∷ more → is_mating rule p m ≡ true
-    → is_mating rule p n ≡ true → GoesTo rule plan 1 p place (n ∷ rest) before after → n ≡ m
+    → moves_behind rule p place ≡ m ∷ more → is_mating rule p m ≡ true → is_mating rule p n ≡ true → GoesTo rule plan 1 p place (n ∷ rest) before after → n ≡ m
 first_mate_is_next rule plan p place before after m n more rest here mates too t =
     grind (arith, no_mate_is_passed_over rule plan p place before after (n ∷ rest) t)

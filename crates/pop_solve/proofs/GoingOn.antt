@@ -1,5 +1,5 @@
 -- How many half-moves a line goes on below a move, and what is reached where it ends.
-use Rattle.pop_solve.proofs.Words.{Battle, BattlePlay, Bool, Game, HelpPlay, Plan, PlayOfSides, arith, cond, ends_variation, eqb, false, fewest_half_moves, least_length_from, is_followed, walk_length, inl, inr, nat_tests, shown_length, refl, rules, seeks, suc, true, value, has_variations, zero, ℕ, ◌*◌, ◌+◌, ◌-◌, ◌/◌, ◌<◌, ◌||◌, ◌≡◌, ◌≤◌, ◌⊎◌}
+use Rattle.pop_solve.proofs.Words.{Battle, BattlePlay, Bool, Game, HelpPlay, Plan, PlayOfSides, arith, cond, ends_variation, eqb, false, fewest_half_moves, least_length_from, is_followed, walk_length, inl, inr, nat_tests, shown_length, refl, rules, seeks, suc, true, value, has_variations, zero, ℕ, ◌*◌, ◌+◌, ◌-◌, ◌/◌, ◌<◌, ◌||◌, ◌≡◌, ◌≤◌, ◌⊎◌, is_given}
 
 -- a test by its two answers
 pub cases : (b : Bool) → (b ≡ false) ⊎ (b ≡ true)
@@ -26,15 +26,10 @@ module _ {P M : Type 0} (game : Game P M) where
       → cond (z || goal) 0 (cond s (least_length_from battle game q ((t - fewest_half_moves battle) / 2) (fewest_half_moves battle)) t) ≤ t
   length_most battle t q z s goal e u = search (rules, least_length_from-most, nat_tests)
 
-  shown_length-most : (battle : Battle) (t : ℕ) (q : P) → shown_length battle game t q ≤ t
-  unfolding shown_length
-  shown_length-most battle t q = length_most battle t q (eqb t 0) (seeks battle t) (game.goal q) refl refl
-
   -- so is that with which the walk goes on
   pub walk_length-most : (play : PlayOfSides) (variation : Bool) (t : ℕ) (q : P) → walk_length play variation game t q ≤ t
-  unfolding walk_length
-  walk_length-most HelpPlay variation t q = omega arith
-  walk_length-most (BattlePlay battle) variation t q = search (rules, shown_length-most)
+  unfolding walk_length shown_length
+  walk_length-most play variation t q = search (rules, length_most)
 
 module _ {P M : Type 0} (game : Game P M) where
   -- a line goes on with no half-move only where none is left or the goal is reached
@@ -43,19 +38,17 @@ module _ {P M : Type 0} (game : Game P M) where
   least_length_from-some battle q zero a some = some
   least_length_from-some battle q (suc n) a some = search (rules, least_length_from-some battle q n)
 
-  walk_length-none : (battle : Battle) (t : ℕ) (q : P) → walk_length (BattlePlay battle) true game t q ≡ 0 → (t ≡ 0) ⊎ (game.goal q ≡ true)
-  unfolding walk_length shown_length
-  walk_length-none battle t q l = grind (arith, least_length_from-some, nat_tests)
-
-  followed-last : (battle : Battle) (root : Bool) (q : P) → seeks battle 1 ≡ true → is_followed (BattlePlay battle) game root 0 q ≡ true → game.goal q ≡ true
-  unfolding is_followed value
-  followed-last battle root q white f = search rules
-
   -- where a variation ends that is followed, the goal is reached
   pub ended-reached : (play : PlayOfSides) (variation root : Bool) (t : ℕ) (q : P) → is_followed play game root t q ≡ true
       → ends_variation play variation (walk_length play variation game t q) ≡ true → game.goal q ≡ true
-  ended-reached HelpPlay variation root t q f e = absurd cc
-  ended-reached (BattlePlay battle) variation root t q f e = search (rules, followed-last, walk_length-none, nat_tests)
+  unfolding is_followed value walk_length shown_length
+  ended-reached play variation root t q f e = search (rules, nat_tests, least_length_from-some)
+
+-- in a battle each path is given
+pub given-battle : {P M : Type 0} (plan : Plan) (game : Game P M) (battle : Battle) (t : ℕ) (q : P) → plan.play ≡ BattlePlay battle
+    → is_given plan.play game t q ≡ true
+unfolding is_given
+given-battle plan game battle t q fought = rw fought refl
 
 -- in help play the walk follows each move, with the half-moves that are left
 pub walk_length-help : {P M : Type 0} (plan : Plan) (game : Game P M) (t : ℕ) (q : P) → plan.play ≡ HelpPlay

@@ -1,6 +1,8 @@
 -- The first solutions of a phase, by the paths that begin them.
-use Rattle.pop_solve.proofs.Words.{Battle, BattlePlay, Bool, Frame, Game, HelpPlay, IsWalking, List, Plan, PlayOfSides, Position, RuleSet, Steps, Walks, [], ap, append-nil, arith, beginning_count, begins_solution, chess, cond, eqb, false, is_given, is_help_play, kept_paths, length, map, moves_behind, nat_tests, path, position, refl, rules, shown_paths, suc, to_come, true, zero, ℕ, ◌&&◌, ◌++◌, ◌+◌, ◌-◌, ◌<◌, ◌||◌, ◌∙◌, ◌∷◌, ◌≡◌}
+use Rattle.pop_solve.proofs.Words.{Battle, BattlePlay, Bool, Frame, Game, IsWalking, List, Plan, PlayOfSides, Position, RuleSet, Steps, Walks, [], append-nil, arith, beginning_count, begins_solution, chess, cond, eqb, false, is_help_play, kept_paths, length, map, moves_behind, nat_tests, path, position, refl, rules, shown_paths, suc, to_come, true, zero, ℕ, ◌&&◌, ◌++◌, ◌+◌, ◌-◌, ◌<◌, ◌||◌, ◌∷◌, ◌≡◌, and_parts, HelpPlay}
 use Rattle.pop_solve.proofs.Paths.{path-length}
+use Rattle.std.proofs.lemmas.List.{map-id, nil_from_length}
+use Rattle.pop_solve.proofs.GoingOn.{given-battle}
 
 -- where no path is to come no solution begins
 pub beginning_count-nil : (M : Type 0) (help : Bool) (n : ℕ) → beginning_count {M = M} help n [] ≡ 0
@@ -26,68 +28,42 @@ module _ {M : Type 0} where
   beginning_count-next help n x xs b e some = search rules
 
   -- where every path begins a solution, none is kept with none to begin
-  keep-help : (xs : List (List M)) → kept_paths true 0 xs ≡ []
-  unfolding kept_paths
-  keep-help [] = refl
-  keep-help (x ∷ xs) = refl
-
-  beginning_count-help : (xs : List (List M)) → beginning_count true 0 xs ≡ 0
-  unfolding beginning_count
-  beginning_count-help [] = refl
-  beginning_count-help (x ∷ xs) = refl
+  full-help : (xs : List (List M)) → (kept_paths true 0 xs ≡ []) × (beginning_count true 0 xs ≡ 0)
+  unfolding kept_paths beginning_count
+  full-help [] = (refl, refl)
+  full-help (x ∷ xs) = (refl, refl)
 
   -- lines behind no move
   pub map-same : (xs : List (List M)) → map (λ line. [] ++ line) xs ≡ xs
-  map-same [] = refl
-  map-same (x ∷ xs) = ap (λ ys. x ∷ ys) (map-same xs)
-
-  root-same : (xs : List (List M)) → map (λ line. [] ++ line) xs ++ [] ≡ xs
-  root-same xs = append-nil (map (λ line. [] ++ line) xs) ∙ map-same xs
+  map-same xs = map-id xs
 
 -- the first path by the moves of a root in battle play begins a solution
 module _ {P M : Type 0} (plan : Plan) (game : Game P M) (battle : Battle) (fought : plan.play ≡ BattlePlay battle) where
-  gives-battle : (t : ℕ) (q : P) → is_given plan.play game t q ≡ true
-  unfolding is_given
-  gives-battle t q = rw fought refl
-
-  keep-shown_paths : (root : Bool) (k left : ℕ) (p : P) (ms : List M) → kept_paths false 0 (shown_paths plan game root k left p ms) ≡ []
-  unfolding shown_paths kept_paths
-  keep-shown_paths root zero left p ms = search (rules, keep-nil)
-  keep-shown_paths root (suc k) zero p ms = search (rules, keep-nil)
-  keep-shown_paths root (suc k) (suc t) p [] = search (rules, keep-nil)
-  keep-shown_paths root (suc k) (suc t) p (m ∷ ms) = search (rules, gives-battle, keep-shown_paths root (suc k) (suc t) p ms)
-
-  beginning_count-shown_paths : (root : Bool) (k left : ℕ) (p : P) (ms : List M) → beginning_count false 0 (shown_paths plan game root k left p ms) ≡ 0
-  unfolding shown_paths beginning_count
-  beginning_count-shown_paths root zero left p ms = search (rules, beginning_count-nil)
-  beginning_count-shown_paths root (suc k) zero p ms = search (rules, beginning_count-nil)
-  beginning_count-shown_paths root (suc k) (suc t) p [] = search (rules, beginning_count-nil)
-  beginning_count-shown_paths root (suc k) (suc t) p (m ∷ ms) = search (rules, gives-battle, beginning_count-shown_paths root (suc k) (suc t) p ms)
+  full-battle : (root : Bool) (k left : ℕ) (p : P) (ms : List M)
+      → (kept_paths false 0 (shown_paths plan game root k left p ms) ≡ []) × (beginning_count false 0 (shown_paths plan game root k left p ms) ≡ 0)
+  unfolding shown_paths kept_paths beginning_count
+  full-battle root zero left p ms = search rules
+  full-battle root (suc k) zero p ms = search rules
+  full-battle root (suc k) (suc t) p [] = search rules
+  full-battle root (suc k) (suc t) p (m ∷ ms) = search (rules, given-battle plan game battle, full-battle root (suc k) (suc t) p ms)
 
 one_frame : (frames : List Frame) → eqb (length frames) 1 ≡ true → (f : Frame) × (frames ≡ f ∷ [])
 one_frame [] e = absurd (grind (arith, nat_tests))
 one_frame (f ∷ []) e = (f, refl)
 one_frame (f ∷ (g ∷ below)) e = absurd (grind (arith, nat_tests))
 
-no_frame : (frames : List Frame) → length frames ≡ 0 → frames ≡ []
-no_frame [] e = refl
-no_frame (f ∷ below) e = absurd (omega (arith, e))
-
 module _ (rule : RuleSet) (plan : Plan) (h : ℕ) (p : Position) where
   -- the paths to come from the root alone
   pub to_come-root : (f : Frame) → to_come rule plan h p (f ∷ []) ≡ shown_paths plan (chess plan.goal rule) true (h - 0) f.left p (moves_behind rule p f.place)
   unfolding to_come path position
-  to_come-root f = root-same _
+  to_come-root f = search (rules, append-nil, map-same)
 
   -- with none to begin, and none on the way
   full : (play : PlayOfSides) → plan.play ≡ play → (frames : List Frame) → (is_help_play play || eqb (length frames) 1) ≡ true
       → (kept_paths (is_help_play play) 0 (to_come rule plan h p frames) ≡ []) × (beginning_count (is_help_play play) 0 (to_come rule plan h p frames) ≡ 0)
-  full HelpPlay same frames e = (keep-help _, beginning_count-help _)
+  full HelpPlay same frames e = full-help _
   full (BattlePlay battle) same frames e =
-      let game = chess plan.goal rule in
-      let one = one_frame frames e in
-      rw (one.1, to_come-root one.0)
-      (keep-shown_paths plan game battle same _ _ _ _ _, beginning_count-shown_paths plan game battle same _ _ _ _ _)
+      let one = one_frame frames e in rw (one.1, to_come-root one.0) (full-battle plan (chess plan.goal rule) battle same _ _ _ _ _)
 
   none : (frames : List Frame) → length frames ≡ 0 → to_come rule plan h p frames ≡ []
   unfolding to_come
@@ -98,16 +74,12 @@ module _ (rule : RuleSet) (plan : Plan) (h : ℕ) (p : Position) where
     -- the walk ends once no frame is left
     pub walks_none : (limit : ℕ) (board : Position) → IsWalking rule h p mid board → length mid ≡ 0
         → Walks rule plan (is_help_play plan.play) h p limit old mid board false
-    walks_none limit board r e = search (rules, none, keep-nil, no_frame, beginning_count-nil)
-
-    both_true : (a b : Bool) → (a && b) ≡ true → (a ≡ true) × (b ≡ true)
-    both_true a b e = search rules
+    walks_none limit board r e = search (rules, none, keep-nil, nil_from_length, beginning_count-nil)
 
     -- it ends where the limit is reached and no solution is on the way
     pub walks_full : (limit : ℕ) (board : Position) → IsWalking rule h p mid board → (eqb limit 0 && (is_help_play plan.play || eqb (length mid) 1)) ≡ true
         → Walks rule plan (is_help_play plan.play) h p limit old mid board false
-    walks_full limit board r e = let x = both_true (eqb limit 0) (is_help_play plan.play || eqb (length mid) 1) e in grind
-        (arith, nat_tests, full plan.play refl mid x.1, none)
+    walks_full limit board r e = grind (arith, nat_tests, and_parts, full plan.play refl mid, none)
 
     room : (n : ℕ) (b : Bool) → (eqb n 0 && b) ≡ false → b ≡ true → 0 < n
     room n b e t = search rules

@@ -2,23 +2,20 @@
 use Rattle.pop_solve.proofs.Words.{Bool, Game, List, [], and_from, and_parts, ap, arith, can_move, cases_lt, every_move, fails_before_first, false, get_or, inl, inr, is_lost, is_self_lost, length, list_all, list_any, not, or_cases, or_left, or_right, passes_at_first, position_or_len, prefix_len-le-length, range_with_len, refl, rules, self_wins, some_move, suc, sym, true, wins, zero, ℕ, ◌&&◌, ◌+◌, ◌-◌, ◌<◌, ◌||◌, ◌∙◌, ◌∷◌, ◌≡◌, ◌≤◌}
 use Rattle.std.proofs.lemmas.List.FromFn.{get_or-range_with_len, length-range_with_len}
 
+or_weaker : (a b c d : Bool) → (a ≡ true → c ≡ true) → (b ≡ true → d ≡ true) → (a || b) ≡ true → (c || d) ≡ true
+or_weaker a b c d v w h = search rules
+
+and_weaker : (a b c d : Bool) → (a ≡ true → c ≡ true) → (b ≡ true → d ≡ true) → (a && b) ≡ true → (c && d) ≡ true
+and_weaker a b c d v w h = search rules
+
 module _ {X : Type 0} (f g : X → Bool) (weaker : (x : X) → f x ≡ true → g x ≡ true) where
   any_weaker : (xs : List X) → list_any f xs ≡ true → list_any g xs ≡ true
   any_weaker [] h = h
-  any_weaker (x ∷ xs) h = elim (or_cases (f x) (list_any f xs) h) [
-    | inl a ↦ or_left (g x) (list_any g xs) (weaker x a)
-    | inr b ↦ or_right (g x) (list_any g xs) (any_weaker xs b)
-  ]
+  any_weaker (x ∷ xs) h = or_weaker (f x) (list_any f xs) (g x) (list_any g xs) (weaker x) (any_weaker xs) h
 
   all_weaker : (xs : List X) → list_all f xs ≡ true → list_all g xs ≡ true
   all_weaker [] h = h
-  all_weaker (x ∷ xs) h = let both = and_parts (f x) (list_all f xs) h in and_from (g x) (list_all g xs) (weaker x both.0) (all_weaker xs both.1)
-
-or_weaker : (a b c : Bool) → (b ≡ true → c ≡ true) → (a || b) ≡ true → (a || c) ≡ true
-or_weaker a b c w h = search rules
-
-and_weaker : (a b c : Bool) → (b ≡ true → c ≡ true) → (a && b) ≡ true → (a && c) ≡ true
-and_weaker a b c w h = search rules
+  all_weaker (x ∷ xs) h = and_weaker (f x) (list_all f xs) (g x) (list_all g xs) (weaker x) (all_weaker xs) h
 
 module _ {P M : Type 0} (game : Game P M) where
   some_weaker : (f g : P → Bool) → ((q : P) → f q ≡ true → g q ≡ true) → (p : P) → some_move game f p ≡ true → some_move game g p ≡ true
@@ -32,7 +29,7 @@ module _ {P M : Type 0} (game : Game P M) where
   unfolding is_lost
   is_lost-more zero q h = or_left (game.goal q) _ h
   is_lost-more (suc j) q h =
-      or_weaker (game.goal q) _ _ (and_weaker (can_move game q) _ _ (every_weaker (some_move game (is_lost game j)) (some_move game (is_lost game (suc j)))
+      or_weaker (game.goal q) _ _ _ (λ e. e) (and_weaker (can_move game q) _ _ _ (λ e. e) (every_weaker _ (some_move game (is_lost game (suc j)))
       (some_weaker (is_lost game j) (is_lost game (suc j)) (λ r. is_lost-more j r)) q)) h
 
   -- who wins within some moves wins within more
@@ -63,11 +60,8 @@ module _ {P M : Type 0} (game : Game P M) where
 
 -- what holds a step on holds of each greater number
 pub climbs : (f : ℕ → Bool) → ((k : ℕ) → f k ≡ true → f (suc k) ≡ true) → (k n : ℕ) → k ≤ n → f k ≡ true → f n ≡ true
-climbs f up k n le h = go (n - k) n (omega (arith, le))
-  where
-    go : (d m : ℕ) → m ≡ k + d → f m ≡ true
-    go zero m e = let s : m ≡ k = omega (arith, e) in rw s h
-    go (suc d) m e = let s : m ≡ suc (k + d) = omega (arith, e) in rw s (up (k + d) (go d (k + d) refl))
+climbs f up k zero le h = let s : k ≡ 0 = omega (arith, le) in rw s at h
+climbs f up k (suc n) le h = search (rules, cases_lt k (suc n), up n, climbs f up k n)
 
 -- the first number that passes a test, looked for below n
 module _ (test : ℕ → Bool) (n : ℕ) where

@@ -1,5 +1,6 @@
 -- The paths of trees.
-use Rattle.pop_solve.proofs.Words.{AllPairs, AllPairs-filter, Battle, Bool, Contains, Game, List, [], continuations, ap, arith, best_moves, cond, false, false≢true, filter, first_in, flat_map, from_filter, from_flat_map, from_map, in_cases, in_filter, in_flat_map, in_map, inl, inr, keeps_win, later_in, least_moves, list_any, map, node, nodes_below, none_in_nil, or_cases, or_left, or_right, pairs_flat_map, pairs_map, pairs_nil, pairs_of, refl, rules, is_in_set_play, set_tree, subst, suc, sym, take, take-map, tree, true, zero, ℕ, ◌++◌, ◌-◌, ◌↔◌, ◌∙◌, ◌∷◌, ◌≡◌, ◌≢◌, ◌⊎◌}
+use Rattle.pop_solve.proofs.Words.{AllPairs, AllPairs-filter, Battle, Bool, Contains, Game, List, [], continuations, ap, arith, best_moves, cond, false, false≢true, filter, first_in, flat_map, flat_map_single, from_filter, from_flat_map, from_map, in_cases, in_filter, in_flat_map, in_map, inl, inr, keeps_win, later_in, list_any, map, node, nodes_below, none_in_nil, or_cases, or_left, or_right, pairs_flat_map, pairs_map, pairs_nil, pairs_of, refl, rules, is_in_set_play, set_tree, subst, suc, take, take-map, tree, true, zero, ℕ, ◌++◌, ◌-◌, ◌↔◌, ◌∙◌, ◌∷◌, ◌≡◌, ◌≢◌, ◌⊎◌}
+use Rattle.std.proofs.lemmas.List.Folds.{flat_map-map}
 use Rattle.pop_solve.proofs.theorems.Lists.{HasBeginnings, StandsBefore}
 
 -- some element passes a test
@@ -18,14 +19,9 @@ element_from_any test (y ∷ xs) h = elim (or_cases (test y) (list_any test xs) 
   | inr r ↦ let w = element_from_any test xs r in (w.0, (later_in y xs w.0 w.1.0, w.1.1))
 ]
 
--- joined lists of a map
-pub joined : {X Y : Type 0} (g : X → List Y) (xs : List X) → flat_map (λ s. s) (map g xs) ≡ flat_map g xs
-joined g [] = refl
-joined g (x ∷ xs) = ap (λ ys. g x ++ ys) (joined g xs)
-
--- and the first of them
+-- the first of joined lists of a map
 joined_first : {X Y : Type 0} (g : X → List Y) (k : ℕ) (xs : List X) → flat_map (λ s. s) (take k (map g xs)) ≡ flat_map g (take k xs)
-joined_first g k xs = rw (take-map g k xs) (joined g (take k xs))
+joined_first g k xs = rw (take-map g k xs) (flat_map-map (λ s. s) g (take k xs))
 
 -- no path is empty
 abbrev HasNoEmpty : {M : Type 0} → List (List M) → Type 0
@@ -39,31 +35,16 @@ module _ {M : Type 0} where
     | inr r ↦ let w = from_map (λ path. m ∷ path) below path r in (w.0, w.2)
   ]
 
-  -- and is the node itself or goes on by one of the paths below it
-  continues : (m : M) (below : List (List M)) (path : List M) → Contains (node m below) (m ∷ path) → (path ≡ []) ⊎ Contains below path
-  continues m below path c = elim (in_cases (m ∷ []) (map (λ path. m ∷ path) below) (m ∷ path) c) [
-    | inl same ↦ inl cc
-    | inr r ↦
-        let w = from_map (λ path. m ∷ path) below (m ∷ path) r in
-        grind arith
-  ]
-    where
-      rest : List M → List M
-      rest [] = []
-      rest (y ∷ ys) = ys
-
-      tail_of : (xs ys : List M) → xs ≡ ys → rest xs ≡ rest ys
-      tail_of xs ys e = ap rest e
-
   module _ (f : M → List (List M)) where
     -- a path of nodes: its first move is one of theirs, and the others are none or a path below it
     pub from_nodes : (ms : List M) (m : M) (path : List M) → Contains (flat_map (λ m. node m (f m)) ms) (m ∷ path)
         → Contains ms m × ((path ≡ []) ⊎ Contains (f m) path)
     from_nodes ms m path c =
         let w = from_flat_map (λ m. node m (f m)) ms (m ∷ path) c in
-        let s = starts w.0 (f w.0) (m ∷ path) w.2 in
-        let same : w.0 ≡ m = cc in
-        (subst (Contains ms) same w.1, continues m (f m) path (subst (λ k. Contains (node k (f k)) (m ∷ path)) same w.2))
+        elim (in_cases (w.0 ∷ []) (map (λ path. w.0 ∷ path) (f w.0)) (m ∷ path) w.2) [
+          | inl same ↦ grind arith
+          | inr r ↦ let u = from_map (λ path. w.0 ∷ path) (f w.0) (m ∷ path) r in grind arith
+        ]
 
     root_in_nodes : (ms : List M) (m : M) → Contains ms m → Contains (flat_map (λ m. node m (f m)) ms) (m ∷ [])
     root_in_nodes ms m c = in_flat_map (λ m. node m (f m)) ms m (m ∷ []) c (first_in (m ∷ []) (map (λ path. m ∷ path) (f m)))
@@ -102,49 +83,36 @@ module _ {M : Type 0} where
           across : (m n : M) → before m n → (a b : List M) → ((x : List M) × (m ∷ x ≡ a)) → ((y : List M) × (n ∷ y ≡ b)) → StandsBefore before a b
           across m n less a b x y = rw (← x.1, ← y.1) (inl less)
 
-either_way : {A : Type 0} (Q : A → Type 0) (b : Bool) (x y : A) → Q x → Q y → Q (cond b x y)
-either_way Q b x y here other = search rules
-
 -- a list, unless the goal is reached
 in_unless : {X : Type 0} (g : Bool) (xs : List X) (x : X) → Contains (cond g [] xs) x ↔ ((g ≡ false) × Contains xs x)
 in_unless g xs x = search rules
 
-module _ {M : Type 0} where
-  nil_not_empty : HasNoEmpty {M = M} []
-  nil_not_empty path c e = none_in_nil path c
+-- Q holds of no paths, and of nodes of moves that are Ok, as those of a position are, over lists of which it holds: so it holds of trees
+pub record HoldsOfTrees {P M : Type 0} (game : Game P M) (Ok : List M → Type 0) (Q : List (List M) → Type 0) : Type 0 where
+  pub moves : (p : P) → Ok (game.moves p)
+  pub some : (test : M → Bool) (ms : List M) → Ok ms → Ok (filter test ms)
+  pub none : Q []
+  pub nodes : (f : M → List (List M)) (ms : List M) → Ok ms → ((m : M) → Q (f m)) → Q (flat_map (λ m. node m (f m)) ms)
 
-  -- so has the empty list
-  pub nil_has_beginnings : HasBeginnings {M = M} []
-  nil_has_beginnings x xs ys c = absurd (none_in_nil ((x ∷ xs) ++ ys) c)
+module _ {P M : Type 0} (game : Game P M) where
+  -- paths with their beginnings
+  pub beginnings : HoldsOfTrees game (λ ms. Unit {0}) HasBeginnings
+  beginnings = record {
+    moves = λ p. tt;
+    some = λ test ms ok. tt;
+    none = λ x xs ys c. absurd (none_in_nil ((x ∷ xs) ++ ys) c);
+    nodes = λ f ms ok each. nodes_have_beginnings f each ms;
+  }
 
-  unless_not_empty : (g : Bool) (paths : List (List M)) → HasNoEmpty paths → HasNoEmpty (cond g [] paths)
-  unless_not_empty g paths h = search rules
-
-  unless_has_beginnings : (g : Bool) (paths : List (List M)) → HasBeginnings paths → HasBeginnings (cond g [] paths)
-  unless_has_beginnings true paths h = nil_has_beginnings
-  unless_has_beginnings false paths h = h
-
-  unless_stands : (R : List M → List M → Type 0) (g : Bool) (paths : List (List M)) → AllPairs R paths → AllPairs R (cond g [] paths)
-  unless_stands R g paths h = search rules
-
-  -- single moves
-  singles_not_empty : (ms : List M) → HasNoEmpty (map (λ m. m ∷ []) ms)
-  singles_not_empty ms path c e = let w = from_map (λ m. m ∷ []) ms path c in cc
-
-  singles_have_beginnings : (ms : List M) → HasBeginnings (map (λ m. m ∷ []) ms)
-  singles_have_beginnings ms x xs ys c =
-      let w = from_map (λ m. m ∷ []) ms ((x ∷ xs) ++ ys) c in
-      let none : xs ++ ys ≡ [] = cc in
-      let short : xs ≡ [] = front_nil xs ys none in
-      let back : ys ≡ [] = rw short at none in
-      subst (λ l. Contains (map (λ m. m ∷ []) ms) (x ∷ l)) (none ∙ sym short) c
-    where
-      front_nil : (xs ys : List M) → xs ++ ys ≡ [] → xs ≡ []
-      front_nil [] ys e = refl
-      front_nil (x ∷ xs) ys e = absurd cc
-
-  singles_stand : (before : M → M → Type 0) (ms : List M) → AllPairs before ms → AllPairs (StandsBefore before) (map (λ m. m ∷ []) ms)
-  singles_stand before ms order = pairs_map before (StandsBefore before) (λ m. m ∷ []) ms (λ x y less. inl less) order
+  -- paths in order, none of them empty, where the moves are in order
+  pub in_order : (before : M → M → Type 0) → ((p : P) → AllPairs before (game.moves p))
+      → HoldsOfTrees game (AllPairs before) (λ paths. HasNoEmpty paths × AllPairs (StandsBefore before) paths)
+  in_order before order = record {
+    moves = order;
+    some = AllPairs-filter before;
+    none = (λ path c e. none_in_nil path c, pairs_nil (StandsBefore before));
+    nodes = λ f ms ok each. (nodes_not_empty f ms, nodes_stand f before ms ok (λ m. (each m).1) (λ m. (each m).0));
+  }
 
 module _ {P M : Type 0} (battle : Battle) (game : Game P M) (n : ℕ) where
   -- no half-move left: nothing stands below Black's position
@@ -170,42 +138,6 @@ module _ {P M : Type 0} (battle : Battle) (game : Game P M) (n : ℕ) where
   unfolding nodes_below continuations
   answers_more h r = refl
 
-  trees_not_empty : (h : ℕ) → ((q : P) → HasNoEmpty (nodes_below battle game n h q)) × ((r : P) → HasNoEmpty (continuations battle game n h r))
-  trees_not_empty zero = (λ q. rw (below_zero q) nil_not_empty, λ r. rw (answers_zero r) nil_not_empty)
-  trees_not_empty (suc h) = (
-    λ q. rw (below_more h q) (unless_not_empty (game.goal q) _ (nodes_not_empty (λ d. continuations battle game n h (game.after q d)) (game.moves q))),
-    λ r. rw (answers_more h r) (unless_not_empty (game.goal r) _ (nodes_not_empty (λ m. nodes_below battle game n h (game.after r m))
-        (best_moves battle game n r))),
-  )
-
-  trees_have_beginnings : (h : ℕ) → ((q : P) → HasBeginnings (nodes_below battle game n h q)) × ((r : P) → HasBeginnings (continuations battle game n h r))
-  trees_have_beginnings zero = (λ q. rw (below_zero q) nil_has_beginnings, λ r. rw (answers_zero r) nil_has_beginnings)
-  trees_have_beginnings (suc h) =
-      let both = trees_have_beginnings h in (
-        λ q. rw (below_more h q) (unless_has_beginnings (game.goal q) _
-            (nodes_have_beginnings (λ d. continuations battle game n h (game.after q d)) (λ d. both.1 (game.after q d)) (game.moves q))),
-        λ r. rw (answers_more h r) (unless_has_beginnings (game.goal r) _
-            (nodes_have_beginnings (λ m. nodes_below battle game n h (game.after r m)) (λ m. both.0 (game.after r m)) (best_moves battle game n r))),
-      )
-
-  module _ (before : M → M → Type 0) (order : (p : P) → AllPairs before (game.moves p)) where
-    best_stand : (r : P) → AllPairs before (best_moves battle game n r)
-    best_stand r = AllPairs-filter before (λ m. keeps_win battle game (least_moves battle game n r) (game.after r m)) (game.moves r) (order r)
-
-    trees_stand : (h : ℕ) → ((q : P) → AllPairs (StandsBefore before) (nodes_below battle game n h q))
-        × ((r : P) → AllPairs (StandsBefore before) (continuations battle game n h r))
-    trees_stand zero = (λ q. rw (below_zero q) (pairs_nil (StandsBefore before)), λ r. rw (answers_zero r) (pairs_nil (StandsBefore before)))
-    trees_stand (suc h) =
-        let both = trees_stand h in
-        let full = trees_not_empty h in (
-          λ q. rw (below_more h q) (unless_stands (StandsBefore before) (game.goal q) _
-              (nodes_stand (λ d. continuations battle game n h (game.after q d)) before (game.moves q) (order q)
-              (λ d. both.1 (game.after q d)) (λ d. full.1 (game.after q d)))),
-          λ r. rw (answers_more h r) (unless_stands (StandsBefore before) (game.goal r) _
-              (nodes_stand (λ m. nodes_below battle game n h (game.after r m)) before (best_moves battle game n r) (best_stand r)
-              (λ m. both.0 (game.after r m)) (λ m. full.0 (game.after r m)))),
-        )
-
   -- the keys, and the moves that set play shows
   abbrev pub kept : P → List M
   kept p = filter (λ m. keeps_win battle game n (game.after p m)) (game.moves p)
@@ -228,56 +160,10 @@ module _ {P M : Type 0} (battle : Battle) (game : Game P M) (n : ℕ) where
     unfoldable pub below_set : ℕ → P → M → List (List M)
     below_set h p d = cond variation (continuations battle game n h (game.after p d)) (single_answers (game.after p d))
 
-    -- no path below a key is empty
-    pub below_key_not_empty : (h : ℕ) (p : P) (m : M) → HasNoEmpty (below_key h p m)
-    unfolding below_key
-    below_key_not_empty h p m =
-        either_way (HasNoEmpty {M = M}) variation (nodes_below battle game n (h - 1) (game.after p m)) [] ((trees_not_empty (h - 1)).0 (game.after p m))
-        nil_not_empty
-
-    -- nor one below a first move of set play
-    pub below_set_not_empty : (h : ℕ) (p : P) (d : M) → HasNoEmpty (below_set h p d)
-    unfolding below_set
-    below_set_not_empty h p d =
-        let r = game.after p d in
-        either_way (HasNoEmpty {M = M}) variation (continuations battle game n h r) (single_answers r) ((trees_not_empty h).1 r)
-        (unless_not_empty (game.goal r) (map (λ m. m ∷ []) (best_moves battle game n r)) (singles_not_empty (best_moves battle game n r)))
-
-    -- the paths below a key have their beginnings
-    pub below_key_has_beginnings : (h : ℕ) (p : P) (m : M) → HasBeginnings (below_key h p m)
-    unfolding below_key
-    below_key_has_beginnings h p m =
-        either_way (HasBeginnings {M = M}) variation (nodes_below battle game n (h - 1) (game.after p m)) []
-        ((trees_have_beginnings (h - 1)).0 (game.after p m))
-        nil_has_beginnings
-
-    -- so have those below a first move of set play
-    pub below_set_has_beginnings : (h : ℕ) (p : P) (d : M) → HasBeginnings (below_set h p d)
-    unfolding below_set
-    below_set_has_beginnings h p d =
-        let r = game.after p d in
-        either_way (HasBeginnings {M = M}) variation (continuations battle game n h r) (single_answers r) ((trees_have_beginnings h).1 r)
-        (unless_has_beginnings (game.goal r) (map (λ m. m ∷ []) (best_moves battle game n r)) (singles_have_beginnings (best_moves battle game n r)))
-
-    module _ (before : M → M → Type 0) (order : (p : P) → AllPairs before (game.moves p)) where
-      -- the paths below a key stand in order
-      pub below_key_stands : (h : ℕ) (p : P) (m : M) → AllPairs (StandsBefore before) (below_key h p m)
-      unfolding below_key
-      below_key_stands h p m = either_way (AllPairs (StandsBefore before)) variation (nodes_below battle game n (h - 1) (game.after p m)) []
-          ((trees_stand before order (h - 1)).0 (game.after p m)) (pairs_nil (StandsBefore before))
-
-      -- so do those below a first move of set play
-      pub below_set_stands : (h : ℕ) (p : P) (d : M) → AllPairs (StandsBefore before) (below_set h p d)
-      unfolding below_set
-      below_set_stands h p d =
-          let r = game.after p d in
-          either_way (AllPairs (StandsBefore before)) variation (continuations battle game n h r) (single_answers r) ((trees_stand before order h).1 r)
-          (search (rules, unless_stands, singles_stand, best_stand))
-
     -- all paths of a play and of set play
     pub tree_paths : (h : ℕ) (p : P) → flat_map (λ s. s) (tree battle game variation n h p) ≡ flat_map (λ m. node m (below_key h p m)) (kept p)
     unfolding below_key
-    tree_paths h p = joined (λ m. node m (cond variation (nodes_below battle game n (h - 1) (game.after p m)) [])) (kept p)
+    tree_paths h p = flat_map-map (λ s. s) (λ m. node m (cond variation (nodes_below battle game n (h - 1) (game.after p m)) [])) (kept p)
 
     -- set play without half-moves has no paths
     pub set_tree_none : (p : P) → flat_map (λ s. s) (set_tree battle game variation n zero p) ≡ []
@@ -288,7 +174,7 @@ module _ {P M : Type 0} (battle : Battle) (game : Game P M) (n : ℕ) where
     pub set_tree_paths : (h : ℕ) (p : P)
         → flat_map (λ s. s) (set_tree battle game variation n (suc h) p) ≡ flat_map (λ d. node d (below_set h p d)) (set_moves p)
     unfolding set_tree below_set
-    set_tree_paths h p = joined (λ d. node d (below_set h p d)) (set_moves p)
+    set_tree_paths h p = flat_map-map (λ s. s) (λ d. node d (below_set h p d)) (set_moves p)
 
     -- and those of their first k solutions
     pub first_tree_paths : (k h : ℕ) (p : P)
@@ -306,6 +192,55 @@ module _ {P M : Type 0} (battle : Battle) (game : Game P M) (n : ℕ) where
         → flat_map (λ s. s) (take k (set_tree battle game variation n (suc h) p)) ≡ flat_map (λ d. node d (below_set h p d)) (take k (set_moves p))
     unfolding set_tree below_set
     first_set_tree_paths k h p = joined_first (λ d. node d (below_set h p d)) k (set_moves p)
+
+  -- so what holds of trees holds of all of them
+  module _ {Ok : List M → Type 0} {Q : List (List M) → Type 0} (holds : HoldsOfTrees game Ok Q) where
+    unless : (g : Bool) (paths : List (List M)) → Q paths → Q (cond g [] paths)
+    unless g paths h = search (rules, holds.none)
+
+    trees_hold : (h : ℕ) → ((q : P) → Q (nodes_below battle game n h q)) × ((r : P) → Q (continuations battle game n h r))
+    unfolding nodes_below continuations
+    trees_hold zero = (λ q. holds.none, λ r. holds.none)
+    trees_hold (suc h) = (
+      λ q. unless (game.goal q) _ (holds.nodes _ (game.moves q) (holds.moves q) (λ d. (trees_hold h).1 (game.after q d))),
+      λ r. unless (game.goal r) _ (holds.nodes _ (best_moves battle game n r) (holds.some _ _ (holds.moves r)) (λ m. (trees_hold h).0 (game.after r m))),
+    )
+
+    singles_hold : (ms : List M) → Ok ms → Q (map (λ m. m ∷ []) ms)
+    singles_hold ms ok = subst Q (flat_map_single (λ m. m ∷ []) ms) (holds.nodes (λ m. []) ms ok (λ m. holds.none))
+
+    below_key_holds : (variation : Bool) (h : ℕ) (p : P) (m : M) → Q (below_key variation h p m)
+    unfolding below_key
+    below_key_holds true h p m = (trees_hold (h - 1)).0 (game.after p m)
+    below_key_holds false h p m = holds.none
+
+    below_set_holds : (variation : Bool) (h : ℕ) (p : P) (d : M) → Q (below_set variation h p d)
+    unfolding below_set
+    below_set_holds true h p d = (trees_hold h).1 (game.after p d)
+    below_set_holds false h p d = unless (game.goal (game.after p d)) _ (singles_hold _ (holds.some _ _ (holds.moves (game.after p d))))
+
+    -- of a play
+    pub play_holds : (variation : Bool) (h : ℕ) (p : P) → Q (flat_map (λ s. s) (tree battle game variation n h p))
+    play_holds variation h p =
+        rw (tree_paths variation h p) (holds.nodes _ (kept p) (holds.some _ _ (holds.moves p)) (below_key_holds variation h p))
+
+    -- of set play
+    pub set_play_holds : (variation : Bool) (h : ℕ) (p : P) → Q (flat_map (λ s. s) (set_tree battle game variation n h p))
+    set_play_holds variation zero p = rw (set_tree_none variation p) holds.none
+    set_play_holds variation (suc h) p =
+        rw (set_tree_paths variation h p) (holds.nodes _ (set_moves p) (holds.some _ _ (holds.moves p)) (below_set_holds variation h p))
+
+    -- of their first solutions, where all moves are Ok
+    module _ (ok : (ms : List M) → Ok ms) (k : ℕ) (variation : Bool) where
+      -- of a play
+      pub first_play_holds : (h : ℕ) (p : P) → Q (flat_map (λ s. s) (take k (tree battle game variation n h p)))
+      first_play_holds h p = rw (first_tree_paths variation k h p) (holds.nodes _ (take k (kept p)) (ok _) (below_key_holds variation h p))
+
+      -- of set play
+      pub first_set_play_holds : (h : ℕ) (p : P) → Q (flat_map (λ s. s) (take k (set_tree battle game variation n h p)))
+      first_set_play_holds zero p = rw (first_set_tree_none variation k p) holds.none
+      first_set_play_holds (suc h) p =
+          rw (first_set_tree_paths variation k h p) (holds.nodes _ (take k (set_moves p)) (ok _) (below_set_holds variation h p))
 
 -- the paths of nodes, unless the goal is reached
 module _ {M : Type 0} (f : M → List (List M)) (g : Bool) (ms : List M) (m : M) where

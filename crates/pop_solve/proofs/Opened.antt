@@ -1,6 +1,6 @@
 -- How many frames a search opens.
-use Rattle.pop_solve.proofs.Words.{BareEvent, Barred, Battle, BattlePlay, Before, Behind, Bool, Form, Frame, IsCounted, IsGiven, IsKeys, IsNarrow, IsOpened, IsSound, are_whites, List, Opens, OpensOn, Phase, Plan, Play, Posed, Position, RuleSet, Set, Stage, Tries, Within, [], ap, arith, cond, drop, eqb, false, fewest_from, fewest_left, first_phase, half_moves_of, inl, inr, HelpPlay, Walk, walk_of}
-use Rattle.pop_solve.proofs.Words.{is_barred, is_set, is_stop, is_unstopped, left_of, min, not, phase_events, phase_fewest, phase_half_moves, phase_start, phase_walk, plan_of, play_of, position, refl, rest_fewest, rest_open, rules, seeks, has_variations, suc, to_open, total, tree_with, true, walk_from, zero, ℕ, ◌&&◌, ◌++◌, ◌+◌, ◌-◌, ◌<◌, ◌^◌, ◌∷◌, ◌≡◌, ◌≤◌, ◌⊎◌}
+use Rattle.pop_solve.proofs.Words.{BareEvent, Barred, Battle, BattlePlay, Before, Behind, Form, Frame, IsCounted, IsGiven, IsKeys, IsNarrow, IsOpened, IsSound, are_whites, List, Opens, OpensOn, Phase, Plan, Play, Posed, Position, RuleSet, Set, Stage, Tries, Within, [], ap, arith, cond, drop, eqb, false, fewest_from, fewest_left, first_phase, half_moves_of, inl, inr, HelpPlay, Walk, walk_of, and_parts}
+use Rattle.pop_solve.proofs.Words.{is_barred, is_set, is_stop, is_unstopped, left_of, min, not, phase_events, phase_fewest, phase_half_moves, phase_start, phase_walk, plan_of, play_of, position, refl, rest_fewest, rest_open, rules, seeks, has_variations, suc, to_open, total, tree_with, true, walk_from, zero, ℕ, ◌++◌, ◌+◌, ◌-◌, ◌<◌, ◌^◌, ◌∷◌, ◌≡◌, ◌≤◌, ◌⊎◌}
 use Rattle.pop_solve.proofs.Boards.{behind_start}
 use Rattle.pop_solve.proofs.Sound.{battle-play, help-play, some_way}
 use Rattle.pop_solve.proofs.ToCome.{one, walk_count-start}
@@ -25,10 +25,6 @@ module _ (rule : RuleSet) (plan : Plan) (p : Position) where
       → Tries rule plan h p old new a c
   tries-then h old mid new a b c x y = search rules
 
--- what is opened in a later phase, counted apart
-counted-apart : (walk later opened rest : ℕ) → IsCounted walk opened (rest + later) → IsCounted (walk - later) opened rest
-counted-apart walk later opened rest c = search rules
-
 counted-along : (walk later opened rest : ℕ) → later ≤ walk → IsCounted (walk - later) opened rest → IsCounted walk opened (rest + later)
 counted-along walk later opened rest l c = search rules
 
@@ -49,12 +45,6 @@ module _ (rule : RuleSet) (problem : Posed) where
   abbrev later_fewest : Phase → ℕ
   later_fewest phase = cond (is_set phase) (phase_fewest rule problem Play) 0
 
-  -- a phase that isn't possible
-  pub opens-barred : (phase : Phase) (old new : List Frame) (count : ℕ) (left : List BareEvent) → is_barred rule problem phase ≡ true
-      → OpensOn rule problem (Before phase) Barred old new count count left
-  unfolding rest_open rest_fewest IsNarrow
-  opens-barred phase old new count left e = search rules
-
   -- a phase begins: its root is opened
   module _ (sound : IsSound problem) (phase : Phase) (f : Frame) (left_is : f.left ≡ phase_half_moves problem phase) (place_is : f.place ≡ 0)
       (possible : is_barred rule problem phase ≡ false) where
@@ -65,18 +55,6 @@ module _ (rule : RuleSet) (problem : Posed) where
     unfolding to_open position
     root-open = rw (possible, place_is, ← left_is) (omega (arith, walk_count-start rule plan f.left (phase_start problem phase)))
 
-    from-open : walk_from rule problem phase ≡ one rule plan f.left + (to_open rule (phase_start problem phase) (f ∷ []) + later phase)
-    from-open = search (rules, root-open, one)
-
-    root-fewest : phase_fewest rule problem phase ≡ cond (eqb f.left 0) 0 1 + fewest_left rule plan (phase_half_moves problem phase)
-        (phase_start problem phase) (f ∷ [])
-    unfolding fewest_left position
-    root-fewest = grind (arith, behind_start)
-
-    from-fewest : fewest_from rule problem phase ≡ cond
-        (eqb f.left 0) 0 1 + (fewest_left rule plan (phase_half_moves problem phase) (phase_start problem phase) (f ∷ []) + later_fewest phase)
-    from-fewest = search (rules, root-fewest)
-
     narrow-begun : (play_of problem.stipulation.form ≡ HelpPlay) ⊎ IsKeys problem phase
         → (play_of problem.stipulation.form ≡ HelpPlay) ⊎ ((keys : IsKeys problem phase) × (are_whites keys.battle (f ∷ []) ≡ true))
     narrow-begun (inl help) = inl help
@@ -85,8 +63,8 @@ module _ (rule : RuleSet) (problem : Posed) where
     -- the root of a phase is counted
     pub opens-begun : (old : List Frame) (count count2 : ℕ) (left : List BareEvent) → (0 < f.left → count2 ≡ min (count + 1) (2 ^ 64 - 1))
         → (f.left ≡ 0 → count2 ≡ count) → OpensOn rule problem (Before phase) (Within (walk_of problem phase) 0) old (f ∷ []) count count2 left
-    unfolding rest_open rest_fewest IsNarrow
-    opens-begun old count count2 left more same = search (rules, from-open, opened-most, counted_by, from-fewest, narrow-begun)
+    unfolding rest_open rest_fewest IsNarrow fewest_left position
+    opens-begun old count count2 left more same = search (rules, opened-most, counted_by, narrow-begun, behind_start, root-open)
 
   -- within a phase
   module _ (walk : Walk) (count : ℕ) (old new : List Frame) (before after : ℕ)
@@ -95,7 +73,7 @@ module _ (rule : RuleSet) (problem : Posed) where
     walked-counted : play_of problem.stipulation.form ≡ HelpPlay → (whole : ℕ) → IsCounted whole before (to_open rule
         (phase_start problem walk.phase) old + later walk.phase)
         → IsCounted whole after (to_open rule (phase_start problem walk.phase) new + later walk.phase)
-    walked-counted h whole c = search (rules, counted-along, counted-apart)
+    walked-counted h whole c = search (rules, counted-along)
 
     abbrev Narrow : List Frame → Type 0
     Narrow frames = (play_of problem.stipulation.form ≡ HelpPlay) ⊎ ((keys : IsKeys problem walk.phase) × (are_whites keys.battle frames ≡ true))
@@ -108,8 +86,7 @@ module _ (rule : RuleSet) (problem : Posed) where
     narrowed (inr w) = inr (w.0, x.whites w.0.battle w.0.fought (keys_alone w.0) w.1)
 
     opened : Narrow old → after + to_open rule (phase_start problem walk.phase) new ≤ before + to_open rule (phase_start problem walk.phase) old
-    opened (inl help) = x.helped help
-    opened (inr w) = x.most w.0.battle w.0.fought (keys_alone w.0) w.1
+    opened n = search (rules, keys_alone)
 
     -- what a call opens that gives a path
     pub opens-given : (next : ℕ) (left : List BareEvent) (last : List Frame) → last ≡ new
@@ -141,26 +118,12 @@ module _ (rule : RuleSet) (problem : Posed) where
         → OpensOn rule problem (Within walk count) stage old last before after (total count (eqb count problem.max_solutions) ∷ left)
     unfolding rest_open rest_fewest IsNarrow
     opens-ended stage last left at most over = record {
-      narrow = λ n. rw at (behind walk.phase n);
-      most = λ n. rw (at, rest-is walk.phase) (grind arith);
+      narrow = λ n. rw at (grind arith);
+      most = λ n. rw at (grind arith);
       counted = λ h u whole c. grind (arith, walked-counted h whole c, nothing_open);
       grows = y.grows;
-      fewest = λ battle h u. rw (at, fewest-is walk.phase) (omega (arith, y.fewest battle h, nothing_fewest left u most over));
+      fewest = λ battle h u. rw at (grind (arith, y.fewest battle h, nothing_fewest left u most over));
     }
-      where
-        rest-is : (b : Phase) → rest_open rule problem (cond (is_set b) (Before Play) Behind) last ≡ later b
-        rest-is Set = refl
-        rest-is Play = refl
-
-        fewest-is : (b : Phase) → rest_fewest rule problem (cond (is_set b) (Before Play) Behind) last ≡ later_fewest b
-        fewest-is Set = refl
-        fewest-is Play = refl
-
-        behind : (b : Phase) → (play_of problem.stipulation.form ≡ HelpPlay) ⊎ ((keys : IsKeys problem b) × (are_whites keys.battle old ≡ true))
-            → IsNarrow problem (cond (is_set b) (Before Play) Behind) last
-        behind Set (inl h) = inl h
-        behind Set (inr k) = let f : true ≡ false = k.0.play in absurd cc
-        behind Play n = tt
 
   -- a call that walked again from the phase's first position would count what had been opened before twice
   pub no_second_walk : (old new : Stage) (frames last : List Frame) (before after again walk : ℕ) (left : List BareEvent)
@@ -182,41 +145,25 @@ module _ (rule : RuleSet) (problem : Posed) where
   all-drop : (k : ℕ) (xs : List BareEvent) → is_unstopped xs ≡ true → is_unstopped (drop k xs) ≡ true
   all-drop zero xs e = e
   all-drop (suc k) [] e = e
-  all-drop (suc k) (x ∷ xs) e = all-drop k xs (second (not (is_stop x)) (is_unstopped xs) e)
-    where
-      second : (a b : Bool) → (a && b) ≡ true → b ≡ true
-      second true b e = e
-      second false b e = absurd cc
+  all-drop (suc k) (x ∷ xs) e = all-drop k xs (and_parts (not (is_stop x)) (is_unstopped xs) e).1
 
   -- the counts hold on after a call
   pub opened-on : (old new : Stage) (frames last : List Frame) (before after given : ℕ) (left : List BareEvent) → IsGiven rule problem left given
       → OpensOn rule problem old new frames last before after left → IsOpened rule problem old frames before → IsOpened rule problem new last after
   opened-on old new frames last before after given left g x o = search (rules, all-drop)
 
+  some : (xs : List BareEvent) (y : BareEvent) (ys : List BareEvent) → (xs ++ y ∷ ys) ≡ [] → ⊥
+  some [] y ys e = cc
+  some (x ∷ xs) y ys e = cc
+
   -- at the end nothing is to be opened
   pub rest-none : (stage : Stage) (frames : List Frame) → left_of rule problem stage frames ≡ [] → rest_open rule problem stage frames ≡ 0
   unfolding left_of rest_open phase_events
-  rest-none (Before Set) frames e = absurd cc
-  rest-none (Before Play) frames e = absurd cc
-  rest-none Barred frames e = absurd cc
-  rest-none (Within walk count) frames e = absurd (some _ _ _ e)
-    where
-      some : (xs : List BareEvent) (y : BareEvent) (ys : List BareEvent) → (xs ++ y ∷ ys) ≡ [] → ⊥
-      some [] y ys e = cc
-      some (x ∷ xs) y ys e = cc
-  rest-none Behind frames e = refl
+  rest-none stage frames e = search (rules, some)
 
   -- nor is anything to be tried
   pub fewest-none : (stage : Stage) (frames : List Frame) → left_of rule problem stage frames ≡ [] → rest_fewest rule problem stage frames ≡ 0
   unfolding left_of rest_fewest phase_events
-  fewest-none (Before Set) frames e = absurd cc
-  fewest-none (Before Play) frames e = absurd cc
-  fewest-none Barred frames e = absurd cc
-  fewest-none (Within walk count) frames e = absurd (some _ _ _ e)
-    where
-      some : (xs : List BareEvent) (y : BareEvent) (ys : List BareEvent) → (xs ++ y ∷ ys) ≡ [] → ⊥
-      some [] y ys e = cc
-      some (x ∷ xs) y ys e = cc
-  fewest-none Behind frames e = refl
+  fewest-none stage frames e = search (rules, some)
 
 pub ruleset all_opened = (rest-none, fewest-none)

@@ -1,5 +1,5 @@
 -- The moves of a position, stretch by stretch, are all its moves in another order.
-use Rattle.pop_solve.proofs.Words.{Bool, Earlier, Killer, List, Move, Order, Others, Position, RuleSet, [], all_moves_of, ap, append-nil, arith, belongs, between-here, between-none, between-past, between-skip, cases_Bool, cases_lt, comes_early, cond, eqb, false, filter, filter_agree, inl, inr, is_at, moves_ahead, moves_behind, moves_behind-end, moves_behind-here, moves_behind-skip, moves_between, moves_here, moves_later, nat_tests, not, place_of_triple, refl, rules, suc, sym, true, zero, ℕ, ◌&&◌, ◌++◌, ◌+◌, ◌-◌, ◌<◌, ◌∙◌, ◌∷◌, ◌≡◌, ◌≤◌}
+use Rattle.pop_solve.proofs.Words.{Bool, Earlier, Killer, List, Move, Order, Others, Position, RuleSet, [], all_moves_of, ap, append-nil, arith, belongs, between-here, between-none, between-past, between-skip, cases_Bool, cases_lt, comes_early, cond, eqb, false, filter, filter_agree, inl, inr, is_at, moves_ahead, moves_behind, moves_behind-end, moves_behind-here, moves_behind-skip, moves_between, moves_here, moves_later, nat_tests, not, place_of_triple, refl, rules, suc, sym, true, zero, ℕ, ◌&&◌, ◌++◌, ◌+◌, ◌-◌, ◌<◌, ◌∙◌, ◌∷◌, ◌≡◌, ◌≤◌, append_assoc}
 use Rattle.chess_rules.specs.ties.Places.{all_triples}
 use Rattle.chess_rules.specs.Legal.{moves as legal_moves}
 use Rattle.pop_solve.specs.declared.frame.Early.TheVariants.{NoMoves}
@@ -19,16 +19,11 @@ module _ {M C : Type 0} (step : M → C → C) (g : List M → C) (cons : (x : M
   to_front x [] ys = search rules
   to_front x (y ∷ xs) ys = search (rules, to_front x xs ys)
 
-  same_behind : (xs ys zs : List M) → g ys ≡ g zs → g (xs ++ ys) ≡ g (xs ++ zs)
-  same_behind [] ys zs e = e
-  same_behind (x ∷ xs) ys zs e = cons x (xs ++ ys) ∙ ap (step x) (same_behind xs ys zs e) ∙ sym (cons x (xs ++ zs))
-
   past_two : (x : M) (xs ys zs : List M) → g (xs ++ (ys ++ x ∷ zs)) ≡ step x (g (xs ++ (ys ++ zs)))
-  past_two x xs ys zs = same_behind xs (ys ++ x ∷ zs) (x ∷ (ys ++ zs)) (to_front x ys zs ∙ sym (cons x (ys ++ zs))) ∙ to_front x xs (ys ++ zs)
+  past_two x xs ys zs = rw (← append_assoc xs ys (x ∷ zs), ← append_assoc xs ys zs) (to_front x (xs ++ ys) zs)
 
   past_three : (x : M) (ws xs ys zs : List M) → g (ws ++ (xs ++ (ys ++ x ∷ zs))) ≡ step x (g (ws ++ (xs ++ (ys ++ zs))))
-  past_three x ws xs ys zs = same_behind ws (xs ++ (ys ++ x ∷ zs)) (x ∷ (xs ++ (ys ++ zs))) (past_two x xs ys zs ∙ sym (cons x (xs ++ (ys ++ zs))))
-      ∙ to_front x ws (xs ++ (ys ++ zs))
+  past_three x ws xs ys zs = rw (← append_assoc ws xs (ys ++ x ∷ zs), ← append_assoc ws xs (ys ++ zs)) (past_two x (ws ++ xs) ys zs)
 
   same_parted : (a b c : M → Bool) (ms : List M) → g (parted a b c ms) ≡ g ms
   same_parted a b c [] = search rules

@@ -1,46 +1,26 @@
 -- The outcomes of a step, for frames listed from the top down.
 use Rattle.pop_solve.proofs.Words.{AreKnown, Battle, Bool, CameFrom, CameFromAt, Counts, Frame, GoesTo, HelpPlay, IfSome, IsCounted, IsLinked, IsPlaceIn, IsRoomy, IsWalking, are_whites, LegalPlace, List, Move, Option, Plan, Position, RuleSet, Steps, Undo, [], after_well_formed, ap, arith, chess, eqb, false, fewest_left, is_followed, is_given, walk_length, inl, inr, is_legal, is_pseudo_legal-from_legal, length, min, moves_behind, opened_frame, path, position, refl, rules, seeks, suc, to_come, to_open, true, walk_work, undo_of, has_variations, walk_behind, ℕ, ◌+◌, ◌-◌, ◌<◌, ◌^◌, ◌∷◌, ◌≡◌, ◌≤◌, ◌⊎◌}
 use Rattle.chess_rules.specs.Play.{position_after}
-use Rattle.pop_solve.proofs.Tests.{learned, moved}
+use Rattle.pop_solve.proofs.Tests.{learned, moved, came_from}
 use Rattle.pop_solve.proofs.GoingOn.{no_zero, walk_length-help, follows-help, walk_length-keys, walk_length-most, ended-reached}
 use Rattle.pop_solve.proofs.ToCome.{one, walk_count-start, walk_behind-none, come-pass, come-enter, tries-pass, tries-enter, turns-pass, turns-enter, open-next, open-enter, come-close, tries-close, turns-close, open-close, steps-skip}
 
-module _ (rule : RuleSet) (plan : Plan) where
-  -- what the place of the top frame leaves as it is
-  IsLinked-moved : (p : Position) (f : Frame) (place : ℕ) (below : List Frame) → IsLinked rule p (f ∷ below) → IsLinked rule p (moved f place ∷ below)
-  unfolding IsLinked
-  IsLinked-moved p f place below l = search rules
-
-  position-moved : (p : Position) (f : Frame) (place : ℕ) (below : List Frame) → position rule p (moved f place ∷ below) ≡ position rule p (f ∷ below)
-  unfolding position
-  position-moved p f place below = search rules
-
 -- what undoes the top frame
 module _ (rule : RuleSet) (h : ℕ) (p : Position) where
-  CameFrom-top : (f g : Frame) (below : List Frame) (board : Position) → IsWalking rule h p (f ∷ (g ∷ below)) board
-      → CameFromAt rule f board (position rule p (g ∷ below))
-  unfolding IsLinked position
-  CameFrom-top f g below board r = search rules
-
   -- a frame above the lowest came from a position
   pub CameFrom-deep : (f : Frame) (below : List Frame) (board : Position) → IsWalking rule h p (f ∷ below) board → 0 < length below → CameFrom rule f board
-  CameFrom-deep f [] board r deep = absurd (omega (arith, deep))
-  CameFrom-deep f (g ∷ below) board r deep = (position rule p (g ∷ below), CameFrom-top f g below board r)
+  CameFrom-deep f below board r deep = (position rule p below, came_from rule p f below board r.linked r.board_at deep)
 
   -- the walk goes on once the top frame is closed
   pub walking-close : (f : Frame) (below : List Frame) (board after : Position) → IsWalking rule h p (f ∷ below) board → (length below ≡ 0 → after ≡ board)
       → ((q : Position) → 0 < length below → CameFromAt rule f board q → after ≡ q) → IsWalking rule h p below after
   unfolding IsLinked IsRoomy AreKnown position
-  walking-close f below board after r lowest before = search (rules, CameFrom-top)
+  walking-close f below board after r lowest before = search (rules, came_from)
 
   -- the top frame has room for its half-moves
   pub top_room : (f : Frame) (below : List Frame) (board : Position) → IsWalking rule h p (f ∷ below) board → f.left + length below ≤ h
   unfolding IsRoomy
   top_room f below board r = r.roomy.0
-
-  known-moved : (f : Frame) (place : ℕ) (below : List Frame) → AreKnown rule p (f ∷ below) → AreKnown rule p (moved f place ∷ below)
-  unfolding AreKnown position
-  known-moved f place below k = search rules
 
   -- the top frame learns something of its position
   pub walking-learned : (f : Frame) (known : Option LegalPlace) (below : List Frame) (board : Position) → IsWalking rule h p (f ∷ below) board
@@ -51,8 +31,8 @@ module _ (rule : RuleSet) (h : ℕ) (p : Position) where
   -- or once its place has moved on
   pub walking-moved : (f : Frame) (next : ℕ) (below : List Frame) (board after : Position) → IsWalking rule h p (f ∷ below) board → after ≡ board
       → IsWalking rule h p (moved f next ∷ below) after
-  unfolding IsRoomy
-  walking-moved f next below board after r e = search (rules, IsLinked-moved, known-moved, position-moved)
+  unfolding IsRoomy IsLinked AreKnown position
+  walking-moved f next below board after r e = search rules
 
   walking-enter : (plan : Plan) (f : Frame) (next : ℕ) (m : Move) (tried : ℕ) (below : List Frame) (board after : Position)
       → IsWalking rule h p (f ∷ below) board → tried < f.left → is_legal rule board m ≡ true → after ≡ position_after rule board m
@@ -96,17 +76,7 @@ module _ (rule : RuleSet) (plan : Plan) (h : ℕ) (p : Position) (f : Frame) (be
   steps-close : (after : Position) (count : ℕ) → (f.left ≡ 0) ⊎ (moves_behind rule board f.place ≡ []) → (length below ≡ 0 → after ≡ board)
       → ((q : Position) → 0 < length below → CameFromAt rule f board q → after ≡ q) → Steps rule plan h p (f ∷ below) below after count count false
   steps-close after count e lowest before =
-      let walking = walking-close rule h p f below board after r lowest before in
-      let here : (f.left ≡ 0) ⊎ (moves_behind rule (position rule p (f ∷ below)) f.place ≡ []) = rw (← r.board_at) e in
-      let o = open-close rule plan p f below here in
-      grind (
-        arith,
-        walking,
-        come-close,
-        turns-close rule plan h p f below,
-        whites-cut,
-        tries-close rule plan h p f below here,
-      )
+      search (rules, walking-close rule h p f below board after r lowest before, come-close, turns-close, whites-cut, open-close, tries-close)
 
   module _ (next : ℕ) (m : Move) (t : ℕ) (left : f.left ≡ suc t) (e : moves_behind rule board f.place ≡ m ∷ moves_behind rule board next) where
     here : moves_behind rule (position rule p (f ∷ below)) f.place ≡ m ∷ moves_behind rule (position rule p (f ∷ below)) next
@@ -120,9 +90,8 @@ module _ (rule : RuleSet) (plan : Plan) (h : ℕ) (p : Position) (f : Frame) (be
 
     -- its next move is passed over
     pub steps-pass : (after : Position) (opened opened2 : ℕ)
-        → is_followed plan.play (chess plan.goal rule) (eqb (length below) 0) t (position_after rule board m)
-        ≡ false
-        → after ≡ board → Counts rule plan (eqb (length below) 0) t (position_after rule board m) opened opened2
+        → is_followed plan.play (chess plan.goal rule) (eqb (length below) 0) t (position_after rule board m) ≡ false → after ≡ board
+        → Counts rule plan (eqb (length below) 0) t (position_after rule board m) opened opened2
         → Steps rule plan h p (f ∷ below) (moved f next ∷ below) after opened opened2 false
     steps-pass after opened opened2 b at x =
         let o = open-next rule plan h p f next m below _ t fuel left here in
@@ -172,9 +141,8 @@ module _ (rule : RuleSet) (plan : Plan) (h : ℕ) (p : Position) (f : Frame) (be
 -- a frame is closed once moves that have no paths have been passed over
 pub skips-close : (rule : RuleSet) (plan : Plan) (h : ℕ) (p : Position) (f : Frame) (below : List Frame) (board : Position)
     → IsWalking rule h p (f ∷ below) board → (after : Position) (before count : ℕ)
-    → ((f.left ≡ 0) × (count ≡ before)) ⊎ GoesTo rule plan f.left (position rule p (f ∷ below)) f.place [] before count
-    → (length below ≡ 0 → after ≡ board) → ((q : Position) → 0 < length below → CameFromAt rule f board q → after ≡ q)
-    → Steps rule plan h p (f ∷ below) below after before count false
+    → ((f.left ≡ 0) × (count ≡ before)) ⊎ GoesTo rule plan f.left (position rule p (f ∷ below)) f.place [] before count → (length below ≡ 0 → after ≡ board)
+    → ((q : Position) → 0 < length below → CameFromAt rule f board q → after ≡ q) → Steps rule plan h p (f ∷ below) below after before count false
 skips-close rule plan h p f below board r after before count (inl e) lowest back = rw e.1
     (steps-close rule plan h p f below board r after before (inl e.0) lowest back)
 skips-close rule plan h p f below board r after before count (inr g) lowest back = steps-skip rule plan h p f below [] before count g below after count false

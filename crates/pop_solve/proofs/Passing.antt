@@ -18,11 +18,7 @@ module _ (rule : RuleSet) (p : Position) where
   -- it stands behind the place before its own
   behind_back : (m : Move) → IsWellFormed p → is_legal rule p m ≡ true
       → moves_behind rule p (place_of (Some m) - 1) ≡ m ∷ moves_behind rule p (place_of (Some m))
-  behind_back m sound lawful =
-      let w = numbered m sound lawful in
-      let at : place_of (Some m) ≡ w.0 + 1 = rw w.2 at (place_of_triple w.0 w.1) in
-      let back : place_of (Some m) - 1 ≡ w.0 = omega (arith, at) in
-      rw (back, at) (rw w.2 at (moves_behind-here rule p w.0 w.1 (rw w.2 lawful)))
+  behind_back m sound lawful = search (rules, numbered, place_of_triple, moves_behind-here)
 
   -- what the sieve passes over is settled
   pub sifted : (place next n before after : ℕ) (o : Option Move) → IsWellFormed p → next ≡ place_of o → IfSome o (λ m. is_legal rule p m ≡ true)

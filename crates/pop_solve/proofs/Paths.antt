@@ -22,6 +22,30 @@ pub path-more : (f : Frame) (fs : List Frame) → 0 < length fs → path (f ∷ 
 unfolding path
 path-more f fs some = search rules
 
+-- the frame at k stands above the first k
+pub cut-at : (frames : List Frame) (n k : ℕ) (f : Frame) → n ≡ k + 1 → f ≡ get_or frames k f → k < length frames → take n frames ≡ take k frames ++ f ∷ []
+cut-at frames n k f e at less = rw e (take_more frames k f less) ∙ ap (λ x. take k frames ++ x ∷ []) (sym at)
+
+-- below it there is a frame
+pub some-taken : (frames : List Frame) (k : ℕ) → 0 < k → k ≤ length frames → 0 < length (take k frames)
+some-taken frames k some most = omega (arith, length-take k frames, some, most)
+
+-- a frame stands on others
+pub record IsTopped (upper lower : List Frame) (f : Frame) : Type 0 where
+  pub cut : upper ≡ lower ++ f ∷ []
+  pub some : 0 < length lower
+
+-- the frame at k, on the first k
+pub topped-at : (frames : List Frame) (n k : ℕ) (f : Frame) → f ≡ get_or frames k f → n ≡ k + 1 → 0 < k → k < length frames
+    → IsTopped (take n frames) (take k frames) f
+topped-at frames n k f at e some less = record { cut = cut-at frames n k f e at less; some = some-taken frames k some (omega (arith, less)) }
+
+-- the last, on all others
+pub topped-last : (frames : List Frame) (f : Frame) → f ≡ get_or frames (length frames - 1) f → 2 ≤ length frames
+    → IsTopped frames (take (length frames - 1) frames) f
+topped-last frames f at deep = subst (λ fs. IsTopped fs (take (length frames - 1) frames) f) (take_all (length frames) frames (omega arith))
+    (topped-at frames (length frames) (length frames - 1) f at (omega arith) (omega arith) (omega arith))
+
 module _ (goal : Goal) (rule : RuleSet) where
   -- one more move leads on from the end of a path
   pub path_end-append : (p : Position) (xs : List Move) (m : Move) → path_end (position_after rule) p (xs ++ m ∷ [])
@@ -47,23 +71,11 @@ module _ (goal : Goal) (rule : RuleSet) where
   path_end-path p (f ∷ []) = search rules
   path_end-path p (f ∷ (g ∷ below)) = search (rules, path_end-append, path_end-path p (g ∷ below))
 
-  along-more : (p : Position) (f : Frame) (fs : List Frame) → 0 < length fs
-      → moves_shown goal rule p (path (f ∷ fs)) ≡ moves_shown goal rule p (path fs) ++ shown_move goal rule (position rule p fs) f.by ∷ []
-  along-more p f fs some = search (rules, path-more, along-append, path_end-path)
-
-  last-more : (p : Position) (f : Frame) (fs : List Frame) → 0 < length fs
-      → last_shown goal rule p (path (f ∷ fs)) ≡ shown_move goal rule (position rule p fs) f.by
-  last-more p f fs some = rw (path-more f fs some, last-append p (path fs) f.by, path_end-path p fs) refl
-
 module _ (rule : RuleSet) where
   -- and leads to its position
   pub position-more : (p : Position) (f : Frame) (fs : List Frame) → 0 < length fs → position rule p (f ∷ fs) ≡ position_after rule (position rule p fs) f.by
   unfolding position
   position-more p f fs some = search rules
-
-  linked-is_legal : (p : Position) (f : Frame) (fs : List Frame) → 0 < length fs → IsLinked rule p (f ∷ fs) → is_legal rule (position rule p fs) f.by ≡ true
-  unfolding IsLinked
-  linked-is_legal p f fs some l = search rules
 
   linked-cut : (p : Position) (xs ys : List Frame) → IsLinked rule p (xs ++ ys) → IsLinked rule p ys
   unfolding IsLinked
@@ -75,75 +87,62 @@ module _ (rule : RuleSet) where
   pub linked-take : (p : Position) (frames : List Frame) (n : ℕ) → IsLinked rule p (reverse frames) → IsLinked rule p (reverse (take n frames))
   linked-take p frames n l = grind (arith, take-append-drop n frames, reverse-append (take n frames) (drop n frames), linked-cut)
 
-  -- some frames and one above them
-  module _ (upper lower : List Frame) (f : Frame) (cut : upper ≡ lower ++ f ∷ []) (some : 0 < length lower) where
+  -- a frame and those that it stands on
+  module _ {upper lower : List Frame} {f : Frame} (top : IsTopped upper lower f) where
     stacked : reverse upper ≡ f ∷ reverse lower
-    stacked = popped upper lower f cut
+    stacked = popped upper lower f top.cut
 
-    -- what taking the top frame's move back asks for
+    -- what taking its move back asks for
     pub back-asks : (h : ℕ) (p board : Position) → IsWalking rule h p (reverse upper) board → CameFrom rule f board
     back-asks h p board r = grind (arith, CameFrom-deep, stacked, length-reverse)
 
-    -- it leads to the frames below
-    pub back-walking : (h : ℕ) (p board after : Position) → IsWalking rule h p (reverse upper) board → ((q : Position) → CameFromAt rule f board q
-        → after ≡ q) → IsWalking rule h p (reverse lower) after
-    back-walking h p board after r before =
-        let T : List Frame → Type 0 = λ fs. IsWalking rule h p fs board in
-        walking-close rule h p f (reverse lower) board after (subst T stacked r) (λ z. absurd (grind (arith, length-reverse))) (λ q z cf. before q cf)
-
-    -- played again from there the move is legal
+    -- played again from their position the move is legal
     pub forth-is_legal : (p : Position) → IsLinked rule p (reverse upper) → is_legal rule (position rule p (reverse lower)) f.by ≡ true
-    forth-is_legal p l = grind (arith, linked-is_legal, stacked, length-reverse)
+    unfolding IsLinked
+    forth-is_legal p l = search (rules, stacked, length-reverse)
 
-    -- and leads to the top frame's position
+    -- and leads to its own
     pub forth-position : (p : Position) → position rule p (reverse upper) ≡ position_after rule (position rule p (reverse lower)) f.by
     forth-position p = grind (arith, stacked, position-more, length-reverse)
 
-    -- the move of the frame above leads back to its position, and to the goal where a variation ends there
-    pub forth-again : (h : ℕ) (p board after : Position) → IsWalking rule h p (reverse upper) board → IsWalking rule h p (reverse lower) after
-        → position_after rule after f.by ≡ board
-    forth-again h p board after r s = ap (λ b. position_after rule b f.by) s.board_at ∙ sym (r.board_at ∙ forth-position p)
-
-    -- where it ends a variation it reaches the goal
-    pub forth-ended : (plan : Plan) (h : ℕ) (p board after : Position) → IsWalking rule h p (reverse upper) board
-        → IsWalking rule h p (reverse lower) after → IsEnded rule plan (reverse upper) board → (b : Reached)
-        → b ≡ cond (ends_variation plan.play (has_variations plan.tree) f.left) Surely Perhaps → b ≡ Surely
-        → (chess plan.goal rule).goal (position_after rule after f.by) ≡ true
-    forth-ended plan h p board after r s ended b e here = search (rules, forth-again, stacked)
-
     -- it is the last of the moves that are shown
-    pub forth-along : (goal : Goal) (p : Position)
-        → moves_shown goal rule p (path (reverse upper)) ≡ moves_shown goal rule p (path (reverse lower)) ++ shown_move goal rule
-        (position rule p (reverse lower)) f.by ∷ []
-    forth-along goal p = grind (arith, stacked, along-more, length-reverse)
+    pub forth-along : (goal : Goal) (p : Position) → moves_shown goal rule p (path (reverse upper))
+        ≡ moves_shown goal rule p (path (reverse lower)) ++ shown_move goal rule (position rule p (reverse lower)) f.by ∷ []
+    forth-along goal p = search (rules, stacked, length-reverse, path-more, along-append, path_end-path)
 
-    -- shown alone it is the same
-    pub forth-last : (goal : Goal) (p : Position) → last_shown goal rule p (path (reverse upper)) ≡ shown_move goal rule (position rule p (reverse lower)) f.by
-    forth-last goal p = grind (arith, stacked, last-more, length-reverse)
+    -- once its move was taken back
+    module _ (h : ℕ) (p board after : Position) (r : IsWalking rule h p (reverse upper) board)
+        (before : (q : Position) → CameFromAt rule f board q → after ≡ q) where
+      -- the walk stands on the frames below
+      pub back-walking : IsWalking rule h p (reverse lower) after
+      back-walking =
+          let T : List Frame → Type 0 = λ fs. IsWalking rule h p fs board in
+          walking-close rule h p f (reverse lower) board after (subst T stacked r) (λ z. absurd (grind (arith, length-reverse))) (λ q z cf. before q cf)
 
-  -- with one frame left, or none, the board stands on the first position
-  one-position : (p : Position) (frames : List Frame) → length frames ≤ 1 → position rule p frames ≡ p
-  unfolding position
-  one-position p [] few = refl
-  one-position p frames few = grind arith
+      -- the move is legal
+      pub back-is_legal : is_legal rule after f.by ≡ true
+      back-is_legal = rw back-walking.board_at (forth-is_legal p r.linked)
+
+      -- it leads back
+      pub back-again : position_after rule after f.by ≡ board
+      back-again = ap (λ b. position_after rule b f.by) back-walking.board_at ∙ sym (r.board_at ∙ forth-position p)
+
+      -- and to the goal, where it ends a variation
+      pub back-ended : (plan : Plan) → IsEnded rule plan (reverse upper) board → (b : Reached)
+          → b ≡ cond (ends_variation plan.play (has_variations plan.tree) f.left) Surely Perhaps → b ≡ Surely
+          → (chess plan.goal rule).goal (position_after rule after f.by) ≡ true
+      back-ended plan ended b e here = search (rules, back-again, stacked)
+
+      -- it is shown as the last of the path
+      pub back-shown : (goal : Goal) → shown_move goal rule after f.by ≡ last_shown goal rule p (path (reverse upper))
+      back-shown goal = search (rules, back-walking, stacked, length-reverse, path-more, last-append, path_end-path)
 
   -- the lowest frame stands on the first position
   pub first-position : (p : Position) (frames : List Frame) (k : ℕ) → k ≤ 1 → position rule p (reverse (take k frames)) ≡ p
-  first-position p frames k few = search (rules, one-position, length-reverse)
+  unfolding position
+  first-position p frames k few = search (rules, length-reverse)
 
   -- no move leads there
   pub first-path : (goal : Goal) (p : Position) (frames : List Frame) → moves_shown goal rule p (path (reverse (take 1 frames))) ≡ []
   unfolding path
   first-path goal p frames = search rules
-
--- the frame at k stands above the first k
-pub cut-at : (frames : List Frame) (n k : ℕ) (f : Frame) → n ≡ k + 1 → f ≡ get_or frames k f → k < length frames → take n frames ≡ take k frames ++ f ∷ []
-cut-at frames n k f e at less = rw e (take_more frames k f less) ∙ ap (λ x. take k frames ++ x ∷ []) (sym at)
-
--- the frames are those below the top one, and that one
-pub cut-last : (frames : List Frame) (k : ℕ) (f : Frame) → length frames ≡ k + 1 → f ≡ get_or frames k f → frames ≡ take k frames ++ f ∷ []
-cut-last frames k f e at = sym (take_all (length frames) frames (omega arith)) ∙ cut-at frames (length frames) k f e at (omega (arith, e))
-
--- below it there is a frame
-pub some-taken : (frames : List Frame) (k : ℕ) → 0 < k → k ≤ length frames → 0 < length (take k frames)
-some-taken frames k some most = omega (arith, length-take k frames, some, most)

@@ -1,11 +1,8 @@
 -- The paths of a phase's solutions.
-use Rattle.pop_solve.proofs.Words.{AllPairs, Battle, BattlePlay, HelpPlay, List, Move, Phase, Play, Posed, RuleSet, Set, [], ap, arith, drop, flat_map, flat_map-append, game_of, help_lines, map, pairs_front, phase_half_moves, phase_start, play_of, refl, set_tree, solutions, take, take-append-drop, tree, ℕ, ◌<◌, ◌∷◌, ◌≡◌}
+use Rattle.pop_solve.proofs.Words.{AllPairs, Battle, BattlePlay, HelpPlay, List, Move, Phase, Play, Posed, RuleSet, Set, [], arith, drop, flat_map, flat_map-append, game_of, help_lines, pairs_front, phase_half_moves, phase_start, play_of, refl, set_tree, solutions, take, take-append-drop, tree, ℕ, ◌<◌, ◌∷◌, ◌≡◌, flat_map_single, ◌∙◌}
 use Rattle.chess_core.specs.MoveOrder.{order_number}
-
--- each list by itself, joined
-singles : {X : Type 0} (xs : List X) → flat_map (λ s. s) (map (λ x. x ∷ []) xs) ≡ xs
-singles [] = refl
-singles (x ∷ xs) = ap (λ ys. x ∷ ys) (singles xs)
+use Rattle.std.proofs.lemmas.List.{map-id}
+use Rattle.std.proofs.lemmas.List.Folds.{flat_map-map}
 
 -- the first of joined lists
 pub first_joined : {X : Type 0} (R : X → X → Type 0) (n : ℕ) (xss : List (List X)) → AllPairs R (flat_map (λ s. s) xss)
@@ -22,7 +19,7 @@ module _ (rule : RuleSet) (problem : Posed) where
   pub help_paths : (phase : Phase) → play_of problem.stipulation.form ≡ HelpPlay
       → flat_map (λ s. s) (solutions rule problem phase) ≡ help_lines (game_of rule problem) (phase_half_moves problem phase) (phase_start problem phase)
   unfolding solutions
-  help_paths phase help = rw help (singles _)
+  help_paths phase help = rw help (flat_map-map (λ s. s) (λ x. x ∷ []) _ ∙ flat_map_single (λ x. x) _ ∙ map-id _)
 
   -- those of a battle's play are its tree
   pub play_paths : (battle : Battle) → play_of problem.stipulation.form ≡ BattlePlay battle

@@ -12,16 +12,9 @@ module _ {M : Type 0} (test : M → Bool) (f : M → ℕ) where
   least-plus k a n [] e = search rules
   least-plus k a n (m ∷ ms) e = search (rules, least-plus k a n ms e)
 
-  -- that of all moves, or of one that passes the test
-  abbrev below : List M → ℕ
-  below ms = least_of test f (sum_by f ms) ms
-
   least-next : (m : M) (a n : ℕ) (ms : List M) → n ≡ f m + a → least_of test f n (m ∷ ms) ≤ f m + cond (test m) 0 (least_of test f a ms)
   unfolding least_of
   least-next m a n ms e = grind (arith, least-plus (f m) a n ms e)
-
-  below-next : (m : M) (ms : List M) → below (m ∷ ms) ≤ f m + cond (test m) 0 (below ms)
-  below-next m ms = least-next m (sum_by f ms) (sum_by f (m ∷ ms)) ms (sum_by-cons f m ms)
 
 module _ {P M : Type 0} (battle : Battle) (game : Game P M) where
   -- a move that decides ends the count, another adds its tree
@@ -29,7 +22,9 @@ module _ {P M : Type 0} (battle : Battle) (game : Game P M) where
       → smallest_below battle game (suc t) p (m ∷ ms) ≤ smallest_tree battle game t (game.after p m) + cond (decided_by battle game t p m) 0
       (smallest_below battle game (suc t) p ms)
   unfolding smallest_below
-  trees-next t p m ms = below-next (decided_by battle game t p) (λ m. smallest_tree battle game t (game.after p m)) m ms
+  trees-next t p m ms =
+      let f : M → ℕ = λ m. smallest_tree battle game t (game.after p m) in
+      least-next (decided_by battle game t p) f m (sum_by f ms) (sum_by f (m ∷ ms)) ms (sum_by-cons f m ms)
 
   -- none below no moves
   pub trees-end : (t : ℕ) (p : P) → smallest_below battle game t p [] ≡ 0
@@ -40,11 +35,6 @@ module _ {P M : Type 0} (battle : Battle) (game : Game P M) where
   pub trees-start : (t : ℕ) (p : P) → smallest_tree battle game t p ≤ 1 + smallest_below battle game t p (game.moves p)
   unfolding smallest_tree smallest_below
   trees-start t p = search rules
-
-  -- where no move is left, and with one half-move left
-  pub tree-none : (t : ℕ) (p : P) → can_move game p ≡ false → smallest_tree battle game t p ≡ 0
-  unfolding smallest_tree
-  tree-none t p e = search rules
 
   -- with no half-move left nothing is tried
   pub tree-zero : (t : ℕ) (p : P) → t ≡ 0 → smallest_tree battle game t p ≡ 0

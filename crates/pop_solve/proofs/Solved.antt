@@ -3,8 +3,9 @@ use Rattle.pop_solve.proofs.Words.{Battle, BattlePlay, Bool, Direct, Form, Frame
 use Rattle.chess_rules.specs.Legal.{moves as legal_moves}
 use Rattle.pop_solve.proofs.Sound.{helps-form, some_way}
 use Rattle.pop_solve.proofs.Battles.{value-wins, value-self_wins}
-use Rattle.pop_solve.proofs.Trees.{as_nodes, beneath, by_test, flat-filter, flip, half-some, halves, halves-seek, keeps-value, nodes_below-key, nodes_below-set, seeks-step, shown_paths-help, shown_paths-zero, unflip}
+use Rattle.pop_solve.proofs.Trees.{as_nodes, beneath, by_test, flat-filter, halves, halves-seek, keeps-value, nodes_below-key, nodes_below-set, shown_paths-help, shown_paths-zero}
 use Rattle.pop_solve.proofs.Kept.{keep-nil, beginning_count-nil, to_come-root}
+use Rattle.std.proofs.lemmas.List.Folds.{list_all-append}
 
 -- what is kept of a list of paths, and the solutions begun: `sols` are its solutions
 pub record IsCutInto {M : Type 0} (help : Bool) (n : ℕ) (paths : List (List M)) (sols : List (List (List M))) : Type 0 where
@@ -33,37 +34,20 @@ some [] = false
 some (x ∷ xs) = true
 
 module _ {M : Type 0} where
-  over-kept : (n : ℕ) (m : M) (ys rest : List (List M)) → list_all some ys ≡ true
-      → kept_paths false n (map (λ path. m ∷ path) ys ++ rest) ≡ map (λ path. m ∷ path) ys ++ kept_paths false n rest
-  unfolding kept_paths
-  over-kept n m [] rest a = search rules
-  over-kept n m (y ∷ ys) rest a = search (rules, nat_tests, over-kept n m ys rest)
+  over : (n : ℕ) (m : M) (ys rest : List (List M)) → list_all some ys ≡ true
+      → (kept_paths false n (map (λ path. m ∷ path) ys ++ rest) ≡ map (λ path. m ∷ path) ys ++ kept_paths false n rest)
+      × (beginning_count false n (map (λ path. m ∷ path) ys ++ rest) ≡ beginning_count false n rest)
+  unfolding kept_paths beginning_count
+  over n m [] rest a = search rules
+  over n m (y ∷ ys) rest a = search (rules, nat_tests, over n m ys rest)
 
-  over-begun : (n : ℕ) (m : M) (ys rest : List (List M)) → list_all some ys ≡ true
-      → beginning_count false n (map (λ path. m ∷ path) ys ++ rest) ≡ beginning_count false n rest
-  unfolding beginning_count
-  over-begun n m [] rest a = refl
-  over-begun n m (y ∷ ys) rest a = search (rules, nat_tests, over-begun n m ys rest)
-
-  nodes-kept : (X : M → List (List M)) → ((m : M) → list_all some (X m) ≡ true) → (n : ℕ) (ms : List M)
-      → kept_paths false n (flat_map (λ m. node m (X m)) ms) ≡ flat_map (λ solution. solution) (take n (map (λ m. node m (X m)) ms))
-  unfolding kept_paths
-  nodes-kept X full zero [] = search rules
-  nodes-kept X full zero (m ∷ ms) = search rules
-  nodes-kept X full (suc n) [] = search rules
-  nodes-kept X full (suc n) (m ∷ ms) = search (rules, over-kept, nodes-kept X full n ms)
-
-  nodes-begun : (X : M → List (List M)) → ((m : M) → list_all some (X m) ≡ true) → (n : ℕ) (ms : List M)
-      → beginning_count false n (flat_map (λ m. node m (X m)) ms) ≡ length (take n (map (λ m. node m (X m)) ms))
-  unfolding beginning_count
-  nodes-begun X full zero [] = refl
-  nodes-begun X full zero (m ∷ ms) = refl
-  nodes-begun X full (suc n) [] = refl
-  nodes-begun X full (suc n) (m ∷ ms) = omega (arith, over-begun n m (X m) (flat_map (λ x. node x (X x)) ms) (full m), nodes-begun X full n ms)
-
-  all-append : (xs ys : List (List M)) → list_all some xs ≡ true → list_all some ys ≡ true → list_all some (xs ++ ys) ≡ true
-  all-append [] ys a b = b
-  all-append (x ∷ xs) ys a b = search (rules, all-append xs ys)
+  nodes-cut : (X : M → List (List M)) → ((m : M) → list_all some (X m) ≡ true) → (n : ℕ) (ms : List M)
+      → IsCutInto false n (flat_map (λ m. node m (X m)) ms) (map (λ m. node m (X m)) ms)
+  unfolding kept_paths beginning_count
+  nodes-cut X full zero [] = search rules
+  nodes-cut X full zero (m ∷ ms) = search rules
+  nodes-cut X full (suc n) [] = search rules
+  nodes-cut X full (suc n) (m ∷ ms) = search (rules, over n m (X m) (flat_map (λ x. node x (X x)) ms) (full m), nodes-cut X full n ms)
 
   all-over : (m : M) (xs : List (List M)) → list_all some (map (λ path. m ∷ path) xs) ≡ true
   all-over m [] = refl
@@ -81,7 +65,7 @@ module _ {P M : Type 0} (game : Game P M) (plan : Plan) where
   shown_paths-full root zero left p ms = search rules
   shown_paths-full root (suc k) zero p ms = search rules
   shown_paths-full root (suc k) (suc t) p [] = search rules
-  shown_paths-full root (suc k) (suc t) p (m ∷ ms) = search (rules, all-append, all-over, shown_paths-full root (suc k) (suc t) p ms)
+  shown_paths-full root (suc k) (suc t) p (m ∷ ms) = search (rules, list_all-append, all-over, shown_paths-full root (suc k) (suc t) p ms)
 
   -- the root in battle play: those of its moves that pass the test, each with what stands below it
   root-cut : (battle : Battle) (fought : plan.play ≡ BattlePlay battle) (h n : ℕ) (p : P) (ms : List M) (other : M → Bool) (G : M → List (List M))
@@ -97,7 +81,7 @@ module _ {P M : Type 0} (game : Game P M) (plan : Plan) where
       let b : map (λ m. node m (X m)) (filter T ms) ≡ map (λ m. node m (G m)) (filter other ms) =
       map-filter T other _ _ ms same (λ m t. ap (node m) (each m t)) in
       let full : (m : M) → list_all some (X m) ≡ true = grind (arith, shown_paths-full) in
-      grind (arith, nodes-kept, ms, nodes-begun X full n (filter T ms))
+      rw (a, ← b) (nodes-cut X full n (filter T ms))
 
 -- half-moves of a battle
 pub halves-form : (form : Form) (n : ℕ) (battle : Battle) → play_of form ≡ BattlePlay battle → half_moves_of form n ≡ halves battle n
@@ -121,32 +105,25 @@ module _ {P M : Type 0} (game : Game P M) (plan : Plan) (battle : Battle) (fough
   set_value Direct n h r e = grind (arith, value-wins game (n - 2) r)
   set_value Selfmate n h r e = grind (arith, value-self_wins game (n - 1) r)
 
+  two_on : (battle : Battle) (h : ℕ) → seeks battle (suc h + 1) ≡ true → seeks battle h ≡ true
+  two_on battle h s = search rules
+
   -- the play: the tree
   pub tree-cut : (n h max : ℕ) (p : P) (ms : List M) → suc h ≡ halves battle n
       → IsCutInto false max (shown_paths plan game true (suc h) (suc h) p ms) (tree_by battle game (has_variations plan.tree) n (suc h) p ms)
   tree-cut n h max p ms e =
-      let k = half-some game battle n (omega (arith, e)) in
-      let e2 : suc h ≡ halves battle (suc k.0) = e ∙ ap (halves battle) k.1 in
-      let l : halves battle (suc k.0) - 1 ≡ h = omega (arith, e2) in
       let one : suc h - 1 ≡ h = omega arith in
-      let s : seeks battle (suc h) ≡ true = rw e2 (halves-seek game battle k.0) in
-      let same : (m : M) → value battle game h (game.after p m) ≡ keeps_win battle game n (game.after p m) =
-      grind (arith, keeps-value) in
-      rw one (root-cut game plan battle fought h max p ms _ _ same (λ m v. nodes_below-key game plan battle fought n h (game.after p m) s (grind arith) v))
+      rw one (root-cut game plan battle fought h max p ms _ _ (λ m. keeps-value game battle n h (game.after p m) e)
+      (λ m v. nodes_below-key game plan battle fought n h (game.after p m) (halves-seek game battle n h e) (grind arith) v))
 
   -- set play
   pub set-cut : (n h max : ℕ) (p : P) (ms : List M) → suc h ≡ halves battle n - 1
       → IsCutInto false max (shown_paths plan game true (suc h) (suc h) p ms) (set_by battle game (has_variations plan.tree) n h p ms)
   set-cut n h max p ms e =
-      let k = half-some game battle n (omega (arith, e)) in
-      let e2 : suc h + 1 ≡ halves battle (suc k.0) = omega (arith, e, ap (halves battle) k.1) in
-      let s : seeks battle (suc h + 1) ≡ true = rw e2 (halves-seek game battle k.0) in
-      let s1 : seeks battle (suc h) ≡ false = flip game _ (sym (seeks-step game battle (suc h)) ∙ s) in
-      let one : suc h ≡ h + 1 = omega arith in
-      let s2 : seeks battle (h + 1) ≡ false = rw (← one) s1 in
-      let s3 : seeks battle h ≡ true = unflip game _ (sym (seeks-step game battle h) ∙ s2) in
+      let s : seeks battle (suc h + 1) ≡ true = halves-seek game battle n (suc h) (omega (arith, e)) in
+      let s2 : seeks battle h ≡ true = two_on battle h s in
       root-cut game plan battle fought h max p ms _ _ (λ m. set_value battle n h (game.after p m) e)
-      (λ m v. nodes_below-set game plan battle fought n h (game.after p m) s3 (grind arith) v)
+      (λ m v. nodes_below-set game plan battle fought n h (game.after p m) s2 (grind arith) v)
 
 -- a phase of no half-moves
 none-cut : {M : Type 0} (help : Bool) (n : ℕ) → IsCutInto {M = M} help n [] []
@@ -165,8 +142,7 @@ module _ (rule : RuleSet) (problem : Posed) (stated : IsSound problem) where
       (phase_start problem phase))) (solutions_by play rule problem phase)
   unfolding help_lines set_tree
   cut phase HelpPlay e zero z = rw z (search (rules, shown_paths-zero, none-cut))
-  cut phase HelpPlay e (suc h) z = rw (z, shown_paths-help (game_of rule problem) plan e true h (phase_start problem phase))
-      (record { kept = lines-kept problem.max_solutions _; begun = lines-begun problem.max_solutions _ })
+  cut phase HelpPlay e (suc h) z = search (rules, shown_paths-help (game_of rule problem) plan e true h (phase_start problem phase), lines-kept, lines-begun)
   cut Set (BattlePlay battle) e zero z = rw z (search (rules, shown_paths-zero, none-cut))
   cut Set (BattlePlay battle) e (suc h) z =
       rw z (rw (shown_paths-varied problem.variation) at (set-cut (game_of rule problem) plan battle e problem.stipulation.n h problem.max_solutions
@@ -184,6 +160,5 @@ module _ (rule : RuleSet) (problem : Posed) (stated : IsSound problem) where
       → IsCutInto (is_help problem.stipulation.form) problem.max_solutions (phase_paths rule problem phase (f ∷ [])) (solutions rule problem phase)
   unfolding solutions
   root-solutions phase f l b =
-      let h : phase_half_moves problem phase - 0 ≡ phase_half_moves problem phase = omega arith in
       let r = to_come-root rule plan (phase_half_moves problem phase) (phase_start problem phase) f in
-      rw (← helps-form problem.stipulation.form, r, h, l, b) (cut phase (play_of problem.stipulation.form) refl (phase_half_moves problem phase) refl)
+      search (rules, r, helps-form, cut phase _ refl _ refl)

@@ -1,6 +1,6 @@
 -- What a sound problem's play rests on, and how the sides play.
 use Rattle.pop_input.specs.declared.stipulation.Form.TheVariants.{Direct as DirectForm, SelfMate, Help, HelpHalf}
-use Rattle.pop_solve.proofs.Words.{Battle, BattlePlay, Direct, Form, HelpPlay, Selfmate, arith, false, is_help_play, is_help, play_of, rules, IsSound, IsWellFormed, None, Phase, Posed, Position, half_moves, is_crossed_right, other, phase_start, refl, sym, ap, true, ◌≡◌, ◌≤◌, ◌∙◌}
+use Rattle.pop_solve.proofs.Words.{Battle, BattlePlay, Direct, Form, HelpPlay, Selfmate, arith, false, is_help_play, is_help, play_of, rules, IsSound, IsWellFormed, Phase, Posed, half_moves, is_crossed_right, phase_start, refl, sym, ap, true, ◌≡◌, ◌≤◌, ◌∙◌}
 
 -- a problem has 1 to 32 half-moves
 pub some_way : (problem : Posed) → IsSound problem → 1 ≤ half_moves problem.stipulation
@@ -10,14 +10,10 @@ some_way problem s = grind arith
 pub in_range : (problem : Posed) → IsSound problem → half_moves problem.stipulation ≤ 32
 in_range problem s = grind arith
 
--- set play's first position is well formed
-nothing_crossed : (p : Position) → is_crossed_right p.men (other p.turn) None ≡ true
-unfolding is_crossed_right
-nothing_crossed p = refl
-
 -- the first position of each phase is well formed
 pub start_sound : (problem : Posed) → IsSound problem → (phase : Phase) → IsWellFormed (phase_start problem phase)
-start_sound problem s phase = grind (arith, nothing_crossed)
+unfolding is_crossed_right
+start_sound problem s phase = search rules
 
 -- help play and battles, told by the form
 pub helps-form : (form : Form) → is_help_play (play_of form) ≡ is_help form
@@ -33,10 +29,7 @@ help-form form e = sym (helps-form form) ∙ ap is_help_play e
 
 -- any other form is a battle
 pub battle-play : (form : Form) → is_help form ≡ false → (battle : Battle) × (play_of form ≡ BattlePlay battle)
-battle-play DirectForm e = (Direct, refl)
-battle-play SelfMate e = (Selfmate, refl)
-battle-play Help e = absurd cc
-battle-play HelpHalf e = absurd cc
+battle-play form e = search rules
 
 -- and no battle is help play
 pub battle-form : (form : Form) (battle : Battle) → play_of form ≡ BattlePlay battle → is_help form ≡ false

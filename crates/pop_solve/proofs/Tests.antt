@@ -1,5 +1,5 @@
 -- One turn of a test over frames.
-use Rattle.pop_solve.proofs.Words.{AreKnown, Bool, CameFrom, CameFromAt, Ends, Frame, HasCounted, IfNone, IfSome, IsDescending, IsLinked, IsOpenedOn, IsPlaceIn, IsTesting, IsWellFormed, Killer, LegalPlace, List, MatchOption, Move, None, Option, Order, Position, RuleSet, Some, Turns, Undo, [], after_well_formed, ap, arith, cases_lt, chess, cond, delivered_value, drop, drop-append-le, inl, inr, is_legal, join, joined_value, least_of, length, length-append, length-drop, length-reverse, moves_ahead}
+use Rattle.pop_solve.proofs.Words.{AreKnown, Bool, CameFrom, CameFromAt, Ends, Frame, HasCounted, IfNone, IfSome, IsDescending, IsLinked, IsOpenedOn, IsPlaceIn, IsTesting, IsWellFormed, Killer, LegalPlace, List, MatchOption, Move, None, Option, Order, Position, RuleSet, Some, Turns, Undo, [], after_well_formed, ap, arith, cases_lt, chess, cond, delivered_value, drop, drop-append-le, is_legal, join, joined_value, least_of, length, length-append, length-drop, length-reverse, moves_ahead}
 use Rattle.pop_solve.proofs.Words.{is_pseudo_legal-from_legal, list_all, list_any, min, not, pending_value, position, refl, reverse, reverse-append, rules, seeks, smallest_below, smallest_tree, work_from, work_among, subst, suc, sum_by, sum_by-cons, sym, take, take-append-le, take_all, tested_frame, tests, to_test, to_try, to_try_with, left_at_top, true, undo_of, untried_moves, value, walk_among, walk_count, test_work, ℕ, ◌&&◌, ◌++◌, ◌+◌, ◌-◌, ◌<◌, ◌^◌, ◌||◌, ◌∙◌, ◌∷◌, ◌≡◌, ◌≤◌, ◌⊎◌}
 use Rattle.chess_rules.specs.Play.{position_after}
 use Rattle.chess_rules.specs.Legal.{moves as legal_moves}
@@ -7,6 +7,7 @@ use Rattle.pop_solve.specs.declared.aim.Aim.{Aim}
 use Rattle.pop_solve.proofs.Orders.{same_start}
 use Rattle.pop_solve.specs.declared.frame.Stretch.{Stretch}
 use Rattle.pop_solve.proofs.SmallestTrees.{trees-next, trees-end, trees-start}
+use Rattle.std.proofs.lemmas.List.{nil_from_length}
 
 -- the frame with its place moved on
 abbrev pub moved : Frame → ℕ → Frame
@@ -57,12 +58,6 @@ module _ (rule : RuleSet) (aim : Aim) where
   unfolding joined_value
   rest-start t q o = search (rules, any-start, all-start)
 
-  -- a frame that its last answer decides, and one that it doesn't
-  pending_value-decided : (p : Position) (f : Frame) (below : List Frame) (answer : Option Bool) → answer ≡ Some (seeks aim.battle f.left)
-      → pending_value rule aim p (f ∷ below) answer ≡ delivered_value rule aim p below (seeks aim.battle f.left)
-  unfolding pending_value delivered_value
-  pending_value-decided p f below answer e = grind arith
-
   pending_value-undecided : (p : Position) (f : Frame) (below : List Frame) (answer : Option Bool)
       → (answer ≡ None) ⊎ (answer ≡ Some (not (seeks aim.battle f.left)))
       → pending_value rule aim p (f ∷ below) answer ≡ delivered_value rule aim p below
@@ -75,42 +70,23 @@ module _ (rule : RuleSet) (aim : Aim) where
   unfolding pending_value
   delivered_value-some p below v some = search rules
 
-  delivered_value-none : (p : Position) (below : List Frame) (v : Bool) → length below ≡ 0 → delivered_value rule aim p below v ≡ v
-  unfolding delivered_value
-  delivered_value-none p [] v none = refl
-  delivered_value-none p (g ∷ below) v none = absurd (omega (arith, none))
-
   -- the same of the positions that have to be tried
   abbrev pub fewest : ℕ → Position → List Move → ℕ
   fewest left P ms = smallest_below aim.battle (chess aim.goal rule) left P ms
 
-  same-fewest : (t : ℕ) (q : Position) (o : Order) → fewest t q (first rule q o) ≡ fewest t q (legal_moves rule q)
-  unfolding smallest_below
-  same-fewest t q o = search (rules, sum-start, least-start)
-
   fewest-start : (t : ℕ) (q : Position) (o : Order) → smallest_tree aim.battle (chess aim.goal rule) t q ≤ 1 + fewest t q (first rule q o)
-  fewest-start t q o = rw (same-fewest t q o) (trees-start aim.battle (chess aim.goal rule) t q)
-
-  try-decided : (p : Position) (f : Frame) (below : List Frame) (answer : Option Bool) → answer ≡ Some (seeks aim.battle f.left)
-      → to_try rule aim p (f ∷ below) answer ≡ to_try_with rule aim p below (seeks aim.battle f.left)
-  unfolding to_try to_try_with
-  try-decided p f below answer e = grind arith
+  unfolding smallest_below
+  fewest-start t q o = search (rules, trees-start, sum-start, least-start)
 
   try-undecided : (p : Position) (f : Frame) (below : List Frame) (answer : Option Bool) → (answer ≡ None) ⊎ (answer ≡ Some (not (seeks aim.battle f.left)))
-      → to_try rule aim p (f ∷ below) answer ≡ fewest f.left (position rule p (f ∷ below)) (untried_moves rule (position rule p (f ∷ below)) f) + to_try_with
-      rule aim
-      p below (rest f.left (position rule p (f ∷ below)) (untried_moves rule (position rule p (f ∷ below)) f))
+      → to_try rule aim p (f ∷ below) answer ≡ fewest f.left (position rule p (f ∷ below)) (untried_moves rule (position rule p (f ∷ below)) f)
+      + to_try_with rule aim p below (rest f.left (position rule p (f ∷ below)) (untried_moves rule (position rule p (f ∷ below)) f))
   unfolding to_try to_try_with
   try-undecided p f below answer e = search rules
 
   try-some : (p : Position) (below : List Frame) (v : Bool) → 0 < length below → to_try_with rule aim p below v ≡ to_try rule aim p below (Some v)
   unfolding to_try
   try-some p below v some = search rules
-
-  try-none : (p : Position) (below : List Frame) (v : Bool) → length below ≡ 0 → to_try_with rule aim p below v ≡ 0
-  unfolding to_try_with
-  try-none p [] v none = refl
-  try-none p (g ∷ below) v none = absurd (omega (arith, none))
 
   steps-start : (t : ℕ) (q : Position) (o : Order) → work_from rule t q ≡ 1 + work_among rule t q (first rule q o)
   unfolding work_from work_among
@@ -142,10 +118,9 @@ module _ (rule : RuleSet) (aim : Aim) where
     unfolding delivered_value position
     delivered_value-next = search (rules, rest-next)
 
-    try-next : fewest f.left P (untried_moves rule P f) + to_try_with rule aim p below (rest f.left P (untried_moves rule P f)) ≤ smallest_tree aim.battle
-        (chess aim.goal
-        rule) t (position_after rule P m) + to_try_with rule aim p (passed f next s kn ∷ below)
-        (value aim.battle (chess aim.goal rule) t (position_after rule P m))
+    try-next : fewest f.left P (untried_moves rule P f) + to_try_with rule aim p below (rest f.left P (untried_moves rule P f))
+        ≤ smallest_tree aim.battle (chess aim.goal rule) t (position_after rule P m)
+        + to_try_with rule aim p (passed f next s kn ∷ below) (value aim.battle (chess aim.goal rule) t (position_after rule P m))
     unfolding to_try_with position
     try-next = search (rules, trees-next, rest-next)
 
@@ -153,78 +128,26 @@ module _ (rule : RuleSet) (aim : Aim) where
     unfolding test_work position
     work-settled = rw (left, steps-next t P (untried_moves rule P f) (moves_ahead rule P f.order s next) m e) (omega arith)
 
-    open-settled : walk_count (legal_moves rule) (position_after rule) t (position_after rule P m) + to_test rule p (passed f next s kn ∷ below) ≤ to_test rule
-        p
-        (f ∷ below)
+    open-settled : walk_count (legal_moves rule) (position_after rule) t (position_after rule P m) + to_test rule p (passed f next s kn ∷ below)
+        ≤ to_test rule p (f ∷ below)
     unfolding to_test position
     open-settled = rw (left, walk-next t P (untried_moves rule P f) (moves_ahead rule P f.order s next) m e) (omega arith)
-
-    module _ (undo : Undo) (k : Order) (kq : Option LegalPlace) where
-      delivered_value-open : (v : Bool) → v ≡ joined_value aim.battle (chess aim.goal rule) t (position_after rule P m)
-          (legal_moves rule (position_after rule P m))
-          → delivered_value rule aim p (passed f next s kn ∷ below) v ≡ pending_value rule aim p (tested_frame k m undo t kq ∷ (passed f next s kn ∷ below))
-          None
-      unfolding pending_value position
-      delivered_value-open v d = search (rules, rest-start)
-
-      try-open : (v : Bool) → v ≡ joined_value aim.battle (chess aim.goal rule) t (position_after rule P m) (legal_moves rule (position_after rule P m))
-          → smallest_tree aim.battle (chess aim.goal rule) t (position_after rule P m) + to_try_with rule aim p (passed f next s kn ∷ below) v ≤ 1 + to_try rule
-          aim p
-          (tested_frame k m undo t kq ∷ (passed f next s kn ∷ below)) None
-      unfolding to_try position
-      try-open v d = let n = fewest-start t (position_after rule P m) k in rw (d, sym (rest-start t (position_after rule P m) k)) (omega (arith, n))
-
-      work-open : test_work rule p (tested_frame k m undo t kq ∷ (passed f next s kn ∷ below)) < test_work rule p (f ∷ below)
-      unfolding test_work position
-      work-open =
-          rw (left, steps-next t P (untried_moves rule P f) (moves_ahead rule P f.order s next) m e, steps-start t (position_after rule P m) k) (omega arith)
-
-      open-open : 0 < t → 1 + to_test rule p (tested_frame k m undo t kq ∷ (passed f next s kn ∷ below)) ≤ to_test rule p (f ∷ below)
-      unfolding to_test position
-      open-open some =
-          rw (left, walk-next t P (untried_moves rule P f) (moves_ahead rule P f.order s next) m e, walk_count-start t (position_after rule P m) k some)
-          (omega arith)
 
   -- closing a frame opens none
   pub open-close : (p : Position) (f : Frame) (below : List Frame) → to_test rule p below ≤ to_test rule p (f ∷ below)
   unfolding to_test
   open-close p f below = omega arith
 
-  work-close : (p : Position) (f : Frame) (below : List Frame) → test_work rule p below < test_work rule p (f ∷ below)
-  unfolding test_work
-  work-close p f below = omega arith
-
 module _ (rule : RuleSet) (p : Position) where
-  cut-top : (f : Frame) (below : List Frame) → IsDescending (f ∷ below) → 0 < f.left
-  unfolding IsDescending
-  cut-top f below c = search rules
-
   top_cut : (f : Frame) (below : List Frame) (board : Position) → IsTesting rule p (f ∷ below) board → 0 < f.left
-  top_cut f below board r = cut-top f below r.cut
-
-  -- what undoes the top frame
-  pub CameFrom-top : (f g : Frame) (below : List Frame) (board : Position) → IsTesting rule p (f ∷ (g ∷ below)) board
-      → CameFromAt rule f board (position rule p (g ∷ below))
-  unfolding IsLinked position
-  CameFrom-top f g below board r = record { sound = r.linked.0; legal = r.linked.1; led = r.board_at; undone = r.linked.2 }
-
-  -- a frame above the lowest came from a position
-  pub CameFrom-deep : (f : Frame) (below : List Frame) (board : Position) → IsTesting rule p (f ∷ below) board → 0 < length below → CameFrom rule f board
-  CameFrom-deep f [] board r deep = absurd (omega (arith, deep))
-  CameFrom-deep f (g ∷ below) board r deep = (position rule p (g ∷ below), CameFrom-top f g below board r)
-
-  testing-close : (f : Frame) (below : List Frame) (board after : Position) → IsTesting rule p (f ∷ below) board → 0 < length below
-      → ((q : Position) → CameFromAt rule f board q → after ≡ q) → IsTesting rule p below after
-  unfolding IsLinked IsDescending AreKnown position
-  testing-close f below board after r deep before = search rules
-
-  room-close : (f : Frame) (below : List Frame) (board : Position) → IsTesting rule p (f ∷ below) board → 0 < length below → f.left + 1 ≡ left_at_top below
   unfolding IsDescending
-  room-close f below board r deep = search rules
+  top_cut f below board r = search rules
 
-  lowest-back : (f : Frame) (below : List Frame) (board : Position) → IsTesting rule p (f ∷ below) board → length below ≡ 0 → board ≡ p
-  unfolding position
-  lowest-back f below board r none = search rules
+  -- a frame above the lowest came from the position below
+  pub came_from : (f : Frame) (below : List Frame) (board : Position) → IsLinked rule p (f ∷ below) → board ≡ position rule p (f ∷ below)
+      → 0 < length below → CameFromAt rule f board (position rule p below)
+  unfolding IsLinked position
+  came_from f below board l at deep = search rules
 
   testing-settled : (f : Frame) (next : ℕ) (s : Stretch) (kn : Option LegalPlace) (below : List Frame) (board : Position)
       → IsTesting rule p (f ∷ below) board → IfSome kn (IsPlaceIn rule board) → IsTesting rule p (passed f next s kn ∷ below) board
@@ -252,42 +175,35 @@ module _ (rule : RuleSet) (aim : Aim) (floor : ℕ) (top : Frame) (old new : Lis
   popped : tests floor old ≡ top ∷ tests floor new
   popped = grind (arith, tests-push, length-append)
 
-  base_new : take floor new ≡ take floor old
-  base_new = grind (arith, take-append-le, length-append)
-
   testing_top : (p board : Position) → IsTesting rule p (tests floor old) board → IsTesting rule p (top ∷ tests floor new) board
   testing_top p board r = let P : List Frame → Type 0 = λ fs. IsTesting rule p fs board in subst P popped r
 
   -- what closing a frame asks for
   pub close_asks : (p board : Position) (depth : ℕ) → depth ≡ length new → IsTesting rule p (tests floor old) board → floor < depth → CameFrom rule top board
-  close_asks p board depth d r deep = CameFrom-deep rule p top (tests floor new) board (testing_top p board r) (omega (arith, length-tests floor new, d))
+  close_asks p board depth d r deep =
+      let t = testing_top p board r in
+      (_, came_from rule p top (tests floor new) board t.linked t.board_at (omega (arith, length-tests floor new, d)))
+
+  -- with v for the value of the top frame those below have its value, and as many positions left to try
+  abbrev HandsDown : Position → Option Bool → Bool → Type 0
+  HandsDown p was v = (pending_value rule aim p (top ∷ tests floor new) was ≡ delivered_value rule aim p (tests floor new) v)
+      × (to_try rule aim p (top ∷ tests floor new) was ≡ to_try_with rule aim p (tests floor new) v)
 
   module _ (board after : Position) (depth : ℕ) (v : Bool) (was is result : Option Bool) (d : depth ≡ length new)
       (lowest : depth ≤ floor → (result ≡ Some v) × (after ≡ board)) (above : floor < depth → (result ≡ None) × (is ≡ Some v))
       (before : (q : Position) → floor < depth → CameFromAt rule top board q → after ≡ q) where
     -- a frame that is closed ends the test or hands its value down
-    pub close_turns : (count : ℕ) (p : Position) → IsTesting rule p (tests floor old) board
-        → pending_value rule aim p (top ∷ tests floor new) was ≡ delivered_value rule aim p (tests floor new) v
-        → to_try rule aim p (top ∷ tests floor new) was ≡ to_try_with rule aim p (tests floor new) v → MatchOption result
-        (Turns rule aim floor p old new was is after count count) (λ w. Ends rule aim floor p old new was after count count w)
-    close_turns count p r e left = elim (cases_lt floor depth) [
-      | inl deep ↦ rw (above deep).0 (record {
-        testing = testing-close rule p top (tests floor new) board after (testing_top p board r)
-            (omega (arith, length-tests floor new, d)) (λ q cf. before q deep cf);
-        same = grind (arith, popped, delivered_value-some, length-tests);
-        falls = rw popped (work-close rule aim p top (tests floor new));
-        above = omega (arith, d);
-        base = base_new;
-        counted = rw popped (omega (arith, open-close rule aim p top (tests floor new)));
-        tried = rw (popped, (above deep).1) (omega (arith, left, try-some rule aim p (tests floor new) v (omega (arith, length-tests floor new, d))));
-      })
-      | inr low ↦ grind (arith, popped, delivered_value-none, length-tests, lowest-back, take_all, base_new, try-none)
-    ]
+    pub close_turns : (count : ℕ) (p : Position) → IsTesting rule p (tests floor old) board → HandsDown p was v
+        → MatchOption result (Turns rule aim floor p old new was is after count count) (λ w. Ends rule aim floor p old new was after count count w)
+    unfolding IsLinked IsDescending AreKnown position test_work delivered_value to_try_with
+    close_turns count p r hands =
+        search (rules, cases_lt, testing_top, length-tests, popped, delivered_value-some, open-close, try-some, take_all, take-append-le, length-append)
 
     -- closing keeps the room
     pub close_room : (p : Position) (N : ℕ) → IsTesting rule p (tests floor old) board → left_at_top (tests floor old) + length old ≤ N + 1
         → IfNone result (left_at_top (tests floor new) + length new ≤ N + 1)
-    close_room p N r room = grind (arith, cases_lt, room-close, testing_top, length-tests, popped, length-append)
+    unfolding IsDescending
+    close_room p N r room = search (rules, cases_lt, testing_top, length-tests, popped, length-append)
 
   module _ (place : ℕ) (s : Stretch) (kn : Option LegalPlace) (m : Move) (board after : Position) (N : ℕ) (was : Option Bool) (last : List Frame)
       (some : 0 < top.left) (open_yet : (was ≡ None) ⊎ (was ≡ Some (not (seeks aim.battle top.left))))
@@ -319,38 +235,6 @@ module _ (rule : RuleSet) (aim : Aim) (floor : ℕ) (top : Frame) (old new : Lis
       here : untried_moves rule (position rule p (top ∷ tests floor new)) top ≡ m ∷ moves_ahead rule (position rule p (top ∷ tests floor new)) top.order s place
       here = rw (← at) next
 
-      descend_testing : (is : Option Bool) → Descends is → IsTesting rule p (tests floor last) after
-      descend_testing None d = rw (opened_last d, d.2)
-          (testing-open rule p top place s m d.3.order _ kn d.3.known _ board (testing_top p board r) lawful d.0 left_is within d.3.within)
-      descend_testing (Some v) d = rw (settled_last v d, d.1) (testing-settled rule p top place s kn _ board (testing_top p board r) within)
-
-      descend_same : (is : Option Bool) → Descends is → pending_value rule aim p (tests floor old) was ≡ pending_value rule aim p (tests floor last) is
-      descend_same None d = rw (opened_last d, popped)
-          (pending_value-undecided rule aim p top (tests floor new) was open_yet ∙ delivered_value-next rule aim p top _ place s m _ kn left_is here
-          ∙ delivered_value-open rule aim p top _ place s m _ kn left_is here _ d.3.order d.3.known _ (rw (← at) d.1))
-      descend_same (Some v) d = rw (settled_last v d, popped)
-          (pending_value-undecided rule aim p top (tests floor new) was open_yet ∙ delivered_value-next rule aim p top _ place s m _ kn left_is here
-          ∙ ap (delivered_value rule aim p _) (rw (← at) (sym d.0)) ∙ delivered_value-some rule aim p _ v (omega arith))
-
-      descend_falls : (is : Option Bool) → Descends is → test_work rule p (tests floor last) < test_work rule p (tests floor old)
-      descend_falls None d = rw (opened_last d, popped) (search (rules, here, work-open, left_is))
-      descend_falls (Some v) d = rw (settled_last v d, popped) (search (rules, here, work-settled, left_is))
-
-      descend_counted : (is : Option Bool) → Descends is → (before count : ℕ)
-          → MatchOption is (count ≤ before + 1) (λ _. count ≤ before + walk_count (legal_moves rule) (position_after rule) (top.left - 1)
-          (position_after rule board m))
-          → count + to_test rule p (tests floor last) ≤ before + to_test rule p (tests floor old)
-      descend_counted None d before count o = rw (opened_last d, popped) (search (rules, at, here, open-open, left_is))
-      descend_counted (Some v) d before count o = rw (settled_last v d, popped) (search (rules, at, here, open-settled, left_is))
-
-      descend_tried : (is : Option Bool) → Descends is → (before count : ℕ)
-          → MatchOption is (HasCounted before count 1) (λ _. HasCounted before count
-          (smallest_tree aim.battle (chess aim.goal rule) (top.left - 1) (position_after rule
-          board m))) → min (before + to_try rule aim p (tests floor old) was) (2 ^ 64 - 1) ≤ count + to_try rule aim p (tests floor last) is
-      descend_tried None d before count tries = rw (opened_last d, popped) (search (rules, at, here, try-undecided, try-next, try-open, left_is))
-      descend_tried (Some v) d before count tries = rw (settled_last v d, popped)
-          (let n = try-next rule aim p top (tests floor new) place s m _ kn left_is here in search (rules, at, try-undecided, try-some))
-
     -- a move that is played hands its value down or opens a frame
     pub descend_turns : (is : Option Bool) → Descends is → (before count : ℕ)
         → MatchOption is (count ≤ before + 1) (λ _. count ≤ before + walk_count (legal_moves rule) (position_after rule) (top.left - 1)
@@ -358,14 +242,28 @@ module _ (rule : RuleSet) (aim : Aim) (floor : ℕ) (top : Frame) (old new : Lis
         → MatchOption is (HasCounted before count 1) (λ _. HasCounted before count
         (smallest_tree aim.battle (chess aim.goal rule) (top.left - 1) (position_after rule
         board m))) → (p : Position) → IsTesting rule p (tests floor old) board → Turns rule aim floor p old last was is after before count
-    descend_turns is d before count o tries p r = record {
-      testing = descend_testing p r is d;
-      same = descend_same p r is d;
-      falls = descend_falls p r is d;
+    unfolding pending_value position test_work to_test to_try
+    descend_turns None d before count o tries p r = record {
+      testing = rw (opened_last d, d.2)
+          (testing-open rule p top place s m d.3.order _ kn d.3.known _ board (testing_top p board r) lawful d.0 left_is within d.3.within);
+      same = search (rules, opened_last, popped, pending_value-undecided, delivered_value-next, left_is, here p r, rest-start);
+      falls = search (rules, opened_last, popped, here p r, left_is, steps-next, steps-start);
       above = grind (arith, length-append);
       base = grind (arith, take-append-le, length-append);
-      counted = descend_counted p r is d before count o;
-      tried = descend_tried p r is d before count tries;
+      counted = search (rules, opened_last, popped, here p r, left_is, walk-next, walk_count-start);
+      tried = search (rules, opened_last, popped, here p r, try-undecided, try-next, left_is, fewest-start, rest-start);
+    }
+    descend_turns (Some v) d before count o tries p r = record {
+      testing = rw (settled_last v d, d.1) (testing-settled rule p top place s kn _ board (testing_top p board r) within);
+      same = rw (settled_last v d, popped)
+          (pending_value-undecided rule aim p top (tests floor new) was open_yet ∙ delivered_value-next rule aim p top _ place s m _ kn left_is (here p r)
+          ∙ ap (delivered_value rule aim p _) (rw (← at p r) (sym d.0)) ∙ delivered_value-some rule aim p _ v (omega arith));
+      falls = rw (settled_last v d, popped) (search (rules, here p r, work-settled, left_is));
+      above = grind (arith, length-append);
+      base = grind (arith, take-append-le, length-append);
+      counted = rw (settled_last v d, popped) (search (rules, at p r, here p r, open-settled, left_is));
+      tried = rw (settled_last v d, popped)
+          (let n = try-next rule aim p top (tests floor new) place s m _ kn left_is (here p r) in search (rules, at p r, try-undecided, try-some));
     }
 
     -- playing it keeps the room
@@ -386,40 +284,23 @@ module _ (rule : RuleSet) (aim : Aim) (floor : ℕ) (top : Frame) (old new : Lis
   pub top_room : (N : ℕ) → left_at_top (tests floor old) + length old ≤ N + 1 → length new + top.left ≤ N
   top_room N room = let t : left_at_top (tests floor old) ≡ top.left = ap left_at_top popped in grind (arith, length-append)
 
-  -- the value of a frame that its answer decides, and of one with no move left
-  pub decided_value : (p : Position) (was : Option Bool) → was ≡ Some (seeks aim.battle top.left)
-      → pending_value rule aim p (top ∷ tests floor new) was ≡ delivered_value rule aim p (tests floor new) (seeks aim.battle top.left)
-  decided_value p was e = pending_value-decided rule aim p top (tests floor new) was e
+  -- a frame that its answer decides hands that down
+  pub decided : (p : Position) (was : Option Bool) → was ≡ Some (seeks aim.battle top.left) → HandsDown p was (seeks aim.battle top.left)
+  unfolding pending_value delivered_value to_try to_try_with
+  decided p was e = search rules
 
   -- where no move is left untried and none decided, all moves did together
-  pub exhausted_value : (p board : Position) (was : Option Bool) → IsTesting rule p (tests floor old) board
-      → (was ≡ None) ⊎ (was ≡ Some (not (seeks aim.battle top.left))) → untried_moves rule board top ≡ []
-      → pending_value rule aim p (top ∷ tests floor new) was ≡ delivered_value rule aim p (tests floor new) (not (seeks aim.battle top.left))
-  exhausted_value p board was r u e = grind (arith, testing_top p board r, pending_value-undecided rule aim p top (tests floor new) was u, rest-none, top_some)
-
-  -- and the positions that are to be tried then
-  pub decided_left : (p : Position) (was : Option Bool) → was ≡ Some (seeks aim.battle top.left)
-      → to_try rule aim p (top ∷ tests floor new) was ≡ to_try_with rule aim p (tests floor new) (seeks aim.battle top.left)
-  decided_left p was e = try-decided rule aim p top (tests floor new) was e
-
-  -- then nothing is left to be tried there
-  pub exhausted_left : (p board : Position) (was : Option Bool) → IsTesting rule p (tests floor old) board
-      → (was ≡ None) ⊎ (was ≡ Some (not (seeks aim.battle top.left))) → untried_moves rule board top ≡ []
-      → to_try rule aim p (top ∷ tests floor new) was ≡ to_try_with rule aim p (tests floor new) (not (seeks aim.battle top.left))
-  exhausted_left p board was r u e =
-      let at : board ≡ position rule p (top ∷ tests floor new) = (testing_top p board r).board_at in
-      let none : untried_moves rule (position rule p (top ∷ tests floor new)) top ≡ [] = rw (← at) e in
+  pub exhausted : (p board : Position) (was : Option Bool) → IsTesting rule p (tests floor old) board
+      → (was ≡ None) ⊎ (was ≡ Some (not (seeks aim.battle top.left))) → untried_moves rule board top ≡ [] → HandsDown p was (not (seeks aim.battle top.left))
+  exhausted p board was r u e =
+      let none : untried_moves rule (position rule p (top ∷ tests floor new)) top ≡ [] = rw (← (testing_top p board r).board_at) e in
       let v = rest-none rule aim top.left (position rule p (top ∷ tests floor new)) _ (top_some p board r) none in
-      grind (arith, try-undecided, trees-end)
+      (grind (arith, pending_value-undecided rule aim p top (tests floor new) was u), grind (arith, try-undecided, trees-end))
 
 -- a call that leaves the board as it was
 pub testing_same : (rule : RuleSet) (p : Position) (frames : List Frame) (board now : Position) → IsTesting rule p frames board → now ≡ board
     → IsTesting rule p frames now
 testing_same rule p frames board now r e = rw e r
-
-nil_of : (xs : List Frame) → length xs ≡ 0 → xs ≡ []
-nil_of [] e = refl
-nil_of (x ∷ xs) e = absurd (omega (arith, e))
 
 -- a test of the position p, of the value v, over the frames `under`
 pub record IsUnderway (rule : RuleSet) (aim : Aim) (floor : ℕ) (p : Position) (N : ℕ) (v : Bool) (under frames : List Frame) (answer : Option Bool)
@@ -442,8 +323,7 @@ module _ (rule : RuleSet) (aim : Aim) where
       (before + walk_count (legal_moves rule) (position_after rule) left p) (before + smallest_tree aim.battle (chess aim.goal rule) left p)
   unfolding pending_value delivered_value IsLinked IsDescending AreKnown position to_test to_try to_try_with
   begins floor p N left k board before count by undo under frames kn low put within room more one_more at sound d =
-      let none : tests floor under ≡ [] = nil_of (tests floor under) (omega (arith, length-tests floor under, low)) in
-      grind (arith, tests-push, length-append, walk_count-start, fewest-start, rest-start, take-append-le, take_all)
+      search (rules, length-tests floor under, tests-push, length-append, walk_count-start, fewest-start, rest-start, take-append-le, take_all)
 
   -- each turn leaves it under way
   pub goes_on : (floor : ℕ) (p : Position) (N : ℕ) (v : Bool) (under old new : List Frame) (was is : Option Bool) (board after : Position) (before count most

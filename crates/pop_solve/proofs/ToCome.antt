@@ -1,5 +1,5 @@
 -- What the moves still to come say of paths, turns and counts: the next move, and those passed over.
-use Rattle.pop_solve.proofs.Words.{Battle, BattlePlay, Bool, Frame, GoesTo, HelpPlay, are_whites, List, Mate, Move, Plan, Position, RuleSet, Steps, Undo, [], ap, append_assoc, append-nil, allows_mate, arith, chess, cond, eqb, false, fewest_for, fewest_left, fewest_walked, filter, is_followed, is_given, walk_length, inl, inr, is_mate, is_mating, length, length-append, map, map-append, mates_behind, min, moves_behind, opened_frame, path, position, refl, rules, seeks, seeks_last, shown_paths, smallest_tree, work_from, work_behind, suc, sum_by, sum_by-append, sum_by-cons, sym, to_come, to_open, true, walk_work, value, has_variations, walk_behind, walk_count, zero, ℕ, ◌++◌, ◌+◌, ◌-◌, ◌<◌, ◌^◌, ◌∙◌, ◌∷◌, ◌≡◌, ◌≤◌, ◌⊎◌}
+use Rattle.pop_solve.proofs.Words.{Battle, BattlePlay, Bool, Frame, GoesTo, HelpPlay, are_whites, List, Mate, Move, Plan, Position, RuleSet, Steps, Undo, [], ap, append_assoc, append-nil, allows_mate, arith, chess, cond, eqb, false, fewest_for, fewest_left, fewest_walked, filter, is_followed, is_given, walk_length, inl, inr, is_mate, is_mating, length, length-append, map, map-append, mates_behind, moves_behind, opened_frame, path, position, refl, rules, seeks, seeks_last, shown_paths, smallest_tree, work_from, work_behind, suc, sum_by, sum_by-append, sum_by-cons, sym, to_come, to_open, true, walk_work, value, has_variations, walk_behind, walk_count, zero, ℕ, ◌++◌, ◌+◌, ◌-◌, ◌<◌, ◌∙◌, ◌∷◌, ◌≡◌, ◌≤◌, ◌⊎◌}
 use Rattle.chess_rules.specs.Play.{position_after}
 use Rattle.chess_rules.specs.Legal.{moves as legal_moves}
 use Rattle.pop_solve.proofs.Boards.{behind_start}
@@ -17,8 +17,7 @@ abbrev pub given_path : Bool → List Move → List (List Move)
 given_path b L = cond b (L ∷ []) []
 
 -- a line behind a path and a move
-pub map-path : (L : List Move) (m : Move) (xs : List (List Move))
-    → map (λ line. L ++ line) (map (λ line. m ∷ line) xs) ≡ map (λ line. (L ++ m ∷ []) ++ line) xs
+pub map-path : (L : List Move) (m : Move) (xs : List (List Move)) → map (λ line. L ++ line) (map (λ line. m ∷ line) xs) ≡ map (λ line. (L ++ m ∷ []) ++ line) xs
 map-path L m [] = refl
 map-path L m (x ∷ xs) = rw (append_assoc L (m ∷ []) x, map-path L m xs)
 
@@ -59,11 +58,10 @@ module _ (rule : RuleSet) (plan : Plan) where
   -- the positions to be tried for the next move, and for the others
   fewest-next : (root : Bool) (k t : ℕ) (P : Position) (m : Move) (ms : List Move)
       → fewest_walked plan (chess plan.goal rule) root (suc k) (suc t) P (m ∷ ms)
-      ≡ (fewest_for plan.play (has_variations plan.tree) (chess plan.goal rule) root t (position_after rule P m) + cond
-      (is_followed plan.play (chess plan.goal rule) root t (position_after rule P m))
-      (fewest_walked plan (chess plan.goal rule) false k (walk_length plan.play (has_variations plan.tree) (chess plan.goal rule) t
-      (position_after rule P m)) (position_after rule P m) (legal_moves rule (position_after rule P m))) 0) + fewest_walked plan (chess plan.goal rule) root
-      (suc k) (suc t) P ms
+      ≡ (fewest_for plan.play (has_variations plan.tree) (chess plan.goal rule) root t (position_after rule P m)
+      + cond (is_followed plan.play (chess plan.goal rule) root t (position_after rule P m)) (fewest_walked plan (chess plan.goal rule) false k (walk_length
+      plan.play (has_variations plan.tree) (chess plan.goal rule) t (position_after rule P m)) (position_after rule P m) (legal_moves rule (position_after rule
+      P m))) 0) + fewest_walked plan (chess plan.goal rule) root (suc k) (suc t) P ms
   unfolding fewest_walked
   fewest-next root k t P m ms = search (rules, sum_by-cons)
 
@@ -143,9 +141,7 @@ module _ (rule : RuleSet) (plan : Plan) where
     -- so does following it
     pub turns-enter : (undo : Undo) (tried : ℕ) → walk_work rule h p (opened_frame m undo tried ∷ (moved f next ∷ below)) < walk_work rule h p (f ∷ below)
     unfolding walk_work position
-    turns-enter undo tried =
-        let less : h - suc (length below) ≡ k = omega arith in
-        rw (fuel, less, work_behind-next rule k (position rule p (f ∷ below)) f.place next m e, steps-start rule k q) (omega arith)
+    turns-enter undo tried = search (rules, work_behind-next rule k (position rule p (f ∷ below)) f.place next m e, steps-start rule k q)
 
     -- the next move opens what it can, and the others theirs
     pub open-next : to_open rule p (f ∷ below) ≡ walk_count (legal_moves rule) (position_after rule) t q + to_open rule p (moved f next ∷ below)
@@ -184,47 +180,28 @@ module _ (rule : RuleSet) (plan : Plan) where
   -- moves that have no paths: at the last half-move those that don't mate, by a side that seeks mate
   module _ (P : Position) where
     ends : (low : Bool) (fuel k : ℕ) (m : Move) (q : Position) (qs ms : List Move)
-        → map (λ line. m ∷ line) (shown_paths plan (chess plan.goal rule) false k 0 q qs)
-        ++ shown_paths plan (chess plan.goal rule) low (suc fuel) 1 P ms ≡ shown_paths plan
-        (chess plan.goal rule) low (suc fuel) 1 P ms
+        → map (λ line. m ∷ line) (shown_paths plan (chess plan.goal rule) false k 0 q qs) ++ shown_paths plan (chess plan.goal rule) low (suc fuel) 1 P ms
+        ≡ shown_paths plan (chess plan.goal rule) low (suc fuel) 1 P ms
     unfolding shown_paths
     ends low fuel k m q qs ms = search rules
 
-    gives-last : (q : Position) → plan.play ≡ HelpPlay → plan.goal ≡ Mate → is_mate rule q ≡ false → is_given plan.play (chess plan.goal rule) 0 q ≡ false
-    unfolding is_given
-    gives-last q help for misses = rw (help, for, misses) refl
-
     -- in direct play a move that doesn't mate isn't followed, and tries nothing
     follows-last : (low : Bool) (q : Position) (battle : Battle) → plan.play ≡ BattlePlay battle → seeks battle 1 ≡ true → plan.goal ≡ Mate
-        → is_mate rule q ≡ false
-        → is_followed plan.play (chess plan.goal rule) low 0 q ≡ false
+        → is_mate rule q ≡ false → is_followed plan.play (chess plan.goal rule) low 0 q ≡ false
     unfolding is_followed value
     follows-last low q battle fought white for misses = search rules
-
-    fewest_for-last : (low : Bool) (q : Position) (battle : Battle) → plan.play ≡ BattlePlay battle → seeks battle 1 ≡ true
-        → fewest_for plan.play (has_variations plan.tree) (chess plan.goal rule) low 0 q ≡ 0
-    unfolding smallest_tree
-    fewest_for-last low q battle fought white = search rules
 
     -- a last move that doesn't mate gives no path, where the side seeks mate
     pub skipped : (low : Bool) (fuel : ℕ) → seeks_last plan.play ≡ true → plan.goal ≡ Mate → (m : Move) (ms : List Move) → is_mating rule P m ≡ false
         → shown_paths plan (chess plan.goal rule) low fuel 1 P (m ∷ ms) ≡ shown_paths plan (chess plan.goal rule) low fuel 1 P ms
-    unfolding shown_paths
-    skipped low zero last for m ms misses = refl
-    skipped low (suc fuel) last for m ms misses =
-        let q = position_after rule P m in
-        let game = chess plan.goal rule in
-        rw (shown_paths-next low fuel 0 P m ms) (elim (ways plan.play) [
-          | inl help ↦ rw (follows-help plan game low 0 q help, gives-last q help for misses, walk_length-help plan game 0 q help)
-              (ends low fuel fuel m q (legal_moves rule q) ms)
-          | inr way ↦ rw (follows-last low q way.0 way.1 (rw way.1 at last) for misses) refl
-        ])
+    unfolding shown_paths is_given
+    skipped low fuel last for m ms misses = search (rules, shown_paths-next, ways, follows-help, walk_length-help, ends, follows-last)
 
     fewest-skipped : (low : Bool) (fuel : ℕ) → seeks_last plan.play ≡ true → plan.goal ≡ Mate → (battle : Battle) → plan.play ≡ BattlePlay battle
         → (m : Move) (ms : List Move) → is_mating rule P m ≡ false
         → fewest_walked plan (chess plan.goal rule) low fuel 1 P (m ∷ ms) ≡ fewest_walked plan (chess plan.goal rule) low fuel 1 P ms
-    unfolding fewest_walked
-    fewest-skipped low fuel last for battle fought m ms misses = search (rules, fewest-next, fewest_for-last, follows-last)
+    unfolding fewest_walked smallest_tree
+    fewest-skipped low fuel last for battle fought m ms misses = search (rules, fewest-next, follows-last)
 
     none_of : (ms : List Move) → sum_by (λ m. walk_count (legal_moves rule) (position_after rule) 0 (position_after rule P m)) ms ≡ 0
     unfolding walk_count
@@ -246,27 +223,13 @@ module _ (rule : RuleSet) (plan : Plan) where
         (legal_moves rule P) [] (rw (← behind_start rule P) none) in
         (rw all at skip) ∙ shown_paths-none false fuel 1 P [] (inr refl)
 
-    gives-more : (q : Position) → is_given plan.play (chess plan.goal rule) 1 q ≡ false
-    unfolding is_given
-    gives-more q = rw help refl
-
     no_mates : (P : Position) (m : Move) → allows_mate rule P m ≡ false → mates_behind rule (position_after rule P m) 0 ≡ []
     no_mates P m none = search rules
 
     pub settled : (P : Position) (low : Bool) (fuel : ℕ) (m : Move) (ms : List Move) → allows_mate rule P m ≡ false
         → shown_paths plan (chess plan.goal rule) low fuel 2 P (m ∷ ms) ≡ shown_paths plan (chess plan.goal rule) low fuel 2 P ms
-    unfolding shown_paths
-    settled P low zero m ms none = refl
-    settled P low (suc fuel) m ms none =
-        let q = position_after rule P m in
-        let game = chess plan.goal rule in
-        rw (
-          shown_paths-next low fuel 1 P m ms,
-          follows-help plan game low 1 q help,
-          gives-more q,
-          walk_length-help plan game 1 q help,
-          mateless q fuel (no_mates P m none),
-        ) refl
+    unfolding shown_paths is_given
+    settled P low fuel m ms none = search (rules, shown_paths-next, follows-help, walk_length-help, mateless, no_mates)
 
   -- each move counts one, with a half-move left behind it
   each_one : (P : Position) (ms : List Move) → sum_by (λ m. walk_count (legal_moves rule) (position_after rule) 1 (position_after rule P m)) ms ≡ length ms
@@ -280,12 +243,6 @@ module _ (rule : RuleSet) (plan : Plan) where
       (g : GoesTo rule plan f.left (position rule p (f ∷ below)) f.place rest before between) where
     abbrev P : Position
     P = position rule p (f ∷ below)
-
-    abbrev deepest : Bool
-    deepest = eqb (length below) 0
-
-    abbrev room : ℕ
-    room = h - length below
 
     abbrev later : List Frame
     later = moved f g.mid ∷ below
@@ -306,16 +263,12 @@ module _ (rule : RuleSet) (plan : Plan) where
     come-skip : to_come rule plan h p (f ∷ below) ≡ to_come rule plan h p later
     unfolding to_come position path
     come-skip = ap (λ lines. map (λ line. path (f ∷ below) ++ line) lines ++ to_come rule plan h p below)
-        (same-later (λ n ms. shown_paths plan (chess plan.goal rule) deepest room n P ms) (skipped P deepest room)
-        (λ help for. settled help for P deepest room))
+        (same-later (λ n ms. shown_paths plan (chess plan.goal rule) (eqb (length below) 0) (h - length below) n P ms) (skipped P _ _)
+        (λ help for. settled help for P _ _))
 
     fewer : (k : ℕ) → work_behind rule k P g.mid ≤ work_behind rule k P f.place
     unfolding work_behind
     fewer k = search (rules, sum_by-append)
-
-    turns-skip : walk_work rule h p later ≤ walk_work rule h p (f ∷ below)
-    unfolding walk_work position
-    turns-skip = let s = fewer (h - length below) in omega (arith, s)
 
     same : (k : ℕ) → moves_behind rule P f.place ≡ moves_behind rule P g.mid → walk_behind rule k P f.place ≡ walk_behind rule k P g.mid
     unfolding walk_behind
@@ -326,23 +279,14 @@ module _ (rule : RuleSet) (plan : Plan) where
     unfolding walk_behind
     each k e = rw (e, each_one P (moves_behind rule P f.place), each_one P (moves_behind rule P g.mid)) (ap length g.passed ∙ length-append g.over _)
 
-    -- so many frames are counted that are then no longer to be opened
-    open-skip : (n : ℕ) × (to_open rule p (f ∷ below) ≡ n + to_open rule p later)
-        × (((n ≡ 0) × (between ≡ before)) ⊎ ((plan.play ≡ HelpPlay) × (between ≡ min (before + n) (2 ^ 64 - 1))))
-    unfolding to_open position
-    open-skip = elim g.fits [
-      | inl e ↦ (0, search (rules, nothing, same), inl (refl, e.0))
-      | inr e ↦ (length g.over, omega (arith, each f.left e.2), inr (e.0, e.3.counts))
-    ]
-
     tries-skip : (battle : Battle) → plan.play ≡ BattlePlay battle → fewest_left rule plan h p (f ∷ below) ≡ fewest_left rule plan h p later
     unfolding fewest_left position
     tries-skip battle fought = ap (λ n. n + fewest_left rule plan h p below)
-        (same-later (λ n ms. fewest_walked plan (chess plan.goal rule) deepest room n P ms)
-        (λ last for. fewest-skipped P deepest room last for battle fought) (λ help. absurd (let e : HelpPlay ≡ BattlePlay battle = sym help ∙ fought in cc)))
+        (same-later (λ n ms. fewest_walked plan (chess plan.goal rule) (eqb (length below) 0) (h - length below) n P ms)
+        (λ last for. fewest-skipped P _ _ last for battle fought) (λ help. absurd (let e : HelpPlay ≡ BattlePlay battle = sym help ∙ fought in cc)))
 
     -- what follows moves that are passed over follows from before them
     pub steps-skip : (new : List Frame) (board : Position) (after : ℕ) (given : Bool) → Steps rule plan h p later new board between after given
         → Steps rule plan h p (f ∷ below) new board before after given
-    unfolding are_whites
-    steps-skip new board after given s = search (rules, come-skip, open-skip, tries-skip, turns-skip)
+    unfolding are_whites to_open position walk_work
+    steps-skip new board after given s = search (rules, come-skip, tries-skip, nothing, same, each, fewer)

@@ -1,8 +1,8 @@
 -- What the walk shows is the tree that the definitions name.
-use Rattle.pop_solve.proofs.Words.{Battle, BattlePlay, Bool, Direct, Game, HelpPlay, List, Plan, Selfmate, [], continuations, ap, append-nil, arith, best_moves, cond, eqb, every_move, false, fewest_half_moves, filter, least_length_from, flat_map, flat_map_single, is_followed, is_given, walk_length, keeps_win, least_moves, lines_to_goal, list_all, map, nat_tests, node, nodes_below, not, shown_length, refl, rules, seeks, shown_paths, suc, sym, true, value, has_variations, zero, ℕ, ◌%◌, ◌&&◌, ◌*◌, ◌++◌, ◌+◌, ◌-◌, ◌/◌, ◌<◌, ◌||◌, ◌∙◌, ◌∷◌, ◌≡◌, ◌≤◌}
-use Rattle.pop_solve.proofs.Battles.{value-is_lost, value-is_self_lost}
+use Rattle.pop_solve.proofs.Words.{Battle, BattlePlay, Bool, Direct, Game, HelpPlay, List, Plan, Selfmate, [], continuations, ap, append-nil, arith, best_moves, cond, eqb, every_move, false, fewest_half_moves, filter, least_length_from, flat_map, flat_map_single, is_followed, is_given, walk_length, keeps_win, least_moves, lines_to_goal, list_all, map, nat_tests, node, nodes_below, not, shown_length, refl, rules, seeks, shown_paths, suc, sym, true, value, has_variations, zero, ℕ, ◌%◌, ◌*◌, ◌++◌, ◌+◌, ◌-◌, ◌/◌, ◌<◌, ◌||◌, ◌∙◌, ◌∷◌, ◌≡◌, ◌≤◌, and_parts, inl, inr}
+use Rattle.pop_solve.proofs.Battles.{value-is_lost, value-is_self_lost, value-zero}
 use Rattle.pop_solve.proofs.Lengths.{length-more}
-use Rattle.pop_solve.proofs.GoingOn.{length_most, walk_length-keys}
+use Rattle.pop_solve.proofs.GoingOn.{length_most, walk_length-keys, given-battle, walk_length-help, cases}
 use Rattle.pop_solve.proofs.Least.{least_moves-direct, least_moves-selfmate}
 
 -- the half-moves of a battle of so many moves
@@ -14,19 +14,14 @@ halves Selfmate k = 2 * k
 module _ {A B : Type 0} where
   -- joined lists that are alike one by one
   pub flat-same : (F G : A → List B) (xs : List A) → ((x : A) → F x ≡ G x) → flat_map F xs ≡ flat_map G xs
-  flat-same F G [] e = refl
-  flat-same F G (x ∷ xs) e = rw (e x, flat-same F G xs e) refl
+  flat-same F G xs e = ap (λ f. flat_map f xs) (λ i x. e x i)
 
   -- where all pass the test
   flat-all : (test : A → Bool) (F G : A → List B) (xs : List A) → list_all test xs ≡ true → ((x : A) → test x ≡ true → F x ≡ G x)
       → flat_map F xs ≡ flat_map G xs
   flat-all test F G [] t e = refl
   flat-all test F G (x ∷ xs) t e =
-      let b = both (test x) (list_all test xs) t in rw (e x b.0, flat-all test F G xs b.1 e) refl
-    where
-      both : (a b : Bool) → (a && b) ≡ true → (a ≡ true) × (b ≡ true)
-      both true b e = (refl, e)
-      both false b e = absurd cc
+      let b = and_parts (test x) (list_all test xs) t in rw (e x b.0, flat-all test F G xs b.1 e) refl
 
   -- by those that pass it
   pub flat-filter : (test other : A → Bool) (F G : A → List B) (xs : List A) → ((x : A) → test x ≡ other x) → ((x : A) → test x ≡ true → F x ≡ G x)
@@ -47,17 +42,13 @@ module _ {P M : Type 0} (game : Game P M) where
         → cond b ((m ∷ []) ∷ []) [] ++ map (λ line. m ∷ line) xs ≡ map (λ line. m ∷ line) ys
     by_move b m xs ys e = search rules
 
-    walk_length-whole : (t : ℕ) (q : P) → walk_length plan.play (has_variations plan.tree) game t q ≡ t
-    unfolding walk_length
-    walk_length-whole t q = rw help refl
-
     -- by some of the moves
     pub shown_paths-moves : (root : Bool) (k : ℕ) (p : P) (ms : List M)
         → shown_paths plan game root (suc k) (suc k) p ms ≡ flat_map (λ m. map (λ line. m ∷ line) (lines_to_goal game k (game.after p m))) ms
     unfolding shown_paths is_followed is_given lines_to_goal
     shown_paths-moves root zero p ms = grind (arith, flat-same, by_move, append-nil)
     shown_paths-moves root (suc k) p ms =
-        flat-same _ _ ms (λ m. grind (arith, by_move, walk_length-whole, nat_tests, shown_paths-moves false k (game.after p m) (game.moves (game.after p m))))
+        flat-same _ _ ms (λ m. grind (arith, by_move, walk_length-help, nat_tests, shown_paths-moves false k (game.after p m) (game.moves (game.after p m))))
 
     -- so from all moves of a position
     pub shown_paths-help : (root : Bool) (k : ℕ) (p : P) → shown_paths plan game root (suc k) (suc k) p (game.moves p) ≡ lines_to_goal game (suc k) p
@@ -73,9 +64,10 @@ module _ {P M : Type 0} (game : Game P M) where
   seeks-halves Direct t s some = let e : t % 2 ≡ 1 = grind (arith, nat_tests) in (t / 2, omega (arith, e))
 
   -- the test of a move of White
-  pub keeps-value : (battle : Battle) (k : ℕ) (q : P) → keeps_win battle game (suc k) q ≡ value battle game (halves battle (suc k) - 1) q
-  keeps-value Direct k q = let n : suc k - 1 ≡ k = omega arith in let h : 2 * suc k - 1 - 1 ≡ 2 * k = omega arith in rw (n, h) (sym (value-is_lost game k q))
-  keeps-value Selfmate k q = let h : 2 * suc k - 1 ≡ suc (2 * k) = omega arith in rw h (sym (value-is_self_lost game k q))
+  pub keeps-value : (battle : Battle) (k l : ℕ) (q : P) → suc l ≡ halves battle k → value battle game l q ≡ keeps_win battle game k q
+  keeps-value Direct k l q e = let h : l ≡ 2 * (k - 1) = omega (arith, e) in rw h (value-is_lost game (k - 1) q)
+  keeps-value Selfmate zero l q e = absurd (omega (arith, e))
+  keeps-value Selfmate (suc k) l q e = let h : l ≡ suc (2 * k) = omega (arith, e) in rw h (value-is_self_lost game k q)
 
   -- the least length by half-moves is that of the least number of moves
   least_moves-halves : (battle : Battle) (n t : ℕ) (q : P) → seeks battle t ≡ true → 0 < t → t ≤ 2 * n → game.goal q ≡ false → value battle game t q ≡ true
@@ -85,11 +77,6 @@ module _ {P M : Type 0} (game : Game P M) where
       grind (arith, seeks-halves Selfmate t s some, length-more, least_moves-selfmate game q open_yet n)
   least_moves-halves Direct zero t q s some most open_yet v = absurd (omega (arith, some, most))
   least_moves-halves Direct (suc n) t q s some most open_yet v = grind (arith, seeks-halves Direct t s some, length-more, least_moves-direct game q n)
-
-  -- a battle with a half-move has a move
-  pub half-some : (battle : Battle) (k : ℕ) → 0 < halves battle k → (j : ℕ) × (k ≡ suc j)
-  half-some Selfmate k some = (k - 1, omega (arith, some))
-  half-some Direct k some = (k - 1, omega (arith, some))
 
   -- the value of Black's position holds after each of his moves
   value-black : (battle : Battle) (t : ℕ) (q : P) → game.goal q ≡ false → seeks battle (suc t) ≡ false → value battle game (suc t) q ≡ true
@@ -109,8 +96,9 @@ module _ {P M : Type 0} (game : Game P M) where
   least_length_from-least_moves battle q (suc n) a = search (rules, least_length_from-least_moves battle q n (a + 2))
 
   -- White is to move with all half-moves of a battle left
-  pub halves-seek : (battle : Battle) (k : ℕ) → seeks battle (halves battle (suc k)) ≡ true
-  halves-seek battle k = search rules
+  pub halves-seek : (battle : Battle) (k l : ℕ) → suc l ≡ halves battle k → seeks battle (l + 1) ≡ true
+  halves-seek Direct k l e = let odd : (l + 1) % 2 ≡ 1 = omega (arith, e) in grind (arith, nat_tests)
+  halves-seek Selfmate k l e = let even : (l + 1) % 2 ≡ 0 = omega (arith, e) in grind (arith, nat_tests)
 
   -- what isn't true is false
   pub flip : (b : Bool) → not b ≡ true → b ≡ false
@@ -120,25 +108,16 @@ module _ {P M : Type 0} (game : Game P M) where
   pub unflip : (b : Bool) → not b ≡ false → b ≡ true
   unflip b e = search rules
 
-  value-end-zero : (battle : Battle) (q : P) → value battle game 0 q ≡ game.goal q
-  unfolding value
-  value-end-zero battle q = refl
-
   -- in battle play
   module _ (plan : Plan) (battle : Battle) (fought : plan.play ≡ BattlePlay battle) where
     -- a move that is tested, and one that isn't
-    pub by_test : (root : Bool) (t : ℕ) (q : P) → (root || seeks battle (t + 1)) ≡ true
-        → is_followed plan.play game root t q ≡ value battle game t q
+    pub by_test : (root : Bool) (t : ℕ) (q : P) → (root || seeks battle (t + 1)) ≡ true → is_followed plan.play game root t q ≡ value battle game t q
     unfolding is_followed
     by_test root t q s = rw (fought, s) refl
 
     by_none : (t : ℕ) (q : P) → seeks battle (t + 1) ≡ false → is_followed plan.play game false t q ≡ true
     unfolding is_followed
     by_none t q s = rw (fought, s) refl
-
-    given_always : (t : ℕ) (q : P) → is_given plan.play game t q ≡ true
-    unfolding is_given
-    given_always t q = rw fought refl
 
     -- what the walk shows by some moves, as nodes
     abbrev pub beneath : ℕ → ℕ → P → List (List M)
@@ -149,7 +128,7 @@ module _ {P M : Type 0} (game : Game P M) where
         → shown_paths plan game root (suc k) (suc t) p ms
         ≡ flat_map (λ m. cond (is_followed plan.play game root t (game.after p m)) (node m (beneath k t (game.after p m))) []) ms
     unfolding shown_paths
-    as_nodes root k t p ms = search (rules, flat-same, given_always)
+    as_nodes root k t p ms = search (rules, flat-same, given-battle)
 
     -- the moves of White in his least length, over anything
     white : (n k t : ℕ) (q : P) (G : M → List (List M)) → seeks battle t ≡ true → 0 < t → t ≤ 2 * n → t ≤ suc k → game.goal q ≡ false
@@ -160,30 +139,23 @@ module _ {P M : Type 0} (game : Game P M) where
     unfolding shown_length
     white n k zero q G s some most room open_yet v each = absurd (omega (arith, some))
     white n k (suc t) q G s some most room open_yet v each =
-        let z : eqb (suc t) 0 ≡ false = grind arith in
-        let L = least_length_from battle game q ((suc t - fewest_half_moves battle) / 2) (fewest_half_moves battle) in
-        let h : L ≡ halves battle (least_moves battle game n q) = grind (arith, least_moves-halves) in
-        rw (z, open_yet, s) (go L refl h)
+        rw (z, open_yet, s) (go L refl (grind (arith, least_moves-halves)))
       where
-        z0 : eqb (suc t) 0 ≡ false
-        z0 = grind arith
+        z : eqb (suc t) 0 ≡ false
+        z = grind arith
 
-        L0 : ℕ
-        L0 = least_length_from battle game q ((suc t - fewest_half_moves battle) / 2) (fewest_half_moves battle)
+        L : ℕ
+        L = least_length_from battle game q ((suc t - fewest_half_moves battle) / 2) (fewest_half_moves battle)
 
-        go : (x : ℕ) → L0 ≡ x → x ≡ halves battle (least_moves battle game n q)
+        go : (x : ℕ) → L ≡ x → x ≡ halves battle (least_moves battle game n q)
             → shown_paths plan game false (suc k) x q (game.moves q) ≡ flat_map G (best_moves battle game n q)
         go zero e h = absurd (grind (arith, least_length_from-least_moves))
         go (suc l) e h =
-            let j = half-some battle (least_moves battle game n q) (omega (arith, h)) in
-            let h2 : suc l ≡ halves battle (suc j.0) = h ∙ ap (halves battle) j.1 in
-            let n2 : l + 1 ≡ halves battle (suc j.0) = omega (arith, h2) in
-            let l2 : halves battle (suc j.0) - 1 ≡ l = omega (arith, h2) in
-            let s2 : seeks battle (l + 1) ≡ true = rw n2 (halves-seek battle j.0) in
-            let most2 : L0 ≤ suc t = length_most game battle (suc t) q false true false z0 s in
-            as_nodes false k l q (game.moves q)
-            ∙ flat-filter _ (λ m. keeps_win battle game (least_moves battle game n q) (game.after q m)) _ G (game.moves q)
-            (grind (arith, by_test, keeps-value))
+            let least = least_moves battle game n q in
+            let s2 = halves-seek battle least l h in
+            let most2 : L ≤ suc t = length_most game battle (suc t) q false true false z s in
+            as_nodes false k l q (game.moves q) ∙ flat-filter _ (λ m. keeps_win battle game least (game.after q m)) _ G (game.moves q)
+            (λ m. by_test false l (game.after q m) s2 ∙ keeps-value battle least l (game.after q m) h)
             (λ m v2. each l m s2 (omega (arith, e, most2)) (sym (by_test false l (game.after q m) s2) ∙ v2))
 
     open-goal : (k : ℕ) (q : P) → game.goal q ≡ true → shown_paths plan game false k (shown_length battle game k q) q (game.moves q) ≡ []
@@ -203,15 +175,13 @@ module _ {P M : Type 0} (game : Game P M) where
       unfolding shown_length
       tie-goal n k t q g = search (rules, shown_paths-zero, nothing)
 
-      tie-white : (n k t : ℕ) (q : P) → ((l : ℕ) (r : P) → value battle game l r ≡ true → l ≤ k → l ≤ 2 * n → Tie n k l r)
-          → value battle game (suc t) q ≡ true → suc t ≤ suc k → suc t ≤ 2 * n → game.goal q ≡ false
-          → seeks battle (suc t) ≡ true → Tie n (suc k) (suc t) q
+      tie-white : (n k t : ℕ) (q : P) → ((l : ℕ) (r : P) → value battle game l r ≡ true → l ≤ k → l ≤ 2 * n → Tie n k l r) → value battle game (suc t) q ≡ true
+          → suc t ≤ suc k → suc t ≤ 2 * n → game.goal q ≡ false → seeks battle (suc t) ≡ true → Tie n (suc k) (suc t) q
       unfolding continuations
       tie-white n k t q ih v room most g s = search (rules, white, flip, seeks-step, beneath-is)
 
-      tie-black : (n k t : ℕ) (q : P) → ((l : ℕ) (r : P) → value battle game l r ≡ true → l ≤ k → l ≤ 2 * n → Tie n k l r)
-          → value battle game (suc t) q ≡ true → suc t ≤ suc k → suc t ≤ 2 * n → game.goal q ≡ false
-          → seeks battle (suc t) ≡ false → Tie n (suc k) (suc t) q
+      tie-black : (n k t : ℕ) (q : P) → ((l : ℕ) (r : P) → value battle game l r ≡ true → l ≤ k → l ≤ 2 * n → Tie n k l r) → value battle game (suc t) q ≡ true
+          → suc t ≤ suc k → suc t ≤ 2 * n → game.goal q ≡ false → seeks battle (suc t) ≡ false → Tie n (suc k) (suc t) q
       unfolding nodes_below shown_length
       tie-black n k t q ih v room most g s =
           let z : eqb (suc t) 0 ≡ false = grind arith in
@@ -222,21 +192,16 @@ module _ {P M : Type 0} (game : Game P M) where
 
       -- what the walk shows below a move that is shown
       tie : (n k t : ℕ) (q : P) → value battle game t q ≡ true → t ≤ k → t ≤ 2 * n → Tie n k t q
-      tie n k zero q v room most = tie-goal n k 0 q (sym (value-end-zero battle q) ∙ v)
+      tie n k zero q v room most = tie-goal n k 0 q (sym (value-zero game battle q) ∙ v)
       tie n zero (suc t) q v room most = absurd (omega (arith, room))
       tie n (suc k) (suc t) q v room most =
-          split (game.goal q) refl (tie-goal n (suc k) (suc t) q) (tie-white n k t q (λ l r a b c. tie n k l r a b c) v room most)
-          (tie-black n k t q (λ l r a b c. tie n k l r a b c) v room most)
-        where
-          split : (g : Bool) → game.goal q ≡ g → (game.goal q ≡ true → Tie n (suc k) (suc t) q)
-              → (game.goal q ≡ false → seeks battle (suc t) ≡ true → Tie n (suc k) (suc t) q)
-              → (game.goal q ≡ false → seeks battle (suc t) ≡ false → Tie n (suc k) (suc t) q) → Tie n (suc k) (suc t) q
-          split true e a b c = a e
-          split false e a b c = side (seeks battle (suc t)) refl
-            where
-              side : (s : Bool) → seeks battle (suc t) ≡ s → Tie n (suc k) (suc t) q
-              side true f = b e f
-              side false f = c e f
+          elim (cases (game.goal q)) [
+            | inl open_yet ↦ elim (cases (seeks battle (suc t))) [
+              | inl black ↦ tie-black n k t q (λ l r a b c. tie n k l r a b c) v room most open_yet black
+              | inr white ↦ tie-white n k t q (λ l r a b c. tie n k l r a b c) v room most open_yet white
+            ]
+            | inr g ↦ tie-goal n (suc k) (suc t) q g
+          ]
 
     -- where no variations are shown, nothing stands below a move of White
     beneath-none : (k t : ℕ) (q : P) → has_variations plan.tree ≡ false → seeks battle (t + 1) ≡ true → beneath k t q ≡ []
@@ -248,19 +213,13 @@ module _ {P M : Type 0} (game : Game P M) where
     beneath-set k t q s = search rules
 
     -- below a key
-    pub nodes_below-key : (n h : ℕ) (q : P) → seeks battle (suc h) ≡ true → suc h ≤ 2 * n → value battle game h q ≡ true
+    pub nodes_below-key : (n h : ℕ) (q : P) → seeks battle (h + 1) ≡ true → suc h ≤ 2 * n → value battle game h q ≡ true
         → beneath h h q ≡ cond (has_variations plan.tree) (nodes_below battle game n h q) []
-    nodes_below-key n h q s most v = go (has_variations plan.tree) refl
-      where
-        s1 : seeks battle (h + 1) ≡ true
-        s1 = let one : suc h ≡ h + 1 = omega arith in rw (← one) s
-
-        go : (b : Bool) → has_variations plan.tree ≡ b → beneath h h q ≡ cond b (nodes_below battle game n h q) []
-        go true e =
-            beneath-is e h h q ∙ tie e n h h q v (omega arith) (omega (arith, most))
-            ∙ ap (λ x. cond x (continuations battle game n h q) (nodes_below battle game n h q))
-            (flip _ (sym (seeks-step battle h) ∙ s1))
-        go false e = beneath-none h h q e s1
+    nodes_below-key n h q s most v = elim (cases (has_variations plan.tree)) [
+      | inl alone ↦ beneath-none h h q alone s ∙ (rw alone refl)
+      | inr e ↦ let black = flip _ (sym (seeks-step battle h) ∙ s) in
+          beneath-is e h h q ∙ tie e n h h q v (omega arith) (omega (arith, most)) ∙ (rw (black, e) refl)
+    ]
 
     -- below a first move of Black in set play
     pub nodes_below-set : (n h : ℕ) (r : P) → seeks battle h ≡ true → h ≤ 2 * n → value battle game h r ≡ true
@@ -275,7 +234,7 @@ module _ {P M : Type 0} (game : Game P M) where
             → shown_paths plan game false h2 (shown_length battle game h2 r) r (game.moves r) ≡ cond g []
             (map (λ m. m ∷ []) (best_moves battle game n r))
         no_variation e h2 i true g = open-goal h2 r g
-        no_variation e zero i false g = absurd (grind (arith, value-end-zero))
+        no_variation e zero i false g = absurd (grind (arith, value-zero))
         no_variation e (suc k) i false g =
             white n k (suc k) r (λ m. (m ∷ []) ∷ []) (rw i at s) (omega arith) (rw i at most) (omega arith) g (rw i at v)
             (λ l m s2 less v2. ap (node m) (beneath-none k l (game.after r m) e s2))
@@ -284,7 +243,5 @@ module _ {P M : Type 0} (game : Game P M) where
         go : (b : Bool) → has_variations plan.tree ≡ b
             → beneath h h r ≡ cond b (continuations battle game n h r)
             (cond (game.goal r) [] (map (λ m. m ∷ []) (best_moves battle game n r)))
-        go true e =
-            beneath-is e h h r ∙ tie e n h h r v (omega arith) most
-            ∙ ap (λ x. cond x (continuations battle game n h r) (nodes_below battle game n h r)) s
+        go true e = beneath-is e h h r ∙ tie e n h h r v (omega arith) most ∙ (rw s refl)
         go false e = beneath-set h h r s1 ∙ no_variation e h refl (game.goal r) refl

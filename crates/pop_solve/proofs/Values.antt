@@ -1,18 +1,10 @@
 -- The value of a position by what its tests say.
-use Rattle.pop_solve.proofs.Words.{Battle, Bool, Game, List, Selfmate, [], arith, can_move, cond, every_move, false, joined_value, length, list_any, not, refl, rules, seeks, some_move, suc, true, value, zero, ℕ, ◌%◌, ◌&&◌, ◌<◌, ◌||◌, ◌∷◌, ◌≡◌}
+use Rattle.pop_solve.proofs.Words.{Battle, Bool, Game, List, Selfmate, [], arith, can_move, cond, every_move, false, joined_value, length, list_any, not, refl, rules, seeks, some_move, suc, true, value, zero, ℕ, ◌%◌, ◌&&◌, ◌<◌, ◌||◌, ◌∷◌, ◌≡◌, and_parts, nat_tests}
 use Rattle.pop_solve.specs.declared.aim.Battle.TheVariants.{Direct}
 use Rattle.std.specs.Prelude.{◌==◌}
+use Rattle.std.proofs.lemmas.List.{nil_from_length}
 
 module _ {P M : Type 0} (battle : Battle) (game : Game P M) where
-  -- with no half-move left the goal decides
-  pub value-last : (t : ℕ) (p : P) → t ≡ 0 → value battle game t p ≡ game.goal p
-  unfolding value
-  value-last t p z = search rules
-
-  -- a conjunction by its parts
-  pub both : (a b : Bool) → (a && b) ≡ true → (a ≡ true) × (b ≡ true)
-  both a b e = search rules
-
   -- the last half-move
   pub value-mates : (p : P) → battle ≡ Direct → value battle game 1 p ≡ some_move game game.goal p
   unfolding value
@@ -30,7 +22,7 @@ module _ {P M : Type 0} (battle : Battle) (game : Game P M) where
 
   -- White with a half-move that nothing ends before
   pub value-free : (t : ℕ) (p : P) → 0 < t → (t % 2 == 1 && seeks battle t) ≡ true → value battle game t p ≡ joined_value battle game t p (game.moves p)
-  value-free t p some e = grind (arith, both, value-joined_value)
+  value-free t p some e = grind (arith, and_parts, value-joined_value)
 
   -- with a move, and the goal not reached
   pub value-open : (t : ℕ) (p : P) → 0 < t → can_move game p ≡ true → game.goal p ≡ false → value battle game t p ≡ joined_value battle game t p (game.moves p)
@@ -40,16 +32,9 @@ module _ {P M : Type 0} (battle : Battle) (game : Game P M) where
   pub value-stuck : (t : ℕ) (p : P) → 0 < t → can_move game p ≡ false → value battle game t p ≡ (t % 2 == 0 && game.goal p)
   unfolding value
   value-stuck zero p some k = absurd (omega (arith, some))
-  value-stuck (suc t) p some k = stuck _ (seeks battle (suc t)) (can_move game p) _ (game.moves p) k (none (game.moves p) k)
-    where
-      none : (ms : List M) → not (length ms == 0) ≡ false → ms ≡ []
-      none [] e = refl
-      none (m ∷ ms) e = absurd (grind (arith, e))
-
-      stuck : (e s c b : Bool) (ms : List M) → c ≡ false → ms ≡ [] → (e || cond s (list_any (λ m. value battle game t (game.after p m)) ms) (c && b)) ≡ e
-      stuck true s c b ms h k = refl
-      stuck false true c b ms h k = rw k refl
-      stuck false false c b ms h k = rw h refl
+  value-stuck (suc t) p some k =
+      let none : game.moves p ≡ [] = nil_from_length (game.moves p) (grind (arith, nat_tests)) in
+      grind arith
 
 pub ruleset last_half_move = (value-mates, value-forced)
 

@@ -30,11 +30,6 @@ module _ (rule : RuleSet) (plan : Plan) (h : ℕ) (top : Frame) (old new : List 
   walking_top : (p board now : Position) → IsWalking rule h p (reverse old) board → now ≡ board → IsWalking rule h p (top ∷ reverse new) now
   walking_top p board now r e = search (rules, popped)
 
-  -- what taking a move back asks for
-  pub close_asks : (p board now : Position) (depth : ℕ) → IsWalking rule h p (reverse old) board → now ≡ board → depth ≡ length new → 0 < depth
-      → CameFrom rule top now
-  close_asks p board now depth r e d deep = CameFrom-deep rule h p top (reverse new) now (walking_top p board now r e) (omega (arith, depth_is, d, deep))
-
   -- a step that closes the top frame
   pub close_steps : (p board now after : Position) (depth opened count : ℕ) → IsWalking rule h p (reverse old) board → now ≡ board → depth ≡ length new
       → ((top.left ≡ 0) × (count ≡ opened)) ⊎ GoesTo rule plan top.left board top.place [] opened count → (depth ≡ 0 → after ≡ now)

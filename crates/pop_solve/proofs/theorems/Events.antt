@@ -15,9 +15,6 @@ GivesPath (total count stopped) = ⊥
 abbrev pub IsOtherThan : BareEvent → BareEvent → Type 0
 IsOtherThan s t = GivesPath s → s ≢ t
 
-no_other_phase : (b c : Bool) (x y : List Move) → cond b (line Set x) (tree_node Set x) ≡ cond c (line Play y) (tree_node Play y) → ⊥
-no_other_phase b c x y e = grind arith
-
 module _ (rule : RuleSet) (problem : Posed) where
   rest_differs : (phase : Phase) (b : Bool) (end : BareEvent) → ((path : List Move) → path_event problem phase path ≡ end → ⊥)
       → AllPairs IsOtherThan

@@ -1,5 +1,5 @@
 -- Longer never harms, and the least length is the least.
-use Rattle.pop_solve.proofs.Words.{Battle, Game, arith, cases_lt, false, false≢true, is_lost, is_self_lost, keeps_win, least_moves, self_wins, some_move, suc, true, wins, wins_in, zero, ℕ, ◌<◌, ◌↔◌, ◌≡◌, ◌≤◌}
+use Rattle.pop_solve.proofs.Words.{Battle, Game, arith, cases_lt, false, false≢true, is_lost, is_self_lost, keeps_win, least_moves, self_wins, some_move, suc, true, wins, wins_in, zero, ℕ, ◌<◌, ◌↔◌, ◌≡◌, ◌≤◌, rules}
 use Rattle.pop_solve.proofs.Longer.{climbs, first_at_most, first_is_first, first_passes, is_lost-more, is_self_lost-more, self_wins-more, wins-more}
 
 module _ {P M : Type 0} (game : Game P M) where
@@ -59,5 +59,4 @@ module _ {P M : Type 0} (game : Game P M) where
     pub least_is_one : (n m : ℕ) (p : P) → wins_in battle game n p ≡ true → wins_in battle game m p ≡ true
         → least_moves battle game n p ≡ least_moves battle game m p
     least_is_one n m p h w =
-        let a = (wins_exactly_from_least n (least_moves battle game m p) p h).0 (wins_in_least m p w) in
-        grind (arith, wins_exactly_from_least, wins_in_least n p h)
+        search (rules, wins_exactly_from_least n (least_moves battle game m p) p h, wins_in_least m p w, wins_exactly_from_least, wins_in_least n p h)

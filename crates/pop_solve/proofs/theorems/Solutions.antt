@@ -12,8 +12,7 @@ module _ (rule : RuleSet) (problem : Posed) where
   -- one or more, each legal where it is made, and the goal is reached in its last position.
   pub lines_of_a_phase_are : (phase : Phase) (line : List Move) → IsSound problem → play_of problem.stipulation.form ≡ HelpPlay
       → Contains (paths (solutions rule problem phase)) line
-      ↔ ((1 ≤ phase_half_moves problem phase) × (length line ≡ phase_half_moves problem phase)
-      × IsLegalLine rule (phase_start problem phase) line
+      ↔ ((1 ≤ phase_half_moves problem phase) × (length line ≡ phase_half_moves problem phase) × IsLegalLine rule (phase_start problem phase) line
       × (is_goal_reached problem.stipulation.goal rule (path_end (position_after rule) (phase_start problem phase) line) ≡ true))
   lines_of_a_phase_are phase line sound help = rw (help_paths rule problem phase help) (search (rules, help_lines_of_chess_are, start_sound))
 

@@ -1,6 +1,6 @@
 -- The trees of battle play, over any game: which moves stand in them, that no path stands twice, and in which order the paths stand.
-use Rattle.pop_solve.proofs.Words.{AllPairs, AllPairs-filter, Battle, Bool, Contains, Game, List, [], continuations, arith, best_moves, false, from_filter, in_filter, keeps_win, least_moves, nodes_below, none_in_nil, pairs_nil, pairs_weaker, refl, is_in_set_play, set_tree, suc, sym, take, tree, true, wins_in, zero, ℕ, ◌-◌, ◌↔◌, ◌∙◌, ◌∷◌, ◌≡◌, ◌≢◌, ◌≤◌}
-use Rattle.pop_solve.proofs.Nodes.{any_from_element, element_from_any, answers_more, answers_zero, below_more, below_zero, deeper_unless, nil_has_beginnings, nodes_have_beginnings, nodes_stand, roots_are, roots_unless, deeper_are, tree_paths, set_tree_paths, set_tree_none, first_tree_paths, first_set_tree_none, first_set_tree_paths, from_nodes, below_key, kept, set_moves, below_set, below_key_has_beginnings, below_key_not_empty, below_key_stands, below_set_has_beginnings, below_set_not_empty, below_set_stands}
+use Rattle.pop_solve.proofs.Words.{AllPairs, Battle, Bool, Contains, Game, List, [], continuations, arith, best_moves, false, from_filter, in_filter, keeps_win, least_moves, nodes_below, none_in_nil, pairs_weaker, refl, is_in_set_play, set_tree, suc, sym, take, tree, true, wins_in, zero, ℕ, ◌-◌, ◌↔◌, ◌∙◌, ◌∷◌, ◌≡◌, ◌≢◌, ◌≤◌, rules}
+use Rattle.pop_solve.proofs.Nodes.{any_from_element, element_from_any, answers_more, answers_zero, beginnings, below_more, below_zero, deeper_unless, first_play_holds, first_set_play_holds, in_order, play_holds, roots_are, roots_unless, deeper_are, set_play_holds, tree_paths, set_tree_paths, set_tree_none, from_nodes, below_key, kept, below_set}
 use Rattle.pop_solve.proofs.theorems.Lengths.{no_win_in_none, wins_by_a_move, wins_in_least}
 use Rattle.pop_solve.proofs.theorems.Lists.{HasBeginnings, StandsBefore, never_before_itself, paths}
 
@@ -70,9 +70,7 @@ module _ {P M : Type 0} (battle : Battle) (game : Game P M) (n : ℕ) where
 
   -- Where White wins within n moves he has a best continuation.
   pub some_best_where_won : (r : P) → wins_in battle game n r ≡ true → (m : M) × IsBest r m
-  some_best_where_won r h =
-      let won : wins_in battle game (least_moves battle game n r) r ≡ true = wins_in_least game battle n r h in
-      grind (arith, element_from_any, wins_by_a_move, no_win_in_none)
+  some_best_where_won r h = search (rules, wins_in_least game battle n r h, element_from_any, wins_by_a_move, no_win_in_none)
 
   -- Below a position in which White moves, with half-moves left and the goal not reached, his best continuations stand.
   pub continuations_are : (h : ℕ) (r : P) (m : M) → Contains (continuations battle game n h r) (m ∷ []) ↔ ((1 ≤ h) × (game.goal r ≡ false) × IsBest r m)
@@ -101,57 +99,30 @@ module _ {P M : Type 0} (battle : Battle) (game : Game P M) (n : ℕ) where
   module _ (variation : Bool) (h : ℕ) (p : P) where
     -- A beginning of a path of the play is a path too.
     pub play_has_beginnings : HasBeginnings (paths (tree battle game variation n h p))
-    play_has_beginnings = rw (tree_paths battle game n variation h p)
-        (nodes_have_beginnings (below_key battle game n variation h p) (below_key_has_beginnings battle game n variation h p) (kept battle game n p))
+    play_has_beginnings = play_holds battle game n (beginnings game) variation h p
 
     -- In set play too.
     pub set_play_has_beginnings : HasBeginnings (paths (set_tree battle game variation n h p))
-    set_play_has_beginnings = by_half_moves h
-      where
-        by_half_moves : (h : ℕ) → HasBeginnings (paths (set_tree battle game variation n h p))
-        by_half_moves zero = rw (set_tree_none battle game n variation p) nil_has_beginnings
-        by_half_moves (suc h) =
-            rw (set_tree_paths battle game n variation h p)
-            (nodes_have_beginnings (below_set battle game n variation h p) (below_set_has_beginnings battle game n variation h p)
-            (set_moves battle game n p))
+    set_play_has_beginnings = set_play_holds battle game n (beginnings game) variation h p
 
     -- Nor does a limit of solutions part a path of the play from its beginnings.
     pub first_solutions_have_beginnings : (k : ℕ) → HasBeginnings (paths (take k (tree battle game variation n h p)))
-    first_solutions_have_beginnings k = rw (first_tree_paths battle game n variation k h p)
-        (nodes_have_beginnings (below_key battle game n variation h p) (below_key_has_beginnings battle game n variation h p)
-        (take k (kept battle game n p)))
+    first_solutions_have_beginnings k = first_play_holds battle game n (beginnings game) (λ ms. tt) k variation h p
 
     -- The same of the first solutions of set play.
     pub first_set_solutions_have_beginnings : (k : ℕ) → HasBeginnings (paths (take k (set_tree battle game variation n h p)))
-    first_set_solutions_have_beginnings k = by_half_moves h
-      where
-        by_half_moves : (h : ℕ) → HasBeginnings (paths (take k (set_tree battle game variation n h p)))
-        by_half_moves zero = rw (first_set_tree_none battle game n variation k p) nil_has_beginnings
-        by_half_moves (suc h) =
-            rw (first_set_tree_paths battle game n variation k h p)
-            (nodes_have_beginnings (below_set battle game n variation h p) (below_set_has_beginnings battle game n variation h p)
-            (take k (set_moves battle game n p)))
+    first_set_solutions_have_beginnings k = first_set_play_holds battle game n (beginnings game) (λ ms. tt) k variation h p
 
     -- Where the moves of each position stand in an order, the paths of the play stand in its lexicographic order: each node before
     -- what stands below it, and that before the next of its siblings.
     pub play_in_order : (before : M → M → Type 0) → ((p : P) → AllPairs before (game.moves p))
         → AllPairs (StandsBefore before) (paths (tree battle game variation n h p))
-    play_in_order before order = rw (tree_paths battle game n variation h p) (nodes_stand (below_key battle game n variation h p) before (kept battle game n p)
-        (AllPairs-filter before (λ m. keeps_win battle game n (game.after p m)) (game.moves p) (order p))
-        (below_key_stands battle game n variation before order h p) (below_key_not_empty battle game n variation h p))
+    play_in_order before order = (play_holds battle game n (in_order game before order) variation h p).1
 
     -- In set play too.
     pub set_play_in_order : (before : M → M → Type 0) → ((p : P) → AllPairs before (game.moves p))
         → AllPairs (StandsBefore before) (paths (set_tree battle game variation n h p))
-    set_play_in_order before order = by_half_moves h
-      where
-        by_half_moves : (h : ℕ) → AllPairs (StandsBefore before) (paths (set_tree battle game variation n h p))
-        by_half_moves zero = rw (set_tree_none battle game n variation p) (pairs_nil (StandsBefore before))
-        by_half_moves (suc h) =
-            rw (set_tree_paths battle game n variation h p)
-            (nodes_stand (below_set battle game n variation h p) before (set_moves battle game n p)
-            (AllPairs-filter before (λ d. is_in_set_play battle game n (game.after p d)) (game.moves p) (order p))
-            (below_set_stands battle game n variation before order h p) (below_set_not_empty battle game n variation h p))
+    set_play_in_order before order = (set_play_holds battle game n (in_order game before order) variation h p).1
 
     -- Where no position has two moves alike, no two paths of the play are alike.
     pub play_differs : ((p : P) → AllPairs (λ m n. m ≢ n) (game.moves p)) → AllPairs (λ a b. a ≢ b) (paths (tree battle game variation n h p))

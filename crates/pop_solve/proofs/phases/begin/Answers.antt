@@ -1,4 +1,4 @@
-use Rattle.pop_solve.proofs.Words.{arith, ap, Bool, Walk, IsStanding, false, not, refl, rules, true, ◌≡◌}
+use Rattle.pop_solve.proofs.Words.{arith, ap, Bool, Walk, IsStanding, false, not, refl, rules, true, ◌≡◌, left_of, phase_events, rest_open, rest_fewest, IsNarrow}
 use Rattle.pop_solve.proofs.Walking as walking
 use Rattle.pop_solve.proofs.Events as events
 use Rattle.pop_solve.proofs.Opened as opened
@@ -14,7 +14,8 @@ open_yet : (b r : Bool) → r ≡ not b → r ≡ true → b ≡ false
 open_yet b r e f = grind arith
 
 pub returns-then-not-set_up-clause-left : goal.returns-then-not-set_up-clause-left
-returns-then-not-set_up-clause-left g c = search (rules, events.left-barred, barred)
+unfolding left_of phase_events
+returns-then-not-set_up-clause-left g c = search (rules, barred)
 
 pub returns-clause-standing : goal.returns-clause-standing
 unfolding IsStanding
@@ -29,7 +30,8 @@ unfolding IsStanding
 returns-clause-left g c = search (rules, solved.root-solutions, behind_start, walking.reverse-push, events.left-begun, open_yet)
 
 pub returns-then-not-set_up-clause-opens : goal.returns-then-not-set_up-clause-opens
-returns-then-not-set_up-clause-opens g c = search (rules, opened.opens-barred, barred)
+unfolding rest_open rest_fewest IsNarrow
+returns-then-not-set_up-clause-opens g c = search (rules, barred)
 
 pub returns-clause-opens : goal.returns-clause-opens
 unfolding IsStanding

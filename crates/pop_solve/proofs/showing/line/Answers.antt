@@ -9,20 +9,18 @@ loop-k-init g c = search (rules, paths.first-path, paths.first-position, c.new-l
 pub play_shown-requires-clause-legal : goal.play_shown-requires-clause-legal
 play_shown-requires-clause-legal g c =
     let w = c.requires.walking in
-    let cut = paths.cut-at c.args.frames.now (c.loop-k.k + 1) c.loop-k.k c.index-frames-k.result refl c.index-frames-k.is c.loop-k-test.true in
-    let some = paths.some-taken c.args.frames.now c.loop-k.k c.loop-k.auto.k (omega arith) in
+    let top = paths.topped-at _ (c.loop-k.k + 1) _ _ c.index-frames-k.is refl c.loop-k.auto.k c.loop-k-test.true in
     let at = c.loop-k.invariant.0 w.0 w.1 w.2 in
-    rw at.1 (paths.forth-is_legal g.R.Rules.rule _ _ _ cut some w.1 (paths.linked-take g.R.Rules.rule w.1 c.args.frames.now (c.loop-k.k + 1) w.2.linked))
+    rw at.1 (paths.forth-is_legal g.R.Rules.rule top w.1 (paths.linked-take g.R.Rules.rule w.1 c.args.frames.now (c.loop-k.k + 1) w.2.linked))
 
 pub loop-k-preserved : goal.loop-k-preserved
 loop-k-preserved g c = (
   λ h p w.
-      let cut = paths.cut-at c.args.frames.now (c.loop-k.k + 1) c.loop-k.k c.index-frames-k.result refl c.index-frames-k.is c.loop-k-test.true in
-      let some = paths.some-taken c.args.frames.now c.loop-k.k c.loop-k.auto.k (omega arith) in
+      let top = paths.topped-at _ (c.loop-k.k + 1) _ _ c.index-frames-k.is refl c.loop-k.auto.k c.loop-k-test.true in
       let at = c.loop-k.invariant.0 h p w in (
-        rw (c.push.ensures.items, c.play_shown.ensures.shown, at.0, at.1) (sym (paths.forth-along g.R.Rules.rule _ _ _ cut some c.args.goal p)),
-        c.play_shown.ensures.after ∙ ap (λ b. position_after g.R.Rules.rule b c.index-frames-k.result.by) at.1 ∙ sym
-            (paths.forth-position g.R.Rules.rule _ _ _ cut some p),
+        rw (c.push.ensures.items, c.play_shown.ensures.shown, at.0, at.1) (sym (paths.forth-along g.R.Rules.rule top c.args.goal p)),
+        c.play_shown.ensures.after ∙ ap (λ b. position_after g.R.Rules.rule b c.index-frames-k.result.by) at.1
+            ∙ sym (paths.forth-position g.R.Rules.rule top p),
       ),
   c.play_shown.ensures.well_formed,
   omega (arith, c.push.ensures.len, c.loop-k.invariant.2),

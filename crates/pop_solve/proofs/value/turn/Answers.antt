@@ -17,8 +17,7 @@ returns-then-is_decided-clause-next g c = λ p r.
     let s : c.args.answer.now ≡ Some (seeks c.args.aim.battle c.in-Some.top.left) = rw (← seek) c.if-is_decided.ensures in
     test.close_turns g.R.Rules.rule c.args.aim _ _ _ _ c.in-Some.ensures.items c.requires.above _ _ _ _ _ _ _ c.len-depth.ensures.value
     c.close.ensures.lowest c.close.ensures.above c.close.ensures.before _ p r
-    (rw seek (test.decided_value g.R.Rules.rule c.args.aim _ _ _ _ c.in-Some.ensures.items c.requires.above p _ s))
-    (rw seek (test.decided_left g.R.Rules.rule c.args.aim _ _ _ _ c.in-Some.ensures.items c.requires.above p _ s))
+    (rw seek (test.decided g.R.Rules.rule c.args.aim _ _ _ _ c.in-Some.ensures.items c.requires.above p _ s))
 
 pub moves_at-moves-requires : goal.moves_at-moves-requires
 moves_at-moves-requires g c = search (rules, test.top_known)
@@ -43,9 +42,7 @@ returns-in_default-next_tried-clause-next g c = λ p r.
     test.close_turns g.R.Rules.rule c.args.aim _ _ _ _ c.in-Some.ensures.items c.requires.above _ _ _ _ _ _ _ c.len-depth.ensures.value
     c.close-in_default-next_tried.ensures.lowest c.close-in_default-next_tried.ensures.above c.close-in_default-next_tried.ensures.before _ p
     (test.testing_same _ _ _ _ _ r c.next_tried.ensures.unchanged)
-    (rw seek (test.exhausted_value g.R.Rules.rule c.args.aim _ _ _ _ c.in-Some.ensures.items c.requires.above p _ _ r u
-    (sym same ∙ (rw c.moves_at-moves.ensures.place at c.in_default-next_tried.ensures.next))))
-    (rw seek (test.exhausted_left g.R.Rules.rule c.args.aim _ _ _ _ c.in-Some.ensures.items c.requires.above p _ _ r u
+    (rw seek (test.exhausted g.R.Rules.rule c.args.aim _ _ _ _ c.in-Some.ensures.items c.requires.above p _ _ r u
     (sym same ∙ (rw c.moves_at-moves.ensures.place at c.in_default-next_tried.ensures.next))))
 
 pub descend-requires : goal.descend-requires

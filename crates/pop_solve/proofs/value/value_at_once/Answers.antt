@@ -1,17 +1,15 @@
-use Rattle.pop_solve.proofs.Words.{arith, chess, rules, sym, ◌<◌, ◌∙◌}
+use Rattle.pop_solve.proofs.Words.{arith, chess, rules, sym, ◌<◌, ◌∙◌, value, smallest_tree}
 use Rattle.pop_solve.proofs.Boards.{unreached}
-use Rattle.pop_solve.proofs.SmallestTrees as trees
 use Rattle.pop_solve.proofs.Values as values
 use Rattle.pop_solve.proofs.value.value_at_once.Goals as goal
 
 pub returns-then-left-eq0-clause-value : goal.returns-then-left-eq0-clause-value
-returns-then-left-eq0-clause-value g c = c.reaches_goal.ensures.reached ∙ sym (values.value-last _ _ _ _ c.if-left-eq0.true)
+unfolding value
+returns-then-left-eq0-clause-value g c = search rules
 
 pub returns-else-is_some-clause-tried : goal.returns-else-is_some-clause-tried
-returns-else-is_some-clause-tried g c =
-    let stuck = sym (c.first_look.ensures.moves c.args.aim.goal) ∙ sym c.if-is_some.ensures in
-    let none = trees.tree-none c.args.aim.battle (chess c.args.aim.goal g.R.Rules.rule) c.args.left c.args.board.now stuck in
-    omega (arith, none)
+unfolding smallest_tree
+returns-else-is_some-clause-tried g c = let stuck = sym (c.first_look.ensures.moves c.args.aim.goal) ∙ sym c.if-is_some.ensures in search rules
 
 pub value_without_move-requires : goal.value_without_move-requires
 value_without_move-requires g c = search (rules, c.first_look.ensures.unchanged, c.first_look.ensures.moves, c.if-is_some.ensures)

@@ -11,18 +11,4 @@ unfolding is_followed walk_length
 returns-clause-counts g c = search rules
 
 pub value_after-requires : goal.value_after-requires
-value_after-requires g c =
-    let well = after_well_formed g.R.Rules.rule _ _ c.requires.well_formed (is_pseudo_legal-from_legal _ _ _ c.requires.legal) in (
-      search rules,
-      (
-        search rules,
-        (
-          rw c.play-undo.ensures.after well,
-          (
-            omega (arith, c.requires.room),
-            rw c.play-undo.ensures.after
-                (rw c.in-Some.ensures.0 at c.requires.mated),
-          ),
-        ),
-      ),
-    )
+value_after-requires g c = search (rules, after_well_formed, is_pseudo_legal-from_legal)

@@ -3,8 +3,8 @@ use Rattle.pop_solve.proofs.Walking as walking
 use Rattle.pop_solve.proofs.walk.step.Goals as goal
 
 pub step_back-requires : goal.step_back-requires
-step_back-requires g c =
-    search (rules, walking.close_asks, c.in-Some.ensures.items, c.requires.walking.1, c.next_of.ensures.unchanged, c.len-depth.ensures.value)
+step_back-requires g c = λ deep. rw c.next_of.ensures.unchanged
+    (walking.back_asks g.R.Rules.rule c.args.half_moves _ _ _ c.in-Some.ensures.items _ _ _ c.requires.walking.1 c.len-depth.ensures.value deep)
 
 pub returns-in_default-next_of : goal.returns-in_default-next_of
 returns-in_default-next_of g c = record {
@@ -26,20 +26,4 @@ returns g c = record {
 }
 
 pub enter-requires : goal.enter-requires
-enter-requires g c =
-    let at = c.next_of.ensures.unchanged in
-    let next = c.in-Some-next_of.ensures.next in
-    let taken = rw (← c.top.view_is) at c.in-Some.ensures.items in
-    let room = walking.room_left g.R.Rules.rule c.args.plan c.args.half_moves _ _ _ taken _ _ c.requires.walking.1 in (
-      search rules,
-      (
-        search rules,
-        (
-          rw at c.requires.walking.1.sound,
-          (
-            omega (arith, room, next.0, c.requires.room, c.push.ensures.len),
-            (rw at next.2, rw at c.in-Some-next_of.ensures.mated),
-          ),
-        ),
-      ),
-    )
+enter-requires g c = search (rules, walking.room_left)
