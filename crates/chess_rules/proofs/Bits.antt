@@ -65,6 +65,10 @@ word_only s p =
 pub word_has : (test : ℕ → Bool) (w s : ℕ) → w ≡ word test → s < 64 → (bit_at w s == 1) ≡ test s
 word_has test w s h b = ap (λ n. bit_at n s == 1) h ∙ ap (λ n. n == 1) (square_bit test s b) ∙ is_bit (test s)
 
+-- a word that is 0 has no square
+pub word_lacks : (test : ℕ → Bool) → word test ≡ 0 → (s : ℕ) → s < 64 → test s ≡ false
+word_lacks test h s b = sym (word_has test (word test) s refl b) ∙ word_has (λ s. false) (word test) s (h ∙ word_empty (λ s. false) (λ s b. refl)) b
+
 -- all squares
 pub every_square : (test : ℕ → Bool) → ((s : ℕ) → s < 64 → test s ≡ true) → bit_not w64 0 ≡ word test
 every_square test h = ap (bit_not w64) (word_empty (λ s. false) (λ s b. refl)) ∙ squares_not (λ s. false) ∙ squares_same (λ s. true) test (λ s b. sym (h s b))

@@ -1,16 +1,6 @@
 -- Moves of all sorts, computed from the definitions.
-use Rattle.std.proofs.Common.{true, false, [], ◌∷◌, Some, None, map, ◌≡◌, refl}
-use Rattle.chess_core.specs.Castling.{none_unmoved, has_unmoved, mark_unmoved, with_unmoved}
-use Rattle.chess_core.specs.Position.{Position, king_square, kinds, man_on, same_kind}
-use Rattle.chess_core.specs.Squares.{squares, some_square}
-use Rattle.chess_core.specs.Steps.{along}
-use Rattle.chess_core.specs.declared.man.Colour.TheVariants.{White, Black}
-use Rattle.chess_core.specs.declared.man.Kind.TheVariants.{King, Rook, Bishop, Pawn, Grasshopper, Nightrider}
-use Rattle.chess_rules.specs.Attacks.{faces, faces_its_like, in_check, is_attacked, is_paralysed, is_attacker}
-use Rattle.chess_rules.specs.Legal.{can_castle, is_legal, is_mate, is_pseudo_legal, may_castle, moves, triples}
-use Rattle.chess_rules.specs.Play.{position_after, position_after_by, capture_square, moved_men, reborn_square, rebirth, unmoved_after}
-use Rattle.chess_rules.specs.Reaches.{hops, is_clear, leaps, reaches, reaches_as, rides}
-use Rattle.chess_rules.specs.RuleSet.{circe, madrasi, orthodox}
+use Rattle.chess_rules.proofs.Basics.{None, Some, [], false, map, refl, true, ◌∷◌, ◌≡◌}
+use Rattle.chess_rules.proofs.Chess.{Bishop, Black, Grasshopper, King, Nightrider, Pawn, Rook, White, along, can_castle, capture_square, faces, faces_its_like, hops, in_check, is_attacked, is_attacker, is_clear, is_legal, is_mate, is_paralysed, is_pseudo_legal, leaps, may_castle, moved_men, moves, position_after, position_after_by, reaches, reaches_as, rebirth, reborn_square, rides, some_square, squares, triples, unmoved_after, Position, circe, has_unmoved, kinds, king_square, madrasi, man_on, mark_unmoved, none_unmoved, orthodox, same_kind, with_unmoved}
 use Rattle.chess_rules.proofs.Typed.{go, man, on, position, promoting}
 use Rattle.chess_core.specs.SquareNames.{a1, d1, e1, f1, g1, h1, f2, h2, b3, f3, h3, d5, e5, d6, g6, d7, e7, a8, b8, c8, e8, g8, h8}
 

@@ -1,16 +1,6 @@
 -- All legal moves of some positions, computed from the definitions.
-use Rattle.std.proofs.Common.{true, false, [], ◌∷◌, ◌≡◌, refl, length}
-use Rattle.chess_core.specs.Castling.{none_unmoved, has_unmoved, mark_unmoved, with_unmoved}
-use Rattle.chess_core.specs.Position.{Position, king_square}
-use Rattle.chess_core.specs.Squares.{squares, some_square}
-use Rattle.chess_core.specs.Steps.{along}
-use Rattle.chess_core.specs.declared.man.Colour.TheVariants.{White, Black}
-use Rattle.chess_core.specs.declared.man.Kind.TheVariants.{King, Queen, Rook, Bishop, Knight, Pawn}
-use Rattle.chess_rules.specs.Attacks.{faces, faces_its_like, in_check, is_attacked, is_paralysed, is_attacker}
-use Rattle.chess_rules.specs.Legal.{can_castle, is_legal, is_mate, is_nil, is_pseudo_legal, may_castle, moves, triples}
-use Rattle.chess_rules.specs.Play.{position_after, position_after_by, capture_square, moved_men, reborn_square, rebirth, unmoved_after}
-use Rattle.chess_rules.specs.Reaches.{hops, is_clear, leaps, reaches, reaches_as, rides}
-use Rattle.chess_rules.specs.RuleSet.{orthodox}
+use Rattle.chess_rules.proofs.Basics.{[], false, length, refl, true, ◌∷◌, ◌≡◌}
+use Rattle.chess_rules.proofs.Chess.{Bishop, Black, King, Knight, Pawn, Position, Queen, Rook, White, along, can_castle, capture_square, faces, faces_its_like, hops, in_check, is_attacked, is_attacker, is_clear, is_legal, is_mate, is_nil, is_paralysed, is_pseudo_legal, king_square, leaps, may_castle, moved_men, moves, orthodox, position_after, position_after_by, reaches, reaches_as, rebirth, reborn_square, rides, some_square, squares, triples, unmoved_after, has_unmoved, mark_unmoved, none_unmoved, with_unmoved}
 use Rattle.chess_rules.proofs.Typed.{on, position}
 use Rattle.chess_core.specs.SquareNames.{a1, b1, c1, d1, e1, f1, g1, h1, a2, b2, c2, d2, e2, f2, g2, h2, c3, f3, h3, b4, e4, d5, e5, a6, b6, e6, f6, g6, a7, b7, c7, d7, e7, f7, g7, h7, a8, b8, c8, d8, e8, f8, g8, h8}
 

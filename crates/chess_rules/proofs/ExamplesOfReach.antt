@@ -1,14 +1,6 @@
 -- How men go and give check, computed from the definitions.
-use Rattle.std.proofs.Common.{true, false, List, [], ◌∷◌, Option, ◌≡◌, refl}
-use Rattle.chess_core.specs.Position.{king_square, with_man}
-use Rattle.chess_core.specs.Squares.{squares, some_square}
-use Rattle.chess_core.specs.Steps.{along}
-use Rattle.chess_core.specs.declared.man.Colour.TheVariants.{White, Black}
-use Rattle.chess_core.specs.declared.man.Man.{Man}
-use Rattle.chess_core.specs.declared.man.Kind.TheVariants.{King, Rook, Knight, Pawn, Grasshopper, Nightrider}
-use Rattle.chess_rules.specs.Attacks.{faces, faces_its_like, in_check, is_attacked, is_paralysed, is_attacker}
-use Rattle.chess_rules.specs.Reaches.{hops, is_clear, leaps, reaches, reaches_as, rides}
-use Rattle.chess_rules.specs.RuleSet.{madrasi, orthodox}
+use Rattle.chess_rules.proofs.Basics.{List, Option, [], false, refl, true, ◌∷◌, ◌≡◌}
+use Rattle.chess_rules.proofs.Chess.{Black, Grasshopper, King, Knight, Man, Nightrider, Pawn, Rook, White, along, faces, faces_its_like, hops, in_check, is_attacked, is_attacker, is_clear, is_paralysed, king_square, leaps, reaches, reaches_as, rides, some_square, squares, with_man, madrasi, orthodox}
 use Rattle.chess_rules.proofs.Typed.{man, on, set_up}
 use Rattle.chess_core.specs.SquareNames.{a1, e1, f1, a3, b3, a4, a5, e5, a6, f6, d7, e7, f7, g7, b8}
 

@@ -1,33 +1,9 @@
 -- What the clauses of attack, of lines and of targets exclude: small positions in which the definitions say otherwise than a wrong body would.
-use Rattle.std.proofs.Common.{◌≡◌, ℕ, ◌-◌, ◌/◌, ◌%◌, ◌^◌, ◌<◌, ◌≤◌, Bool, true, false, not, [], ◌∷◌, List, Option, Some, find, take, drop, filter, refl, sym, ap, ◌∙◌, arith}
-use Rattle.std.specs.Prelude.{◌==◌, ◌&&◌}
-use Rattle.std.specs.Int.{bit_at}
-use Rattle.std.specs.List.{range_with_len}
-use Rattle.chess_rules.specs.ties.Places.{IsBarrenFrom, moves_between, per_arrival, promotion_at, triple_at}
+use Rattle.chess_rules.proofs.Basics.{Bool, List, Option, Some, [], ap, arith, bit_at, drop, false, filter, find, not, range_with_len, refl, sym, take, true, ℕ, ◌%◌, ◌&&◌, ◌-◌, ◌/◌, ◌<◌, ◌==◌, ◌^◌, ◌∙◌, ◌∷◌, ◌≡◌, ◌≤◌, rules}
+use Rattle.chess_rules.proofs.Chess.{Bishop, Black, Colour, Grasshopper, IsBarrenFrom, Kind, King, Knight, Man, Nightrider, Pawn, Position, Queen, Rook, White, along, can_castle, can_go, capture_square, faces, faces_its_like, hops, in_check, is_ahead, is_arrival_free, is_attacked, is_attacker, is_clear, is_legal, is_man, is_of_colour, is_on_some, is_paralysed, is_pseudo_legal, king_square, leaps, man_on, may_castle, may_go, may_promote, moved_men, moves_between, pawn_goes, per_arrival, position_after, position_after_by, promotion_at, reaches, reaches_as, rebirth, reborn_square, rides, sight_after, some_square, squares, step_by, steps_to, straight_steps, triple_at, triples, unmoved_after, without_man, word, word_of, AreEvasions, AreEvasionsFrom, RuleSet, cannot_expose, has_fairy, has_fairy_lines_of, has_unmoved, hopped_from, is_behind, is_checker, is_evasion, is_met, is_on_fairy_line, is_plain, is_reached, is_shut, madrasi, mark_unmoved, may_expose, may_stand_between, none_unmoved, orthodox, rides_on, with_unmoved}
 use Rattle.std.proofs.lemmas.Bool.{agree_below_at, and_from, cases_lt, true_from_ne_false, true≢false, false≢true}
-use Rattle.chess_core.specs.Castling.{none_unmoved, has_unmoved, mark_unmoved, with_unmoved}
-use Rattle.chess_core.specs.Position.{Position, is_man, is_of_colour, king_square, man_on, may_promote, without_man}
-use Rattle.chess_core.specs.Squares.{squares, some_square}
-use Rattle.chess_core.specs.Steps.{along, step_by, straight_steps}
-use Rattle.chess_core.specs.declared.man.Colour.TheVariants.{White, Black}
-use Rattle.chess_core.specs.declared.man.Kind.TheVariants.{King, Queen, Rook, Bishop, Knight, Grasshopper, Nightrider, Pawn}
-use Rattle.chess_core.specs.declared.man.Colour.{Colour}
-use Rattle.chess_core.specs.declared.man.Kind.{Kind}
-use Rattle.chess_core.specs.declared.man.Man.{Man}
-use Rattle.chess_rules.specs.Attacks.{faces, faces_its_like, in_check, is_attacked, is_paralysed, is_attacker}
-use Rattle.chess_rules.specs.ties.Evasions.{has_fairy_lines_of, AreEvasions, AreEvasionsFrom, is_evasion}
-use Rattle.chess_rules.specs.Legal.{can_castle, can_go, is_arrival_free, is_legal, is_pseudo_legal, may_castle, triples}
-use Rattle.chess_rules.specs.ties.Outward.{hopped_from, is_met, rides_on}
-use Rattle.chess_rules.specs.Play.{position_after, position_after_by, capture_square, moved_men, reborn_square, rebirth, unmoved_after}
-use Rattle.chess_rules.specs.Reaches.{hops, is_clear, leaps, reaches, reaches_as, rides}
-use Rattle.chess_rules.specs.RuleSet.{RuleSet, madrasi, orthodox}
-use Rattle.chess_rules.specs.ties.Shields.{cannot_expose, has_fairy, is_behind, is_checker, is_plain, is_reached, is_shut, may_expose, may_stand_between, is_on_fairy_line}
-use Rattle.chess_core.specs.ties.Words.{word, word_of}
-use Rattle.chess_rules.specs.ties.Sight.{sight_after}
-use Rattle.chess_rules.specs.ties.Targets.{may_go, pawn_goes, steps_to}
 use Rattle.chess_rules.proofs.making_moves.Pseudo.{on_board}
 use Rattle.chess_rules.proofs.attacks.StayingInCheck.{side_there}
-use Rattle.chess_rules.specs.ties.Lines.{is_ahead, is_on_some}
 use Rattle.chess_rules.proofs.Typed.{go, man, on, position, set_up}
 use Rattle.chess_core.specs.SquareNames.{a1, b1, c1, d1, e1, g1, h1, a2, b2, h2, a3, b3, c3, d3, h3, a4, d5, e4, a5, a6, b6, d6, e5, e7, a8, b8, e8, f8, g8, h8}
 
@@ -81,8 +57,7 @@ en_passant_meets = (refl, refl, refl)
 
 -- so the squares to which the pawn must go to leave no check hold d6, which meets it in no other way
 pub crossed_square_may_meet_a_check : (w : ℕ) → AreEvasionsFrom orthodox passing_check e5 w → (bit_at w d6 == 1) ≡ true
-crossed_square_may_meet_a_check w are = true_from_ne_false _ (λ e. true≢false
-    (sym (are.elsewhere (go e5 d6) refl (omega arith) en_passant_meets.1 e) ∙ en_passant_meets.2))
+crossed_square_may_meet_a_check w are = search (rules, true_from_ne_false, true≢false, en_passant_meets, are)
 
 -- d6 is neither the checking pawn's square nor one between it and the king
 pub no_evasion_there : is_evasion passing_check.men White e4 d5 d6 ≡ false

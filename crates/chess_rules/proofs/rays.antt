@@ -1,7 +1,7 @@
 -- Lines of squares: rides, hops, leaps, and the words of their squares.
 pub mod HopWords
 pub mod Ends
-pub mod Hops
+pub mod Ways
 pub mod Ahead
 pub mod Computed
 pub mod Stopping

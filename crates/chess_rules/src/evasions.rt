@@ -33,6 +33,7 @@ fn has_fairy_lines_on(board: &Board, square: Square) -> bool
 // The squares to which a move of another man than the king may go that ends a check to the colour's king,
 // unless it is no plain move: all of them where no check is seen. `checkers` are the squares of the enemies that
 // reach the king.
+#[tactic(auto, using(crate::proofs::attacks::StayingInCheck::evasion_squares_all))]
 pub(crate) fn evasion_squares<R: Rules>(board: &Board, colour: Colour, checkers: Squares) -> Squares
     requires { checkers ≡ word (is_checker board.now.men colour) }
     ensures { AreEvasions R.rule board.now.men colour result }

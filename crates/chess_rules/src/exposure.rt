@@ -77,6 +77,7 @@ fn is_faced_after(
 }
 
 // Whether the enemy man on the square is paralysed then.
+#[tactic(auto, using(crate::proofs::attacks::Exposing::faced_king, crate::proofs::attacks::Exposing::none_paralysed, crate::proofs::attacks::Exposing::paralysed_by), unfolding(crate::specs::Attacks::is_paralysed))]
 fn is_paralysed_after<R: Rules>(
     board: &Board,
     sight: Sight,

@@ -75,6 +75,7 @@ impl Direction {
 
     // The square of the word that the line passes first; the last one of the board, behind which no
     // line goes on, where the word has none.
+    #[tactic(auto, using(crate::proofs::rays::Firsts::highest_stop, crate::proofs::rays::Firsts::lowest_stop))]
     fn first(self, word: Squares) -> Square
         ensures { IsStop (step_of self) word result }
     {

@@ -168,6 +168,7 @@ pub fn attackers_seen(board: &Board, sight: Sight, square: Square, colour: Colou
 
 /// Whether some man of this colour reaches the square. Leaps, which stand in a table, are looked for first: if
 /// there is one, no line is looked along.
+#[tactic(auto, using(crate::proofs::attacks::Attacking::diagonal_reaches, crate::proofs::attacks::Attacking::leap_reaches, crate::proofs::attacks::Attacking::straight_reaches))]
 #[inline(always)]
 pub fn is_attacker_seen(board: &Board, sight: Sight, square: Square, colour: Colour) -> bool
     ensures { (men : List (Option Man)) → AreSeen board.now.men men colour sight

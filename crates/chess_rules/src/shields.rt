@@ -44,6 +44,7 @@ pub(crate) fn has_fairy(board: &Board, colour: Colour) -> bool
 /// The squares of the lines to the colour's king with a fairy man of the other colour on them: the queen's
 /// lines with a grasshopper, and a nightrider's with a nightrider.
 #[inline(always)]
+#[tactic(auto, using(crate::proofs::attacks::FairyLines::no_fairy_line))]
 pub fn fairy_lines(board: &Board, colour: Colour) -> Squares
     ensures { result ≡ word (may_stand_between board.now.men colour) }
 {
@@ -130,6 +131,7 @@ fn line_riders(board: &Board, colour: Colour, lines: RiderLines) -> Squares
 }
 
 // Those that stand on one of the lines of the square.
+#[tactic(auto, using(crate::proofs::rays::Riding::riders_are))]
 fn riders_on_lines(board: &Board, colour: Colour, square: Square, lines: RiderLines) -> Squares
     ensures { result ≡ word (is_line_rider board.now.men colour (rider_along lines)
         (steps_along lines) square) }
@@ -253,6 +255,7 @@ pub fn safety_seen(
 }
 
 /// How safe the colour's king is.
+#[tactic(auto, using(crate::proofs::attacks::Shielding::checkers_none, crate::proofs::attacks::Shielding::shield_squares_none))]
 #[inline(always)]
 pub fn king_safety(board: &Board, colour: Colour) -> KingSafety
     ensures checkers { result.checkers ≡ word (is_checker board.now.men colour) }

@@ -77,6 +77,7 @@ fn castling_squares(board: &Board, man: Man, from: Square) -> Squares
 }
 
 // The squares to which the man on `from` goes, whoever stands there, most tests of castling apart.
+#[tactic(auto, using(crate::proofs::listing_moves::Arrivals::other_ways, crate::proofs::listing_moves::Arrivals::pawn_ways))]
 fn goes_to(board: &Board, man: Man, from: Square) -> Squares
     ensures { result ≡ word (may_go board.now man from) }
 {
@@ -95,6 +96,7 @@ fn free_squares(board: &Board, colour: Colour) -> Squares
 }
 
 /// The squares to which the man on `from` may go, most tests of castling apart.
+#[tactic(auto, using(crate::proofs::listing_moves::Arrivals::arrivals_nobody, crate::proofs::listing_moves::Arrivals::arrivals_other, crate::proofs::listing_moves::Arrivals::arrivals_paralysed))]
 pub fn arrivals<R: Rules>(board: &Board, from: Square) -> Squares
     ensures { result ≡ word (is_arrival R.rule board.now from) }
 {

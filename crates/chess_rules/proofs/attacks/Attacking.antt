@@ -1,11 +1,8 @@
 -- Attack looked for outward from the square.
 use Rattle.chess_rules.proofs.Basics.{Bool, List, None, Option, Some, [], and_left, ap, arith, bit_and, bit_at, bit_or, false, false_from_ne_true, false≢true, inl, inr, list_any, list_any-append, not, or_left, or_right, refl, rules, sym, true, ℕ, ◌&&◌, ◌<◌, ◌==◌, ◌||◌, ◌∙◌, ◌∷◌, ◌≡◌}
-use Rattle.chess_rules.proofs.Chess.{Bishop, Colour, Grasshopper, Kind, King, Knight, Man, Nightrider, Pawn, Queen, Rook, RuleSet, Step, any_range_cases, diagonal_steps, differs, faces, faced_men_stand_still, faces_its_like, first_of_and, gait_of, hopped_from, is_ahead, is_attacked, is_fairy, is_man, is_on_some, is_paralysed, is_reached, is_of_colour, man_on, other, queen_steps, reaches, reaches_as, reaches_of, rides, same_colour-true, same_kind, same_kind-true, second_of_and, some_square, some_square_false, some_square_true, squares, squares_both, squares_either, squares_of, squares_same, straight_steps, is_attacker, word}
-use Rattle.chess_core.specs.declared.man.Gait.TheVariants.{Hopper}
-use Rattle.chess_rules.specs.ties.Outward.{is_fairy_man, is_leaping_man, is_met}
-use Rattle.chess_rules.proofs.Bits.{not_zero, word_empty, word_has}
+use Rattle.chess_rules.proofs.Chess.{Bishop, Colour, Grasshopper, Kind, King, Knight, Man, Nightrider, Pawn, Queen, Rook, RuleSet, Step, any_range_cases, diagonal_steps, differs, faces, faced_men_stand_still, faces_its_like, first_of_and, gait_of, hopped_from, is_ahead, is_attacked, is_fairy, is_man, is_on_some, is_paralysed, is_reached, is_of_colour, man_on, other, queen_steps, reaches, reaches_as, reaches_of, rides, same_colour-true, same_kind, same_kind-true, second_of_and, some_square, some_square_false, some_square_true, squares, squares_both, squares_either, squares_of, squares_same, straight_steps, is_attacker, word, Hopper, any_kept, is_fairy_man, is_leaping_man, is_met}
+use Rattle.chess_rules.proofs.Bits.{not_zero, word_empty, word_has, word_lacks}
 use Rattle.chess_rules.proofs.rays.Flips.{diagonal-back, hops-turned, queen_rides-back, reaches_back, straight-back}
-use Rattle.chess_rules.proofs.Tests.{any_kept}
 
 -- tests that agree on the squares
 pub some_square_same : (p q : ℕ → Bool) → ((s : ℕ) → s < 64 → p s ≡ q s) → some_square p ≡ some_square q
@@ -44,10 +41,6 @@ reached men c k t w n h r =
     ∙ squares_same _ _ (λ s b. only_then (is_man (man_on men s) c k) (reaches_as men c k s t) (reaches men s t)
     (λ h. sym (reaches_of_man men (man_on men s) c k s t h)))
 
--- a word that is 0 has no square
-word_lacks : (test : ℕ → Bool) → word test ≡ 0 → (s : ℕ) → s < 64 → test s ≡ false
-word_lacks test h s b = sym (word_has test (word test) s refl b) ∙ word_has (λ s. false) (word test) s (h ∙ word_empty (λ s. false) (λ s b. refl)) b
-
 -- where no men of the kind stand, none reaches t
 pub reached_none : (men : List (Option Man)) (c : Colour) (k : Kind) (t w : ℕ) → w ≡ squares_of men c k → w ≡ 0
     → 0 ≡ word (λ s. is_man (man_on men s) c k && reaches men s t)
@@ -81,8 +74,7 @@ at_square : (men : List (Option Man)) (c : Colour) (o : Option Man) (s t : ℕ) 
     → ((((is_leaping_man o c && reaches_of men o s t) || ((is_man o c Rook || is_man o c Queen) && list_any (rides men t s) straight_steps))
     || ((is_man o c Bishop || is_man o c Queen) && list_any (rides men t s) diagonal_steps)) || (is_fairy_man o c && reaches_of men o s t))
     ≡ (is_of_colour o c && reaches_of men o s t)
-at_square men c None s t p q = refl
-at_square men c (Some x) s t p q = search (rules, bishop_reaches, by_lines, queen_reaches, rook_reaches)
+at_square men c v2 s t p q = search (rules, bishop_reaches, by_lines, queen_reaches, rook_reaches, p, q)
 
 -- the riders of a kind and the queens on the squares to which a ride from t gets
 pub met : (men : List (Option Man)) (c : Colour) (k : Kind) (t m n w : ℕ) (ds : List Step) → m ≡ squares_of men c k → n ≡ squares_of men c Queen
@@ -139,10 +131,7 @@ leaping_by_kind o c r = grind arith
 -- kings, knights and pawns kind by kind
 pub leapers_are : (men : List (Option Man)) (c : Colour) (t k n p : ℕ) → k ≡ word (comer men c t King) → n ≡ word (comer men c t Knight)
     → p ≡ word (comer men c t Pawn) → bit_or (bit_or k n) p ≡ word (leaping_comer men c t)
-leapers_are men c t k n p hk hn hp =
-    let by : Kind → ℕ → Bool = comer men c t in
-    (λ a. bit_or (bit_or (hk a) (hn a)) (hp a)) ∙ (λ a. bit_or (squares_either (by King) (by Knight) a) (word (by Pawn)))
-    ∙ squares_either (λ s. by King s || by Knight s) (by Pawn) ∙ squares_same _ _ (λ s z. leaping_by_kind (man_on men s) c (reaches men s t))
+leapers_are men c t k n p hk hn hp = search (rules, squares_either, squares_same, leaping_by_kind, hk, hn, hp)
 
 -- the men that reach t: leapers, riders on straight lines, on diagonals, and fairy men
 pub attackers_are : (men : List (Option Man)) (c : Colour) (t l r b f : ℕ) → t < 64
@@ -152,16 +141,7 @@ pub attackers_are : (men : List (Option Man)) (c : Colour) (t l r b f : ℕ) →
     → f ≡ word (fairy_comer men c t)
     → bit_or (bit_or (bit_or l r) b) f ≡ word (λ s. is_of_colour (man_on men s) c && reaches men s t)
 unfolding reaches is_met
-attackers_are men c t l r b f q hl hr hb hf =
-    let leaper : ℕ → Bool = leaping_comer men c t in
-    let rook : ℕ → Bool = is_met men c Rook straight_steps t in
-    let bishop : ℕ → Bool = is_met men c Bishop diagonal_steps t in
-    let fairy : ℕ → Bool = fairy_comer men c t in
-    (λ a. bit_or (bit_or (bit_or (hl a) (hr a)) (hb a)) (hf a))
-    ∙ (λ a. bit_or (bit_or (squares_either leaper rook a) (word bishop)) (word fairy))
-    ∙ (λ a. bit_or (squares_either (λ s. leaper s || rook s) bishop a) (word fairy))
-    ∙ squares_either (λ s. (leaper s || rook s) || bishop s) fairy
-    ∙ squares_same _ _ (λ s z. at_square men c (man_on men s) s t z q)
+attackers_are men c t l r b f q hl hr hb hf = search (rules, squares_either, squares_same, at_square, q, hl, hr, hb, hf)
 
 or_exchange : (a b c d : Bool) → ((a || b) || (c || d)) ≡ ((a || c) || (b || d))
 or_exchange a b c d = grind arith
@@ -182,17 +162,7 @@ pub some_reach : (men : List (Option Man)) (c : Colour) (t l r b f : ℕ) → t 
     → f ≡ word (fairy_comer men c t)
     → (((not (l == 0) || not (r == 0)) || not (b == 0)) || not (f == 0)) ≡ is_reached men t c
 unfolding reaches is_met is_reached
-some_reach men c t l r b f q hl hr hb hf =
-    let leaper : ℕ → Bool = leaping_comer men c t in
-    let rook : ℕ → Bool = is_met men c Rook straight_steps t in
-    let bishop : ℕ → Bool = is_met men c Bishop diagonal_steps t in
-    let fairy : ℕ → Bool = fairy_comer men c t in
-    (λ a. ((not (hl a == 0) || not (hr a == 0)) || not (hb a == 0)) || not (hf a == 0))
-    ∙ (λ a. ((not_zero leaper a || not_zero rook a) || not_zero bishop a) || not_zero fairy a)
-    ∙ (λ a. (some_either leaper rook a || some_square bishop) || some_square fairy)
-    ∙ (λ a. some_either (λ s. leaper s || rook s) bishop a || some_square fairy)
-    ∙ some_either (λ s. (leaper s || rook s) || bishop s) fairy
-    ∙ some_square_same _ _ (λ s z. at_square men c (man_on men s) s t z q)
+some_reach men c t l r b f q hl hr hb hf = search (rules, not_zero, some_either, some_square_same, at_square, q, hl, hr, hb, hf)
 
 -- some leaper reaches t
 pub leap_reaches : (men : List (Option Man)) (c : Colour) (t l : ℕ) → t < 64 → l ≡ word (leaping_comer men c t) → (l ≡ 0 → ⊥) → true ≡ is_reached men t c
@@ -222,17 +192,12 @@ fairy_by_kind o c r = grind arith
 -- the fairy men kind by kind
 pub fairy_are : (men : List (Option Man)) (c : Colour) (t g f : ℕ) → g ≡ word (comer men c t Grasshopper) → f ≡ word (comer men c t Nightrider)
     → bit_or g f ≡ word (fairy_comer men c t)
-fairy_are men c t g f hg hf =
-    (λ a. bit_or (hg a) (hf a)) ∙ squares_either (comer men c t Grasshopper) (comer men c t Nightrider)
-    ∙ squares_same _ _ (λ s z. fairy_by_kind (man_on men s) c (reaches men s t))
+fairy_are men c t g f hg hf = search (rules, squares_either, squares_same, fairy_by_kind, hg, hf)
 
 -- where there are neither, no fairy man reaches t
 pub fairy_none : (men : List (Option Man)) (c : Colour) (t g f : ℕ) → g ≡ squares_of men c Grasshopper → f ≡ squares_of men c Nightrider → g ≡ 0 → f ≡ 0
     → 0 ≡ word (fairy_comer men c t)
 fairy_none men c t g f hg hf zg zf = fairy_are men c t 0 0 (reached_none men c Grasshopper t g hg zg) (reached_none men c Nightrider t f hf zf)
-
-last_two : (a b c : Bool) → ((a && b) && c) ≡ ((a && c) && b)
-last_two a b c = grind arith
 
 -- attack by the men that reach the square and aren't paralysed
 pub attacked_by : (rule : RuleSet) (men : List (Option Man)) (t w : ℕ) (c : Colour) → w ≡ word (λ s. is_of_colour (man_on men s) c && reaches men s t)
@@ -247,8 +212,7 @@ unparalysed side still faced reaches off = grind arith
 pub attacked_plainly : (rule : RuleSet) (men : List (Option Man)) (t : ℕ) (c : Colour) (b : Bool) → faced_men_stand_still rule ≡ false → b ≡ is_reached men t c
     → b ≡ is_attacked rule men t c
 unfolding is_attacked is_attacker is_paralysed is_reached
-attacked_plainly rule men t c b off h =
-    h ∙ some_square_same _ _ (λ s z. unparalysed (is_of_colour (man_on men s) c) (faced_men_stand_still rule) _ (reaches men s t) off)
+attacked_plainly rule men t c b off h = search (rules, some_square_same, unparalysed, off, h)
 
 -- an enemy of a man's kind reaches its square exactly if the word of those isn't 0
 pub faced : (men : List (Option Man)) (x : Man) (t w : ℕ) → w ≡ word (λ s. is_man (man_on men s) (other x.colour) x.kind && reaches men s t)

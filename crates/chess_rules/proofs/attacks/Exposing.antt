@@ -1,9 +1,8 @@
 -- Whether a move leaves its mover in check, told by the men that an attack sees after it.
 use Rattle.chess_rules.proofs.Basics.{Bool, List, None, Option, Some, and_from, and_left, and_parts, and_right, ap, arith, bit_at, cases_Bool, cases_eq, cond-false, cond-true, eq-eqb, false, false_from_ne_true, false≢true, inl, inr, is_some, not, not-true, or_parts, rules, subst, sym, true, ℕ, ◌&&◌, ◌<◌, ◌==◌, ◌||◌, ◌∙◌, ◌≡◌}
-use Rattle.chess_rules.proofs.Chess.{AreArrived, AreOthers, AreSeen, Colour, IsWellFormed, Kind, King, Man, Move, Position, RuleSet, arriving_man, capture_square, differs, faces, faces_its_like, in_check, is_arrival_free, is_attacked, is_attacked_at, is_castling, captures_do_more, is_faced, faced_men_stand_still, is_man, is_paralysed, is_promotion_right, is_pseudo_legal, is_of_colour, is_simple, is_square, king_after, king_square, man_on, other, position_after, reaches, same_colour, same_colour-true, same_kind, sight_after, some_square, squares_both, squares_either, squares_not, squares_of, squares_same, word}
+use Rattle.chess_rules.proofs.Chess.{AreArrived, AreOthers, AreSeen, Colour, IsWellFormed, Kind, King, Man, Move, Position, RuleSet, arriving_man, capture_square, differs, faces, faces_its_like, in_check, is_arrival_free, is_attacked, is_attacked_at, is_castling, captures_do_more, is_faced, faced_men_stand_still, is_man, is_paralysed, is_promotion_right, is_pseudo_legal, is_of_colour, is_simple, is_square, king_after, king_square, man_on, other, position_after, reaches, same_colour, same_colour-true, same_kind, sight_after, some_square, squares_both, squares_either, squares_not, squares_of, squares_same, word, same_colour-refl}
 use Rattle.chess_rules.specs.ties.Sight.{is_arriving_as, own_after}
 use Rattle.chess_rules.specs.declared.sight.Sight.{Sight}
-use Rattle.chess_core.proofs.Kept.{same_colour-refl}
 use Rattle.chess_rules.proofs.attacks.Attacking.{attacked_by}
 use Rattle.chess_rules.proofs.Bits.{not_zero, word_empty, word_has}
 use Rattle.chess_rules.proofs.rays.Ends.{square_is}
@@ -101,25 +100,13 @@ goes_without_king rule p x m well is small other_man = record {
       ap (λ (o : Option Man). is_man o p.turn King) t.there ∙ and_right (same_colour t.man.colour p.turn) _ t.mortal;
 }
 
+-- where a king stands once a man has moved
+ruleset king_moves = (goes_without_king, king_is, king_stands, king_stays_king, moved_arrival, moved_plainly, moved_sound)
+
 -- the mover's king stands on the arrival if he went, else where he stood
 pub king_is_after : (rule : RuleSet) (p : Position) (x : Man) (m : Move) → IsWellFormed p → IsMade rule p x m → m.to < 64 → is_castling x m ≡ false
     → king_square (arrived p x m) p.turn ≡ king_after p x m
-king_is_after rule p x m well is small castling =
-    grind (
-      arith,
-      and_from,
-      cases_Bool,
-      same_colour-refl,
-      cond-false,
-      cond-true,
-      goes_without_king,
-      king_is,
-      king_stands,
-      king_stays_king,
-      moved_arrival,
-      moved_plainly,
-      moved_sound,
-    )
+king_is_after rule p x m well is small castling = grind (arith, and_from, cases_Bool, cond-false, cond-true, same_colour-refl, king_moves)
 
 -- the mover is in check after a simple move exactly if that square is attacked
 pub check_is : (rule : RuleSet) (p : Position) (x : Man) (m : Move) (o : Option ℕ) → IsWellFormed p → IsMade rule p x m → m.to < 64 → IsSimple rule p x m
@@ -175,21 +162,9 @@ own_on rule p x m k s well is small = elim (cases_eq s m.to) [
 
 others_on : (rule : RuleSet) (p : Position) (x : Man) (m : Move) (s : ℕ) → IsWellFormed p → IsMade rule p x m → m.to < 64
     → is_of_colour (man_on (arrived p x m) s) (other x.colour) ≡ true → man_on (arrived p x m) s ≡ man_on p.men s
-others_on rule p x m s well is small side = elim (cases_eq s m.to) [
-  | inl e ↦
-      let there : man_on (arrived p x m) s ≡ Some (arriving_man x m.promo) = ap (man_on (arrived p x m)) e
-      ∙ there_now p.men m.from (capture_square p x m) m.to (arriving_man x m.promo) (omega (arith, small, well.size)) in
-      let own : is_of_colour (man_on (arrived p x m) s) (other x.colour) ≡ false = ap (λ (o : Option Man). is_of_colour o (other x.colour)) there
-      ∙ ap (λ (c : Colour). same_colour c (other x.colour)) (arriving_colour x m.promo) ∙ other_differs x.colour in
-      absurd (false≢true (sym own ∙ side))
-  | inr ne ↦ elim (cases_Bool (is_square (Some m.from) s || is_square (capture_square p x m) s)) [
-    | inl y ↦
-        let none : is_of_colour (man_on (arrived p x m) s) (other x.colour) ≡ false =
-        ap (λ (o : Option Man). is_of_colour o (other x.colour)) (left_now p.men m.from (capture_square p x m) m.to (arriving_man x m.promo) s ne y) in
-        absurd (false≢true (sym none ∙ side))
-    | inr n ↦ kept_now p.men m.from (capture_square p x m) m.to (arriving_man x m.promo) s ne n
-  ]
-]
+others_on rule p x m s well is small side =
+    let gone = cases_Bool (is_square (Some m.from) s || is_square (capture_square p x m) s) in
+    grind (arith, cases_eq s m.to, gone, there_now, left_now, kept_now, arriving_colour, other_differs)
 
 own_words : (rule : RuleSet) (p : Position) (x : Man) (m : Move) (k : Kind) → IsWellFormed p → IsMade rule p x m → m.to < 64
     → own_after p.men (sight_after p.men m.from (capture_square p x m) m.to) x m k ≡ squares_of (arrived p x m) x.colour k
@@ -205,9 +180,7 @@ pub attacked_after : (rule : RuleSet) (men : List (Option Man)) (c : Colour) (t 
     → w ≡ word (λ s. is_of_colour (man_on men s) (other c) && reaches men s t)
     → (AreOthers men c w → b ≡ some_square (λ s. bit_at w s == 1 && not (is_paralysed rule men s)))
     → b ≡ is_attacked rule men t (other c)
-attacked_after rule men c t w b are free =
-    free (record { side = λ s lt on. (and_parts (is_of_colour (man_on men s) (other c)) _ (sym (word_has _ w s are lt) ∙ on)).0 })
-    ∙ attacked_by rule men t w (other c) are
+attacked_after rule men c t w b are free = search (rules, and_parts, word_has, attacked_by, are, free)
 
 -- the mover is in check exactly if the king's square is attacked then
 pub exposed_is : (rule : RuleSet) (p : Position) (x : Man) (m : Move) (k : ℕ) (b : Bool) → IsWellFormed p → is_pseudo_legal rule p m ≡ true → m.to < 64

@@ -6,7 +6,8 @@ use Rattle.chess_rules.proofs.Chess.{squares_both, squares_either, squares_of, s
 use Rattle.chess_rules.proofs.rays.Ahead.{ordered}
 use Rattle.chess_rules.proofs.attacks.Attacking.{some_square_same}
 use Rattle.chess_rules.proofs.Bits.{not_zero, word_empty}
-use Rattle.chess_rules.proofs.rays.Ends.{back, between, square_is, stays}
+use Rattle.chess_rules.proofs.rays.Ends.{back, mirrored, square_is, stays}
+use Rattle.chess_rules.proofs.rays.Ways.{hop-found, hop-made, ride-found, ride-made}
 use Rattle.chess_rules.proofs.rays.Flips.{backward}
 use Rattle.chess_rules.proofs.rays.Parting.{Frees}
 
@@ -19,7 +20,7 @@ ahead_on : (s k : ℕ) (d : Step) (n i q : ℕ) → along s d n ≡ Some k → i
 unfolding is_ahead
 ahead_on s k d n i q at lt le here =
     any_range_true (λ j. is_square (along k (back d) j) q) 1 7 (n - i) (omega arith) (omega arith)
-    (ap (λ o. is_square o q) (between s k d n i (omega arith) at) ∙ here)
+    (ap (λ o. is_square o q) (mirrored s k d n i (n - i) (omega arith) at) ∙ here)
 
 its_own : (s k : ℕ) (d : Step) (n : ℕ) → s < 64 → along s d n ≡ Some k → 1 ≤ n → n ≤ 7 → is_ahead k (back d) s ≡ true
 its_own s k d n small at low le = ahead_on s k d n 0 s at (omega arith) le (ap (λ o. is_square o s) (stays s d small) ∙ eq-eqb s s refl)
@@ -36,50 +37,24 @@ IsNoHurdle a s k d = (n : ℕ) → along s d n ≡ Some k → 2 ≤ n → n ≤ 
 off_line : (a s k : ℕ) (d : Step) → s < 64 → (is_ahead k (back d) s ≡ true → is_ahead k (back d) a ≡ false) → IsBeside a s k d
 off_line a s k d small off = grind (arith, false_from_ne_true, false≢true, its_own, ahead_on)
 
-clear_kept : (men after : List (Option Man)) (a s k : ℕ) (d : Step) (n m : ℕ) → Frees after men a → along s d n ≡ Some k → n ≤ 7 → m < n
-    → IsBeside a s k d → is_clear after s d m ≡ true → is_clear men s d m ≡ true
-unfolding is_clear
-clear_kept men after a s k d n m i at le lt beside clear =
-    all_range_true (λ q. is_vacant_at men (along s d q)) 1 m (λ j lo hi.
-    i.vacant (along s d j) (all_at (λ q. is_vacant_at after (along s d q)) 1 m j clear lo hi)
-    (beside n j at lo (omega (arith, hi, lt)) le))
-
 -- a ride from s to k is one before a man left a, off the line
 pub ride_kept : (men after : List (Option Man)) (a s k : ℕ) (d : Step) → Frees after men a → IsBeside a s k d → rides after s k d ≡ true
     → rides men s k d ≡ true
-unfolding rides
-ride_kept men after a s k d i beside h = elim (any_range_cases (λ n. is_square (along s d n) k && is_clear after s d (n - 1)) 1 7) [
-  | inl w ↦
-      let ends : is_square (along s d w.0) k ≡ true = first_of_and _ _ w.3 in
-      let at : along s d w.0 ≡ Some k = square_is _ k ends in
-      any_range_true (λ n. is_square (along s d n) k && is_clear men s d (n - 1)) 1 7 w.0 w.1 w.2
-      (and_from _ _ ends (clear_kept men after a s k d w.0 (w.0 - 1) i at (omega (arith, w.2)) (omega (arith, w.1)) beside
-      (second_of_and (is_square (along s d w.0) k) _ w.3)))
-  | inr none ↦ absurd (false≢true (sym (any_range_false (λ n. is_square (along s d n) k && is_clear after s d (n - 1)) 1 7 none) ∙ h))
-]
+ride_kept men after a s k d i beside h = let w = ride-found after s k d h in ride-made men s k d w.0 (search rules)
 
 -- a hop from s to k is one before a man left a, off the line, and another came to b, which is off it between them
 pub hop_kept : (men after : List (Option Man)) (a b s k : ℕ) (d : Step) → Frees after men a → Holds after men b → IsBeside a s k d → IsNoHurdle b s k d
     → hops after s k d ≡ true → hops men s k d ≡ true
-unfolding hops
 hop_kept men after a b s k d i o beside none_there h =
-    elim (any_range_cases (λ n. is_square (along s d n) k && is_occupied after (along s d (n - 1)) && is_clear after s d (n - 2)) 2 6) [
-      | inl w ↦
-          let first : (is_square (along s d w.0) k && is_occupied after (along s d (w.0 - 1))) ≡ true = first_of_and _ _ w.3 in
-          let ends : is_square (along s d w.0) k ≡ true = first_of_and _ _ first in
-          let at : along s d w.0 ≡ Some k = square_is _ k ends in
-          let le : w.0 ≤ 7 = omega (arith, w.2) in
-          let low : 2 ≤ w.0 = w.1 in
-          let hurdle : is_occupied men (along s d (w.0 - 1)) ≡ true =
-          o.occupied (along s d (w.0 - 1)) (second_of_and (is_square (along s d w.0) k) _ first)
-          (none_there w.0 at low le) in
-          any_range_true (λ n. is_square (along s d n) k && is_occupied men (along s d (n - 1)) && is_clear men s d (n - 2)) 2 6 w.0 w.1 w.2
-          (and_from _ _ (and_from _ _ ends hurdle) (clear_kept men after a s k d w.0 (w.0 - 2) i at le (omega (arith, low)) beside
-          (second_of_and (is_square (along s d w.0) k && is_occupied after (along s d (w.0 - 1))) _ w.3)))
-      | inr none ↦
-          absurd (false≢true (sym (any_range_false
-          (λ n. is_square (along s d n) k && is_occupied after (along s d (n - 1)) && is_clear after s d (n - 2)) 2 6 none) ∙ h))
-    ]
+    let w = hop-found after s k d h in
+    let le : w.0 ≤ 7 = omega (arith, w.1.high) in
+    hop-made men s k d w.0 (record {
+      low = w.1.low;
+      high = w.1.high;
+      at = w.1.at;
+      hurdle = o.occupied (along s d (w.0 - 1)) w.1.hurdle (none_there w.0 w.1.at w.1.low le);
+      free = λ j lo hi. i.vacant (along s d j) (w.1.free j lo hi) (beside w.0 j w.1.at lo (omega (arith, hi)) le);
+    })
 
 -- the eight directions of a queen
 abbrev pub queen_directions : List Direction
@@ -196,10 +171,7 @@ pub fairy_lines_are : (men : List (Option Man)) (c : Colour) (k w n : ℕ) → k
     → w ≡ word (λ t. list_any (is_lined men (other c) Grasshopper k t) queen_steps)
     → n ≡ word (λ t. list_any (is_lined men (other c) Nightrider k t) knight_steps) → bit_or w n ≡ word (may_stand_between men c)
 unfolding may_stand_between is_on_fairy_line
-fairy_lines_are men c k w n at h i =
-    (λ j. bit_or (h j) (i j))
-    ∙ squares_either (λ t. list_any (is_lined men (other c) Grasshopper k t) queen_steps) (λ t. list_any (is_lined men (other c) Nightrider k t) knight_steps)
-    ∙ squares_same _ _ (λ t b. sym (ap (λ (o : Option ℕ). is_on_fairy_line_at men o c t) at))
+fairy_lines_are men c k w n at h i = search (rules, squares_either, squares_same, at, h, i)
 
 -- the word of the men of a colour and kind, told by a test
 pub man_test : (men : List (Option Man)) (e : Colour) (j : Kind) (w : ℕ) → w ≡ squares_of men e j → w ≡ word (λ q. is_man (man_on men q) e j)

@@ -50,9 +50,7 @@ left_now men a o b z q ne h =
 -- every other square is as it was
 pub kept_now : (men : List (Option Man)) (a : ℕ) (o : Option ℕ) (b : ℕ) (z : Man) (q : ℕ) → q ≢ b → (is_square (Some a) q || is_square o q) ≡ false
     → man_on (gone_to men a o b z) q ≡ man_on men q
-kept_now men a o b z q ne h =
-    let off = or_parts (is_square (Some a) q) (is_square o q) h in
-    man_on-with_other (without_at (without_man men a) o) b q z ne ∙ kept_at (without_man men a) o q off.1 ∙ kept_at men (Some a) q off.0
+kept_now men a o b z q ne h = search (rules, or_parts, man_on-with_other, kept_at, ne, h)
 
 is_gone : (h l t : Bool) → l ≡ true → t ≡ false → ((h && not l) || t) ≡ false
 is_gone h l t p q = grind arith
@@ -81,33 +79,8 @@ nobody o c k h = grind (arith, false≢true)
 
 enemy_now : (men : List (Option Man)) (a : ℕ) (o : Option ℕ) (b : ℕ) (z : Man) (c : Colour) (k : Kind) (q : ℕ) → IsCapture men a o b z c
     → (is_man (man_on men q) (other c) k && not (is_square o q)) ≡ is_man (man_on (gone_to men a o b z) q) (other c) k
-enemy_now men a o b z c k q i = elim (cases_eq q b) [
-  | inl e ↦
-      let there : man_on (gone_to men a o b z) q ≡ Some z = ap (man_on (gone_to men a o b z)) e ∙ there_now men a o b z i.small in
-      let none : is_man (man_on (gone_to men a o b z) q) (other c) k ≡ false =
-      rw there (and_left (same_colour z.colour (other c)) (same_kind z.kind k) i.arriving_man) in
-      elim (cases_Bool (is_some (man_on men b))) [
-        | inl y ↦ and_right (is_man (man_on men q) (other c) k) (not (is_square o q)) (ap not (ap (is_square o) e ∙ i.captured y)) ∙ sym none
-        | inr n ↦ and_left (is_man (man_on men q) (other c) k) (not (is_square o q))
-            (nobody (man_on men q) (other c) k (ap (λ (s : ℕ). is_some (man_on men s)) e ∙ n)) ∙ sym none
-      ]
-  | inr ne ↦ elim (cases_Bool (is_square o q)) [
-    | inl y ↦
-        let left : man_on (gone_to men a o b z) q ≡ None = left_now men a o b z q ne (or_right (is_square (Some a) q) (is_square o q) y) in
-        and_right (is_man (man_on men q) (other c) k) (not (is_square o q)) (ap not y) ∙ sym (rw left refl)
-    | inr n ↦ elim (cases_Bool (is_square (Some a) q)) [
-      | inl y ↦
-          let left : man_on (gone_to men a o b z) q ≡ None = left_now men a o b z q ne (or_left (is_square (Some a) q) (is_square o q) y) in
-          let mine : is_man (man_on men q) (other c) k ≡ false = ap (λ (s : ℕ). is_man (man_on men s) (other c) k) (sym (eqb-true a q y))
-          ∙ no_man (man_on men a) (other c) k i.own in
-          and_left (is_man (man_on men q) (other c) k) (not (is_square o q)) mine ∙ sym (rw left refl)
-      | inr off ↦
-          let kept : man_on (gone_to men a o b z) q ≡ man_on men q = kept_now men a o b z q ne (or_from (is_square (Some a) q) (is_square o q) off n) in
-          ap (λ (x : Bool). is_man (man_on men q) (other c) k && not x) n ∙ and_true (is_man (man_on men q) (other c) k)
-          ∙ sym (ap (λ (y : Option Man). is_man y (other c) k) kept)
-    ]
-  ]
-]
+enemy_now men a o b z c k q i =
+    grind (arith, cases_eq q b, there_now, left_now, kept_now, cases_Bool (is_square o q), cases_Bool (is_square (Some a) q), nobody, no_man, eqb-true a q)
 
 -- the words after a move are those of the men after it
 pub seen_after : (men : List (Option Man)) (a : ℕ) (o : Option ℕ) (b : ℕ) (z : Man) (c : Colour) → IsCapture men a o b z c

@@ -2,9 +2,7 @@
 use Rattle.chess_rules.proofs.Basics.{Bool, List, None, Option, Some, [], and_from, and_parts, and_right, ap, arith, bit_at, bit_not, bit_or, cases_Bool, cases_eq, cond-false, cond-true, eq-eqb, false, false_from_ne_true, false≢true, inl, inr, is_some, length, list_any, list_any-append, not, not-true, or_cases, or_left, or_parts, or_right, refl, rules, sym, true, w64, ℕ, ◌&&◌, ◌<◌, ◌==◌, ◌||◌, ◌∙◌, ◌∷◌, ◌≡◌, ◌≢◌}
 use Rattle.chess_rules.proofs.Chess.{AtMostOneKing, Bishop, Colour, Direction, East, Grasshopper, IsWellFormed, Kind, King, Man, Move, Nightrider, North, NorthEast, NorthWest, Position, Queen, Rook, RuleSet, South, SouthEast, SouthWest, Step, Straight, West, position_after_by, arriving_man, capture_square, is_attacked, is_attacked_at, position_after}
 use Rattle.chess_rules.proofs.Chess.{diagonal_steps, differs, find_first, has_fairy, hops, in_check, is_behind, is_castling, is_checker, is_checker_at, captures_do_more, is_man, is_on_fairy_line, is_on_fairy_line_at, is_on_some, is_plain, is_promotion_right, is_reached, is_shut, is_of_colour, is_square, is_vacant_at, king_square, knight_steps, man_on, man_on_at}
-use Rattle.chess_rules.proofs.Chess.{is_paralysed, is_pseudo_legal, may_expose, may_expose_at, may_stand_between, moved_men, other, queen_steps, reaches, reaches_as, rebirth_at, reborn_square, rider_along, rides, same_colour, same_kind, some_square_false, some_square_true, squares, squares_either, squares_of, squares_same, step_of, steps_along, straight_steps, is_attacker, word}
-use Rattle.chess_core.proofs.Ranges.{second_fails, find_square_some}
-use Rattle.chess_rules.specs.ties.Shields.{cannot_expose}
+use Rattle.chess_rules.proofs.Chess.{is_paralysed, is_pseudo_legal, may_expose, may_expose_at, may_stand_between, moved_men, other, queen_steps, reaches, reaches_as, rebirth_at, reborn_square, rider_along, rides, same_colour, same_kind, some_square_false, some_square_true, squares, squares_either, squares_of, squares_same, step_of, steps_along, straight_steps, is_attacker, word, any_kept, cannot_expose, find_square_some, second_fails}
 use Rattle.chess_rules.specs.declared.shields.RiderLines.{RiderLines}
 use Rattle.chess_rules.specs.declared.shields.RiderLines.TheVariants.{Diagonal}
 use Rattle.chess_rules.proofs.rays.Ends.{square_is}
@@ -16,7 +14,6 @@ use Rattle.chess_rules.proofs.rays.Parting.{Frees, line_open}
 use Rattle.chess_rules.proofs.making_moves.Plays.{none_from_is_some}
 use Rattle.chess_rules.proofs.making_moves.Pseudo.{IsMade, made, on_board}
 use Rattle.chess_rules.proofs.making_moves.Stays.{maker}
-use Rattle.chess_rules.proofs.Tests.{any_kept}
 use Rattle.chess_rules.proofs.attacks.Seeing.{gone_to, kept_now, left_now, there_now}
 use Rattle.chess_rules.proofs.attacks.Attacking.{goes_on}
 
@@ -169,10 +166,7 @@ module _ (men after : List (Option Man)) (a b : ℕ) (z : Man) (i : IsShift men 
     -- no man reached the king from its origin
     attacked_from : a < 64 → man_on men a ≡ Some z → same_colour z.colour (other c) ≡ true → reaches_as men z.colour z.kind a k ≡ true → ⊥
     unfolding is_reached reaches
-    attacked_from small here side h =
-        let mine : is_of_colour (man_on men a) (other c) ≡ true = rw here side in
-        let then : reaches men a k ≡ true = rw here h in
-        false≢true (sym g.safe ∙ some_square_true (λ s. is_of_colour (man_on men s) (other c) && reaches men s k) a small (and_from _ _ mine then))
+    attacked_from small here side h = search (rules, false≢true, some_square_true, and_from, small, here, side, h)
 
     arrival_strikes : (o : Option Man) → man_on after b ≡ o → IsQuiet men c a b k z → b < 64 → is_of_colour o (other c) ≡ true
         → reaches after b k ≡ true → ⊥
@@ -429,12 +423,18 @@ shield_squares_some men c k r w n at reachers none h i =
     ∙ sym (ap (λ (o : Option ℕ). may_expose_at men o c s) at
     ∙ ap (λ (x : Bool). x || k == s || rook s || bishop s || is_on_fairy_line men (other c) k s) unreached))
 
--- whether a move can't uncover a king, told by that word
-pub cannot_expose_is : (rule : RuleSet) (p : Position) (x : Man) (c : Colour) (m : Move) (w s : ℕ) (b : Bool) → man_on p.men m.from ≡ Some x
-    → w ≡ word (may_expose p.men c) → s ≡ m.from → s < 64 → b ≡ (bit_at w s == 1)
-    → (not b && (not (may_stand_between p.men c m.to) && is_plain rule p x m)) ≡ cannot_expose rule p c m
+-- whether a move can't uncover a king: not if its origin is in that word
+pub cannot_expose_from : (rule : RuleSet) (p : Position) (c : Colour) (m : Move) (w s : ℕ) (b : Bool) → w ≡ word (may_expose p.men c) → s ≡ m.from → s < 64
+    → b ≡ (bit_at w s == 1) → b ≡ true → false ≡ cannot_expose rule p c m
 unfolding cannot_expose
-cannot_expose_is rule p x c m w s b here h same small e = search (rules, word_has)
+cannot_expose_from rule p c m w s b h same small e on = search (rules, word_has)
+
+-- else it is told by the rest
+pub cannot_expose_to : (rule : RuleSet) (p : Position) (x : Man) (c : Colour) (m : Move) (w s : ℕ) (b r : Bool) → man_on p.men s ≡ Some x
+    → w ≡ word (may_expose p.men c) → s ≡ m.from → s < 64 → b ≡ (bit_at w s == 1) → b ≡ false
+    → r ≡ (not (may_stand_between p.men c m.to) && is_plain rule p x m) → r ≡ cannot_expose rule p c m
+unfolding cannot_expose
+cannot_expose_to rule p x c m w s b r here h same small e off rest = search (rules, word_has)
 
 -- where nobody stands on the origin, the answer is no
 pub cannot_expose_nobody : (rule : RuleSet) (p : Position) (c : Colour) (m : Move) → man_on p.men m.from ≡ None → false ≡ cannot_expose rule p c m

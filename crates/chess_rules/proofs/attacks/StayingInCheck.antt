@@ -1,7 +1,6 @@
 -- A check that isn't met stays.
 use Rattle.chess_rules.proofs.Basics.{Bool, List, Option, Some, and_from, and_left, and_parts, ap, arith, bit_and, bit_at, bit_not, bit_or, eq-eqb, false, false≢true, list_any, list_any-append, not, or_left, or_parts, or_right, refl, rules, subst, sym, true, w64, ℕ, ◌&&◌, ◌<◌, ◌==◌, ◌∙◌, ◌≡◌, ◌≢◌}
-use Rattle.chess_rules.proofs.Chess.{AreEvasions, AtMostOneKing, Bishop, Colour, Grasshopper, IsWellFormed, Kind, King, Man, Move, Nightrider, Position, Queen, Rook, RuleSet, Step, arriving_man, find_first, first_of_and, in_check, is_arrival_free, is_attacked, is_attacked_at, is_checker, is_checker_at, has_fairy_lines, faced_men_stand_still, is_man, is_paralysed, is_plain, is_pseudo_legal, is_of_colour, is_square, is_vacant_at, king_square, man_on, other, position_after, queen_steps, reaches, reaches_as, rides, same_colour, same_kind, second_of_and, some_square_true, squares, squares_both, squares_either, is_attacker, word}
-use Rattle.chess_rules.specs.ties.Evasions.{has_fairy_lines_of, IsNoEvasion}
+use Rattle.chess_rules.proofs.Chess.{AreEvasions, AtMostOneKing, Bishop, Colour, Grasshopper, IsWellFormed, Kind, King, Man, Move, Nightrider, Position, Queen, Rook, RuleSet, Step, arriving_man, find_first, first_of_and, in_check, is_arrival_free, is_attacked, is_attacked_at, is_checker, is_checker_at, has_fairy_lines, faced_men_stand_still, is_man, is_paralysed, is_plain, is_pseudo_legal, is_of_colour, is_square, is_vacant_at, king_square, man_on, other, position_after, queen_steps, reaches, reaches_as, rides, same_colour, same_kind, second_of_and, some_square_true, squares, squares_both, squares_either, is_attacker, word, IsNoEvasion, has_fairy_lines_of}
 use Rattle.chess_rules.proofs.Bits.{word_has, every_square}
 use Rattle.chess_rules.proofs.attacks.Shielding.{IsPlain, IsShift, arrived_shift, king_is, man_there, men_after, other_differs, plain_parts}
 use Rattle.chess_rules.proofs.making_moves.Fits.{arrived}
@@ -36,12 +35,7 @@ module _ (men after : List (Option Man)) (a b : ℕ) (z : Man) (c : Colour) (k s
 
   reaches_after : (e : Colour) (j : Kind) → has_fairy_lines j ≡ false → reaches_as men e j s k ≡ true → reaches_as after e j s k ≡ true
   unfolding reaches_as
-  reaches_after e Queen f h = line_after queen_steps refl (λ g y. y) h
-  reaches_after e Rook f h = search (rules, line_after, list_any-append, or_left)
-  reaches_after e Bishop f h = search (rules, line_after, list_any-append, or_right)
-  reaches_after e Grasshopper f h = cc
-  reaches_after e Nightrider f h = cc
-  reaches_after e j f h = h
+  reaches_after e j f h = search (rules, line_after, list_any-append, or_left, or_right, f, h)
 
 -- where a man of a side stands, some man of its colour stands
 pub side_there : (o : Option Man) (c : Colour) → is_of_colour o c ≡ true → (y : Man) × ((o ≡ Some y) × (same_colour y.colour c ≡ true))
@@ -137,9 +131,7 @@ pub evasion_squares_one : (rule : RuleSet) (men : List (Option Man)) (c : Colour
     → AreEvasions rule men c (bit_or w (bit_and n r))
 unfolding is_checker
 evasion_squares_one rule men c k s w n r t at moving plain all small set h i j =
-    let checks : (is_of_colour (man_on men s) (other c) && reaches men s k) ≡ true =
-    ap (λ (o : Option ℕ). is_checker_at men o c s) (sym at) ∙ sym (word_has (is_checker men c) t s all small) ∙ set in
-    search (rules, first_of_and, second_of_and, squares_both, squares_either, word_has)
+    search (rules, word_has, first_of_and, second_of_and, squares_both, squares_either, at, moving, plain, all, small, set, h, i, j)
 
 -- the same, for a word
 pub check_unmet : (rule : RuleSet) (p : Position) (x : Man) (m : Move) (w t : ℕ) → IsWellFormed p → is_pseudo_legal rule p m ≡ true

@@ -16,11 +16,7 @@ free_on o c = grind (arith, free_of)
 pub free_word : (men : List (Option Man)) (c : Colour) (a b : ℕ) → a ≡ side_of men c → b ≡ squares_of men (other c) King
     → bit_not w64 (bit_or a b) ≡ word (λ t. is_arrival_free c (man_on men t))
 unfolding side_of squares_of
-free_word men c a b h i =
-    (λ j. bit_not w64 (bit_or (h j) (i j)))
-    ∙ (λ j. bit_not w64 (squares_either (λ t. is_of_colour (man_on men t) c) (λ t. is_man (man_on men t) (other c) King) j))
-    ∙ squares_not (λ t. is_of_colour (man_on men t) c || is_man (man_on men t) (other c) King)
-    ∙ squares_same _ _ (λ t q. free_on (man_on men t) c)
+free_word men c a b h i = search (rules, squares_either, squares_not, squares_same, free_on, h, i)
 
 -- a king that has moved doesn't castle
 pub castling_none : (u : Bool) (x : Man) (s : ℕ) → u ≡ false → 0 ≡ word (λ t. u && steps_to x s t)
@@ -32,8 +28,7 @@ holds_on f None = true
 holds_on f (Some u) = f u
 
 on_it : (f : ℕ → Bool) (o : Option ℕ) (t : ℕ) → holds_on f o ≡ true → is_square o t ≡ true → f t ≡ true
-on_it f None t h on = absurd (false≢true on)
-on_it f (Some u) t h on = rw (eqb-true u t on) at h
+on_it f v1 t h on = search (rules, false≢true, eqb-true, h, on)
 
 -- one square ahead is next to the pawn; two are not, and the square halfway there is the one ahead
 abbrev is_next : ℕ → ℕ → Bool
@@ -161,14 +156,7 @@ pub pawn_ways : (p : Position) (x : Man) (s r o y g : ℕ) → same_kind x.kind 
     → o ≡ word (λ t. is_some (man_on p.men t)) → y ≡ word (λ t. is_square p.crossed t) → g ≡ word (pawn_goes p x s)
     → bit_or (bit_and r (bit_or o y)) g ≡ word (may_go p x s)
 unfolding may_go
-pawn_ways p x s r o y g pawn hr ho hy hg =
-    (λ j. bit_or (bit_and (hr j) (bit_or (ho j) (hy j))) (hg j))
-    ∙ (λ j. bit_or (bit_and (word (λ t. reaches_as p.men x.colour x.kind s t)) (squares_either (λ t. is_some (man_on p.men t)) (λ t. is_square p.crossed t) j))
-    (word (pawn_goes p x s)))
-    ∙ (λ j. bit_or (squares_both (λ t. reaches_as p.men x.colour x.kind s t) (λ t. is_some (man_on p.men t) || is_square p.crossed t) j)
-    (word (pawn_goes p x s)))
-    ∙ squares_either (λ t. reaches_as p.men x.colour x.kind s t && (is_some (man_on p.men t) || is_square p.crossed t)) (pawn_goes p x s)
-    ∙ squares_same _ _ (λ t b. sym (cond-true (same_kind x.kind Pawn) _ _ pawn))
+pawn_ways p x s r o y g pawn hr ho hy hg = search (rules, squares_either, squares_both, squares_same, cond-true, pawn, hr, ho, hy, hg)
 
 -- other men go where they reach, and an unmoved king two squares aside too
 pub other_ways : (p : Position) (x : Man) (s r g : ℕ) → same_kind x.kind Pawn ≡ false → r ≡ word (λ t. reaches_as p.men x.colour x.kind s t)

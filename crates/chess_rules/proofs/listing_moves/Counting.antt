@@ -6,13 +6,12 @@ use Rattle.std.proofs.lemmas.Nat.{ones-le, shr-shr, shr_below}
 use Rattle.std.specs.Int.{from_bool}
 use Rattle.std.specs.Int.Count.{ones_step}
 use Rattle.std.specs.Prelude.{count_ones, min}
-use Rattle.chess_rules.proofs.Basics.{Bool, None, Some, ap, arith, bit_at, cases_Bool, cases_eq, and_left, and_right, bit_at-lt, cases_lt, drop, false, find, inl, inr, length, length-append, range_with_len, refl, suc, sym, take, zero, ℕ, ◌%◌, ◌&&◌, ◌*◌, ◌+◌, ◌-◌, ◌/◌, ◌<◌, ◌==◌, ◌^◌, ◌∙◌, ◌≡◌, ◌≤◌}
-use Rattle.chess_rules.proofs.Chess.{AreCandidates, AreOrigins, HaveNone, IsBarrenFrom, Move, Position, RuleSet, all_triples, differs, find_first, find_no, is_legal, moves_between, per_arrival, per_origin, promotion_at, triple_at, triples}
+use Rattle.chess_rules.proofs.Basics.{Bool, None, Some, ap, arith, bit_at, cases_Bool, cases_eq, and_left, and_right, bit_at-lt, cases_lt, drop, false, find, inl, inr, length, length-append, range_with_len, refl, suc, sym, take, zero, ℕ, ◌%◌, ◌&&◌, ◌*◌, ◌+◌, ◌-◌, ◌/◌, ◌<◌, ◌==◌, ◌^◌, ◌∙◌, ◌≡◌, ◌≤◌, rules}
+use Rattle.chess_rules.proofs.Chess.{AreCandidates, AreOrigins, HaveNone, IsBarrenFrom, Move, Position, RuleSet, all_triples, differs, find_first, find_no, is_legal, moves_between, per_arrival, per_origin, promotion_at, triple_at, triples, is_legal-idle}
 use Rattle.chess_rules.proofs.listing_moves.Between.{between-here, between-none, between-none-is_legal, between-past, between-skip, between_cut}
 use Rattle.chess_rules.proofs.listing_moves.Targeting.{arrival_from, named_by, no_promotion_here, some_named}
 use Rattle.chess_rules.proofs.listing_moves.Walks.{none-from, none-missed}
 use Rattle.chess_rules.specs.ties.Counting.{AreLegal}
-use Rattle.chess_rules.specs.ties.Idle.{is_legal-idle}
 
 bit_is : (n : ℕ) → n < 2 → n ≡ from_bool (n == 1)
 bit_is n less = grind arith
@@ -38,9 +37,7 @@ module _ (rule : RuleSet) (p : Position) where
   -- no more than there are triples
   pub few_between : (a e : ℕ) → between a e ≤ e - a
   unfolding moves_between
-  few_between a e =
-      let l = take (e - a) (drop a triples) in
-      omega (arith, length-filter (is_legal rule p) l, count_by-le-length (is_legal rule p) l, length-take (e - a) (drop a triples))
+  few_between a e = search (rules, length-filter, count_by-le-length, length-take)
 
   count_cut : (a b e : ℕ) → a ≤ b → b ≤ e → between a e ≡ between a b + between b e
   count_cut a b e lo hi = ap length (between_cut rule p a b e lo hi) ∙ length-append (moves_between rule p a b) (moves_between rule p b e)
@@ -121,9 +118,7 @@ module _ (rule : RuleSet) (p : Position) where
     -- one that is a move counts once
     pub count_here : (a n e : ℕ) (legal : Bool) → a < per_origin → n ≡ per_origin * s + a → n < e → is_legal rule p (triple_at n) ≡ legal
         → between n e ≡ from_bool legal + between (per_origin * s + (a + 1)) e
-    count_here a n e legal inside at before h =
-        let next : per_origin * s + (a + 1) ≡ n + 1 = omega (arith, at) in
-        rw next (grind (arith, between-here rule p n e, between-skip rule p n e))
+    count_here a n e legal inside at before h = search (rules, between-here, between-skip, inside, at, before, h)
 
     module _ (legal : AreLegal rule p s w) where
       legal_to : (t k : ℕ) → t < 64 → k < per_arrival → is_legal rule p (record { from = s; to = t; promo = promotion_at k }) ≡ (k == 0 && bit_at w t == 1)

@@ -1,5 +1,5 @@
 -- The elements of lists that are made of others, and lists whose elements stand in order.
-use Rattle.chess_rules.proofs.Basics.{AllPairs, Bool, Contains, Contains-append_cases, Contains-append_left, Contains-append_right, Contains-get_or, List, [], ap, arith, cases_eq, cond, false, false≢true, filter, flat_map, get_or, inl, inr, map, range_with_len, refl, suc, true, zero, ℕ, ◌++◌, ◌+◌, ◌<◌, ◌∙◌, ◌∷◌, ◌≡◌, ◌≤◌, ◌⊎◌}
+use Rattle.chess_rules.proofs.Basics.{sym, ◌-◌, AllPairs, Bool, Contains, Contains-append_cases, Contains-append_left, Contains-append_right, Contains-get_or, List, [], ap, arith, cases_eq, cond, false, false≢true, filter, flat_map, get_or, inl, inr, map, range_with_len, refl, suc, true, zero, ℕ, ◌++◌, ◌+◌, ◌<◌, ◌∙◌, ◌∷◌, ◌≡◌, ◌≤◌, ◌⊎◌, get_or-map, get_or-range_with_len, length-map, length-range_with_len}
 use Rattle.std.proofs.lemmas.List.Kept.{AllPairs-cons}
 
 module _ {X : Type 0} where
@@ -42,19 +42,12 @@ module _ {X : Type 0} where
 
 -- the numbers of a range
 pub in_range : (a n k : ℕ) → a ≤ k → k < a + n → Contains (range_with_len a n) k
-in_range a zero k low high = absurd (omega (arith, low, high))
-in_range a (suc n) k low high = elim (cases_eq a k) [
-  | inl e ↦ (0, omega arith, e)
-  | inr ne ↦ later_in a (range_with_len (a + 1) n) k (in_range (a + 1) n k (omega (arith, low, ne)) (omega (arith, high)))
-]
+in_range a n k low high =
+    (k - a, rw length-range_with_len (omega (arith, low, high)), get_or-range_with_len a n (k - a) k (omega (arith, low, high)) ∙ omega (arith, low))
 
 -- and it has no others
 pub from_range : (a n k : ℕ) → Contains (range_with_len a n) k → (a ≤ k) × (k < a + n)
-from_range a zero k c = absurd (none_in_nil k c)
-from_range a (suc n) k c = elim (in_cases a (range_with_len (a + 1) n) k c) [
-  | inl e ↦ (omega (arith, e), omega (arith, e))
-  | inr r ↦ let w = from_range (a + 1) n k r in (omega (arith, w), omega (arith, w))
-]
+from_range a n k c = let less : c.0 < n = rw length-range_with_len at c.1 in omega (arith, less, sym (get_or-range_with_len a n c.0 k less) ∙ c.2)
 
 module _ {X Y : Type 0} where
   -- the elements of a map
@@ -67,11 +60,7 @@ module _ {X Y : Type 0} where
 
   -- the image of an element is in the map
   pub in_map : (f : X → Y) (xs : List X) (x : X) → Contains xs x → Contains (map f xs) (f x)
-  in_map f [] x c = absurd (none_in_nil x c)
-  in_map f (z ∷ xs) x c = elim (in_cases z xs x c) [
-    | inl same ↦ (0, omega arith, ap f same)
-    | inr r ↦ later_in (f z) (map f xs) (f x) (in_map f xs x r)
-  ]
+  in_map f xs x c = (c.0, rw length-map c.1, get_or-map f xs c.0 x (f x) c.1 ∙ ap f c.2)
 
   -- the elements of joined lists
   pub from_flat_map : (f : X → List Y) (xs : List X) (y : Y) → Contains (flat_map f xs) y → (x : X) × Contains xs x × Contains (f x) y

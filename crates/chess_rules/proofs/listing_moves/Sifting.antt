@@ -1,12 +1,10 @@
 -- The legal moves that a sieve takes, passed over by walking from candidate to candidate.
 use Rattle.std.proofs.lemmas.List.{append-nil, append_assoc}
-use Rattle.chess_core.proofs.Ranges.{second_fails}
 use Rattle.chess_rules.proofs.Basics.{Bool, [], and_left, ap, append_cancel_right, arith, bit_and, cases_Bool, cases_lt, false, filter, filter-append, length, rules, sym, true, ℕ, ◌++◌, ◌+◌, ◌<◌, ◌∙◌, ◌∷◌, ◌≡◌, ◌≤◌}
-use Rattle.chess_rules.proofs.Chess.{all_triples, AreCandidates, AreOrigins, HaveNone, Move, Position, RuleSet, is_legal, moves_behind, moves_between, triple_at}
+use Rattle.chess_rules.proofs.Chess.{all_triples, AreCandidates, AreOrigins, HaveNone, Move, Position, RuleSet, is_legal, moves_behind, moves_between, triple_at, AreSifted, IsSifted, is_wanted, second_fails}
 use Rattle.chess_rules.proofs.listing_moves.Between.{behind_cut, between-past}
 use Rattle.chess_rules.proofs.listing_moves.Places.{moves_behind-end, moves_behind-here, moves_behind-skip, over, place_of_none, place_of_triple}
 use Rattle.chess_rules.proofs.listing_moves.Walks.{off_second, on_first}
-use Rattle.chess_rules.specs.ties.Sifting.{AreSifted, IsSifted, is_wanted}
 
 -- for callers whose place has moved on, or stands behind all triples
 pub moved_on : (rule : RuleSet) (p : Position) (a b : ℕ) → (b < all_triples → a ≤ b)

@@ -1,13 +1,12 @@
 -- Moves that are legal without a look.
-use Rattle.chess_rules.proofs.Basics.{Bool, None, Some, and_from, ap, if◌then◌else◌, refl, bit_or, and_left, bit_and, bit_at, eqb-true, false, is_some, not, or_parts, rules, sym, true, ℕ, ◌&&◌, ◌<◌, ◌==◌, ◌∙◌, ◌≡◌}
-use Rattle.chess_rules.proofs.Chess.{AreCandidates, IsAimed, IsWellFormed, King, Man, Move, Pawn, Position, RuleSet, is_promoting, captures_do_more, is_legal, is_plain, is_square, last_rank, man_on, may_expose, may_stand_between, rank_of, same_kind, squares_either, squares_same, word}
+use Rattle.chess_rules.proofs.Basics.{Bool, None, Some, and_from, ap, if◌then◌else◌, refl, bit_or, and_left, bit_and, bit_at, eqb-true, false, is_some, not, or_parts, rules, sym, true, ℕ, ◌&&◌, ◌<◌, ◌==◌, ◌∙◌, ◌≡◌, arith}
+use Rattle.chess_rules.proofs.Chess.{AreCandidates, IsAimed, IsWellFormed, King, Man, Move, Pawn, Position, RuleSet, is_promoting, captures_do_more, is_legal, is_plain, is_square, last_rank, man_on, may_expose, may_stand_between, rank_of, same_kind, squares_either, squares_same, word, cannot_expose}
 use Rattle.chess_rules.proofs.Bits.{word_empty, word_has}
 use Rattle.chess_rules.proofs.attacks.Shielding.{cannot_expose_own}
 use Rattle.chess_rules.proofs.listing_moves.Arrivals.{aimed_plain, goes_on, may_go_aimed}
 use Rattle.chess_rules.proofs.listing_moves.Targeting.{no_pawn_arrives}
 use Rattle.chess_rules.proofs.listing_moves.Walks.{off_second, off_zero}
 use Rattle.chess_rules.specs.ties.Counting.{AreLegal, is_unsure}
-use Rattle.chess_rules.specs.ties.Shields.{cannot_expose}
 
 -- a move to a square that is sure changes nothing else, and uncovers no king
 sure_unexposed : (rule : RuleSet) (p : Position) (x : Man) (m : Move) → man_on p.men m.from ≡ Some x → same_kind x.kind King ≡ false
@@ -38,8 +37,7 @@ surely_legal rule p x s w v u well here small are piece shields unshielding unsu
     }
 
 reborn_word : (b : Bool) (test : ℕ → Bool) → (if b then word test else 0) ≡ word (λ t. b && test t)
-reborn_word true test = refl
-reborn_word false test = word_empty (λ t. false && test t) (λ t lt. refl)
+reborn_word v0 test = search (rules, word_empty)
 
 -- the word of the squares that aren't sure: those on the lines of fairy men, the crossed one, those with men who may be reborn, and of a pawn's last rank
 pub unsure_word : (rule : RuleSet) (p : Position) (x : Man) (f c r l : ℕ) → f ≡ word (may_stand_between p.men p.turn) → c ≡ word (λ t. is_square p.crossed t)

@@ -1,7 +1,6 @@
 -- Where a man may go, and no move is missed by going from one such square to the next.
-use Rattle.chess_core.proofs.Kept.{same_colour-refl}
 use Rattle.chess_rules.proofs.Basics.{Bool, List, None, Option, Some, agree_below_at, and_from, and_parts, ap, arith, bit_at, bit_not, cases_Bool, cases_eq, cond-false, cond-true, false, find, inl, inr, is_some, or_left, or_right, range_with_len, refl, rules, sym, true, w64, ℕ, ◌%◌, ◌*◌, ◌+◌, ◌-◌, ◌/◌, ◌<◌, ◌==◌, ◌∙◌, ◌≡◌, ◌≤◌}
-use Rattle.chess_rules.proofs.Chess.{IsBarrenFrom, IsFirst, IsNamed, Kind, King, Man, Move, Pawn, Position, RuleSet, along, can_castle, can_go, file_of, find_first, find_no, is_advance, is_arrival, is_castling, is_of_colour, is_promoting, is_promotion_right, is_pseudo_legal, is_pseudo_legal_of, is_square, is_two_files_aside, man_on, may_castle, may_go, per_arrival, per_origin, promotion_at, rank_of, reaches, reaches_as, same_colour, same_kind, square_at, squares_same, steps_to, word}
+use Rattle.chess_rules.proofs.Chess.{IsBarrenFrom, IsFirst, IsNamed, Kind, King, Man, Move, Pawn, Position, RuleSet, along, can_castle, can_go, file_of, find_first, find_no, is_advance, is_arrival, is_castling, is_of_colour, is_promoting, is_promotion_right, is_pseudo_legal, is_pseudo_legal_of, is_square, is_two_files_aside, man_on, may_castle, may_go, per_arrival, per_origin, promotion_at, rank_of, reaches, reaches_as, same_colour, same_kind, square_at, squares_same, steps_to, word, same_colour-refl}
 use Rattle.chess_rules.proofs.Bits.{word_empty}
 use Rattle.chess_rules.proofs.making_moves.Pseudo.{made}
 
@@ -172,10 +171,10 @@ from-plain p x s a w here h = elim (cases_eq (a % per_arrival) 0) [
 ]
 
 -- for another man than a pawn, up to the next target
-pub plain-target : (p : Position) (x : Man) (s start t w : ℕ) → man_on p.men s ≡ Some x → same_kind x.kind Pawn ≡ false
-    → IsFirst (λ q. bit_at w q == 1) (arrival_from start) (64 - arrival_from start) t
-    → IsBarrenFrom p s w start (per_arrival * t)
-plain-target p x s start t w here h f = grind (arith, from-target, from-plain p x s start w here h)
+pub plain-target : (p : Position) (x : Man) (s start t w n : ℕ) → man_on p.men s ≡ Some x → same_kind x.kind Pawn ≡ false
+    → find (λ q. bit_at w q == 1) (range_with_len (arrival_from start) (64 - arrival_from start)) ≡ Some t → n ≡ per_arrival * t → IsBarrenFrom p s w start n
+plain-target p x s start t w n here h found e =
+    rw e (grind (arith, find_first _ (arrival_from start) (64 - arrival_from start) t found, from-target, from-plain p x s start w here h))
 
 -- or to the end, where there is none
 pub plain-none : (p : Position) (x : Man) (s start w : ℕ) → man_on p.men s ≡ Some x → same_kind x.kind Pawn ≡ false
@@ -192,10 +191,11 @@ named_at p x s t n w here set at named = record { man = x; here = here; inside =
 pub none_named : (n : ℕ) → n ≡ 0 → is_some (promotion_at n) ≡ false
 none_named n e = rw e refl
 
--- for another man than a pawn it is the one without a promotion
-pub plain-named : (p : Position) (x : Man) (s t w : ℕ) → man_on p.men s ≡ Some x → same_kind x.kind Pawn ≡ false → (bit_at w t == 1) ≡ true
-    → IsNamed p s w (per_arrival * t)
-plain-named p x s t w here h set = grind (arith, named_at, none_named, no_pawn_arrives)
+-- where none may be named it is the one without a promotion
+pub unnamed_at : (p : Position) (x : Man) (s a t n w : ℕ) → man_on p.men s ≡ Some x → is_promoting x t ≡ false
+    → find (λ q. bit_at w q == 1) (range_with_len a (64 - a)) ≡ Some t → n ≡ per_arrival * t → IsNamed p s w n
+unnamed_at p x s a t n w here off found e =
+    named_at p x s t n w here (find_first _ a (64 - a) t found).here (omega (arith, e)) (none_named (n % per_arrival) (omega (arith, e)) ∙ sym off)
 
 -- the word of all squares has each square
 pub every_square_on : (t : ℕ) → t < 64 → (bit_at (bit_not w64 0) t == 1) ≡ true

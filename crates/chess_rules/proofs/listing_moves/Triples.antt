@@ -1,8 +1,6 @@
 -- The triples: which moves they are, in which order they stand, and that each legal move is one of them.
-use Rattle.chess_rules.proofs.Basics.{AllPairs, Bool, Contains, List, Option, Some, [], and_parts, ap, arith, false≢true, flat_map, inl, inr, length, list_any, map, or_cases, range_with_len, refl, rules, suc, true, zero, ℕ, ◌+◌, ◌-◌, ◌<◌, ◌↔◌, ◌∷◌, ◌≡◌, ◌⊎◌}
-use Rattle.chess_rules.proofs.Chess.{Bishop, Colour, Grasshopper, Kind, King, Knight, Man, Move, Nightrider, Pawn, Position, Queen, Rook, RuleSet, Step, all_triples, along, along-is, can_castle, gait_of, goes_by, hops, is_nil, is_promotion_right, is_pseudo_legal, is_square, kind_steps, leaps, man_on, may_castle, may_promote, promotions, reaches, reaches_as, reaches_of, rides, squares, triple_at, triples}
-use Rattle.chess_core.specs.declared.man.Gait.{Gait}
-use Rattle.chess_core.specs.declared.man.Gait.TheVariants.{Hopper, Leaper, Rider}
+use Rattle.chess_rules.proofs.Basics.{AllPairs, Bool, Contains, List, Option, Some, [], and_parts, ap, arith, false≢true, flat_map, inl, inr, length, list_any, map, or_cases, range_with_len, refl, rules, suc, true, zero, ℕ, ◌+◌, ◌-◌, ◌<◌, ◌↔◌, ◌∷◌, ◌≡◌, ◌⊎◌, get_or-range_with_len, length-range_with_len}
+use Rattle.chess_rules.proofs.Chess.{Bishop, Colour, Grasshopper, Kind, King, Knight, Man, Move, Nightrider, Pawn, Position, Queen, Rook, RuleSet, Step, all_triples, along, along-is, can_castle, gait_of, goes_by, hops, is_nil, is_promotion_right, is_pseudo_legal, is_square, kind_steps, leaps, man_on, may_castle, may_promote, promotions, reaches, reaches_as, reaches_of, rides, squares, triple_at, triples, Gait, Hopper, Leaper, Rider}
 use Rattle.chess_core.specs.MoveOrder.{promotion_order, order_number}
 use Rattle.chess_rules.proofs.listing_moves.Members.{first_in, none_in_nil, from_flat_map, from_map, from_range, in_flat_map, in_map, in_range, pairs_map, pairs_nil, pairs_of}
 use Rattle.chess_rules.proofs.listing_moves.Places.{triples_numbered}
@@ -44,12 +42,9 @@ later_rises (suc d) n less = grind (arith, next_rises, later_rises d n (omega (a
 
 -- the numbers of a range rise
 range_rises : (a n : ℕ) → AllPairs (λ j k. (j < k) × (k < a + n)) (range_with_len a n)
-range_rises a zero = pairs_nil (λ j k. (j < k) × (k < a + 0))
-range_rises a (suc n) =
-    let e : a + 1 + n ≡ a + suc n = omega arith in
-    pairs_of (λ j k. (j < k) × (k < a + suc n)) a (range_with_len (a + 1) n)
-    (λ k c. let w = from_range (a + 1) n k c in (omega (arith, w), omega (arith, w)))
-    (rw e at (range_rises (a + 1) n))
+range_rises a n i j d low high =
+    let less : j < n = rw length-range_with_len at high in
+    rw (get_or-range_with_len a n i d (omega (arith, low, less)), get_or-range_with_len a n j d less) (omega (arith, low), omega (arith, less))
 
 -- the triples stand in the order of their numbers
 pub triples_rise : AllPairs (λ m n. order_number m < order_number n) triples

@@ -1,9 +1,8 @@
 -- No move is missed by walking from candidate to candidate.
 use Rattle.chess_rules.proofs.Basics.{Bool, None, Some, and_right, ap, arith, bit_and, bit_at, bit_at-lt, bit_at-zero, bit_at_and, cases_Bool, cases_eq, cases_lt, eq-eqb, eqb-true, false, find, inl, inr, not, range_with_len, refl, rules, true, ℕ, ◌%◌, ◌*◌, ◌+◌, ◌-◌, ◌/◌, ◌<◌, ◌==◌, ◌≡◌, ◌≤◌}
-use Rattle.chess_rules.proofs.Chess.{per_arrival, all_triples, per_origin, AreCandidates, AreEvasionsFrom, AreOrigins, HaveNone, IsAimed, IsBarrenFrom, IsNamed, Move, Position, RuleSet, find_first, find_no, is_arrival, is_legal, is_pseudo_legal, promotion_at, side_of, triple_at, word}
+use Rattle.chess_rules.proofs.Chess.{per_arrival, all_triples, per_origin, AreCandidates, AreEvasionsFrom, AreOrigins, HaveNone, IsAimed, IsBarrenFrom, IsNamed, Move, Position, RuleSet, find_first, find_no, is_arrival, is_legal, is_pseudo_legal, promotion_at, side_of, triple_at, word, is_legal-idle}
 use Rattle.chess_rules.proofs.Bits.{word_has}
 use Rattle.chess_rules.proofs.listing_moves.Targeting.{arrival_needed, false_by, own_moves}
-use Rattle.chess_rules.specs.ties.Idle.{is_legal-idle}
 
 -- squares of two words
 pub on_first : (a b i : ℕ) → (bit_at (bit_and a b) i == 1) ≡ true → (bit_at a i == 1) ≡ true
@@ -54,17 +53,7 @@ module _ (rule : RuleSet) (p : Position) (test : Move → Bool) (needs : (m : Mo
   -- past one that fails too
   pub none-onward : (s w z a b : ℕ) → b ≤ per_origin → AreCandidates rule p test s w → HaveNone test (per_origin * s + z) (per_origin * s + a)
       → test (triple_at (per_origin * s + a)) ≡ false → IsBarrenFrom p s w (a + 1) b → HaveNone test (per_origin * s + z) (per_origin * s + b)
-  none-onward s w z a b le are past fails here =
-      let behind = none-from s w (a + 1) b le are here in
-      record {
-        fails = λ k lo hi. elim (cases_lt k (per_origin * s + a)) [
-          | inl lt ↦ past.fails k lo lt
-          | inr ge ↦ elim (cases_eq k (per_origin * s + a)) [
-            | inl e ↦ rw e fails
-            | inr ne ↦ behind.fails k (omega (arith, ge, ne)) hi
-          ]
-        ];
-      }
+  none-onward s w z a b le are past fails here = search (rules, none-from, cases_lt, cases_eq, le, are, past, fails, here)
 
   -- the squares of the side to move are all its origins
   pub own-origins : (o : ℕ) → o ≡ side_of p.men p.turn → AreOrigins test o

@@ -112,5 +112,4 @@ rook_on o s n4 n60 h z e = search (rules, is_home-square)
 pub king_castles : (rule : RuleSet) (p : Position) (x : Man) (m : Move) → IsWellFormed p → man_on p.men m.from ≡ Some x → can_castle rule p x m ≡ true
     → IsCastle p m
 unfolding can_castle may_castle
-king_castles rule p x m well here h =
-    search (rules, and_parts, cond-false, cond-true, eqb-true, is_home-none, king_from, le-ltb, lt-ltb, nat_lt, or_cases, rook_on)
+king_castles rule p x m well here h = grind (arith, and_parts, cond-false, cond-true, eqb-true, is_home-none, king_from, le-ltb, lt-ltb, or_cases, rook_on)

@@ -92,25 +92,13 @@ unfolding moved_men
 castle_back rule p x m well made e =
     grind (arith, can_move, castle_of, corner_stays, length-set, length-without_at, lift_after_place, man_on-with_same, man_on-without_same, rook_stands)
 
+-- the men that a move leaves on the board
+ruleset board_after = (arrived_there, capture_clears, castle_back, lift_after_place, man_on-without_same, returns_there, uncastles)
+
 can_return : (rule : RuleSet) (p : Position) (x : Man) (m : Move) (u : Undo) → IsWellFormed p → IsMade rule p x m → m.to < 64 → u ≡ undo_by rule p x m
     → CanReturn (moved_men p x m) x m u
 unfolding undo_by
-can_return rule p x m u well made small lost =
-    search (
-      rules,
-      arrived_there,
-      capture_clears,
-      captured_mortal,
-      castle_back,
-      lift_after_place,
-      man_on-without_same,
-      no_king_left,
-      returned,
-      returns_there,
-      same_colour_self,
-      some_there,
-      uncastles,
-    )
+can_return rule p x m u well made small lost = search (rules, board_after, captured_mortal, no_king_left, returned, same_colour_self, some_there)
 
 -- the men before the rebirth
 unreborn : (rule : RuleSet) (p : Position) (x : Man) (m : Move)

@@ -1,6 +1,6 @@
 -- Squares one after another on a line.
-use Rattle.chess_rules.proofs.Basics.{Some, add-mul, and_from, ap, arith, cases_lt, false, leb-true, mul-add, refl, rules, true, ℕ, ◌&&◌, ◌*◌, ◌+◌, ◌-◌, ◌<◌, ◌∙◌, ◌≡◌, ◌≤◌}
-use Rattle.chess_rules.proofs.Chess.{Direction, Step, along, file_of, is_on_board, place, rank_of, rises, step_of}
+use Rattle.chess_rules.proofs.Basics.{cases_eq, inl, inr, sym, Some, add-mul, and_from, ap, arith, cases_lt, false, leb-true, mul-add, refl, rules, true, ℕ, ◌&&◌, ◌*◌, ◌+◌, ◌-◌, ◌<◌, ◌∙◌, ◌≡◌, ◌≤◌}
+use Rattle.chess_rules.proofs.Chess.{some_is, Direction, Step, along, file_of, is_on_board, place, rank_of, rises, step_of}
 use Rattle.chess_rules.proofs.rays.Ends.{Placed, cond-on, on_board, placed_from}
 
 further : (f j i r l : ℕ) → 1 ≤ f + j * r - j * l → f + j * r - j * l + i * r - i * l ≡ f + (j + i) * r - (j + i) * l
@@ -68,6 +68,20 @@ shrinks s p q j k a b h i lt down = grind (arith, over j b a down, over k b a do
 -- a line passes its squares in order
 pub record Ordered (d : Step) : Type 0 where
   pub in_order : (s j k b t : ℕ) → along s d j ≡ Some b → along s d k ≡ Some t → j < k → place d b < place d t
+
+-- so what is passed no later is no more steps on
+pub not_later : (s j k b t : ℕ) (d : Step) → Ordered d → along s d j ≡ Some b → along s d k ≡ Some t → place d b ≤ place d t → j ≤ k
+not_later s j k b t d line h i le = elim (cases_lt k j) [
+  | inl less ↦ let past : place d t < place d b = line.in_order s k j t b i h less in omega (arith, past, le)
+  | inr ge ↦ ge
+]
+
+-- and what is passed earlier is fewer
+pub earlier : (s j k b t : ℕ) (d : Step) → Ordered d → along s d j ≡ Some b → along s d k ≡ Some t → place d b < place d t → j < k
+earlier s j k b t d line h i lt = elim (cases_eq j k) [
+  | inl e ↦ let same : place d b ≡ place d t = ap (place d) (some_is b t (sym h ∙ ap (along s d) e ∙ i)) in omega (arith, same, lt)
+  | inr ne ↦ omega (arith, ne, not_later s j k b t d line h i (omega (arith, lt)))
+]
 
 rising : (d : Step) → rises d ≡ true → Ordered d
 unfolding rises

@@ -1,10 +1,9 @@
 -- The tables of lines and leaps, computed.
-use Rattle.chess_rules.proofs.Basics.{List, [], bit_or, None, Option, Some, ap, arith, cases_lt, cond-false, cond-true, false, get_or, get_or-map-range_with_len, if◌then◌else◌, inl, inr, list_any, map, range_with_len, refl, sym, ℕ, ◌%◌, ◌*◌, ◌<◌, ◌^◌, ◌∙◌, ◌∷◌, ◌≡◌, ◌||◌}
+use Rattle.chess_rules.proofs.Basics.{List, [], bit_or, None, Option, Some, ap, arith, cases_lt, cond-false, cond-true, false, get_or, get_or-map-range_with_len, if◌then◌else◌, inl, inr, list_any, map, range_with_len, refl, sym, ℕ, ◌%◌, ◌*◌, ◌<◌, ◌^◌, ◌∙◌, ◌∷◌, ◌≡◌, ◌||◌, le-ltb, lt-ltb, rules}
 use Rattle.chess_rules.proofs.Chess.{Black, Colour, Direction, East, North, NorthEast, NorthWest, South, SouthEast, SouthWest, Step, West, White, along, diagonal_steps, differs, direction_number, forward, is_advance, is_ahead, is_two_files_aside, is_on_some, is_square, knight_steps, leaps, pawn_capture_steps, queen_steps, ray, squares_either, step_by, step_of, straight_steps, word}
 use Rattle.chess_rules.proofs.Bits.{word_empty, word_only}
 use Rattle.chess_rules.proofs.rays.Joining.{four}
 use Rattle.chess_rules.specs.declared.geometry.TheConstants.{ASIDE, BLACK_CAPTURES, BLACK_STEPS, DIAGONAL_LINES, KNIGHT_LEAPS, NEIGHBOURS, RAYS, STRAIGHT_LINES, WHITE_CAPTURES, WHITE_STEPS}
-use Rattle.std.proofs.lemmas.Bool.{le-ltb, lt-ltb}
 use Rattle.std.proofs.Math.Dec.{ltb}
 
 -- the word of a square, if there is one on the board
@@ -13,11 +12,7 @@ one None = 0
 one (Some q) = if ltb q 64 then 1 * 2 ^ q % 2 ^ 64 else 0
 
 one_is : (o : Option ℕ) → one o ≡ word (is_square o)
-one_is None = word_empty (is_square None) (λ t b. refl)
-one_is (Some q) = elim (cases_lt q 64) [
-  | inl lt ↦ cond-true (ltb q 64) _ _ (lt-ltb q 64 lt) ∙ word_only q lt
-  | inr ge ↦ cond-false (ltb q 64) _ _ (le-ltb q 64 ge) ∙ word_empty (is_square (Some q)) (λ t b. differs q t (λ e. omega arith))
-]
+one_is v0 = search (rules, word_empty, cases_lt, cond-true, ltb, lt-ltb, word_only, cond-false, le-ltb, differs)
 
 -- that of those of a list: so each square is computed once, and not tested against all 64
 abbrev each : List (Option ℕ) → ℕ
@@ -38,9 +33,6 @@ line d s = each (map (λ k. along s d k) (range_with_len 1 7))
 abbrev near : List Step → ℕ → ℕ
 near ds s = each (map (λ d. along s d 1) ds)
 
-abbrev ahead : Colour → ℕ → ℕ
-ahead c s = bit_or (one (along s (forward c) 1)) (one (along s (forward c) 2))
-
 -- a row of the table holds the lines of its direction from all squares
 row : (x : Direction) (none : List ℕ) → get_or RAYS (direction_number x) none ≡ map (line (step_of x)) (range_with_len 0 64)
 unfolding along
@@ -58,43 +50,30 @@ ray_at x s i none d same small =
     entry (line (step_of x)) (get_or RAYS (direction_number x) none) s i d (row x none) same small
     ∙ each_is (map (λ k. along s (step_of x) k) (range_with_len 1 7))
 
-neighbours_are : NEIGHBOURS ≡ map (near queen_steps) (range_with_len 0 64)
-unfolding along
-neighbours_are = refl
+-- and one of a table of the squares a step away
+near_at : (ds : List Step) (table : List ℕ) (s i d : ℕ) → table ≡ map (near ds) (range_with_len 0 64) → i ≡ s → i < 64
+    → get_or table i d ≡ word (λ t. list_any (λ o. is_square o t) (map (λ d. along s d 1) ds))
+near_at ds table s i d is same small = entry (near ds) table s i d is same small ∙ each_is (map (λ d. along s d 1) ds)
 
 -- the table of a king's steps
 pub neighbours_at : (s i d : ℕ) → i ≡ s → i < 64 → get_or NEIGHBOURS i d ≡ word (λ t. list_any (leaps s t) queen_steps)
-unfolding leaps
-neighbours_at s i d same small = entry (near queen_steps) NEIGHBOURS s i d neighbours_are same small ∙ each_is (map (λ d. along s d 1) queen_steps)
-
-knight_leaps_are : KNIGHT_LEAPS ≡ map (near knight_steps) (range_with_len 0 64)
-unfolding along
-knight_leaps_are = refl
+unfolding leaps along
+neighbours_at s i d = near_at queen_steps NEIGHBOURS s i d refl
 
 -- the table of a knight's
 pub knight_leaps_at : (s i d : ℕ) → i ≡ s → i < 64 → get_or KNIGHT_LEAPS i d ≡ word (λ t. list_any (leaps s t) knight_steps)
-unfolding leaps
-knight_leaps_at s i d same small = entry (near knight_steps) KNIGHT_LEAPS s i d knight_leaps_are same small ∙ each_is (map (λ d. along s d 1) knight_steps)
-
-white_captures_are : WHITE_CAPTURES ≡ map (near (pawn_capture_steps White)) (range_with_len 0 64)
-unfolding along
-white_captures_are = refl
+unfolding leaps along
+knight_leaps_at s i d = near_at knight_steps KNIGHT_LEAPS s i d refl
 
 -- the table of the squares that a White pawn attacks
 pub white_captures_at : (s i d : ℕ) → i ≡ s → i < 64 → get_or WHITE_CAPTURES i d ≡ word (λ t. list_any (leaps s t) (pawn_capture_steps White))
-unfolding leaps
-white_captures_at s i d same small = entry (near (pawn_capture_steps White)) WHITE_CAPTURES s i d white_captures_are same small
-    ∙ each_is (map (λ d. along s d 1) (pawn_capture_steps White))
-
-black_captures_are : BLACK_CAPTURES ≡ map (near (pawn_capture_steps Black)) (range_with_len 0 64)
-unfolding along
-black_captures_are = refl
+unfolding leaps along
+white_captures_at s i d = near_at (pawn_capture_steps White) WHITE_CAPTURES s i d refl
 
 -- and a Black one
 pub black_captures_at : (s i d : ℕ) → i ≡ s → i < 64 → get_or BLACK_CAPTURES i d ≡ word (λ t. list_any (leaps s t) (pawn_capture_steps Black))
-unfolding leaps
-black_captures_at s i d same small = entry (near (pawn_capture_steps Black)) BLACK_CAPTURES s i d black_captures_are same small
-    ∙ each_is (map (λ d. along s d 1) (pawn_capture_steps Black))
+unfolding leaps along
+black_captures_at s i d = near_at (pawn_capture_steps Black) BLACK_CAPTURES s i d refl
 
 abbrev nowhere : ℕ → Option ℕ
 nowhere s = None
@@ -111,35 +90,25 @@ eighth x s p =
     sym (get_or-map-range_with_len (λ s. along s (step_of x) 8) 0 64 s s None p (omega arith)) ∙ ap (λ r. get_or r s None) (off x)
     ∙ get_or-map-range_with_len nowhere 0 64 s s None p (omega arith)
 
-white_steps_are : WHITE_STEPS ≡ map (ahead White) (range_with_len 0 64)
-unfolding along
-white_steps_are = refl
+-- an entry of a table of the squares on either of two steps
+two_at : (f g : ℕ → Option ℕ) (table : List ℕ) (s i d : ℕ) → table ≡ map (λ q. bit_or (one (f q)) (one (g q))) (range_with_len 0 64) → i ≡ s → i < 64
+    → get_or table i d ≡ word (λ t. is_square (f s) t || is_square (g s) t)
+two_at f g table s i d is same small = entry (λ q. bit_or (one (f q)) (one (g q))) table s i d is same small ∙ two_is (f s) (g s)
 
 -- the table of the one or two squares ahead of a White pawn
 pub white_steps_at : (s i d : ℕ) → i ≡ s → i < 64 → get_or WHITE_STEPS i d ≡ word (is_advance White s)
-white_steps_at s i d same small =
-    entry (ahead White) WHITE_STEPS s i d white_steps_are same small ∙ two_is (along s (forward White) 1) (along s (forward White) 2)
-
-black_steps_are : BLACK_STEPS ≡ map (ahead Black) (range_with_len 0 64)
 unfolding along
-black_steps_are = refl
+white_steps_at s i d = two_at (λ q. along q (forward White) 1) (λ q. along q (forward White) 2) WHITE_STEPS s i d refl
 
 -- and of a Black one
 pub black_steps_at : (s i d : ℕ) → i ≡ s → i < 64 → get_or BLACK_STEPS i d ≡ word (is_advance Black s)
-black_steps_at s i d same small =
-    entry (ahead Black) BLACK_STEPS s i d black_steps_are same small ∙ two_is (along s (forward Black) 1) (along s (forward Black) 2)
-
--- the squares two files beside
-abbrev beside : ℕ → ℕ
-beside s = bit_or (one (along s (step_by 2 0 0 0) 1)) (one (along s (step_by 0 2 0 0) 1))
-
-aside_are : ASIDE ≡ map beside (range_with_len 0 64)
 unfolding along
-aside_are = refl
+black_steps_at s i d = two_at (λ q. along q (forward Black) 1) (λ q. along q (forward Black) 2) BLACK_STEPS s i d refl
 
 -- the table of the squares two files aside, for castling
 pub aside_at : (s i d : ℕ) → i ≡ s → i < 64 → get_or ASIDE i d ≡ word (is_two_files_aside s)
-aside_at s i d same small = entry beside ASIDE s i d aside_are same small ∙ two_is (along s (step_by 2 0 0 0) 1) (along s (step_by 0 2 0 0) 1)
+unfolding along
+aside_at s i d = two_at (λ q. along q (step_by 2 0 0 0) 1) (λ q. along q (step_by 0 2 0 0) 1) ASIDE s i d refl
 
 -- the entry of a direction's row
 abbrev on : Direction → ℕ → ℕ
@@ -149,20 +118,19 @@ on x s = get_or (get_or RAYS (direction_number x) []) s 0
 abbrev joined : Direction → Direction → Direction → Direction → ℕ → ℕ
 joined a b c e s = bit_or (bit_or (bit_or (on a s) (on b s)) (on c s)) (on e s)
 
--- the table of the rook's lines on the empty board
-pub straight_lines_at : (s i d : ℕ) → i ≡ s → i < 64 → get_or STRAIGHT_LINES i d ≡ word (is_on_some straight_steps s)
+-- an entry of a table of four lines on the empty board
+lines_at : (a b c e : Direction) (table : List ℕ) (s i d : ℕ) → table ≡ map (joined a b c e) (range_with_len 0 64) → i ≡ s → i < 64
+    → get_or table i d ≡ word (is_on_some (step_of a ∷ step_of b ∷ step_of c ∷ step_of e ∷ []) s)
 unfolding is_on_some ray
-straight_lines_at s i d is small =
-    entry (joined East West North South) STRAIGHT_LINES s i d refl is small
-    ∙ four (λ t x. is_ahead s x t) (step_of East) (step_of West) (step_of North) (step_of South) _ _ _ _
-    (ray_at East s s [] 0 refl (omega arith)) (ray_at West s s [] 0 refl (omega arith))
-    (ray_at North s s [] 0 refl (omega arith)) (ray_at South s s [] 0 refl (omega arith))
+lines_at a b c e table s i d is same small =
+    let at : (x : Direction) → on x s ≡ word (is_ahead s (step_of x)) = λ x. ray_at x s s [] 0 refl (omega arith) in
+    entry (joined a b c e) table s i d is same small
+    ∙ four (λ t x. is_ahead s x t) (step_of a) (step_of b) (step_of c) (step_of e) _ _ _ _ (at a) (at b) (at c) (at e)
+
+-- the table of the rook's lines
+pub straight_lines_at : (s i d : ℕ) → i ≡ s → i < 64 → get_or STRAIGHT_LINES i d ≡ word (is_on_some straight_steps s)
+straight_lines_at s i d = lines_at East West North South STRAIGHT_LINES s i d refl
 
 -- and of the bishop's
 pub diagonal_lines_at : (s i d : ℕ) → i ≡ s → i < 64 → get_or DIAGONAL_LINES i d ≡ word (is_on_some diagonal_steps s)
-unfolding is_on_some ray
-diagonal_lines_at s i d is small =
-    entry (joined NorthEast SouthEast NorthWest SouthWest) DIAGONAL_LINES s i d refl is small
-    ∙ four (λ t x. is_ahead s x t) (step_of NorthEast) (step_of SouthEast) (step_of NorthWest) (step_of SouthWest) _ _ _ _
-    (ray_at NorthEast s s [] 0 refl (omega arith)) (ray_at SouthEast s s [] 0 refl (omega arith))
-    (ray_at NorthWest s s [] 0 refl (omega arith)) (ray_at SouthWest s s [] 0 refl (omega arith))
+diagonal_lines_at s i d = lines_at NorthEast SouthEast NorthWest SouthWest DIAGONAL_LINES s i d refl

@@ -30,7 +30,7 @@ part : (f k i r l : ℕ) → i ≤ k → 1 ≤ f + k * r - k * l → f + k * r -
 part f k i r l le on = search (rules, add-mul)
 
 -- the squares of a line are the same, counted back from its end
-pub between : (s t : ℕ) (d : Step) (k i : ℕ) → i ≤ k → along s d k ≡ Some t → along t (back d) (k - i) ≡ along s d i
+between : (s t : ℕ) (d : Step) (k i : ℕ) → i ≤ k → along s d k ≡ Some t → along t (back d) (k - i) ≡ along s d i
 unfolding along
 between s t d k i le h = grind (arith, placed_from, part)
 
@@ -47,6 +47,10 @@ pub stays : (s : ℕ) (d : Step) → s < 64 → along s d 0 ≡ Some s
 unfolding along
 stays s d p = search rules
 
+-- so j steps back from the end lies what is i steps on
+pub mirrored : (s t : ℕ) (d : Step) (k i j : ℕ) → i + j ≡ k → along s d k ≡ Some t → along t (back d) j ≡ along s d i
+mirrored s t d k i j e h = let same : k - i ≡ j = omega arith in rw same at (between s t d k i (omega arith) h)
+
 -- an option that passes the test of a square holds this square
 pub square_is : (o : Option ℕ) (t : ℕ) → is_square o t ≡ true → o ≡ Some t
 square_is o t h = grind (arith, false≢true, eqb-true)
@@ -54,25 +58,3 @@ square_is o t h = grind (arith, false≢true, eqb-true)
 -- as many steps lead back from t to s as lead from s to t
 pub return_square : (s t : ℕ) (d : Step) (k : ℕ) → s < 64 → is_square (along s d k) t ≡ true → is_square (along t (back d) k) s ≡ true
 return_square s t d k p h = grind (arith, square_is _ t h, between s t d k 0 (omega arith), stays s d p, eq-eqb s s refl)
-
-clear_back : (men : List (Option Man)) (s t : ℕ) (d : Step) (k : ℕ) → along s d k ≡ Some t → is_clear men s d (k - 1) ≡ true
-    → is_clear men t (back d) (k - 1) ≡ true
-unfolding is_clear
-clear_back men s t d k at h =
-    all_range_true (λ i. is_vacant_at men (along t (back d) i)) 1 (k - 1)
-    (λ i lo hi.
-    let e : i ≡ k - (k - i) = omega arith in
-    ap (λ n. is_vacant_at men (along t (back d) n)) e ∙ ap (is_vacant_at men) (between s t d k (k - i) (omega arith) at)
-    ∙ all_at (λ i. is_vacant_at men (along s d i)) 1 (k - 1) (k - i) h (omega arith) (omega arith))
-
-ride_test : (men : List (Option Man)) (s t : ℕ) (d : Step) (k : ℕ) → s < 64 → (is_square (along s d k) t && is_clear men s d (k - 1)) ≡ true
-    → (is_square (along t (back d) k) s && is_clear men t (back d) (k - 1)) ≡ true
-ride_test men s t d k p h = search (rules, clear_back, first_of_and, return_square, second_of_and, square_is)
-
--- a ride is seen from both ends
-pub rides-back : (men : List (Option Man)) (s t : ℕ) (d : Step) → s < 64 → t < 64 → rides men s t d ≡ rides men t s (back d)
-unfolding rides
-rides-back men s t d p q =
-    let test : (k : ℕ) → (is_square (along s d k) t && is_clear men s d (k - 1)) ≡ (is_square (along t (back d) k) s && is_clear men t (back d) (k - 1)) =
-    λ k. same_Bool _ _ (ride_test men s t d k p) (ride_test men t s (back d) k q) in
-    (λ j. list_any (λ k. test k j) (range_with_len 1 7))

@@ -1,10 +1,8 @@
 -- Lists of steps that hold each step with its opposite.
 use Rattle.chess_rules.proofs.Basics.{arith, Bool, List, Option, [], and_parts, ap, eqb-true, false, false≢true, inl, inr, list_all, list_any, or_cases, or_left, or_right, refl, rules, sym, true, ℕ, ◌&&◌, ◌<◌, ◌==◌, ◌∙◌, ◌∷◌, ◌≡◌}
-use Rattle.chess_core.specs.declared.man.Gait.{Gait}
-use Rattle.chess_core.specs.declared.man.Gait.TheVariants.{Hopper, Leaper, Rider}
-use Rattle.chess_rules.proofs.Chess.{Colour, Kind, Man, Step, diagonal_steps, gait_of, goes_by, hopped_from, hops, is_hopper, kind_steps, knight_steps, leaps, other, pawn_capture_steps, queen_steps, reaches_as, rides, same_Bool, straight_steps}
-use Rattle.chess_rules.proofs.rays.Ends.{back, rides-back, return_square}
-use Rattle.chess_rules.proofs.rays.Hops.{hops-back}
+use Rattle.chess_rules.proofs.Chess.{Colour, Kind, Man, Step, diagonal_steps, gait_of, goes_by, hopped_from, hops, is_hopper, kind_steps, knight_steps, leaps, other, pawn_capture_steps, queen_steps, reaches_as, rides, same_Bool, straight_steps, Gait, Hopper, Leaper, Rider}
+use Rattle.chess_rules.proofs.rays.Ends.{back, return_square}
+use Rattle.chess_rules.proofs.rays.Ways.{hops-back, rides-back}
 
 -- equality of steps as a test
 abbrev same_step : Step → Step → Bool

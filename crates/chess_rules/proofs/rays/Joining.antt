@@ -1,5 +1,5 @@
 -- Words of several lines joined.
-use Rattle.chess_rules.proofs.Basics.{arith, Bool, List, [], bit_or, false, list_any, list_any-append, sym, ℕ, ◌++◌, ◌||◌, ◌∙◌, ◌∷◌, ◌≡◌}
+use Rattle.chess_rules.proofs.Basics.{arith, Bool, List, [], bit_or, false, list_any, list_any-append, sym, ℕ, ◌++◌, ◌||◌, ◌∙◌, ◌∷◌, ◌≡◌, rules}
 use Rattle.chess_rules.proofs.Chess.{Step, squares_either, squares_same, word}
 
 one_by_one : (a b c d : Bool) → (((a || b) || c) || d) ≡ (a || (b || (c || (d || false))))
@@ -8,15 +8,9 @@ one_by_one a b c d = grind arith
 -- the words of four steps joined are the word of the four
 pub four : (p : ℕ → Step → Bool) (a b c d : Step) (k l m n : ℕ) → k ≡ word (λ t. p t a) → l ≡ word (λ t. p t b) → m ≡ word (λ t. p t c) → n ≡ word (λ t. p t d)
     → bit_or (bit_or (bit_or k l) m) n ≡ word (λ t. list_any (p t) (a ∷ b ∷ c ∷ d ∷ []))
-four p a b c d k l m n x y z w =
-    (λ j. bit_or (bit_or (bit_or (x j) (y j)) (z j)) (w j))
-    ∙ (λ j. bit_or (bit_or (squares_either (λ t. p t a) (λ t. p t b) j) (word (λ t. p t c))) (word (λ t. p t d)))
-    ∙ (λ j. bit_or (squares_either (λ t. p t a || p t b) (λ t. p t c) j) (word (λ t. p t d)))
-    ∙ squares_either (λ t. (p t a || p t b) || p t c) (λ t. p t d)
-    ∙ squares_same _ _ (λ t q. one_by_one (p t a) (p t b) (p t c) (p t d))
+four p a b c d k l m n x y z w = search (rules, squares_either, squares_same, one_by_one, x, y, z, w)
 
 -- the words of two lists of steps joined are the word of both lists
 pub both_lists : (p : ℕ → Step → Bool) (xs ys : List Step) (k l : ℕ) → k ≡ word (λ t. list_any (p t) xs) → l ≡ word (λ t. list_any (p t) ys)
     → bit_or k l ≡ word (λ t. list_any (p t) (xs ++ ys))
-both_lists p xs ys k l x y =
-    (λ j. bit_or (x j) (y j)) ∙ squares_either (λ t. list_any (p t) xs) (λ t. list_any (p t) ys) ∙ squares_same _ _ (λ t q. sym (list_any-append (p t) xs ys))
+both_lists p xs ys k l x y = search (rules, squares_either, squares_same, list_any-append, x, y)

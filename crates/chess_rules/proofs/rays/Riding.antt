@@ -1,8 +1,7 @@
 -- The words of the squares that shut lines.
 use Rattle.chess_rules.proofs.Basics.{Bool, List, Option, and_left, and_right, ap, arith, bit_and, bit_at, bit_at-zero, bit_or, cases_Bool, cases_eq, cases_lt, false, inl, inr, list_any, or_left, or_right, range_with_len, refl, rules, sym, ℕ, ◌&&◌, ◌+◌, ◌-◌, ◌<◌, ◌==◌, ◌||◌, ◌∙◌, ◌≡◌, ◌≤◌}
-use Rattle.chess_rules.proofs.Chess.{AreRides, Colour, IsFirst, Kind, Man, Queen, Step, any_range_cases, any_range_false, any_range_true, is_behind, is_on_some, is_line_rider, is_shut, rides, some_square, some_square_false, squares, squares_both, squares_either, squares_of, squares_same, word}
+use Rattle.chess_rules.proofs.Chess.{AreRides, Colour, IsFirst, Kind, Man, Queen, Step, any_range_cases, any_range_false, any_range_true, is_behind, is_on_some, is_line_rider, is_shut, rides, some_square, some_square_false, squares, squares_both, squares_either, squares_of, squares_same, word, is_met}
 use Rattle.std.specs.Int.Bits.{and_zero_r}
-use Rattle.chess_rules.specs.ties.Outward.{is_met}
 use Rattle.chess_rules.proofs.attacks.Attacking.{met, met_none, some_square_same}
 use Rattle.chess_rules.proofs.Bits.{word_empty, word_has}
 
@@ -95,10 +94,4 @@ shut_are men e j ds k w n r h some i g =
 -- the riders on the squares to which a rider gets are those that are met there
 pub met_by_rides : (men : List (Option Man)) (e : Colour) (j : Kind) (ds : List Step) (k m w : ℕ) → m ≡ bit_or (squares_of men e j) (squares_of men e Queen)
     → AreRides men e j ds k w → bit_and m w ≡ word (is_met men e j ds k)
-met_by_rides men e j ds k m w h i = (λ y. bit_and (h y) w) ∙ elim i [
-  | inl seen ↦ met men e j k (squares_of men e j) (squares_of men e Queen) w ds refl refl seen
-  | inr none ↦
-      (λ y. bit_and (bit_or (squares_of men e j) (squares_of men e Queen)) (none.0 y)) ∙ and_zero_r (bit_or (squares_of men e j) (squares_of men e Queen))
-      ∙ met_none men e j k (squares_of men e j) (squares_of men e Queen) (word (is_on_some ds k)) ds refl refl refl
-      (riders_are men e j ds k (bit_or (squares_of men e j) (squares_of men e Queen)) (word (is_on_some ds k)) refl refl ∙ none.1)
-]
+met_by_rides men e j ds k m w h i = search (rules, met, met_none, riders_are, h, i)

@@ -1,9 +1,10 @@
 -- A ride: the line as far as the first man on it.
-use Rattle.chess_rules.proofs.Basics.{Bool, List, Option, Some, and_from, and_left, ap, arith, bit_and, bit_at, bit_not, cases_Bool, cases_eq, cases_lt, eq-eqb, eqb-true, false, false≢true, inl, inr, is_some, not, refl, sym, true, w64, ℕ, ◌&&◌, ◌+◌, ◌-◌, ◌<◌, ◌∙◌, ◌≡◌, ◌≤◌}
-use Rattle.chess_rules.proofs.Chess.{IsStop, Man, Step, all_range_false, all_range_true, along, any_range_cases, any_range_false, any_range_true, first_of_and, is_ahead, is_clear, is_square, is_vacant_at, man_on, place, passing_order_by, ray, rides, rises, second_of_and, squares_both, squares_not, squares_same, word}
-use Rattle.chess_rules.proofs.rays.Ahead.{Ordered, onward, passes}
+use Rattle.chess_rules.proofs.Basics.{false_from_ne_true, not-true, Bool, List, Option, Some, and_from, and_left, ap, arith, bit_and, bit_at, bit_not, cases_Bool, cases_eq, cases_lt, eq-eqb, eqb-true, false, false≢true, inl, inr, is_some, not, refl, sym, true, w64, ℕ, ◌&&◌, ◌+◌, ◌-◌, ◌<◌, ◌∙◌, ◌≡◌, ◌≤◌, rules}
+use Rattle.chess_rules.proofs.Chess.{same_Bool, IsStop, Man, Step, all_range_false, all_range_true, along, any_range_cases, any_range_false, any_range_true, first_of_and, is_ahead, is_clear, is_square, is_vacant_at, man_on, place, passing_order_by, ray, rides, rises, second_of_and, squares_both, squares_not, squares_same, word}
+use Rattle.chess_rules.proofs.rays.Ahead.{Ordered, earlier, not_later, onward, passes}
 use Rattle.chess_rules.proofs.Bits.{word_has}
 use Rattle.chess_rules.proofs.rays.Ends.{square_is, stays}
+use Rattle.chess_rules.proofs.rays.Ways.{Ride, ride-found, ride-made}
 
 -- b is the first square ahead of s with a man on it, or a square behind which no line goes on
 pub record Stops (men : List (Option Man)) (s : ℕ) (d : Step) (b : ℕ) : Type 0 where
@@ -53,29 +54,19 @@ pub ahead_at : (s : ℕ) (d : Step) (t k : ℕ) → 1 ≤ k → k < 8 → along 
 unfolding is_ahead
 ahead_at s d t k lo hi at = any_range_true (λ k. is_square (along s d k) t) 1 7 k lo (omega arith) (rw at (eq-eqb t t refl))
 
-occupied_not_vacant : (men : List (Option Man)) (o : Option ℕ) (q : ℕ) → o ≡ Some q → is_some (man_on men q) ≡ true → is_vacant_at men o ≡ false
+-- a square with a man isn't vacant
+pub occupied_not_vacant : (men : List (Option Man)) (o : Option ℕ) (q : ℕ) → o ≡ Some q → is_some (man_on men q) ≡ true → is_vacant_at men o ≡ false
 occupied_not_vacant men o q at man = rw at (ap not man)
 
 -- what lies ahead of the stop isn't reached
-blocked : (men : List (Option Man)) (s : ℕ) (d : Step) (b t k : ℕ) → Ordered d → Stops men s d b → t < 64 → along s d k ≡ Some t → is_ahead b d t ≡ true
-    → is_clear men s d (k - 1) ≡ false
-unfolding is_clear
-blocked men s d b t k line stop p at behind =
+blocked : (men : List (Option Man)) (s : ℕ) (d : Step) (b t k : ℕ) → Ordered d → Stops men s d b → t < 64 → Ride 1 men s t d k → is_ahead b d t ≡ true → ⊥
+blocked men s d b t k line stop p ride behind =
     let on = steps_on b d t behind in
     let past : place d b < place d t = line.in_order b 0 on.0 b t (stays b d stop.small) on.1.at (omega (arith, on.1.low)) in
-    let end : place d t ≤ 63 = place_le (rises d) t p in
-    let here : (is_ahead s d b && is_some (man_on men b)) ≡ true = stop.here (omega arith) in
+    let here = stop.here (omega (arith, past, place_le (rises d) t p)) in
     let to = steps_on s d b (first_of_and _ _ here) in
-    let sooner : to.0 < k = elim (cases_lt to.0 k) [
-      | inl lt ↦ lt
-      | inr ge ↦ elim (cases_eq k to.0) [
-        | inl e ↦ absurd (let same : Some b ≡ Some t = sym to.1.at ∙ ap (along s d) (sym e) ∙ at in let n : b ≡ t = cc in
-            let m : place d b ≡ place d t = ap (place d) n in omega arith)
-        | inr ne ↦ absurd (let other : place d t < place d b = line.in_order s k to.0 t b at to.1.at (omega arith) in omega arith)
-      ]
-    ] in
-    all_range_false (λ i. is_vacant_at men (along s d i)) 1 (k - 1) to.0 to.1.low (omega arith)
-    (occupied_not_vacant men (along s d to.0) b to.1.at (second_of_and (is_ahead s d b) _ here))
+    let full = occupied_not_vacant men (along s d to.0) b to.1.at (second_of_and (is_ahead s d b) _ here) in
+    false≢true (sym full ∙ ride.free to.0 to.1.low (earlier s to.0 k b t d line to.1.at ride.at past))
 
 -- up to the stop the line is empty
 nobody : (men : List (Option Man)) (s : ℕ) (d : Step) (b t k i q : ℕ) → Ordered d → Stops men s d b → t < 64 → 1 ≤ i → i < k → k < 8 → along s d k ≡ Some t
@@ -83,59 +74,34 @@ nobody : (men : List (Option Man)) (s : ℕ) (d : Step) (b t k i q : ℕ) → Or
 nobody men s d b t k i q line stop p lo lt hi at here small not_behind man =
     let le : place d b ≤ place d q = stop.first q small (ahead_at s d q i lo (omega arith) here) man in
     let past : place d q < place d t = line.in_order s i k q t here at lt in
-    let end : place d t ≤ 63 = place_le (rises d) t p in
-    let to = steps_on s d b (first_of_and _ _ (stop.here (omega arith))) in
-    let sooner : to.0 ≤ i = elim (cases_lt i to.0) [
-      | inl more ↦ absurd (let other : place d q < place d b = line.in_order s i to.0 q b here to.1.at more in omega arith)
-      | inr ge ↦ ge
-    ] in
+    let to = steps_on s d b (first_of_and _ _ (stop.here (omega (arith, le, past, place_le (rises d) t p)))) in
+    let sooner = not_later s to.0 i b q d line to.1.at here le in
     let e : to.0 + (k - to.0) ≡ k = omega arith in
     let on : along b d (k - to.0) ≡ Some t = onward s b d to.0 (k - to.0) to.1.at ∙ ap (along s d) e ∙ at in
     false≢true (sym not_behind ∙ ahead_at b d t (k - to.0) (omega arith) (omega arith) on)
 
-open_to : (men : List (Option Man)) (s : ℕ) (d : Step) (b t k : ℕ) → Ordered d → Stops men s d b → s < 64 → t < 64 → k < 8 → along s d k ≡ Some t
-    → is_ahead b d t ≡ false → is_clear men s d (k - 1) ≡ true
-unfolding is_clear
-open_to men s d b t k line stop p q hi at free =
-    all_range_true (λ i. is_vacant_at men (along s d i)) 1 (k - 1) (λ i lo lt.
-    let w = passes s t d k i p (omega arith) at in
-    elim (cases_Bool (is_some (man_on men w.0))) [
-      | inl man ↦ absurd (nobody men s d b t k i w.0 line stop q lo (omega arith) hi at w.1.at w.1.small free man)
-      | inr none ↦ rw w.1.at (ap not none)
-    ])
-
 -- a ride gets to what is ahead and not ahead of the stop
 ridden : (men : List (Option Man)) (s : ℕ) (d : Step) (b t : ℕ) → Ordered d → Stops men s d b → s < 64 → t < 64
     → (is_ahead s d t && not (is_ahead b d t)) ≡ rides men s t d
-unfolding rides
-ridden men s d b t line stop p q = elim (cases_Bool (is_ahead s d t)) [
-  | inl y ↦ elim (cases_Bool (is_ahead b d t)) [
-    | inl behind ↦
-        rw (y, behind)
-        (sym (any_range_false (λ k. is_square (along s d k) t && is_clear men s d (k - 1)) 1 7 (λ k lo hi. elim (cases_Bool (is_square (along s d k) t)) [
-          | inl at ↦ rw at (blocked men s d b t k line stop q (square_is _ t at) behind)
-          | inr off ↦ and_left _ _ off
-        ])))
-    | inr free ↦
-        let on = steps_on s d t y in
-        rw (y, free)
-        (sym (any_range_true (λ k. is_square (along s d k) t && is_clear men s d (k - 1)) 1 7 on.0 on.1.low (omega (arith, on.1.high))
-        (and_from _ _ (rw on.1.at (eq-eqb t t refl)) (open_to men s d b t on.0 line stop p q on.1.high on.1.at free))))
-  ]
-  | inr n ↦
-      rw n
-      (sym (any_range_false (λ k. is_square (along s d k) t && is_clear men s d (k - 1)) 1 7 (λ k lo hi. elim (cases_Bool (is_square (along s d k) t)) [
-        | inl at ↦ absurd (false≢true (sym n ∙ ahead_at s d t k lo (omega arith) (square_is _ t at)))
-        | inr off ↦ and_left _ _ off
-      ])))
-]
+ridden men s d b t line stop p q =
+    same_Bool _ _
+    (λ h.
+    let on = steps_on s d t (first_of_and _ _ h) in
+    let free = not-true _ (second_of_and (is_ahead s d t) _ h) in
+    ride-made men s t d on.0 (record {
+      low = on.1.low;
+      high = on.1.high;
+      at = on.1.at;
+      free = λ i lo lt.
+          let w = passes s t d on.0 i p (omega (arith, lt)) on.1.at in
+          rw w.1.at (ap not (false_from_ne_true _ (nobody men s d b t on.0 i w.0 line stop q lo lt on.1.high on.1.at w.1.at w.1.small free)));
+    }))
+    (λ h.
+    let w = ride-found men s t d h in
+    and_from _ _ (ahead_at s d t w.0 w.1.low w.1.high w.1.at) (ap not (false_from_ne_true _ (blocked men s d b t w.0 line stop q w.1))))
 
 -- a ride gets to what is ahead, without what is ahead of the first man
 pub ride_is : (men : List (Option Man)) (s : ℕ) (d : Step) (r o b n : ℕ) → Ordered d → s < 64 → r ≡ ray s d → o ≡ word (λ q. is_some (man_on men q))
     → IsStop d (bit_and r o) b → n ≡ ray b d → bit_and r (bit_not w64 n) ≡ word (λ t. rides men s t d)
 unfolding ray
-ride_is men s d r o b n line p h i stop k =
-    (λ j. bit_and (h j) (bit_not w64 (k j)))
-    ∙ (λ j. bit_and (word (is_ahead s d)) (squares_not (is_ahead b d) j))
-    ∙ squares_both (is_ahead s d) (λ t. not (is_ahead b d t))
-    ∙ squares_same _ _ (λ t q. ridden men s d b t line (stops men s d r o b h i stop) p q)
+ride_is men s d r o b n line p h i stop k = search (rules, squares_not, squares_both, squares_same, ridden, stops, line, p, h, i, stop, k)

@@ -1,13 +1,7 @@
 -- The moves of a position are its legal moves, each once, in the stated order; and what mate and stalemate say of legal moves.
-use Rattle.std.proofs.Common.{◌≡◌, ◌≢◌, ◌<◌, ◌↔◌, ◌⊎◌, true, false, sym, ap, ◌∙◌, arith}
-use Rattle.std.specs.List.{AllPairs, Contains}
+use Rattle.chess_rules.proofs.Basics.{AllPairs, Contains, ap, arith, false, sym, true, ◌<◌, ◌↔◌, ◌∙◌, ◌≡◌, ◌≢◌, ◌⊎◌, rules}
+use Rattle.chess_rules.proofs.Chess.{IsWellFormed, Move, Position, RuleSet, in_check, is_legal, is_mate, is_nil, is_stalemate, moves, promotions, triples}
 use Rattle.chess_core.specs.MoveOrder.{promotion_order, order_number}
-use Rattle.chess_core.specs.Position.{Position}
-use Rattle.chess_core.specs.WellFormed.{IsWellFormed}
-use Rattle.chess_core.specs.declared.man.Move.{Move}
-use Rattle.chess_rules.specs.Attacks.{in_check}
-use Rattle.chess_rules.specs.Legal.{is_legal, is_mate, is_nil, is_stalemate, moves, promotions, triples}
-use Rattle.chess_rules.specs.RuleSet.{RuleSet}
 use Rattle.chess_rules.proofs.listing_moves.Calls.{is_pseudo_legal-from_legal}
 use Rattle.chess_rules.proofs.listing_moves.Members.{from_filter, in_filter, pairs_weaker}
 use Rattle.chess_rules.proofs.listing_moves.Triples.{from_triples, in_triples, made_is_triple, triples_rise, by_parts, nil_where_nothing, nothing_in}

@@ -3,18 +3,6 @@ use Rattle.chess_rules.proofs.Chess.{find_first}
 use Rattle.chess_rules.proofs.attacks.StayingInCheck.{evasion_squares_all, evasion_squares_one}
 use Rattle.chess_rules.proofs.evasions.evasion_squares.Goals as goal
 
-pub returns-in_default : goal.returns-in_default
-returns-in_default g c = evasion_squares_all g.R.Rules.rule c.args.board.now.men c.args.colour
-
-pub returns-then-faced_men_stand_still : goal.returns-then-faced_men_stand_still
-returns-then-faced_men_stand_still g c = evasion_squares_all g.R.Rules.rule c.args.board.now.men c.args.colour
-
-pub returns-then-has_fairy_lines_on : goal.returns-then-has_fairy_lines_on
-returns-then-has_fairy_lines_on g c = evasion_squares_all g.R.Rules.rule c.args.board.now.men c.args.colour
-
-pub returns-in_default-king_of : goal.returns-in_default-king_of
-returns-in_default-king_of g c = evasion_squares_all g.R.Rules.rule c.args.board.now.men c.args.colour
-
 pub returns : goal.returns
 returns g c =
     let first = find_first (λ s. bit_at c.args.checkers s == 1) 0 64 c.in-Some.checker (sym c.next_bit.ensures.value ∙ c.in-Some.is) in

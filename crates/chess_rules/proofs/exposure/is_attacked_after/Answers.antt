@@ -5,9 +5,7 @@ use Rattle.chess_rules.proofs.attacks.Exposing.{attacked_after}
 use Rattle.chess_rules.proofs.exposure.is_attacked_after.Goals as goal
 
 pub returns-then-not-faced_men_stand_still : goal.returns-then-not-faced_men_stand_still
-returns-then-not-faced_men_stand_still g c = λ men are seen.
-    attacked_plainly g.R.Rules.rule men c.args.square (other c.args.man.colour) c.is_attacker_seen.result (search rules)
-    (rw c.other-enemy.ensures at (c.is_attacker_seen.ensures men (rw c.other-enemy.ensures seen)))
+returns-then-not-faced_men_stand_still g c = search (rules, attacked_plainly, c.other-enemy.ensures, c.is_attacker_seen.ensures)
 
 pub returns : goal.returns
 returns g c = λ men are seen.

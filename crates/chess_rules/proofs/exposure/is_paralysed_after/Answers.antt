@@ -3,14 +3,7 @@ use Rattle.chess_rules.proofs.Chess.{is_paralysed}
 use Rattle.chess_rules.proofs.attacks.Exposing.{faced_king, none_paralysed, paralysed_by}
 use Rattle.chess_rules.proofs.exposure.is_paralysed_after.Goals as goal
 
-pub returns-then-not-faced_men_stand_still : goal.returns-then-not-faced_men_stand_still
-returns-then-not-faced_men_stand_still g c = search (rules, none_paralysed)
-
 pub returns-then-not-is : goal.returns-then-not-is
 returns-then-not-is g c = λ men are side.
     paralysed_by g.R.Rules.rule c.args.board.now.men men c.args.man c.args.m.now c.args.sight c.args.square c.in-Some.enemy c.is_faced_after.result
     (search rules) are side (search rules) (search (rules, c.is_faced_after.ensures men are))
-
-pub returns-else-not-is : goal.returns-else-not-is
-unfolding is_paralysed
-returns-else-not-is g c = λ men are side. search (rules, paralysed_by, faced_king)

@@ -1,5 +1,4 @@
-use Rattle.chess_rules.proofs.Chess.{is_legal}
-use Rattle.chess_rules.specs.ties.Idle.{is_legal-idle}
+use Rattle.chess_rules.proofs.Chess.{is_legal, is_legal-idle}
 use Rattle.chess_rules.proofs.listing_moves.Walks.{own-origins}
 use Rattle.chess_rules.proofs.legal_moves.own_origins.Goals as goal
 

@@ -3,17 +3,14 @@ use Rattle.chess_rules.proofs.Chess.{Black, Colour, Man, White, is_of_colour, ma
 use Rattle.chess_rules.proofs.lines.occupied.Goals as goal
 
 of_one : (c : Colour) → (same_colour c White || same_colour c Black) ≡ true
-of_one White = refl
-of_one Black = refl
+of_one v0 = search rules
 
 of_either : (o : Option Man) → (is_of_colour o White || is_of_colour o Black) ≡ is_some o
-of_either None = refl
-of_either (Some x) = of_one x.colour
+of_either v0 = search (rules, of_one)
 
 joined : (men : List (Option Man)) → bit_or (side_of men White) (side_of men Black) ≡ word (λ s. is_some (man_on men s))
 unfolding side_of
-joined men = squares_either (λ s. is_of_colour (man_on men s) White) (λ s. is_of_colour (man_on men s) Black)
-    ∙ squares_same _ _ (λ s p. of_either (man_on men s))
+joined men = search (rules, squares_either, squares_same, of_either)
 
 pub returns : goal.returns
 returns c = search (rules, joined)

@@ -1,21 +1,6 @@
-use Rattle.chess_rules.proofs.Basics.{not, sym, ◌==◌, ◌||◌, ◌∙◌}
+use Rattle.chess_rules.proofs.Basics.{not, sym, ◌==◌, ◌||◌, ◌∙◌, rules}
 use Rattle.chess_rules.proofs.attacks.Attacking.{diagonal_reaches, leap_reaches, some_reach, straight_reaches}
 use Rattle.chess_rules.proofs.outward.is_attacker_seen.Goals as goal
-
-pub returns-then-leapers_seen-ne0 : goal.returns-then-leapers_seen-ne0
-returns-then-leapers_seen-ne0 c = λ men seen.
-    leap_reaches men c.args.colour c.args.square c.leapers_seen.result (rw c.index-small.ensures.value at c.index-small.ensures.small)
-    (c.leapers_seen.ensures men seen) c.if-leapers_seen-ne0.true
-
-pub returns-then-straight_attackers-ne0 : goal.returns-then-straight_attackers-ne0
-returns-then-straight_attackers-ne0 c = λ men seen.
-    straight_reaches men c.args.colour c.args.square c.straight_attackers.result (rw c.index-small.ensures.value at c.index-small.ensures.small)
-    (c.straight_attackers.ensures men seen) c.if-straight_attackers-ne0.true
-
-pub returns-then-diagonal_attackers-ne0 : goal.returns-then-diagonal_attackers-ne0
-returns-then-diagonal_attackers-ne0 c = λ men seen.
-    diagonal_reaches men c.args.colour c.args.square c.diagonal_attackers.result (rw c.index-small.ensures.value at c.index-small.ensures.small)
-    (c.diagonal_attackers.ensures men seen) c.if-diagonal_attackers-ne0.true
 
 pub returns : goal.returns
 returns c = λ men seen.

@@ -1,3 +1,4 @@
+use Rattle.std.proofs.Common.{rules}
 use Rattle.chess_rules.proofs.attacks.Attacking.{reached, reached_none}
 use Rattle.chess_rules.proofs.outward.those_reaching.Goals as goal
 
@@ -6,5 +7,4 @@ returns-then-squares-eq0 c = λ men occupied squares.
     reached_none men c.args.colour c.args.kind c.args.square c.args.squares squares c.if-squares-eq0.true
 
 pub returns : goal.returns
-returns c = λ men occupied squares.
-    reached men c.args.colour c.args.kind c.args.square c.args.squares c.comes_as.result squares (c.comes_as.ensures men occupied)
+returns c = search (rules, reached, c.comes_as.ensures)

@@ -1,41 +1,9 @@
 use Rattle.chess_rules.proofs.Basics.{arith, bit_at, refl, sym, ◌*◌, ◌+◌, ◌-◌, ◌/◌, ◌==◌, ◌∙◌, ◌≡◌}
-use Rattle.chess_rules.proofs.Chess.{per_origin, find_first}
+use Rattle.chess_rules.proofs.Chess.{per_origin, find_first, is_wanted, is_wanted-idle}
 use Rattle.chess_rules.proofs.listing_moves.Counting.{few_between, none_left, passed_all, passed_on}
 use Rattle.chess_rules.proofs.listing_moves.Sifting.{wanted_origins}
 use Rattle.chess_rules.proofs.listing_moves.Walks.{none-end, none-origin}
 use Rattle.chess_rules.proofs.sift.next_left.Goals as goal
-use Rattle.chess_rules.specs.ties.Idle.{is_wanted-idle}
-use Rattle.chess_rules.specs.ties.Sifting.{is_wanted}
-
-pub loop-from-init : goal.loop-from-init
-loop-from-init g c =
-    let rule = g.R.Rules.rule in
-    let p = c.args.board.now in
-    record {
-      board = refl;
-      same = refl;
-      low = omega arith;
-      none = record { fails = λ k lo hi. absurd (omega (arith, lo, hi)) };
-      passed = c.requires.none ∙ sym (none_left rule p c.args.start c.args.start (omega arith));
-    }
-
-pub overflow_add-passed : goal.overflow_add-passed
-overflow_add-passed g c =
-    let rule = g.R.Rules.rule in
-    let p = c.args.board.now in
-    let s = c.in-Some.from in
-    let f = find_first (λ q. bit_at c.own_origins-origins.result q == 1) (c.loop-from.number / per_origin) (64 - c.loop-from.number / per_origin) s
-    (sym c.next_bit.ensures.value ∙ c.in-Some.is) in
-    omega (
-      arith,
-      c.loop-from.invariant.passed,
-      c.count_origin.ensures.count,
-      few_between rule p c.args.start c.loop-from.number,
-      few_between rule c.next_wanted-at.new.board (per_origin * s + c.saturating_sub-begin.result) (per_origin * s + c.next_wanted-at.result),
-      c.next_wanted-at.ensures.high,
-      f.low,
-      f.high,
-    )
 
 pub returns-then-at-lt-PER_ORIGIN-clause-passed : goal.returns-then-at-lt-PER_ORIGIN-clause-passed
 returns-then-at-lt-PER_ORIGIN-clause-passed g c =

@@ -1,7 +1,6 @@
 use Rattle.chess_rules.proofs.Basics.{length, ◌-◌, ◌≡◌, ◌≤◌}
-use Rattle.chess_rules.proofs.Chess.{HaveNone, moves_between}
+use Rattle.chess_rules.proofs.Chess.{HaveNone, moves_between, is_wanted}
 use Rattle.chess_rules.proofs.sift.next_left.Given as goal
-use Rattle.chess_rules.specs.ties.Sifting.{is_wanted}
 
 -- the moves passed over so far fail the test, and are counted
 abbrev pub invariant-loop-from : goal.invariant-loop-from

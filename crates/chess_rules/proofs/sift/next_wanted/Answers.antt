@@ -1,9 +1,7 @@
-use Rattle.chess_rules.specs.ties.Places.{per_origin}
+use Rattle.chess_rules.proofs.Chess.{is_wanted, is_wanted-idle, per_origin}
 use Rattle.chess_rules.proofs.Basics.{and_left, arith, refl, sym, ◌*◌, ◌∙◌, ◌≡◌}
 use Rattle.chess_rules.proofs.listing_moves.Walks.{aimed_from, none-from, none-onward}
 use Rattle.chess_rules.proofs.sift.next_wanted.Goals as goal
-use Rattle.chess_rules.specs.ties.Idle.{is_wanted-idle}
-use Rattle.chess_rules.specs.ties.Sifting.{is_wanted}
 
 pub is_legal-requires-clause-aimed : goal.is_legal-requires-clause-aimed
 is_legal-requires-clause-aimed g c =

@@ -1,7 +1,6 @@
 use Rattle.chess_rules.proofs.Basics.{◌*◌, ◌+◌, ◌-◌, ◌<◌, ◌≡◌, ◌≤◌}
-use Rattle.chess_rules.proofs.Chess.{per_origin, HaveNone, IsNamed}
+use Rattle.chess_rules.proofs.Chess.{per_origin, HaveNone, IsNamed, is_wanted}
 use Rattle.chess_rules.proofs.sift.next_wanted.Given as goal
-use Rattle.chess_rules.specs.ties.Sifting.{is_wanted}
 
 abbrev pub invariant-loop-at : goal.invariant-loop-at
 invariant-loop-at g l = record {

@@ -8,12 +8,3 @@ returns g c =
     let mine : same_colour c.in-Some.man.colour c.args.board.now.turn ≡ true = rw c.turn.ensures at (sym c.is.ensures ∙ c.if-not-is.false) in
     arrivals_some g.R.Rules.rule c.args.board.now c.in-Some.man c.args.from c.free_squares.result c.goes_to.result (sym c.man_at.ensures ∙ c.in-Some.is) mine
     (sym c.is_paralysed.ensures ∙ c.if-is_paralysed.false) (rw c.turn-2.ensures at c.free_squares.ensures) c.goes_to.ensures
-
-pub returns-in_default : goal.returns-in_default
-returns-in_default g c = grind (arith, arrivals_nobody)
-
-pub returns-then-not-is : goal.returns-then-not-is
-returns-then-not-is g c = grind (arith, arrivals_other)
-
-pub returns-then-is_paralysed : goal.returns-then-is_paralysed
-returns-then-is_paralysed g c = grind (arith, arrivals_paralysed)

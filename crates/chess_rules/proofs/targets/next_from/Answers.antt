@@ -1,16 +1,13 @@
 use Rattle.chess_rules.proofs.Basics.{arith, bit_at, rules, sym, ◌%◌, ◌*◌, ◌+◌, ◌-◌, ◌/◌, ◌==◌, ◌∙◌, ◌≡◌}
 use Rattle.chess_rules.proofs.Chess.{find_first, per_arrival}
-use Rattle.chess_rules.proofs.listing_moves.Targeting.{from-join, from-nobody, from-none, from-target, from-unpromoted, named_at, none_named, some_named, from-first}
+use Rattle.chess_rules.proofs.listing_moves.Targeting.{from-first, from-join, from-nobody, from-none, from-target, from-unpromoted, named_at, some_named, unnamed_at}
 use Rattle.chess_rules.proofs.targets.next_from.Goals as goal
 
 pub returns-in_default-clause-barren : goal.returns-in_default-clause-barren
 returns-in_default-clause-barren c = search (rules, from-nobody)
 
 pub returns-then-at-first-clause-barren : goal.returns-then-at-first-clause-barren
-returns-then-at-first-clause-barren c =
-    from-first c.args.board.now c.in-Some.man c.args.from c.args.start c.loop-to.at c.in-Some-next_bit.to c.args.word (c.from-first.result * per_arrival)
-    (sym c.man_at.ensures ∙ c.in-Some.is) c.loop-to.invariant.barren (sym c.next_bit.ensures.value ∙ c.in-Some-next_bit.is)
-    (sym c.is_promoting.ensures ∙ c.if-is_promoting.true) (omega (arith, c.from-first.ensures, c.index.ensures.value))
+returns-then-at-first-clause-barren c = search (rules, from-first, c.loop-to.invariant.barren)
 
 pub returns-then-at-first-2-clause-barren : goal.returns-then-at-first-2-clause-barren
 returns-then-at-first-2-clause-barren c = search (rules, find_first, from-target)
@@ -42,11 +39,6 @@ returns-else-at-first-clause-named c lt = search (rules, find_first, named_at, s
 
 pub returns-then-at-first-2-clause-named : goal.returns-then-at-first-2-clause-named
 returns-then-at-first-2-clause-named c lt =
-    let t = c.in-Some-next_bit.to in
-    let first =
-    find_first (λ s. bit_at c.args.word s == 1) (c.loop-to.at / per_arrival) (64 - c.loop-to.at / per_arrival) t
-    (sym c.next_bit.ensures.value ∙ c.in-Some-next_bit.is) in
-    let at : c.from-first.result * per_arrival ≡ per_arrival * t = omega (arith, c.from-first.ensures, c.index.ensures.value) in
-    named_at c.args.board.now c.in-Some.man c.args.from t (c.from-first.result * per_arrival) c.args.word (sym c.man_at.ensures ∙ c.in-Some.is) first.here
-    (omega (arith, at))
-    (none_named (c.from-first.result * per_arrival % per_arrival) (omega (arith, at)) ∙ sym (sym c.is_promoting.ensures ∙ c.if-is_promoting.false))
+    unnamed_at c.args.board.now c.in-Some.man c.args.from _ c.in-Some-next_bit.to _ c.args.word (sym c.man_at.ensures ∙ c.in-Some.is)
+    (sym c.is_promoting.ensures ∙ c.if-is_promoting.false) (sym c.next_bit.ensures.value ∙ c.in-Some-next_bit.is)
+    (omega (arith, c.from-first.ensures, c.index.ensures.value))

@@ -7,9 +7,3 @@ lowest-requires c = has_bit _ 63 (bit_at_set_same w64 c.args.word 63 (omega arit
 
 pub highest-requires : goal.highest-requires
 highest-requires c = has_bit _ 0 (bit_at_set_same w64 c.args.word 0 (omega arith))
-
-pub returns-then-rises : goal.returns-then-rises
-returns-then-rises c = grind (arith, lowest_stop)
-
-pub returns-else-rises : goal.returns-else-rises
-returns-else-rises c = grind (arith, highest_stop)
