@@ -29,6 +29,13 @@ adjacent_are v k n near closed kings = record {
   kings = λ f small on. off_word _ v.men.kings f kings small on;
 }
 
+pub fewer_adjacent : (v : Siege) (k n w : ℕ) → AreAdjacent v k n → AreAdjacent v k (bit_and n w)
+fewer_adjacent v k n w are = record {
+  next = λ f small on. are.next f small (on_first n w f on);
+  free = λ f small on. are.free f small (on_first n w f on);
+  kings = λ f small on. are.kings f small (on_first n w f on);
+}
+
 -- the king's field
 pub field_is : (v : Siege) (k n r b : ℕ) → AreAdjacent v k n → v.hurdles < 2 ^ 64
     → ((men : List (Option Man)) → v.hurdles ≡ occupied_squares men → r ≡ word (reaches_as men White Rook k))
