@@ -43,6 +43,13 @@ no_captures v k = record {
   off = λ f s on small enemy. absurd (none_at 0 f refl on);
 }
 
+pub fewer_adjacent : (v : Siege) (k n w : ℕ) → AreAdjacent v k n → AreAdjacent v k (bit_and n w)
+fewer_adjacent v k n w are = record {
+  next = λ f small on. are.next f small (on_first n w f on);
+  free = λ f small on. are.free f small (on_first n w f on);
+  kings = λ f small on. are.kings f small (on_first n w f on);
+}
+
 -- the king's field
 pub field_is : (v : Siege) (k n c r b : ℕ) → AreAdjacent v k n → v.hurdles < 2 ^ 64
     → ((men : List (Option Man)) → v.hurdles ≡ occupied_squares men → r ≡ word (reaches_as men White Rook k))

@@ -1,11 +1,12 @@
 -- The ways of a defender to a square that isn't risky: his king goes, or another man, who may leave a line.
-use Rattle.chess_rules.proofs.Basics.{Option, agree_below_at, list_any, refl, Some, [], and_from, ap, bit_and, bit_at, bit_not, bit_or, cases_lt, cond-true, cond-false, false, false≢true, inl, inr, sym, subst, true, w64, ℕ, ◌<◌, ◌==◌, ◌^◌, ◌∙◌, ◌≡◌}
-use Rattle.chess_mates.proofs.Chess.{Colour, along, leaps, queen_steps, IsWellFormed, captures_do_more, King, Man, Move, Position, RuleSet, is_legal, is_man, is_pseudo_legal, man_on, mates_behind, may_go, other, position_after}
+use Rattle.chess_rules.proofs.Basics.{Option, and_parts, cases_Bool, agree_below_at, list_any, refl, Some, [], and_from, ap, bit_and, bit_at, bit_not, bit_or, cases_lt, cond-true, cond-false, false, false≢true, inl, inr, sym, subst, true, w64, ℕ, ◌<◌, ◌==◌, ◌^◌, ◌∙◌, ◌≡◌, ◌≢◌}
+use Rattle.chess_mates.proofs.Chess.{Colour, along, is_castling, king_after, leaps, queen_steps, IsWellFormed, captures_do_more, King, Man, Move, Position, RuleSet, is_legal, is_man, is_pseudo_legal, man_on, mates_behind, may_go, other, position_after}
 use Rattle.chess_mates.proofs.Chess.{same_colour, same_kind}
 use Rattle.std.proofs.lemmas.Nat.Bits.{bit_at_above}
 use Rattle.chess_mates.specs.ties.Attackers.{AreAttackers}
 use Rattle.chess_mates.specs.declared.attackers.Attackers.{Attackers}
-use Rattle.chess_mates.specs.ties.Siege.{AreCastlingSquares, AreClosed, IsBarred, IsSafeMove, IsSafeStep, IsSettledStep, IsSparedStep, KeepsFlight}
+use Rattle.chess_mates.specs.ties.Siege.{AreCastlingSquares, AreClosed, IsBarred, IsSafeMove, IsSafeStep, IsSettledStep, IsSparedStep, AreAdjacent, KeepsFlight, KeepsFlightBeside}
+use Rattle.chess_mates.specs.ties.LastingFlights.{KeepsOne}
 use Rattle.chess_mates.specs.ties.Threats.{AreMere, ArePlain, AreRisky, AreThreatsOf, IsMereMove, IsPlainMove, ToldThreats}
 use Rattle.chess_rules.proofs.Bits.{off_left, off_right}
 use Rattle.chess_rules.proofs.Tests.{some_is}
@@ -28,6 +29,29 @@ unfolding along leaps
 no_step_back t small = agree_below_at (λ n. list_any (leaps n n) queen_steps) (λ _. false) 64 t refl small
 
 module _ (rule : RuleSet) (p : Position) (x : Man) (v : ToldThreats) (well : IsWellFormed p) (threats : AreThreatsOf rule p v) where
+  module _ (m : Move) (may : is_pseudo_legal rule p m ≡ true) (here : man_on p.men m.from ≡ Some x) (small : m.to < 64) where
+    -- a flight that is kept next to the king's new square
+    keeps : (k near : ℕ) → captures_do_more rule ≡ false → is_castling x m ≡ false → king_after p x m ≡ Some k → AreAdjacent v.siege k near
+        → ((f : ℕ) → f < 64 → (bit_at near f == 1) ≡ true → f ≢ m.to) → KeepsOne v.siege.men near
+        → mates_behind rule (position_after rule p m) 0 ≡ []
+    keeps k near captures alone king next arrival kept =
+        let fits = threats.fits in
+        flight_behind rule p m x k near well may here captures alone small king (record {
+          next = next.next;
+          arrival = arrival;
+          own = λ f low on. false_by _ (λ own. false≢true (sym (next.free f low on) ∙ fits.closed.own f low own));
+          king = λ f low on. false_by _ (λ king. false≢true (sym (next.kings f low on) ∙ fits.kings f low king));
+        }) v.siege.men fits.men fits.colour threats.told.fairies kept
+
+    -- beside him, whoever comes elsewhere
+    man_keeps : same_kind x.kind King ≡ false → captures_do_more rule ≡ false → KeepsFlightBeside v.siege m.to
+        → mates_behind rule (position_after rule p m) 0 ≡ []
+    man_keeps mortal captures kept =
+        keeps v.siege.king kept.near captures
+        (false_by (is_castling x m) (λ castling. false≢true (sym mortal ∙ (and_parts _ _ (and_parts _ _ castling).0).0)))
+        (cond-false (same_kind x.kind King) _ _ mortal ∙ sym threats.fits.king) kept.adjacent
+        (λ f low on same. false≢true (sym kept.off ∙ (rw same at on))) kept.keeps
+
   module _ (m : Move) (may : is_pseudo_legal rule p m ≡ true) (here : man_on p.men m.from ≡ Some x) (small : m.to < 64) (from : m.from < 64)
       (plain : IsPlainMove p x m) (mere : captures_do_more rule ≡ true → IsMereMove p x m) where
     at_king : same_kind x.kind King ≡ true → v.siege.king ≡ m.from
@@ -39,7 +63,7 @@ module _ (rule : RuleSet) (p : Position) (x : Man) (v : ToldThreats) (well : IsW
 
     king_safe : same_kind x.kind King ≡ true → IsSafeStep v.siege m.to → mates_behind rule (position_after rule p m) 0 ≡ []
     king_safe king safe =
-        let siege = threats.threats.siege in
+        let siege = threats.siege in
         let same = at_king king in
         no_mate_behind rule p m x v.siege m.to safe.risk well may here small from (cond-true (same_kind x.kind King) _ _ king) (record {
           plain = plain;
@@ -53,17 +77,11 @@ module _ (rule : RuleSet) (p : Position) (x : Man) (v : ToldThreats) (well : IsW
           off_king = λ e inside on same. false≢true (sym safe.free ∙ (rw same at on));
         })
 
-    -- a step after which he keeps a flight
+    -- after his step
     king_keeps : same_kind x.kind King ≡ true → KeepsFlight rule v.siege m.to → mates_behind rule (position_after rule p m) 0 ≡ []
     king_keeps king kept =
-        let fits = threats.fits in
-        let near = kept.adjacent in
-        flight_behind rule p m x m.to kept.near well may here kept.captures plain.castling small (cond-true (same_kind x.kind King) _ _ king) (record {
-          next = near.next;
-          arrival = λ f low on same. false≢true (sym (no_step_back f low) ∙ (rw (← same) at (near.next f low on)));
-          own = λ f low on. false_by _ (λ own. false≢true (sym (near.free f low on) ∙ fits.closed.own f low own));
-          king = λ f low on. false_by _ (λ king. false≢true (sym (near.kings f low on) ∙ fits.kings f low king));
-        }) v.siege.men fits.men fits.colour threats.told.fairies kept.keeps
+        keeps m may here small m.to kept.near kept.captures plain.castling (cond-true (same_kind x.kind King) _ _ king) kept.adjacent
+        (λ f low on same. false≢true (sym (no_step_back f low) ∙ (rw (← same) at (kept.adjacent.next f low on)))) kept.keeps
 
     king_spared : same_kind x.kind King ≡ true → IsSparedStep rule v.siege m.to → mates_behind rule (position_after rule p m) 0 ≡ []
     king_spared king spared = elim spared [ inl safe ↦ king_safe king safe | inr kept ↦ king_keeps king kept ]
@@ -71,8 +89,7 @@ module _ (rule : RuleSet) (p : Position) (x : Man) (v : ToldThreats) (well : IsW
     -- a step to a square that an attacker reaches isn't legal
     king_barred : same_kind x.kind King ≡ true → IsBarred rule v.siege m.to → is_legal rule p m ≡ true → ⊥
     king_barred king barred =
-        let t = threats.threats in
-        barred_is_illegal rule p m x v.siege well may here small plain mere king (at_king king) t.siege t.whole threats.fits barred
+        barred_is_illegal rule p m x v.siege well may here small plain mere king (at_king king) threats.siege threats.whole threats.fits barred
 
     man_spared : same_kind x.kind King ≡ false → IsSafeMove v.siege m.from m.to → mates_behind rule (position_after rule p m) 0 ≡ []
     man_spared mortal safe =
@@ -100,22 +117,36 @@ module _ (rule : RuleSet) (p : Position) (x : Man) (v : ToldThreats) (well : IsW
           off_king = λ e inside on same. (l.siege.hurdles.men e inside on).1 (l.king ∙ sym same);
         })
 
+  inside : (w t : ℕ) → w < 2 ^ 64 → (bit_at w t == 1) ≡ true → t < 64
+  inside w t fits on = elim (cases_lt t 64) [
+    | inl small ↦ small
+    | inr high ↦ absurd (let none = bit_at_above w 64 t fits high in cc)
+  ]
+
+  -- of the squares of w those of l, if off them the king keeps a flight beside the man
+  pub unkept_are_risky : (s w l r : ℕ) → man_on p.men s ≡ Some x → w < 2 ^ 64 → same_kind x.kind King ≡ false
+      → ((t : ℕ) → t < 64 → (bit_at w t == 1) ≡ true → (bit_at l t == 1) ≡ false → (captures_do_more rule ≡ false) × KeepsFlightBeside v.siege t)
+      → AreRisky rule p s l r → AreRisky rule p s w r
+  unkept_are_risky s w l r here fits mortal keeps are = record {
+    settled = λ m legal origin on off. elim (cases_Bool (bit_at l m.to == 1)) [
+      | inl left ↦ are.settled m legal origin left off
+      | inr gone ↦
+          let small = inside w m.to fits on in
+          let kept = keeps m.to small on gone in
+          man_keeps m (is_pseudo_legal-from_legal rule p m legal) (ap (man_on p.men) origin ∙ here) small mortal kept.0 kept.1
+    ];
+  }
+
   -- of the squares of w those of u, where moves aren't plain, and of r
   module _ (s w u r : ℕ) (here : man_on p.men s ≡ Some x) (from : s < 64) (fits : w < 2 ^ 64) (plain : ArePlain p x s u)
       (mere : captures_do_more rule ≡ true → AreMere p x s u) where
-    inside : (t : ℕ) → (bit_at w t == 1) ≡ true → t < 64
-    inside t on = elim (cases_lt t 64) [
-      | inl small ↦ small
-      | inr high ↦ absurd (let none = bit_at_above w 64 t fits high in cc)
-    ]
-
     -- by what spares a move off them
     risky_by : ((m : Move) → is_legal rule p m ≡ true → is_pseudo_legal rule p m ≡ true → m.from ≡ s → m.to < 64 → (bit_at w m.to == 1) ≡ true
         → (bit_at u m.to == 1) ≡ false → (bit_at r m.to == 1) ≡ false → IsPlainMove p x m → (captures_do_more rule ≡ true → IsMereMove p x m)
         → mates_behind rule (position_after rule p m) 0 ≡ []) → AreRisky rule p s w (bit_and w (bit_or u r))
     risky_by spares = record {
       settled = λ m legal origin on off.
-          let small = inside m.to on in
+          let small = inside w m.to fits on in
           let may = is_pseudo_legal-from_legal rule p m legal in
           let both : (bit_at (bit_or u r) m.to == 1) ≡ false = off_second w (bit_or u r) m.to off on in
           let goes : may_go p x s m.to ≡ true = ap (λ (n : ℕ). may_go p x n m.to) (sym origin)

@@ -11,12 +11,12 @@ ghost use Rattle.chess_core.specs.declared.man.Man.{Man};
 ghost use Rattle.chess_mates.specs.declared.siege.Siege.{Siege};
 ghost use Rattle.chess_mates.specs.ties.Attackers.{IsAttacker};
 ghost use Rattle.chess_mates.specs.ties.LastingFlights.{IsLeft};
-ghost use Rattle.chess_mates.specs.ties.Siege.{AreAdjacent, AreArrivals, AreCastlingSquares, AreGuardsWithout, AreHurdles, AreReached, AreThreats, AreWeak, IsAttackedOver, IsCastlingHarmless, IsCheckWord, IsField, IsHarmless, IsHurdle, IsLifted, IsMet, IsNear, IsNoCheck, IsOff, IsReached, IsReachedFrom, IsRiskAt, IsRiskBehind, IsSafeMove, IsSiege, IsSiegeOf, IsWeak, IsWhole, LeavesOne, is_leaper, is_rider, reached_over, AreCaptureSquares};
+ghost use Rattle.chess_mates.specs.ties.Siege.{AreAdjacent, AreArrivals, AreCastlingSquares, AreGuardsWithout, AreHurdles, AreNeeded, AreReached, AreThreats, AreWeak, IsAttackedOver, IsCastlingHarmless, IsCheckWord, IsField, IsHarmless, IsHurdle, IsLifted, IsMet, IsNear, IsNoCheck, IsOff, IsReached, IsReachedFrom, IsRiskAt, IsRiskBehind, IsSafeMove, IsSiege, IsSiegeOf, IsWeak, IsWhole, LeavesOne, is_leaper, is_rider, reached_over, AreCaptureSquares};
 ghost use Rattle.chess_rules.specs.ties.Targets.{is_promoting};
 
 use crate::attackers::{Attackers, attackers_on};
 use crate::homes::closed_squares;
-use crate::lasting_flights::open_reach;
+use crate::lasting_flights::{guarded_squares, keeps_one, open_reach};
 use crate::open_board::{open_targets, pawns_before};
 use chess_core::board::Board;
 use chess_core::man::{Colour, Kind, Man};
@@ -566,6 +566,25 @@ fn hurdles_of(own: Squares, enemies: Squares, king: Square, lifted: Option<Squar
     (own | enemies) & !only(Some(king)) & !only(lifted)
 }
 
+// Against more attackers than these a king seldom keeps a flight whatever is played.
+const MOST_ATTACKERS: u32 = 7;
+
+// The squares to which no other man may come lest the king, who stays, keeps no flight whatever is played: those that no
+// attacker reaches, were all others gone, if they can't all be taken with one move. Where captures do more it isn't asked.
+pub(crate) fn needed_squares<R: Rules>(siege: &Siege) -> Squares
+    ensures { AreNeeded siege.now result }
+{
+    if R::captures_do_more() || siege.enemies.count_ones() > MOST_ATTACKERS {
+        return !0;
+    }
+    let guarded = guarded_squares(&siege.men);
+    let flights = adjacent_squares(siege, siege.king) & !guarded;
+    if !keeps_one(&siege.men, guarded, flights) {
+        return !0;
+    }
+    flights
+}
+
 // The siege by the board's men of the king of the side to move, who stands on the square.
 pub(crate) fn siege_of<R: Rules>(board: &Board, king: Square) -> Siege
     ensures siege { IsSiege result }
@@ -623,7 +642,7 @@ pub(crate) fn is_of<R: Rules>(siege: &Siege, board: &Board) -> bool
 }
 
 // The risk of the siege's own king. On the lines of all riders hurdles count too.
-pub(crate) fn risk_of_siege(siege: &Siege) -> Risk
+fn risk_of_siege(siege: &Siege) -> Risk
     requires siege { IsSiege siege.now }
     requires whole { IsWhole siege.now }
     ensures { AreThreats siege.now result }
@@ -633,6 +652,23 @@ pub(crate) fn risk_of_siege(siege: &Siege) -> Risk
         critical: risk.critical,
         lines: risk.lines | ridden_squares(siege.hurdles, &siege.men, !0),
     }
+}
+
+// The same, as kept once it has been told.
+#[inline(always)]
+pub(crate) fn kept_risk(siege: &Siege, kept: &mut Option<Risk>) -> Risk
+    requires siege { IsSiege siege.now }
+    requires whole { IsWhole siege.now }
+    requires kept { IfSome kept.old (λ r. AreThreats siege.now r) }
+    ensures threats { AreThreats siege.now result }
+    ensures kept { IfSome kept.new (λ r. AreThreats siege.now r) }
+{
+    if let Some(risk) = *kept {
+        return risk;
+    }
+    let risk = risk_of_siege(siege);
+    *kept = Some(risk);
+    risk
 }
 
 // That of a defender who leaves a line on which he is a hurdle.

@@ -1,10 +1,12 @@
 //! Threats of mate, told before the defender's move: the squares that his men mustn't come to lest a reply may mate.
-ghost use Rattle.std.specs.Prelude.{◌≡◌, ◌<◌, ◌==◌, [], Some, true, false};
+ghost use Rattle.std.specs.Prelude.{◌≡◌, ◌<◌, ◌==◌, [], ℕ, IfSome, Some, true, false};
 ghost use Rattle.std.specs.Int.{bit_at};
 ghost use Rattle.chess_core.specs.Position.{king_square};
 ghost use Rattle.chess_core.specs.WellFormed.{IsWellFormed};
 ghost use Rattle.chess_core.specs.declared.man.Move.{Move};
 ghost use Rattle.chess_mates.specs.ties.Mates.{mates_behind};
+ghost use Rattle.chess_mates.specs.declared.siege.Siege.{Siege};
+ghost use Rattle.chess_mates.specs.ties.Siege.{AreThreats, IsRiskBehind, IsSafeMove, IsSiege, IsWhole};
 ghost use Rattle.chess_mates.specs.ties.Threats.{AreMere, ArePlain, AreRisky, AreThreatsOf, IsPassing, IsTold};
 ghost use Rattle.chess_rules.specs.Legal.{is_legal};
 ghost use Rattle.chess_rules.specs.Play.{position_after};
@@ -14,7 +16,7 @@ ghost use Rattle.chess_rules.specs.ties.Targets.{may_go};
 use crate::attackers::has_no_fairy;
 use crate::open_board::capturers_before;
 use crate::siege::{
-    LAST_RANKS, Risk, RiskBehind, Siege, critical_from, is_of, risk_of_siege, siege_of,
+    LAST_RANKS, Risk, RiskBehind, Siege, critical_from, is_of, kept_risk, needed_squares, siege_of,
 };
 use crate::steps::{ToldSteps, kept_risky_steps};
 use chess_core::board::Board;
@@ -93,12 +95,52 @@ fn can_be_told<R: Rules>(board: &Board) -> bool
         && has_no_fairy(board, board.turn().other())
 }
 
+// Those of the squares that are needed; where captures do more all.
+fn unkept_squares<R: Rules>(needed: Squares, squares: Squares) -> Squares
+    ensures { (t : ℕ) → t < 64 → (bit_at squares t == 1) ≡ true → (bit_at result t == 1) ≡ false
+        → (captures_do_more R.rule ≡ false) × ((bit_at needed t == 1) ≡ false) }
+{
+    if R::captures_do_more() {
+        return squares;
+    }
+    squares & needed
+}
+
+// Those of the squares that the man on `from`, who isn't the king, mustn't come to, and perhaps more. The siege's risk is
+// told only where there are squares.
+#[inline(always)]
+fn critical_of(
+    siege: &Siege,
+    risk: &mut Option<Risk>,
+    behind: &mut Option<RiskBehind>,
+    from: Square,
+    squares: Squares,
+) -> Squares
+    requires siege { IsSiege siege.now }
+    requires whole { IsWhole siege.now }
+    requires risk { IfSome risk.old (λ r. AreThreats siege.now r) }
+    requires behind { IfSome behind.old (λ b. IsRiskBehind siege.now b.from b.risk) }
+    ensures safe { (t : ℕ) → (bit_at squares t == 1) ≡ true → (bit_at result t == 1) ≡ false
+        → IsSafeMove siege.now from t }
+    ensures risk { IfSome risk.new (λ r. AreThreats siege.now r) }
+    ensures behind { IfSome behind.new (λ b. IsRiskBehind siege.now b.from b.risk) }
+{
+    if squares == 0 {
+        return 0;
+    }
+    let told = kept_risk(siege, risk);
+    critical_from(siege, &told, behind, from, squares)
+}
+
 /// What the side that isn't to move threatens, told once a position: to which squares the other side's men mustn't come
 /// lest a reply may mate.
 #[derive(Drop)]
 pub struct Threats {
     siege: Siege,
-    risk: Risk,
+    // Those to which another man than the king mustn't come, where captures do no more, lest the king keeps no flight.
+    needed: Squares,
+    // Told when it is first asked for.
+    risk: Option<Risk>,
     // Of the last man who left a line.
     behind: Option<RiskBehind>,
     // Of the last steps that were asked for.
@@ -107,14 +149,16 @@ pub struct Threats {
 
 impl Model for Threats {
     ghost use Rattle.std.specs.Prelude.{IfSome};
-    ghost use Rattle.chess_mates.specs.ties.Siege.{AreThreats, AreToldSteps, IsRiskBehind};
+    ghost use Rattle.chess_mates.specs.ties.Siege.{AreNeeded, AreThreats, AreToldSteps, IsRiskBehind, IsSiege, IsWhole};
     ghost use Rattle.chess_mates.specs.ties.Threats.{ToldThreats};
 
     ghost Value = { ToldThreats };
 
-    ghost view = { λ t. record { siege = t.siege; risk = t.risk } };
+    ghost view = { λ t. record { siege = t.siege } };
 
-    ghost invariant = { λ t. AreThreats t.siege t.risk
+    ghost invariant = { λ t. IsSiege t.siege × IsWhole t.siege
+        × AreNeeded t.siege t.needed
+        × IfSome t.risk (λ r. AreThreats t.siege r)
         × IfSome t.behind (λ b. IsRiskBehind t.siege b.from b.risk)
         × AreToldSteps t.siege t.steps };
 }
@@ -128,8 +172,9 @@ impl Threats {
     {
         let siege = siege_of::<R>(board, king);
         Threats {
-            risk: risk_of_siege(&siege),
+            needed: needed_squares::<R>(&siege),
             siege,
+            risk: None,
             behind: None,
             steps: ToldSteps::none(),
         }
@@ -155,7 +200,8 @@ impl Threats {
 
     /// Those of the squares that the man on `from` mustn't come to by a legal move lest a reply may mate. So he mustn't where
     /// kings castle or capture, where a pawn captures en passant or might be captured so, and in Circe where anybody captures
-    /// or is promoted. What is told for the question is kept for the next ones.
+    /// or is promoted; but he may where, except in Circe, the king keeps a flight whatever is played. What is told for the
+    /// question is kept for the next ones.
     pub fn risky_squares<R: Rules>(
         &mut self,
         board: &Board,
@@ -178,9 +224,10 @@ impl Threats {
             let risky = kept_risky_steps::<R>(&self.siege, &mut self.steps, steps);
             return squares & (unplain | risky);
         }
-        let others = squares & !unplain;
-        let critical = critical_from(&self.siege, &self.risk, &mut self.behind, from, others);
-        squares & (unplain | critical)
+        let left = unkept_squares::<R>(self.needed, squares);
+        let others = left & !unplain;
+        let critical = critical_of(&self.siege, &mut self.risk, &mut self.behind, from, others);
+        left & (unplain | critical)
     }
 
     /// Whether the move doesn't come to such a square, so that no reply mates. `false` says nothing.

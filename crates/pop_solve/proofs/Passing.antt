@@ -1,5 +1,5 @@
 -- Moves that are passed over since no reply to them mates.
-use Rattle.pop_solve.proofs.Words.{List, AreSettled, IfSome, IsNextUnsettled, IsSifted, IsWellFormed, MatchOption, Move, None, Option, Passes, Position, RuleSet, Some, [], allows_mate, append-nil, append_assoc, arith, filter, from_map, is_legal, is_pseudo_legal-from_legal, length, min, moves_behind, moves_behind-end, moves_behind-here, place_of_triple, range_with_len, refl, sym, true, ℕ, ◌+◌, ◌-◌, ◌<◌, ◌^◌, ◌∙◌, ◌∷◌, ◌≡◌}
+use Rattle.pop_solve.proofs.Words.{List, AreSettled, IfSome, IsNextUnsettled, IsSifted, IsWellFormed, MatchOption, Move, None, Option, Passes, Position, RuleSet, Some, [], allows_mate, append-nil, append_assoc, arith, filter, from_map, is_legal, is_pseudo_legal-from_legal, length, min, moves_behind, moves_behind-end, moves_behind-here, place_of_triple, range_with_len, refl, sym, true, ℕ, ◌+◌, ◌-◌, ◌<◌, ◌^◌, ◌∙◌, ◌∷◌, ◌≡◌, rules}
 use Rattle.chess_rules.proofs.listing_moves.Between.{behind_cut}
 use Rattle.chess_rules.proofs.listing_moves.Members.{from_range}
 use Rattle.chess_rules.proofs.listing_moves.Places.{triples_numbered}

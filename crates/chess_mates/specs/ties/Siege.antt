@@ -358,6 +358,17 @@ pub record KeepsFlight (rule : RuleSet) (v : Siege) (t : ℕ) : Type 0 where
   pub adjacent : AreAdjacent v t near
   pub keeps : KeepsOne v.men near
 
+-- another man may come to t, where captures do no more: the king keeps a flight there, whatever is played then
+pub record KeepsFlightBeside (v : Siege) (t : ℕ) : Type 0 where
+  pub near : ℕ
+  pub adjacent : AreAdjacent v v.king near
+  pub off : (bit_at near t == 1) ≡ false
+  pub keeps : KeepsOne v.men near
+
+-- so it is for each square but those of the word
+pub record AreNeeded (v : Siege) (w : ℕ) : Type 0 where
+  pub keeps : (t : ℕ) → t < 64 → (bit_at w t == 1) ≡ false → KeepsFlightBeside v t
+
 -- no reply mates after the king's step to t
 abbrev pub IsSparedStep : RuleSet → Siege → ℕ → Type 0
 IsSparedStep rule v t = IsSafeStep v t ⊎ KeepsFlight rule v t

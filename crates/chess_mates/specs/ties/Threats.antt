@@ -8,11 +8,10 @@ use Rattle.chess_core.specs.declared.man.Colour.{Colour}
 use Rattle.chess_core.specs.declared.man.Kind.TheVariants.{Pawn}
 use Rattle.chess_core.specs.declared.man.Man.{Man}
 use Rattle.chess_core.specs.declared.man.Move.{Move}
-use Rattle.chess_mates.specs.declared.siege.Risk.{Risk}
 use Rattle.chess_mates.specs.declared.siege.Siege.{Siege}
 use Rattle.chess_mates.specs.ties.Attackers.{HasNoFairy}
 use Rattle.chess_mates.specs.ties.Mates.{mates_behind}
-use Rattle.chess_mates.specs.ties.Siege.{AreThreats, IsSiegeOf}
+use Rattle.chess_mates.specs.ties.Siege.{IsSiege, IsSiegeOf, IsWhole}
 use Rattle.chess_core.specs.Steps.{pawn_capture_steps}
 use Rattle.chess_rules.specs.Reaches.{leaps}
 use Rattle.chess_rules.specs.Legal.{is_legal}
@@ -25,16 +24,16 @@ pub record IsTold (rule : RuleSet) (p : Position) : Type 0 where
   pub captures : captures_do_more rule ≡ true → captures_are_reborn rule ≡ true
   pub fairies : HasNoFairy p.men (other p.turn)
 
--- what is told: a siege, and the risk of its king
+-- what is told of: a siege
 pub record ToldThreats : Type 0 where
   pub siege : Siege
-  pub risk : Risk
 
--- it is told of this position
+-- it is that of this position
 pub record AreThreatsOf (rule : RuleSet) (p : Position) (t : ToldThreats) : Type 0 where
   pub told : IsTold rule p
   pub fits : IsSiegeOf rule p t.siege
-  pub threats : AreThreats t.siege t.risk
+  pub siege : IsSiege t.siege
+  pub whole : IsWhole t.siege
 
 -- the word has each square from which a pawn of colour c captures on one of the targets
 pub record AreCapturers (c : Colour) (targets w : ℕ) : Type 0 where

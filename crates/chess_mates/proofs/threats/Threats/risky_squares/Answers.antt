@@ -1,8 +1,8 @@
-use Rattle.chess_rules.proofs.Basics.{Some, ap, arith, sym, ◌∙◌, ◌≡◌}
+use Rattle.chess_rules.proofs.Basics.{Some, ap, arith, sym, ◌<◌, ◌∙◌, ◌≡◌}
 use Rattle.chess_rules.proofs.listing_moves.Calls.{is_pseudo_legal-from_legal}
 use Rattle.chess_rules.proofs.making_moves.Stays.{maker}
 use Rattle.chess_mates.proofs.Chess.{man_on}
-use Rattle.chess_mates.proofs.Ways.{moves_are_risky, steps_are_risky}
+use Rattle.chess_mates.proofs.Ways.{moves_are_risky, steps_are_risky, unkept_are_risky}
 use Rattle.chess_mates.specs.ties.Threats.{ToldThreats}
 use Rattle.chess_mates.proofs.threats.Threats.risky_squares.Goals as goal
 
@@ -31,6 +31,11 @@ returns-clause-risky g c =
     let v = c.args.self.now in
     let siege = ap (λ (t : ToldThreats). t.siege) c.self.view_is in
     let here : man_on p.men c.args.from ≡ Some c.in-Some.man = sym c.man_at.ensures ∙ c.in-Some.is in
-    moves_are_risky g.R.Rules.rule p c.in-Some.man v c.requires.well_formed c.requires.threats c.args.from c.args.squares c.unplain_squares-unplain.result
-    c.critical_from-critical.result here (omega (arith, c.index-small.ensures.value, c.index-small.ensures.small)) (omega arith)
-    c.unplain_squares-unplain.ensures.plain c.unplain_squares-unplain.ensures.mere (omega arith) (sym c.is.ensures ∙ c.if-is.false) (rw siege at c.critical_from-critical.ensures.safe)
+    let small : c.args.from < 64 = omega (arith, c.index-small.ensures.value, c.index-small.ensures.small) in
+    let mortal = sym c.is.ensures ∙ c.if-is.false in
+    unkept_are_risky g.R.Rules.rule p c.in-Some.man v c.requires.well_formed c.requires.threats c.args.from c.args.squares c.unkept_squares-left.result _
+    here (omega arith) mortal (λ t low on off. let unkept = c.unkept_squares-left.ensures t low on off in
+    (unkept.0, (rw siege at c.self.invariant.2).keeps t low unkept.1))
+    (moves_are_risky g.R.Rules.rule p c.in-Some.man v c.requires.well_formed c.requires.threats c.args.from c.unkept_squares-left.result
+    c.unplain_squares-unplain.result c.critical_of-critical.result here small (omega arith) c.unplain_squares-unplain.ensures.plain
+    c.unplain_squares-unplain.ensures.mere (omega arith) mortal (rw siege at c.critical_of-critical.ensures.safe))
