@@ -1,8 +1,9 @@
 -- What a call gives.
-use Rattle.pop_solve.proofs.Words.{AreKnown, ArrayVec, BareEvent, Barred, Before, Behind, Event, Frame, Gives, IsGiven, IsLinked, IsRoomy, IsSound, IsStanding, IsWalking, IsWellFormed, Line, List, MatchOption, Node, None, Option, Phase, Play, Posed, Position, RuleSet, Set, Shown, Stage, StandsOn, Total, Walks, Within, [], append_assoc, arith, begins_solution, cond, drop, eqb, event_of, events, events_from, false, flat_map, half_moves, is_barred, phase_count, Walk, walk_of, is_help_play, Bool, ap, ◌<◌}
+use Rattle.pop_solve.proofs.Words.{AreKnown, ArrayVec, BareEvent, Barred, Before, Behind, Event, Frame, Gives, IsGiven, IsLinked, IsRoomy, IsSound, IsStanding, IsWalking, IsWellFormed, Line, List, MatchOption, Node, None, Option, Phase, Play, Posed, Position, RuleSet, Set, Shown, Stage, StandsOn, Total, Walks, Within, [], append_assoc, arith, begins_solution, cond, drop, eqb, event_of, events, events_from, false, flat_map, half_moves, is_barred, phase_count, Walk, walk_of, is_help_play, Bool, ap, ◌<◌, ◌∙◌}
 use Rattle.pop_solve.proofs.Words.{beginning_count, is_help, is_set, is_some, kept_paths, left_of, length, length-reverse, min, nat_tests, opening, option_map, path, path_event, phase_events, phase_half, phase_half_moves, phase_paths, phase_start, plan_of, play_start, position, refl, reverse, rules, moves_shown, last_shown, slice_get, solutions, suc, take, total, true, zero, ℕ, ◌+◌, ◌-◌, ◌^◌, ◌||◌, ◌∷◌, ◌≡◌, ◌≤◌}
 use Rattle.pop_solve.proofs.Sound.{helps-form, in_range}
 use Rattle.pop_solve.proofs.Paths.{path-length, path_end-path}
+use Rattle.std.proofs.lemmas.List.{drop-drop}
 
 -- the event of a line
 pub line-event : (problem : Posed) (phase : Phase) (frames : List Frame) (half : ℕ) (moves : ArrayVec Shown) → is_help problem.stipulation.form ≡ true
@@ -49,13 +50,6 @@ module _ (problem : Posed) (walk : Walk) (is : walk ≡ walk_of problem walk.pha
       → Walks rule walk.plan (is_help_play walk.plan.play) walk.half_moves p limit old new board given
       → Walks rule (plan_of problem) (is_help problem.stipulation.form) (phase_half_moves problem walk.phase) p limit old new board given
   walks-are rule p limit old new board given w = search (rules, plan-is, half_moves-are, helps-form)
-
--- a path is given: the events to come lose their first
-module _ (rule : RuleSet) (problem : Posed) (walk : Walk) (count : ℕ) (old new : List Frame) (board : Position) (most : count ≤ problem.max_solutions)
-    (w : Walks rule (plan_of problem) (is_help problem.stipulation.form) (phase_half_moves problem walk.phase) (phase_start problem walk.phase)
-    (problem.max_solutions - count) old new board true) where
-  abbrev more : ℕ
-  more = cond (begins_solution (is_help problem.stipulation.form) (path new)) 1 0
 
 -- none is given: the total is left
 pub left-ended : (rule : RuleSet) (problem : Posed) (walk : Walk) (count : ℕ) (old new : List Frame) (board : Position)
@@ -151,10 +145,8 @@ unfolding IsStanding
 depth-most rule problem stage frames board s = search (rules, length-reverse, room-length)
 
 -- the events still to come after a call
-drop-next : {A : Type 0} (k : ℕ) (xs : List A) (y : A) (ys : List A) → y ∷ ys ≡ drop k xs → ys ≡ drop (suc k) xs
-drop-next zero xs y ys e = grind arith
-drop-next (suc k) [] y ys e = absurd cc
-drop-next (suc k) (x ∷ xs) y ys e = drop-next k xs y ys e
+drop-next : {A : Type 0} (k : ℕ) (xs : List A) (y : A) (ys : List A) → y ∷ ys ≡ drop k xs → ys ≡ drop (k + 1) xs
+drop-next k xs y ys e = ap (drop 1) e ∙ drop-drop 1 k xs
 
 -- an event that is given is counted
 pub given-event : (rule : RuleSet) (problem : Posed) (event : Option Event) (old new : List BareEvent) (board : Position) (depth given given2 : ℕ)

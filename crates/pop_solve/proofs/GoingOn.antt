@@ -32,17 +32,17 @@ module _ {P M : Type 0} (game : Game P M) where
   walk_length-most play variation t q = search (rules, length_most)
 
 module _ {P M : Type 0} (game : Game P M) where
-  -- a line goes on with no half-move only where none is left or the goal is reached
-  least_length_from-some : (battle : Battle) (q : P) (n a : ℕ) → 0 < a → 0 < least_length_from battle game q n a
+  -- nor less than the first that is tried
+  pub least_length_from-least : (battle : Battle) (q : P) (n a : ℕ) → a ≤ least_length_from battle game q n a
   unfolding least_length_from
-  least_length_from-some battle q zero a some = some
-  least_length_from-some battle q (suc n) a some = search (rules, least_length_from-some battle q n)
+  least_length_from-least battle q zero a = search rules
+  least_length_from-least battle q (suc n) a = search (rules, least_length_from-least battle q n (a + 2))
 
   -- where a variation ends that is followed, the goal is reached
   pub ended-reached : (play : PlayOfSides) (variation root : Bool) (t : ℕ) (q : P) → is_followed play game root t q ≡ true
       → ends_variation play variation (walk_length play variation game t q) ≡ true → game.goal q ≡ true
   unfolding is_followed value walk_length shown_length
-  ended-reached play variation root t q f e = search (rules, nat_tests, least_length_from-some)
+  ended-reached play variation root t q f e = search (rules, nat_tests, least_length_from-least)
 
 -- in a battle each path is given
 pub given-battle : {P M : Type 0} (plan : Plan) (game : Game P M) (battle : Battle) (t : ℕ) (q : P) → plan.play ≡ BattlePlay battle

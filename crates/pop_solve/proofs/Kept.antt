@@ -47,11 +47,6 @@ module _ {P M : Type 0} (plan : Plan) (game : Game P M) (battle : Battle) (fough
   full-battle root (suc k) (suc t) p [] = search rules
   full-battle root (suc k) (suc t) p (m ∷ ms) = search (rules, given-battle plan game battle, full-battle root (suc k) (suc t) p ms)
 
-one_frame : (frames : List Frame) → eqb (length frames) 1 ≡ true → (f : Frame) × (frames ≡ f ∷ [])
-one_frame [] e = absurd (grind (arith, nat_tests))
-one_frame (f ∷ []) e = (f, refl)
-one_frame (f ∷ (g ∷ below)) e = absurd (grind (arith, nat_tests))
-
 module _ (rule : RuleSet) (plan : Plan) (h : ℕ) (p : Position) where
   -- the paths to come from the root alone
   pub to_come-root : (f : Frame) → to_come rule plan h p (f ∷ []) ≡ shown_paths plan (chess plan.goal rule) true (h - 0) f.left p (moves_behind rule p f.place)
@@ -62,8 +57,9 @@ module _ (rule : RuleSet) (plan : Plan) (h : ℕ) (p : Position) where
   full : (play : PlayOfSides) → plan.play ≡ play → (frames : List Frame) → (is_help_play play || eqb (length frames) 1) ≡ true
       → (kept_paths (is_help_play play) 0 (to_come rule plan h p frames) ≡ []) × (beginning_count (is_help_play play) 0 (to_come rule plan h p frames) ≡ 0)
   full HelpPlay same frames e = full-help _
-  full (BattlePlay battle) same frames e =
-      let one = one_frame frames e in rw (one.1, to_come-root one.0) (full-battle plan (chess plan.goal rule) battle same _ _ _ _ _)
+  full (BattlePlay battle) same [] e = absurd (grind (arith, nat_tests))
+  full (BattlePlay battle) same (f ∷ []) e = rw (to_come-root f) (full-battle plan (chess plan.goal rule) battle same _ _ _ _ _)
+  full (BattlePlay battle) same (f ∷ (g ∷ below)) e = absurd (grind (arith, nat_tests))
 
   none : (frames : List Frame) → length frames ≡ 0 → to_come rule plan h p frames ≡ []
   unfolding to_come

@@ -146,10 +146,6 @@ module _ {P M : Type 0} (battle : Battle) (game : Game P M) (n : ℕ) where
   abbrev pub set_moves : P → List M
   set_moves p = filter (λ d. is_in_set_play battle game n (game.after p d)) (game.moves p)
 
-  -- the answers of set play without variations
-  abbrev single_answers : P → List (List M)
-  single_answers r = cond (game.goal r) [] (map (λ m. m ∷ []) (best_moves battle game n r))
-
   -- what stands below the first moves of a play and of set play
   module _ (variation : Bool) where
     -- what stands below a key
@@ -158,7 +154,8 @@ module _ {P M : Type 0} (battle : Battle) (game : Game P M) (n : ℕ) where
 
     -- what stands below a first move of set play
     unfoldable pub below_set : ℕ → P → M → List (List M)
-    below_set h p d = cond variation (continuations battle game n h (game.after p d)) (single_answers (game.after p d))
+    below_set h p d = cond variation (continuations battle game n h (game.after p d))
+        (cond (game.goal (game.after p d)) [] (map (λ m. m ∷ []) (best_moves battle game n (game.after p d))))
 
     -- all paths of a play and of set play
     pub tree_paths : (h : ℕ) (p : P) → flat_map (λ s. s) (tree battle game variation n h p) ≡ flat_map (λ m. node m (below_key h p m)) (kept p)

@@ -33,17 +33,10 @@ white-starts : (form : Form) (n : ℕ) (battle : Battle) → play_of form ≡ Ba
     → seeks battle (half_moves_of form n) ≡ true
 white-starts form n battle e some = search rules
 
-whites-root : (battle : Battle) (f : Frame) → seeks battle f.left ≡ true → are_whites battle (f ∷ []) ≡ true
-unfolding are_whites
-whites-root battle f e = search rules
-
 module _ (rule : RuleSet) (problem : Posed) where
   -- the frames of the phases behind one
   abbrev later : Phase → ℕ
   later phase = cond (is_set phase) (phase_walk rule problem Play) 0
-
-  abbrev later_fewest : Phase → ℕ
-  later_fewest phase = cond (is_set phase) (phase_fewest rule problem Play) 0
 
   -- a phase begins: its root is opened
   module _ (sound : IsSound problem) (phase : Phase) (f : Frame) (left_is : f.left ≡ phase_half_moves problem phase) (place_is : f.place ≡ 0)
@@ -57,8 +50,9 @@ module _ (rule : RuleSet) (problem : Posed) where
 
     narrow-begun : (play_of problem.stipulation.form ≡ HelpPlay) ⊎ IsKeys problem phase
         → (play_of problem.stipulation.form ≡ HelpPlay) ⊎ ((keys : IsKeys problem phase) × (are_whites keys.battle (f ∷ []) ≡ true))
+    unfolding are_whites
     narrow-begun (inl help) = inl help
-    narrow-begun (inr keys) = inr (keys, search (rules, whites-root, white-starts, some_way))
+    narrow-begun (inr keys) = inr (keys, search (rules, white-starts, some_way))
 
     -- the root of a phase is counted
     pub opens-begun : (old : List Frame) (count count2 : ℕ) (left : List BareEvent) → (0 < f.left → count2 ≡ min (count + 1) (2 ^ 64 - 1))

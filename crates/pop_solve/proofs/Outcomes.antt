@@ -131,11 +131,9 @@ module _ (rule : RuleSet) (plan : Plan) (h : ℕ) (p : Position) (f : Frame) (be
               (ended-reached (chess plan.goal rule) plan.play (has_variations plan.tree) (eqb (length below) 0) t (position_after rule board m) b e);
           falls = turns-enter rule plan h p f next m below _ t fuel left here u tried;
           opens = grind (arith, whites-none, walk_length-keys, whites-top, whites-moved, walk_behind-none, after_here, counted_by);
-          tries = record {
-            grows = omega (arith, x.tries);
-            fewest = λ battle fought. rw after_here
-                (omega (arith, rw after_here at x.tries, tries-enter rule plan h p f next m below _ t fuel left here u (rw (← after_here) b)));
-          };
+          tries =
+              let more = tries-enter rule plan h p f next m below _ t fuel left here u (rw (← after_here) b) in
+              record { grows = omega (arith, x.tries); fewest = search (rules, after_here, x.tries, more) };
         }
 
 -- a frame is closed once moves that have no paths have been passed over

@@ -149,19 +149,6 @@ module _ (rule : RuleSet) (p : Position) where
   unfolding IsLinked position
   came_from f below board l at deep = search rules
 
-  testing-settled : (f : Frame) (next : ℕ) (s : Stretch) (kn : Option LegalPlace) (below : List Frame) (board : Position)
-      → IsTesting rule p (f ∷ below) board → IfSome kn (IsPlaceIn rule board) → IsTesting rule p (passed f next s kn ∷ below) board
-  unfolding IsLinked IsDescending AreKnown position
-  testing-settled f next s kn below board r w = search rules
-
-  testing-open : (f : Frame) (next : ℕ) (s : Stretch) (m : Move) (k : Order) (t : ℕ) (kn kq : Option LegalPlace) (below : List Frame) (board : Position)
-      → IsTesting rule p (f ∷ below) board → is_legal rule board m ≡ true → 0 < t → f.left ≡ suc t → IfSome kn (IsPlaceIn rule board)
-      → IfSome kq (IsPlaceIn rule (position_after rule board m))
-      → IsTesting rule p (tested_frame k m (undo_of rule board m) t kq ∷ (passed f next s kn ∷ below)) (position_after rule board m)
-  unfolding IsLinked IsDescending AreKnown position
-  testing-open f next s m k t kn kq below board r lawful some left w wq =
-      grind (arith, after_well_formed rule board m r.sound (is_pseudo_legal-from_legal rule board m lawful), is_pseudo_legal-from_legal rule board m lawful)
-
 -- the frames from the floor up, once a frame is put on or taken off
 tests-push : (floor : ℕ) (xs : List Frame) (x : Frame) → floor ≤ length xs → tests floor (xs ++ x ∷ []) ≡ x ∷ tests floor xs
 unfolding tests
@@ -242,10 +229,10 @@ module _ (rule : RuleSet) (aim : Aim) (floor : ℕ) (top : Frame) (old new : Lis
         → MatchOption is (HasCounted before count 1) (λ _. HasCounted before count
         (smallest_tree aim.battle (chess aim.goal rule) (top.left - 1) (position_after rule
         board m))) → (p : Position) → IsTesting rule p (tests floor old) board → Turns rule aim floor p old last was is after before count
-    unfolding pending_value position test_work to_test to_try
+    unfolding pending_value position test_work to_test to_try IsLinked IsDescending AreKnown
     descend_turns None d before count o tries p r = record {
-      testing = rw (opened_last d, d.2)
-          (testing-open rule p top place s m d.3.order _ kn d.3.known _ board (testing_top p board r) lawful d.0 left_is within d.3.within);
+      testing = rw (opened_last d, d.2) (let t = testing_top p board r in let l = is_pseudo_legal-from_legal rule board m lawful in
+          grind (arith, left_is, after_well_formed rule board m t.sound l));
       same = search (rules, opened_last, popped, pending_value-undecided, delivered_value-next, left_is, here p r, rest-start);
       falls = search (rules, opened_last, popped, here p r, left_is, steps-next, steps-start);
       above = grind (arith, length-append);
@@ -254,7 +241,7 @@ module _ (rule : RuleSet) (aim : Aim) (floor : ℕ) (top : Frame) (old new : Lis
       tried = search (rules, opened_last, popped, here p r, try-undecided, try-next, left_is, fewest-start, rest-start);
     }
     descend_turns (Some v) d before count o tries p r = record {
-      testing = rw (settled_last v d, d.1) (testing-settled rule p top place s kn _ board (testing_top p board r) within);
+      testing = rw (settled_last v d, d.1) (let t = testing_top p board r in search rules);
       same = rw (settled_last v d, popped)
           (pending_value-undecided rule aim p top (tests floor new) was open_yet ∙ delivered_value-next rule aim p top _ place s m _ kn left_is (here p r)
           ∙ ap (delivered_value rule aim p _) (rw (← at p r) (sym d.0)) ∙ delivered_value-some rule aim p _ v (omega arith));

@@ -2,7 +2,7 @@
 use Rattle.pop_solve.proofs.Words.{Battle, BattlePlay, Bool, Direct, Game, HelpPlay, List, Plan, Selfmate, [], continuations, ap, append-nil, arith, best_moves, cond, eqb, every_move, false, fewest_half_moves, filter, least_length_from, flat_map, flat_map_single, is_followed, is_given, walk_length, keeps_win, least_moves, lines_to_goal, list_all, map, nat_tests, node, nodes_below, not, shown_length, refl, rules, seeks, shown_paths, suc, sym, true, value, has_variations, zero, ℕ, ◌%◌, ◌*◌, ◌++◌, ◌+◌, ◌-◌, ◌/◌, ◌<◌, ◌||◌, ◌∙◌, ◌∷◌, ◌≡◌, ◌≤◌, and_parts, inl, inr}
 use Rattle.pop_solve.proofs.Battles.{value-is_lost, value-is_self_lost, value-zero}
 use Rattle.pop_solve.proofs.Lengths.{length-more}
-use Rattle.pop_solve.proofs.GoingOn.{length_most, walk_length-keys, given-battle, walk_length-help, cases}
+use Rattle.pop_solve.proofs.GoingOn.{length_most, walk_length-keys, given-battle, walk_length-help, cases, least_length_from-least}
 use Rattle.pop_solve.proofs.Least.{least_moves-direct, least_moves-selfmate}
 
 -- the half-moves of a battle of so many moves
@@ -90,11 +90,6 @@ module _ {P M : Type 0} (game : Game P M) where
   unfolding continuations nodes_below
   nothing n k q g battle s = search rules
 
-  least_length_from-least_moves : (battle : Battle) (q : P) (n a : ℕ) → a ≤ least_length_from battle game q n a
-  unfolding least_length_from
-  least_length_from-least_moves battle q zero a = search rules
-  least_length_from-least_moves battle q (suc n) a = search (rules, least_length_from-least_moves battle q n (a + 2))
-
   -- White is to move with all half-moves of a battle left
   pub halves-seek : (battle : Battle) (k l : ℕ) → suc l ≡ halves battle k → seeks battle (l + 1) ≡ true
   halves-seek Direct k l e = let odd : (l + 1) % 2 ≡ 1 = omega (arith, e) in grind (arith, nat_tests)
@@ -149,7 +144,7 @@ module _ {P M : Type 0} (game : Game P M) where
 
         go : (x : ℕ) → L ≡ x → x ≡ halves battle (least_moves battle game n q)
             → shown_paths plan game false (suc k) x q (game.moves q) ≡ flat_map G (best_moves battle game n q)
-        go zero e h = absurd (grind (arith, least_length_from-least_moves))
+        go zero e h = absurd (grind (arith, least_length_from-least))
         go (suc l) e h =
             let least = least_moves battle game n q in
             let s2 = halves-seek battle least l h in

@@ -47,22 +47,10 @@ returns-in_default-next_tried-clause-next g c = λ p r.
 
 pub descend-requires : goal.descend-requires
 descend-requires g c =
-    let taken = rw (← c.top.view_is) at c.in-Some.ensures.items in (
-      search rules,
-      (
-        search rules,
-        (
-          rw c.next_tried.ensures.unchanged c.requires.well_formed,
-          (
-            test.top_some g.R.Rules.rule c.args.aim _ _ _ _ taken c.requires.above _ _ c.requires.testing.1,
-            (
-              test.top_room g.R.Rules.rule c.args.aim _ _ _ _ taken c.requires.above _ c.requires.room,
-              rw c.next_tried.ensures.unchanged c.in-Some-next_tried.ensures.next.1,
-            ),
-          ),
-        ),
-      ),
-    )
+    let taken = rw (← c.top.view_is) at c.in-Some.ensures.items in
+    let some = test.top_some g.R.Rules.rule c.args.aim _ _ _ _ taken c.requires.above _ _ c.requires.testing.1 in
+    let room = test.top_room g.R.Rules.rule c.args.aim _ _ _ _ taken c.requires.above _ c.requires.room in
+    search (rules, some, room)
 
 pub returns-clause-room : goal.returns-clause-room
 returns-clause-room g c =
