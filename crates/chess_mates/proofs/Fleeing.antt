@@ -1,22 +1,31 @@
 -- A flight after a move, told by the men that an attack on it sees.
-use Rattle.chess_rules.proofs.Basics.{Bool, List, None, Option, Some, and_from, and_left, and_parts, and_right, ap, arith, bit_and, bit_at, bit_at-lt, bit_at_and, bit_not, bit_or, cases_Bool, cases_eq, cond-false, cond-true, eq-eqb, eqb-true, false, false_from_ne_true, false≢true, inl, inr, is_some, length, list_any, not, not-true, or_left, or_parts, refl, rules, suc, sym, true, w64, zero, ℕ, ◌&&◌, ◌*◌, ◌+◌, ◌<◌, ◌==◌, ◌||◌, ◌∙◌, ◌≡◌, ◌≢◌}
+use Rattle.chess_rules.proofs.Basics.{[], Bool, cases_lt, filter, find, ◌∷◌, range_with_len, ◌-◌, List, None, Option, Some, and_from, and_left, and_parts, and_right, ap, arith, bit_and, bit_at, bit_at-lt, bit_at_and, bit_not, bit_or, cases_Bool, cases_eq, cond-false, cond-true, eq-eqb, eqb-true, false, false_from_ne_true, false≢true, inl, inr, is_some, length, list_any, not, not-true, or_cases, or_left, or_parts, true_from_ne_false, refl, rules, suc, sym, true, w64, zero, ℕ, ◌&&◌, ◌*◌, ◌+◌, ◌<◌, ◌==◌, ◌||◌, ◌∙◌, ◌≡◌, ◌≢◌}
 use Rattle.chess_rules.specs.ties.Places.{all_triples, per_arrival, per_origin}
-use Rattle.chess_mates.proofs.Chess.{AreOpen, AreSeen, Colour, IsWellFormed, King, Man, Move, Pawn, Position, RuleSet, any_range_cases, any_range_false, arriving_man, capture_square, differs, first_of_and, is_arrival_free, is_attacked, captures_do_more, is_legal, is_man, is_mate, is_nil, is_of_colour, is_square, king_after, king_square, leaps, man_on, mates, moves, position_after}
+use Rattle.chess_mates.proofs.Chess.{AreOpen, AreSeen, Colour, IsWellFormed, King, Man, Move, Pawn, Position, RuleSet, any_range_cases, any_range_false, arriving_man, capture_square, differs, first_of_and, is_arrival_free, is_attacked, captures_do_more, in_check, is_legal, is_man, is_mate, is_nil, is_of_colour, is_square, king_after, king_square, leaps, man_on, mates, moves, position_after}
 use Rattle.chess_mates.proofs.Chess.{is_paralysed, is_pseudo_legal, is_reached, moves_behind, occupied_squares, other, queen_steps, reaches, reaches_as, reaches_of, same_colour, same_colour-true, same_kind, side_of, sight_lifted, sight_with, some_square, some_square_false, some_square_true, squares, squares_both, squares_either, squares_not}
 use Rattle.chess_mates.proofs.Chess.{squares_of, is_attacker, triple_at, without_man, word}
-use Rattle.std.proofs.Common.{IfSome}
-use Rattle.chess_mates.specs.ties.Flights.{IsSeenFrom, has_flight, is_flight, is_flight_at, is_open}
+use Rattle.std.proofs.Common.{IfSome, ap₂}
+use Rattle.chess_mates.specs.ties.Flights.{AreSteps, IsSeenFrom, has_flight, is_flight, is_flight_at, is_open}
 use Rattle.chess_rules.proofs.Bits.{word_has}
 use Rattle.chess_rules.proofs.rays.Ends.{square_is}
-use Rattle.chess_rules.proofs.attacks.Exposing.{IsSimple, check_is}
+use Rattle.chess_core.proofs.Kept.{same_colour-refl}
+use Rattle.chess_rules.proofs.attacks.Attacking.{some_square_same}
+use Rattle.chess_rules.proofs.attacks.Shielding.{not_attacked}
+use Rattle.chess_rules.proofs.Chess.{triples, Kind, can_castle, may_castle, find_first, find_no, is_promotion_right, same_kind-true, some_is}
+use Rattle.chess_rules.proofs.listing_moves.Calls.{is_pseudo_legal-from_legal}
+use Rattle.chess_rules.proofs.theorems.Moves.{legal_moves_are_triples}
+use Rattle.chess_rules.specs.RuleSet.{faced_men_stand_still}
+use Rattle.chess_rules.specs.declared.sight.Sight.{Sight}
+use Rattle.chess_rules.specs.ties.Sifting.{is_of_others}
+use Rattle.chess_rules.proofs.attacks.Exposing.{IsSimple, captures_arrival, check_is}
 use Rattle.chess_rules.proofs.making_moves.Fits.{arrived, arriving_king, capture_of_piece, king_no_step, no_capture, taken}
-use Rattle.chess_mates.proofs.Landing.{StandAlike, no_step_there, reaches_alike}
+use Rattle.chess_mates.proofs.Landing.{StandAlike, no_reach_there, reaches_alike}
 use Rattle.chess_mates.proofs.Mating.{turn_after}
 use Rattle.chess_rules.proofs.listing_moves.Places.{moves_behind-here, moves_behind-skip, moves_behind-start}
 use Rattle.chess_rules.proofs.making_moves.Plays.{none_from_is_some}
 use Rattle.chess_rules.proofs.making_moves.Pseudo.{IsMade, king_is_no_pawn, made}
 use Rattle.chess_rules.proofs.attacks.Seeing.{gone_to, is_occupied_after, kept_now, king_stands, left_now, occupied_now, there_now}
-use Rattle.chess_rules.proofs.attacks.Shielding.{other_twice, arriving_colour, man_there, other_differs, simple_after}
+use Rattle.chess_rules.proofs.attacks.Shielding.{other_twice, arriving_colour, king_is, man_there, other_differs, simple_after}
 use Rattle.chess_rules.proofs.attacks.StayingInCheck.{king_there}
 use Rattle.chess_rules.proofs.making_moves.Stays.{after_well_formed}
 use Rattle.chess_mates.proofs.Stepping.{IsStep, arrival_alike, lifted_alike, lifted_words, occupied_lifted, same_elsewhere, seen_stepped, stands_arrived, stepped}
@@ -72,15 +81,23 @@ on_second a b i h = search (rules, bit_at-lt, bit_at_and, eq-eqb, eqb-true)
 pub unseen_bit : (test : ℕ → Bool) (n w t : ℕ) → w ≡ word test → t < 64 → (bit_at (bit_and n (bit_not w64 w)) t == 1) ≡ true → (bit_at w t == 1) ≡ false
 unseen_bit test n w t h small on = search (rules, on_second, squares_not, word_has)
 
--- the squares to which a king may step, attacks apart
-pub free_of : (c : Colour) (o : Option Man) → is_of_colour o (other c) ≡ false → is_man o c King ≡ false → is_arrival_free (other c) o ≡ true
-free_of c o side king = grind (arith, false≢true)
+-- the squares to which a king may step, attacks apart: the test by words says it of men that stay, are gone, or have come
+if_stays : (c : Colour) (o : Option Man) (h a : Bool) → (a || h) ≡ false
+    → not ((is_of_colour o (other c) && (not h && not a)) || is_man o c King) ≡ is_arrival_free (other c) o
+if_stays c None h a off = refl
+if_stays c (Some y) h a off = grind (arith, cases_Bool (same_kind y.kind King), or_parts)
 
 arrived_free : (c : Colour) (z : Man) → same_colour z.colour (other c) ≡ false → same_kind z.kind King ≡ false → is_arrival_free (other c) (Some z) ≡ true
 arrived_free c z side king = and_from (not (same_colour z.colour (other c))) _ (ap not side) (ap not king)
 
-unless : (i p q m : Bool) → ((i && (p && q)) || m) ≡ false → p ≡ true → q ≡ true → (i ≡ false) × (m ≡ false)
-unless i p q m h w y = grind arith
+if_gone : (i o a k : Bool) → (a || o) ≡ true → k ≡ false → not ((i && (not o && not a)) || k) ≡ true
+if_gone i o a k h n = grind arith
+
+if_comes : (i o a k : Bool) → (i ≡ true → o ≡ true) → k ≡ false → not ((i && (not o && not a)) || k) ≡ true
+if_comes i o a k h n = grind arith
+
+some_of_colour : (o : Option Man) (c : Colour) → is_of_colour o c ≡ true → is_some o ≡ true
+some_of_colour o c h = grind arith
 
 closed_words : (p : Position) (a : ℕ) (o : Option ℕ) (c : Colour) (w n : ℕ) → w ≡ side_of p.men (other c) → n ≡ squares_of p.men c King → (l : ℕ)
     → l ≡ bit_and (bit_not w64 (word (is_square o))) (bit_not w64 (word (is_square (Some a))))
@@ -94,12 +111,23 @@ pub reached_near : (men : List (Option Man)) (c : Colour) (k w t : ℕ) → w �
 unfolding reaches_as
 reached_near men c k w t h small on = sym (word_has (λ t. list_any (leaps k t) queen_steps) w t h small) ∙ on
 
+and_also : (a b : Bool) → b ≡ true → a ≡ (a && b)
+and_also a b h = grind arith
+
+both_bits : (a b i : ℕ) → (bit_at a i == 1) ≡ true → (bit_at b i == 1) ≡ true → (bit_at (bit_and a b) i == 1) ≡ true
+both_bits a b i x y = search (rules, bit_at_and, eq-eqb, eqb-true)
+
+-- and for one of the first that the test leaves out
+pub seen_bit : (test : ℕ → Bool) (n w t : ℕ) → w ≡ word test → t < 64 → (bit_at n t == 1) ≡ true → (bit_at w t == 1) ≡ false
+    → (bit_at (bit_and n (bit_not w64 w)) t == 1) ≡ true
+seen_bit test n w t h small on off = search (rules, both_bits, squares_not, word_has)
+
 first_false : (a b : Bool) → (a && b) ≡ false → b ≡ true → a ≡ false
 first_false a b h e = grind arith
 
 -- the men after the move, and the king among them
 module _ (rule : RuleSet) (p : Position) (m : Move) (x : Man) (k : ℕ) (i : IsSeenFrom rule p m x k) where
-  is_made : IsMade rule p x m
+  pub is_made : IsMade rule p x m
   is_made = made rule p m x i.pseudo i.here
 
   after_seen : (position_after rule p m).men ≡ arrived p x m
@@ -112,7 +140,7 @@ module _ (rule : RuleSet) (p : Position) (m : Move) (x : Man) (k : ℕ) (i : IsS
   no_own_arrives = ap (λ (c : Colour). same_colour c (other p.turn)) (arriving_colour x m.promo ∙ is_made.mine) ∙ other_differs p.turn
 
   module _ (small : m.to < 64) where
-    king_seen : king_square (position_after rule p m).men (other p.turn) ≡ Some k
+    pub king_seen : king_square (position_after rule p m).men (other p.turn) ≡ Some k
     king_seen =
         ap (λ (l : List (Option Man)). king_square l (other p.turn)) after_seen
         ∙ king_stands p.men m.from (capture_square p x m) m.to (arriving_man x m.promo) (other p.turn) (record {
@@ -126,51 +154,70 @@ module _ (rule : RuleSet) (p : Position) (m : Move) (x : Man) (k : ℕ) (i : IsS
         })
         ∙ i.king
 
-    free_there : (t : ℕ) → (is_of_colour (man_on p.men t) (other p.turn) && (not (is_square (capture_square p x m) t) && not (m.from == t))
-        || is_man (man_on p.men t) p.turn King) ≡ false → is_arrival_free (other p.turn) (man_on (arrived p x m) t) ≡ true
-    free_there t at =
-        grind (arith, cases_eq t m.to, there_now, arrived_free, no_own_arrives, no_king_arrives, cases_Bool, left_now, or_parts, unless, kept_now, free_of)
+    -- the king of the mover doesn't leave his square
+    no_king_left : (t : ℕ) → (m.from == t || is_square (capture_square p x m) t) ≡ true → is_man (man_on p.men t) p.turn King ≡ false
+    no_king_left t gone = elim (or_cases (m.from == t) (is_square (capture_square p x m) t) gone) [
+      | inl from ↦ ap (λ (o : Option Man). is_man o p.turn King) (ap (man_on p.men) (sym (eqb-true m.from t from)) ∙ i.here)
+          ∙ and_right (same_colour x.colour p.turn) _ i.mortal
+      | inr taken_there ↦
+          let w = taken rule p x m t i.well_formed is_made (square_is (capture_square p x m) t taken_there) in
+          ap (λ (o : Option Man). is_man o p.turn King) w.there ∙ and_right (same_colour w.man.colour p.turn) _ w.mortal
+    ]
+
+    free_there : (t : ℕ) → not ((is_of_colour (man_on p.men t) (other p.turn) && (not (is_square (capture_square p x m) t) && not (m.from == t)))
+        || is_man (man_on p.men t) p.turn King) ≡ is_arrival_free (other p.turn) (man_on (arrived p x m) t)
+    free_there t = elim (cases_eq t m.to) [
+      | inl e ↦
+          rw e (if_comes _ _ _ _ (λ h. captures_arrival p x m (some_of_colour _ _ h)) (no_king_free p.turn p.turn (man_on p.men m.to) is_made.arrival)
+          ∙ sym (ap (is_arrival_free (other p.turn)) (there_now p.men m.from (capture_square p x m) m.to (arriving_man x m.promo)
+          (omega (arith, small, i.well_formed.size))) ∙ arrived_free p.turn _ no_own_arrives no_king_arrives))
+      | inr ne ↦ elim (cases_Bool (m.from == t || is_square (capture_square p x m) t)) [
+        | inl gone ↦
+            if_gone _ _ _ _ gone (no_king_left t gone)
+            ∙ sym (ap (is_arrival_free (other p.turn)) (left_now p.men m.from (capture_square p x m) m.to (arriving_man x m.promo) t ne gone))
+        | inr stays ↦
+            if_stays p.turn (man_on p.men t) (is_square (capture_square p x m) t) (m.from == t) stays
+            ∙ sym (ap (is_arrival_free (other p.turn)) (kept_now p.men m.from (capture_square p x m) m.to (arriving_man x m.promo) t ne stays))
+      ]
+    ]
 
     -- for the word of squares open to the king: without Circe
     pub open_squares : (w l h : ℕ) → captures_do_more rule ≡ false → w ≡ word (λ t. list_any (leaps k t) queen_steps)
         → l ≡ (sight_lifted p.men m.from (capture_square p x m) m.to k).standing
         → h ≡ bit_or (bit_and (side_of p.men (other p.turn)) l) (squares_of p.men p.turn King)
-        → AreOpen rule (position_after rule p m).men (other p.turn) k (bit_and w (bit_not w64 h))
-    unfolding is_open
+        → AreSteps rule (position_after rule p m).men (other p.turn) k (bit_and w (bit_not w64 h))
+    unfolding is_open reaches_as
     open_squares w l h circe near standing held =
-        let closed = held ∙ closed_words p m.from (capture_square p x m) p.turn _ _ refl refl l standing in
-        record {
-          inside = λ t lt on.
-              and_from _ _ (and_from _ _ (reached_near (position_after rule p m).men (other p.turn) k w t near lt (on_first w _ t on))
-              (ap (λ (l : List (Option Man)). is_arrival_free (other p.turn) (man_on l t)) after_seen
-              ∙ free_there t (sym (word_has _ h t closed lt) ∙ unseen_bit _ w h t closed lt on)))
-              (ap not (and_left (captures_do_more rule) _ circe));
-        }
+        let same : (t : ℕ) → t < 64 → (bit_at (bit_and w (bit_not w64 h)) t == 1) ≡ is_open rule (position_after rule p m).men (other p.turn) k t = λ t lt.
+            word_has _ _ t (ap₂ bit_and near (ap (bit_not w64) (held ∙ closed_words p m.from (capture_square p x m) p.turn _ _ refl refl l standing)
+            ∙ squares_not _) ∙ squares_both _ _) lt
+            ∙ ap (λ b. list_any (leaps k t) queen_steps && b) (free_there t
+            ∙ ap (λ (l : List (Option Man)). is_arrival_free (other p.turn) (man_on l t)) (sym after_seen))
+            ∙ and_also _ _ (ap not (and_left (captures_do_more rule) _ circe)) in
+        record { inside = λ t lt on. sym (same t lt) ∙ on; outside = λ _ t lt off. sym (same t lt) ∙ off }
 
     -- in Circe, where he mayn't capture
-    pub open_squares_in_circe : (w l : ℕ) → w ≡ word (λ t. list_any (leaps k t) queen_steps)
+    pub open_squares_in_circe : (w l : ℕ) → captures_do_more rule ≡ true → w ≡ word (λ t. list_any (leaps k t) queen_steps)
         → l ≡ (sight_lifted p.men m.from (capture_square p x m) m.to k).occupied
-        → AreOpen rule (position_after rule p m).men (other p.turn) k (bit_and w (bit_not w64 l))
+        → AreSteps rule (position_after rule p m).men (other p.turn) k (bit_and w (bit_not w64 l))
     unfolding is_open
-    open_squares_in_circe w l near occupied =
+    open_squares_in_circe w l circe near occupied =
         let held = occupied ∙ lifted_words p.men m.from (capture_square p x m) m.to k in
         record {
           inside = λ t lt on.
               let reached = reached_near (position_after rule p m).men (other p.turn) k w t near lt (on_first w _ t on) in
               let off : (is_occupied_after p.men m.from (capture_square p x m) m.to t && not (k == t)) ≡ false = sym (word_has _ l t held lt)
               ∙ unseen_bit _ w l t held lt on in
-              grind (arith, differs, false≢true, no_step_there, none_from_is_some, occupied_now, first_false, after_seen, and_from, and_right);
+              grind (arith, differs, false≢true, no_reach_there, none_from_is_some, occupied_now, first_false, after_seen, and_from, and_right);
+          outside = λ none. absurd (false≢true (sym none ∙ circe));
         }
 
--- nobody attacks a king that has stepped there
-pub record IsSafeStep (men : List (Option Man)) (a : ℕ) (o : Option ℕ) (b : ℕ) (z : Man) (k : ℕ) (u : Option ℕ) (t : ℕ) (x : Man) (c : Colour) (r : ℕ) : Type 0
+-- what is seen of an attack on a king that has stepped there
+pub record IsStepSeen (men : List (Option Man)) (a : ℕ) (o : Option ℕ) (b : ℕ) (z : Man) (k : ℕ) (u : Option ℕ) (t : ℕ) (x : Man) (c : Colour) (r : ℕ) : Type 0
   where
     pub step : IsStep men a o b k u t x c
     pub size : length men ≡ 64
     pub arrived : (l : List (Option Man)) → (sight_lifted men a o b k).occupied ≡ occupied_squares l → r ≡ word (reaches_as l z.colour z.kind b)
-    pub unseen : (bit_at r t == 1) ≡ false
-    pub others : (l : List (Option Man)) → AreSeen men l c (sight_with (sight_lifted men a o b k) t)
-        → is_reached l t c ≡ false
 
 reaches_alike_of : (men others : List (Option Man)) (o : Option Man) (s t : ℕ) → StandAlike men others t → reaches_of men o s t ≡ reaches_of others o s t
 reaches_alike_of men others o s t a = grind (arith, reaches_alike)
@@ -179,41 +226,51 @@ reaches_alike_of men others o s t a = grind (arith, reaches_alike)
 pub no_strike : (a p r : Bool) → (a && r) ≡ false → ((a && p) && r) ≡ false
 no_strike a p r q = grind arith
 
-unreached_from : (men : List (Option Man)) (c : Colour) (t s : ℕ) → is_reached men t c ≡ false → s < 64
-    → (is_of_colour (man_on men s) c && reaches men s t) ≡ false
-unfolding is_reached
-unreached_from men c t s h small =
-    false_from_ne_true _ (λ y. false≢true (sym h ∙ some_square_true (λ s. is_of_colour (man_on men s) c && reaches men s t) s small y))
-
 module _ (men : List (Option Man)) (a : ℕ) (o : Option ℕ) (b : ℕ) (z : Man) (k : ℕ) (u : Option ℕ) (t : ℕ) (x : Man) (c : Colour) (r : ℕ)
-    (i : IsSafeStep men a o b z k u t x c r) where
+    (i : IsStepSeen men a o b z k u t x c r) where
   abbrev now : List (Option Man)
   now = stepped men a o b z k u t x
 
   abbrev then : List (Option Man)
   then = stepped men a o b x k u t x
 
-  arrival_unseen : reaches_as now z.colour z.kind b t ≡ false
-  arrival_unseen =
+  arrival_seen : reaches_as now z.colour z.kind b t ≡ (bit_at r t == 1)
+  arrival_seen =
       let lifted : List (Option Man) = without_man (gone_to men a o b z) k in
       reaches_alike now lifted z.colour z.kind b t (lifted_alike men a o b z k u t x i.step.arrival i.step.flight i.step.taken)
       ∙ sym (grind (arith, word_has, occupied_lifted))
-      ∙ i.unseen
 
-  elsewhere : (s : ℕ) → s < 64 → (s ≡ b → s ≡ t) → (is_of_colour (man_on now s) c && reaches_of now (man_on now s) s t) ≡ false
+  elsewhere : (s : ℕ) → (s ≡ b → s ≡ t)
+      → (is_of_colour (man_on now s) c && reaches now s t) ≡ (is_of_colour (man_on then s) c && reaches then s t)
   unfolding reaches
-  elsewhere s small off =
+  elsewhere s off =
       ap (λ (y : Option Man). is_of_colour y c && reaches_of now y s t) (same_elsewhere men a o b z x k u t x s i.step.flight i.step.taken off)
       ∙ ap (λ (y : Bool). is_of_colour (man_on then s) c && y) (grind (arith, reaches_alike_of, arrival_alike))
-      ∙ unreached_from then c t s (i.others then (seen_stepped men a o b k u t x c i.step)) small
 
-  nobody_strikes : (s : ℕ) → s < 64 → (is_of_colour (man_on now s) c && reaches now s t) ≡ false
+  same_strikes : (bit_at r t == 1) ≡ false → (s : ℕ) → (is_of_colour (man_on now s) c && reaches now s t) ≡ (is_of_colour (man_on then s) c && reaches then s t)
   unfolding reaches
-  nobody_strikes s small = grind (arith, cases_eq, elsewhere, stands_arrived, taken, and_right, arrival_unseen)
+  same_strikes unseen s = elim (cases_eq s b) [
+    | inr ne ↦ elsewhere s (λ e. absurd (ne e))
+    | inl e ↦ elim (cases_eq s t) [
+      | inl same ↦ elsewhere s (λ _. same)
+      | inr ne ↦ grind (arith, stands_arrived, and_right, and_left, arrival_seen)
+    ]
+  ]
 
-  not_attacked : (rule : RuleSet) → is_attacked rule now t c ≡ false
-  unfolding is_attacked is_attacker
-  not_attacked rule = search (rules, no_strike, nobody_strikes, some_square_false)
+  -- whom the man that has arrived doesn't reach is reached by the others alone
+  pub reached_alike : (bit_at r t == 1) ≡ false → is_reached now t c ≡ is_reached then t c
+  unfolding is_reached
+  reached_alike unseen = some_square_same _ _ (λ s lt. same_strikes unseen s)
+
+  -- whom the man that has arrived reaches
+  pub arrived_strikes : same_colour z.colour c ≡ true → (bit_at r t == 1) ≡ true → is_reached now t c ≡ true
+  unfolding is_reached reaches
+  arrived_strikes mine on =
+      let small : b < 64 = omega (arith, i.step.arrival, i.size) in
+      let off : b ≢ t = λ e. false≢true (sym (no_reach_there now z.colour z.kind b small) ∙ ap (reaches_as now z.colour z.kind b) e ∙ arrival_seen ∙ on) in
+      let there : man_on now b ≡ Some z = stands_arrived men a o b z k u t x b i.step.arrival i.step.taken refl off i.step.apart in
+      some_square_true (λ s. is_of_colour (man_on now s) c && reaches now s t) b small
+      (ap (λ (y : Option Man). is_of_colour y c && reaches_of now y b t) there ∙ and_from _ _ mine (arrival_seen ∙ on))
 
 -- the step itself
 other_side : (o : Option Man) (c : Colour) → is_man o (other c) King ≡ true → is_of_colour o c ≡ false
@@ -269,13 +326,16 @@ module _ (rule : RuleSet) (q : Position) (x : Man) (k t : ℕ) (i : IsKingStep r
         rebirth = λ circe. no_capture q x (step_to k t) (way.nobody circe) (and_left (same_kind x.kind Pawn) _ (king_is_no_pawn x.kind i.king));
       }
 
-  -- and it is legal where nobody attacks the square then
-  pub step_is_legal : is_attacked rule (arrived q x (step_to k t)) t (other q.turn) ≡ false → is_legal rule q (step_to k t) ≡ true
+  -- and it is legal exactly where nobody attacks the square then
+  step_is : is_legal rule q (step_to k t) ≡ not (is_attacked rule (arrived q x (step_to k t)) t (other q.turn))
   unfolding is_legal
-  step_is_legal safe =
+  step_is =
       let king : king_after q x (step_to k t) ≡ Some t = cond-true (same_kind x.kind King) _ _ i.king in
-      and_from _ _ may_step (ap not (check_is rule q x (step_to k t) (Some t) i.well_formed (made rule q (step_to k t) x may_step i.here) i.small
-      simple_step king ∙ safe))
+      ap₂ (λ a b. a && not b) may_step (check_is rule q x (step_to k t) (Some t) i.well_formed (made rule q (step_to k t) x may_step i.here) i.small
+      simple_step king)
+
+  pub step_is_legal : is_attacked rule (arrived q x (step_to k t)) t (other q.turn) ≡ false → is_legal rule q (step_to k t) ≡ true
+  step_is_legal safe = step_is ∙ ap not safe
 
 -- the king's square and the arrival
 pub record IsKingOn (men : List (Option Man)) (c : Colour) (k : ℕ) (x : Man) : Type 0 where
@@ -302,45 +362,61 @@ module _ (rule : RuleSet) (p : Position) (m : Move) (x : Man) (k : ℕ) (i : IsS
       let free = (is_made rule p m x k i).arrival in
       grind (arith, taken, capture_of_piece, king_is_no_pawn, square_is, king_is_other, other_side, king_there, no_own_free, no_king_square)
 
-  module _ (n r : ℕ) (near : AreOpen rule (position_after rule p m).men (other p.turn) k n)
+  abbrev pub step_taken : Man → ℕ → Option ℕ
+  step_taken y t = capture_square (position_after rule p m) y (step_to k t)
+
+  abbrev pub men_stepped : Man → ℕ → List (Option Man)
+  men_stepped y t = stepped p.men m.from (capture_square p x m) m.to (arriving_man x m.promo) k (step_taken y t) t y
+
+  pub turn_is : (position_after rule p m).turn ≡ other p.turn
+  turn_is = turn_after rule p m i.pseudo
+
+  -- the king's step is legal where nobody attacks him then
+  pub step_legal_is : (y : Man) (t : ℕ) → t < 64 → IsKingOn (position_after rule p m).men (other p.turn) k y
+      → is_open rule (position_after rule p m).men (other p.turn) k t ≡ true
+      → is_legal rule (position_after rule p m) (step_to k t) ≡ not (is_attacked rule (men_stepped y t) t p.turn)
+  step_legal_is y t there king way =
+      step_is rule (position_after rule p m) y k t (record {
+        well_formed = after_well_formed rule p m i.well_formed i.pseudo;
+        here = king.here;
+        mine = ap (same_colour y.colour) turn_is ∙ king.mine;
+        king = king.king;
+        small = there;
+        near = ap (λ (c : Colour). is_open rule (position_after rule p m).men c k t) turn_is ∙ way;
+      })
+      ∙ ap not (ap (λ (l : List (Option Man)). is_attacked rule (gone_to l k (step_taken y t) t y) t (other (position_after rule p m).turn)) (after_seen rule p m x k i)
+      ∙ ap (is_attacked rule (men_stepped y t) t) (ap other turn_is ∙ other_twice p.turn))
+
+  module _ (n r : ℕ)
       (arrives : (l : List (Option Man)) → (sight_lifted p.men m.from (capture_square p x m) m.to k).occupied ≡ occupied_squares l
       → r ≡ word (reaches_as l (arriving_man x m.promo).colour (arriving_man x m.promo).kind m.to)) where
-    has_flight_to : (t : ℕ) → t < 64 → (bit_at (bit_and n (bit_not w64 r)) t == 1) ≡ true
+    pub step_seen : (y : Man) (t : ℕ) → t < 64 → IsKingOn (position_after rule p m).men (other p.turn) k y
+        → IsStepSeen p.men m.from (capture_square p x m) m.to (arriving_man x m.promo) k (step_taken y t) t y p.turn r
+    step_seen y t there king = search (rules, is_step y t there king)
+
+    has_flight_to : AreSteps rule (position_after rule p m).men (other p.turn) k n → (t : ℕ) → t < 64 → (bit_at (bit_and n (bit_not w64 r)) t == 1) ≡ true
         → ((l : List (Option Man)) → AreSeen p.men l p.turn (sight_with (sight_lifted p.men m.from (capture_square p x m) m.to k) t)
         → is_reached l t p.turn ≡ false)
         → has_flight rule (position_after rule p m) ≡ true
     unfolding has_flight is_flight
-    has_flight_to t there on others =
-        let turn : (position_after rule p m).turn ≡ other p.turn = turn_after rule p m i.pseudo in
+    has_flight_to near t there on others =
         let at : king_square (position_after rule p m).men (other p.turn) ≡ Some k = king_seen rule p m x k i small in
         let king = king_on (position_after rule p m).men (other p.turn) k at in
-        let u : Option ℕ = capture_square (position_after rule p m) king.0 (step_to k t) in
         let lifted : List (Option Man) = without_man (gone_to p.men m.from (capture_square p x m) m.to (arriving_man x m.promo)) k in
         let seen : r ≡ word (reaches_as lifted (arriving_man x m.promo).colour (arriving_man x m.promo).kind m.to) =
         arrives lifted (occupied_lifted p.men m.from (capture_square p x m) m.to (arriving_man x m.promo) k (omega (arith, small, i.well_formed.size))) in
-        let step : IsKingStep rule (position_after rule p m) king.0 k t = record {
-          well_formed = after_well_formed rule p m i.well_formed i.pseudo;
-          here = king.1.here;
-          mine = ap (same_colour king.0.colour) turn ∙ king.1.mine;
-          king = king.1.king;
-          small = there;
-          near = ap (λ (c : Colour). is_open rule (position_after rule p m).men c k t) turn ∙ near.inside t there (on_first n (bit_not w64 r) t on);
-        } in
-        let safe : IsSafeStep p.men m.from (capture_square p x m) m.to (arriving_man x m.promo) k u t king.0 p.turn r = search (
-          rules,
-          is_step king.0 t there king.1,
-          unseen_bit _ n r t seen there on,
-        ) in
+        let step = step_seen king.0 t there king.1 in
         some_square_true (is_flight rule (position_after rule p m)) t there
-        (ap (λ (o : Option ℕ). is_flight_at rule (position_after rule p m) o t) (ap (king_square (position_after rule p m).men) turn ∙ at)
-        ∙ step_is_legal rule (position_after rule p m) king.0 k t step
-        (ap (λ (l : List (Option Man)). is_attacked rule (gone_to l k u t king.0) t (other (position_after rule p m).turn)) (after_seen rule p m x k i)
-        ∙ ap (is_attacked rule (stepped p.men m.from (capture_square p x m) m.to (arriving_man x m.promo) k u t king.0) t) (ap other turn ∙ other_twice p.turn)
-        ∙ not_attacked p.men m.from (capture_square p x m) m.to (arriving_man x m.promo) k u t king.0 p.turn r safe rule))
+        (ap (λ (o : Option ℕ). is_flight_at rule (position_after rule p m) o t) (ap (king_square (position_after rule p m).men) turn_is ∙ at)
+        ∙ step_legal_is king.0 t there king.1 (near.inside t there (on_first n (bit_not w64 r) t on))
+        ∙ ap not (not_attacked rule (men_stepped king.0 t) p.turn t (reached_alike p.men m.from (capture_square p x m) m.to (arriving_man x m.promo) k
+        (step_taken king.0 t) t king.0 p.turn r step (unseen_bit _ n r t seen there on)
+        ∙ others _ (seen_stepped p.men m.from (capture_square p x m) m.to k (step_taken king.0 t) t king.0 p.turn step.step))))
 
-    -- for `has_flight_from`: the first square that nobody guards is a flight
-    pub has_flight_first : (o : Option ℕ) → IfSome o (λ t. (t < 64) × ((bit_at (bit_and n (bit_not w64 r)) t == 1) ≡ true))
+    -- for `flights_from`: the first square that nobody guards is a flight
+    pub has_flight_first : (o : Option ℕ) → AreSteps rule (position_after rule p m).men (other p.turn) k n
+        → IfSome o (λ t. (t < 64) × ((bit_at (bit_and n (bit_not w64 r)) t == 1) ≡ true))
         → IfSome o (λ t. (l : List (Option Man)) → AreSeen p.men l p.turn (sight_with (sight_lifted p.men m.from (capture_square p x m) m.to k) t)
         → is_reached l t p.turn ≡ false)
         → is_some o ≡ true → has_flight rule (position_after rule p m) ≡ true
-    has_flight_first o within safe h = grind (arith, false≢true, has_flight_to)
+    has_flight_first o near within safe h = grind (arith, false≢true, has_flight_to)

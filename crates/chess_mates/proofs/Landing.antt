@@ -1,6 +1,10 @@
 -- What a man reaches doesn't depend on who stands on the square that it reaches.
 use Rattle.chess_rules.proofs.Basics.{Bool, List, Option, Some, and_left, arith, cases_Bool, false, false_from_ne_true, inl, inr, is_some, list_all, list_any, range_with_len, refl, rules, suc, zero, ℕ, ◌&&◌, ◌+◌, ◌-◌, ◌<◌, ◌||◌, ◌≡◌, ◌≢◌, ◌≤◌}
-use Rattle.chess_mates.proofs.Chess.{Bishop, Colour, Direction, East, EastNorthEast, EastSouthEast, Grasshopper, Kind, King, Man, Nightrider, North, NorthEast, NorthNorthEast, NorthNorthWest, NorthWest, South, SouthEast, SouthSouthEast, SouthSouthWest, Queen, Rook, SouthWest, Step, West, WestNorthWest, WestSouthWest, along, any_range_same, diagonal_steps, hops, is_clear, is_occupied, is_square, knight_steps, leaps, man_on, place, queen_steps, reaches_as, rides, step_of, straight_steps}
+use Rattle.chess_mates.proofs.Chess.{Bishop, Black, Colour, Direction, East, EastNorthEast, EastSouthEast, Grasshopper, Kind, King, Knight, Man, Nightrider, North, Pawn, White, any_range_false, NorthEast, NorthNorthEast, NorthNorthWest, NorthWest, South, SouthEast, SouthSouthEast, SouthSouthWest, Queen, Rook, SouthWest, Step, West, WestNorthWest, WestSouthWest, along, any_range_same, diagonal_steps, hops, is_clear, is_occupied, is_square, knight_steps, leaps, man_on, place, queen_steps, reaches_as, rides, step_of, straight_steps}
+use Rattle.chess_core.specs.Steps.{gait_of, kind_steps}
+use Rattle.chess_core.specs.declared.man.Gait.{Gait}
+use Rattle.chess_core.specs.declared.man.Gait.TheVariants.{Hopper, Leaper, Rider}
+use Rattle.chess_rules.specs.Reaches.{goes_by}
 use Rattle.chess_rules.proofs.rays.Ahead.{Ordered, ordered}
 use Rattle.chess_rules.proofs.rays.Ends.{square_is, stays}
 
@@ -71,13 +75,33 @@ reaches_alike men others c Grasshopper s t a = queen_same (hops men s t) (hops o
 reaches_alike men others c Nightrider s t a = knight_same (rides men s t) (rides others s t) (λ x. ride_alike men others s t (step_of x) (ordered x) a)
 reaches_alike men others c j s t a = refl
 
--- a king doesn't step where it stands
-no_step_off : (s : ℕ) (d : Step) → Ordered d → s < 64 → leaps s s d ≡ false
-unfolding leaps
-no_step_off s d o small = false_from_ne_true _ (λ y. let less : place d s < place d s =
-    o.in_order s 0 1 s s (stays s d small) (square_is _ s y) (omega arith) in omega arith)
+-- no way leads back to where it began
+no_return : (s k : ℕ) (d : Step) → Ordered d → s < 64 → 1 ≤ k → is_square (along s d k) s ≡ false
+no_return s k d o small lo = false_from_ne_true _ (λ y. let less : place d s < place d s =
+    o.in_order s 0 k s s (stays s d small) (square_is _ s y) (omega (arith, lo)) in omega arith)
 
--- nor does a king reach where he stands
-pub no_step_there : (men : List (Option Man)) (c : Colour) (s : ℕ) → s < 64 → reaches_as men c King s s ≡ false
+no_way_back : (g : Gait) (men : List (Option Man)) (s : ℕ) (d : Step) → Ordered d → s < 64 → goes_by g men s s d ≡ false
+unfolding leaps rides hops
+no_way_back Leaper men s d o small = no_return s 1 d o small (omega arith)
+no_way_back Rider men s d o small = any_range_false (λ k. is_square (along s d k) s && is_clear men s d (k - 1)) 1 7 (λ k lo hi. and_left _ _ (no_return s k d o small lo))
+no_way_back Hopper men s d o small =
+    any_range_false (λ k. is_square (along s d k) s && is_occupied men (along s d (k - 1)) && is_clear men s d (k - 2)) 2 6
+    (λ k lo hi. and_left _ _ (and_left _ _ (no_return s k d o small (omega (arith, lo)))))
+
+-- nor does a man reach where he stands
+pub no_reach_there : (men : List (Option Man)) (c : Colour) (j : Kind) (s : ℕ) → s < 64 → reaches_as men c j s s ≡ false
 unfolding reaches_as
-no_step_there men c s small = queen_same (leaps s s) (λ d. false) (λ x. no_step_off s (step_of x) (ordered x) small)
+no_reach_there men c j s small = by c j where
+  none : (g : Gait) (x : Direction) → goes_by g men s s (step_of x) ≡ false
+  none g x = no_way_back g men s (step_of x) (ordered x) small
+
+  by : (c : Colour) (j : Kind) → list_any (goes_by (gait_of j) men s s) (kind_steps c j) ≡ false
+  by c Queen = queen_same (goes_by Rider men s s) (λ d. false) (none Rider)
+  by c Rook = straight_same (goes_by Rider men s s) (λ d. false) (none Rider)
+  by c Bishop = diagonal_same (goes_by Rider men s s) (λ d. false) (none Rider)
+  by c Knight = knight_same (goes_by Leaper men s s) (λ d. false) (none Leaper)
+  by c Grasshopper = queen_same (goes_by Hopper men s s) (λ d. false) (none Hopper)
+  by c Nightrider = knight_same (goes_by Rider men s s) (λ d. false) (none Rider)
+  by c King = queen_same (goes_by Leaper men s s) (λ d. false) (none Leaper)
+  by White Pawn = (λ j. none Leaper NorthWest j || (none Leaper NorthEast j || false))
+  by Black Pawn = (λ j. none Leaper SouthWest j || (none Leaper SouthEast j || false))

@@ -9,6 +9,7 @@ pub mod EveryMove
 pub mod Landing
 pub mod Stepping
 pub mod Fleeing
+pub mod Flightless
 pub mod QuietSteps
 pub mod KingsApart
 pub mod CastlingChecks

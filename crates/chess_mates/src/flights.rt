@@ -8,7 +8,7 @@ ghost use Rattle.chess_core.specs.ties.Words.{side_of, squares_of, word};
 ghost use Rattle.chess_core.specs.declared.man.Man.{Man};
 ghost use Rattle.chess_core.specs.declared.man.Move.{Move};
 ghost use Rattle.chess_core.specs.declared.man.Kind.TheVariants.{King};
-ghost use Rattle.chess_mates.specs.ties.Flights.{AreOpen, IsSeenFrom, has_flight, sight_lifted, sight_with};
+ghost use Rattle.chess_mates.specs.ties.Flights.{AreGuarded, AreSteps, IsSeenFrom, IsTold, sight_lifted, sight_with};
 ghost use Rattle.chess_rules.specs.Legal.{is_pseudo_legal};
 ghost use Rattle.chess_rules.specs.Play.{arriving_man, capture_square, position_after};
 ghost use Rattle.chess_rules.specs.ties.Lines.{occupied_squares};
@@ -27,6 +27,17 @@ use chess_rules::reach::reach_over;
 use chess_rules::rules::Rules;
 use chess_rules::sight::{Sight, sight_after};
 use chess_rules::words::{next_bit, only};
+
+/// What is told of the flights of the side that is to move.
+#[derive(Clone, Copy)]
+pub(crate) enum Flights {
+    /// It has one.
+    Left,
+    /// Its king has no legal move where he is in check.
+    NoneLeft,
+    /// Nothing.
+    Untold,
+}
 
 // The men once one has gone from `from` to `to`, the one on the captured square is gone, and the king on
 // `king` is lifted. The man that went doesn't count as one that stands.
@@ -83,7 +94,7 @@ fn covered_squares(occupied: Squares, man: Man, promo: Option<Kind>, to: Square)
 fn open_squares<R: Rules>(board: &Board, sight: Sight, king: Square) -> Squares
     ensures { (m : Move) (x : Man) → IsSeenFrom R.rule board.now m x king → m.to < 64
         → sight ≡ sight_lifted board.now.men m.from (capture_square board.now x m) m.to king
-        → AreOpen R.rule (position_after R.rule board.now m).men (other board.now.turn) king
+        → AreSteps R.rule (position_after R.rule board.now m).men (other board.now.turn) king
         result }
 {
     let near = king_leaps(king);
@@ -100,6 +111,7 @@ fn first_safe(board: &Board, sight: Sight, squares: Squares, colour: Colour) -> 
     ensures within { IfSome result (λ t. (t < 64) × ((bit_at squares t == 1) ≡ true)) }
     ensures safe { IfSome result (λ t. (men : List (Option Man))
         → AreSeen board.now.men men colour (sight_with sight t) → is_reached men t colour ≡ false) }
+    ensures none { is_some result ≡ false → AreGuarded board.now.men colour sight squares }
 {
     let mut number = 0u8;
     while let Some(square) = next_bit(squares, number) {
@@ -111,25 +123,30 @@ fn first_safe(board: &Board, sight: Sight, squares: Squares, colour: Colour) -> 
     None
 }
 
-// Whether the enemy king on `king` is seen to have a flight after the simple move of this man, who is no
-// king.
-fn has_flight_from<R: Rules>(
+// What is told of the flights of the enemy king on `king` after the simple move of this man, who is no king.
+fn flights_from<R: Rules>(
     board: &Board,
     man: Man,
     m: &Move,
     captured: Option<Square>,
     king: Square,
-) -> bool
+) -> Flights
     requires seen { IsSeenFrom R.rule board.now m.now man king }
     requires captured { captured ≡ capture_square board.now man m.now }
-    ensures { result ≡ true → has_flight R.rule (position_after R.rule board.now m.now) ≡ true }
+    ensures { IsTold R.rule (position_after R.rule board.now m.now) result }
 {
     // For the proof: a square's number is below 64.
     let _small = m.to.index();
     let sight = sight_lifted(board, m.from, captured, m.to, king);
     let near = open_squares::<R>(board, sight, king);
     let covered = covered_squares(sight.occupied, man, m.promo, m.to);
-    first_safe(board, sight, near & !covered, board.turn()).is_some()
+    if first_safe(board, sight, near & !covered, board.turn()).is_some() {
+        return Flights::Left;
+    }
+    if R::captures_do_more() || R::faced_men_stand_still() {
+        return Flights::Untold;
+    }
+    Flights::NoneLeft
 }
 
 // Whether flights after the man's move are looked for: nobody castles or is reborn, and it is no king.
@@ -139,21 +156,21 @@ fn is_looked_at<R: Rules>(man: Man, m: &Move, captures: bool) -> bool
     !man.kind.is(Kind::King) && is_simple::<R>(man, m, captures)
 }
 
-// Whether the side that is to move after this move is seen to have a flight then.
-pub(crate) fn has_flight<R: Rules>(board: &Board, m: &Move) -> bool
+// What is told of the flights of the side that is to move after this move.
+pub(crate) fn flights_after<R: Rules>(board: &Board, m: &Move) -> Flights
     requires well_formed { IsWellFormed board.now }
     requires pseudo { is_pseudo_legal R.rule board.now m.now ≡ true }
-    ensures { result ≡ true → has_flight R.rule (position_after R.rule board.now m.now) ≡ true }
+    ensures { IsTold R.rule (position_after R.rule board.now m.now) result }
 {
     let Some(man) = board.man_at(m.from) else {
-        return false;
+        return Flights::Untold;
     };
     let captured = capture_square(board, man, m);
     if !is_looked_at::<R>(man, m, captured.is_some()) {
-        return false;
+        return Flights::Untold;
     }
     let Some(king) = board.king_of(board.turn().other()) else {
-        return false;
+        return Flights::Untold;
     };
-    has_flight_from::<R>(board, man, m, captured, king)
+    flights_from::<R>(board, man, m, captured, king)
 }

@@ -4,20 +4,22 @@ ghost use Rattle.chess_core.specs.Position.{other};
 ghost use Rattle.chess_core.specs.WellFormed.{IsWellFormed};
 ghost use Rattle.chess_rules.specs.Attacks.{in_check};
 ghost use Rattle.chess_mates.specs.ties.CheckSquares.{AreCheckSquares};
-ghost use Rattle.chess_rules.specs.Legal.{is_legal, is_mate, is_pseudo_legal};
+ghost use Rattle.chess_mates.specs.ties.Flights.{IsTold};
+ghost use Rattle.chess_rules.specs.Legal.{is_legal, is_mate, is_nil, is_pseudo_legal, moves};
 ghost use Rattle.chess_mates.specs.ties.Mates.{IsMatingPlaceIn, IsNextMate, mates, mates_behind, mates_between};
 ghost use Rattle.chess_rules.specs.ties.Places.{HaveNone, all_triples, place_of, place_onto, triple_at};
 ghost use Rattle.chess_rules.specs.Play.{position_after};
 ghost use Rattle.chess_rules.specs.ties.Targets.{AreCandidates, AreKept, AreOrigins, IsAimed};
 
 use crate::checks::{CheckSquares, check_squares, may_check, near_check_targets};
-use crate::flights::has_flight;
+use crate::flights::{Flights, flights_after};
 use crate::origins::check_origins;
 use chess_core::board::Board;
 use chess_core::man::{Colour, Move};
 use chess_core::square::{Square, Squares};
 use chess_rules::legal::is_pseudo_legal;
 use chess_rules::moves::{Moves, has_legal_move, triple};
+use chess_rules::other_moves::others_have_move;
 use chess_rules::rules::{Rules, in_check};
 use chess_rules::sought::{Sought, next_passing};
 use chess_rules::targets::{Kept, TRIPLES, arrivals};
@@ -264,36 +266,55 @@ fn is_mating<R: Rules>(board: &mut Board, squares: &CheckSquares, m: Move) -> bo
     if !may_check::<R>(board, squares, &m) {
         return false;
     }
-    if has_flight::<R>(board, &m) {
-        return false;
+    match flights_after::<R>(board, &m) {
+        Flights::Left => false,
+        flights => gives_mate::<R>(board, m, flights),
     }
-    gives_mate::<R>(board, m)
 }
 
-// Whether the move, which may be made, is legal and mates. The board is unchanged after it.
+// Whether the move, which may be made, is legal and mates. `flights` is what is told of the side that is to move
+// then. The board is unchanged after it.
 #[tactic(auto, using(crate::proofs::Mating::mates_after))]
-fn gives_mate<R: Rules>(board: &mut Board, m: Move) -> bool
+fn gives_mate<R: Rules>(board: &mut Board, m: Move, flights: Flights) -> bool
     requires well_formed { IsWellFormed board.old }
     requires pseudo { is_pseudo_legal R.rule board.old m ≡ true }
+    requires told { IsTold R.rule (position_after R.rule board.old m) flights }
     ensures answer { result ≡ mates R.rule board.old m }
     ensures board { board.new ≡ board.old }
 {
     let mover = board.turn();
     let undo = R::play(board, m);
-    let mated = is_mated_by::<R>(board, mover);
+    let mated = is_mated_by::<R>(board, mover, flights);
     R::unplay(board, m, undo);
     mated
 }
 
 // Whether the side to move is mated and `mover` isn't in check. The board is unchanged.
 #[tactic(auto, unfolding(chess_rules::specs::Legal::is_mate))]
-fn is_mated_by<R: Rules>(board: &mut Board, mover: Colour) -> bool
-    requires { IsWellFormed board.old }
+fn is_mated_by<R: Rules>(board: &mut Board, mover: Colour, flights: Flights) -> bool
+    requires well_formed { IsWellFormed board.old }
+    requires told { IsTold R.rule board.old flights }
     ensures answer { result ≡ (not (in_check R.rule board.old.men mover)
         && is_mate R.rule board.old) }
     ensures board { board.new ≡ board.old }
 {
     in_check::<R>(board, board.turn())
         && !in_check::<R>(board, mover)
-        && !has_legal_move::<R>(board)
+        && !has_move_in_check::<R>(board, flights)
+}
+
+#[tactic(auto, using(crate::proofs::Flightless::others_are_all))]
+// Whether the side to move, which is in check, has a legal move. The king's are looked for only where it isn't
+// told that he has none. The board is unchanged.
+fn has_move_in_check<R: Rules>(board: &mut Board, flights: Flights) -> bool
+    requires well_formed { IsWellFormed board.old }
+    requires checked { in_check R.rule board.old.men board.old.turn ≡ true }
+    requires told { IsTold R.rule board.old flights }
+    ensures answer { result ≡ not (is_nil (moves R.rule board.old)) }
+    ensures board { board.new ≡ board.old }
+{
+    match flights {
+        Flights::NoneLeft => others_have_move::<R>(board),
+        _ => has_legal_move::<R>(board),
+    }
 }

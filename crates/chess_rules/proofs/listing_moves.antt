@@ -10,3 +10,4 @@ pub mod Counting
 pub mod SurelyLegal
 pub mod Triples
 pub mod Sifting
+pub mod OtherMoves

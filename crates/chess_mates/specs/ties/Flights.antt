@@ -1,5 +1,5 @@
 -- Flights: the squares to which a king may go (a composer's word; the moves are the Laws').
-use Rattle.std.specs.Prelude.{◌≡◌, ◌<◌, ℕ, Bool, true, false, ◌&&◌, ◌==◌, not, List, Option, Some, None, is_some}
+use Rattle.std.specs.Prelude.{◌≡◌, ⊤, ◌<◌, ℕ, Bool, true, false, ◌&&◌, ◌==◌, not, List, Option, Some, None, is_some}
 use Rattle.std.specs.Int.{bit_at, bit_not, w64}
 use Rattle.std.specs.Int.Bits.{bit_and, bit_or}
 use Rattle.chess_core.specs.Position.{Position, king_square, man_on, other, same_kind}
@@ -10,11 +10,15 @@ use Rattle.chess_core.specs.declared.man.Colour.{Colour}
 use Rattle.chess_core.specs.declared.man.Kind.TheVariants.{King}
 use Rattle.chess_core.specs.declared.man.Man.{Man}
 use Rattle.chess_core.specs.declared.man.Move.{Move}
+use Rattle.chess_mates.specs.declared.flights.Flights.{Flights}
+use Rattle.chess_mates.specs.declared.flights.Flights.TheVariants.{Left, NoneLeft, Untold}
+use Rattle.chess_rules.specs.Attacks.{in_check}
 use Rattle.chess_rules.specs.Legal.{is_arrival_free, is_legal, is_pseudo_legal}
 use Rattle.chess_rules.specs.Play.{capture_square}
 use Rattle.chess_rules.specs.Reaches.{reaches_as}
 use Rattle.chess_rules.specs.RuleSet.{RuleSet, captures_do_more}
 use Rattle.chess_rules.specs.ties.Shields.{is_reached}
+use Rattle.chess_rules.specs.ties.Sifting.{is_of_others}
 use Rattle.chess_rules.specs.ties.Sight.{AreSeen, is_simple, sight_after}
 use Rattle.chess_rules.specs.declared.sight.Sight.{Sight}
 
@@ -42,6 +46,12 @@ is_open rule men c k t =
 pub record AreOpen (rule : RuleSet) (men : List (Option Man)) (c : Colour) (k w : ℕ) : Type 0 where
   pub inside : (t : ℕ) → t < 64 → (bit_at w t == 1) ≡ true → is_open rule men c k t ≡ true
 
+-- the same, and without Circe to no other
+pub record AreSteps (rule : RuleSet) (men : List (Option Man)) (c : Colour) (k w : ℕ) : Type 0 where
+  pub inside : (t : ℕ) → t < 64 → (bit_at w t == 1) ≡ true → is_open rule men c k t ≡ true
+  pub outside : captures_do_more rule ≡ false → (t : ℕ) → t < 64 → (bit_at w t == 1) ≡ false
+      → is_open rule men c k t ≡ false
+
 -- x, that is no king, may make the simple move m, and the enemy king stands on k
 pub record IsSeenFrom (rule : RuleSet) (p : Position) (m : Move) (x : Man) (k : ℕ) : Type 0 where
   pub well_formed : IsWellFormed p
@@ -65,6 +75,22 @@ sight_with v t = record {
   occupied = bit_or v.occupied (word (is_square (Some t)));
   standing = bit_and v.standing (bit_not w64 (word (is_square (Some t))));
 }
+
+-- on each of the word's squares a man of colour c, the one that moved apart, reaches the king that stands there
+pub record AreGuarded (before : List (Option Man)) (c : Colour) (v : Sight) (w : ℕ) : Type 0 where
+  pub reached : (t : ℕ) → t < 64 → (bit_at w t == 1) ≡ true → (men : List (Option Man))
+      → AreSeen before men c (sight_with v t) → is_reached men t c ≡ true
+
+-- the king of the side to move has no legal move where he is in check
+pub record IsFlightless (rule : RuleSet) (p : Position) : Type 0 where
+  pub stays : in_check rule p.men p.turn ≡ true → (m : Move) → is_of_others p m ≡ false
+      → is_legal rule p m ≡ false
+
+-- it is so what is told of the flights of the side to move
+abbrev pub IsTold : RuleSet → Position → Flights → Type 0
+IsTold rule p Left = has_flight rule p ≡ true
+IsTold rule p NoneLeft = IsFlightless rule p
+IsTold rule p Untold = ⊤
 
 -- no enemy of the side to move reaches this king, one of its men, once he has stepped from k to t
 pub record IsUnreached (p : Position) (x : Man) (k t : ℕ) : Type 0 where

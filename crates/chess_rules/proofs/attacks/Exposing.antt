@@ -68,7 +68,7 @@ unfolding is_paralysed
 none_paralysed rule men s off = sym (and_left (faced_men_stand_still rule) _ off)
 
 -- who goes and who is captured
-captures_arrival : (p : Position) (x : Man) (m : Move) → is_some (man_on p.men m.to) ≡ true → is_square (capture_square p x m) m.to ≡ true
+pub captures_arrival : (p : Position) (x : Man) (m : Move) → is_some (man_on p.men m.to) ≡ true → is_square (capture_square p x m) m.to ≡ true
 unfolding capture_square
 captures_arrival p x m h = search (rules, cond-true, eq-eqb)
 

@@ -1,0 +1,105 @@
+//! Whether the king's men have a legal move, the king's own apart.
+ghost use Rattle.std.specs.Prelude.{◌≡◌, ◌<◌, ◌&&◌, filter, not};
+ghost use Rattle.chess_core.specs.WellFormed.{IsWellFormed};
+ghost use Rattle.chess_rules.specs.Legal.{is_legal, is_nil, moves};
+ghost use Rattle.chess_rules.specs.ties.Counting.{IsKnownIn};
+ghost use Rattle.chess_rules.specs.ties.Sifting.{is_of_others, is_wanted};
+ghost use Rattle.chess_rules.specs.ties.Targets.{AreCandidates, AreOrigins, IsAimed};
+
+use crate::evasions::evasion_squares;
+use crate::legal::is_legal;
+use crate::legal_moves::{Known, candidates, own_origins};
+use crate::rules::Rules;
+use crate::shields::king_safety;
+use crate::sought::{Sought, next_passing};
+use crate::targets::{Kept, TRIPLES};
+use crate::words::contains;
+use chess_core::board::Board;
+use chess_core::man::{Kind, Move};
+use chess_core::square::{Square, Squares};
+
+// What is known of a position where legal moves of other men than the king are looked for.
+#[derive(Clone, Copy)]
+struct Others {
+    known: Known,
+}
+
+impl Sought for Others {
+    ghost use Rattle.chess_rules.specs.ties.Counting.{IsKnownIn};
+    ghost use Rattle.chess_rules.specs.ties.Idle.{is_wanted-idle};
+    ghost use Rattle.chess_rules.specs.ties.Sifting.{is_of_others, is_wanted};
+
+    ghost test = { λ rule p. is_wanted rule p (is_of_others p) };
+
+    ghost found = { λ rule p. is_wanted rule p (is_of_others p) };
+
+    ghost fits = { λ s rule p. IsKnownIn rule p s.known };
+
+    fn origins<R: Rules>(&self, board: &Board) -> Squares {
+        origins_of_others::<R>(board)
+    }
+
+    fn candidates<R: Rules>(&self, board: &Board, from: Square) -> Squares {
+        candidates_of_others::<R>(board, self.known, from)
+    }
+
+    fn is_found<R: Rules>(&self, board: &mut Board, m: Move) -> bool {
+        is_legal_of_others::<R>(board, self.known, m)
+    }
+
+    ghost idle = { λ rule p m h. is_wanted-idle rule p (is_of_others p) m h };
+}
+
+// The squares from which another man than the king may have a legal move: those of these men.
+#[tactic(auto, using(crate::proofs::listing_moves::OtherMoves::other_origins))]
+fn origins_of_others<R: Rules>(board: &Board) -> Squares
+    ensures { AreOrigins (is_wanted R.rule board.now (is_of_others board.now)) result }
+{
+    own_origins::<R>(board) & !board.squares(board.turn(), Kind::King)
+}
+
+// The squares to which the man on `from` may go by a legal move, and perhaps more.
+#[tactic(auto, using(crate::proofs::listing_moves::OtherMoves::other_candidates))]
+fn candidates_of_others<R: Rules>(board: &Board, known: Known, from: Square) -> Squares
+    requires well_formed { IsWellFormed board.now }
+    requires known { IsKnownIn R.rule board.now known }
+    ensures { AreCandidates R.rule board.now (is_wanted R.rule board.now (is_of_others board.now)) from
+        result }
+{
+    candidates::<R>(board, known.evasion_squares, from)
+}
+
+#[tactic(auto, using(crate::proofs::listing_moves::OtherMoves::is_other))]
+// Whether the move is legal and not the king's. The board is unchanged after it.
+fn is_legal_of_others<R: Rules>(board: &mut Board, known: Known, m: Move) -> bool
+    requires well_formed { IsWellFormed board.old }
+    requires aimed { IsAimed R.rule board.old m }
+    requires known { IsKnownIn R.rule board.old known }
+    ensures answer { result ≡ is_wanted R.rule board.old (is_of_others board.old) m }
+    ensures board { board.new ≡ board.old }
+{
+    is_legal::<R>(board, known.shield_squares, known.evasion_squares, m)
+        && !contains(board.squares(board.turn(), Kind::King), m.from)
+}
+
+#[tactic(auto, using(crate::proofs::listing_moves::OtherMoves::others_found))]
+/// Whether another man than the king of the side to move has a legal move. The board is unchanged.
+pub fn others_have_move<R: Rules>(board: &mut Board) -> bool
+    requires { IsWellFormed board.old }
+    ensures answer { result
+        ≡ not (is_nil (filter (is_of_others board.old) (moves R.rule board.old))) }
+    ensures board { board.new ≡ board.old }
+{
+    let safety = king_safety(board, board.turn());
+    let others = Others {
+        known: Known {
+            shield_squares: safety.shields,
+            evasion_squares: evasion_squares::<R>(board, board.turn(), safety.checkers),
+        },
+    };
+    let mut kept = Kept {
+        origin: None,
+        squares: 0,
+    };
+    next_passing::<R, Others>(board, &others, &mut kept, 0, TRIPLES) < TRIPLES
+}
