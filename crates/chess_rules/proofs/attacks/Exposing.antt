@@ -18,11 +18,8 @@ pub record IsSimple (rule : RuleSet) (p : Position) (x : Man) (m : Move) : Type 
   pub castling : is_castling x m ≡ false
   pub rebirth : captures_do_more rule ≡ true → capture_square p x m ≡ None
 
-none_there : (b : Bool) (o : Option ℕ) → (b && is_some o) ≡ false → b ≡ true → o ≡ None
-none_there b o p q = grind arith
-
 simple_parts : (rule : RuleSet) (p : Position) (x : Man) (m : Move) → is_simple rule x m (is_some (capture_square p x m)) ≡ true → IsSimple rule p x m
-simple_parts rule p x m h = grind (arith, and_parts, not-true, none_there)
+simple_parts rule p x m h = grind (arith, and_parts, not-true)
 
 -- the arriving man in a word by kind
 pub arrives_as : (x : Man) (m : Move) (k : Kind) (w : ℕ) → w ≡ word (is_square (Some m.to)) → same_kind (arriving_man x m.promo).kind k ≡ true
@@ -68,13 +65,10 @@ unfolding is_paralysed
 none_paralysed rule men s off = sym (and_left (faced_men_stand_still rule) _ off)
 
 -- who goes and who is captured
-captures_arrival : (p : Position) (x : Man) (m : Move) → is_some (man_on p.men m.to) ≡ true → is_square (capture_square p x m) m.to ≡ true
-unfolding capture_square
-captures_arrival p x m h = search (rules, cond-true, eq-eqb)
-
 goes_capturing : (rule : RuleSet) (p : Position) (x : Man) (m : Move) → IsWellFormed p → IsMade rule p x m → m.to < 64
     → IsCapture p.men m.from (capture_square p x m) m.to (arriving_man x m.promo) p.turn
-goes_capturing rule p x m well is small = search (rules, captures_arrival, other_differs)
+unfolding capture_square
+goes_capturing rule p x m well is small = search (rules, other_differs, cond-true, eq-eqb)
 
 -- the king after the move
 free_of_king : (c : Colour) (o : Option Man) → is_arrival_free c o ≡ true → is_man o c King ≡ false
