@@ -40,13 +40,9 @@ next_some word from p pos fits =
 is_bit : (b : Bool) → (bit_of b == 1) ≡ b
 is_bit b = grind arith
 
--- a word that isn't 0 has a square
-zero_or : (n : ℕ) → (n ≡ 0) ⊎ (0 < n)
-zero_or n = grind arith
-
 -- a word isn't 0 exactly if some square passes
 pub not_zero : (test : ℕ → Bool) → not (word test == 0) ≡ some_square test
-not_zero test = search (rules, squares_none, squares_some, zero_or)
+not_zero test = search (rules, squares_none, squares_some)
 
 -- a word of no squares
 pub word_empty : (test : ℕ → Bool) → ((s : ℕ) → s < 64 → test s ≡ false) → 0 ≡ word test

@@ -49,11 +49,6 @@ reached_none men c k t w h z =
     word_empty _ (λ s b. and_left (is_man (man_on men s) c k) (reaches men s t) (word_lacks (λ s. is_man (man_on men s) c k) (sym h ∙ z) s b))
 
 -- a man of colour b reaches by what its kind says
-by_lines : (b : Bool) (k : Kind) (r s d : Bool) → (k ≡ Rook → r ≡ s) → (k ≡ Bishop → r ≡ d) → (k ≡ Queen → r ≡ (s || d))
-    → (((((b && (same_kind k King || same_kind k Knight || same_kind k Pawn)) && r) || (((b && same_kind k Rook) || (b && same_kind k Queen)) && s))
-    || (((b && same_kind k Bishop) || (b && same_kind k Queen)) && d)) || ((b && is_fairy k) && r)) ≡ (b && r)
-by_lines b k r s d rook bishop queen = grind arith
-
 rook_reaches : (men : List (Option Man)) (c : Colour) (k : Kind) (s t : ℕ) → s < 64 → t < 64 → k ≡ Rook
     → reaches_as men c k s t ≡ list_any (rides men t s) straight_steps
 unfolding reaches_as
@@ -74,7 +69,7 @@ at_square : (men : List (Option Man)) (c : Colour) (o : Option Man) (s t : ℕ) 
     → ((((is_leaping_man o c && reaches_of men o s t) || ((is_man o c Rook || is_man o c Queen) && list_any (rides men t s) straight_steps))
     || ((is_man o c Bishop || is_man o c Queen) && list_any (rides men t s) diagonal_steps)) || (is_fairy_man o c && reaches_of men o s t))
     ≡ (is_of_colour o c && reaches_of men o s t)
-at_square men c v2 s t p q = search (rules, bishop_reaches, by_lines, queen_reaches, rook_reaches, p, q)
+at_square men c v2 s t p q = search (rules, bishop_reaches, queen_reaches, rook_reaches, p, q)
 
 -- the riders of a kind and the queens on the squares to which a ride from t gets
 pub met : (men : List (Option Man)) (c : Colour) (k : Kind) (t m n w : ℕ) (ds : List Step) → m ≡ squares_of men c k → n ≡ squares_of men c Queen
@@ -205,14 +200,11 @@ pub attacked_by : (rule : RuleSet) (men : List (Option Man)) (t w : ℕ) (c : Co
 unfolding is_attacked is_attacker
 attacked_by rule men t w c h = search (rules, some_square_same, word_has)
 
-unparalysed : (side still faced reaches : Bool) → still ≡ false → (side && reaches) ≡ ((side && not (still && faced)) && reaches)
-unparalysed side still faced reaches off = grind arith
-
 -- where nobody is paralysed, a square is attacked if some man reaches it
 pub attacked_plainly : (rule : RuleSet) (men : List (Option Man)) (t : ℕ) (c : Colour) (b : Bool) → faced_men_stand_still rule ≡ false → b ≡ is_reached men t c
     → b ≡ is_attacked rule men t c
 unfolding is_attacked is_attacker is_paralysed is_reached
-attacked_plainly rule men t c b off h = search (rules, some_square_same, unparalysed, off, h)
+attacked_plainly rule men t c b off h = search (rules, some_square_same, off, h)
 
 -- an enemy of a man's kind reaches its square exactly if the word of those isn't 0
 pub faced : (men : List (Option Man)) (x : Man) (t w : ℕ) → w ≡ word (λ s. is_man (man_on men s) (other x.colour) x.kind && reaches men s t)

@@ -12,10 +12,6 @@ pub plain_elsewhere : (rule : RuleSet) (p : Position) (x : Man) (m : Move) (b d 
 unfolding is_plain
 plain_elsewhere rule p x m b d small no_castling crossed off-b reborn off-d = search (rules, and_left, and_right, cases_Bool, word_has)
 
--- where nobody stands there is no move, so any word will do
-pub evasions_from_nobody : (rule : RuleSet) (p : Position) (f w : ℕ) → man_on p.men f ≡ None → AreEvasionsFrom rule p f w
-evasions_from_nobody rule p f w none = search (rules, nobody_moves)
-
 -- the word of all squares leaves no move out
 pub evasions_from_all : (rule : RuleSet) (p : Position) (f : ℕ) → AreEvasionsFrom rule p f (bit_not w64 0)
 evasions_from_all rule p f = search (rules, every_square_on)

@@ -18,11 +18,8 @@ pub record IsSimple (rule : RuleSet) (p : Position) (x : Man) (m : Move) : Type 
   pub castling : is_castling x m ≡ false
   pub rebirth : captures_do_more rule ≡ true → capture_square p x m ≡ None
 
-none_there : (b : Bool) (o : Option ℕ) → (b && is_some o) ≡ false → b ≡ true → o ≡ None
-none_there b o p q = grind arith
-
 simple_parts : (rule : RuleSet) (p : Position) (x : Man) (m : Move) → is_simple rule x m (is_some (capture_square p x m)) ≡ true → IsSimple rule p x m
-simple_parts rule p x m h = grind (arith, and_parts, not-true, none_there)
+simple_parts rule p x m h = grind (arith, and_parts, not-true)
 
 -- the arriving man in a word by kind
 pub arrives_as : (x : Man) (m : Move) (k : Kind) (w : ℕ) → w ≡ word (is_square (Some m.to)) → same_kind (arriving_man x m.promo).kind k ≡ true

@@ -34,9 +34,6 @@ there_now men a o b z small = search rules
 gone_at : (men : List (Option Man)) (o : Option ℕ) (q : ℕ) → is_square o q ≡ true → man_on (without_at men o) q ≡ None
 gone_at men o q h = grind (arith, false≢true, eqb-true, man_on-without_same)
 
-kept_at : (men : List (Option Man)) (o : Option ℕ) (q : ℕ) → is_square o q ≡ false → man_on (without_at men o) q ≡ man_on men q
-kept_at men o q h = grind (arith, man_on-without_other, false≢true, eq-eqb)
-
 -- origin and square of capture are empty, unless the man came there
 pub left_now : (men : List (Option Man)) (a : ℕ) (o : Option ℕ) (b : ℕ) (z : Man) (q : ℕ) → q ≢ b → (is_square (Some a) q || is_square o q) ≡ true
     → man_on (gone_to men a o b z) q ≡ None
@@ -50,18 +47,12 @@ left_now men a o b z q ne h =
 -- every other square is as it was
 pub kept_now : (men : List (Option Man)) (a : ℕ) (o : Option ℕ) (b : ℕ) (z : Man) (q : ℕ) → q ≢ b → (is_square (Some a) q || is_square o q) ≡ false
     → man_on (gone_to men a o b z) q ≡ man_on men q
-kept_now men a o b z q ne h = search (rules, or_parts, man_on-with_other, kept_at, ne, h)
-
-is_gone : (h l t : Bool) → l ≡ true → t ≡ false → ((h && not l) || t) ≡ false
-is_gone h l t p q = grind arith
-
-is_kept : (h l t : Bool) → l ≡ false → t ≡ false → ((h && not l) || t) ≡ h
-is_kept h l t p q = grind arith
+kept_now men a o b z q ne h = grind (arith, or_parts, man_on-with_other, ne, h, man_on-without_other, false≢true, eq-eqb)
 
 -- so the test says on which squares men stand after the move
 pub occupied_now : (men : List (Option Man)) (a : ℕ) (o : Option ℕ) (b : ℕ) (z : Man) (q : ℕ) → b < length men
     → is_occupied_after men a o b q ≡ is_some (man_on (gone_to men a o b z) q)
-occupied_now men a o b z q small = search (rules, cases_Bool, cases_eq, differs, eq-eqb, is_gone, is_kept, kept_now, left_now, or_right, there_now)
+occupied_now men a o b z q small = search (rules, cases_Bool, cases_eq, differs, eq-eqb, kept_now, left_now, or_right, there_now)
 
 -- what is asked of the man on the origin, of the one that arrives, and of the arrival
 pub record IsCapture (men : List (Option Man)) (a : ℕ) (o : Option ℕ) (b : ℕ) (z : Man) (c : Colour) : Type 0 where
@@ -74,13 +65,10 @@ pub record IsCapture (men : List (Option Man)) (a : ℕ) (o : Option ℕ) (b : �
 pub no_man : (o : Option Man) (c : Colour) (k : Kind) → is_of_colour o c ≡ false → is_man o c k ≡ false
 no_man o c k h = grind (arith, and_left)
 
-nobody : (o : Option Man) (c : Colour) (k : Kind) → is_some o ≡ false → is_man o c k ≡ false
-nobody o c k h = grind (arith, false≢true)
-
 enemy_now : (men : List (Option Man)) (a : ℕ) (o : Option ℕ) (b : ℕ) (z : Man) (c : Colour) (k : Kind) (q : ℕ) → IsCapture men a o b z c
     → (is_man (man_on men q) (other c) k && not (is_square o q)) ≡ is_man (man_on (gone_to men a o b z) q) (other c) k
 enemy_now men a o b z c k q i =
-    grind (arith, cases_eq q b, there_now, left_now, kept_now, cases_Bool (is_square o q), cases_Bool (is_square (Some a) q), nobody, no_man, eqb-true a q)
+    grind (arith, cases_eq q b, there_now, left_now, kept_now, cases_Bool (is_square o q), cases_Bool (is_square (Some a) q), no_man, eqb-true a q, false≢true)
 
 -- the words after a move are those of the men after it
 pub seen_after : (men : List (Option Man)) (a : ℕ) (o : Option ℕ) (b : ℕ) (z : Man) (c : Colour) → IsCapture men a o b z c

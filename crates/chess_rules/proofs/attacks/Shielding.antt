@@ -1,6 +1,6 @@
 -- A plain move from a square that a queen on the king's doesn't see opens no line to the king.
 use Rattle.chess_rules.proofs.Basics.{Bool, List, None, Option, Some, [], and_from, and_parts, and_right, ap, arith, bit_at, bit_not, bit_or, cases_Bool, cases_eq, cond-false, cond-true, eq-eqb, false, false_from_ne_true, false≢true, inl, inr, is_some, length, list_any, list_any-append, not, not-true, or_cases, or_left, or_parts, or_right, refl, rules, sym, true, w64, ℕ, ◌&&◌, ◌<◌, ◌==◌, ◌||◌, ◌∙◌, ◌∷◌, ◌≡◌, ◌≢◌}
-use Rattle.chess_rules.proofs.Chess.{AtMostOneKing, Bishop, Colour, Direction, East, Grasshopper, IsWellFormed, Kind, King, Man, Move, Nightrider, North, NorthEast, NorthWest, Position, Queen, Rook, RuleSet, South, SouthEast, SouthWest, Step, Straight, West, position_after_by, arriving_man, capture_square, is_attacked, is_attacked_at, position_after}
+use Rattle.chess_rules.proofs.Chess.{first_of_and, second_of_and, AtMostOneKing, Bishop, Colour, Direction, East, Grasshopper, IsWellFormed, Kind, King, Man, Move, Nightrider, North, NorthEast, NorthWest, Position, Queen, Rook, RuleSet, South, SouthEast, SouthWest, Step, Straight, West, position_after_by, arriving_man, capture_square, is_attacked, is_attacked_at, position_after}
 use Rattle.chess_rules.proofs.Chess.{diagonal_steps, differs, find_first, has_fairy, hops, in_check, is_behind, is_castling, is_checker, is_checker_at, captures_do_more, is_man, is_on_fairy_line, is_on_fairy_line_at, is_on_some, is_plain, is_promotion_right, is_reached, is_shut, is_of_colour, is_square, is_vacant_at, king_square, knight_steps, man_on, man_on_at}
 use Rattle.chess_rules.proofs.Chess.{is_paralysed, is_pseudo_legal, may_expose, may_expose_at, may_stand_between, moved_men, other, queen_steps, reaches, reaches_as, rebirth_at, reborn_square, rider_along, rides, same_colour, same_kind, some_square_false, some_square_true, squares, squares_either, squares_of, squares_same, step_of, steps_along, straight_steps, is_attacker, word, any_kept, cannot_expose, find_square_some, second_fails}
 use Rattle.chess_rules.specs.declared.shields.RiderLines.{RiderLines}
@@ -250,22 +250,10 @@ stays_safe rule men after a b z c i g = by (king_square after c) refl where
       let off : is_on_fairy_line_at men (Some k) c b ≡ false = ap (λ (o : Option ℕ). is_on_fairy_line_at men o c b) (sym at) ∙ g.aside in
       not_attacked rule after (other c) k (unreached men after a b z i c k (covered_parts men c a k no) small off (g.quiet k at))
 
--- nobody is reborn where nobody is captured, or without Circe
-none_reborn : (men : List (Option Man)) (o : Option Man) (s : ℕ) → rebirth_at false men o (Some s) ≡ None
-none_reborn men o s = grind arith
-
-nobody_reborn : (circe : Bool) (men before : List (Option Man)) (o : Option ℕ) → (circe ≡ true → o ≡ None)
-    → rebirth_at circe men (man_on_at before o) o ≡ None
-nobody_reborn circe men before o h = grind (arith, none_reborn)
-
 -- a plain move captures on its arrival alone
 captures_there : (p : Position) (x : Man) (m : Move) (s : ℕ) → is_square p.crossed m.to ≡ false → capture_square p x m ≡ Some s → s ≡ m.to
 unfolding capture_square
 captures_there p x m s off h = grind (arith, cases_Bool, cond-true, cond-false, and_right)
-
-captures_nobody : (p : Position) (x : Man) (m : Move) → is_square p.crossed m.to ≡ false → is_some (man_on p.men m.to) ≡ false → capture_square p x m ≡ None
-unfolding capture_square
-captures_nobody p x m off e = search (rules, cond-false, and_right)
 
 -- the parts of a plain move
 pub record IsPlain (rule : RuleSet) (p : Position) (x : Man) (m : Move) : Type 0 where
@@ -275,8 +263,8 @@ pub record IsPlain (rule : RuleSet) (p : Position) (x : Man) (m : Move) : Type 0
 
 -- a plain move has them
 pub plain_parts : (rule : RuleSet) (p : Position) (x : Man) (m : Move) → is_plain rule p x m ≡ true → IsPlain rule p x m
-unfolding is_plain
-plain_parts rule p x m h = grind (arith, and_parts, not-true, captures_nobody, second_fails)
+unfolding is_plain capture_square
+plain_parts rule p x m h = grind (arith, and_parts, not-true, second_fails, cond-false, and_right)
 
 -- where nobody castles, the moved men are those once the man has arrived
 pub moved_plainly : (p : Position) (x : Man) (m : Move) → is_castling x m ≡ false → moved_men p x m ≡ arrived p x m
@@ -288,7 +276,7 @@ pub unreborn_after : (rule : RuleSet) (p : Position) (x : Man) (m : Move) → ma
     → (captures_do_more rule ≡ true → capture_square p x m ≡ None)
     → (position_after rule p m).men ≡ moved_men p x m
 unfolding position_after position_after_by reborn_square
-unreborn_after rule p x m here rebirth = search (rules, nobody_reborn)
+unreborn_after rule p x m here rebirth = search rules
 
 -- and nobody castles
 pub simple_after : (rule : RuleSet) (p : Position) (x : Man) (m : Move) → man_on p.men m.from ≡ Some x → is_castling x m ≡ false
@@ -382,46 +370,39 @@ pub checkers_none : (men : List (Option Man)) (c : Colour) → king_square men c
 unfolding is_checker
 checkers_none men c h = word_empty (is_checker men c) (λ s b. ap (λ (o : Option ℕ). is_checker_at men o c s) h)
 
--- the enemies that reach a king's square
+-- the men of colour e that reach a king's square
 abbrev reaching : List (Option Man) → Colour → ℕ → ℕ → Bool
-reaching men c k s = is_of_colour (man_on men s) (other c) && reaches men s k
+reaching men e k s = is_of_colour (man_on men s) e && reaches men s k
 
--- are those that reach him
-pub checkers_are : (men : List (Option Man)) (c : Colour) (k w : ℕ) → king_square men c ≡ Some k → w ≡ word (reaching men c k) → w ≡ word (is_checker men c)
+-- if they are enemies, they are those that reach him
+pub checkers_are : (men : List (Option Man)) (c e : Colour) (k w : ℕ) → e ≡ other c → king_square men c ≡ Some k → w ≡ word (reaching men e k)
+    → w ≡ word (is_checker men c)
 unfolding is_checker
-checkers_are men c k w at h = h ∙ squares_same (reaching men c k) (is_checker men c) (λ s b. sym (ap (λ (o : Option ℕ). is_checker_at men o c s) at))
+checkers_are men c e k w enemy at h = search (rules, squares_same, enemy, at, h)
 
 -- whether there is one, told by their word
-reached_by_word : (men : List (Option Man)) (c : Colour) (k w : ℕ) → w ≡ word (reaching men c k) → not (w == 0) ≡ is_reached men k (other c)
+reached_by_word : (men : List (Option Man)) (c e : Colour) (k w : ℕ) → e ≡ other c → w ≡ word (reaching men e k) → not (w == 0) ≡ is_reached men k (other c)
 unfolding is_reached
-reached_by_word men c k w h = ap (λ n. not (n == 0)) h ∙ not_zero (reaching men c k)
+reached_by_word men c e k w enemy h = search (rules, not_zero, enemy, h)
 
 -- with a king that an enemy reaches, they are all squares
-pub shield_squares_all : (men : List (Option Man)) (c : Colour) (k w : ℕ) → king_square men c ≡ Some k → w ≡ word (reaching men c k) → (w ≡ 0 → ⊥)
-    → bit_not w64 0 ≡ word (may_expose men c)
+pub shield_squares_all : (men : List (Option Man)) (c e : Colour) (k w : ℕ) → e ≡ other c → king_square men c ≡ Some k → w ≡ word (reaching men e k)
+    → (w ≡ 0 → ⊥) → bit_not w64 0 ≡ word (may_expose men c)
 unfolding may_expose
-shield_squares_all men c k w at h some =
-    let reached : is_reached men k (other c) ≡ true = sym (reached_by_word men c k w h) ∙ ap not (differs w 0 some) in
+shield_squares_all men c e k w enemy at h some =
+    let reached : is_reached men k (other c) ≡ true = sym (reached_by_word men c e k w enemy h) ∙ ap not (differs w 0 some) in
     search (rules, every_square, or_left)
 
 -- else his own, those that shut a line to him, and those on fairy lines
-pub shield_squares_some : (men : List (Option Man)) (c : Colour) (k r w n : ℕ) → king_square men c ≡ Some k → r ≡ word (reaching men c k) → r ≡ 0
+pub shield_squares_some : (men : List (Option Man)) (c e : Colour) (k r w n : ℕ) → e ≡ other c → king_square men c ≡ Some k → r ≡ word (reaching men e k)
+    → r ≡ 0
     → w ≡ bit_or (bit_or (word (is_square (Some k))) (word (is_shut men (other c) Rook straight_steps k)))
     (word (is_shut men (other c) Bishop diagonal_steps k))
     → n ≡ word (may_stand_between men c) → bit_or w n ≡ word (may_expose men c)
 unfolding may_expose may_stand_between
-shield_squares_some men c k r w n at reachers none h i =
-    let unreached : is_reached men k (other c) ≡ false = sym (reached_by_word men c k r reachers) ∙ ap (λ (v : ℕ). not (v == 0)) none in
-    let rook : ℕ → Bool = is_shut men (other c) Rook straight_steps k in
-    let bishop : ℕ → Bool = is_shut men (other c) Bishop diagonal_steps k in
-    (λ j. bit_or (h j) (i j))
-    ∙ (λ j. bit_or (bit_or (squares_either (λ t. is_square (Some k) t) rook j) (word bishop)) (word (may_stand_between men c)))
-    ∙ (λ j. bit_or (squares_either (λ t. is_square (Some k) t || rook t) bishop j) (word (may_stand_between men c)))
-    ∙ squares_either (λ t. (is_square (Some k) t || rook t) || bishop t) (may_stand_between men c)
-    ∙ squares_same _ (may_expose men c)
-    (λ s b. ap (λ (o : Option ℕ). ((k == s || rook s) || bishop s) || is_on_fairy_line_at men o c s) at
-    ∙ sym (ap (λ (o : Option ℕ). may_expose_at men o c s) at
-    ∙ ap (λ (x : Bool). x || k == s || rook s || bishop s || is_on_fairy_line men (other c) k s) unreached))
+shield_squares_some men c e k r w n enemy at reachers none h i =
+    let unreached : is_reached men k (other c) ≡ false = sym (reached_by_word men c e k r enemy reachers) ∙ ap (λ (v : ℕ). not (v == 0)) none in
+    search (rules, squares_either, squares_same, at, unreached, h, i)
 
 -- whether a move can't uncover a king: not if its origin is in that word
 pub cannot_expose_from : (rule : RuleSet) (p : Position) (c : Colour) (m : Move) (w s : ℕ) (b : Bool) → w ≡ word (may_expose p.men c) → s ≡ m.from → s < 64
@@ -441,15 +422,11 @@ pub cannot_expose_nobody : (rule : RuleSet) (p : Position) (c : Colour) (m : Mov
 unfolding cannot_expose
 cannot_expose_nobody rule p c m none = rw none refl
 
--- a square on a fairy line to a king is one from which a move may expose him
-expose_between : (men : List (Option Man)) (o : Option ℕ) (c : Colour) (s : ℕ) → may_expose_at men o c s ≡ false → is_on_fairy_line_at men o c s ≡ false
-expose_between men o c s h = grind (arith, or_parts)
-
 -- so one that isn't in their word lies on none
 pub off_shields : (men : List (Option Man)) (c : Colour) (w t : ℕ) (b : Bool) → w ≡ word (may_expose men c) → t < 64 → b ≡ (bit_at w t == 1) → b ≡ false
     → b ≡ may_stand_between men c t
 unfolding may_expose may_stand_between
-off_shields men c w t b h small e off = search (rules, expose_between, word_has)
+off_shields men c w t b h small e off = search (rules, word_has, or_parts)
 
 -- and the word of the fairy lines tells of the others
 pub between_is : (men : List (Option Man)) (c : Colour) (w t : ℕ) (b : Bool) → w ≡ word (may_stand_between men c) → t < 64 → b ≡ (bit_at w t == 1)

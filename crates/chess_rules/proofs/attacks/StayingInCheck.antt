@@ -44,9 +44,7 @@ side_there o c h = grind arith
 -- on the square of a king, which is on the board, he stands
 pub king_there : (men : List (Option Man)) (c : Colour) (k : ℕ) → king_square men c ≡ Some k → (k < 64) × (is_man (man_on men k) c King ≡ true)
 unfolding king_square squares
-king_there men c k h =
-    let f = find_first (λ s. is_man (man_on men s) c King) 0 64 k h in
-    (omega (arith, f.high), f.here)
+king_there men c k h = let f = find_first (λ s. is_man (man_on men s) c King) 0 64 k h in (omega (arith, f.high), f.here)
 
 -- the square that an unanswered check comes from, and the king's, aren't touched by the move
 record IsAway (men : List (Option Man)) (c : Colour) (a b : ℕ) : Type 0 where

@@ -5,18 +5,11 @@ use Rattle.chess_rules.proofs.Bits.{word_empty, word_has}
 use Rattle.chess_rules.proofs.making_moves.Pseudo.{king_is_no_pawn}
 use Rattle.chess_rules.proofs.listing_moves.Targeting.{false_by}
 
--- no man of the colour and no king
-free_of : (a c : Colour) (k : Kind) → not (same_colour a c || (same_colour a (other c) && same_kind k King)) ≡ (not (same_colour a c) && not (same_kind k King))
-free_of a c k = grind arith
-
-free_on : (o : Option Man) (c : Colour) → not (is_of_colour o c || is_man o (other c) King) ≡ is_arrival_free c o
-free_on o c = grind (arith, free_of)
-
 -- the squares with neither a man of the mover nor an enemy king
 pub free_word : (men : List (Option Man)) (c : Colour) (a b : ℕ) → a ≡ side_of men c → b ≡ squares_of men (other c) King
     → bit_not w64 (bit_or a b) ≡ word (λ t. is_arrival_free c (man_on men t))
 unfolding side_of squares_of
-free_word men c a b h i = search (rules, squares_either, squares_not, squares_same, free_on, h, i)
+free_word men c a b h i = search (rules, squares_either, squares_not, squares_same, h, i)
 
 -- a king that has moved doesn't castle
 pub castling_none : (u : Bool) (x : Man) (s : ℕ) → u ≡ false → 0 ≡ word (λ t. u && steps_to x s t)
@@ -204,22 +197,11 @@ pub no_steps : (x : Man) (s t : ℕ) (a u : Bool) → same_kind x.kind Pawn ≡ 
 unfolding steps_to
 no_steps x s t a u none piece h = search (rules, and_parts, cond-false, or_cases)
 
-goes_as_piece : (rule : RuleSet) (p : Position) (x : Man) (m : Move) → man_on p.men m.from ≡ Some x → same_kind x.kind Pawn ≡ false
-    → same_kind x.kind King ≡ false → may_go p x m.from m.to ≡ true → can_go rule p x m ≡ true
-unfolding may_go reaches
-goes_as_piece rule p x m here none piece h = search (rules, cond-false, no_steps, or_left)
-
--- a king that doesn't stand unmoved reaches where he goes
-goes_as_king : (rule : RuleSet) (p : Position) (x : Man) (m : Move) → man_on p.men m.from ≡ Some x → same_kind x.kind King ≡ true
-    → has_unmoved p.unmoved m.from ≡ false
-    → may_go p x m.from m.to ≡ true → can_go rule p x m ≡ true
-unfolding may_go reaches
-goes_as_king rule p x m here king moved h = search (rules, and_parts, cond-false, king_is_no_pawn, or_cases, or_left)
-
 -- where a man may go it goes by the rules, an unmoved king apart
 pub goes_on : (rule : RuleSet) (p : Position) (x : Man) (m : Move) → man_on p.men m.from ≡ Some x → may_go p x m.from m.to ≡ true
     → (same_kind x.kind King && has_unmoved p.unmoved m.from) ≡ false → true ≡ can_go rule p x m
-goes_on rule p x m here h free = search (rules, cases_Bool, goes_as_king, goes_as_pawn, goes_as_piece)
+unfolding may_go reaches
+goes_on rule p x m here h free = search (rules, cases_Bool, goes_as_pawn, cond-false, no_steps, or_left, and_parts, king_is_no_pawn, or_cases)
 
 last_two : (a b c : Bool) → a ≡ true → (a && b && c) ≡ (b && c)
 last_two a b c h = rw h refl
@@ -230,13 +212,10 @@ left_to_test : (rule : RuleSet) (p : Position) (x : Man) (m : Move) → man_on p
 unfolding is_arrival is_pseudo_legal
 left_to_test rule p x m here h = search (rules, and_parts, last_two)
 
-middle : (a b c : Bool) → a ≡ true → c ≡ true → ((a && b) && c) ≡ b
-middle a b c h i = grind arith
-
 -- it may be made with a promotion exactly if this promotion is allowed
 pub aimed_promotion : (rule : RuleSet) (p : Position) (m : Move) (k : Kind) → IsAimed rule p m → m.promo ≡ Some k → may_promote p k ≡ is_pseudo_legal rule p m
 aimed_promotion rule p m k a e =
-    grind (arith, and_parts, goes_as_pawn, may_go_aimed rule p a.man m a.here a.arrival, left_to_test rule p a.man m a.here a.arrival, middle)
+    grind (arith, and_parts, goes_as_pawn, may_go_aimed rule p a.man m a.here a.arrival, left_to_test rule p a.man m a.here a.arrival)
 
 -- and without one exactly if the man goes so
 pub aimed_plain : (rule : RuleSet) (p : Position) (m : Move) (x : Man) → IsAimed rule p m → m.promo ≡ None → man_on p.men m.from ≡ Some x

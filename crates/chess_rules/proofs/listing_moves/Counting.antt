@@ -147,11 +147,8 @@ module _ (rule : RuleSet) (p : Position) where
           → count_ones (w / 2 ^ arrival_from a) ≡ from_bool (a % per_arrival == 0 && bit_at w (a / per_arrival) == 1)
           + count_ones (w / 2 ^ arrival_from (a + 1))
       one_more a = elim (cases_eq (a % per_arrival) 0) [
-        | inl e ↦
-            let t : arrival_from a ≡ a / per_arrival = omega (arith, e) in
-            let u : arrival_from (a + 1) ≡ a / per_arrival + 1 = omega arith in
-            rw (e, t, u) (ones_from w (a / per_arrival))
-        | inr ne ↦ let t : arrival_from (a + 1) ≡ arrival_from a = omega (arith, ne) in rw (t, differs (a % per_arrival) 0 ne) (omega arith)
+        | inl e ↦ grind (arith, ones_from w (a / per_arrival))
+        | inr ne ↦ grind arith
       ]
 
       counted : (n a b : ℕ) → b ≡ a + n → b ≤ per_origin

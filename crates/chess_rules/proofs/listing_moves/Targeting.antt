@@ -33,19 +33,10 @@ unfolding reaches
 reaches_man men x s t here h = rw here at h
 
 -- a move goes where its man may go
-may_go_of : (rule : RuleSet) (p : Position) (x : Man) (m : Move) → m.to < 64 → man_on p.men m.from ≡ Some x → can_go rule p x m ≡ true
-    → may_go p x m.from m.to ≡ true
-unfolding may_go can_castle may_castle
-may_go_of rule p x m small here h = search (rules, and_from, and_parts, castling_steps, cond-false, cond-true, or_left, or_right, reaches_man)
-
-arrival_of : (rule : RuleSet) (p : Position) (x : Man) (m : Move) → m.to < 64 → man_on p.men m.from ≡ Some x → is_pseudo_legal_of rule p (Some x) m ≡ true
-    → is_arrival rule p m.from m.to ≡ true
-unfolding is_arrival
-arrival_of rule p x m small here h = search (rules, and_from, and_parts, may_go_of)
-
 arrival_by : (rule : RuleSet) (p : Position) (m : Move) (o : Option Man) → m.to < 64 → man_on p.men m.from ≡ o → is_pseudo_legal_of rule p o m ≡ true
     → is_arrival rule p m.from m.to ≡ true
-arrival_by rule p m o small here h = grind (arith, arrival_of)
+unfolding is_arrival may_go can_castle may_castle
+arrival_by rule p m o small here h = grind (arith, and_from, and_parts, castling_steps, cond-false, cond-true, or_left, or_right, reaches_man)
 
 -- a move that may be made goes where its man may go
 pub arrival_needed : (rule : RuleSet) (p : Position) (m : Move) → m.to < 64 → is_pseudo_legal rule p m ≡ true → is_arrival rule p m.from m.to ≡ true
@@ -95,10 +86,6 @@ arrival_from a = (a + per_arrival - 1) / per_arrival
 -- stretches of one origin
 from-empty : (p : Position) (s z a : ℕ) → IsBarrenFrom p s z a a
 from-empty p s z a = record { fails = λ rule k lo hi on. absurd (omega (arith, lo, hi)) }
-
--- from an empty square there is no move
-pub from-nobody : (p : Position) (s z a b : ℕ) → man_on p.men s ≡ None → IsBarrenFrom p s z a b
-from-nobody p s z a b h = search (rules, nobody_moves)
 
 -- two stretches without a move, one behind the other, are one
 pub from-join : (p : Position) (s z a b c : ℕ) → IsBarrenFrom p s z a b → IsBarrenFrom p s z b c → IsBarrenFrom p s z a c
@@ -164,10 +151,8 @@ no_pawn_arrives x t h = rw h refl
 from-plain : (p : Position) (x : Man) (s a w : ℕ) → man_on p.men s ≡ Some x → same_kind x.kind Pawn ≡ false
     → IsBarrenFrom p s w a (per_arrival * arrival_from a)
 from-plain p x s a w here h = elim (cases_eq (a % per_arrival) 0) [
-  | inl e ↦ let at : per_arrival * arrival_from a ≡ a = omega (arith, e) in rw at (from-empty p s w a)
-  | inr ne ↦
-      let at : per_arrival * arrival_from a ≡ per_arrival * (a / per_arrival) + per_arrival = omega (arith, ne) in
-      rw at (from-unpromoted p x s w (a / per_arrival) a here (no_pawn_arrives x (a / per_arrival) h) (omega (arith, ne)))
+  | inl e ↦ grind (arith, from-empty p s w a)
+  | inr ne ↦ grind (arith, from-unpromoted p x s w (a / per_arrival) a here, no_pawn_arrives)
 ]
 
 -- for another man than a pawn, up to the next target

@@ -27,14 +27,10 @@ is_man-some o c k h = grind (arith, and_parts)
 pub pawn_is_no_king : (k : Kind) → same_kind k Pawn ≡ true → same_kind k King ≡ false
 pawn_is_no_king k h = grind arith
 
-other_colours : (x y : Man) (c d : Colour) → x.colour ≡ c → same_colour y.colour d ≡ true → same_colour c d ≡ false → (o : Option Man) → o ≡ Some x
-    → o ≡ Some y → ⊥
-other_colours x y c d a b ne o e f = search rules
-
 -- en passant: behind the crossed square stands the pawn that passed it
 taken_passing : (c : Colour) (p : Position) (x : Man) (m : Move) (s : ℕ) → p.turn ≡ c → x.colour ≡ c → man_on p.men m.from ≡ Some x → IsPawnTake c m.from m.to
     → was_passed p.men c m.to ≡ true → IsAt (file_of m.to) (rank_of m.from) s → IsTaken p m s
-taken_passing c p x m s turn mine here take passed at = grind (arith, and_parts, eqb-true, is_man-some, other_colours, pawn_is_no_king)
+taken_passing c p x m s turn mine here take passed at = grind (arith, and_parts, eqb-true, is_man-some, pawn_is_no_king)
 
 -- a pawn that leaves its file captures
 diagonal_takes : (rule : RuleSet) (p : Position) (x : Man) (m : Move) → IsMade rule p x m → same_kind x.kind Pawn ≡ true → is_diagonal m ≡ true
@@ -69,13 +65,10 @@ taken rule p x m s well made h = elim (cases_Bool (is_some (man_on p.men m.to)))
       ]
 ]
 
-promoted_no_king : (p : Position) (k : Kind) → may_promote p k ≡ true → same_kind k King ≡ false
-promoted_no_king p k h = grind arith
-
 -- a king that arrives is the king that went
 pub arriving_king : (p : Position) (x : Man) (m : Move) (r : Option Kind) → is_promotion_right p x m r ≡ true → same_kind (arriving_man x r).kind King ≡ true
     → arriving_man x r ≡ x
-arriving_king p x m r right king = grind (arith, and_parts, promoted_no_king)
+arriving_king p x m r right king = grind (arith, and_parts)
 
 without_at-no_king : (men : List (Option Man)) (o : Option ℕ) (c : Colour) → HasNoKing men c → HasNoKing (without_at men o) c
 without_at-no_king men o c none = grind (arith, false_from_ne_true, is_man-without)
@@ -127,23 +120,14 @@ pub arrived_other : (p : Position) (x : Man) (m : Move) (t : ℕ) → t ≢ m.fr
     → man_on (arrived p x m) t ≡ man_on p.men t
 arrived_other p x m t n1 n2 n3 = search (rules, man_on-without_at, man_on-without_other)
 
-arrived_none : (p : Position) (x : Man) (m : Move) (t : ℕ) → man_on p.men t ≡ None → t ≢ m.to → man_on (arrived p x m) t ≡ None
-arrived_none p x m t none ne = search (rules, man_on-without_none, stays_empty)
-
 -- the corner isn't touched before the rook goes
 pub corner_stays : (p : Position) (x : Man) (m : Move) → same_kind x.kind Pawn ≡ false → IsCastle p m
     → man_on (arrived p x m) (corner m) ≡ man_on p.men (corner m)
-corner_stays p x m piece castle =
-    let off : corner m ≢ m.to = λ e. elim castle.far [ inl f ↦ omega arith | inr f ↦ omega arith ] in
-    arrived_other p x m (corner m) (λ e. elim castle.far [ inl f ↦ omega arith | inr f ↦ omega arith ])
-    (λ s cap e. off (e ∙ capture_of_piece p x m s piece cap)) off
-
-rook_is_no_king : (k : Kind) → same_kind k Rook ≡ true → same_kind k King ≡ false
-rook_is_no_king k h = grind arith
+corner_stays p x m piece castle = grind (arith, arrived_other p x m (corner m), capture_of_piece p x m, castle.far)
 
 rook_can_castle : (rule : RuleSet) (p : Position) (x : Man) (m : Move) → IsWellFormed p → IsMade rule p x m → is_castling x m ≡ true
     → CanCastle (arrived p x m) (corner m) (halfway m)
-rook_can_castle rule p x m well made castling = search (rules, arrived_none, castle_of, corner_stays, man_on-without_none, rook_is_no_king)
+rook_can_castle rule p x m well made castling = search (rules, castle_of, corner_stays, man_on-without_none, stays_empty)
 
 -- a move that may be made can be made on the board, man by man
 pub can_move : (rule : RuleSet) (p : Position) (x : Man) (m : Move) → IsWellFormed p → IsMade rule p x m → CanMove p x m

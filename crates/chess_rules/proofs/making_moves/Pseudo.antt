@@ -101,15 +101,8 @@ pub record IsCastle (p : Position) (m : Move) : Type 0 where
   pub rook : (z : Man) → man_on p.men (corner m) ≡ Some z → same_kind z.kind Rook ≡ true
   pub stands : man_on p.men (corner m) ≡ None → ⊥
 
-king_from : (x : Man) (s : ℕ) → same_kind x.kind King ≡ true → is_home (Some x) s ≡ true → (s ≡ 4) ⊎ (s ≡ 60)
-king_from x s king h = search (rules, is_home-square)
-
--- on a corner at home stands a rook
-rook_on : (o : Option Man) (s : ℕ) → s ≢ 4 → s ≢ 60 → is_home o s ≡ true → (z : Man) → o ≡ Some z → same_kind z.kind Rook ≡ true
-rook_on o s n4 n60 h z e = search (rules, is_home-square)
-
 -- where a king castles, he and the rook stand and go so
 pub king_castles : (rule : RuleSet) (p : Position) (x : Man) (m : Move) → IsWellFormed p → man_on p.men m.from ≡ Some x → can_castle rule p x m ≡ true
     → IsCastle p m
 unfolding can_castle may_castle
-king_castles rule p x m well here h = grind (arith, and_parts, cond-false, cond-true, eqb-true, is_home-none, king_from, le-ltb, lt-ltb, or_cases, rook_on)
+king_castles rule p x m well here h = grind (arith, and_parts, cond-false, cond-true, eqb-true, is_home-none, le-ltb, lt-ltb, or_cases, is_home-square)

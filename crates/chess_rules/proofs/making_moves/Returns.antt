@@ -45,14 +45,10 @@ uncastles rule p x m well made = elim (cases_Bool (is_castling x m)) [
   | inr e ↦ rw e refl
 ]
 
-crossed_vacant : (p : Position) (m : Move) → IsWellFormed p → is_square p.crossed m.to ≡ true → man_on p.men m.to ≡ None
-unfolding is_crossed_right
-crossed_vacant p m well h = search rules
-
 returns_some : (p : Position) (x : Man) (m : Move) (s : ℕ) (w : Man) → IsWellFormed p → capture_square p x m ≡ Some s
     → return_square x m p.crossed (Some w) ≡ Some s
-unfolding capture_square
-returns_some p x m s w well h = search (rules, crossed_vacant)
+unfolding capture_square is_crossed_right
+returns_some p x m s w well h = search rules
 
 returns_there : (rule : RuleSet) (p : Position) (x : Man) (m : Move) → IsWellFormed p → IsMade rule p x m
     → return_square x m p.crossed (captured_man p x m) ≡ capture_square p x m

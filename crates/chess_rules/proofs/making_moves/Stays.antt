@@ -36,23 +36,16 @@ other_inside y s h = cond-false (same_kind y.kind Pawn) _ _ h
 pawn_inside : (y : Man) (s : ℕ) → 2 ≤ rank_of s → rank_of s ≤ 7 → is_pawn_inside (Some y) s ≡ true
 pawn_inside y s low high = search rules
 
--- and a pawn that stands somewhere stands there
-pawn_ranks : (y : Man) (s : ℕ) → same_kind y.kind Pawn ≡ true → is_pawn_inside (Some y) s ≡ true → (2 ≤ rank_of s) × (rank_of s ≤ 7)
-pawn_ranks y s pawn h = search rules
-
 -- a pawn's way from a rank inside to one that isn't the last
 onward : (c : Colour) (s t n : ℕ) → 2 ≤ rank_of s → rank_of s ≤ 7 → t < 64 → Advances c s t n → 1 ≤ n → eqb (rank_of t) (last_rank c) ≡ false
     → (2 ≤ rank_of t) × (rank_of t ≤ 7)
 onward c s t n low high small adv one last = grind (arith, cases_eq, eq-eqb)
 
-promoted_no_pawn : (p : Position) (k : Kind) → may_promote p k ≡ true → same_kind k Pawn ≡ false
-promoted_no_pawn p k h = grind arith
-
 -- the man that arrives stands where he may
 arriving_inside : (rule : RuleSet) (p : Position) (x : Man) (m : Move) (r : Option Kind) → IsWellFormed p → IsMade rule p x m
     → is_promotion_right p x m r ≡ true → is_pawn_inside (Some (arriving_man x r)) m.to ≡ true
 arriving_inside rule p x m v4 well made right =
-    grind (arith, and_parts, other_inside, promoted_no_pawn, second_fails, cases_Bool, not-true, onward, pawn_goes, pawn_inside, pawn_ranks, pawn_reaches, ways)
+    grind (arith, and_parts, other_inside, second_fails, cases_Bool, not-true, onward, pawn_goes, pawn_inside, pawn_reaches, ways)
 
 rook_is_no_pawn : (k : Kind) → same_kind k Rook ≡ true → same_kind k Pawn ≡ false
 rook_is_no_pawn k h = grind arith
@@ -92,19 +85,10 @@ pub record IsReborn (circe : Bool) (men : List (Option Man)) (o : Option Man) (c
   pub home : rebirth man.colour man.kind square ≡ Some r
   pub empty : man_on men r ≡ None
 
-if_empty-parts : (men : List (Option Man)) (o : Option ℕ) (r : ℕ) → if_empty men o ≡ Some r → (o ≡ Some r) × (man_on men r ≡ None)
-if_empty-parts men o r h = grind (arith, cases_Bool, cond-false, cond-true, none_from_is_some)
-
-reborn_parts : (circe : Bool) (men : List (Option Man)) (o : Option Man) (c : Option ℕ) (r : ℕ) → rebirth_at circe men o c ≡ Some r → IsReborn circe men o c r
-reborn_parts circe men o c r h = grind (arith, if_empty-parts)
-
 -- a pawn is reborn on rank 2 or 7
-pawn_reborn : (c : Colour) (s r : ℕ) → rebirth c Pawn s ≡ Some r → (2 ≤ rank_of r) × (rank_of r ≤ 7)
-unfolding rebirth
-pawn_reborn c s r h = grind (arith, square_at-is, eq-eqb)
-
 reborn_inside : (y : Man) (s r : ℕ) → rebirth y.colour y.kind s ≡ Some r → is_pawn_inside (Some y) r ≡ true
-reborn_inside y s r h = search (rules, same_kind-true, other_inside, pawn_inside, pawn_reborn)
+unfolding rebirth
+reborn_inside y s r h = search (rules, same_kind-true, other_inside, pawn_inside, square_at-is, eq-eqb)
 
 -- a rook is reborn on a corner of its side
 rook_reborn : (y : Man) (c : Colour) (s r : ℕ) → is_man (Some y) c Rook ≡ true → rebirth c Rook s ≡ Some r → is_home (Some y) r ≡ true
@@ -127,12 +111,7 @@ captured_there men c z h = grind arith
 -- the man that was captured is no king, and an enemy
 captured : (rule : RuleSet) (p : Position) (x : Man) (m : Move) (z : Man) → IsWellFormed p → IsMade rule p x m
     → captured_man p x m ≡ Some z → (same_kind z.kind King ≡ false) × (same_colour z.colour p.turn ≡ false)
-captured rule p x m z well made h =
-    let c = captured_there p.men (capture_square p x m) z h in
-    let t = taken rule p x m c.0 well made c.1.0 in
-    let e : Some t.man ≡ Some z = sym t.there ∙ c.1.1 in
-    let man : z ≡ t.man = cc in
-    rw man (t.mortal, t.enemy)
+captured rule p x m z well made h = let c = captured_there p.men (capture_square p x m) z h in grind (arith, c, taken rule p x m c.0 well made)
 
 -- no king is captured
 pub captured_mortal : (rule : RuleSet) (p : Position) (x : Man) (m : Move) (z : Man) → IsWellFormed p → IsMade rule p x m
@@ -148,7 +127,7 @@ captured_enemy rule p x m z well made h = (captured rule p x m z well made h).1
 pub reborn_is : (rule : RuleSet) (p : Position) (x : Man) (m : Move) (r : ℕ) → reborn_square rule p x m ≡ Some r
     → IsReborn (captures_are_reborn rule) (moved_men p x m) (captured_man p x m) (capture_square p x m) r
 unfolding reborn_square
-reborn_is rule p x m r h = search (rules, reborn_parts)
+reborn_is rule p x m r h = search (rules, cases_Bool, cond-false, cond-true, none_from_is_some)
 
 after_sound : (rule : RuleSet) (p : Position) (x : Man) (m : Move) → IsWellFormed p → IsMade rule p x m
     → IsSound (put_at (moved_men p x m) (reborn_square rule p x m) (captured_man p x m))
@@ -211,16 +190,13 @@ reborn_home : (u : Unmoved) (men : List (Option Man)) (o : Option ℕ) (y : Opti
     → AreHome (unmoved_with_rook u o y) (put_at men o y)
 reborn_home u men o y size homes h = grind (arith, cases_Bool, cases_eq, has_unmoved-mark_other, is_home-none, man_on-with_other, man_on-with_same)
 
-shade_small : (s a b r : ℕ) → a < 64 → b < 64 → by_shade s a b ≡ Some r → r < 64
-shade_small s a b r la lb h = search rules
-
 at_small : (f k r : ℕ) → square_at f k ≡ Some r → r < 64
 at_small f k r h = let i : IsAt f k r = square_at-is f k r (rw h (eq-eqb r r refl)) in i.small
 
 -- a man is reborn on a square of the board
 pub rebirth_small : (c : Colour) (k : Kind) (s r : ℕ) → rebirth c k s ≡ Some r → r < 64
 unfolding rebirth
-rebirth_small c k s r h = grind (arith, shade_small, at_small)
+rebirth_small c k s r h = grind (arith, at_small)
 
 after_home : (rule : RuleSet) (p : Position) (x : Man) (m : Move) → IsWellFormed p → IsMade rule p x m
     → AreHome (unmoved_after rule p x m) (put_at (moved_men p x m) (reborn_square rule p x m) (captured_man p x m))
@@ -249,20 +225,10 @@ unfolding moved_men reborn_square
 plain_men rule p x m none plain = rw (none, plain) refl
 
 -- not on the last rank no promotion is named
-no_promotion : (p : Position) (x : Man) (m : Move) (r : Option Kind) → is_promotion_right p x m r ≡ true → eqb (rank_of m.to) (last_rank x.colour) ≡ false
-    → arriving_man x r ≡ x
-no_promotion p x m r right off = grind (arith, and_parts)
-
-two_on : (c : Colour) (s t : ℕ) → rank_of s ≡ second_rank c → Advances c s t 2 → eqb (rank_of t) (last_rank c) ≡ false
-two_on c s t second adv = grind (arith, ne_eqb)
-
-one_or_two : (c : Colour) (s t n : ℕ) → Advances c s t n → n ≡ 1 → (eqb (rank_of s + 2) (rank_of t) || eqb (rank_of t + 2) (rank_of s)) ≡ true → ⊥
-one_or_two c s t n adv one h = grind (arith, eqb-true, or_cases)
-
 double_right : (rule : RuleSet) (p : Position) (x : Man) (m : Move) → IsWellFormed p → IsMade rule p x m → is_double_step x m ≡ true
     → was_passed (put_at (moved_men p x m) (reborn_square rule p x m) (captured_man p x m)) (other p.turn) (halfway m) ≡ true
 double_right rule p x m well made double =
-    search (rules, double_passed, no_capture, no_promotion, one_or_two, pawn_goes, pawn_is_no_king, pawn_reaches, plain_men, two_on, ways)
+    search (rules, double_passed, no_capture, pawn_goes, pawn_is_no_king, pawn_reaches, plain_men, ways, and_parts, ne_eqb, eqb-true, or_cases)
 
 after_crossed : (rule : RuleSet) (p : Position) (x : Man) (m : Move) → IsWellFormed p → IsMade rule p x m
     → is_crossed_right (position_after_by rule p x m).men (position_after_by rule p x m).turn (position_after_by rule p x m).crossed ≡ true

@@ -3,20 +3,18 @@ use Rattle.chess_rules.proofs.shields.safety_seen.Goals as goal
 
 pub returns-then-checkers-ne0-clause-checkers : goal.returns-then-checkers-ne0-clause-checkers
 returns-then-checkers-ne0-clause-checkers c =
-    checkers_are c.args.board.now.men c.args.colour c.args.king c.checkers_of-checkers.result c.requires.king
-    (rw c.other-enemy.ensures at c.checkers_of-checkers.ensures)
+    checkers_are c.args.board.now.men c.args.colour _ c.args.king _ c.other-enemy.ensures c.requires.king c.checkers_of-checkers.ensures
 
 pub returns-then-checkers-ne0-clause-shields : goal.returns-then-checkers-ne0-clause-shields
 returns-then-checkers-ne0-clause-shields c =
-    shield_squares_all c.args.board.now.men c.args.colour c.args.king c.checkers_of-checkers.result c.requires.king
-    (rw c.other-enemy.ensures at c.checkers_of-checkers.ensures) c.if-checkers-ne0.true
+    shield_squares_all c.args.board.now.men c.args.colour _ c.args.king _ c.other-enemy.ensures c.requires.king c.checkers_of-checkers.ensures
+    c.if-checkers-ne0.true
 
 pub returns-clause-checkers : goal.returns-clause-checkers
 returns-clause-checkers c =
-    checkers_are c.args.board.now.men c.args.colour c.args.king c.checkers_of-checkers.result c.requires.king
-    (rw c.other-enemy.ensures at c.checkers_of-checkers.ensures)
+    checkers_are c.args.board.now.men c.args.colour _ c.args.king _ c.other-enemy.ensures c.requires.king c.checkers_of-checkers.ensures
 
 pub returns-clause-shields : goal.returns-clause-shields
 returns-clause-shields c =
-    shield_squares_some c.args.board.now.men c.args.colour c.args.king c.checkers_of-checkers.result c.shields_of.result c.args.lines c.requires.king
-    (rw c.other-enemy.ensures at c.checkers_of-checkers.ensures) c.if-checkers-ne0.false c.shields_of.ensures c.requires.lines
+    shield_squares_some c.args.board.now.men c.args.colour _ c.args.king _ _ _ c.other-enemy.ensures c.requires.king c.checkers_of-checkers.ensures
+    c.if-checkers-ne0.false c.shields_of.ensures c.requires.lines

@@ -1,10 +1,10 @@
 use Rattle.chess_rules.proofs.Basics.{arith, bit_at, rules, sym, ◌%◌, ◌*◌, ◌+◌, ◌-◌, ◌/◌, ◌==◌, ◌∙◌, ◌≡◌}
 use Rattle.chess_rules.proofs.Chess.{find_first, per_arrival}
-use Rattle.chess_rules.proofs.listing_moves.Targeting.{from-first, from-join, from-nobody, from-none, from-target, from-unpromoted, named_at, some_named, unnamed_at}
+use Rattle.chess_rules.proofs.listing_moves.Targeting.{from-first, from-join, from-none, from-target, from-unpromoted, named_at, some_named, unnamed_at, nobody_moves}
 use Rattle.chess_rules.proofs.targets.next_from.Goals as goal
 
 pub returns-in_default-clause-barren : goal.returns-in_default-clause-barren
-returns-in_default-clause-barren c = search (rules, from-nobody)
+returns-in_default-clause-barren c = search (rules, nobody_moves)
 
 pub returns-then-at-first-clause-barren : goal.returns-then-at-first-clause-barren
 returns-then-at-first-clause-barren c = search (rules, from-first, c.loop-to.invariant.barren)
