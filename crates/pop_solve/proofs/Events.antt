@@ -1,6 +1,6 @@
 -- What a call gives.
-use Rattle.pop_solve.proofs.Words.{AreKnown, ArrayVec, BareEvent, Barred, Before, Behind, Event, Frame, Gives, IsGiven, IsLinked, IsRoomy, IsSound, IsStanding, IsWalking, IsWellFormed, Line, List, MatchOption, Node, None, Option, Phase, Play, Posed, Position, RuleSet, Set, Shown, Stage, StandsOn, Total, Walks, Within, [], append_assoc, arith, begins_solution, cond, drop, eqb, event_of, events, events_from, false, flat_map, half_moves, is_barred, phase_count, Walk, walk_of, is_help_play, Bool, ap, ◌<◌, ◌∙◌}
-use Rattle.pop_solve.proofs.Words.{beginning_count, is_help, is_set, is_some, kept_paths, left_of, length, length-reverse, min, nat_tests, opening, option_map, path, path_event, phase_events, phase_half, phase_half_moves, phase_paths, phase_start, plan_of, play_start, position, refl, reverse, rules, moves_shown, last_shown, slice_get, solutions, suc, take, total, true, zero, ℕ, ◌+◌, ◌-◌, ◌^◌, ◌||◌, ◌∷◌, ◌≡◌, ◌≤◌}
+use Rattle.pop_solve.proofs.Words.{AreKnown, ArrayVec, BareEvent, Before, Behind, Event, Frame, Gives, IsGiven, IsLinked, IsRoomy, IsSound, IsStanding, IsWalking, IsWellFormed, Line, List, MatchOption, Node, None, Option, Phase, Play, Posed, Position, RuleSet, Set, Shown, Stage, StandsOn, Total, Walks, Within, [], append_assoc, arith, cond, drop, eqb, event_of, events_from, false, flat_map, half_moves, is_barred, phase_count, Walk, walk_of, is_help_play, Bool, ap, ◌<◌, ◌∙◌}
+use Rattle.pop_solve.proofs.Words.{beginning_count, is_help, is_set, is_some, kept_paths, left_of, length, length-reverse, min, nat_tests, opening, option_map, path, path_event, phase_events, phase_half, phase_half_moves, phase_paths, phase_start, plan_of, play_start, position, refl, reverse, rules, moves_shown, last_shown, slice_get, solutions, take, total, true, ℕ, ◌+◌, ◌-◌, ◌^◌, ◌||◌, ◌∷◌, ◌≡◌, ◌≤◌}
 use Rattle.pop_solve.proofs.Sound.{helps-form, in_range}
 use Rattle.pop_solve.proofs.Paths.{path-length, path_end-path}
 use Rattle.std.proofs.lemmas.List.{drop-drop}

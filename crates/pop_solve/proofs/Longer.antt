@@ -1,5 +1,5 @@
 -- One more move never harms.
-use Rattle.pop_solve.proofs.Words.{Bool, Game, List, [], and_from, and_parts, ap, arith, can_move, cases_lt, every_move, fails_before_first, false, get_or, inl, inr, is_lost, is_self_lost, length, list_all, list_any, not, or_cases, or_left, or_right, passes_at_first, position_or_len, prefix_len-le-length, range_with_len, refl, rules, self_wins, some_move, suc, sym, true, wins, zero, ℕ, ◌&&◌, ◌+◌, ◌-◌, ◌<◌, ◌||◌, ◌∙◌, ◌∷◌, ◌≡◌, ◌≤◌}
+use Rattle.pop_solve.proofs.Words.{Bool, Game, List, [], ap, arith, can_move, cases_lt, every_move, fails_before_first, false, get_or, inl, inr, is_lost, is_self_lost, length, list_all, list_any, not, or_left, passes_at_first, position_or_len, prefix_len-le-length, range_with_len, rules, self_wins, some_move, suc, sym, true, wins, zero, ℕ, ◌&&◌, ◌-◌, ◌<◌, ◌||◌, ◌∙◌, ◌∷◌, ◌≡◌, ◌≤◌}
 use Rattle.std.proofs.lemmas.List.FromFn.{get_or-range_with_len, length-range_with_len}
 
 or_weaker : (a b c d : Bool) → (a ≡ true → c ≡ true) → (b ≡ true → d ≡ true) → (a || b) ≡ true → (c || d) ≡ true

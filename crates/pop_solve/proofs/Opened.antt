@@ -1,6 +1,6 @@
 -- How many frames a search opens.
-use Rattle.pop_solve.proofs.Words.{BareEvent, Barred, Battle, BattlePlay, Before, Behind, Form, Frame, IsCounted, IsGiven, IsKeys, IsNarrow, IsOpened, IsSound, are_whites, List, Opens, OpensOn, Phase, Plan, Play, Posed, Position, RuleSet, Set, Stage, Tries, Within, [], ap, arith, cond, drop, eqb, false, fewest_from, fewest_left, first_phase, half_moves_of, inl, inr, HelpPlay, Walk, walk_of, and_parts}
-use Rattle.pop_solve.proofs.Words.{is_barred, is_set, is_stop, is_unstopped, left_of, min, not, phase_events, phase_fewest, phase_half_moves, phase_start, phase_walk, plan_of, play_of, position, refl, rest_fewest, rest_open, rules, seeks, has_variations, suc, to_open, total, tree_with, true, walk_from, zero, ℕ, ◌++◌, ◌+◌, ◌-◌, ◌<◌, ◌^◌, ◌∷◌, ◌≡◌, ◌≤◌, ◌⊎◌}
+use Rattle.pop_solve.proofs.Words.{BareEvent, Barred, Battle, BattlePlay, Before, Behind, Form, Frame, IsCounted, IsGiven, IsKeys, IsNarrow, IsOpened, IsSound, are_whites, List, Opens, OpensOn, Phase, Plan, Play, Posed, Position, RuleSet, Stage, Tries, Within, [], ap, arith, cond, drop, eqb, false, fewest_left, first_phase, half_moves_of, inl, inr, HelpPlay, Walk, walk_of, and_parts}
+use Rattle.pop_solve.proofs.Words.{is_barred, is_set, is_stop, is_unstopped, left_of, min, not, phase_events, phase_half_moves, phase_start, phase_walk, plan_of, play_of, position, rest_fewest, rest_open, rules, seeks, has_variations, suc, to_open, total, tree_with, true, zero, ℕ, ◌++◌, ◌+◌, ◌-◌, ◌<◌, ◌^◌, ◌∷◌, ◌≡◌, ◌≤◌, ◌⊎◌}
 use Rattle.pop_solve.proofs.Boards.{behind_start}
 use Rattle.pop_solve.proofs.Sound.{battle-play, help-play, some_way}
 use Rattle.pop_solve.proofs.ToCome.{one, walk_count-start}

@@ -1,6 +1,5 @@
 -- What a sound problem's play rests on, and how the sides play.
-use Rattle.pop_input.specs.declared.stipulation.Form.TheVariants.{Direct as DirectForm, SelfMate, Help, HelpHalf}
-use Rattle.pop_solve.proofs.Words.{Battle, BattlePlay, Direct, Form, HelpPlay, Selfmate, arith, false, is_help_play, is_help, play_of, rules, IsSound, IsWellFormed, Phase, Posed, half_moves, is_crossed_right, phase_start, refl, sym, ap, true, ◌≡◌, ◌≤◌, ◌∙◌}
+use Rattle.pop_solve.proofs.Words.{Battle, BattlePlay, Form, HelpPlay, arith, false, is_help_play, is_help, play_of, rules, IsSound, IsWellFormed, Phase, Posed, half_moves, is_crossed_right, phase_start, sym, ap, true, ◌≡◌, ◌≤◌, ◌∙◌}
 
 -- a problem has 1 to 32 half-moves
 pub some_way : (problem : Posed) → IsSound problem → 1 ≤ half_moves problem.stipulation

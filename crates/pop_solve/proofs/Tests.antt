@@ -7,7 +7,6 @@ use Rattle.pop_solve.specs.declared.aim.Aim.{Aim}
 use Rattle.pop_solve.proofs.Orders.{same_start}
 use Rattle.pop_solve.specs.declared.frame.Stretch.{Stretch}
 use Rattle.pop_solve.proofs.SmallestTrees.{trees-next, trees-end, trees-start}
-use Rattle.std.proofs.lemmas.List.{nil_from_length}
 
 -- the frame with its place moved on
 abbrev pub moved : Frame → ℕ → Frame

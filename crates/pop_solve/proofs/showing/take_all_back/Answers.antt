@@ -1,4 +1,4 @@
-use Rattle.pop_solve.proofs.Words.{arith, rules, take_all, ◌-◌}
+use Rattle.pop_solve.proofs.Words.{arith, rules, take_all}
 use Rattle.pop_solve.proofs.Paths as paths
 use Rattle.pop_solve.proofs.showing.take_all_back.Goals as goal
 

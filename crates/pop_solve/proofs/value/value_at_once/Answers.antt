@@ -1,4 +1,4 @@
-use Rattle.pop_solve.proofs.Words.{arith, chess, rules, sym, ◌<◌, ◌∙◌, value, smallest_tree}
+use Rattle.pop_solve.proofs.Words.{arith, rules, sym, ◌<◌, ◌∙◌, value, smallest_tree}
 use Rattle.pop_solve.proofs.Boards.{unreached}
 use Rattle.pop_solve.proofs.Values as values
 use Rattle.pop_solve.proofs.value.value_at_once.Goals as goal

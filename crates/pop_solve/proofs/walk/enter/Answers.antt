@@ -1,4 +1,4 @@
-use Rattle.pop_solve.proofs.Words.{after_well_formed, arith, is_pseudo_legal-from_legal, rules}
+use Rattle.pop_solve.proofs.Words.{after_well_formed, is_pseudo_legal-from_legal, rules}
 use Rattle.pop_solve.specs.ties.Walk.{is_followed, walk_length}
 use Rattle.pop_solve.proofs.walk.enter.Goals as goal
 
