@@ -59,17 +59,13 @@ bishop_reaches : (men : List (Option Man)) (c : Colour) (k : Kind) (s t : ℕ) �
 unfolding reaches_as
 bishop_reaches men c k s t p q e = rw e (diagonal-back men s t p q)
 
-queen_reaches : (men : List (Option Man)) (c : Colour) (k : Kind) (s t : ℕ) → s < 64 → t < 64 → k ≡ Queen
-    → reaches_as men c k s t ≡ (list_any (rides men t s) straight_steps || list_any (rides men t s) diagonal_steps)
-unfolding reaches_as
-queen_reaches men c k s t p q e = search (rules, list_any-append, queen_rides-back)
-
 -- on one square
 at_square : (men : List (Option Man)) (c : Colour) (o : Option Man) (s t : ℕ) → s < 64 → t < 64
     → ((((is_leaping_man o c && reaches_of men o s t) || ((is_man o c Rook || is_man o c Queen) && list_any (rides men t s) straight_steps))
     || ((is_man o c Bishop || is_man o c Queen) && list_any (rides men t s) diagonal_steps)) || (is_fairy_man o c && reaches_of men o s t))
     ≡ (is_of_colour o c && reaches_of men o s t)
-at_square men c v2 s t p q = search (rules, bishop_reaches, queen_reaches, rook_reaches, p, q)
+unfolding reaches_as
+at_square men c v2 s t p q = search (rules, bishop_reaches, rook_reaches, p, q, list_any-append, queen_rides-back)
 
 -- the riders of a kind and the queens on the squares to which a ride from t gets
 pub met : (men : List (Option Man)) (c : Colour) (k : Kind) (t m n w : ℕ) (ds : List Step) → m ≡ squares_of men c k → n ≡ squares_of men c Queen

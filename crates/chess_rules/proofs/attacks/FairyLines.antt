@@ -86,10 +86,7 @@ module _ (men after : List (Option Man)) (e : Colour) (a b k s : ℕ) (i : Frees
   unlined j q t d off inside man ahead = search (rules, false_from_ne_true, false≢true, and_from, some_square_true)
 
   beside : (j : Kind) (d : Step) → WasThere men e j a b s → is_lined men e j k a (back d) ≡ false → IsBeside a s k d
-  beside j d was off = elim was [
-    | inl man ↦ off_line a s k d small (unlined j s a (back d) off small man)
-    | inr w ↦ off_line a s k d small (λ y. false_from_ne_true _ (λ z. false≢true (sym (unlined j a a (back d) off w.1 w.2 z) ∙ z)))
-  ]
+  beside j d was off = grind (arith, off_line a s k d small, unlined, false_from_ne_true, false≢true)
 
   no_hurdle : (x : Direction) → WasThere men e Grasshopper a b s → is_lined men e Grasshopper k b (back (step_of x)) ≡ false → IsNoHurdle b s k (step_of x)
   no_hurdle x was off = grind (arith, off_line, unlined, false_from_ne_true, once, stays s (step_of x) small, square_is)

@@ -404,12 +404,6 @@ shield_squares_some men c e k r w n enemy at reachers none h i =
     let unreached : is_reached men k (other c) ≡ false = sym (reached_by_word men c e k r enemy reachers) ∙ ap (λ (v : ℕ). not (v == 0)) none in
     search (rules, squares_either, squares_same, at, unreached, h, i)
 
--- whether a move can't uncover a king: not if its origin is in that word
-pub cannot_expose_from : (rule : RuleSet) (p : Position) (c : Colour) (m : Move) (w s : ℕ) (b : Bool) → w ≡ word (may_expose p.men c) → s ≡ m.from → s < 64
-    → b ≡ (bit_at w s == 1) → b ≡ true → false ≡ cannot_expose rule p c m
-unfolding cannot_expose
-cannot_expose_from rule p c m w s b h same small e on = search (rules, word_has)
-
 -- else it is told by the rest
 pub cannot_expose_to : (rule : RuleSet) (p : Position) (x : Man) (c : Colour) (m : Move) (w s : ℕ) (b r : Bool) → man_on p.men s ≡ Some x
     → w ≡ word (may_expose p.men c) → s ≡ m.from → s < 64 → b ≡ (bit_at w s == 1) → b ≡ false
