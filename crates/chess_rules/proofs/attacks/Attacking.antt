@@ -1,6 +1,6 @@
 -- Attack looked for outward from the square.
-use Rattle.chess_rules.proofs.Basics.{Bool, List, None, Option, Some, [], and_left, ap, arith, bit_and, bit_at, bit_or, false, false_from_ne_true, false≢true, inl, inr, list_any, list_any-append, not, or_left, or_right, refl, rules, sym, true, ℕ, ◌&&◌, ◌<◌, ◌==◌, ◌||◌, ◌∙◌, ◌∷◌, ◌≡◌}
-use Rattle.chess_rules.proofs.Chess.{Bishop, Colour, Grasshopper, Kind, King, Knight, Man, Nightrider, Pawn, Queen, Rook, RuleSet, Step, any_range_cases, diagonal_steps, differs, faces, faced_men_stand_still, faces_its_like, first_of_and, gait_of, hopped_from, is_ahead, is_attacked, is_fairy, is_man, is_on_some, is_paralysed, is_reached, is_of_colour, man_on, other, queen_steps, reaches, reaches_as, reaches_of, rides, same_colour-true, same_kind, same_kind-true, second_of_and, some_square, some_square_false, some_square_true, squares, squares_both, squares_either, squares_of, squares_same, straight_steps, is_attacker, word, Hopper, any_kept, is_fairy_man, is_leaping_man, is_met}
+use Rattle.chess_rules.proofs.Basics.{Bool, List, Option, [], and_left, ap, arith, bit_and, bit_at, bit_or, false, false_from_ne_true, false≢true, inl, inr, list_any, list_any-append, not, or_left, or_right, refl, rules, sym, true, ℕ, ◌&&◌, ◌<◌, ◌==◌, ◌||◌, ◌∙◌, ◌∷◌, ◌≡◌}
+use Rattle.chess_rules.proofs.Chess.{Bishop, Colour, Grasshopper, Kind, King, Knight, Man, Nightrider, Pawn, Queen, Rook, RuleSet, Step, any_range_cases, diagonal_steps, differs, faces, faced_men_stand_still, faces_its_like, first_of_and, gait_of, hopped_from, is_ahead, is_attacked, is_man, is_on_some, is_paralysed, is_reached, is_of_colour, man_on, other, queen_steps, reaches, reaches_as, reaches_of, rides, same_colour-true, same_kind-true, second_of_and, some_square, some_square_false, some_square_true, squares, squares_both, squares_either, squares_of, squares_same, straight_steps, is_attacker, word, Hopper, any_kept, is_fairy_man, is_leaping_man, is_met}
 use Rattle.chess_rules.proofs.Bits.{not_zero, word_empty, word_has, word_lacks}
 use Rattle.chess_rules.proofs.rays.Flips.{diagonal-back, hops-turned, queen_rides-back, reaches_back, straight-back}
 

@@ -1,6 +1,6 @@
-use Rattle.chess_rules.proofs.Basics.{Bool, Some, ap, arith, not, rules, sym, ◌&&◌, ◌<◌, ◌∙◌, ◌≡◌}
+use Rattle.chess_rules.proofs.Basics.{ap, arith, rules, sym, ◌∙◌}
 use Rattle.chess_rules.proofs.Bits.{word_has}
-use Rattle.chess_rules.proofs.Chess.{Move, is_plain, man_on, may_stand_between, cannot_expose}
+use Rattle.chess_rules.proofs.Chess.{Move, cannot_expose}
 use Rattle.chess_rules.proofs.attacks.Shielding.{cannot_expose_nobody, cannot_expose_to}
 use Rattle.chess_rules.proofs.shields.cannot_expose.Goals as goal
 
