@@ -1,5 +1,5 @@
 -- Bits of words: the first from a place on, one alone, and words that are not 0.
-use Rattle.chess_rules.proofs.Basics.{Bool, None, Some, ap, arith, bit_and, bit_at, bit_at-lt, bit_at-pow_other, bit_at-pow_same, bit_at-trailing_zeros, bit_at-zero, bit_at_and, bit_at_mask_below, bit_at_mask_inside, bit_at_or, bit_not, bit_or, cases_eq, cases_lt, eq-eqb, eqb-true, false, false_from_ne_true, find, inl, inr, not, one_shl, ones_shl, range_with_len, refl, rules, sym, trailing_zeros, true, true_from_ne_false, w64, ℕ, ◌%◌, ◌*◌, ◌-◌, ◌<◌, ◌==◌, ◌^◌, ◌∙◌, ◌≡◌, ◌≤◌, ◌⊎◌}
+use Rattle.chess_rules.proofs.Basics.{Bool, None, Some, ap, arith, bit_and, bit_at, bit_at-lt, bit_at-pow_other, bit_at-pow_same, bit_at-trailing_zeros, bit_at-zero, bit_at_and, bit_at_mask_below, bit_at_mask_inside, bit_at_or, bit_not, bit_or, cases_eq, cases_lt, eq-eqb, eqb-true, false, false_from_ne_true, find, inl, inr, not, one_shl, ones_shl, range_with_len, refl, rules, sym, trailing_zeros, true, true_from_ne_false, w64, ℕ, ◌%◌, ◌*◌, ◌-◌, ◌<◌, ◌==◌, ◌^◌, ◌∙◌, ◌≡◌, ◌≤◌}
 use Rattle.chess_rules.proofs.Chess.{bit_of, differs, find_range_none, find_range_some, is_square, some_square, square_bit, square_word, squares_none, squares_not, squares_same, squares_some, word}
 
 -- the bits of a word from a place on

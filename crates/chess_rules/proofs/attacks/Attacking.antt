@@ -1,6 +1,6 @@
 -- Attack looked for outward from the square.
-use Rattle.chess_rules.proofs.Basics.{Bool, List, None, Option, Some, [], and_left, ap, arith, bit_and, bit_at, bit_or, false, false_from_ne_true, false≢true, inl, inr, list_any, list_any-append, not, or_left, or_right, refl, rules, sym, true, ℕ, ◌&&◌, ◌<◌, ◌==◌, ◌||◌, ◌∙◌, ◌∷◌, ◌≡◌}
-use Rattle.chess_rules.proofs.Chess.{Bishop, Colour, Grasshopper, Kind, King, Knight, Man, Nightrider, Pawn, Queen, Rook, RuleSet, Step, any_range_cases, diagonal_steps, differs, faces, faced_men_stand_still, faces_its_like, first_of_and, gait_of, hopped_from, is_ahead, is_attacked, is_fairy, is_man, is_on_some, is_paralysed, is_reached, is_of_colour, man_on, other, queen_steps, reaches, reaches_as, reaches_of, rides, same_colour-true, same_kind, same_kind-true, second_of_and, some_square, some_square_false, some_square_true, squares, squares_both, squares_either, squares_of, squares_same, straight_steps, is_attacker, word, Hopper, any_kept, is_fairy_man, is_leaping_man, is_met}
+use Rattle.chess_rules.proofs.Basics.{Bool, List, Option, [], and_left, ap, arith, bit_and, bit_at, bit_or, false, false_from_ne_true, false≢true, inl, inr, list_any, list_any-append, not, or_left, or_right, refl, rules, sym, true, ℕ, ◌&&◌, ◌<◌, ◌==◌, ◌||◌, ◌∙◌, ◌∷◌, ◌≡◌}
+use Rattle.chess_rules.proofs.Chess.{Bishop, Colour, Grasshopper, Kind, King, Knight, Man, Nightrider, Pawn, Queen, Rook, RuleSet, Step, any_range_cases, diagonal_steps, differs, faces, faced_men_stand_still, faces_its_like, first_of_and, gait_of, hopped_from, is_ahead, is_attacked, is_man, is_on_some, is_paralysed, is_reached, is_of_colour, man_on, other, queen_steps, reaches, reaches_as, reaches_of, rides, same_colour-true, same_kind-true, second_of_and, some_square, some_square_false, some_square_true, squares, squares_both, squares_either, squares_of, squares_same, straight_steps, is_attacker, word, Hopper, any_kept, is_fairy_man, is_leaping_man, is_met}
 use Rattle.chess_rules.proofs.Bits.{not_zero, word_empty, word_has, word_lacks}
 use Rattle.chess_rules.proofs.rays.Flips.{diagonal-back, hops-turned, queen_rides-back, reaches_back, straight-back}
 
@@ -59,17 +59,13 @@ bishop_reaches : (men : List (Option Man)) (c : Colour) (k : Kind) (s t : ℕ) �
 unfolding reaches_as
 bishop_reaches men c k s t p q e = rw e (diagonal-back men s t p q)
 
-queen_reaches : (men : List (Option Man)) (c : Colour) (k : Kind) (s t : ℕ) → s < 64 → t < 64 → k ≡ Queen
-    → reaches_as men c k s t ≡ (list_any (rides men t s) straight_steps || list_any (rides men t s) diagonal_steps)
-unfolding reaches_as
-queen_reaches men c k s t p q e = search (rules, list_any-append, queen_rides-back)
-
 -- on one square
 at_square : (men : List (Option Man)) (c : Colour) (o : Option Man) (s t : ℕ) → s < 64 → t < 64
     → ((((is_leaping_man o c && reaches_of men o s t) || ((is_man o c Rook || is_man o c Queen) && list_any (rides men t s) straight_steps))
     || ((is_man o c Bishop || is_man o c Queen) && list_any (rides men t s) diagonal_steps)) || (is_fairy_man o c && reaches_of men o s t))
     ≡ (is_of_colour o c && reaches_of men o s t)
-at_square men c v2 s t p q = search (rules, bishop_reaches, queen_reaches, rook_reaches, p, q)
+unfolding reaches_as
+at_square men c v2 s t p q = search (rules, bishop_reaches, rook_reaches, p, q, list_any-append, queen_rides-back)
 
 -- the riders of a kind and the queens on the squares to which a ride from t gets
 pub met : (men : List (Option Man)) (c : Colour) (k : Kind) (t m n w : ℕ) (ds : List Step) → m ≡ squares_of men c k → n ≡ squares_of men c Queen

@@ -1,8 +1,8 @@
 -- A move that goes to no square at which a check is met is not legal.
-use Rattle.chess_rules.proofs.Basics.{None, Some, and_left, and_parts, and_right, ap, bit_at, cases_Bool, bit_not, bit_or, false, is_some, refl, rules, true, w64, ℕ, ◌<◌, ◌==◌, ◌∙◌, ◌≡◌}
+use Rattle.chess_rules.proofs.Basics.{Some, and_left, and_parts, and_right, ap, bit_at, cases_Bool, bit_not, bit_or, false, is_some, refl, rules, true, w64, ℕ, ◌<◌, ◌==◌, ◌∙◌, ◌≡◌}
 use Rattle.chess_rules.proofs.Chess.{AreEvasions, AreEvasionsFrom, IsWellFormed, King, Man, Move, Position, RuleSet, in_check, is_castling, captures_do_more, is_plain, is_pseudo_legal, is_square, man_on, position_after, same_kind, word}
 use Rattle.chess_rules.proofs.attacks.StayingInCheck.{check_unmet}
-use Rattle.chess_rules.proofs.listing_moves.Targeting.{every_square_on, false_by, nobody_moves}
+use Rattle.chess_rules.proofs.listing_moves.Targeting.{every_square_on, false_by}
 use Rattle.chess_rules.proofs.Bits.{off_left, off_right, word_has}
 
 -- a move that isn't castling, captures nobody en passant and, in Circe, nobody at all, is plain: by the words of the squares where that may be

@@ -1,7 +1,7 @@
 -- Lines of grasshoppers and nightriders to a square: what stands elsewhere changes nothing on them.
-use Rattle.chess_rules.proofs.Basics.{Bool, List, None, Option, Some, [], and_from, and_left, and_right, ap, arith, bit_and, bit_or, eq-eqb, false, false_from_ne_true, false≢true, inl, inr, list_any, not, or_cases, or_left, or_parts, or_right, refl, rules, sym, true, ℕ, ◌&&◌, ◌-◌, ◌<◌, ◌==◌, ◌||◌, ◌∙◌, ◌∷◌, ◌≡◌, ◌≤◌, ◌⊎◌}
-use Rattle.chess_rules.proofs.Chess.{Colour, Direction, East, EastNorthEast, EastSouthEast, Grasshopper, Kind, Man, Nightrider, North, NorthEast, NorthNorthEast, NorthNorthWest, NorthWest, South, SouthEast, SouthSouthEast, SouthSouthWest, SouthWest, Step, West, WestNorthWest, WestSouthWest, all_at, all_range_true, along, any_range_cases, any_range_false, any_range_true}
-use Rattle.chess_rules.proofs.Chess.{first_of_and, has_fairy, hops, is_ahead, is_clear, is_lined, is_man, is_occupied, is_on_fairy_line, is_on_fairy_line_at, is_square, is_vacant_at, king_square, knight_steps, man_on, may_stand_between, other, place, queen_steps, ray, rides, second_of_and, some_square, some_square_false, some_square_true}
+use Rattle.chess_rules.proofs.Basics.{Bool, List, None, Option, Some, [], and_from, and_left, and_right, ap, arith, bit_and, bit_or, eq-eqb, false, false_from_ne_true, false≢true, list_any, not, or_cases, or_left, or_parts, or_right, refl, rules, sym, true, ℕ, ◌&&◌, ◌-◌, ◌<◌, ◌==◌, ◌||◌, ◌∙◌, ◌∷◌, ◌≡◌, ◌≤◌, ◌⊎◌}
+use Rattle.chess_rules.proofs.Chess.{Colour, Direction, East, EastNorthEast, EastSouthEast, Grasshopper, Kind, Man, Nightrider, North, NorthEast, NorthNorthEast, NorthNorthWest, NorthWest, South, SouthEast, SouthSouthEast, SouthSouthWest, SouthWest, Step, West, WestNorthWest, WestSouthWest, along, any_range_true}
+use Rattle.chess_rules.proofs.Chess.{has_fairy, hops, is_ahead, is_lined, is_man, is_occupied, is_on_fairy_line, is_on_fairy_line_at, is_square, king_square, knight_steps, man_on, may_stand_between, other, place, queen_steps, ray, rides, some_square, some_square_false, some_square_true}
 use Rattle.chess_rules.proofs.Chess.{squares_both, squares_either, squares_of, squares_same, step_of, word}
 use Rattle.chess_rules.proofs.rays.Ahead.{ordered}
 use Rattle.chess_rules.proofs.attacks.Attacking.{some_square_same}
@@ -86,10 +86,7 @@ module _ (men after : List (Option Man)) (e : Colour) (a b k s : ℕ) (i : Frees
   unlined j q t d off inside man ahead = search (rules, false_from_ne_true, false≢true, and_from, some_square_true)
 
   beside : (j : Kind) (d : Step) → WasThere men e j a b s → is_lined men e j k a (back d) ≡ false → IsBeside a s k d
-  beside j d was off = elim was [
-    | inl man ↦ off_line a s k d small (unlined j s a (back d) off small man)
-    | inr w ↦ off_line a s k d small (λ y. false_from_ne_true _ (λ z. false≢true (sym (unlined j a a (back d) off w.1 w.2 z) ∙ z)))
-  ]
+  beside j d was off = grind (arith, off_line a s k d small, unlined, false_from_ne_true, false≢true)
 
   no_hurdle : (x : Direction) → WasThere men e Grasshopper a b s → is_lined men e Grasshopper k b (back (step_of x)) ≡ false → IsNoHurdle b s k (step_of x)
   no_hurdle x was off = grind (arith, off_line, unlined, false_from_ne_true, once, stays s (step_of x) small, square_is)

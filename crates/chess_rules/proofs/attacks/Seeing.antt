@@ -1,6 +1,6 @@
 -- The men that an attack sees once a move is made.
-use Rattle.chess_rules.proofs.Basics.{Bool, List, None, Option, Some, and_left, and_right, ap, arith, bit_and, bit_not, cases_Bool, cases_eq, eq-eqb, eqb-true, false, false≢true, inl, inr, is_some, length, not, or_cases, or_from, or_left, or_parts, or_right, refl, rules, sym, true, w64, ℕ, ◌&&◌, ◌<◌, ◌||◌, ◌∙◌, ◌≡◌, ◌≢◌}
-use Rattle.chess_rules.proofs.Chess.{AreSeen, Colour, Kind, King, Man, differs, is_man, is_of_colour, is_square, king_square, man_on, man_on-with_other, man_on-without_other, man_on-without_same, other, same_colour, same_kind, sight_after, squares, squares_both, squares_either, squares_not, squares_of, squares_same, with_man, without_at, without_man, word}
+use Rattle.chess_rules.proofs.Basics.{Bool, List, None, Option, Some, and_left, ap, arith, bit_and, bit_not, cases_Bool, cases_eq, eq-eqb, eqb-true, false, false≢true, inl, inr, is_some, length, not, or_cases, or_parts, or_right, refl, rules, true, w64, ℕ, ◌&&◌, ◌<◌, ◌||◌, ◌∙◌, ◌≡◌, ◌≢◌}
+use Rattle.chess_rules.proofs.Chess.{AreSeen, Colour, Kind, King, Man, differs, is_man, is_of_colour, is_square, king_square, man_on, man_on-with_other, man_on-without_other, man_on-without_same, other, same_colour, sight_after, squares, squares_both, squares_either, squares_not, squares_of, squares_same, with_man, without_at, without_man, word}
 use Rattle.chess_rules.proofs.making_moves.Plays.{stays_empty}
 use Rattle.chess_rules.proofs.Bits.{every_square}
 

@@ -1,6 +1,6 @@
 -- A check that isn't met stays.
 use Rattle.chess_rules.proofs.Basics.{Bool, List, Option, Some, and_from, and_left, and_parts, ap, arith, bit_and, bit_at, bit_not, bit_or, eq-eqb, false, false≢true, list_any, list_any-append, not, or_left, or_parts, or_right, refl, rules, subst, sym, true, w64, ℕ, ◌&&◌, ◌<◌, ◌==◌, ◌∙◌, ◌≡◌, ◌≢◌}
-use Rattle.chess_rules.proofs.Chess.{AreEvasions, AtMostOneKing, Bishop, Colour, Grasshopper, IsWellFormed, Kind, King, Man, Move, Nightrider, Position, Queen, Rook, RuleSet, Step, arriving_man, find_first, first_of_and, in_check, is_arrival_free, is_attacked, is_attacked_at, is_checker, is_checker_at, has_fairy_lines, faced_men_stand_still, is_man, is_paralysed, is_plain, is_pseudo_legal, is_of_colour, is_square, is_vacant_at, king_square, man_on, other, position_after, queen_steps, reaches, reaches_as, rides, same_colour, same_kind, second_of_and, some_square_true, squares, squares_both, squares_either, is_attacker, word, IsNoEvasion, has_fairy_lines_of}
+use Rattle.chess_rules.proofs.Chess.{AreEvasions, AtMostOneKing, Colour, IsWellFormed, Kind, King, Man, Move, Position, Queen, RuleSet, Step, arriving_man, find_first, first_of_and, in_check, is_arrival_free, is_attacked, is_attacked_at, is_checker, has_fairy_lines, faced_men_stand_still, is_man, is_paralysed, is_plain, is_pseudo_legal, is_of_colour, is_square, is_vacant_at, king_square, man_on, other, position_after, queen_steps, reaches, reaches_as, rides, same_colour, same_kind, second_of_and, some_square_true, squares, squares_both, squares_either, is_attacker, word, IsNoEvasion, has_fairy_lines_of}
 use Rattle.chess_rules.proofs.Bits.{word_has, every_square}
 use Rattle.chess_rules.proofs.attacks.Shielding.{IsPlain, IsShift, arrived_shift, king_is, man_there, men_after, other_differs, plain_parts}
 use Rattle.chess_rules.proofs.making_moves.Fits.{arrived}

@@ -1,6 +1,6 @@
 -- The words of the squares to which a man may go.
 use Rattle.chess_rules.proofs.Basics.{Bool, List, None, Option, Some, agree_below_at, and_from, and_left, and_parts, ap, arith, bit_and, bit_at, bit_not, bit_or, cases_Bool, cond-false, cond-true, eqb-true, false, false≢true, find, inl, inr, is_some, list_any, not, not-true, or_cases, or_left, or_right, range_with_len, refl, rules, sym, true, w64, ℕ, ◌&&◌, ◌+◌, ◌/◌, ◌<◌, ◌==◌, ◌||◌, ◌∙◌, ◌≡◌}
-use Rattle.chess_rules.proofs.Chess.{Black, Colour, IsAimed, IsFirst, Kind, King, Man, Move, Pawn, Position, RuleSet, White, along, find_no, forward, can_go, has_unmoved, is_advance, is_arrival, is_arrival_free, is_arrival_of, is_man, is_paralysed, is_promotion_right, is_pseudo_legal, is_of_colour, is_square, is_vacant, leaps, man_on, may_go, may_promote, other, pawn_goes, queen_steps, rank_of, reaches, reaches_as, same_Bool, same_colour, same_kind, second_rank, side_of, squares_both, squares_either, squares_not, squares_of, squares_same, steps_to, word}
+use Rattle.chess_rules.proofs.Chess.{Black, Colour, IsAimed, IsFirst, Kind, King, Man, Move, Pawn, Position, RuleSet, White, along, find_no, forward, can_go, has_unmoved, is_advance, is_arrival, is_arrival_free, is_arrival_of, is_paralysed, is_promotion_right, is_pseudo_legal, is_square, is_vacant, leaps, man_on, may_go, may_promote, other, pawn_goes, queen_steps, rank_of, reaches, reaches_as, same_Bool, same_colour, same_kind, second_rank, side_of, squares_both, squares_either, squares_not, squares_of, squares_same, steps_to, word}
 use Rattle.chess_rules.proofs.Bits.{word_empty, word_has}
 use Rattle.chess_rules.proofs.making_moves.Pseudo.{king_is_no_pawn}
 use Rattle.chess_rules.proofs.listing_moves.Targeting.{false_by}

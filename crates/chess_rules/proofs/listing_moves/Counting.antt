@@ -6,8 +6,8 @@ use Rattle.std.proofs.lemmas.Nat.{ones-le, shr-shr, shr_below}
 use Rattle.std.specs.Int.{from_bool}
 use Rattle.std.specs.Int.Count.{ones_step}
 use Rattle.std.specs.Prelude.{count_ones, min}
-use Rattle.chess_rules.proofs.Basics.{Bool, None, Some, ap, arith, bit_at, cases_Bool, cases_eq, and_left, and_right, bit_at-lt, cases_lt, drop, false, find, inl, inr, length, length-append, range_with_len, refl, suc, sym, take, zero, ℕ, ◌%◌, ◌&&◌, ◌*◌, ◌+◌, ◌-◌, ◌/◌, ◌<◌, ◌==◌, ◌^◌, ◌∙◌, ◌≡◌, ◌≤◌, rules}
-use Rattle.chess_rules.proofs.Chess.{AreCandidates, AreOrigins, HaveNone, IsBarrenFrom, Move, Position, RuleSet, all_triples, differs, find_first, find_no, is_legal, moves_between, per_arrival, per_origin, promotion_at, triple_at, triples, is_legal-idle}
+use Rattle.chess_rules.proofs.Basics.{Bool, None, Some, ap, arith, bit_at, cases_Bool, cases_eq, and_left, and_right, bit_at-lt, cases_lt, false, find, inl, inr, length, length-append, range_with_len, refl, suc, sym, zero, ℕ, ◌%◌, ◌&&◌, ◌*◌, ◌+◌, ◌-◌, ◌/◌, ◌<◌, ◌==◌, ◌^◌, ◌∙◌, ◌≡◌, ◌≤◌, rules}
+use Rattle.chess_rules.proofs.Chess.{AreCandidates, AreOrigins, HaveNone, IsBarrenFrom, Move, Position, RuleSet, all_triples, differs, find_first, find_no, is_legal, moves_between, per_arrival, per_origin, promotion_at, triple_at, is_legal-idle}
 use Rattle.chess_rules.proofs.listing_moves.Between.{between-here, between-none, between-none-is_legal, between-past, between-skip, between_cut}
 use Rattle.chess_rules.proofs.listing_moves.Targeting.{arrival_from, named_by, no_promotion_here, some_named}
 use Rattle.chess_rules.proofs.listing_moves.Walks.{none-from, none-missed}

@@ -1,5 +1,5 @@
 -- The elements of lists that are made of others, and lists whose elements stand in order.
-use Rattle.chess_rules.proofs.Basics.{sym, ◌-◌, AllPairs, Bool, Contains, Contains-append_cases, Contains-append_left, Contains-append_right, Contains-get_or, List, [], ap, arith, cases_eq, cond, false, false≢true, filter, flat_map, get_or, inl, inr, map, range_with_len, refl, suc, true, zero, ℕ, ◌++◌, ◌+◌, ◌<◌, ◌∙◌, ◌∷◌, ◌≡◌, ◌≤◌, ◌⊎◌, get_or-map, get_or-range_with_len, length-map, length-range_with_len}
+use Rattle.chess_rules.proofs.Basics.{sym, ◌-◌, AllPairs, Bool, Contains, Contains-append_cases, Contains-append_left, Contains-append_right, Contains-get_or, List, [], ap, arith, cond, false, false≢true, filter, flat_map, get_or, inl, inr, map, range_with_len, refl, suc, true, ℕ, ◌++◌, ◌+◌, ◌<◌, ◌∙◌, ◌∷◌, ◌≡◌, ◌≤◌, ◌⊎◌, get_or-map, get_or-range_with_len, length-map, length-range_with_len}
 use Rattle.std.proofs.lemmas.List.Kept.{AllPairs-cons}
 
 module _ {X : Type 0} where

@@ -1,5 +1,5 @@
 -- Moves that are legal without a look.
-use Rattle.chess_rules.proofs.Basics.{Bool, None, Some, and_from, ap, if◌then◌else◌, refl, bit_or, and_left, bit_and, bit_at, eqb-true, false, is_some, not, or_parts, rules, sym, true, ℕ, ◌&&◌, ◌<◌, ◌==◌, ◌∙◌, ◌≡◌, arith}
+use Rattle.chess_rules.proofs.Basics.{Bool, None, Some, and_from, ap, if◌then◌else◌, refl, bit_or, and_left, bit_and, bit_at, eqb-true, false, is_some, not, or_parts, rules, sym, true, ℕ, ◌&&◌, ◌<◌, ◌==◌, ◌∙◌, ◌≡◌}
 use Rattle.chess_rules.proofs.Chess.{AreCandidates, IsAimed, IsWellFormed, King, Man, Move, Pawn, Position, RuleSet, is_promoting, captures_do_more, is_legal, is_plain, is_square, last_rank, man_on, may_expose, may_stand_between, rank_of, same_kind, squares_either, squares_same, word, cannot_expose}
 use Rattle.chess_rules.proofs.Bits.{word_empty, word_has}
 use Rattle.chess_rules.proofs.attacks.Shielding.{cannot_expose_own}

@@ -1,6 +1,6 @@
 -- A move that may be made can be made on the board.
 use Rattle.chess_rules.proofs.Basics.{IsSome, List, None, Option, Some, and_from, and_parts, ap, arith, cases_Bool, cond-false, cond-true, eq-eqb, eqb-true, false, false_from_ne_true, inl, inr, is_some, list_any, not-true, refl, rules, sym, true, ℕ, ◌&&◌, ◌<◌, ◌∙◌, ◌≡◌, ◌≢◌}
-use Rattle.chess_rules.proofs.Chess.{CanCastle, CanMove, Colour, HasNoKing, IsAt, IsWellFormed, Kind, King, Man, Move, Pawn, Position, Rook, RuleSet, arriving_man, capture_square, corner, file_of, halfway, is_castling, is_crossed_right, is_diagonal, is_man, is_man-without, is_promotion_right, is_square, leaps, man_on, man_on-without_none, man_on-without_other, may_promote, queen_steps, rank_of, reaches, reaches_as, same_colour, same_kind, same_kind-true, square_at, square_at-is, was_passed, with_man, without_at, without_man}
+use Rattle.chess_rules.proofs.Chess.{CanCastle, CanMove, Colour, HasNoKing, IsAt, IsWellFormed, Kind, King, Man, Move, Pawn, Position, RuleSet, arriving_man, capture_square, corner, file_of, halfway, is_castling, is_crossed_right, is_diagonal, is_man, is_man-without, is_promotion_right, is_square, leaps, man_on, man_on-without_none, man_on-without_other, queen_steps, rank_of, reaches, reaches_as, same_colour, same_kind, same_kind-true, square_at, square_at-is, was_passed, with_man, without_at, without_man}
 use Rattle.chess_rules.proofs.making_moves.Castles.{no_king_left, same_colour_self}
 use Rattle.chess_rules.proofs.making_moves.Plays.{stays_empty}
 use Rattle.chess_rules.proofs.making_moves.Pseudo.{IsCastle, IsMade, IsPawnTake, king_castles, king_is_no_pawn, made, on_board, pawn_goes, pawn_reaches, ways}

@@ -1,6 +1,6 @@
 -- What a move that may be made is made of, check to the mover apart.
-use Rattle.chess_rules.proofs.Basics.{arith, List, None, Option, Some, and_parts, cases_lt, cond-false, cond-true, eqb-true, false, get_or_past, inl, inr, le-ltb, length, list_any, lt-ltb, nat_lt, or_cases, rules, true, ℕ, ◌+◌, ◌<◌, ◌≡◌, ◌≢◌, ◌⊎◌}
-use Rattle.chess_rules.proofs.Chess.{Black, Colour, IsWellFormed, Kind, King, Man, Move, Pawn, Position, Rook, RuleSet, White, along, along-is, can_castle, corner, file_of, forward, can_go, halfway, is_arrival_free, is_home, is_home-none, is_home-square, is_promotion_right, is_pseudo_legal, is_square, leaps, man_on, may_castle, pawn_capture_steps, is_pawn_step, is_pawn_capture, rank_of, reaches, reaches_as, same_colour-true, same_kind, same_kind-true, second_rank}
+use Rattle.chess_rules.proofs.Basics.{arith, List, None, Option, Some, and_parts, cases_lt, cond-false, cond-true, eqb-true, false, get_or_past, inl, inr, le-ltb, length, list_any, lt-ltb, or_cases, rules, true, ℕ, ◌+◌, ◌<◌, ◌≡◌, ◌≢◌, ◌⊎◌}
+use Rattle.chess_rules.proofs.Chess.{Black, Colour, IsWellFormed, Kind, King, Man, Move, Pawn, Position, Rook, RuleSet, White, along, along-is, can_castle, corner, file_of, forward, can_go, halfway, is_arrival_free, is_home-none, is_home-square, is_promotion_right, is_pseudo_legal, is_square, leaps, man_on, may_castle, pawn_capture_steps, is_pawn_step, is_pawn_capture, rank_of, reaches, reaches_as, same_colour-true, same_kind, same_kind-true, second_rank}
 use Rattle.chess_rules.proofs.making_moves.Castles.{no_man}
 
 -- the parts of the definition

@@ -1,6 +1,6 @@
 -- The position before a move, found again.
 use Rattle.chess_rules.proofs.Basics.{IsSome, List, None, Option, Some, and_parts, ap, arith, cases_Bool, inl, inr, length, length-set, refl, rules, sym, true, ℕ, ◌<◌, ◌∙◌, ◌≡◌}
-use Rattle.chess_rules.proofs.Chess.{captured_man, same_kind-true, CanCastle, CanReturn, IsWellFormed, Kind, Man, Move, Position, RuleSet, position_after_by, arriving_man, before_by, capture_square, corner, halfway, is_castling, is_crossed_right, is_promotion_right, is_pseudo_legal, is_square, leaving_man, man_on, man_on-with_same, man_on-without_other, man_on-without_same, man_on_at, moved_men, position_after, put_at, reborn_square, returned_men, return_square, uncastled_men, undo_by, undo_of, without_at, without_man}
+use Rattle.chess_rules.proofs.Chess.{captured_man, same_kind-true, CanCastle, CanReturn, IsWellFormed, Kind, Man, Move, Position, RuleSet, position_after_by, arriving_man, before_by, capture_square, corner, halfway, is_castling, is_crossed_right, is_promotion_right, is_pseudo_legal, leaving_man, man_on, man_on-with_same, man_on-without_other, man_on-without_same, man_on_at, moved_men, position_after, put_at, reborn_square, returned_men, return_square, uncastled_men, undo_by, undo_of, without_at, without_man}
 use Rattle.chess_rules.specs.Undo.{Undo}
 use Rattle.chess_rules.proofs.making_moves.Pseudo.{made}
 use Rattle.chess_rules.proofs.making_moves.Back.{lift_after_place, place_after_lift, unborn, uncastled}

@@ -1,6 +1,6 @@
 -- Lines looked at from their other end.
-use Rattle.chess_rules.proofs.Basics.{Bool, List, None, Option, Some, add-mul, and_from, ap, arith, cond, eq-eqb, eqb-true, false≢true, le-leb, leb-true, list_any, range_with_len, refl, rules, true, ℕ, ◌&&◌, ◌*◌, ◌+◌, ◌-◌, ◌<◌, ◌∙◌, ◌≡◌, ◌≤◌}
-use Rattle.chess_rules.proofs.Chess.{Man, Step, all_at, all_range_true, along, file_of, first_of_and, is_clear, is_on_board, is_square, is_vacant_at, rank_of, rides, same_Bool, second_of_and, some_is, square_at}
+use Rattle.chess_rules.proofs.Basics.{Bool, None, Option, Some, add-mul, and_from, arith, cond, eq-eqb, eqb-true, false≢true, le-leb, leb-true, refl, rules, true, ℕ, ◌&&◌, ◌*◌, ◌+◌, ◌-◌, ◌<◌, ◌≡◌, ◌≤◌}
+use Rattle.chess_rules.proofs.Chess.{Step, along, file_of, first_of_and, is_on_board, is_square, rank_of, second_of_and, some_is, square_at}
 
 -- the step the other way
 abbrev pub back : Step → Step

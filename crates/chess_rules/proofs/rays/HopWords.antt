@@ -1,6 +1,6 @@
 -- The word of a hop.
-use Rattle.chess_rules.proofs.Basics.{false_from_ne_true, Bool, List, None, Option, Some, and_from, ap, arith, bit_at-trailing_zeros, cases_Bool, cases_eq, cases_lt, eq-eqb, false, false≢true, inl, inr, is_some, list_all, list_any, not, not-true, range_with_len, refl, rules, sym, trailing_zeros, true, w64, ℕ, ◌&&◌, ◌+◌, ◌-◌, ◌<◌, ◌^◌, ◌∙◌, ◌≡◌, ◌≢◌, ◌≤◌}
-use Rattle.chess_rules.proofs.Chess.{Direction, IsStop, Man, Step, all_at, all_range_true, along, any_range_cases, any_range_false, any_range_true, first_of_and, hopped_from, hops, is_ahead, is_clear, is_occupied, is_square, is_vacant_at, man_on, place, passing_order_by, ray, rides, rides_on, rises, same_Bool, second_of_and, some_is, square_word_small, squares_same, step_of, word}
+use Rattle.chess_rules.proofs.Basics.{false_from_ne_true, Bool, List, None, Option, Some, ap, arith, bit_at-trailing_zeros, cases_eq, cases_lt, eq-eqb, false, false≢true, inl, inr, is_some, not, refl, rules, sym, trailing_zeros, true, w64, ℕ, ◌&&◌, ◌+◌, ◌-◌, ◌<◌, ◌^◌, ◌∙◌, ◌≡◌, ◌≢◌, ◌≤◌}
+use Rattle.chess_rules.proofs.Chess.{Direction, IsStop, Man, Step, along, first_of_and, hopped_from, hops, is_ahead, is_occupied, is_square, is_vacant_at, man_on, place, passing_order_by, ray, rides, rides_on, rises, same_Bool, second_of_and, some_is, square_word_small, squares_same, step_of, word}
 use Rattle.chess_rules.proofs.rays.Ahead.{Ordered, Passed, not_later, onward, ordered, passes}
 use Rattle.chess_rules.proofs.Bits.{word_empty, word_lacks}
 use Rattle.chess_rules.proofs.rays.Computed.{eighth}

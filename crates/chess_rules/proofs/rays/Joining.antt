@@ -1,5 +1,5 @@
 -- Words of several lines joined.
-use Rattle.chess_rules.proofs.Basics.{arith, Bool, List, [], bit_or, false, list_any, list_any-append, sym, ℕ, ◌++◌, ◌||◌, ◌∙◌, ◌∷◌, ◌≡◌, rules}
+use Rattle.chess_rules.proofs.Basics.{arith, Bool, List, [], bit_or, false, list_any, list_any-append, ℕ, ◌++◌, ◌||◌, ◌∷◌, ◌≡◌, rules}
 use Rattle.chess_rules.proofs.Chess.{Step, squares_either, squares_same, word}
 
 one_by_one : (a b c d : Bool) → (((a || b) || c) || d) ≡ (a || (b || (c || (d || false))))

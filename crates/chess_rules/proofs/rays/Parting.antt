@@ -1,6 +1,6 @@
 -- A line on which one square alone may have been shut.
-use Rattle.chess_rules.proofs.Basics.{sym, false≢true, List, Option, Some, [], and_from, and_parts, ap, arith, cases_Bool, false, false_from_ne_true, inl, inr, list_any, or_cases, or_left, or_parts, or_right, range_with_len, rules, true, ℕ, ◌&&◌, ◌-◌, ◌<◌, ◌∙◌, ◌∷◌, ◌≡◌, ◌≤◌}
-use Rattle.chess_rules.proofs.Chess.{Man, Step, all_at, all_range_true, along, any_range_cases, any_range_false, any_range_true, first_of_and, is_clear, is_square, is_vacant_at, rides, second_of_and}
+use Rattle.chess_rules.proofs.Basics.{sym, false≢true, List, Option, [], and_from, and_parts, cases_Bool, false, false_from_ne_true, inl, inr, list_any, or_cases, or_left, or_parts, or_right, rules, true, ℕ, ◌&&◌, ◌∙◌, ◌∷◌, ◌≡◌}
+use Rattle.chess_rules.proofs.Chess.{Man, Step, along, is_square, is_vacant_at, rides}
 use Rattle.chess_rules.proofs.rays.Ends.{back, square_is}
 use Rattle.chess_rules.proofs.rays.Ways.{from_end, from_start, ride-found, ride-made}
 

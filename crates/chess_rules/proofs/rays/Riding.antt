@@ -1,7 +1,6 @@
 -- The words of the squares that shut lines.
 use Rattle.chess_rules.proofs.Basics.{Bool, List, Option, and_left, and_right, ap, arith, bit_and, bit_at, bit_at-zero, bit_or, cases_Bool, cases_eq, cases_lt, false, inl, inr, list_any, or_left, or_right, range_with_len, refl, rules, sym, ℕ, ◌&&◌, ◌+◌, ◌-◌, ◌<◌, ◌==◌, ◌||◌, ◌∙◌, ◌≡◌, ◌≤◌}
 use Rattle.chess_rules.proofs.Chess.{AreRides, Colour, IsFirst, Kind, Man, Queen, Step, any_range_cases, any_range_false, any_range_true, is_behind, is_on_some, is_line_rider, is_shut, rides, some_square, some_square_false, squares, squares_both, squares_either, squares_of, squares_same, word, is_met}
-use Rattle.std.specs.Int.Bits.{and_zero_r}
 use Rattle.chess_rules.proofs.attacks.Attacking.{met, met_none, some_square_same}
 use Rattle.chess_rules.proofs.Bits.{word_empty, word_has}
 

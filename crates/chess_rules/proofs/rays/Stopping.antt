@@ -1,6 +1,6 @@
 -- A ride: the line as far as the first man on it.
-use Rattle.chess_rules.proofs.Basics.{false_from_ne_true, not-true, Bool, List, Option, Some, and_from, and_left, ap, arith, bit_and, bit_at, bit_not, cases_Bool, cases_eq, cases_lt, eq-eqb, eqb-true, false, false≢true, inl, inr, is_some, not, refl, sym, true, w64, ℕ, ◌&&◌, ◌+◌, ◌-◌, ◌<◌, ◌∙◌, ◌≡◌, ◌≤◌, rules}
-use Rattle.chess_rules.proofs.Chess.{same_Bool, IsStop, Man, Step, all_range_false, all_range_true, along, any_range_cases, any_range_false, any_range_true, first_of_and, is_ahead, is_clear, is_square, is_vacant_at, man_on, place, passing_order_by, ray, rides, rises, second_of_and, squares_both, squares_not, squares_same, word}
+use Rattle.chess_rules.proofs.Basics.{false_from_ne_true, not-true, Bool, List, Option, Some, and_from, ap, arith, bit_and, bit_at, bit_not, eq-eqb, eqb-true, false, false≢true, inl, inr, is_some, not, refl, sym, true, w64, ℕ, ◌&&◌, ◌+◌, ◌-◌, ◌<◌, ◌∙◌, ◌≡◌, ◌≤◌, rules}
+use Rattle.chess_rules.proofs.Chess.{same_Bool, IsStop, Man, Step, along, any_range_cases, any_range_false, any_range_true, first_of_and, is_ahead, is_square, is_vacant_at, man_on, place, passing_order_by, ray, rides, rises, second_of_and, squares_both, squares_not, squares_same, word}
 use Rattle.chess_rules.proofs.rays.Ahead.{Ordered, earlier, not_later, onward, passes}
 use Rattle.chess_rules.proofs.Bits.{word_has}
 use Rattle.chess_rules.proofs.rays.Ends.{square_is, stays}

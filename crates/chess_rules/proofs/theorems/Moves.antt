@@ -1,5 +1,5 @@
 -- The moves of a position are its legal moves, each once, in the stated order; and what mate and stalemate say of legal moves.
-use Rattle.chess_rules.proofs.Basics.{AllPairs, Contains, ap, arith, false, sym, true, ◌<◌, ◌↔◌, ◌∙◌, ◌≡◌, ◌≢◌, ◌⊎◌, rules}
+use Rattle.chess_rules.proofs.Basics.{AllPairs, Contains, ap, arith, false, sym, true, ◌<◌, ◌↔◌, ◌∙◌, ◌≡◌, ◌≢◌, ◌⊎◌}
 use Rattle.chess_rules.proofs.Chess.{IsWellFormed, Move, Position, RuleSet, in_check, is_legal, is_mate, is_nil, is_stalemate, moves, promotions, triples}
 use Rattle.chess_core.specs.MoveOrder.{promotion_order, order_number}
 use Rattle.chess_rules.proofs.listing_moves.Calls.{is_pseudo_legal-from_legal}

@@ -1,6 +1,6 @@
 use Rattle.chess_rules.proofs.Basics.{arith, bit_at, sym, ◌<◌, ◌==◌, ◌∙◌}
 use Rattle.chess_rules.proofs.Chess.{find_first}
-use Rattle.chess_rules.proofs.attacks.StayingInCheck.{evasion_squares_all, evasion_squares_one}
+use Rattle.chess_rules.proofs.attacks.StayingInCheck.{evasion_squares_one}
 use Rattle.chess_rules.proofs.evasions.evasion_squares.Goals as goal
 
 pub returns : goal.returns

@@ -1,6 +1,5 @@
 use Rattle.chess_rules.proofs.Basics.{rules}
-use Rattle.chess_rules.proofs.Chess.{is_paralysed}
-use Rattle.chess_rules.proofs.attacks.Exposing.{faced_king, none_paralysed, paralysed_by}
+use Rattle.chess_rules.proofs.attacks.Exposing.{paralysed_by}
 use Rattle.chess_rules.proofs.exposure.is_paralysed_after.Goals as goal
 
 pub returns-then-not-is : goal.returns-then-not-is

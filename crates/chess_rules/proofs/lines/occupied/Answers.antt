@@ -1,4 +1,4 @@
-use Rattle.chess_rules.proofs.Basics.{List, None, Option, Some, bit_or, is_some, refl, rules, true, ◌||◌, ◌∙◌, ◌≡◌}
+use Rattle.chess_rules.proofs.Basics.{List, Option, bit_or, is_some, rules, true, ◌||◌, ◌≡◌}
 use Rattle.chess_rules.proofs.Chess.{Black, Colour, Man, White, is_of_colour, man_on, same_colour, side_of, squares_either, squares_same, word}
 use Rattle.chess_rules.proofs.lines.occupied.Goals as goal
 

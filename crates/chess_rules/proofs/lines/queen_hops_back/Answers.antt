@@ -1,5 +1,4 @@
 use Rattle.std.proofs.Common.{rules}
-use Rattle.chess_rules.proofs.Chess.{diagonal_steps, hopped_from, straight_steps}
 use Rattle.chess_rules.proofs.rays.Joining.{both_lists}
 use Rattle.chess_rules.proofs.lines.queen_hops_back.Goals as goal
 

@@ -1,5 +1,5 @@
-use Rattle.chess_rules.proofs.Basics.{not, sym, ◌==◌, ◌||◌, ◌∙◌, rules}
-use Rattle.chess_rules.proofs.attacks.Attacking.{diagonal_reaches, leap_reaches, some_reach, straight_reaches}
+use Rattle.chess_rules.proofs.Basics.{not, sym, ◌==◌, ◌||◌, ◌∙◌}
+use Rattle.chess_rules.proofs.attacks.Attacking.{some_reach}
 use Rattle.chess_rules.proofs.outward.is_attacker_seen.Goals as goal
 
 pub returns : goal.returns

@@ -1,6 +1,7 @@
-use Rattle.chess_rules.proofs.Basics.{Bool, Some, ap, arith, not, rules, sym, ◌&&◌, ◌<◌, ◌∙◌, ◌≡◌}
-use Rattle.chess_rules.proofs.Chess.{Move, is_plain, man_on, may_stand_between}
-use Rattle.chess_rules.proofs.attacks.Shielding.{cannot_expose_from, cannot_expose_nobody, cannot_expose_to}
+use Rattle.chess_rules.proofs.Basics.{ap, arith, rules, sym, ◌∙◌}
+use Rattle.chess_rules.proofs.Bits.{word_has}
+use Rattle.chess_rules.proofs.Chess.{Move, cannot_expose}
+use Rattle.chess_rules.proofs.attacks.Shielding.{cannot_expose_nobody, cannot_expose_to}
 use Rattle.chess_rules.proofs.shields.cannot_expose.Goals as goal
 
 pub returns-then-not-contains : goal.returns-then-not-contains
@@ -10,7 +11,8 @@ returns-then-not-contains g c =
     (omega (arith, c.index-small.ensures.value, c.index-small.ensures.small)) c.contains.ensures c.if-not-contains.true c.stands_aside.ensures
 
 pub returns-else-not-contains : goal.returns-else-not-contains
-returns-else-not-contains g c = grind (arith, cannot_expose_from)
+unfolding cannot_expose
+returns-else-not-contains g c = grind (arith, word_has)
 
 pub returns-in-None : goal.returns-in-None
 returns-in-None g c = search (rules, cannot_expose_nobody)

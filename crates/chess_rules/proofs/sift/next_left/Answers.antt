@@ -1,6 +1,6 @@
-use Rattle.chess_rules.proofs.Basics.{arith, bit_at, refl, sym, ◌*◌, ◌+◌, ◌-◌, ◌/◌, ◌==◌, ◌∙◌, ◌≡◌}
+use Rattle.chess_rules.proofs.Basics.{arith, bit_at, sym, ◌*◌, ◌-◌, ◌/◌, ◌==◌, ◌∙◌, ◌≡◌}
 use Rattle.chess_rules.proofs.Chess.{per_origin, find_first, is_wanted, is_wanted-idle}
-use Rattle.chess_rules.proofs.listing_moves.Counting.{few_between, none_left, passed_all, passed_on}
+use Rattle.chess_rules.proofs.listing_moves.Counting.{passed_all, passed_on}
 use Rattle.chess_rules.proofs.listing_moves.Sifting.{wanted_origins}
 use Rattle.chess_rules.proofs.listing_moves.Walks.{none-end, none-origin}
 use Rattle.chess_rules.proofs.sift.next_left.Goals as goal

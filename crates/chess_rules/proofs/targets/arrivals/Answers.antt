@@ -1,6 +1,6 @@
-use Rattle.chess_rules.proofs.Basics.{arith, sym, true, ◌∙◌, ◌≡◌}
+use Rattle.chess_rules.proofs.Basics.{sym, true, ◌∙◌, ◌≡◌}
 use Rattle.chess_rules.proofs.Chess.{same_colour}
-use Rattle.chess_rules.proofs.listing_moves.Arrivals.{arrivals_nobody, arrivals_other, arrivals_paralysed, arrivals_some}
+use Rattle.chess_rules.proofs.listing_moves.Arrivals.{arrivals_some}
 use Rattle.chess_rules.proofs.targets.arrivals.Goals as goal
 
 pub returns : goal.returns

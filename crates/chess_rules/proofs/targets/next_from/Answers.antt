@@ -1,4 +1,4 @@
-use Rattle.chess_rules.proofs.Basics.{arith, bit_at, rules, sym, ◌%◌, ◌*◌, ◌+◌, ◌-◌, ◌/◌, ◌==◌, ◌∙◌, ◌≡◌}
+use Rattle.chess_rules.proofs.Basics.{arith, bit_at, rules, sym, ◌*◌, ◌+◌, ◌-◌, ◌/◌, ◌==◌, ◌∙◌, ◌≡◌}
 use Rattle.chess_rules.proofs.Chess.{find_first, per_arrival}
 use Rattle.chess_rules.proofs.listing_moves.Targeting.{from-first, from-join, from-none, from-target, from-unpromoted, named_at, some_named, unnamed_at, nobody_moves}
 use Rattle.chess_rules.proofs.targets.next_from.Goals as goal

@@ -1,5 +1,4 @@
-use Rattle.chess_rules.proofs.Basics.{arith, bit_at, sym, ◌*◌, ◌-◌, ◌==◌, ◌∙◌, ◌≡◌, rules}
-use Rattle.chess_rules.proofs.Chess.{find_first, per_arrival}
+use Rattle.chess_rules.proofs.Basics.{arith, sym, ◌∙◌, rules}
 use Rattle.chess_rules.proofs.listing_moves.Targeting.{no_pawn_arrives, plain-none, plain-target, unnamed_at}
 use Rattle.chess_rules.proofs.targets.next_unpromoted.Goals as goal
 

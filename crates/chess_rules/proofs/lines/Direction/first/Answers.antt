@@ -1,5 +1,5 @@
 use Rattle.chess_rules.proofs.Basics.{arith, bit_at_set_same, w64}
-use Rattle.chess_rules.proofs.rays.Firsts.{has_bit, highest_stop, lowest_stop}
+use Rattle.chess_rules.proofs.rays.Firsts.{has_bit}
 use Rattle.chess_rules.proofs.lines.Direction.first.Goals as goal
 
 pub lowest-requires : goal.lowest-requires
