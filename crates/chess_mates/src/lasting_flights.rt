@@ -45,6 +45,7 @@ pub(crate) fn open_reach(man: Man, from: Square) -> Squares
 }
 
 // Those that the men of this kind reach so, who stand on the squares of a word.
+#[inline(always)]
 fn open_reach_of(colour: Colour, kind: Kind, squares: Squares) -> Squares
     ensures { (s : ℕ) → s < 64 → (bit_at squares s == 1) ≡ true
         → AreReached (record { colour = colour; kind = kind }) s result }
@@ -62,6 +63,7 @@ fn open_reach_of(colour: Colour, kind: Kind, squares: Squares) -> Squares
 
 // Those that some man reaches so.
 #[tactic(auto, using(crate::proofs::LastingFlights::all_guard))]
+#[inline(always)]
 pub(crate) fn guarded_squares(men: &Attackers) -> Squares
     ensures { AreGuarded men.now result }
 {
@@ -133,6 +135,7 @@ fn leaves_one_each(squares: Squares, man: Man, targets: Squares) -> bool
 
 // Whether one of the squares is left wherever the man on `from` may go, were the others gone. Where he neither
 // stands on the first of them nor reaches it, that one is.
+#[inline(always)]
 fn leaves_one(squares: Squares, man: Man, from: Square) -> bool
     ensures { result ≡ true → LeavesOne squares man from }
 {
@@ -148,6 +151,7 @@ fn leaves_one(squares: Squares, man: Man, from: Square) -> bool
 }
 
 // Whether each man of this kind leaves one so, who stands on a square of the word.
+#[inline(always)]
 fn each_leaves_one(squares: Squares, colour: Colour, kind: Kind, men: Squares) -> bool
     ensures { result ≡ true → (s : ℕ) → s < 64 → (bit_at men s == 1) ≡ true
         → LeavesOne squares (record { colour = colour; kind = kind }) s }
@@ -164,6 +168,7 @@ fn each_leaves_one(squares: Squares, colour: Colour, kind: Kind, men: Squares) -
 }
 
 // Whether each man does.
+#[inline(always)]
 fn leave_one(squares: Squares, men: &Attackers) -> bool
     ensures { result ≡ true → LeaveOne men.now squares }
 {
@@ -208,6 +213,7 @@ fn near_squares(board: &Board, m: &Move, king: Square) -> Squares
 
 // Whether those of the squares that none of the men reaches, were the others gone, can't all be taken with one move.
 #[tactic(auto, using(crate::proofs::LastingFlights::keeps_one))]
+#[inline(always)]
 pub(crate) fn keeps_one(men: &Attackers, guarded: Squares, near: Squares) -> bool
     requires { AreGuarded men.now guarded }
     ensures { result ≡ true → KeepsOne men.now near }

@@ -286,6 +286,7 @@ fn uncaptured_squares(field: &Field, guards: &Guards, squares: Squares) -> Squar
 
 // The risk that the man goes from `from` to one of the squares that he reaches: to one of the targets, or to any if
 // another attacker checks once he has gone. None where the king captures him.
+#[inline(always)]
 fn risk_of_going(
     siege: &Siege,
     field: &Field,
@@ -317,6 +318,7 @@ fn risk_of_going(
 
 // The risk of the man on `from`, who checks from the squares of `checks`. Mostly he can't come there, were the others
 // gone.
+#[inline(always)]
 fn risk_from(siege: &Siege, field: &Field, man: Man, from: Square, checks: Squares) -> Risk
     ensures { IsHarmless siege.now field.now checks result man from }
 {
@@ -340,6 +342,7 @@ fn risk_from(siege: &Siege, field: &Field, man: Man, from: Square, checks: Squar
 }
 
 // The same of such men on the squares of a word.
+#[inline(always)]
 fn risk_together(siege: &Siege, field: &Field, man: Man, squares: Squares, checks: Squares) -> Risk
     ensures { (s : ℕ) → s < 64 → (bit_at squares s == 1) ≡ true
         → IsHarmless siege.now field.now checks result man s }
