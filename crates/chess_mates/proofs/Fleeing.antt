@@ -1,22 +1,15 @@
 -- A flight after a move, told by the men that an attack on it sees.
-use Rattle.chess_rules.proofs.Basics.{[], Bool, cases_lt, filter, find, ◌∷◌, range_with_len, ◌-◌, List, None, Option, Some, and_from, and_left, and_parts, and_right, ap, arith, bit_and, bit_at, bit_at-lt, bit_at_and, bit_not, bit_or, cases_Bool, cases_eq, cond-false, cond-true, eq-eqb, eqb-true, false, false_from_ne_true, false≢true, inl, inr, is_some, length, list_any, not, not-true, or_cases, or_left, or_parts, true_from_ne_false, refl, rules, suc, sym, true, w64, zero, ℕ, ◌&&◌, ◌*◌, ◌+◌, ◌<◌, ◌==◌, ◌||◌, ◌∙◌, ◌≡◌, ◌≢◌}
+use Rattle.chess_rules.proofs.Basics.{Bool, List, None, Option, Some, and_from, and_left, and_parts, and_right, ap, arith, bit_and, bit_at, bit_at-lt, bit_at_and, bit_not, bit_or, cases_Bool, cases_eq, cond-false, cond-true, eq-eqb, eqb-true, false, false_from_ne_true, false≢true, inl, inr, is_some, length, list_any, not, not-true, or_cases, or_left, or_parts, or_right, refl, rules, suc, sym, true, w64, zero, ℕ, ◌&&◌, ◌*◌, ◌+◌, ◌<◌, ◌==◌, ◌||◌, ◌∙◌, ◌≡◌, ◌≢◌}
 use Rattle.chess_rules.specs.ties.Places.{all_triples, per_arrival, per_origin}
-use Rattle.chess_mates.proofs.Chess.{AreOpen, AreSeen, Colour, IsWellFormed, King, Man, Move, Pawn, Position, RuleSet, any_range_cases, any_range_false, arriving_man, capture_square, differs, first_of_and, is_arrival_free, is_attacked, captures_do_more, in_check, is_legal, is_man, is_mate, is_nil, is_of_colour, is_square, king_after, king_square, leaps, man_on, mates, moves, position_after}
-use Rattle.chess_mates.proofs.Chess.{is_paralysed, is_pseudo_legal, is_reached, moves_behind, occupied_squares, other, queen_steps, reaches, reaches_as, reaches_of, same_colour, same_colour-true, same_kind, side_of, sight_lifted, sight_with, some_square, some_square_false, some_square_true, squares, squares_both, squares_either, squares_not}
-use Rattle.chess_mates.proofs.Chess.{squares_of, is_attacker, triple_at, without_man, word}
-use Rattle.std.proofs.Common.{IfSome, ap₂}
-use Rattle.chess_mates.specs.ties.Flights.{AreSteps, IsSeenFrom, has_flight, is_flight, is_flight_at, is_open}
+use Rattle.chess_mates.proofs.Chess.{Colour, IsWellFormed, King, Man, Move, Pawn, Position, RuleSet, any_range_cases, any_range_false, arriving_man, capture_square, differs, first_of_and, is_arrival_free, is_attacked, captures_do_more, is_legal, is_man, is_mate, is_nil, is_of_colour, is_square, king_after, king_square, leaps, man_on, mates, moves, position_after}
+use Rattle.chess_mates.proofs.Chess.{is_paralysed, is_pseudo_legal, is_reached, moves_behind, occupied_squares, other, queen_steps, reaches, reaches_as, reaches_of, same_colour, same_colour-true, same_kind, side_of, sight_lifted, some_square, some_square_true, squares, squares_both, squares_either, squares_not}
+use Rattle.chess_mates.proofs.Chess.{squares_of, triple_at, without_man, word}
+use Rattle.std.proofs.Common.{ap₂}
+use Rattle.chess_mates.specs.ties.Flights.{AreSteps, IsOneSafe, IsSeenFrom, has_flight, is_flight, is_flight_at, is_open}
 use Rattle.chess_rules.proofs.Bits.{word_has}
 use Rattle.chess_rules.proofs.rays.Ends.{square_is}
-use Rattle.chess_core.proofs.Kept.{same_colour-refl}
 use Rattle.chess_rules.proofs.attacks.Attacking.{some_square_same}
 use Rattle.chess_rules.proofs.attacks.Shielding.{not_attacked}
-use Rattle.chess_rules.proofs.Chess.{triples, Kind, can_castle, may_castle, find_first, find_no, is_promotion_right, same_kind-true, some_is}
-use Rattle.chess_rules.proofs.listing_moves.Calls.{is_pseudo_legal-from_legal}
-use Rattle.chess_rules.proofs.theorems.Moves.{legal_moves_are_triples}
-use Rattle.chess_rules.specs.RuleSet.{faced_men_stand_still}
-use Rattle.chess_rules.specs.declared.sight.Sight.{Sight}
-use Rattle.chess_rules.specs.ties.Sifting.{is_of_others}
 use Rattle.chess_rules.proofs.attacks.Exposing.{IsSimple, captures_arrival, check_is}
 use Rattle.chess_rules.proofs.making_moves.Fits.{arrived, arriving_king, capture_of_piece, king_no_step, no_capture, taken}
 use Rattle.chess_mates.proofs.Landing.{StandAlike, no_reach_there, reaches_alike}
@@ -25,7 +18,7 @@ use Rattle.chess_rules.proofs.listing_moves.Places.{moves_behind-here, moves_beh
 use Rattle.chess_rules.proofs.making_moves.Plays.{none_from_is_some}
 use Rattle.chess_rules.proofs.making_moves.Pseudo.{IsMade, king_is_no_pawn, made}
 use Rattle.chess_rules.proofs.attacks.Seeing.{gone_to, is_occupied_after, kept_now, king_stands, left_now, occupied_now, there_now}
-use Rattle.chess_rules.proofs.attacks.Shielding.{other_twice, arriving_colour, king_is, man_there, other_differs, simple_after}
+use Rattle.chess_rules.proofs.attacks.Shielding.{other_twice, arriving_colour, man_there, other_differs, simple_after}
 use Rattle.chess_rules.proofs.attacks.StayingInCheck.{king_there}
 use Rattle.chess_rules.proofs.making_moves.Stays.{after_well_formed}
 use Rattle.chess_mates.proofs.Stepping.{IsStep, arrival_alike, lifted_alike, lifted_words, occupied_lifted, same_elsewhere, seen_stepped, stands_arrived, stepped}
@@ -139,47 +132,51 @@ module _ (rule : RuleSet) (p : Position) (m : Move) (x : Man) (k : ℕ) (i : IsS
   no_own_arrives : same_colour (arriving_man x m.promo).colour (other p.turn) ≡ false
   no_own_arrives = ap (λ (c : Colour). same_colour c (other p.turn)) (arriving_colour x m.promo ∙ is_made.mine) ∙ other_differs p.turn
 
+  -- no king leaves his square
+  no_king_left : (c : Colour) (t : ℕ) → (m.from == t || is_square (capture_square p x m) t) ≡ true → is_man (man_on p.men t) c King ≡ false
+  no_king_left c t gone = elim (or_cases (m.from == t) (is_square (capture_square p x m) t) gone) [
+    | inl from ↦
+        ap (λ (o : Option Man). is_man o c King) (ap (man_on p.men) (sym (eqb-true m.from t from)) ∙ i.here) ∙ and_right (same_colour x.colour c) _ i.mortal
+    | inr there ↦
+        let w = taken rule p x m t i.well_formed is_made (square_is (capture_square p x m) t there) in
+        ap (λ (o : Option Man). is_man o c King) w.there ∙ and_right (same_colour w.man.colour c) _ w.mortal
+  ]
+
   module _ (small : m.to < 64) where
     pub king_seen : king_square (position_after rule p m).men (other p.turn) ≡ Some k
     king_seen =
         ap (λ (l : List (Option Man)). king_square l (other p.turn)) after_seen
         ∙ king_stands p.men m.from (capture_square p x m) m.to (arriving_man x m.promo) (other p.turn) (record {
           small = omega (arith, small, i.well_formed.size);
-          here = ap (λ (o : Option Man). is_man o (other p.turn) King) i.here ∙ and_right (same_colour x.colour (other p.turn)) _ i.mortal;
+          here = no_king_left (other p.turn) m.from (or_left (m.from == m.from) _ (eq-eqb m.from m.from refl));
           comes = and_right (same_colour (arriving_man x m.promo).colour (other p.turn)) _ no_king_arrives;
           arrival = no_king_free p.turn (other p.turn) (man_on p.men m.to) is_made.arrival;
-          captured = λ s at.
-              let t = taken rule p x m s i.well_formed is_made (square_is (capture_square p x m) s at) in
-              ap (λ (o : Option Man). is_man o (other p.turn) King) t.there ∙ and_right (same_colour t.man.colour (other p.turn)) _ t.mortal;
+          captured = λ s at. no_king_left (other p.turn) s (or_right (m.from == s) _ at);
         })
         ∙ i.king
 
-    -- the king of the mover doesn't leave his square
-    no_king_left : (t : ℕ) → (m.from == t || is_square (capture_square p x m) t) ≡ true → is_man (man_on p.men t) p.turn King ≡ false
-    no_king_left t gone = elim (or_cases (m.from == t) (is_square (capture_square p x m) t) gone) [
-      | inl from ↦ ap (λ (o : Option Man). is_man o p.turn King) (ap (man_on p.men) (sym (eqb-true m.from t from)) ∙ i.here)
-          ∙ and_right (same_colour x.colour p.turn) _ i.mortal
-      | inr taken_there ↦
-          let w = taken rule p x m t i.well_formed is_made (square_is (capture_square p x m) t taken_there) in
-          ap (λ (o : Option Man). is_man o p.turn King) w.there ∙ and_right (same_colour w.man.colour p.turn) _ w.mortal
-    ]
-
     free_there : (t : ℕ) → not ((is_of_colour (man_on p.men t) (other p.turn) && (not (is_square (capture_square p x m) t) && not (m.from == t)))
         || is_man (man_on p.men t) p.turn King) ≡ is_arrival_free (other p.turn) (man_on (arrived p x m) t)
-    free_there t = elim (cases_eq t m.to) [
-      | inl e ↦
-          rw e (if_comes _ _ _ _ (λ h. captures_arrival p x m (some_of_colour _ _ h)) (no_king_free p.turn p.turn (man_on p.men m.to) is_made.arrival)
-          ∙ sym (ap (is_arrival_free (other p.turn)) (there_now p.men m.from (capture_square p x m) m.to (arriving_man x m.promo)
-          (omega (arith, small, i.well_formed.size))) ∙ arrived_free p.turn _ no_own_arrives no_king_arrives))
-      | inr ne ↦ elim (cases_Bool (m.from == t || is_square (capture_square p x m) t)) [
-        | inl gone ↦
-            if_gone _ _ _ _ gone (no_king_left t gone)
-            ∙ sym (ap (is_arrival_free (other p.turn)) (left_now p.men m.from (capture_square p x m) m.to (arriving_man x m.promo) t ne gone))
-        | inr stays ↦
-            if_stays p.turn (man_on p.men t) (is_square (capture_square p x m) t) (m.from == t) stays
-            ∙ sym (ap (is_arrival_free (other p.turn)) (kept_now p.men m.from (capture_square p x m) m.to (arriving_man x m.promo) t ne stays))
-      ]
-    ]
+    free_there t =
+        grind (
+          arith,
+          cases_eq t m.to,
+          cases_Bool (m.from == t || is_square (capture_square p x m) t),
+          there_now,
+          arrived_free,
+          no_own_arrives,
+          no_king_arrives,
+          left_now,
+          kept_now,
+          if_stays,
+          if_gone,
+          if_comes,
+          captures_arrival,
+          some_of_colour,
+          no_king_free,
+          is_made,
+          no_king_left,
+        )
 
     -- for the word of squares open to the king: without Circe
     pub open_squares : (w l h : ℕ) → captures_do_more rule ≡ false → w ≡ word (λ t. list_any (leaps k t) queen_steps)
@@ -189,11 +186,11 @@ module _ (rule : RuleSet) (p : Position) (m : Move) (x : Man) (k : ℕ) (i : IsS
     unfolding is_open reaches_as
     open_squares w l h circe near standing held =
         let same : (t : ℕ) → t < 64 → (bit_at (bit_and w (bit_not w64 h)) t == 1) ≡ is_open rule (position_after rule p m).men (other p.turn) k t = λ t lt.
-            word_has _ _ t (ap₂ bit_and near (ap (bit_not w64) (held ∙ closed_words p m.from (capture_square p x m) p.turn _ _ refl refl l standing)
-            ∙ squares_not _) ∙ squares_both _ _) lt
-            ∙ ap (λ b. list_any (leaps k t) queen_steps && b) (free_there t
-            ∙ ap (λ (l : List (Option Man)). is_arrival_free (other p.turn) (man_on l t)) (sym after_seen))
-            ∙ and_also _ _ (ap not (and_left (captures_do_more rule) _ circe)) in
+        word_has _ _ t (ap₂ bit_and near (ap (bit_not w64) (held ∙ closed_words p m.from (capture_square p x m) p.turn _ _ refl refl l standing)
+        ∙ squares_not _) ∙ squares_both _ _) lt
+        ∙ ap (λ b. list_any (leaps k t) queen_steps && b) (free_there t
+        ∙ ap (λ (l : List (Option Man)). is_arrival_free (other p.turn) (man_on l t)) (sym after_seen))
+        ∙ and_also _ _ (ap not (and_left (captures_do_more rule) _ circe)) in
         record { inside = λ t lt on. sym (same t lt) ∙ on; outside = λ _ t lt off. sym (same t lt) ∙ off }
 
     -- in Circe, where he mayn't capture
@@ -249,13 +246,7 @@ module _ (men : List (Option Man)) (a : ℕ) (o : Option ℕ) (b : ℕ) (z : Man
 
   same_strikes : (bit_at r t == 1) ≡ false → (s : ℕ) → (is_of_colour (man_on now s) c && reaches now s t) ≡ (is_of_colour (man_on then s) c && reaches then s t)
   unfolding reaches
-  same_strikes unseen s = elim (cases_eq s b) [
-    | inr ne ↦ elsewhere s (λ e. absurd (ne e))
-    | inl e ↦ elim (cases_eq s t) [
-      | inl same ↦ elsewhere s (λ _. same)
-      | inr ne ↦ grind (arith, stands_arrived, and_right, and_left, arrival_seen)
-    ]
-  ]
+  same_strikes unseen s = grind (arith, cases_eq s b, cases_eq s t, elsewhere, stands_arrived, and_right, and_left, arrival_seen)
 
   -- whom the man that has arrived doesn't reach is reached by the others alone
   pub reached_alike : (bit_at r t == 1) ≡ false → is_reached now t c ≡ is_reached then t c
@@ -384,7 +375,8 @@ module _ (rule : RuleSet) (p : Position) (m : Move) (x : Man) (k : ℕ) (i : IsS
         small = there;
         near = ap (λ (c : Colour). is_open rule (position_after rule p m).men c k t) turn_is ∙ way;
       })
-      ∙ ap not (ap (λ (l : List (Option Man)). is_attacked rule (gone_to l k (step_taken y t) t y) t (other (position_after rule p m).turn)) (after_seen rule p m x k i)
+      ∙ ap not (ap (λ (l : List (Option Man)). is_attacked rule (gone_to l k (step_taken y t) t y) t (other (position_after rule p m).turn))
+      (after_seen rule p m x k i)
       ∙ ap (is_attacked rule (men_stepped y t) t) (ap other turn_is ∙ other_twice p.turn))
 
   module _ (n r : ℕ)
@@ -394,29 +386,22 @@ module _ (rule : RuleSet) (p : Position) (m : Move) (x : Man) (k : ℕ) (i : IsS
         → IsStepSeen p.men m.from (capture_square p x m) m.to (arriving_man x m.promo) k (step_taken y t) t y p.turn r
     step_seen y t there king = search (rules, is_step y t there king)
 
-    has_flight_to : AreSteps rule (position_after rule p m).men (other p.turn) k n → (t : ℕ) → t < 64 → (bit_at (bit_and n (bit_not w64 r)) t == 1) ≡ true
-        → ((l : List (Option Man)) → AreSeen p.men l p.turn (sight_with (sight_lifted p.men m.from (capture_square p x m) m.to k) t)
-        → is_reached l t p.turn ≡ false)
+    -- for `flights_from`: a square that nobody guards is a flight
+    pub has_flight_to : AreSteps rule (position_after rule p m).men (other p.turn) k n
+        → IsOneSafe p.men p.turn (sight_lifted p.men m.from (capture_square p x m) m.to k) (bit_and n (bit_not w64 r))
         → has_flight rule (position_after rule p m) ≡ true
     unfolding has_flight is_flight
-    has_flight_to near t there on others =
+    has_flight_to near safe =
+        let t = safe.square in
         let at : king_square (position_after rule p m).men (other p.turn) ≡ Some k = king_seen rule p m x k i small in
         let king = king_on (position_after rule p m).men (other p.turn) k at in
         let lifted : List (Option Man) = without_man (gone_to p.men m.from (capture_square p x m) m.to (arriving_man x m.promo)) k in
         let seen : r ≡ word (reaches_as lifted (arriving_man x m.promo).colour (arriving_man x m.promo).kind m.to) =
         arrives lifted (occupied_lifted p.men m.from (capture_square p x m) m.to (arriving_man x m.promo) k (omega (arith, small, i.well_formed.size))) in
-        let step = step_seen king.0 t there king.1 in
-        some_square_true (is_flight rule (position_after rule p m)) t there
+        let step = step_seen king.0 t safe.small king.1 in
+        some_square_true (is_flight rule (position_after rule p m)) t safe.small
         (ap (λ (o : Option ℕ). is_flight_at rule (position_after rule p m) o t) (ap (king_square (position_after rule p m).men) turn_is ∙ at)
-        ∙ step_legal_is king.0 t there king.1 (near.inside t there (on_first n (bit_not w64 r) t on))
+        ∙ step_legal_is king.0 t safe.small king.1 (near.inside t safe.small (on_first n (bit_not w64 r) t safe.here))
         ∙ ap not (not_attacked rule (men_stepped king.0 t) p.turn t (reached_alike p.men m.from (capture_square p x m) m.to (arriving_man x m.promo) k
-        (step_taken king.0 t) t king.0 p.turn r step (unseen_bit _ n r t seen there on)
-        ∙ others _ (seen_stepped p.men m.from (capture_square p x m) m.to k (step_taken king.0 t) t king.0 p.turn step.step))))
-
-    -- for `flights_from`: the first square that nobody guards is a flight
-    pub has_flight_first : (o : Option ℕ) → AreSteps rule (position_after rule p m).men (other p.turn) k n
-        → IfSome o (λ t. (t < 64) × ((bit_at (bit_and n (bit_not w64 r)) t == 1) ≡ true))
-        → IfSome o (λ t. (l : List (Option Man)) → AreSeen p.men l p.turn (sight_with (sight_lifted p.men m.from (capture_square p x m) m.to k) t)
-        → is_reached l t p.turn ≡ false)
-        → is_some o ≡ true → has_flight rule (position_after rule p m) ≡ true
-    has_flight_first o near within safe h = grind (arith, false≢true, has_flight_to)
+        (step_taken king.0 t) t king.0 p.turn r step (unseen_bit _ n r t seen safe.small safe.here)
+        ∙ safe.unreached _ (seen_stepped p.men m.from (capture_square p x m) m.to k (step_taken king.0 t) t king.0 p.turn step.step))))

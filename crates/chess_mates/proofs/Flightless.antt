@@ -1,8 +1,8 @@
 -- A king in check whose steps are all guarded after a move has no legal move of his own.
 use Rattle.chess_core.proofs.Kept.{same_colour-refl}
-use Rattle.chess_rules.proofs.Basics.{[], Bool, List, None, Option, Some, and_from, and_left, and_right, ap, arith, bit_and, bit_at, bit_not, cases_Bool, cond-false, false, false_from_ne_true, false≢true, filter, inl, inr, not, refl, sym, true, true_from_ne_false, w64, ℕ, ◌&&◌, ◌<◌, ◌==◌, ◌||◌, ◌∙◌, ◌∷◌, ◌≡◌}
+use Rattle.chess_rules.proofs.Basics.{[], Bool, List, None, Option, Some, and_from, and_left, and_parts, and_right, ap, arith, bit_and, bit_at, bit_not, cases_Bool, false, false_from_ne_true, false≢true, filter, inl, inr, not, not-true, refl, sym, true, true_from_ne_false, w64, ℕ, ◌&&◌, ◌<◌, ◌==◌, ◌∙◌, ◌∷◌, ◌≡◌}
 use Rattle.chess_rules.proofs.Chess.{can_castle, is_promotion_right, may_castle, same_kind-true, some_is, triples}
-use Rattle.chess_mates.proofs.Chess.{Colour, IsWellFormed, Kind, King, Man, Move, Position, RuleSet, arriving_man, capture_square, captures_do_more, first_of_and, in_check, is_arrival_free, is_legal, is_nil, is_reached, king_square, man_on, moves, occupied_squares, other, position_after, reaches, reaches_as, same_colour, same_kind, sight_lifted, word, Pawn}
+use Rattle.chess_mates.proofs.Chess.{Colour, IsWellFormed, Kind, King, Man, Move, Position, RuleSet, arriving_man, capture_square, captures_do_more, first_of_and, in_check, is_arrival_free, is_legal, is_nil, is_reached, king_square, man_on, moves, occupied_squares, other, position_after, reaches, reaches_as, same_colour, same_kind, sight_lifted, word}
 use Rattle.chess_mates.proofs.Fleeing.{IsKingOn, arrived_strikes, is_made, king_on, king_seen, men_stepped, reached_alike, seen_bit, step_legal_is, step_seen, step_taken, step_to}
 use Rattle.chess_mates.proofs.Mating.{turn_after}
 use Rattle.chess_mates.proofs.Stepping.{occupied_lifted, seen_stepped}
@@ -15,6 +15,7 @@ use Rattle.chess_rules.proofs.making_moves.Stays.{after_well_formed}
 use Rattle.chess_rules.proofs.theorems.Moves.{legal_moves_are_triples}
 use Rattle.chess_rules.specs.RuleSet.{faced_men_stand_still}
 use Rattle.chess_rules.specs.ties.Sifting.{is_of_others}
+
 -- how a king in check goes: by a step
 unpromoted : (q : Position) (y : Man) (n : Move) (r : Option Kind) → is_promotion_right q y n r ≡ true → same_kind y.kind King ≡ true → r ≡ None
 unpromoted q y n None h king = refl
@@ -29,12 +30,6 @@ king_reaches : (men : List (Option Man)) (y : Man) (c : Colour) (k t : ℕ) → 
 unfolding reaches reaches_as
 king_reaches men y c k t here king h = rw (here, same_kind-true y.kind King king) at h
 
-denied : (b : Bool) → not b ≡ false → b ≡ true
-denied b h = grind arith
-
-or_left_of : (a b : Bool) → (a || b) ≡ true → b ≡ false → a ≡ true
-or_left_of a b h n = grind arith
-
 pub record IsOwnStep (rule : RuleSet) (q : Position) (k : ℕ) (n : Move) : Type 0 where
   pub small : n.to < 64
   pub move : step_to k n.to ≡ n
@@ -45,12 +40,10 @@ own_step : (rule : RuleSet) (q : Position) (n : Move) (k : ℕ) (y : Man) → Is
     → same_kind y.kind King ≡ true → in_check rule q.men q.turn ≡ true → is_of_others q n ≡ false → is_legal rule q n ≡ true → IsOwnStep rule q k n
 own_step rule q n k y well at here king check kings legal =
     let triple = legal_moves_are_triples rule q n well legal in
-    let origin : n.from ≡ k = some_is n.from k (sym (king_is q.men q.turn n.from well.kings triple.0 (denied _ kings)) ∙ at) in
+    let origin : n.from ≡ k = some_is n.from k (sym (king_is q.men q.turn n.from well.kings triple.0 (grind (arith, kings))) ∙ at) in
     let is = made rule q n y (is_pseudo_legal-from_legal rule q n legal) (ap (man_on q.men) origin ∙ here) in
     let promo : n.promo ≡ None = unpromoted q y n n.promo is.promotion king in
-    let goes : reaches q.men n.from n.to ≡ true =
-    or_left_of _ _ (sym (cond-false (same_kind y.kind Pawn) _ _ (king_is_no_pawn y.kind king)) ∙ is.can_go)
-    (castles_in_check rule q y n (ap (in_check rule q.men) is.mine ∙ check)) in
+    let goes : reaches q.men n.from n.to ≡ true = grind (arith, is.can_go, king_is_no_pawn, castles_in_check, is.mine) in
     record {
       small = triple.1;
       move = rw (origin, promo) refl;
@@ -66,8 +59,11 @@ open_step rule q k n i circe = and_from _ _ (and_from _ _ i.reached i.free) (ap 
 module _ (rule : RuleSet) (p : Position) (m : Move) (x : Man) (k : ℕ) (i : IsSeenFrom rule p m x k) (small : m.to < 64) (n r : ℕ)
     (arrives : (l : List (Option Man)) → (sight_lifted p.men m.from (capture_square p x m) m.to k).occupied ≡ occupied_squares l
     → r ≡ word (reaches_as l (arriving_man x m.promo).colour (arriving_man x m.promo).kind m.to))
-    (ways : AreSteps rule (position_after rule p m).men (other p.turn) k n) (circe : captures_do_more rule ≡ false) (able : faced_men_stand_still rule ≡ false)
+    (ways : AreSteps rule (position_after rule p m).men (other p.turn) k n) (exact : (not (captures_do_more rule) && not (faced_men_stand_still rule)) ≡ true)
     (guarded : AreGuarded p.men p.turn (sight_lifted p.men m.from (capture_square p x m) m.to k) (bit_and n (bit_not w64 r))) where
+  plain : (captures_do_more rule ≡ false) × (faced_men_stand_still rule ≡ false)
+  plain = let both = and_parts _ _ exact in (not-true _ both.0, not-true _ both.1)
+
   reached : (y : Man) (t : ℕ) → t < 64 → IsKingOn (position_after rule p m).men (other p.turn) k y
       → is_open rule (position_after rule p m).men (other p.turn) k t ≡ true → is_reached (men_stepped rule p m x k i small y t) t p.turn ≡ true
   reached y t there king way =
@@ -75,9 +71,10 @@ module _ (rule : RuleSet) (p : Position) (m : Move) (x : Man) (k : ℕ) (i : IsS
       elim (cases_Bool (bit_at r t == 1)) [
         | inl on ↦ arrived_strikes p.men m.from (capture_square p x m) m.to (arriving_man x m.promo) k (step_taken rule p m x k i small y t) t y p.turn r seen
             (ap (λ (c : Colour). same_colour c p.turn) (arriving_colour x m.promo ∙ (is_made rule p m x k i).mine) ∙ same_colour-refl p.turn) on
-        | inr off ↦ reached_alike p.men m.from (capture_square p x m) m.to (arriving_man x m.promo) k (step_taken rule p m x k i small y t) t y p.turn r seen off
+        | inr off ↦
+            reached_alike p.men m.from (capture_square p x m) m.to (arriving_man x m.promo) k (step_taken rule p m x k i small y t) t y p.turn r seen off
             ∙ guarded.reached t there (seen_bit _ n r t (arrives _ (occupied_lifted p.men m.from (capture_square p x m) m.to (arriving_man x m.promo) k
-            (omega (arith, small, i.well_formed.size)))) there (true_from_ne_false _ (λ h. false≢true (sym (ways.outside circe t there h) ∙ way))) off)
+            (omega (arith, small, i.well_formed.size)))) there (true_from_ne_false _ (λ h. false≢true (sym (ways.outside plain.0 t there h) ∙ way))) off)
             _ (seen_stepped p.men m.from (capture_square p x m) m.to k (step_taken rule p m x k i small y t) t y p.turn seen.step)
       ]
 
@@ -85,7 +82,7 @@ module _ (rule : RuleSet) (p : Position) (m : Move) (x : Man) (k : ℕ) (i : IsS
       → is_open rule (position_after rule p m).men (other p.turn) k t ≡ true → is_legal rule (position_after rule p m) (step_to k t) ≡ false
   no_step y t there king way =
       step_legal_is rule p m x k i small y t there king way
-      ∙ ap not (sym (attacked_plainly rule (men_stepped rule p m x k i small y t) t p.turn true able (sym (reached y t there king way))))
+      ∙ ap not (sym (attacked_plainly rule (men_stepped rule p m x k i small y t) t p.turn true plain.1 (sym (reached y t there king way))))
 
   pub flightless : IsFlightless rule (position_after rule p m)
   flightless = record {
@@ -97,7 +94,7 @@ module _ (rule : RuleSet) (p : Position) (m : Move) (x : Man) (k : ℕ) (i : IsS
         let well = after_well_formed rule p m i.well_formed i.pseudo in
         let step = own_step rule q n k king.0 well (ap (king_square q.men) turn ∙ at) king.1.here king.1.king check kings legal in
         false≢true (sym (no_step king.0 n.to step.small king.1 (ap (λ (c : Colour). is_open rule q.men c k n.to) (sym turn)
-        ∙ open_step rule q k n step circe)) ∙ ap (is_legal rule q) step.move ∙ legal));
+        ∙ open_step rule q k n step plain.0)) ∙ ap (is_legal rule q) step.move ∙ legal));
   }
 
 -- where no move of the king is legal, the others' are all

@@ -83,7 +83,8 @@ no_return s k d o small lo = false_from_ne_true _ (λ y. let less : place d s < 
 no_way_back : (g : Gait) (men : List (Option Man)) (s : ℕ) (d : Step) → Ordered d → s < 64 → goes_by g men s s d ≡ false
 unfolding leaps rides hops
 no_way_back Leaper men s d o small = no_return s 1 d o small (omega arith)
-no_way_back Rider men s d o small = any_range_false (λ k. is_square (along s d k) s && is_clear men s d (k - 1)) 1 7 (λ k lo hi. and_left _ _ (no_return s k d o small lo))
+no_way_back Rider men s d o small =
+    any_range_false (λ k. is_square (along s d k) s && is_clear men s d (k - 1)) 1 7 (λ k lo hi. and_left _ _ (no_return s k d o small lo))
 no_way_back Hopper men s d o small =
     any_range_false (λ k. is_square (along s d k) s && is_occupied men (along s d (k - 1)) && is_clear men s d (k - 2)) 2 6
     (λ k lo hi. and_left _ _ (and_left _ _ (no_return s k d o small (omega (arith, lo)))))

@@ -8,9 +8,10 @@ ghost use Rattle.chess_core.specs.ties.Words.{side_of, squares_of, word};
 ghost use Rattle.chess_core.specs.declared.man.Man.{Man};
 ghost use Rattle.chess_core.specs.declared.man.Move.{Move};
 ghost use Rattle.chess_core.specs.declared.man.Kind.TheVariants.{King};
-ghost use Rattle.chess_mates.specs.ties.Flights.{AreGuarded, AreSteps, IsSeenFrom, IsTold, sight_lifted, sight_with};
+ghost use Rattle.chess_mates.specs.ties.Flights.{AreGuarded, AreSteps, IsOneSafe, IsSeenFrom, IsTold, sight_lifted, sight_with};
 ghost use Rattle.chess_rules.specs.Legal.{is_pseudo_legal};
 ghost use Rattle.chess_rules.specs.Play.{arriving_man, capture_square, position_after};
+ghost use Rattle.chess_rules.specs.RuleSet.{captures_do_more, faced_men_stand_still};
 ghost use Rattle.chess_rules.specs.ties.Lines.{occupied_squares};
 ghost use Rattle.chess_rules.specs.Reaches.{reaches_as};
 ghost use Rattle.chess_rules.specs.ties.Shields.{is_reached};
@@ -104,26 +105,32 @@ fn open_squares<R: Rules>(board: &Board, sight: Sight, king: Square) -> Squares
     near & !held_squares(board, sight.standing)
 }
 
-// The first of the squares that no man of the colour attacks once the enemy king stands there, the man
-// that moved apart.
+// Whether there is one among the squares that no man of the colour attacks once the enemy king stands there,
+// the man that moved apart.
 #[inline(always)]
-fn first_safe(board: &Board, sight: Sight, squares: Squares, colour: Colour) -> Option<Square>
-    ensures within { IfSome result (λ t. (t < 64) × ((bit_at squares t == 1) ≡ true)) }
-    ensures safe { IfSome result (λ t. (men : List (Option Man))
-        → AreSeen board.now.men men colour (sight_with sight t) → is_reached men t colour ≡ false) }
-    ensures none { is_some result ≡ false → AreGuarded board.now.men colour sight squares }
+fn is_one_safe(board: &Board, sight: Sight, squares: Squares, colour: Colour) -> bool
+    ensures safe { result ≡ true → IsOneSafe board.now.men colour sight squares }
+    ensures guarded { result ≡ false → AreGuarded board.now.men colour sight squares }
 {
     let mut number = 0u8;
     while let Some(square) = next_bit(squares, number) {
         if !is_attacker_seen(board, sight_with(sight, square), square, colour) {
-            return Some(square);
+            return true;
         }
         number = square.index() + 1;
     }
-    None
+    false
+}
+
+// Whether each flight is seen: none to a man that is captured is passed over, and no attacker stands still.
+fn are_all_seen<R: Rules>() -> bool
+    ensures { result ≡ (not (captures_do_more R.rule) && not (faced_men_stand_still R.rule)) }
+{
+    !R::captures_do_more() && !R::faced_men_stand_still()
 }
 
 // What is told of the flights of the enemy king on `king` after the simple move of this man, who is no king.
+#[tactic(auto, using(crate::proofs::Fleeing::has_flight_to, crate::proofs::Flightless::flightless))]
 fn flights_from<R: Rules>(
     board: &Board,
     man: Man,
@@ -140,13 +147,13 @@ fn flights_from<R: Rules>(
     let sight = sight_lifted(board, m.from, captured, m.to, king);
     let near = open_squares::<R>(board, sight, king);
     let covered = covered_squares(sight.occupied, man, m.promo, m.to);
-    if first_safe(board, sight, near & !covered, board.turn()).is_some() {
+    if is_one_safe(board, sight, near & !covered, board.turn()) {
         return Flights::Left;
     }
-    if R::captures_do_more() || R::faced_men_stand_still() {
-        return Flights::Untold;
+    if are_all_seen::<R>() {
+        return Flights::NoneLeft;
     }
-    Flights::NoneLeft
+    Flights::Untold
 }
 
 // Whether flights after the man's move are looked for: nobody castles or is reborn, and it is no king.

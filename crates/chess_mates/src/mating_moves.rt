@@ -272,8 +272,8 @@ fn is_mating<R: Rules>(board: &mut Board, squares: &CheckSquares, m: Move) -> bo
     }
 }
 
-// Whether the move, which may be made, is legal and mates. `flights` is what is told of the side that is to move
-// then. The board is unchanged after it.
+// Whether the move, which may be made, is legal and mates; `flights` is told of the position after it. The
+// board is unchanged after it.
 #[tactic(auto, using(crate::proofs::Mating::mates_after))]
 fn gives_mate<R: Rules>(board: &mut Board, m: Move, flights: Flights) -> bool
     requires well_formed { IsWellFormed board.old }
@@ -303,9 +303,9 @@ fn is_mated_by<R: Rules>(board: &mut Board, mover: Colour, flights: Flights) -> 
         && !has_move_in_check::<R>(board, flights)
 }
 
+// Whether the side to move, which is in check, has a legal move. The king's are passed over where it is told
+// that he has none. The board is unchanged.
 #[tactic(auto, using(crate::proofs::Flightless::others_are_all))]
-// Whether the side to move, which is in check, has a legal move. The king's are looked for only where it isn't
-// told that he has none. The board is unchanged.
 fn has_move_in_check<R: Rules>(board: &mut Board, flights: Flights) -> bool
     requires well_formed { IsWellFormed board.old }
     requires checked { in_check R.rule board.old.men board.old.turn ≡ true }

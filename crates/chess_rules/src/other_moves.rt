@@ -1,4 +1,4 @@
-//! Whether the king's men have a legal move, the king's own apart.
+//! Whether another man than the king has a legal move.
 ghost use Rattle.std.specs.Prelude.{◌≡◌, ◌<◌, ◌&&◌, filter, not};
 ghost use Rattle.chess_core.specs.WellFormed.{IsWellFormed};
 ghost use Rattle.chess_rules.specs.Legal.{is_legal, is_nil, moves};
@@ -63,14 +63,14 @@ fn origins_of_others<R: Rules>(board: &Board) -> Squares
 fn candidates_of_others<R: Rules>(board: &Board, known: Known, from: Square) -> Squares
     requires well_formed { IsWellFormed board.now }
     requires known { IsKnownIn R.rule board.now known }
-    ensures { AreCandidates R.rule board.now (is_wanted R.rule board.now (is_of_others board.now)) from
-        result }
+    ensures { AreCandidates R.rule board.now
+        (is_wanted R.rule board.now (is_of_others board.now)) from result }
 {
     candidates::<R>(board, known.evasion_squares, from)
 }
 
-#[tactic(auto, using(crate::proofs::listing_moves::OtherMoves::is_other))]
 // Whether the move is legal and not the king's. The board is unchanged after it.
+#[tactic(auto, using(crate::proofs::listing_moves::OtherMoves::is_other))]
 fn is_legal_of_others<R: Rules>(board: &mut Board, known: Known, m: Move) -> bool
     requires well_formed { IsWellFormed board.old }
     requires aimed { IsAimed R.rule board.old m }
@@ -82,8 +82,8 @@ fn is_legal_of_others<R: Rules>(board: &mut Board, known: Known, m: Move) -> boo
         && !contains(board.squares(board.turn(), Kind::King), m.from)
 }
 
-#[tactic(auto, using(crate::proofs::listing_moves::OtherMoves::others_found))]
 /// Whether another man than the king of the side to move has a legal move. The board is unchanged.
+#[tactic(auto, using(crate::proofs::listing_moves::OtherMoves::others_found))]
 pub fn others_have_move<R: Rules>(board: &mut Board) -> bool
     requires { IsWellFormed board.old }
     ensures answer { result

@@ -76,7 +76,17 @@ sight_with v t = record {
   standing = bit_and v.standing (bit_not w64 (word (is_square (Some t))));
 }
 
--- on each of the word's squares a man of colour c, the one that moved apart, reaches the king that stands there
+-- on one of the word's squares no man of colour c, the one that moved apart, reaches the king who stands
+-- there
+pub record IsOneSafe (before : List (Option Man)) (c : Colour) (v : Sight) (w : ℕ) : Type 0 where
+  pub square : ℕ
+  pub small : square < 64
+  pub here : (bit_at w square == 1) ≡ true
+  pub unreached : (men : List (Option Man)) → AreSeen before men c (sight_with v square)
+      → is_reached men square c ≡ false
+
+-- on each of the word's squares a man of colour c, the one that moved apart, reaches the king who stands
+-- there
 pub record AreGuarded (before : List (Option Man)) (c : Colour) (v : Sight) (w : ℕ) : Type 0 where
   pub reached : (t : ℕ) → t < 64 → (bit_at w t == 1) ≡ true → (men : List (Option Man))
       → AreSeen before men c (sight_with v t) → is_reached men t c ≡ true

@@ -1,7 +1,7 @@
-use Rattle.chess_rules.proofs.Basics.{rules, sym, ◌∙◌}
+use Rattle.chess_rules.proofs.Basics.{arith, bit_at, sym, ◌==◌, ◌∙◌}
 use Rattle.chess_mates.proofs.Chess.{find_first}
 use Rattle.chess_mates.proofs.HoldBelow.{hold_all, hold_next, hold_none}
-use Rattle.chess_mates.proofs.flights.first_safe.Goals as goal
+use Rattle.chess_mates.proofs.flights.is_one_safe.Goals as goal
 
 pub loop-square-init : goal.loop-square-init
 loop-square-init c = hold_none _ _
@@ -12,13 +12,17 @@ loop-square-preserved c =
     (sym c.next_bit.ensures.value ∙ c.in-Some.is)
     (λ men are. sym (c.is_attacker_seen.ensures men (rw c.sight_with.ensures are)) ∙ c.if-not-is_attacker_seen.false))
 
-pub returns-then-not-is_attacker_seen-clause-within : goal.returns-then-not-is_attacker_seen-clause-within
-returns-then-not-is_attacker_seen-clause-within c = search (rules, find_first)
-
 pub returns-then-not-is_attacker_seen-clause-safe : goal.returns-then-not-is_attacker_seen-clause-safe
-returns-then-not-is_attacker_seen-clause-safe c = λ men are. sym (c.is_attacker_seen.ensures men (rw c.sight_with.ensures are)) ∙ c.if-not-is_attacker_seen.true
+returns-then-not-is_attacker_seen-clause-safe c = λ found.
+    let first = find_first (λ s. bit_at c.args.squares s == 1) _ _ _ (sym c.next_bit.ensures.value ∙ c.in-Some.is) in
+    record {
+      square = c.in-Some.square;
+      small = omega (arith, first.high);
+      here = first.here;
+      unreached = λ men are. sym (c.is_attacker_seen.ensures men (rw c.sight_with.ensures are)) ∙ c.if-not-is_attacker_seen.true;
+    }
 
-pub returns-clause-none : goal.returns-clause-none
-returns-clause-none c = λ none. record {
+pub returns-clause-guarded : goal.returns-clause-guarded
+returns-clause-guarded c = λ none. record {
   reached = hold_all c.args.squares _ c.loop-square.number c.loop-square.invariant (sym c.next_bit.ensures.value ∙ c.in_default.is);
 }

@@ -1,7 +1,7 @@
 use Rattle.chess_rules.proofs.Basics.{List, Option, true, ◌-◌, ◌≡◌}
 use Rattle.chess_mates.proofs.Chess.{AreSeen, Man, is_reached, sight_with}
 use Rattle.chess_mates.proofs.HoldBelow.{HoldBelow}
-use Rattle.chess_mates.proofs.flights.first_safe.Given as goal
+use Rattle.chess_mates.proofs.flights.is_one_safe.Given as goal
 
 abbrev pub invariant-loop-square : goal.invariant-loop-square
 invariant-loop-square l =
