@@ -36,16 +36,11 @@ other_inside y s h = cond-false (same_kind y.kind Pawn) _ _ h
 pawn_inside : (y : Man) (s : ℕ) → 2 ≤ rank_of s → rank_of s ≤ 7 → is_pawn_inside (Some y) s ≡ true
 pawn_inside y s low high = search rules
 
--- a pawn's way from a rank inside to one that isn't the last
-onward : (c : Colour) (s t n : ℕ) → 2 ≤ rank_of s → rank_of s ≤ 7 → t < 64 → Advances c s t n → 1 ≤ n → eqb (rank_of t) (last_rank c) ≡ false
-    → (2 ≤ rank_of t) × (rank_of t ≤ 7)
-onward c s t n low high small adv one last = grind (arith, cases_eq, eq-eqb)
-
 -- the man that arrives stands where he may
 arriving_inside : (rule : RuleSet) (p : Position) (x : Man) (m : Move) (r : Option Kind) → IsWellFormed p → IsMade rule p x m
     → is_promotion_right p x m r ≡ true → is_pawn_inside (Some (arriving_man x r)) m.to ≡ true
-arriving_inside rule p x m v4 well made right =
-    grind (arith, and_parts, other_inside, second_fails, cases_Bool, not-true, onward, pawn_goes, pawn_inside, pawn_reaches, ways)
+arriving_inside rule p x m r well made right =
+    grind (arith, and_parts, other_inside, second_fails, cases_Bool, not-true, pawn_goes, pawn_inside, pawn_reaches, ways, cases_eq, eq-eqb)
 
 rook_is_no_pawn : (k : Kind) → same_kind k Rook ≡ true → same_kind k Pawn ≡ false
 rook_is_no_pawn k h = grind arith
