@@ -1,5 +1,5 @@
 -- A line on which one square alone may have been shut.
-use Rattle.chess_rules.proofs.Basics.{arith, sym, false≢true, List, Option, [], and_from, and_parts, cases_Bool, false, false_from_ne_true, inl, inr, list_any, or_cases, or_left, or_parts, or_right, rules, true, ℕ, ◌&&◌, ◌∙◌, ◌∷◌, ◌≡◌}
+use Rattle.chess_rules.proofs.Basics.{arith, sym, false≢true, List, Option, [], and_from, and_parts, false, false_from_ne_true, list_any, or_cases, or_left, or_parts, or_right, rules, true, ℕ, ◌&&◌, ◌∙◌, ◌∷◌, ◌≡◌}
 use Rattle.chess_rules.proofs.Chess.{Man, Step, along, is_square, is_vacant_at, rides}
 use Rattle.chess_rules.proofs.rays.Ends.{back, square_is}
 use Rattle.chess_rules.proofs.rays.Ways.{from_end, from_start, ride-found, ride-made}
