@@ -65,7 +65,7 @@ at_square : (men : List (Option Man)) (c : Colour) (o : Option Man) (s t : ℕ) 
     || ((is_man o c Bishop || is_man o c Queen) && list_any (rides men t s) diagonal_steps)) || (is_fairy_man o c && reaches_of men o s t))
     ≡ (is_of_colour o c && reaches_of men o s t)
 unfolding reaches_as
-at_square men c v2 s t p q = search (rules, bishop_reaches, rook_reaches, p, q, list_any-append, queen_rides-back)
+at_square men c o s t p q = search (rules, bishop_reaches, rook_reaches, p, q, list_any-append, queen_rides-back)
 
 -- the riders of a kind and the queens on the squares to which a ride from t gets
 pub met : (men : List (Option Man)) (c : Colour) (k : Kind) (t m n w : ℕ) (ds : List Step) → m ≡ squares_of men c k → n ≡ squares_of men c Queen

@@ -21,7 +21,7 @@ holds_on f None = true
 holds_on f (Some u) = f u
 
 on_it : (f : ℕ → Bool) (o : Option ℕ) (t : ℕ) → holds_on f o ≡ true → is_square o t ≡ true → f t ≡ true
-on_it f v1 t h on = search (rules, false≢true, eqb-true, h, on)
+on_it f o t h on = search (rules, false≢true, eqb-true, h, on)
 
 -- one square ahead is next to the pawn; two are not, and the square halfway there is the one ahead
 abbrev is_next : ℕ → ℕ → Bool

@@ -155,13 +155,7 @@ module _ (rule : RuleSet) (p : Position) where
           → between (per_origin * s + a) (per_origin * s + b) + count_ones (w / 2 ^ arrival_from b) ≡ count_ones (w / 2 ^ arrival_from a)
       counted zero a b e le = let same : b ≡ a = omega (arith, e) in rw same (omega (arith, none_left (per_origin * s + a) (per_origin * s + a) (omega arith)))
       counted (suc n) a b e le =
-          omega (
-            arith,
-            one_more a,
-            counted n (a + 1) b (omega (arith, e)) le,
-            count_here a (per_origin * s + a) (per_origin * s + b) _ (omega (arith, e, le)) refl (omega (arith, e))
-                (legal_is a (omega (arith, e, le))),
-          )
+          grind (arith, one_more a, counted n (a + 1) b, count_here a (per_origin * s + a) (per_origin * s + b), legal_is a)
 
       -- where all are legal, the squares of the word are counted
       pub count_by_word : (a b : ℕ) → a ≤ b → b ≤ per_origin

@@ -53,10 +53,7 @@ module _ {X Y : Type 0} where
   -- the elements of a map
   pub from_map : (f : X → Y) (xs : List X) (y : Y) → Contains (map f xs) y → (x : X) × Contains xs x × (f x ≡ y)
   from_map f [] y c = absurd (none_in_nil y c)
-  from_map f (x ∷ xs) y c = elim (in_cases (f x) (map f xs) y c) [
-    | inl same ↦ (x, first_in x xs, same)
-    | inr r ↦ let w = from_map f xs y r in (w.0, later_in x xs w.0 w.1, w.2)
-  ]
+  from_map f (x ∷ xs) y c = grind (arith, in_cases (f x) (map f xs) y c, first_in x xs, from_map f xs y, later_in x xs)
 
   -- the image of an element is in the map
   pub in_map : (f : X → Y) (xs : List X) (x : X) → Contains xs x → Contains (map f xs) (f x)
@@ -65,18 +62,12 @@ module _ {X Y : Type 0} where
   -- the elements of joined lists
   pub from_flat_map : (f : X → List Y) (xs : List X) (y : Y) → Contains (flat_map f xs) y → (x : X) × Contains xs x × Contains (f x) y
   from_flat_map f [] y c = absurd (none_in_nil y c)
-  from_flat_map f (x ∷ xs) y c = elim (Contains-append_cases (f x) (flat_map f xs) y c) [
-    | inl here ↦ (x, first_in x xs, here)
-    | inr r ↦ let w = from_flat_map f xs y r in (w.0, later_in x xs w.0 w.1, w.2)
-  ]
+  from_flat_map f (x ∷ xs) y c = grind (arith, Contains-append_cases (f x) (flat_map f xs) y c, first_in x xs, from_flat_map f xs y, later_in x xs)
 
   -- an element of one of the lists is in the joined list
   pub in_flat_map : (f : X → List Y) (xs : List X) (x : X) (y : Y) → Contains xs x → Contains (f x) y → Contains (flat_map f xs) y
   in_flat_map f [] x y c h = absurd (none_in_nil x c)
-  in_flat_map f (z ∷ xs) x y c h = elim (in_cases z xs x c) [
-    | inl same ↦ Contains-append_left (f z) (flat_map f xs) y (rw same h)
-    | inr r ↦ Contains-append_right (f z) (flat_map f xs) y (in_flat_map f xs x y r h)
-  ]
+  in_flat_map f (z ∷ xs) x y c h = grind (arith, in_cases z xs x c, Contains-append_left, Contains-append_right, in_flat_map f xs x y)
 
 -- Lists of which each element stands before each later one.
 

@@ -1,7 +1,7 @@
 -- A well-formed position stays well formed.
-use Rattle.chess_rules.proofs.Basics.{Bool, List, None, Option, Some, and_from, and_parts, ap, arith, cases_Bool, cases_eq, cases_lt, cond-false, cond-true, eq-eqb, eqb, eqb-true, false, if◌then◌else◌, inl, inr, length, length-set, ne_eqb, not-true, or_cases, refl, rules, set_past, sym, true, ℕ, ◌<◌, ◌∙◌, ◌≡◌, ◌≢◌, ◌≤◌, ◌⊎◌}
+use Rattle.chess_rules.proofs.Basics.{Bool, List, None, Option, Some, and_from, and_parts, ap, arith, cases_Bool, cases_eq, cases_lt, cond-false, cond-true, eq-eqb, eqb-true, false, if◌then◌else◌, inl, inr, length, length-set, ne_eqb, not-true, or_cases, refl, rules, set_past, sym, true, ℕ, ◌<◌, ◌∙◌, ◌≡◌, ◌≢◌, ◌≤◌, ◌⊎◌}
 use Rattle.chess_rules.proofs.Chess.{captured_man, AtMostOneKing, AtMostOneKing-without, CanCastle, Colour, HasNoKing, IsAt, IsWellFormed, Kind, King, Man, Move, Pawn, Position, Rook, RuleSet, position_after_by, arriving_man, capture_square, corner, file_of, halfway, has_unmoved, has_unmoved-mark_other, has_unmoved-parts, position_after}
-use Rattle.chess_rules.proofs.Chess.{is_castling, captures_are_reborn, is_crossed_right, is_double_step, is_home, is_home-none, is_man, is_pawn_inside, is_promotion_right, is_vacant, last_rank, man_on, man_on-with_other, man_on-with_same, man_on-without_none, man_on-without_other, man_on-without_same, man_on_at, move_man}
+use Rattle.chess_rules.proofs.Chess.{is_castling, captures_are_reborn, is_crossed_right, is_double_step, is_home, is_home-none, is_man, is_pawn_inside, is_promotion_right, is_vacant, man_on, man_on-with_other, man_on-with_same, man_on-without_none, man_on-without_other, man_on-without_same, man_on_at, move_man}
 use Rattle.chess_rules.proofs.Chess.{is_pseudo_legal, moved_men, other, put_at, rank_of, rebirth, reborn_square, same_colour, same_kind, same_kind-true, second_rank, square_at, square_at-is, unmoved_after, unmoved_with_rook, unmoved_without_at, was_passed, with_man, without_at, without_man, without_unmoved, same_colour-refl, second_fails}
 use Rattle.chess_core.specs.declared.man.Unmoved.{Unmoved}
 use Rattle.chess_rules.proofs.making_moves.Fits.{arrived, arrived_other, can_move, castle_of, corner_stays, no_capture, pawn_is_no_king, taken}
@@ -36,16 +36,11 @@ other_inside y s h = cond-false (same_kind y.kind Pawn) _ _ h
 pawn_inside : (y : Man) (s : ℕ) → 2 ≤ rank_of s → rank_of s ≤ 7 → is_pawn_inside (Some y) s ≡ true
 pawn_inside y s low high = search rules
 
--- a pawn's way from a rank inside to one that isn't the last
-onward : (c : Colour) (s t n : ℕ) → 2 ≤ rank_of s → rank_of s ≤ 7 → t < 64 → Advances c s t n → 1 ≤ n → eqb (rank_of t) (last_rank c) ≡ false
-    → (2 ≤ rank_of t) × (rank_of t ≤ 7)
-onward c s t n low high small adv one last = grind (arith, cases_eq, eq-eqb)
-
 -- the man that arrives stands where he may
 arriving_inside : (rule : RuleSet) (p : Position) (x : Man) (m : Move) (r : Option Kind) → IsWellFormed p → IsMade rule p x m
     → is_promotion_right p x m r ≡ true → is_pawn_inside (Some (arriving_man x r)) m.to ≡ true
-arriving_inside rule p x m v4 well made right =
-    grind (arith, and_parts, other_inside, second_fails, cases_Bool, not-true, onward, pawn_goes, pawn_inside, pawn_reaches, ways)
+arriving_inside rule p x m r well made right =
+    grind (arith, and_parts, other_inside, second_fails, cases_Bool, not-true, pawn_goes, pawn_inside, pawn_reaches, ways, cases_eq, eq-eqb)
 
 rook_is_no_pawn : (k : Kind) → same_kind k Rook ≡ true → same_kind k Pawn ≡ false
 rook_is_no_pawn k h = grind arith

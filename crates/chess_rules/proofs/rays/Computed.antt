@@ -12,7 +12,7 @@ one None = 0
 one (Some q) = if ltb q 64 then 1 * 2 ^ q % 2 ^ 64 else 0
 
 one_is : (o : Option ℕ) → one o ≡ word (is_square o)
-one_is v0 = search (rules, word_empty, cases_lt, cond-true, ltb, lt-ltb, word_only, cond-false, le-ltb, differs)
+one_is o = search (rules, word_empty, cases_lt, cond-true, ltb, lt-ltb, word_only, cond-false, le-ltb, differs)
 
 -- that of those of a list: so each square is computed once, and not tested against all 64
 abbrev each : List (Option ℕ) → ℕ

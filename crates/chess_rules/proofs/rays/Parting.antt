@@ -1,5 +1,5 @@
 -- A line on which one square alone may have been shut.
-use Rattle.chess_rules.proofs.Basics.{sym, false≢true, List, Option, [], and_from, and_parts, cases_Bool, false, false_from_ne_true, inl, inr, list_any, or_cases, or_left, or_parts, or_right, rules, true, ℕ, ◌&&◌, ◌∙◌, ◌∷◌, ◌≡◌}
+use Rattle.chess_rules.proofs.Basics.{arith, sym, false≢true, List, Option, [], and_from, and_parts, false, false_from_ne_true, list_any, or_cases, or_left, or_parts, or_right, rules, true, ℕ, ◌&&◌, ◌∙◌, ◌∷◌, ◌≡◌}
 use Rattle.chess_rules.proofs.Chess.{Man, Step, along, is_square, is_vacant_at, rides}
 use Rattle.chess_rules.proofs.rays.Ends.{back, square_is}
 use Rattle.chess_rules.proofs.rays.Ways.{from_end, from_start, ride-found, ride-made}
@@ -27,21 +27,7 @@ some_blocked : (men others : List (Option Man)) (b k s : ℕ) (ds : List Step) �
     → (list_any (rides men k b) ds ≡ true) × (list_any (λ d. rides men s b (back d)) ds ≡ true)
 some_blocked men others b k s [] i h ne = cc
 some_blocked men others b k s (d ∷ ds) i h ne =
-    let n = or_parts (rides others k s d) (list_any (rides others k s) ds) ne in
-    elim (or_cases (rides men k s d) (list_any (rides men k s) ds) h) [
-      | inl y ↦ elim (cases_Bool (rides men k b d && rides men s b (back d))) [
-        | inl both ↦
-            let parts = and_parts (rides men k b d) (rides men s b (back d)) both in
-            (or_left (rides men k b d) _ parts.0, or_left (rides men s b (back d)) _ parts.1)
-        | inr off ↦
-            let bad : rides others k s d ≡ true = blocked men others b k s d i y off in
-            let no = n.0 in
-            absurd (cc)
-      ]
-      | inr y ↦
-          let rest = some_blocked men others b k s ds i y n.1 in
-          (or_right (rides men k b d) _ rest.0, or_right (rides men s b (back d)) _ rest.1)
-    ]
+    grind (arith, or_parts, or_cases, and_parts, or_left, or_right, blocked men others b k s d i, some_blocked men others b k s ds i)
 
 -- a ride stays open if b isn't on it between its ends
 pub line_open : (men others : List (Option Man)) (b k s : ℕ) (ds : List Step) → Frees men others b → list_any (rides men k s) ds ≡ true

@@ -3,10 +3,10 @@ use Rattle.chess_rules.proofs.Chess.{Black, Colour, Man, White, is_of_colour, ma
 use Rattle.chess_rules.proofs.lines.occupied.Goals as goal
 
 of_one : (c : Colour) → (same_colour c White || same_colour c Black) ≡ true
-of_one v0 = search rules
+of_one c = search rules
 
 of_either : (o : Option Man) → (is_of_colour o White || is_of_colour o Black) ≡ is_some o
-of_either v0 = search (rules, of_one)
+of_either o = search (rules, of_one)
 
 joined : (men : List (Option Man)) → bit_or (side_of men White) (side_of men Black) ≡ word (λ s. is_some (man_on men s))
 unfolding side_of
