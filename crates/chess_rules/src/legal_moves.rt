@@ -98,6 +98,19 @@ impl<R: Rules> LegalMoves<R> {
         Moves::at(self.number)
     }
 
+    // What is known of the position.
+    pub(crate) fn known(&self) -> Known
+        ensures { result ≡ record {
+          shield_squares = self.now.shield_squares;
+          evasion_squares = self.now.evasion_squares;
+        } }
+    {
+        Known {
+            shield_squares: self.shield_squares,
+            evasion_squares: self.evasion_squares,
+        }
+    }
+
     /// Goes to another place in the same position.
     pub fn go_to(&mut self, place: Moves<R>)
         ensures { self.new ≡ record self.old { place = place } }
@@ -197,10 +210,7 @@ impl<R: Rules> LegalMoves<R> {
         ensures same { sift.new ≡ sift.old }
         ensures board { board.new ≡ board.old }
     {
-        let known = Known {
-            shield_squares: self.shield_squares,
-            evasion_squares: self.evasion_squares,
-        };
+        let known = self.known();
         let mut passed = 0;
         let number = next_left::<R, S>(board, known, sift, self.number, &mut passed);
         if number < TRIPLES {

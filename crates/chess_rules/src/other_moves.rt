@@ -6,11 +6,9 @@ ghost use Rattle.chess_rules.specs.ties.Counting.{IsKnownIn};
 ghost use Rattle.chess_rules.specs.ties.Sifting.{is_of_others, is_wanted};
 ghost use Rattle.chess_rules.specs.ties.Targets.{AreCandidates, AreOrigins, IsAimed};
 
-use crate::evasions::evasion_squares;
 use crate::legal::is_legal;
-use crate::legal_moves::{Known, candidates, own_origins};
+use crate::legal_moves::{Known, LegalMoves, candidates, own_origins};
 use crate::rules::Rules;
-use crate::shields::king_safety;
 use crate::sought::{Sought, next_passing};
 use crate::targets::{Kept, TRIPLES};
 use crate::words::contains;
@@ -90,12 +88,8 @@ pub fn others_have_move<R: Rules>(board: &mut Board) -> bool
         ≡ not (is_nil (filter (is_of_others board.old) (moves R.rule board.old))) }
     ensures board { board.new ≡ board.old }
 {
-    let safety = king_safety(board, board.turn());
     let others = Others {
-        known: Known {
-            shield_squares: safety.shields,
-            evasion_squares: evasion_squares::<R>(board, board.turn(), safety.checkers),
-        },
+        known: LegalMoves::<R>::of(board).known(),
     };
     let mut kept = Kept {
         origin: None,
