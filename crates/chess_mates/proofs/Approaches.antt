@@ -1,15 +1,11 @@
 -- From where pawns come to a square: so many squares before it, or behind it.
-use Rattle.chess_rules.proofs.Basics.{Bool, None, agree_below, agree_below_at, and_from, and_parts, ap, arith, bit_at, bit_or, eqb-true, false, false≢true, if◌then◌else◌, inl, inr, list_any, not, not-true, or_cases, or_left, or_right, refl, rules, sym, true, ℕ, ◌%◌, ◌&&◌, ◌*◌, ◌+◌, ◌-◌, ◌/◌, ◌<◌, ◌==◌, ◌^◌, ◌||◌, ◌∙◌, ◌≡◌, ◌≤◌}
-use Rattle.chess_mates.proofs.Chess.{AreApproaches, Black, Colour, Pawn, Position, White, along, is_advance, is_square, leaps, man_on, may_go, other, pawn_capture_steps, queen_steps, rank_of, reaches_as, same_colour}
+use Rattle.chess_rules.proofs.Basics.{Bool, None, agree_below, agree_below_at, and_from, and_parts, ap, arith, bit_at, bit_or, eqb-true, false, false≢true, if◌then◌else◌, list_any, not, not-true, or_cases, or_left, or_right, refl, rules, true, ℕ, ◌%◌, ◌&&◌, ◌*◌, ◌+◌, ◌-◌, ◌/◌, ◌<◌, ◌==◌, ◌^◌, ◌||◌, ◌≡◌, ◌≤◌}
+use Rattle.chess_mates.proofs.Chess.{AreApproaches, Black, Colour, Pawn, Position, White, along, forward, implied, is_advance, is_square, leaps, man_on, may_go, on_left, on_right, other, pawn_capture_steps, pawn_goes, queen_steps, rank_of, reaches_as, same_colour, second_rank}
 use Rattle.chess_mates.specs.ties.Threats.{AreCapturers}
-use Rattle.chess_rules.specs.Legal.{forward, second_rank}
-use Rattle.chess_rules.proofs.making_moves.Pseudo.{pawn_goes}
 use Rattle.std.proofs.Math.Nat.{div-add-mod}
 use Rattle.std.proofs.lemmas.Nat.{pow_pos, shr-shr}
 use Rattle.std.proofs.lemmas.Nat.Bits.{bit_at_cat_high, bit_at_cat_low}
 use Rattle.chess_mates.proofs.OpenBoard.{advances}
-use Rattle.chess_rules.proofs.Tests.{implied}
-use Rattle.chess_rules.proofs.Bits.{on_left, on_right}
 
 -- a word moved down or up by k squares
 pub bit_down : (w k s : ℕ) → bit_at (w / 2 ^ k) s ≡ bit_at w (k + s)
@@ -25,21 +21,9 @@ bit_up w k s from small =
 abbrev is_on : ℕ → ℕ → ℕ → Bool
 is_on k s t = t == k + s
 
--- from a square so many squares before a target, or behind it, the word moved by as many
-from_below : (w k s t : ℕ) → (bit_at w t == 1) ≡ true → is_on k s t ≡ true → (bit_at (w / 2 ^ k) s == 1) ≡ true
-from_below w k s t h at = ap (λ n. n == 1) (bit_down w k s ∙ ap (bit_at w) (sym (eqb-true t (k + s) at))) ∙ h
-
-from_above : (w k s t : ℕ) → s < 64 → (bit_at w t == 1) ≡ true → is_on k t s ≡ true → (bit_at (w * 2 ^ k % 2 ^ 64) s == 1) ≡ true
-from_above w k s t small h at =
-    let e : s ≡ k + t = eqb-true s (k + t) at in
-    grind (arith, bit_up)
-
 on_either : (u v : Bool) (a b i : ℕ) → (u ≡ true → (bit_at a i == 1) ≡ true) → (v ≡ true → (bit_at b i == 1) ≡ true) → (u || v) ≡ true
     → (bit_at (bit_or a b) i == 1) ≡ true
-on_either u v a b i f g h = elim (or_cases u v h) [
-  | inl y ↦ on_left a b i (f y)
-  | inr y ↦ on_right a b i (g y)
-]
+on_either u v a b i f g h = grind (arith, or_cases u v h, on_left, on_right)
 
 -- where a pawn might go on an empty board
 abbrev pawn_way : Colour → ℕ → ℕ → Bool
@@ -64,10 +48,7 @@ pawn_distance_by Black s t = pawn_distance t s
 
 -- what is computed of all pairs of squares
 pairs : (f : ℕ → ℕ → Bool) → agree_below (λ n. f (n / 64) (n % 64)) (λ n. true) 4096 ≡ true → (s t : ℕ) → s < 64 → t < 64 → f s t ≡ true
-pairs f all s t p q =
-    let a : (64 * s + t) / 64 ≡ s = omega (arith, p, q) in
-    let b : (64 * s + t) % 64 ≡ t = omega (arith, q) in
-    rw (a, b) at (agree_below_at (λ n. f (n / 64) (n % 64)) (λ n. true) 4096 (64 * s + t) all (omega (arith, p, q)))
+pairs f all s t p q = grind (arith, agree_below_at (λ n. f (n / 64) (n % 64)) (λ n. true) 4096 (64 * s + t) all (omega (arith, p, q)))
 
 pawns_far : (c : Colour) (s t : ℕ) → s < 64 → t < 64 → pawn_way c s t ≡ true → pawn_distance_by c s t ≡ true
 pawns_far White s t p q = unfold along leaps in implied _ _ (pairs (λ s t. not (pawn_way White s t) || pawn_distance s t) refl s t p q)
@@ -77,21 +58,20 @@ pawns_far Black s t p q = unfold along leaps in implied _ _ (pairs (λ s t. not 
 abbrev is_far : ℕ → ℕ → Bool
 is_far s t = rank_of s + 2 == rank_of t || rank_of t + 2 == rank_of s
 
+-- for double steps: no step goes so far
+pub no_far_step : (s t : ℕ) → s < 64 → t < 64 → is_far s t ≡ true → list_any (leaps s t) queen_steps ≡ false
+unfolding along leaps
+no_far_step s t p q far = not-true _ (implied _ _ (pairs (λ s t. not (is_far s t) || not (list_any (leaps s t) queen_steps)) refl s t p q) far)
+
 -- a pawn goes two ranks only by stepping, to a square where nobody stands
 takes_near : (c : Colour) (s t : ℕ) → s < 64 → t < 64 → is_far s t ≡ true → list_any (leaps s t) (pawn_capture_steps c) ≡ false
-unfolding along leaps
-takes_near White s t p q far =
-    not-true _ (implied _ _ (pairs (λ s t. not (is_far s t) || not (list_any (leaps s t) (pawn_capture_steps White))) refl s t p q) far)
-takes_near Black s t p q far =
-    not-true _ (implied _ _ (pairs (λ s t. not (is_far s t) || not (list_any (leaps s t) (pawn_capture_steps Black))) refl s t p q) far)
+takes_near c s t low high far = grind (arith, no_far_step s t low high far)
 
 pub far_is_vacant : (p : Position) (c : Colour) (s t : ℕ) → s < 64 → t < 64 → may_go p (record { colour = c; kind = Pawn }) s t ≡ true → is_far s t ≡ true
     → man_on p.men t ≡ None
 unfolding may_go reaches_as
-far_is_vacant p c s t low high goes far = elim (or_cases _ _ goes) [
-  | inl takes ↦ absurd (false≢true (sym (takes_near c s t low high far) ∙ (and_parts _ _ takes).0))
-  | inr steps ↦ (pawn_goes p (record { colour = c; kind = Pawn }) (record { from = s; to = t; promo = None }) steps).empty
-]
+far_is_vacant p c s t low high goes far =
+    grind (arith, takes_near c s t low high far, pawn_goes p (record { colour = c; kind = Pawn }) (record { from = s; to = t; promo = None }), goes, false≢true)
 
 -- how a pawn goes: he captures, or steps once, or twice from his second rank
 abbrev pawn_steps : Colour → ℕ → ℕ → Bool
@@ -118,30 +98,13 @@ unfolding along
 steps_back White s h p q = implied _ _ (pairs (λ s h. not (pawn_steps Black s h && rank_of h == 3) || is_over White h s) refl s h p q)
 steps_back Black s h p q = implied _ _ (pairs (λ s h. not (pawn_steps White s h && rank_of h == 6) || is_over Black h s) refl s h p q)
 
-same_over : (c : Colour) (h s t : ℕ) → is_over c h s ≡ true → is_over c h t ≡ true → s ≡ t
-same_over White h s t a b = grind (arith, and_parts, eqb-true)
-same_over Black h s t a b = grind (arith, and_parts, eqb-true)
-
-over_rank : (c : Colour) (h t : ℕ) → is_over c h t ≡ true → (rank_of h == (if same_colour c White then 3 else 6)) ≡ true
-over_rank White h t a = (and_parts _ _ a).0
-over_rank Black h t a = (and_parts _ _ a).0
-
 -- who steps to that square stands where the pawn arrives
 pub steps_from_there : (p : Position) (c : Colour) (s t u : ℕ) → s < 64 → t < 64 → u < 64 → (s + t) / 2 < 64
     → may_go p (record { colour = c; kind = Pawn }) s t ≡ true → is_far s t ≡ true → pawn_steps (other c) u ((s + t) / 2) ≡ true → u ≡ t
 steps_from_there p c s t u low high inside mid goes far steps =
-    let there : is_over c ((s + t) / 2) t ≡ true = over_is c s t low high
-    (and_from _ _ (elim (or_cases _ _ (takes_or_steps p c s t goes)) [
-      | inl takes ↦ absurd (false≢true (sym (takes_near c s t low high far) ∙ takes))
-      | inr ahead ↦ ahead
-    ]) far) in
-    same_over c ((s + t) / 2) u t (steps_back c u ((s + t) / 2) inside mid (and_from _ _ steps (over_rank c _ t there))) there
+    grind (arith, takes_or_steps p c s t goes, takes_near c s t low high far, over_is c s t low high, steps_back c u ((s + t) / 2), and_parts, eqb-true)
 
--- for double steps: no step goes so far, and a pawn that does goes over the next square ahead
-pub no_far_step : (s t : ℕ) → s < 64 → t < 64 → is_far s t ≡ true → list_any (leaps s t) queen_steps ≡ false
-unfolding along leaps
-no_far_step s t p q far = not-true _ (implied _ _ (pairs (λ s t. not (is_far s t) || not (list_any (leaps s t) queen_steps)) refl s t p q) far)
-
+-- a pawn that goes so far goes over the next square ahead
 abbrev goes_over : Colour → ℕ → ℕ → Bool
 goes_over c s t = is_advance c s ((s + t) / 2) && list_any (leaps s ((s + t) / 2)) queen_steps
 
@@ -158,10 +121,10 @@ goes_over_next p c s t low high goes far = and_parts _ _ (over_next c s t low hi
 -- the words moved by these distances
 module _ (w s t : ℕ) (small : s < 64) (on : (bit_at w t == 1) ≡ true) where
   down : (k : ℕ) → is_on k s t ≡ true → (bit_at (w / 2 ^ k) s == 1) ≡ true
-  down k = from_below w k s t on
+  down k at = grind (arith, bit_down, eqb-true)
 
   up : (k : ℕ) → is_on k t s ≡ true → (bit_at (w * 2 ^ k % 2 ^ 64) s == 1) ≡ true
-  up k = from_above w k s t small on
+  up k at = grind (arith, bit_up, eqb-true)
 
   white_steps : pawn_distance s t ≡ true → (bit_at (bit_or (bit_or (bit_or (w / 2 ^ 7) (w / 2 ^ 8)) (w / 2 ^ 9)) (w / 2 ^ 16)) s == 1) ≡ true
   white_steps = on_either _ _ _ _ s (on_either _ _ _ _ s (on_either _ _ _ _ s (down 7) (down 8)) (down 9)) (down 16)

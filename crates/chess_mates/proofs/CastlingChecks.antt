@@ -1,22 +1,13 @@
 -- Castling that uncovers no king gives check by its rook alone.
-use Rattle.chess_rules.proofs.Basics.{Bool, List, None, Option, Some, [], agree_below, agree_below_at, and_from, and_left, and_parts, ap, arith, bit_and, bit_at, bit_or, cases_eq, cond-false, cond-true, eq-eqb, eqb-true, false, false_from_ne_true, false≢true, inl, inr, is_some, length, length-set, list_all, list_any, not, or_cases, or_left, or_parts, range_with_len, refl, rules, sym, true, ℕ, ◌%◌, ◌&&◌, ◌*◌, ◌+◌, ◌-◌, ◌/◌, ◌<◌, ◌==◌, ◌^◌, ◌||◌, ◌∙◌, ◌∷◌, ◌≡◌, ◌≢◌, ◌≤◌, ◌⊎◌}
-use Rattle.chess_mates.proofs.Chess.{same_kind-true, AreCastlingTargets, Bishop, CheckSquares, Colour, Direction, East, Grasshopper, IsWellFormed, Kind, King, Man, Move, Nightrider, North, NorthEast, NorthWest, Pawn, Position, Queen, Rook, RuleSet, South, SouthEast, SouthWest, Step, Straight, West, all_at, along, along-is, capture_square, can_castle, is_attacked_at, position_after}
-use Rattle.chess_mates.proofs.Chess.{corner, find_first, halfway, hops, in_check, is_ahead, is_two_files_aside, is_castling, is_clear, is_diagonal, is_man, is_on_fairy_line, is_on_fairy_line_at, is_on_some, is_reached, is_of_colour, is_square, is_vacant, king_square, man_on, man_on-with_same, may_castle, may_check_from, may_expose}
-use Rattle.chess_mates.proofs.Chess.{may_expose_at, may_stand_between, moved_men, other, queen_steps, reaches, reaches_as, rides, same_colour, same_kind, some_square_false, some_square_true, squares, squares_between, step_of, steps_to, straight_steps, with_man, without_man, word}
-use Rattle.chess_mates.specs.ties.CheckSquares.{enemy}
+use Rattle.chess_rules.proofs.Basics.{Bool, List, None, Option, Some, [], agree_below, agree_below_at, and_from, and_left, and_parts, ap, arith, bit_and, bit_or, cases_eq, cond-true, eq-eqb, eqb-true, false, false_from_ne_true, false≢true, inl, inr, is_some, length, length-set, list_all, list_any, not, or_cases, or_left, or_parts, range_with_len, refl, rules, sym, true, ℕ, ◌%◌, ◌&&◌, ◌*◌, ◌+◌, ◌-◌, ◌/◌, ◌<◌, ◌==◌, ◌^◌, ◌||◌, ◌∙◌, ◌∷◌, ◌≡◌, ◌≢◌, ◌≤◌, ◌⊎◌}
+use Rattle.chess_mates.proofs.Chess.{AreCastlingTargets, Bishop, CheckSquares, Colour, Direction, East, Grasshopper, IsCastle, IsMade, IsWellFormed, Kind, King, Man, Move, Nightrider, North, NorthEast, NorthWest, Pawn, Position, Queen, Rook, RuleSet, South, SouthEast, SouthWest, Step, Straight, West, all_at, along, along-is, any_kept, arrived, can_castle, capture_square, castle_of, castling_steps, corner, corner_stays, enemy, find_first, halfway, hops, implied, in_check, is_ahead, is_attacked_at, is_castling, is_clear, is_diagonal, is_man, is_of_colour, is_on_some, is_reached, is_square, is_two_files_aside, is_vacant, king_is, king_no_step, king_square, king_stays_king, man_on, man_on-with_same, man_there, may_castle, may_check_from, may_expose, may_expose_at, may_stand_between, moved_men, no_capture, not_attacked, off_left, off_right, off_second, other, position_after, queen_steps, reaches, reaches_as, rides, same_colour, same_kind, same_kind-true, some_square_false, some_square_true, square_is, squares, squares_between, step_of, steps_to, straight_steps, unreborn_after, with_man, without_man, word, word_has}
 use Rattle.chess_rules.proofs.rays.Ahead.{onward, passes}
-use Rattle.chess_rules.proofs.Bits.{word_has, off_left, off_right}
 use Rattle.chess_rules.proofs.making_moves.Castles.{no_man}
-use Rattle.chess_rules.proofs.rays.Ends.{back, return_square, square_is}
+use Rattle.chess_rules.proofs.rays.Ends.{back, return_square}
 use Rattle.chess_rules.proofs.attacks.FairyLines.{Holds, IsBeside, IsNoHurdle, hop_kept, knight_directions, queen_directions, ride_kept}
-use Rattle.chess_rules.proofs.making_moves.Fits.{arrived, castle_of, corner_stays, king_no_step, no_capture}
 use Rattle.chess_rules.proofs.rays.Parting.{Frees}
-use Rattle.chess_rules.proofs.attacks.Exposing.{king_stays_king}
-use Rattle.chess_rules.proofs.making_moves.Pseudo.{IsCastle, IsMade, king_is_no_pawn, ways}
-use Rattle.chess_rules.proofs.attacks.Shielding.{IsCovered, IsShift, covered_parts, frees, gone_shift, king_is, man_there, not_attacked, line_before, not_parted, stood, unreached, unreborn_after}
-use Rattle.chess_rules.proofs.listing_moves.Targeting.{castling_steps}
-use Rattle.chess_rules.proofs.Tests.{any_kept, implied}
-use Rattle.chess_rules.proofs.listing_moves.Walks.{off_second}
+use Rattle.chess_rules.proofs.making_moves.Pseudo.{ways}
+use Rattle.chess_rules.proofs.attacks.Shielding.{IsCovered, IsShift, covered_parts, frees, gone_shift, line_before, not_parted, stood, unreached}
 use Rattle.chess_mates.proofs.Approaches.{bit_down, bit_up}
 use Rattle.chess_rules.proofs.attacks.Attacking.{goes_on}
 
@@ -42,15 +33,12 @@ end_none s d n t h low le at = search (rules, all_at, false≢true)
 
 -- so a man in a corner stands between no two squares
 corner_beside : (x : Direction) (b s k : ℕ) → is_corner b ≡ true → b < 64 → s < 64 → IsBeside b s k (step_of x)
-corner_beside x b s k h inside small = λ n i at low lt le. false_from_ne_true _ (λ y.
+corner_beside x b s k h inside small =
+    λ n i at low lt le. false_from_ne_true _ (λ y.
     let here : along s (step_of x) i ≡ Some b = square_is _ b y in
-    let rest : i + (n - i) ≡ n = omega arith in
-    let on : along b (step_of x) (n - i) ≡ Some k = onward s b (step_of x) i (n - i) here ∙ ap (along s (step_of x)) rest ∙ at in
+    let on = onward s b (step_of x) i (n - i) here in
     let came : along b (back (step_of x)) i ≡ Some s = square_is _ s (return_square s b (step_of x) i small y) in
-    elim (or_cases (not (is_corner b) || is_end b (step_of x)) (is_end b (back (step_of x))) (corner_ends x b inside)) [
-      | inl first ↦ search (rules, or_cases, false≢true, end_none)
-      | inr e ↦ end_none b (back (step_of x)) i s e low (omega arith) came
-    ])
+    grind (arith, on, came, or_cases, corner_ends x b inside, end_none b (step_of x) (n - i) k, end_none b (back (step_of x)) i s))
 
 -- the squares halfway of castlings: lines through one go along its rank alone
 abbrev is_half : ℕ → Bool
@@ -97,8 +85,8 @@ module _ (men after : List (Option Man)) (b s k : ℕ) (free : Frees after men b
     hopped : (t : ℕ) → Holds after men t → ((x : Direction) → IsNoHurdle t s k (step_of x))
         → list_any (hops after s k) queen_steps ≡ true → list_any (hops men s k) queen_steps ≡ true
     hopped t holds none h =
-        any_kept (λ x. hops after s k (step_of x)) (λ x. hops men s k (step_of x)) queen_directions
-        (λ x hop. hop_kept men after b t s k (step_of x) free holds (corner_beside x b s k edge inside small) (none x) hop) h
+        any_kept (λ x. hops after s k (step_of x)) _ queen_directions
+        (λ x. hop_kept men after b t s k (step_of x) free holds (corner_beside x b s k edge inside small) (none x)) h
 
 -- king and rook castle: a king on a goes to t, the rook from c to h
 abbrev CastlingSquares : ℕ → ℕ → ℕ → ℕ → Type 0
@@ -110,7 +98,6 @@ record IsWay (men : List (Option Man)) (a t c h : ℕ) : Type 0 where
   pub empty : man_on men t ≡ None
   pub ride : list_any (rides men c a) straight_steps ≡ true
   pub edge : is_corner c ≡ true
-  pub inside : c < 64
   pub half : is_half h ≡ true
   pub beside : (k : ℕ) → k ≢ a → k ≢ t → (k ≢ h + 1) × (k ≢ h - 1)
   pub lined : (k : ℕ) → k < 64 → k ≢ c → is_on_some straight_steps k h ≡ true → is_on_some straight_steps k a ≡ true → is_on_some straight_steps k c ≡ true
@@ -118,88 +105,39 @@ record IsWay (men : List (Option Man)) (a t c h : ℕ) : Type 0 where
 abbrev is_lined_up : ℕ → ℕ → ℕ → ℕ → Bool
 is_lined_up a c h k = not (is_on_some straight_steps k h && is_on_some straight_steps k a) || (k == c || is_on_some straight_steps k c)
 
-lined_up : (a c h k : ℕ) → is_lined_up a c h k ≡ true → k ≢ c → is_on_some straight_steps k h ≡ true → is_on_some straight_steps k a ≡ true
-    → is_on_some straight_steps k c ≡ true
-lined_up a c h k y ne p q = grind (arith, or_cases, implied, and_from, eqb-true)
-
 -- what hangs on the squares alone
 abbrev is_place : ℕ → ℕ → ℕ → Bool
 is_place a c h = (is_corner c && is_half h) && agree_below (is_lined_up a c h) (λ k. true) 64
 
-is_way : (men : List (Option Man)) (a t c h : ℕ) → is_place a c h ≡ true → c < 64 → ((k : ℕ) → k ≢ a → k ≢ t → (k ≢ h + 1) × (k ≢ h - 1))
-    → man_on men t ≡ None → list_any (rides men c a) straight_steps ≡ true → IsWay men a t c h
-is_way men a t c h place inside beside empty ride =
-    let parts = and_parts (is_corner c && is_half h) (agree_below (is_lined_up a c h) (λ k. true) 64) place in
-    let ends = and_parts (is_corner c) (is_half h) parts.0 in
-    record {
-      empty = empty;
-      ride = ride;
+at_squares : (men : List (Option Man)) (a t c h i u d j : ℕ) → a ≡ i → t ≡ u → c ≡ d → h ≡ j → is_place i d j ≡ true
+    → ((k : ℕ) → k ≢ i → k ≢ u → (k ≢ j + 1) × (k ≢ j - 1))
+    → (list_all (is_vacant men) (squares_between i d) ≡ true → (man_on men u ≡ None) × (list_any (rides men d i) straight_steps ≡ true))
+    → list_all (is_vacant men) (squares_between a c) ≡ true → IsWay men a t c h
+at_squares men a t c h i u d j from to rook half place beside free v =
+    let parts = and_parts (is_corner d && is_half j) (agree_below (is_lined_up i d j) (λ k. true) 64) place in
+    let ends = and_parts (is_corner d) (is_half j) parts.0 in
+    let way = free (rw (from, rook) at v) in
+    rw (from, to, rook, half) (record {
+      empty = way.0;
+      ride = way.1;
       edge = ends.0;
-      inside = inside;
       half = ends.1;
       beside = beside;
-      lined = λ k lt. lined_up a c h k (agree_below_at (is_lined_up a c h) (λ k. true) 64 k parts.1 lt);
-    }
-
-white_short : (men : List (Option Man)) → list_all (is_vacant men) (squares_between 4 7) ≡ true → IsWay men 4 6 7 5
-unfolding rides is_clear along is_on_some is_ahead
-white_short men v =
-    let v5 = and_parts (is_vacant men 5) _ v in
-    let e5 : man_on men 5 ≡ None = no_man men 5 v5.0 in
-    let e6 : man_on men 6 ≡ None = no_man men 6 (and_parts (is_vacant men 6) _ v5.1).0 in
-    is_way men 4 6 7 5 refl (omega arith) (λ k p q. (q, p)) e6 (rw (e5, e6) refl)
-
-white_long : (men : List (Option Man)) → list_all (is_vacant men) (squares_between 4 0) ≡ true → IsWay men 4 2 0 3
-unfolding rides is_clear along is_on_some is_ahead
-white_long men v =
-    let v1 = and_parts (is_vacant men 1) _ v in
-    let v2 = and_parts (is_vacant men 2) _ v1.1 in
-    let e1 : man_on men 1 ≡ None = no_man men 1 v1.0 in
-    let e2 : man_on men 2 ≡ None = no_man men 2 v2.0 in
-    let e3 : man_on men 3 ≡ None = no_man men 3 (and_parts (is_vacant men 3) _ v2.1).0 in
-    is_way men 4 2 0 3 refl (omega arith) (λ k p q. (p, q)) e2 (rw (e1, e2, e3) refl)
-
-black_short : (men : List (Option Man)) → list_all (is_vacant men) (squares_between 60 63) ≡ true → IsWay men 60 62 63 61
-unfolding rides is_clear along is_on_some is_ahead
-black_short men v =
-    let v61 = and_parts (is_vacant men 61) _ v in
-    let e61 : man_on men 61 ≡ None = no_man men 61 v61.0 in
-    let e62 : man_on men 62 ≡ None = no_man men 62 (and_parts (is_vacant men 62) _ v61.1).0 in
-    is_way men 60 62 63 61 refl (omega arith) (λ k p q. (q, p)) e62 (rw (e61, e62) refl)
-
-black_long : (men : List (Option Man)) → list_all (is_vacant men) (squares_between 60 56) ≡ true → IsWay men 60 58 56 59
-unfolding rides is_clear along is_on_some is_ahead
-black_long men v =
-    let v57 = and_parts (is_vacant men 57) _ v in
-    let v58 = and_parts (is_vacant men 58) _ v57.1 in
-    let e57 : man_on men 57 ≡ None = no_man men 57 v57.0 in
-    let e58 : man_on men 58 ≡ None = no_man men 58 v58.0 in
-    let e59 : man_on men 59 ≡ None = no_man men 59 (and_parts (is_vacant men 59) _ v58.1).0 in
-    is_way men 60 58 56 59 refl (omega arith) (λ k p q. (p, q)) e58 (rw (e57, e58, e59) refl)
-
-at_squares : (men : List (Option Man)) (a t c h i u d j : ℕ) → a ≡ i → t ≡ u → c ≡ d → h ≡ j
-    → (list_all (is_vacant men) (squares_between i d) ≡ true → IsWay men i u d j) → list_all (is_vacant men) (squares_between a c) ≡ true
-    → IsWay men a t c h
-at_squares men a t c h i u d j from to rook half f v = rw (from, to, rook, half) (f (rw (from, rook) at v))
+      lined = λ k lt ne p q. grind (arith, agree_below_at (is_lined_up i d j) (λ k. true) 64 k parts.1 lt, or_cases, and_from, eqb-true);
+    })
 
 way : (men : List (Option Man)) (a t c h : ℕ) → CastlingSquares a t c h → list_all (is_vacant men) (squares_between a c) ≡ true → IsWay men a t c h
+unfolding rides is_clear along is_on_some is_ahead
 way men a t c h s v = elim s.0 [
   | inl e ↦ elim s.1 [
-    | inl f ↦ at_squares men a t c h 4 6 7 5 e (omega arith) (omega arith) (omega arith) (white_short men) v
-    | inr f ↦ at_squares men a t c h 4 2 0 3 e (omega arith) (omega arith) (omega arith) (white_long men) v
+    | inl f ↦ at_squares men a t c h 4 6 7 5 e (omega arith) (omega arith) (omega arith) refl (λ k p q. (q, p)) (search (rules, no_man, and_parts)) v
+    | inr f ↦ at_squares men a t c h 4 2 0 3 e (omega arith) (omega arith) (omega arith) refl (λ k p q. (p, q)) (search (rules, no_man, and_parts)) v
   ]
   | inr e ↦ elim s.1 [
-    | inl f ↦ at_squares men a t c h 60 62 63 61 e (omega arith) (omega arith) (omega arith) (black_short men) v
-    | inr f ↦ at_squares men a t c h 60 58 56 59 e (omega arith) (omega arith) (omega arith) (black_long men) v
+    | inl f ↦ at_squares men a t c h 60 62 63 61 e (omega arith) (omega arith) (omega arith) refl (λ k p q. (q, p)) (search (rules, no_man, and_parts)) v
+    | inr f ↦ at_squares men a t c h 60 58 56 59 e (omega arith) (omega arith) (omega arith) refl (λ k p q. (p, q)) (search (rules, no_man, and_parts)) v
   ]
 ]
-
--- of these squares, which are apart
-inside_of : (a t c h : ℕ) → CastlingSquares a t c h → (a < 64) × (t < 64) × (h < 64)
-inside_of a t c h s = search rules
-
-someone : (o : Option Man) → (o ≡ None → ⊥) → (y : Man) × (o ≡ Some y)
-someone o h = grind arith
 
 -- what castling changes: the king steps, and then the rook
 module _ (rule : RuleSet) (p : Position) (x : Man) (m : Move) (well : IsWellFormed p) (is : IsMade rule p x m) (castling : is_castling x m ≡ true) where
@@ -209,21 +147,15 @@ module _ (rule : RuleSet) (p : Position) (x : Man) (m : Move) (well : IsWellForm
   castle : (same_kind x.kind Pawn ≡ false) × IsCastle p m
   castle = castle_of rule p x m well is castling
 
-  castles_so : can_castle rule p x m ≡ true
-  castles_so = search (rules, ways, false≢true, castle, king_no_step, king)
-
-  all_empty : list_all (is_vacant p.men) (squares_between m.from (corner m)) ≡ true
-  unfolding can_castle may_castle
-  all_empty = grind (arith, and_parts, castles_so)
-
   on : CastlingSquares m.from m.to (corner m) (halfway m)
   on = (castle.1.from, castle.1.far)
 
   the_way : IsWay p.men m.from m.to (corner m) (halfway m)
-  the_way = way p.men m.from m.to (corner m) (halfway m) on all_empty
+  unfolding can_castle may_castle
+  the_way = way p.men m.from m.to (corner m) (halfway m) on (search (rules, and_parts, ways, false≢true, castle, king_no_step, king))
 
-  small : (m.from < 64) × (m.to < 64) × (halfway m < 64)
-  small = inside_of m.from m.to (corner m) (halfway m) on
+  small : (m.from < 64) × (m.to < 64) × (halfway m < 64) × (corner m < 64)
+  small = search (rules, on)
 
   nobody : capture_square p x m ≡ None
   nobody = no_capture p x m the_way.empty (and_left (same_kind x.kind Pawn) (is_diagonal m) castle.0)
@@ -232,7 +164,7 @@ module _ (rule : RuleSet) (p : Position) (x : Man) (m : Move) (well : IsWellForm
   stepped = with_man (without_man p.men m.from) m.to x
 
   rook : (z : Man) × (man_on p.men (corner m) ≡ Some z)
-  rook = someone (man_on p.men (corner m)) castle.1.stands
+  rook = grind (arith, castle)
 
   rook_kind : same_kind rook.0.kind Rook ≡ true
   rook_kind = castle.1.rook rook.0 rook.1
@@ -240,15 +172,11 @@ module _ (rule : RuleSet) (p : Position) (x : Man) (m : Move) (well : IsWellForm
   abbrev castled : List (Option Man)
   castled = with_man (without_man stepped (corner m)) (halfway m) rook.0
 
-  arrived_is : arrived p x m ≡ stepped
-  arrived_is = search (rules, king_stays_king, king, nobody)
-
-  moved_is : moved_men p x m ≡ castled
-  unfolding moved_men
-  moved_is = grind (arith, arrived, rook, corner_stays, castle, cond-true, arrived_is)
-
   after_is : (position_after rule p m).men ≡ castled
-  after_is = unreborn_after rule p x m is.here (λ circe. nobody) ∙ moved_is
+  unfolding moved_men
+  after_is =
+      unreborn_after rule p x m is.here (λ circe. nobody)
+      ∙ search (rules, arrived, rook, corner_stays, castle, cond-true, king_stays_king, king, nobody)
 
   stepped_size : length stepped ≡ 64
   stepped_size = length-set (without_man p.men m.from) m.to (Some x) ∙ length-set p.men m.from None ∙ well.size
@@ -271,44 +199,33 @@ module _ (rule : RuleSet) (p : Position) (x : Man) (m : Move) (well : IsWellForm
       unfolding may_expose
       parts = covered_parts p.men c m.from k (ap (λ (o : Option ℕ). may_expose_at p.men o c m.from) (sym at) ∙ covered)
 
-      off_lines : (t : ℕ) → may_stand_between p.men c t ≡ false → is_on_fairy_line p.men (other c) k t ≡ false
-      unfolding may_stand_between
-      off_lines t h = ap (λ (o : Option ℕ). is_on_fairy_line_at p.men o c t) (sym at) ∙ h
-
       from_there : (y : Man) (t : ℕ) → may_check_from p.men c y t ≡ false → reaches_as p.men y.colour y.kind t k ≡ false
       unfolding may_check_from
       from_there y t h = search (rules, or_parts)
 
       -- once the king has stepped, no man reaches the other king
       king_steps : is_reached stepped k (other c) ≡ false
-      king_steps = search (rules, unreached, king_shift, parts, off_lines, from_there, stood, small)
-
-      not_corner : k ≢ corner m
-      not_corner e = search (rules, rook, same_kind-true, rook_kind, false≢true, and_parts)
+      unfolding may_stand_between
+      king_steps = search (rules, unreached, king_shift, parts, from_there, stood, small, at, aside)
 
       apart : (k ≢ halfway m + 1) × (k ≢ halfway m - 1)
-      apart =
-          let off_from : k ≢ m.from = λ e. false≢true (sym parts.apart ∙ eq-eqb k m.from e) in
-          let off_to : k ≢ m.to = λ e. false≢true (ap (λ (o : Option Man). is_man o c King) (sym (ap (man_on p.men) e ∙ the_way.empty)) ∙ stands) in
-          the_way.beside k off_from off_to
+      apart = the_way.beside k (λ e. grind (arith, parts.apart, eq-eqb k m.from e)) (λ e. grind (arith, the_way.empty, stands))
 
       -- nor does the rook from halfway
       rook_strikes : is_of_colour (man_on castled (halfway m)) (other c) ≡ true → reaches castled (halfway m) k ≡ true → ⊥
       unfolding reaches reaches_as is_on_some
       rook_strikes side hit =
-          let mine : same_colour rook.0.colour (other c) ≡ true = rw rook_there at side in
           let is_rook : rook.0.kind ≡ Rook = same_kind-true rook.0.kind Rook rook_kind in
-          let now : reaches_as castled rook.0.colour rook.0.kind (halfway m) k ≡ true = rw rook_there at hit in
           let before : reaches_as stepped rook.0.colour rook.0.kind (halfway m) k ≡ true =
-          reached stepped castled (corner m) (halfway m) k (frees stepped castled (corner m) (halfway m) rook.0 rook_shift) the_way.edge the_way.inside small.2
-          rook.0.colour rook.0.kind (λ hopper. absurd (false≢true (sym (ap (λ (j : Kind). same_kind j Grasshopper) is_rook) ∙ hopper))) now in
-          let rides_now : list_any (rides stepped (halfway m) k) straight_steps ≡ true = rw is_rook at before in
-          let rider : (is_man (man_on p.men (corner m)) (other c) Rook || is_man (man_on p.men (corner m)) (other c) Queen) ≡ true =
-          rw rook.1 (or_left _ _ (and_from _ _ mine rook_kind)) in
+          reached stepped castled (corner m) (halfway m) k (frees stepped castled (corner m) (halfway m) rook.0 rook_shift) the_way.edge small.3 small.2
+          rook.0.colour rook.0.kind (λ hopper. absurd (false≢true (rw is_rook at hopper))) (rw rook_there at hit) in
           let rode : list_any (rides p.men (halfway m) k) straight_steps ≡ true =
           line_before p.men stepped m.from m.to x king_shift Straight k (halfway m) small.2 inside
-          (λ line both. not_parted p.men m.from k (corner m) (other c) Rook straight_steps parts.straight rider the_way.inside
-          (the_way.lined k inside not_corner line (goes_on p.men k m.from straight_steps both.0)) (both.0, the_way.ride)) rides_now in
+          (λ line both. not_parted p.men m.from k (corner m) (other c) Rook straight_steps parts.straight
+          (rw rook.1 (or_left _ _ (and_from _ _ (rw rook_there at side) rook_kind))) small.3
+          (the_way.lined k inside (λ e. search (rules, rook, same_kind-true, rook_kind, false≢true, and_parts)) line
+          (goes_on p.men k m.from straight_steps both.0)) (both.0, the_way.ride))
+          (rw is_rook at before) in
           false≢true (sym (from_there (enemy c Rook) (halfway m) rook_off) ∙ rode)
 
       -- nor another man, who would have reached him before the rook went
@@ -318,16 +235,13 @@ module _ (rule : RuleSet) (p : Position) (x : Man) (m : Move) (well : IsWellForm
       others_strike s None there lt ne side hit = false≢true side
       others_strike s (Some y) there lt ne side hit =
           let stood_so : man_on stepped s ≡ Some y = rook_shift.others s y there ne in
-          let now : reaches_as castled y.colour y.kind s k ≡ true = rw there at hit in
           let frees_corner = frees stepped castled (corner m) (halfway m) rook.0 rook_shift in
           let before : reaches_as stepped y.colour y.kind s k ≡ true =
-          reached stepped castled (corner m) s k frees_corner the_way.edge the_way.inside lt y.colour y.kind
-          (λ hopper hop. hopped stepped castled (corner m) s k frees_corner the_way.edge the_way.inside lt (halfway m)
+          reached stepped castled (corner m) s k frees_corner the_way.edge small.3 lt y.colour y.kind
+          (λ hopper hop. hopped stepped castled (corner m) s k frees_corner the_way.edge small.3 lt (halfway m)
           (stood stepped castled (corner m) (halfway m) rook.0 rook_shift)
-          (λ w. half_no_hurdle w (halfway m) s k the_way.half small.2 lt apart.0 apart.1) hop) now in
-          let mine : is_of_colour (man_on stepped s) (other c) ≡ true = rw stood_so side in
-          let then : reaches stepped s k ≡ true = rw stood_so before in
-          false≢true (search (rules, king_steps, some_square_true, and_from))
+          (λ w. half_no_hurdle w (halfway m) s k the_way.half small.2 lt apart.0 apart.1) hop) (rw there at hit) in
+          false≢true (grind (arith, king_steps, some_square_true (λ s. is_of_colour (man_on stepped s) (other c) && reaches stepped s k) s lt))
 
       castled_unreached : is_reached castled k (other c) ≡ false
       unfolding is_reached
@@ -337,15 +251,14 @@ module _ (rule : RuleSet) (p : Position) (x : Man) (m : Move) (well : IsWellForm
     king_stood : (k : ℕ) → is_man (man_on castled k) c King ≡ true → is_man (man_on p.men k) c King ≡ true
     king_stood k h =
         let y = man_there (man_on castled k) c King h in
-        let is_one : is_man (Some y.0) c King ≡ true = rw y.1 at h in
         let off_half : k ≢ halfway m = λ e.
         let same : y.0 ≡ rook.0 = rook_shift.arrived y.0 (ap (man_on castled) (sym e) ∙ y.1) in
         grind (arith, same_kind-true, rook_kind, false≢true, and_parts) in
         let one : man_on stepped k ≡ Some y.0 = rook_shift.others k y.0 y.1 off_half in
         let off_to : k ≢ m.to = λ e.
         let same : y.0 ≡ x = king_shift.arrived y.0 (ap (man_on stepped) (sym e) ∙ one) in
-        false≢true (sym enemy_of ∙ ap (λ (w : Man). same_colour w.colour c) (sym same) ∙ (and_parts _ _ is_one).0) in
-        ap (λ (o : Option Man). is_man o c King) (king_shift.others k y.0 one off_to) ∙ is_one
+        grind (arith, enemy_of, and_parts) in
+        grind (arith, king_shift.others k y.0 one off_to)
 
     -- for castlings told by words: neither king nor rook gives check, nor is one uncovered
     pub castling_gives_no_check : in_check rule (position_after rule p m).men c ≡ false
@@ -360,28 +273,18 @@ module _ (rule : RuleSet) (p : Position) (x : Man) (m : Move) (well : IsWellForm
 -- the words of the squares over which a king castles
 pub castling_aside : (x : Man) (m : Move) → m.to < 64 → is_castling x m ≡ true → is_two_files_aside m.from m.to ≡ true
 unfolding steps_to
-castling_aside x m small h =
-    let king : same_kind x.kind King ≡ true = (and_parts _ _ (and_parts _ _ h).0).0 in
-    sym (cond-false (same_kind x.kind Pawn) _ _ (king_is_no_pawn x.kind king) ∙ cond-true (same_kind x.kind King) _ _ king)
-    ∙ castling_steps x m small h
+castling_aside x m small h = grind (arith, castling_steps x m small h)
 
 two_aside : (s t : ℕ) → is_two_files_aside s t ≡ true → (t ≡ s + 2) ⊎ (s ≡ t + 2)
 two_aside s t h = search (rules, along-is, or_cases)
 
-crossed_aside : (w s a t : ℕ) → s < 64 → a ≡ word (is_two_files_aside s) → t < 64 → is_two_files_aside s t ≡ true
-    → (bit_at (bit_and a (bit_or (w * 2 ^ 1 % 2 ^ 64) (w / 2 ^ 1))) t == 1) ≡ false → (bit_at w ((s + t) / 2) == 1) ≡ false
-crossed_aside w s a t small are lt aside off =
-    let on : (bit_at a t == 1) ≡ true = word_has (is_two_files_aside s) a t are lt ∙ aside in
-    let up : ℕ = w * 2 ^ 1 % 2 ^ 64 in
-    let off_both : (bit_at (bit_or up (w / 2 ^ 1)) t == 1) ≡ false = off_second a (bit_or up (w / 2 ^ 1)) t off on in
-    elim (two_aside s t aside) [
-      | inl e ↦
-          grind (arith, bit_up w 1 t (omega arith) lt, off_left up (w / 2 ^ 1) t off_both)
-      | inr e ↦
-          grind (arith, bit_down w 1 t, off_right up (w / 2 ^ 1) t off_both)
-    ]
-
 -- for the word of castlings that may give check
 pub castling_targets_are : (v : CheckSquares) (s a : ℕ) → s < 64 → a ≡ word (is_two_files_aside s)
     → AreCastlingTargets v s (bit_and a (bit_or (v.straight * 2 ^ 1 % 2 ^ 64) (v.straight / 2 ^ 1)))
-castling_targets_are v s a small are = record { elsewhere = λ t lt aside off. crossed_aside v.straight s a t small are lt aside off }
+castling_targets_are v s a small are = record {
+  elsewhere = λ t lt aside off.
+      let up : ℕ = v.straight * 2 ^ 1 % 2 ^ 64 in
+      let down : ℕ = v.straight / 2 ^ 1 in
+      let both = off_second a (bit_or up down) t off (word_has (is_two_files_aside s) a t are lt ∙ aside) in
+      grind (arith, two_aside s t aside, bit_up v.straight 1 t, bit_down v.straight 1 t, off_left up down t both, off_right up down t both);
+}

@@ -1,13 +1,6 @@
 -- The squares from which a move may give check, by kinds.
-use Rattle.chess_rules.proofs.Basics.{or_parts, rules, List, None, Option, list_any, Some, ap, arith, bit_at, bit_not, bit_or, cases_Bool, false, false≢true, inl, inr, list_any-append, or_left, sym, true, w64, ℕ, ◌&&◌, ◌<◌, ◌==◌, ◌||◌, ◌∙◌, ◌≡◌}
-use Rattle.chess_mates.proofs.Chess.{AreCheckSquares, Bishop, CheckSquares, Colour, diagonal_steps, rides, straight_steps, IsWellFormed, Kind, King, Man, Move, Position, Queen, Rook, RuleSet, arriving_man, check_squares_for, in_check, is_absent, is_fairy, is_pseudo_legal, king_square, man_on, may_check_from, may_check_from_at, other, position_after, reaches_as, same_kind, squares_either, squares_of, squares_same, word}
-use Rattle.chess_mates.specs.ties.CheckSquares.{enemy}
-use Rattle.chess_rules.specs.ties.Shields.{AreRides, cannot_expose}
-use Rattle.chess_rules.proofs.Bits.{not_zero, word_empty, word_has, every_square}
-use Rattle.chess_rules.proofs.attacks.StayingInCheck.{king_there}
-use Rattle.chess_rules.proofs.rays.Flips.{diagonal-back, straight-back}
-use Rattle.chess_rules.proofs.attacks.Shielding.{other_twice, arriving_colour, cannot_expose_parts, plain_safe}
-use Rattle.chess_rules.proofs.making_moves.Pseudo.{made, on_board}
+use Rattle.chess_rules.proofs.Basics.{List, None, Option, Some, ap, arith, bit_at, bit_not, bit_or, cases_Bool, false, false≢true, inl, list_any-append, or_left, or_parts, rules, true, w64, ℕ, ◌&&◌, ◌<◌, ◌==◌, ◌||◌, ◌∙◌, ◌≡◌}
+use Rattle.chess_mates.proofs.Chess.{AreCheckSquares, AreRides, Bishop, CheckSquares, Colour, IsWellFormed, Kind, King, Man, Move, Position, Queen, Rook, RuleSet, arriving_colour, arriving_man, cannot_expose, cannot_expose_parts, check_squares_for, diagonal-back, diagonal_steps, enemy, every_square, in_check, is_absent, is_fairy, is_pseudo_legal, king_square, king_there, made, man_on, may_check_from, may_check_from_at, not_zero, on_board, other, other_twice, plain_safe, position_after, reaches_as, same_kind, squares_either, squares_of, squares_same, straight-back, straight_steps, word, word_empty, word_has}
 
 -- a move that can't expose the enemy's king, and whose man doesn't strike him where he arrives, gives no check
 gives_no_check : (rule : RuleSet) (p : Position) (x : Man) (m : Move) → IsWellFormed p → is_pseudo_legal rule p m ≡ true → m.to < 64
@@ -40,15 +33,13 @@ check_squares_of_some men c j k w at present h = grind (arith, squares_same)
 pub rook_squares : (men : List (Option Man)) (c : Colour) (k w : ℕ) → king_square men c ≡ Some k → w ≡ word (may_check_from men c (enemy c Rook))
     → AreRides men (other c) Rook straight_steps k w
 unfolding may_check_from reaches_as
-rook_squares men c k w at h = inl (h ∙ squares_same _ (λ t. list_any (rides men k t) straight_steps) (λ t small.
-    ap (λ (o : Option ℕ). may_check_from_at men o (enemy c Rook) t) at ∙ straight-back men t k small (king_there men c k at).0))
+rook_squares men c k w at h = inl (h ∙ squares_same _ _ (λ t small. rw at (straight-back men t k small (king_there men c k at).0)))
 
 -- and a bishop
 pub bishop_squares : (men : List (Option Man)) (c : Colour) (k w : ℕ) → king_square men c ≡ Some k → w ≡ word (may_check_from men c (enemy c Bishop))
     → AreRides men (other c) Bishop diagonal_steps k w
 unfolding may_check_from reaches_as
-bishop_squares men c k w at h = inl (h ∙ squares_same _ (λ t. list_any (rides men k t) diagonal_steps) (λ t small.
-    ap (λ (o : Option ℕ). may_check_from_at men o (enemy c Bishop) t) at ∙ diagonal-back men t k small (king_there men c k at).0))
+bishop_squares men c k w at h = inl (h ∙ squares_same _ _ (λ t small. rw at (diagonal-back men t k small (king_there men c k at).0)))
 
 -- whether no such fairy man stands on the board, told by the word of his kind
 pub absent_is : (men : List (Option Man)) (c : Colour) (j : Kind) (w : ℕ) → w ≡ squares_of men c j
@@ -72,19 +63,12 @@ squares_by_kind : (men : List (Option Man)) (c : Colour) (s : CheckSquares) (j :
     → same_kind j King ≡ false → check_squares_for s j ≡ word (may_check_from men c (enemy c j))
 squares_by_kind men c s j a piece = search (rules, false≢true, queen_squares)
 
-is_enemy : (x : Man) (c : Colour) → x.colour ≡ c → enemy (other c) x.kind ≡ x
-is_enemy x c h = ap (λ (d : Colour). record x { colour = d }) (other_twice c ∙ sym h)
-
 -- a man off the squares of his kind gives no check by standing there; of a king that has to be known
 off_check_squares : (men : List (Option Man)) (e : Colour) (s : CheckSquares) (y : Man) (w t : ℕ) → AreCheckSquares men (other e) s
     → y.colour ≡ e → w ≡ check_squares_for s y.kind → t < 64 → (bit_at w t == 1) ≡ false
     → (same_kind y.kind King ≡ true → may_check_from men (other e) y t ≡ false) → may_check_from men (other e) y t ≡ false
-off_check_squares men e s y w t a colour h small off apart = elim (cases_Bool (same_kind y.kind King)) [
-  | inl king ↦ apart king
-  | inr piece ↦
-      let word_is : w ≡ word (may_check_from men (other e) (enemy (other e) y.kind)) = h ∙ squares_by_kind men (other e) s y.kind a piece in
-      grind (arith, is_enemy, word_has)
-]
+off_check_squares men e s y w t a colour h small off apart =
+    grind (arith, cases_Bool (same_kind y.kind King), squares_by_kind men (other e) s y.kind a, other_twice e, word_has (may_check_from men (other e) y) w t)
 
 -- for moves that may uncover nothing, to a square off the words of check squares
 pub no_check : (rule : RuleSet) (p : Position) (x : Man) (m : Move) (s : CheckSquares) (y : Man) (w t : ℕ) → IsWellFormed p → is_pseudo_legal rule p m ≡ true
@@ -92,5 +76,4 @@ pub no_check : (rule : RuleSet) (p : Position) (x : Man) (m : Move) (s : CheckSq
     → (bit_at w t == 1) ≡ false → (same_kind y.kind King ≡ true → may_check_from p.men (other p.turn) y t ≡ false) → m.promo ≡ None
     → cannot_expose rule p (other p.turn) m ≡ true → in_check rule (position_after rule p m).men (other p.turn) ≡ false
 no_check rule p x m s y w t well may here a is h same small off apart unpromoted cover =
-    let colour : y.colour ≡ p.turn = ap (λ (z : Man). z.colour) is ∙ arriving_colour x m.promo ∙ (made rule p m x may here).mine in
-    grind (arith, off_check_squares, gives_no_check)
+    grind (arith, off_check_squares, gives_no_check, arriving_colour x m.promo, made rule p m x may here)

@@ -1,14 +1,31 @@
 -- The words of chess, and the lemmas on squares and tests, that most proofs name.
 pub use Rattle.chess_rules.proofs.Chess.{AreOrigins, AreSeen, AtMostOneKing, Bishop, Black, CanCastle, Colour, Grasshopper, HaveNone, IsPlaceIn, IsWellFormed, Kind, King, Knight, Man, Move, Nightrider, Pawn, Position, Queen, Rook, RuleSet, Step, White, all_at, along-is, any_range_cases, any_range_false, any_range_same, is_promoting, arriving_man, circe, corner, diagonal_steps, differs, find_first, first_of_and, is_attacked_at}
 pub use Rattle.chess_rules.proofs.Chess.{halfway, is_advance, captures_do_more, is_arrival_free, is_two_files_aside, is_castling, is_diagonal, is_fairy, is_man, is_man-without, is_nil, is_occupied, is_on_fairy_line_at, is_of_colour, is_square, is_vacant_at, is_vacant, king_after, knight_steps, last_rank, man_on, man_on-with_other, man_on-with_same, man_on-without_other, man_on-without_same, man_on_at, may_expose_at, move_man, occupied_squares}
-pub use Rattle.chess_rules.proofs.Chess.{is_pseudo_legal_of, orthodox, other, pawn_capture_steps, place, put_at, queen_steps, rank_of, reaches_of, same_colour, same_colour-true, same_kind, same_kind-true, second_of_and, some_square_false, some_square_true, squares_between, squares_both, squares_either, squares_not, squares_same, step_of, straight_steps, with_man, without_at, without_man}
-unfoldable pub use Rattle.chess_rules.proofs.Chess.{position_after_by, along, capture_square, can_castle, hops, in_check, is_ahead, is_arrival, is_attacked, is_clear, is_legal, is_mate, is_on_fairy_line, is_on_some, is_paralysed, is_plain, is_pseudo_legal, is_reached, king_square, leaps, may_castle, may_expose, may_go, may_stand_between, moved_men, moves, moves_behind, moves_between, position_after, reaches, reaches_as, reborn_square, rides, side_of, some_square, squares, squares_of, steps_to, is_attacker, triple_at, word}
+pub use Rattle.chess_rules.proofs.Chess.{is_pseudo_legal_of, orthodox, other, pawn_capture_steps, place, put_at, queen_steps, rank_of, reaches_of, same_colour, same_colour-true, same_kind, same_kind-true, second_of_and, some_square_false, some_square_true, squares_between, squares_both, squares_either, squares_not, squares_same, step_of, straight_steps, with_man, without_at, without_man, AreRides, AreSifted, Gait, Hopper, IsAt, Leaper, Rider, all_triples, captured_man, captures_are_reborn, faced_men_stand_still, file_of, forward, gait_of, goes_by, is_double_step, is_legal-idle, is_lined, is_promotion_right, kind_steps, same_colour-refl, second_rank, sight_after, square_at, square_at-is}
+unfoldable pub use Rattle.chess_rules.proofs.Chess.{position_after_by, along, capture_square, can_castle, hops, in_check, is_ahead, is_arrival, is_attacked, is_clear, is_legal, is_mate, is_on_fairy_line, is_on_some, is_paralysed, is_plain, is_pseudo_legal, is_reached, king_square, leaps, may_castle, may_expose, may_go, may_stand_between, moved_men, moves, moves_behind, moves_between, position_after, reaches, reaches_as, reborn_square, rides, side_of, some_square, squares, squares_of, steps_to, is_attacker, triple_at, word, cannot_expose, has_unmoved, is_shut, place_of, rebirth, triples}
 pub use Rattle.chess_rules.specs.declared.lines.Direction.{Direction}
 pub use Rattle.chess_rules.specs.declared.lines.Direction.TheVariants.{East, EastNorthEast, EastSouthEast, North, NorthEast, NorthNorthEast, NorthNorthWest, NorthWest, South, SouthEast, SouthSouthEast, SouthSouthWest, SouthWest, West, WestNorthWest, WestSouthWest}
 pub use Rattle.chess_rules.specs.declared.shields.RiderLines.TheVariants.{Straight}
 pub use Rattle.chess_mates.specs.declared.checks.CheckSquares.{CheckSquares}
-pub use Rattle.chess_mates.specs.ties.CheckSquares.{AreApproaches, AreCastlingTargets, AreCheckOrigins, AreCheckSquares, AreCheckTargets, check_squares_for, is_absent, may_check_from_at, own_man}
+pub use Rattle.chess_mates.specs.ties.CheckSquares.{AreApproaches, AreCastlingTargets, AreCheckOrigins, AreCheckSquares, AreCheckTargets, check_squares_for, enemy, is_absent, may_check_from_at, own_man, rule_of_checks}
 unfoldable pub use Rattle.chess_mates.specs.ties.CheckSquares.{are_rebirths_quiet, may_check_from}
-pub use Rattle.chess_mates.specs.ties.Flights.{AreOpen, sight_lifted, sight_with}
-pub use Rattle.chess_mates.specs.ties.Mates.{IsNextMate, is_mating}
+pub use Rattle.chess_mates.specs.ties.Flights.{AreOpen, AreSteps, AreUnsafe, IsFlightless, IsSeenFrom, sight_lifted, sight_with}
+unfoldable pub use Rattle.chess_mates.specs.ties.Flights.{has_flight, is_open}
+pub use Rattle.chess_mates.specs.ties.Mates.{IsNextMate, allows_mate, is_mating}
 unfoldable pub use Rattle.chess_mates.specs.ties.Mates.{mates, mates_behind, mates_between}
+pub use Rattle.chess_rules.proofs.Bits.{every_square, not_zero, off_left, off_right, on_left, on_right, word_empty, word_has}
+pub use Rattle.chess_rules.proofs.Tests.{all_kept, any_kept, implied, some_is}
+pub use Rattle.chess_rules.proofs.attacks.Exposing.{king_is_after, king_stays_king}
+pub use Rattle.chess_rules.proofs.attacks.Seeing.{king_stands, there_now}
+pub use Rattle.chess_rules.proofs.attacks.Shielding.{arriving_colour, cannot_expose_parts, king_is, man_there, moved_plainly, not_attacked, other_differs, other_twice, plain_safe, simple_after, unreborn_after}
+pub use Rattle.chess_rules.proofs.attacks.StayingInCheck.{king_there}
+pub use Rattle.chess_rules.proofs.listing_moves.Arrivals.{may_go_aimed}
+pub use Rattle.chess_rules.proofs.listing_moves.Calls.{is_pseudo_legal-from_legal}
+pub use Rattle.chess_rules.proofs.listing_moves.Places.{moves_behind-end, moves_behind-here, moves_behind-start, place_of_triple}
+pub use Rattle.chess_rules.proofs.listing_moves.Targeting.{arrival_needed, castling_steps, every_square_on, false_by, nobody_moves, own_moves}
+pub use Rattle.chess_rules.proofs.listing_moves.Walks.{candidates, no_candidates, off_second, off_zero, on_first}
+pub use Rattle.chess_rules.proofs.making_moves.Fits.{arrived, arrived_other, arriving_king, can_move, capture_of_piece, castle_of, corner_stays, king_no_step, no_capture, pawn_is_no_king, taken}
+pub use Rattle.chess_rules.proofs.making_moves.Pseudo.{IsCastle, IsMade, king_is_no_pawn, made, on_board, pawn_goes}
+pub use Rattle.chess_rules.proofs.making_moves.Stays.{IsReborn, after_well_formed, captured_enemy, captured_mortal, maker, man_on-with_cases, move_man_other, moved_sound, rebirth_small, reborn_is}
+pub use Rattle.chess_rules.proofs.rays.Ends.{square_is}
+pub use Rattle.chess_rules.proofs.rays.Flips.{diagonal-back, king-back, straight-back}

@@ -1,24 +1,15 @@
 -- Men who couldn't come to a check square give no check.
-use Rattle.chess_rules.proofs.Basics.{Option, Some, arith, bit_and, bit_at, bit_at-lt, bit_at_and, bit_at_or, bit_not, bit_or, cases_Bool, eq-eqb, eqb-true, false, false≢true, sym, true, w64, ℕ, ◌<◌, ◌==◌, ◌^◌, ◌∙◌, ◌≡◌}
-use Rattle.chess_mates.proofs.Chess.{AreApproaches, AreCheckOrigins, AreCheckTargets, Colour, Kind, Man, Move, Position, RuleSet, is_man, is_pseudo_legal, is_square, man_on, may_go, same_colour-true, same_kind-true, side_of, squares_of, word}
-use Rattle.std.proofs.Common.{rules}
+use Rattle.chess_rules.proofs.Basics.{Some, arith, bit_and, bit_at, bit_at-lt, bit_at_and, bit_not, bit_or, cases_Bool, eq-eqb, eqb-true, false, refl, rules, true, w64, ℕ, ◌<◌, ◌==◌, ◌^◌, ◌≡◌}
+use Rattle.chess_mates.proofs.Chess.{AreApproaches, AreCheckOrigins, AreCheckTargets, Colour, Kind, Man, Move, Position, RuleSet, arrival_needed, false_by, is_pseudo_legal, is_pseudo_legal-from_legal, is_square, man_on, may_go, may_go_aimed, off_zero, on_first, own_moves, same_colour-true, same_kind-true, side_of, squares_of, word, word_has}
 use Rattle.std.proofs.lemmas.Nat.Bits.{bit_at_not}
-use Rattle.chess_rules.proofs.listing_moves.Arrivals.{may_go_aimed}
-use Rattle.chess_rules.proofs.Bits.{word_has}
+use Rattle.chess_mates.proofs.Hurdles.{on_either, unset}
 use Rattle.chess_mates.proofs.CheckTargets.{check_targets_there}
-use Rattle.chess_rules.proofs.listing_moves.Targeting.{arrival_needed, false_by, own_moves}
-use Rattle.chess_rules.proofs.listing_moves.Walks.{off_zero, on_first}
-use Rattle.chess_rules.proofs.listing_moves.Calls.{is_pseudo_legal-from_legal}
-
--- the man on a square of his kind
-man_is : (o : Option Man) (c : Colour) (k : Kind) → is_man o c k ≡ true → o ≡ Some (record { colour = c; kind = k })
-man_is o c k h = search (rules, same_colour-true, same_kind-true)
 
 -- for men who are told by the word of their kind
 pub man_of_word : (men : _) (c : Colour) (k : Kind) (w s : ℕ) → w ≡ squares_of men c k → s < 64 → (bit_at w s == 1) ≡ true
     → man_on men s ≡ Some (record { colour = c; kind = k })
 unfolding squares_of
-man_of_word men c k w s h small on = man_is (man_on men s) c k (sym (word_has (λ q. is_man (man_on men q) c k) w s h small) ∙ on)
+man_of_word men c k w s h small on = search (rules, same_colour-true, same_kind-true, word_has)
 
 -- no man on a square of the word gives check by a legal move
 pub record AreFar (rule : RuleSet) (p : Position) (w : ℕ) : Type 0 where
@@ -27,14 +18,6 @@ pub record AreFar (rule : RuleSet) (p : Position) (w : ℕ) : Type 0 where
 -- to begin with: no man is far
 pub far_none : (rule : RuleSet) (p : Position) → AreFar rule p 0
 far_none rule p = record { far = λ s small on. absurd (let never = off_zero s in cc) }
-
--- a bit that isn't 1
-unset : (n : ℕ) → n < 2 → (n == 1) ≡ false → n ≡ 0
-unset n lt h = grind (arith, false≢true)
-
--- a square of one of two words
-pub on_either : (a b i : ℕ) → (bit_at (bit_or a b) i == 1) ≡ true → (bit_at a i == 1) ≡ false → (bit_at b i == 1) ≡ true
-on_either a b i h off = grind (arith, eqb-true, bit_at_or, unset, bit_at-lt, eq-eqb)
 
 -- a square of the first of two words, and not of the second
 pub off_denied : (a b i : ℕ) → b < 2 ^ 64 → i < 64 → (bit_at (bit_and a (bit_not w64 b)) i == 1) ≡ true → (bit_at b i == 1) ≡ false
@@ -58,7 +41,7 @@ far_unreached : (rule : RuleSet) (p : Position) (x : Man) (s w : ℕ) → man_on
     → ((t : ℕ) → t < 64 → may_go p x s t ≡ true → (bit_at w t == 1) ≡ false) → AreCheckTargets rule p s 0
 far_unreached rule p x s w here are off = record {
   elsewhere = λ m at small lawful none.
-      grind (arith, arrival_needed rule p m small (is_pseudo_legal-from_legal rule p m lawful), is_pseudo_legal-from_legal rule p m lawful, may_go_aimed);
+      let may = is_pseudo_legal-from_legal rule p m lawful in grind (arith, arrival_needed rule p m small may, may, may_go_aimed);
 }
 
 -- men off the squares from which they could come to a target
@@ -67,16 +50,13 @@ pub far_apart : (rule : RuleSet) (p : Position) (x : Man) (m w n : ℕ) → n < 
     → ((s : ℕ) → s < 64 → (bit_at m s == 1) ≡ true → AreCheckTargets rule p s w) → AreApproaches x w n
     → (s : ℕ) → s < 64 → (bit_at (bit_and m (bit_not w64 n)) s == 1) ≡ true → AreCheckTargets rule p s 0
 far_apart rule p x m w n fits stands are come s small on =
-    let mine : (bit_at m s == 1) ≡ true = on_first m (bit_not w64 n) s on in
-    let apart : (bit_at n s == 1) ≡ false = off_denied m n s fits small on in
-    far_unreached rule p x s w (stands s small mine) (are s small mine)
-    (λ t inside goes. false_by (bit_at w t == 1) (λ y. let near = come.approach p s t small inside goes y in cc))
+    grind (arith, far_unreached rule p x s w, stands s small, are s small, on_first m, off_denied m n s fits small on, come.approach p s, false_by)
 
 -- off the first word, or on the second
 off_without : (o f i : ℕ) → f < 2 ^ 64 → i < 64 → (bit_at (bit_and o (bit_not w64 f)) i == 1) ≡ false → (bit_at o i == 1) ≡ true → (bit_at f i == 1) ≡ true
 off_without o f i fits small off on =
-    let none : bit_at (bit_and o (bit_not w64 f)) i ≡ 0 = unset _ (bit_at-lt (bit_and o (bit_not w64 f)) i) off in
-    grind (arith, eqb-true _ _ on, bit_at_not w64 f i fits small, bit_at_and o (bit_not w64 f) i, eq-eqb, bit_at-lt f i)
+    let word = bit_and o (bit_not w64 f) in
+    grind (arith, eqb-true _ _ on, bit_at_not w64 f i fits small, bit_at_and o (bit_not w64 f) i, eq-eqb, bit_at-lt f i, unset, bit_at-lt word i, off)
 
 -- a move that may be made goes from a square of its side
 from_own : (rule : RuleSet) (p : Position) (o : ℕ) (m : Move) → o ≡ side_of p.men p.turn → m.from < 64 → is_pseudo_legal rule p m ≡ true
@@ -95,11 +75,6 @@ pub check_origins_are : (rule : RuleSet) (p : Position) (o f : ℕ) → o ≡ si
     → AreCheckOrigins rule p (bit_and o (bit_not w64 f))
 check_origins_are rule p o f own fits are = record {
   elsewhere = λ m inside small lawful off.
-      grind (
-        arith,
-        from_own rule p o m own inside (is_pseudo_legal-from_legal rule p m lawful),
-        is_pseudo_legal-from_legal rule p m lawful,
-        off_without,
-        off_zero m.to,
-      );
+      let may = is_pseudo_legal-from_legal rule p m lawful in
+      (are.far m.from inside (off_without o f m.from fits inside off (from_own rule p o m own inside may))).elsewhere m refl small lawful (off_zero m.to);
 }

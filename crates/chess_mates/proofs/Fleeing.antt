@@ -5,7 +5,7 @@ use Rattle.chess_mates.proofs.Chess.{Colour, IsWellFormed, King, Man, Move, Pawn
 use Rattle.chess_mates.proofs.Chess.{is_paralysed, is_pseudo_legal, is_reached, moves_behind, occupied_squares, other, queen_steps, reaches, reaches_as, reaches_of, same_colour, same_colour-true, same_kind, side_of, sight_lifted, some_square, some_square_true, squares, squares_both, squares_either, squares_not}
 use Rattle.chess_mates.proofs.Chess.{squares_of, triple_at, without_man, word}
 use Rattle.std.proofs.Common.{ap₂}
-use Rattle.chess_mates.specs.ties.Flights.{AreSteps, IsOneSafe, IsSeenFrom, has_flight, is_flight, is_flight_at, is_open}
+use Rattle.chess_mates.specs.ties.Flights.{AreOpen, AreSteps, IsSafe, IsSeenFrom, has_flight, is_flight, is_flight_at, is_open}
 use Rattle.chess_rules.proofs.Bits.{word_has}
 use Rattle.chess_rules.proofs.rays.Ends.{square_is}
 use Rattle.chess_rules.proofs.attacks.Attacking.{some_square_same}
@@ -67,7 +67,7 @@ no_own_free : (c : Colour) (o : Option Man) → is_arrival_free c o ≡ true →
 no_own_free c o h = grind (arith, not-true, and_parts)
 
 -- squares of one word that aren't in another
-on_second : (a b i : ℕ) → (bit_at (bit_and a b) i == 1) ≡ true → (bit_at b i == 1) ≡ true
+pub on_second : (a b i : ℕ) → (bit_at (bit_and a b) i == 1) ≡ true → (bit_at b i == 1) ≡ true
 on_second a b i h = search (rules, bit_at-lt, bit_at_and, eq-eqb, eqb-true)
 
 -- for a square of a difference of words, of which the second is told by a test
@@ -89,7 +89,7 @@ if_gone i o a k h n = grind arith
 if_comes : (i o a k : Bool) → (i ≡ true → o ≡ true) → k ≡ false → not ((i && (not o && not a)) || k) ≡ true
 if_comes i o a k h n = grind arith
 
-some_of_colour : (o : Option Man) (c : Colour) → is_of_colour o c ≡ true → is_some o ≡ true
+pub some_of_colour : (o : Option Man) (c : Colour) → is_of_colour o c ≡ true → is_some o ≡ true
 some_of_colour o c h = grind arith
 
 closed_words : (p : Position) (a : ℕ) (o : Option ℕ) (c : Colour) (w n : ℕ) → w ≡ side_of p.men (other c) → n ≡ squares_of p.men c King → (l : ℕ)
@@ -123,24 +123,31 @@ module _ (rule : RuleSet) (p : Position) (m : Move) (x : Man) (k : ℕ) (i : IsS
   pub is_made : IsMade rule p x m
   is_made = made rule p m x i.pseudo i.here
 
-  after_seen : (position_after rule p m).men ≡ arrived p x m
-  after_seen = search (rules, simple_after, is_made)
+  simply : IsSimple rule p x m
+  simply = let h = i.simple in grind (arith, and_parts, not-true)
 
-  no_king_arrives : same_kind (arriving_man x m.promo).kind King ≡ false
-  no_king_arrives = search (rules, false_from_ne_true, false≢true, arriving_king, is_made)
+  pub after_seen : (position_after rule p m).men ≡ arrived p x m
+  after_seen = simple_after rule p x m i.here simply.castling simply.rebirth
 
-  no_own_arrives : same_colour (arriving_man x m.promo).colour (other p.turn) ≡ false
+  no_king_arrives : same_kind x.kind King ≡ false → same_kind (arriving_man x m.promo).kind King ≡ false
+  no_king_arrives mortal = search (rules, false_from_ne_true, false≢true, arriving_king, is_made)
+
+  pub no_own_arrives : same_colour (arriving_man x m.promo).colour (other p.turn) ≡ false
   no_own_arrives = ap (λ (c : Colour). same_colour c (other p.turn)) (arriving_colour x m.promo ∙ is_made.mine) ∙ other_differs p.turn
 
-  -- no king leaves his square
-  no_king_left : (c : Colour) (t : ℕ) → (m.from == t || is_square (capture_square p x m) t) ≡ true → is_man (man_on p.men t) c King ≡ false
-  no_king_left c t gone = elim (or_cases (m.from == t) (is_square (capture_square p x m) t) gone) [
+  -- no king leaves his square, unless he goes
+  no_king_left : (c : Colour) (t : ℕ) → is_man (Some x) c King ≡ false → (m.from == t || is_square (capture_square p x m) t) ≡ true
+      → is_man (man_on p.men t) c King ≡ false
+  no_king_left c t stays gone = elim (or_cases (m.from == t) (is_square (capture_square p x m) t) gone) [
     | inl from ↦
-        ap (λ (o : Option Man). is_man o c King) (ap (man_on p.men) (sym (eqb-true m.from t from)) ∙ i.here) ∙ and_right (same_colour x.colour c) _ i.mortal
+        ap (λ (o : Option Man). is_man o c King) (ap (man_on p.men) (sym (eqb-true m.from t from)) ∙ i.here) ∙ stays
     | inr there ↦
         let w = taken rule p x m t i.well_formed is_made (square_is (capture_square p x m) t there) in
         ap (λ (o : Option Man). is_man o c King) w.there ∙ and_right (same_colour w.man.colour c) _ w.mortal
   ]
+
+  no_enemy_king : is_man (Some x) (other p.turn) King ≡ false
+  no_enemy_king = and_left _ _ (ap (λ (c : Colour). same_colour c (other p.turn)) is_made.mine ∙ other_differs p.turn)
 
   module _ (small : m.to < 64) where
     pub king_seen : king_square (position_after rule p m).men (other p.turn) ≡ Some k
@@ -148,16 +155,20 @@ module _ (rule : RuleSet) (p : Position) (m : Move) (x : Man) (k : ℕ) (i : IsS
         ap (λ (l : List (Option Man)). king_square l (other p.turn)) after_seen
         ∙ king_stands p.men m.from (capture_square p x m) m.to (arriving_man x m.promo) (other p.turn) (record {
           small = omega (arith, small, i.well_formed.size);
-          here = no_king_left (other p.turn) m.from (or_left (m.from == m.from) _ (eq-eqb m.from m.from refl));
-          comes = and_right (same_colour (arriving_man x m.promo).colour (other p.turn)) _ no_king_arrives;
+          here = no_king_left (other p.turn) m.from no_enemy_king (or_left (m.from == m.from) _ (eq-eqb m.from m.from refl));
+          comes = and_left _ _ no_own_arrives;
           arrival = no_king_free p.turn (other p.turn) (man_on p.men m.to) is_made.arrival;
-          captured = λ s at. no_king_left (other p.turn) s (or_right (m.from == s) _ at);
+          captured = λ s at. no_king_left (other p.turn) s no_enemy_king (or_right (m.from == s) _ at);
         })
         ∙ i.king
 
-    free_there : (t : ℕ) → not ((is_of_colour (man_on p.men t) (other p.turn) && (not (is_square (capture_square p x m) t) && not (m.from == t)))
-        || is_man (man_on p.men t) p.turn King) ≡ is_arrival_free (other p.turn) (man_on (arrived p x m) t)
-    free_there t =
+    abbrev is_free : ℕ → Bool
+    is_free t =
+        not ((is_of_colour (man_on p.men t) (other p.turn) && (not (is_square (capture_square p x m) t) && not (m.from == t)))
+        || is_man (man_on p.men t) p.turn King)
+
+    free_there : same_kind x.kind King ≡ false → (t : ℕ) → is_free t ≡ is_arrival_free (other p.turn) (man_on (arrived p x m) t)
+    free_there mortal t =
         grind (
           arith,
           cases_eq t m.to,
@@ -165,7 +176,7 @@ module _ (rule : RuleSet) (p : Position) (m : Move) (x : Man) (k : ℕ) (i : IsS
           there_now,
           arrived_free,
           no_own_arrives,
-          no_king_arrives,
+          no_king_arrives mortal,
           left_now,
           kept_now,
           if_stays,
@@ -175,28 +186,54 @@ module _ (rule : RuleSet) (p : Position) (m : Move) (x : Man) (k : ℕ) (i : IsS
           some_of_colour,
           no_king_free,
           is_made,
-          no_king_left,
+          no_king_left p.turn t (and_right _ _ mortal),
         )
+
+    -- but where he has come
+    free_elsewhere : (t : ℕ) → t ≢ m.to → is_free t ≡ true → is_arrival_free (other p.turn) (man_on (arrived p x m) t) ≡ true
+    free_elsewhere t ne free = elim (cases_Bool (m.from == t || is_square (capture_square p x m) t)) [
+      | inl gone ↦ ap (is_arrival_free (other p.turn)) (left_now p.men m.from (capture_square p x m) m.to (arriving_man x m.promo) t ne gone)
+      | inr stays ↦
+          ap (is_arrival_free (other p.turn)) (kept_now p.men m.from (capture_square p x m) m.to (arriving_man x m.promo) t ne stays)
+          ∙ sym (if_stays p.turn (man_on p.men t) (is_square (capture_square p x m) t) (m.from == t) stays)
+          ∙ free
+    ]
+
+    -- where the king may step, attacks apart
+    open_there : (t : ℕ) → t < 64 → (list_any (leaps k t) queen_steps && is_free t) ≡ true → is_arrival_free (other p.turn) (man_on (arrived p x m) t) ≡ true
+    unfolding reaches_as
+    open_there t lt h = elim (cases_Bool (same_kind x.kind King)) [
+      | inr mortal ↦ sym (free_there mortal t) ∙ (and_parts _ _ h).1
+      | inl king ↦ free_elsewhere t (λ e. false≢true (sym (i.apart king) ∙ ap (reaches_as p.men (other p.turn) King k) (sym e) ∙ (and_parts _ _ h).0))
+          (and_parts _ _ h).1
+    ]
 
     -- for the word of squares open to the king: without Circe
     pub open_squares : (w l h : ℕ) → captures_do_more rule ≡ false → w ≡ word (λ t. list_any (leaps k t) queen_steps)
         → l ≡ (sight_lifted p.men m.from (capture_square p x m) m.to k).standing
         → h ≡ bit_or (bit_and (side_of p.men (other p.turn)) l) (squares_of p.men p.turn King)
-        → AreSteps rule (position_after rule p m).men (other p.turn) k (bit_and w (bit_not w64 h))
+        → AreSteps rule (position_after rule p m).men x (other p.turn) k (bit_and w (bit_not w64 h))
     unfolding is_open reaches_as
     open_squares w l h circe near standing held =
-        let same : (t : ℕ) → t < 64 → (bit_at (bit_and w (bit_not w64 h)) t == 1) ≡ is_open rule (position_after rule p m).men (other p.turn) k t = λ t lt.
+        let told : (t : ℕ) → t < 64 → (bit_at (bit_and w (bit_not w64 h)) t == 1) ≡ (list_any (leaps k t) queen_steps && is_free t) = λ t lt.
         word_has _ _ t (ap₂ bit_and near (ap (bit_not w64) (held ∙ closed_words p m.from (capture_square p x m) p.turn _ _ refl refl l standing)
-        ∙ squares_not _) ∙ squares_both _ _) lt
-        ∙ ap (λ b. list_any (leaps k t) queen_steps && b) (free_there t
-        ∙ ap (λ (l : List (Option Man)). is_arrival_free (other p.turn) (man_on l t)) (sym after_seen))
+        ∙ squares_not _) ∙ squares_both _ _) lt in
+        let opened : (t : ℕ) → (list_any (leaps k t) queen_steps && is_arrival_free (other p.turn) (man_on (arrived p x m) t))
+        ≡ is_open rule (position_after rule p m).men (other p.turn) k t = λ t.
+        ap (λ (l : List (Option Man)). list_any (leaps k t) queen_steps && is_arrival_free (other p.turn) (man_on l t)) (sym after_seen)
         ∙ and_also _ _ (ap not (and_left (captures_do_more rule) _ circe)) in
-        record { inside = λ t lt on. sym (same t lt) ∙ on; outside = λ _ t lt off. sym (same t lt) ∙ off }
+        record {
+          inside = λ t lt on.
+              let both = sym (told t lt) ∙ on in
+              sym (opened t) ∙ and_from _ _ (and_parts _ _ both).0 (open_there t lt both);
+          outside = λ mortal _ t lt off.
+              sym (opened t) ∙ ap (λ b. list_any (leaps k t) queen_steps && b) (sym (free_there mortal t)) ∙ sym (told t lt) ∙ off;
+        }
 
     -- in Circe, where he mayn't capture
     pub open_squares_in_circe : (w l : ℕ) → captures_do_more rule ≡ true → w ≡ word (λ t. list_any (leaps k t) queen_steps)
         → l ≡ (sight_lifted p.men m.from (capture_square p x m) m.to k).occupied
-        → AreSteps rule (position_after rule p m).men (other p.turn) k (bit_and w (bit_not w64 l))
+        → AreSteps rule (position_after rule p m).men x (other p.turn) k (bit_and w (bit_not w64 l))
     unfolding is_open
     open_squares_in_circe w l circe near occupied =
         let held = occupied ∙ lifted_words p.men m.from (capture_square p x m) m.to k in
@@ -206,7 +243,7 @@ module _ (rule : RuleSet) (p : Position) (m : Move) (x : Man) (k : ℕ) (i : IsS
               let off : (is_occupied_after p.men m.from (capture_square p x m) m.to t && not (k == t)) ≡ false = sym (word_has _ l t held lt)
               ∙ unseen_bit _ w l t held lt on in
               grind (arith, differs, false≢true, no_reach_there, none_from_is_some, occupied_now, first_false, after_seen, and_from, and_right);
-          outside = λ none. absurd (false≢true (sym none ∙ circe));
+          outside = λ _ none. absurd (false≢true (sym none ∙ circe));
         }
 
 -- what is seen of an attack on a king that has stepped there
@@ -216,7 +253,7 @@ pub record IsStepSeen (men : List (Option Man)) (a : ℕ) (o : Option ℕ) (b : 
     pub size : length men ≡ 64
     pub arrived : (l : List (Option Man)) → (sight_lifted men a o b k).occupied ≡ occupied_squares l → r ≡ word (reaches_as l z.colour z.kind b)
 
-reaches_alike_of : (men others : List (Option Man)) (o : Option Man) (s t : ℕ) → StandAlike men others t → reaches_of men o s t ≡ reaches_of others o s t
+pub reaches_alike_of : (men others : List (Option Man)) (o : Option Man) (s t : ℕ) → StandAlike men others t → reaches_of men o s t ≡ reaches_of others o s t
 reaches_alike_of men others o s t a = grind (arith, reaches_alike)
 
 -- who doesn't reach a square doesn't attack it, paralysed or not
@@ -288,7 +325,7 @@ pub record IsOpenTo (rule : RuleSet) (men : List (Option Man)) (c : Colour) (k t
   pub free : is_arrival_free c (man_on men t) ≡ true
   pub nobody : captures_do_more rule ≡ true → man_on men t ≡ None
 
-open_parts : (rule : RuleSet) (men : List (Option Man)) (c : Colour) (k t : ℕ) → is_open rule men c k t ≡ true → IsOpenTo rule men c k t
+pub open_parts : (rule : RuleSet) (men : List (Option Man)) (c : Colour) (k t : ℕ) → is_open rule men c k t ≡ true → IsOpenTo rule men c k t
 unfolding is_open
 open_parts rule men c k t h = search rules
 
@@ -339,7 +376,7 @@ pub record IsKingOn (men : List (Option Man)) (c : Colour) (k : ℕ) (x : Man) :
 pub king_on : (men : List (Option Man)) (c : Colour) (k : ℕ) → king_square men c ≡ Some k → (x : Man) × IsKingOn men c k x
 king_on men c k at = grind (arith, king_there men c k, man_there, and_parts)
 
-king_is_other : (x : Man) (c : Colour) → same_colour x.colour (other c) ≡ true → same_colour x.colour c ≡ false
+pub king_is_other : (x : Man) (c : Colour) → same_colour x.colour (other c) ≡ true → same_colour x.colour c ≡ false
 king_is_other x c h = search rules
 
 -- no king stands where a man has arrived
@@ -347,7 +384,7 @@ pub no_king_square : (men : List (Option Man)) (c d : Colour) (k b : ℕ) → ki
 no_king_square men c d k b at free e = grind (arith, false≢true, no_king_free c d (man_on men b) free, king_there men d k)
 
 module _ (rule : RuleSet) (p : Position) (m : Move) (x : Man) (k : ℕ) (i : IsSeenFrom rule p m x k) (small : m.to < 64) where
-  is_step : (y : Man) (t : ℕ) → t < 64 → IsKingOn (position_after rule p m).men (other p.turn) k y
+  pub is_step : (y : Man) (t : ℕ) → t < 64 → IsKingOn (position_after rule p m).men (other p.turn) k y
       → IsStep p.men m.from (capture_square p x m) m.to k (capture_square (position_after rule p m) y (step_to k t)) t y p.turn
   is_step y t there king =
       let free = (is_made rule p m x k i).arrival in
@@ -362,19 +399,23 @@ module _ (rule : RuleSet) (p : Position) (m : Move) (x : Man) (k : ℕ) (i : IsS
   pub turn_is : (position_after rule p m).turn ≡ other p.turn
   turn_is = turn_after rule p m i.pseudo
 
+  pub king_step : (y : Man) (t : ℕ) → t < 64 → IsKingOn (position_after rule p m).men (other p.turn) k y
+      → is_open rule (position_after rule p m).men (other p.turn) k t ≡ true → IsKingStep rule (position_after rule p m) y k t
+  king_step y t there king way = record {
+    well_formed = after_well_formed rule p m i.well_formed i.pseudo;
+    here = king.here;
+    mine = ap (same_colour y.colour) turn_is ∙ king.mine;
+    king = king.king;
+    small = there;
+    near = ap (λ (c : Colour). is_open rule (position_after rule p m).men c k t) turn_is ∙ way;
+  }
+
   -- the king's step is legal where nobody attacks him then
   pub step_legal_is : (y : Man) (t : ℕ) → t < 64 → IsKingOn (position_after rule p m).men (other p.turn) k y
       → is_open rule (position_after rule p m).men (other p.turn) k t ≡ true
       → is_legal rule (position_after rule p m) (step_to k t) ≡ not (is_attacked rule (men_stepped y t) t p.turn)
   step_legal_is y t there king way =
-      step_is rule (position_after rule p m) y k t (record {
-        well_formed = after_well_formed rule p m i.well_formed i.pseudo;
-        here = king.here;
-        mine = ap (same_colour y.colour) turn_is ∙ king.mine;
-        king = king.king;
-        small = there;
-        near = ap (λ (c : Colour). is_open rule (position_after rule p m).men c k t) turn_is ∙ way;
-      })
+      step_is rule (position_after rule p m) y k t (king_step y t there king way)
       ∙ ap not (ap (λ (l : List (Option Man)). is_attacked rule (gone_to l k (step_taken y t) t y) t (other (position_after rule p m).turn))
       (after_seen rule p m x k i)
       ∙ ap (is_attacked rule (men_stepped y t) t) (ap other turn_is ∙ other_twice p.turn))
@@ -386,22 +427,28 @@ module _ (rule : RuleSet) (p : Position) (m : Move) (x : Man) (k : ℕ) (i : IsS
         → IsStepSeen p.men m.from (capture_square p x m) m.to (arriving_man x m.promo) k (step_taken y t) t y p.turn r
     step_seen y t there king = search (rules, is_step y t there king)
 
-    -- for `flights_from`: a square that nobody guards is a flight
-    pub has_flight_to : AreSteps rule (position_after rule p m).men (other p.turn) k n
-        → IsOneSafe p.men p.turn (sight_lifted p.men m.from (capture_square p x m) m.to k) (bit_and n (bit_not w64 r))
-        → has_flight rule (position_after rule p m) ≡ true
-    unfolding has_flight is_flight
-    has_flight_to near safe =
-        let t = safe.square in
-        let at : king_square (position_after rule p m).men (other p.turn) ≡ Some k = king_seen rule p m x k i small in
-        let king = king_on (position_after rule p m).men (other p.turn) k at in
+    -- a step to a square that nobody guards is legal
+    pub safe_step : (t : ℕ) → AreOpen rule (position_after rule p m).men (other p.turn) k n
+        → IsSafe p.men p.turn (sight_lifted p.men m.from (capture_square p x m) m.to k) (bit_and n (bit_not w64 r)) t
+        → is_legal rule (position_after rule p m) (step_to k t) ≡ true
+    safe_step t near safe =
+        let king = king_on (position_after rule p m).men (other p.turn) k (king_seen rule p m x k i small) in
         let lifted : List (Option Man) = without_man (gone_to p.men m.from (capture_square p x m) m.to (arriving_man x m.promo)) k in
         let seen : r ≡ word (reaches_as lifted (arriving_man x m.promo).colour (arriving_man x m.promo).kind m.to) =
         arrives lifted (occupied_lifted p.men m.from (capture_square p x m) m.to (arriving_man x m.promo) k (omega (arith, small, i.well_formed.size))) in
         let step = step_seen king.0 t safe.small king.1 in
-        some_square_true (is_flight rule (position_after rule p m)) t safe.small
-        (ap (λ (o : Option ℕ). is_flight_at rule (position_after rule p m) o t) (ap (king_square (position_after rule p m).men) turn_is ∙ at)
-        ∙ step_legal_is king.0 t safe.small king.1 (near.inside t safe.small (on_first n (bit_not w64 r) t safe.here))
+        step_legal_is king.0 t safe.small king.1 (near.inside t safe.small (on_first n (bit_not w64 r) t safe.here))
         ∙ ap not (not_attacked rule (men_stepped king.0 t) p.turn t (reached_alike p.men m.from (capture_square p x m) m.to (arriving_man x m.promo) k
         (step_taken king.0 t) t king.0 p.turn r step (unseen_bit _ n r t seen safe.small safe.here)
-        ∙ safe.unreached _ (seen_stepped p.men m.from (capture_square p x m) m.to k (step_taken king.0 t) t king.0 p.turn step.step))))
+        ∙ safe.unreached _ (seen_stepped p.men m.from (capture_square p x m) m.to k (step_taken king.0 t) t king.0 p.turn step.step)))
+
+    -- for `flights_from`: it is a flight
+    pub has_flight_to : (t : ℕ) → AreSteps rule (position_after rule p m).men x (other p.turn) k n
+        → IsSafe p.men p.turn (sight_lifted p.men m.from (capture_square p x m) m.to k) (bit_and n (bit_not w64 r)) t
+        → has_flight rule (position_after rule p m) ≡ true
+    unfolding has_flight is_flight
+    has_flight_to t near safe =
+        some_square_true (is_flight rule (position_after rule p m)) t safe.small
+        (ap (λ (o : Option ℕ). is_flight_at rule (position_after rule p m) o t)
+        (ap (king_square (position_after rule p m).men) turn_is ∙ king_seen rule p m x k i small)
+        ∙ safe_step t (record { inside = near.inside }) safe)

@@ -1,66 +1,45 @@
 -- A king in check whose steps are all guarded after a move has no legal move of his own.
-use Rattle.chess_core.proofs.Kept.{same_colour-refl}
-use Rattle.chess_rules.proofs.Basics.{[], Bool, List, None, Option, Some, and_from, and_left, and_parts, and_right, ap, arith, bit_and, bit_at, bit_not, cases_Bool, false, false_from_ne_true, false≢true, filter, inl, inr, not, not-true, refl, sym, true, true_from_ne_false, w64, ℕ, ◌&&◌, ◌<◌, ◌==◌, ◌∙◌, ◌∷◌, ◌≡◌}
-use Rattle.chess_rules.proofs.Chess.{can_castle, is_promotion_right, may_castle, same_kind-true, some_is, triples}
-use Rattle.chess_mates.proofs.Chess.{Colour, IsWellFormed, Kind, King, Man, Move, Position, RuleSet, arriving_man, capture_square, captures_do_more, first_of_and, in_check, is_arrival_free, is_legal, is_nil, is_reached, king_square, man_on, moves, occupied_squares, other, position_after, reaches, reaches_as, same_colour, same_kind, sight_lifted, word}
+use Rattle.chess_rules.proofs.Basics.{List, None, Option, Some, [], and_left, and_parts, and_right, ap, arith, bit_and, bit_at, bit_not, cases_Bool, false, false_from_ne_true, false≢true, filter, inl, inr, not, not-true, refl, sym, true, true_from_ne_false, w64, ℕ, ◌&&◌, ◌<◌, ◌==◌, ◌∙◌, ◌∷◌, ◌≡◌}
+use Rattle.chess_mates.proofs.Chess.{AreSteps, AreUnsafe, Colour, IsFlightless, IsSeenFrom, IsWellFormed, King, Man, Move, Position, RuleSet, after_well_formed, arriving_colour, arriving_man, can_castle, capture_square, captures_do_more, faced_men_stand_still, in_check, is_legal, is_nil, is_open, is_pseudo_legal-from_legal, is_reached, king_is, king_is_no_pawn, king_square, made, man_on, may_castle, moves, occupied_squares, other, position_after, reaches, reaches_as, same_colour, same_colour-refl, same_kind, same_kind-true, sight_lifted, some_is, triples, word}
 use Rattle.chess_mates.proofs.Fleeing.{IsKingOn, arrived_strikes, is_made, king_on, king_seen, men_stepped, reached_alike, seen_bit, step_legal_is, step_seen, step_taken, step_to}
 use Rattle.chess_mates.proofs.Mating.{turn_after}
+use Rattle.chess_mates.proofs.Standing.{unnamed}
 use Rattle.chess_mates.proofs.Stepping.{occupied_lifted, seen_stepped}
-use Rattle.chess_mates.specs.ties.Flights.{AreGuarded, AreSteps, IsFlightless, IsSeenFrom, is_open}
 use Rattle.chess_rules.proofs.attacks.Attacking.{attacked_plainly}
-use Rattle.chess_rules.proofs.attacks.Shielding.{arriving_colour, king_is}
-use Rattle.chess_rules.proofs.listing_moves.Calls.{is_pseudo_legal-from_legal}
-use Rattle.chess_rules.proofs.making_moves.Pseudo.{king_is_no_pawn, made}
-use Rattle.chess_rules.proofs.making_moves.Stays.{after_well_formed}
 use Rattle.chess_rules.proofs.theorems.Moves.{legal_moves_are_triples}
-use Rattle.chess_rules.specs.RuleSet.{faced_men_stand_still}
 use Rattle.chess_rules.specs.ties.Sifting.{is_of_others}
 
 -- how a king in check goes: by a step
-unpromoted : (q : Position) (y : Man) (n : Move) (r : Option Kind) → is_promotion_right q y n r ≡ true → same_kind y.kind King ≡ true → r ≡ None
-unpromoted q y n None h king = refl
-unpromoted q y n (Some j) h king = absurd (false≢true (sym (king_is_no_pawn y.kind king) ∙ first_of_and _ _ (first_of_and _ _ h)))
-
 castles_in_check : (rule : RuleSet) (q : Position) (y : Man) (n : Move) → in_check rule q.men y.colour ≡ true → can_castle rule q y n ≡ false
 unfolding can_castle may_castle
 castles_in_check rule q y n h = and_left _ _ (and_right _ _ (ap not h))
 
-king_reaches : (men : List (Option Man)) (y : Man) (c : Colour) (k t : ℕ) → man_on men k ≡ Some y → same_kind y.kind King ≡ true
-    → reaches men k t ≡ true → reaches_as men c King k t ≡ true
-unfolding reaches reaches_as
-king_reaches men y c k t here king h = rw (here, same_kind-true y.kind King king) at h
-
 pub record IsOwnStep (rule : RuleSet) (q : Position) (k : ℕ) (n : Move) : Type 0 where
   pub small : n.to < 64
   pub move : step_to k n.to ≡ n
-  pub reached : reaches_as q.men q.turn King k n.to ≡ true
-  pub free : is_arrival_free q.turn (man_on q.men n.to) ≡ true
+  pub way : is_open rule q.men q.turn k n.to ≡ true
 
 own_step : (rule : RuleSet) (q : Position) (n : Move) (k : ℕ) (y : Man) → IsWellFormed q → king_square q.men q.turn ≡ Some k → man_on q.men k ≡ Some y
-    → same_kind y.kind King ≡ true → in_check rule q.men q.turn ≡ true → is_of_others q n ≡ false → is_legal rule q n ≡ true → IsOwnStep rule q k n
-own_step rule q n k y well at here king check kings legal =
+    → same_kind y.kind King ≡ true → in_check rule q.men q.turn ≡ true → is_of_others q n ≡ false → is_legal rule q n ≡ true
+    → captures_do_more rule ≡ false → IsOwnStep rule q k n
+unfolding is_open reaches reaches_as
+own_step rule q n k y well at here king check kings legal circe =
     let triple = legal_moves_are_triples rule q n well legal in
     let origin : n.from ≡ k = some_is n.from k (sym (king_is q.men q.turn n.from well.kings triple.0 (grind (arith, kings))) ∙ at) in
     let is = made rule q n y (is_pseudo_legal-from_legal rule q n legal) (ap (man_on q.men) origin ∙ here) in
-    let promo : n.promo ≡ None = unpromoted q y n n.promo is.promotion king in
-    let goes : reaches q.men n.from n.to ≡ true = grind (arith, is.can_go, king_is_no_pawn, castles_in_check, is.mine) in
+    let promo : n.promo ≡ None = unnamed q y n n.promo (and_left _ _ (king_is_no_pawn y.kind king)) is.promotion in
     record {
       small = triple.1;
       move = rw (origin, promo) refl;
-      reached = king_reaches q.men y q.turn k n.to here king (ap (λ (s : ℕ). reaches q.men s n.to) (sym origin) ∙ goes);
-      free = is.arrival;
+      way = grind (arith, is.can_go, king_is_no_pawn, castles_in_check, is.mine, is.arrival, here, same_kind-true y.kind King king);
     }
-
-open_step : (rule : RuleSet) (q : Position) (k : ℕ) (n : Move) → IsOwnStep rule q k n → captures_do_more rule ≡ false
-    → is_open rule q.men q.turn k n.to ≡ true
-unfolding is_open
-open_step rule q k n i circe = and_from _ _ (and_from _ _ i.reached i.free) (ap not (and_left (captures_do_more rule) _ circe))
 
 module _ (rule : RuleSet) (p : Position) (m : Move) (x : Man) (k : ℕ) (i : IsSeenFrom rule p m x k) (small : m.to < 64) (n r : ℕ)
     (arrives : (l : List (Option Man)) → (sight_lifted p.men m.from (capture_square p x m) m.to k).occupied ≡ occupied_squares l
     → r ≡ word (reaches_as l (arriving_man x m.promo).colour (arriving_man x m.promo).kind m.to))
-    (ways : AreSteps rule (position_after rule p m).men (other p.turn) k n) (exact : (not (captures_do_more rule) && not (faced_men_stand_still rule)) ≡ true)
-    (guarded : AreGuarded p.men p.turn (sight_lifted p.men m.from (capture_square p x m) m.to k) (bit_and n (bit_not w64 r))) where
+    (ways : AreSteps rule (position_after rule p m).men x (other p.turn) k n)
+    (mortal : same_kind x.kind King ≡ false) (exact : (not (captures_do_more rule) && not (faced_men_stand_still rule)) ≡ true)
+    (guarded : AreUnsafe p.men p.turn (sight_lifted p.men m.from (capture_square p x m) m.to k) (bit_and n (bit_not w64 r))) where
   plain : (captures_do_more rule ≡ false) × (faced_men_stand_still rule ≡ false)
   plain = let both = and_parts _ _ exact in (not-true _ both.0, not-true _ both.1)
 
@@ -74,15 +53,15 @@ module _ (rule : RuleSet) (p : Position) (m : Move) (x : Man) (k : ℕ) (i : IsS
         | inr off ↦
             reached_alike p.men m.from (capture_square p x m) m.to (arriving_man x m.promo) k (step_taken rule p m x k i small y t) t y p.turn r seen off
             ∙ guarded.reached t there (seen_bit _ n r t (arrives _ (occupied_lifted p.men m.from (capture_square p x m) m.to (arriving_man x m.promo) k
-            (omega (arith, small, i.well_formed.size)))) there (true_from_ne_false _ (λ h. false≢true (sym (ways.outside plain.0 t there h) ∙ way))) off)
+            (omega (arith, small, i.well_formed.size)))) there (true_from_ne_false _ (λ h. false≢true (sym (ways.outside mortal plain.0 t there h) ∙ way))) off)
             _ (seen_stepped p.men m.from (capture_square p x m) m.to k (step_taken rule p m x k i small y t) t y p.turn seen.step)
       ]
 
   no_step : (y : Man) (t : ℕ) → t < 64 → IsKingOn (position_after rule p m).men (other p.turn) k y
       → is_open rule (position_after rule p m).men (other p.turn) k t ≡ true → is_legal rule (position_after rule p m) (step_to k t) ≡ false
   no_step y t there king way =
-      step_legal_is rule p m x k i small y t there king way
-      ∙ ap not (sym (attacked_plainly rule (men_stepped rule p m x k i small y t) t p.turn true plain.1 (sym (reached y t there king way))))
+      let attacked = attacked_plainly rule (men_stepped rule p m x k i small y t) t p.turn true plain.1 in
+      grind (arith, step_legal_is rule p m x k i small y t there king way, attacked, reached y t there king way)
 
   pub flightless : IsFlightless rule (position_after rule p m)
   flightless = record {
@@ -92,19 +71,16 @@ module _ (rule : RuleSet) (p : Position) (m : Move) (x : Man) (k : ℕ) (i : IsS
         let king = king_on q.men (other p.turn) k at in
         let turn : q.turn ≡ other p.turn = turn_after rule p m i.pseudo in
         let well = after_well_formed rule p m i.well_formed i.pseudo in
-        let step = own_step rule q n k king.0 well (ap (king_square q.men) turn ∙ at) king.1.here king.1.king check kings legal in
-        false≢true (sym (no_step king.0 n.to step.small king.1 (ap (λ (c : Colour). is_open rule q.men c k n.to) (sym turn)
-        ∙ open_step rule q k n step plain.0)) ∙ ap (is_legal rule q) step.move ∙ legal));
+        let step = own_step rule q n k king.0 well (ap (king_square q.men) turn ∙ at) king.1.here king.1.king check kings legal plain.0 in
+        false≢true (sym (no_step king.0 n.to step.small king.1 (ap (λ (c : Colour). is_open rule q.men c k n.to) (sym turn) ∙ step.way))
+        ∙ ap (is_legal rule q) step.move ∙ legal));
   }
 
 -- where no move of the king is legal, the others' are all
-filter_kept : (f g : Move → Bool) → ((m : Move) → g m ≡ true → f m ≡ true) → (ms : List Move) → filter f (filter g ms) ≡ filter g ms
-filter_kept f g h [] = refl
-filter_kept f g h (m ∷ ms) = grind (arith, cases_Bool (g m), h, filter_kept f g h ms)
-
 pub others_are_all : (rule : RuleSet) (p : Position) → in_check rule p.men p.turn ≡ true → IsFlightless rule p
     → not (is_nil (filter (is_of_others p) (moves rule p))) ≡ not (is_nil (moves rule p))
 unfolding moves
-others_are_all rule p check none =
-    ap (λ (l : List Move). not (is_nil l)) (filter_kept (is_of_others p) (is_legal rule p)
-    (λ m h. true_from_ne_false _ (λ e. false≢true (sym (none.stays check m e) ∙ h))) triples)
+others_are_all rule p check none = ap (λ (l : List Move). not (is_nil l)) (by triples) where
+  by : (ms : List Move) → filter (is_of_others p) (filter (is_legal rule p) ms) ≡ filter (is_legal rule p) ms
+  by [] = refl
+  by (m ∷ ms) = grind (arith, cases_Bool (is_legal rule p m), cases_Bool (is_of_others p m), none.stays check m, by ms)

@@ -1,21 +1,8 @@
 -- The squares on which captured men may be reborn, and those that are closed to a king.
-use Rattle.chess_rules.proofs.Basics.{inl, inr, ◌&&◌, ◌⊎◌, List, None, Option, Some, agree_below_at, ap, arith, bit_at, bit_or, cases_Bool, eq-eqb, false, false≢true, is_some, not, refl, sym, true, ℕ, ◌<◌, ◌==◌, ◌||◌, ◌∙◌, ◌≡◌}
-use Rattle.chess_mates.proofs.Chess.{Bishop, Black, Colour, Grasshopper, Kind, King, Knight, Man, Nightrider, Pawn, Position, Queen, Rook, RuleSet, White, captures_do_more, is_man, is_of_colour, is_square, man_on, other, rank_of, same_colour, same_kind, side_of, squares_of, word}
-use Rattle.chess_core.specs.Squares.{file_of, square_at}
-use Rattle.chess_rules.specs.Play.{rebirth}
+use Rattle.chess_rules.proofs.Basics.{List, None, Option, Some, agree_below_at, arith, bit_at, bit_or, cases_Bool, eq-eqb, false, false≢true, is_some, not, refl, rules, sym, true, ℕ, ◌&&◌, ◌<◌, ◌==◌, ◌||◌, ◌∙◌, ◌≡◌, ◌⊎◌}
+use Rattle.chess_mates.proofs.Chess.{Bishop, Black, Colour, Grasshopper, IsAt, Kind, King, Knight, Man, Nightrider, Pawn, Position, Queen, Rook, RuleSet, White, captures_do_more, file_of, is_man, is_of_colour, is_square, man_on, on_left, on_right, other, rank_of, rebirth, rebirth_small, same_colour, same_kind, side_of, square_at, square_at-is, squares_of, word, word_has}
 use Rattle.chess_mates.specs.ties.Siege.{AreClosed, AreHomes, AreHomesOf, IsHome}
-use Rattle.chess_rules.proofs.Bits.{on_left, on_right, word_has}
-use Rattle.chess_rules.proofs.Tests.{implied}
 use Rattle.chess_mates.proofs.Risks.{none_on}
-use Rattle.chess_rules.proofs.making_moves.Stays.{rebirth_small}
-use Rattle.chess_core.proofs.Boards.{IsAt, square_at-is}
-
--- a square of the last rank and one of the first, each in its word
-last_on : (r : ℕ) → r < 64 → (rank_of r == 8) ≡ true → (bit_at 18374686479671623680 r == 1) ≡ true
-last_on r small = implied (rank_of r == 8) _ (agree_below_at (λ n. not (rank_of n == 8) || bit_at 18374686479671623680 n == 1) (λ _. true) 64 r refl small)
-
-first_on : (r : ℕ) → r < 64 → (rank_of r == 1) ≡ true → (bit_at 255 r == 1) ≡ true
-first_on r small = implied (rank_of r == 1) _ (agree_below_at (λ n. not (rank_of n == 1) || bit_at 255 n == 1) (λ _. true) 64 r refl small)
 
 far_end : (f k r : ℕ) → square_at f k ≡ Some r → (r < 64) × ((rank_of r == k) ≡ true)
 far_end f k r h = let i : IsAt f k r = square_at-is f k r (rw h (eq-eqb r r refl)) in (i.small, eq-eqb (rank_of r) k (sym i.rank))
@@ -40,14 +27,17 @@ homes Black Nightrider = 255
 -- a man who is no pawn is reborn on a square of his word
 pub home_on : (c : Colour) (k : Kind) (w : ℕ) → w ≡ homes c k → same_kind k Pawn ≡ false → (t r : ℕ) → rebirth c k t ≡ Some r → (bit_at w r == 1) ≡ true
 unfolding rebirth
-home_on c k w e piece t r h = grind (arith, far_end, last_on, first_on, false≢true)
+home_on c k w e piece t r h =
+    let last = agree_below_at (λ n. not (rank_of n == 8) || bit_at 18374686479671623680 n == 1) (λ _. true) 64 r refl in
+    let first = agree_below_at (λ n. not (rank_of n == 1) || bit_at 255 n == 1) (λ _. true) 64 r refl in
+    grind (arith, far_end, last, first, false≢true)
 
 -- a pawn on that of his file
 pub pawn_home_on : (c : Colour) (s k w : ℕ) → ((t : ℕ) → rebirth c Pawn t ≡ square_at (file_of t) k)
     → w ≡ word (λ q. is_square (square_at (file_of s) k) q) → (t r : ℕ) → file_of t ≡ file_of s → rebirth c Pawn t ≡ Some r → (bit_at w r == 1) ≡ true
 pawn_home_on c s k w home only t r file h =
     word_has (λ q. is_square (square_at (file_of s) k) q) w r only (rebirth_small c Pawn t r h)
-    ∙ ap (λ (o : Option ℕ). is_square o r) (ap (λ (f : ℕ). square_at f k) (sym file) ∙ sym (home t) ∙ h) ∙ eq-eqb r r refl
+    ∙ grind (arith, home t, eq-eqb)
 
 -- for `homes_on`: men of the kind, pawns apart
 pub homes_are : (men : List (Option Man)) (c : Colour) (k : Kind) (w : ℕ)
@@ -67,17 +57,16 @@ unfolding squares_of
 pawn_homes_are men c l w pawns h k pawn = record {
   homes = λ s r z small here mine own home.
       let kind : z.kind ≡ Pawn = own ∙ pawn in
-      let on : (bit_at l s == 1) ≡ true = word_has (λ q. is_man (man_on men q) c Pawn) l s pawns small ∙ ap (λ (o : Option Man). is_man o c Pawn) here
-      ∙ rw (mine, kind) (both c Pawn) in
-      h s small on home.square r (home.file (rw kind refl)) (rw (mine, kind) at home.reborn);
+      h s small (word_has (λ q. is_man (man_on men q) c Pawn) l s pawns small ∙ rw (here, mine, kind) (both c Pawn)) home.square r (home.file (rw kind refl))
+      (rw (mine, kind) at home.reborn);
 }
 
 -- no men of the kind
 pub no_homes_are : (men : List (Option Man)) (c : Colour) (k : Kind) (l w : ℕ) → l ≡ squares_of men c k → (l == 0) ≡ true → AreHomesOf men c k w
 unfolding squares_of
 no_homes_are men c k l w are none = record {
-  homes = λ s r z small here mine kind home. absurd (none_on l s none (word_has (λ q. is_man (man_on men q) c k) l s are small
-      ∙ ap (λ (o : Option Man). is_man o c k) here ∙ rw (mine, kind) (both c k)));
+  homes = λ s r z small here mine kind home.
+      absurd (none_on l s none (word_has (λ q. is_man (man_on men q) c k) l s are small ∙ rw (here, mine, kind) (both c k)));
 }
 
 -- for `home_squares`: all kinds, since a king isn't captured
@@ -91,25 +80,18 @@ all_homes men c q r b n p g d queens rooks bishops knights pawns hoppers riders 
   by : (s t : ℕ) (z : Man) → s < 64 → man_on men s ≡ Some z → z.colour ≡ c → IsHome z s t → (k : Kind) → z.kind ≡ k
       → (bit_at (bit_or (bit_or (bit_or (bit_or (bit_or (bit_or q r) b) n) p) g) d) t == 1) ≡ true
   by s t z small here mine home King e = absurd (let none : None ≡ Some t = rw e at home.reborn in cc)
-  by s t z small here mine home Queen e =
-      on_left _ d t (on_left _ g t (on_left _ p t (on_left _ n t (on_left _ b t (on_left q r t (queens.homes s t z small here mine e home))))))
-  by s t z small here mine home Rook e =
-      on_left _ d t (on_left _ g t (on_left _ p t (on_left _ n t (on_left _ b t (on_right q r t (rooks.homes s t z small here mine e home))))))
-  by s t z small here mine home Bishop e =
-      on_left _ d t (on_left _ g t (on_left _ p t (on_left _ n t (on_right _ b t (bishops.homes s t z small here mine e home)))))
-  by s t z small here mine home Knight e = on_left _ d t (on_left _ g t (on_left _ p t (on_right _ n t (knights.homes s t z small here mine e home))))
-  by s t z small here mine home Pawn e = on_left _ d t (on_left _ g t (on_right _ p t (pawns.homes s t z small here mine e home)))
-  by s t z small here mine home Grasshopper e = on_left _ d t (on_right _ g t (hoppers.homes s t z small here mine e home))
-  by s t z small here mine home Nightrider e = on_right _ d t (riders.homes s t z small here mine e home)
+  by s t z small here mine home Queen e = search (rules, on_left, on_right, queens.homes) depth 8
+  by s t z small here mine home Rook e = search (rules, on_left, on_right, rooks.homes) depth 8
+  by s t z small here mine home Bishop e = search (rules, on_left, on_right, bishops.homes) depth 8
+  by s t z small here mine home Knight e = search (rules, on_left, on_right, knights.homes) depth 8
+  by s t z small here mine home Pawn e = search (rules, on_left, on_right, pawns.homes) depth 8
+  by s t z small here mine home Grasshopper e = search (rules, on_left, on_right, hoppers.homes) depth 8
+  by s t z small here mine home Nightrider e = search (rules, on_left, on_right, riders.homes) depth 8
 
 -- for `closed_squares`: without Circe
 pub own_closed : (rule : RuleSet) (p : Position) (c : Colour) (w : ℕ) → c ≡ p.turn → w ≡ side_of p.men c → captures_do_more rule ≡ false → AreClosed rule p w
 unfolding side_of
-own_closed rule p c w turn side plain = let own : w ≡ side_of p.men p.turn = side ∙ ap (side_of p.men) turn in record {
-  own = λ s small mine. word_has (λ q. is_of_colour (man_on p.men q) p.turn) w s own small ∙ mine;
-  others = λ more. absurd (false≢true (sym plain ∙ more));
-  homes = λ more. absurd (false≢true (sym plain ∙ more));
-}
+own_closed rule p c w turn side plain = search (rules, word_has, false≢true)
 
 -- a man is one side's or the other's
 pub some_of : (o : Option Man) (c : Colour) → is_some o ≡ true → (is_of_colour o c ≡ true) ⊎ (is_of_colour o (other c) ≡ true)
@@ -120,14 +102,9 @@ pub all_closed : (rule : RuleSet) (p : Position) (c d : Colour) (a e h : ℕ) �
     → AreHomes p.men c h → AreClosed rule p (bit_or (bit_or a e) h)
 unfolding side_of
 all_closed rule p c d a e h turn enemy own enemies homes = record {
-  own = λ s small mine. mine_on s small mine;
-  others = λ more s small some. elim (some_of (man_on p.men s) p.turn some) [
-    | inl mine ↦ mine_on s small mine
-    | inr theirs ↦ on_left (bit_or a e) h s (on_right a e s (word_has (λ q. is_of_colour (man_on p.men q) d) e s enemies small
-        ∙ ap (is_of_colour (man_on p.men s)) (enemy ∙ ap other turn) ∙ theirs))
-  ];
+  own = λ s small mine. grind (arith, on_left, word_has (λ q. is_of_colour (man_on p.men q) c) a s own small);
+  others = λ more s small some.
+      let side = λ (c : Colour). word_has (λ q. is_of_colour (man_on p.men q) c) in
+      grind (arith, on_left, on_right, some_of (man_on p.men s) c some, side c a s own small, side d e s enemies small);
   homes = λ more. record { homes = λ s r z small here mine home. on_right (bit_or a e) h r (homes.homes s r z small here (mine ∙ sym turn) home) };
-} where
-  mine_on : (s : ℕ) → s < 64 → is_of_colour (man_on p.men s) p.turn ≡ true → (bit_at (bit_or (bit_or a e) h) s == 1) ≡ true
-  mine_on s small mine = on_left (bit_or a e) h s (on_left a e s (word_has (λ q. is_of_colour (man_on p.men q) c) a s own small
-      ∙ ap (is_of_colour (man_on p.men s)) turn ∙ mine))
+}

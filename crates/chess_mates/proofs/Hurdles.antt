@@ -1,20 +1,22 @@
 -- What men reach over hurdles, the squares of a word, and later on the board.
-use Rattle.chess_rules.proofs.Basics.{Bool, List, None, Option, Some, [], ◌∷◌, and_from, and_parts, ap, arith, bit_at, bit_at-lt, bit_or, cases_lt, eq-eqb, false, false≢true, if◌then◌else◌, get_or-map-range_with_len, inl, inr, is_some, length, length-map-range_with_len, list_any, list_any-append, not, not-true, or_cases, or_left, or_right, refl, subst, suc, sym, true, zero, ℕ, ◌&&◌, ◌+◌, ◌-◌, ◌<◌, ◌≤◌, ◌==◌, ◌^◌, ◌||◌, ◌∙◌, ◌≡◌, ◌⊎◌}
+use Rattle.chess_rules.proofs.Basics.{Bool, List, None, Option, Some, [], ◌∷◌, and_from, and_parts, ap, arith, bit_at, bit_at-lt, bit_at_or, bit_or, cases_lt, eq-eqb, eqb-true, false, false≢true, if◌then◌else◌, get_or-map-range_with_len, inl, inr, is_some, length, length-map-range_with_len, list_any, not, not-true, or_cases, or_left, or_right, refl, subst, suc, sym, true, zero, ℕ, ◌&&◌, ◌+◌, ◌-◌, ◌<◌, ◌≤◌, ◌==◌, ◌^◌, ◌||◌, ◌∙◌, ◌≡◌, ◌⊎◌}
 use Rattle.chess_rules.proofs.Basics.{cases_Bool, cases_eq, find, range_with_len, ◌≢◌}
 use Rattle.chess_mates.proofs.Chess.{find_first}
-use Rattle.chess_mates.proofs.FarMen.{on_either}
-use Rattle.chess_mates.proofs.Chess.{Bishop, Colour, Grasshopper, Kind, King, Knight, Man, Nightrider, Pawn, Queen, Rook, Step, White, all_at, along, any_range_cases, any_range_false, diagonal_steps, is_clear, is_fairy, is_square, is_vacant_at, leaps, man_on, occupied_squares, other, queen_steps}
-use Rattle.chess_mates.proofs.Chess.{reaches_as, rides, same_kind, squares, straight_steps, word}
+use Rattle.chess_mates.proofs.Chess.{Bishop, Colour, Grasshopper, Kind, King, Knight, Man, Nightrider, Pawn, Queen, Rook, Step, White, all_at, along, any_range_cases, any_range_false, diagonal_steps, hops, is_clear, is_square, knight_steps, is_vacant_at, leaps, man_on, occupied_squares, other, queen_steps}
+use Rattle.chess_mates.proofs.Chess.{reaches_as, rides, same_kind, same_kind-true, squares, straight_steps, word}
 use Rattle.chess_core.proofs.Ranges.{all_range_true, any_range_true}
 use Rattle.chess_core.proofs.Words.{square_word}
 use Rattle.chess_core.specs.ties.Words.{bit_of}
-use Rattle.chess_mates.specs.ties.Attackers.{IsAttacker, squares_for}
+use Rattle.chess_mates.specs.ties.Attackers.{squares_for}
 use Rattle.chess_mates.specs.declared.attackers.Attackers.{Attackers}
 use Rattle.chess_mates.specs.ties.Siege.{AreReached, IsAttackedOver, IsNear, IsReached, IsReachedFrom, is_leaper, is_rider, men_on}
 use Rattle.chess_mates.specs.ties.Siege.{reached_over}
 use Rattle.chess_mates.proofs.KindByKind.{of_kind}
 use Rattle.chess_rules.proofs.Bits.{on_left, on_right, word_has}
-use Rattle.chess_rules.proofs.rays.Flips.{diagonal-back, king-back, knight-back, nightrider-back, pawn-back, queen_rides-back, straight-back}
+use Rattle.chess_rules.proofs.Tests.{any_kept}
+use Rattle.chess_rules.proofs.rays.Ways.{hop-found, ride-made}
+use Rattle.chess_core.specs.Steps.{gait_of, is_hopper}
+use Rattle.chess_rules.specs.Reaches.{is_occupied}
 use Rattle.chess_rules.proofs.making_moves.Pseudo.{on_board}
 use Rattle.chess_rules.proofs.listing_moves.Walks.{off_zero}
 
@@ -26,7 +28,14 @@ reached_left d x s a b h = record { inside = λ t small r. on_left a b t (h.insi
 pub reached_right : (d : ℕ) (x : Man) (s a b : ℕ) → IsReached d x s b → IsReached d x s (bit_or a b)
 reached_right d x s a b h = record { inside = λ t small r. on_right a b t (h.inside t small r) }
 
+-- a bit that isn't 1
+pub unset : (n : ℕ) → n < 2 → (n == 1) ≡ false → n ≡ 0
+unset n lt h = grind (arith, false≢true)
+
 -- a square of one of two words
+pub on_either : (a b i : ℕ) → (bit_at (bit_or a b) i == 1) ≡ true → (bit_at a i == 1) ≡ false → (bit_at b i == 1) ≡ true
+on_either a b i h off = grind (arith, eqb-true, bit_at_or, unset, bit_at-lt, eq-eqb)
+
 pub on_one : (a b i : ℕ) → (bit_at (bit_or a b) i == 1) ≡ true → ((bit_at a i == 1) ≡ true) ⊎ ((bit_at b i == 1) ≡ true)
 on_one a b i h = elim (cases_Bool (bit_at a i == 1)) [
   | inl on ↦ inl on
@@ -82,61 +91,47 @@ found_on w n k found = let first = find_first (λ s. bit_at w s == 1) n (64 - n)
 
 -- those that the attackers reach, kind by kind
 module _ (d : ℕ) (a : Attackers) (region : ℕ) where
-  abbrev ReachAs : Kind → ℕ → Type 0
+  abbrev pub ReachAs : Kind → ℕ → Type 0
   ReachAs k w = (s : ℕ) → s < 64 → (bit_at (squares_for a k) s == 1) ≡ true → IsNear (record { colour = a.colour; kind = k }) s region
       → IsReached d (record { colour = a.colour; kind = k }) s w
 
-  by_kind : (k : Kind) (w s : ℕ) (x : Man) → ReachAs k w → IsAttacker a x s → x.kind ≡ k → IsNear x s region → IsReached d x s w
-  by_kind k w s x h i kind near = of_kind a (λ y q. IsNear y q region → IsReached d y q w) k s x h i kind near
+  pub of_one : (k : Kind) (w : ℕ) → ReachAs k w → AreReached d a region (same_kind k) w
+  of_one k w h = record {
+    reach = λ s x i same near. of_kind a (λ y q. IsNear y q region → IsReached d y q w) k s x h i (sym (same_kind-true k x.kind same)) near;
+  }
 
-  -- for `ridden_squares`: what queens, rooks and bishops reach
-  pub riders_reach : (q r b : ℕ) → ReachAs Queen q → ReachAs Rook r → ReachAs Bishop b → AreReached d a region is_rider (bit_or (bit_or q r) b)
-  riders_reach q r b queens rooks bishops = record {
-    reach = λ s x i rider near. by s x i x.kind refl rider near;
-  } where
-    by : (s : ℕ) (x : Man) → IsAttacker a x s → (k : Kind) → x.kind ≡ k → is_rider k ≡ true → IsNear x s region → IsReached d x s (bit_or (bit_or q r) b)
-    by s x i Queen kind e near = reached_left d x s (bit_or q r) b (reached_left d x s q r (by_kind Queen q s x queens i kind near))
-    by s x i Rook kind e near = reached_left d x s (bit_or q r) b (reached_right d x s q r (by_kind Rook r s x rooks i kind near))
-    by s x i Bishop kind e near = reached_right d x s (bit_or q r) b (by_kind Bishop b s x bishops i kind near)
-    by s x i King kind e near = absurd (false≢true e)
-    by s x i Knight kind e near = absurd (false≢true e)
-    by s x i Pawn kind e near = absurd (false≢true e)
-    by s x i Grasshopper kind e near = absurd (false≢true e)
-    by s x i Nightrider kind e near = absurd (false≢true e)
+  pub of_either : (j k l : Kind → Bool) (q r : ℕ) → ((i : Kind) → l i ≡ true → (j i || k i) ≡ true) → AreReached d a region j q → AreReached d a region k r
+      → AreReached d a region l (bit_or q r)
+  of_either j k l q r more first second = record {
+    reach = λ s x i one near. elim (or_cases (j x.kind) (k x.kind) (more x.kind one)) [
+      | inl e ↦ reached_left d x s q r (first.reach s x i e near)
+      | inr e ↦ reached_right d x s q r (second.reach s x i e near)
+    ];
+  }
 
-  -- for `leapt_squares`: what knights, pawns and kings reach
+  -- for `ridden_squares`
+  pub riders_reach : (q r b n : ℕ) → ReachAs Queen q → ReachAs Rook r → ReachAs Bishop b → ReachAs Nightrider n
+      → AreReached d a region is_rider (bit_or (bit_or (bit_or q r) b) n)
+  riders_reach q r b n queens rooks bishops nightriders =
+      of_either (λ k. (same_kind Queen k || same_kind Rook k) || same_kind Bishop k) (same_kind Nightrider) is_rider _ n (λ i e. grind arith)
+      (of_either (λ k. same_kind Queen k || same_kind Rook k) (same_kind Bishop) _ _ b (λ i e. e)
+      (of_either (same_kind Queen) (same_kind Rook) _ q r (λ i e. e) (of_one Queen q queens) (of_one Rook r rooks)) (of_one Bishop b bishops))
+      (of_one Nightrider n nightriders)
+
+  -- for `leapt_squares`
   pub leapers_reach : (n p k : ℕ) → ReachAs Knight n → ReachAs Pawn p → ReachAs King k → AreReached d a region is_leaper (bit_or (bit_or n p) k)
-  leapers_reach n p k knights pawns kings = record {
-    reach = λ s x i leaper near. by s x i x.kind refl leaper near;
-  } where
-    by : (s : ℕ) (x : Man) → IsAttacker a x s → (j : Kind) → x.kind ≡ j → is_leaper j ≡ true → IsNear x s region → IsReached d x s (bit_or (bit_or n p) k)
-    by s x i Knight kind e near = reached_left d x s (bit_or n p) k (reached_left d x s n p (by_kind Knight n s x knights i kind near))
-    by s x i Pawn kind e near = reached_left d x s (bit_or n p) k (reached_right d x s n p (by_kind Pawn p s x pawns i kind near))
-    by s x i King kind e near = reached_right d x s (bit_or n p) k (by_kind King k s x kings i kind near)
-    by s x i Queen kind e near = absurd (false≢true e)
-    by s x i Rook kind e near = absurd (false≢true e)
-    by s x i Bishop kind e near = absurd (false≢true e)
-    by s x i Grasshopper kind e near = absurd (false≢true e)
-    by s x i Nightrider kind e near = absurd (false≢true e)
+  leapers_reach n p k knights pawns kings =
+      of_either (λ k. same_kind Knight k || same_kind Pawn k) (same_kind King) is_leaper _ k (λ i e. grind arith)
+      (of_either (same_kind Knight) (same_kind Pawn) _ n p (λ i e. e) (of_one Knight n knights) (of_one Pawn p pawns)) (of_one King k kings)
 
-  -- a fairy man is none of them
-  rides_or_leaps : (s : ℕ) (x : Man) → IsAttacker a x s → (is_rider x.kind ≡ true) ⊎ (is_leaper x.kind ≡ true)
-  rides_or_leaps s x i = by x.kind refl where
-    by : (k : Kind) → x.kind ≡ k → (is_rider k ≡ true) ⊎ (is_leaper k ≡ true)
-    by Queen e = inl refl
-    by Rook e = inl refl
-    by Bishop e = inl refl
-    by King e = inr refl
-    by Knight e = inr refl
-    by Pawn e = inr refl
-    by Grasshopper e = absurd (false≢true (sym (off_zero s) ∙ ap (λ (j : Kind). bit_at (squares_for a j) s == 1) (sym e) ∙ i.on))
-    by Nightrider e = absurd (false≢true (sym (off_zero s) ∙ ap (λ (j : Kind). bit_at (squares_for a j) s == 1) (sym e) ∙ i.on))
+  -- for both together: all but hoppers
+  pub all_reach : (r l : ℕ) → AreReached d a region is_rider r → AreReached d a region is_leaper l
+      → AreReached d a region (λ k. not (is_hopper (gait_of k))) (bit_or r l)
+  all_reach r l rides leaps = of_either is_rider is_leaper _ r l (λ i e. grind arith) rides leaps
 
-  -- the converse: who is reached is attacked
-  abbrev ReachAlone : Kind → ℕ → Type 0
-  ReachAlone k w = (t : ℕ) → t < 64 → (bit_at w t == 1) ≡ true → IsReachedFrom d (record { colour = a.colour; kind = k }) (squares_for a k) t
-
-  attacked_by : (k : Kind) (t : ℕ) → IsReachedFrom d (record { colour = a.colour; kind = k }) (squares_for a k) t → IsAttackedOver d a t
+-- the converse: who is reached is attacked
+module _ (d : ℕ) (a : Attackers) where
+  pub attacked_by : (k : Kind) (t : ℕ) → IsReachedFrom d (record { colour = a.colour; kind = k }) (squares_for a k) t → IsAttackedOver d a t
   attacked_by k t r = record {
     from = r.from;
     man = record { colour = a.colour; kind = k };
@@ -145,28 +140,14 @@ module _ (d : ℕ) (a : Attackers) (region : ℕ) where
   }
 
   -- for `ridden_squares` and `leapt_squares`
-  pub three_alone : (i j k : Kind) (q r b : ℕ) → ReachAlone i q → ReachAlone j r → ReachAlone k b → (t : ℕ) → t < 64
-      → (bit_at (bit_or (bit_or q r) b) t == 1) ≡ true → IsAttackedOver d a t
-  three_alone i j k q r b first second third t small on = elim (on_one (bit_or q r) b t on) [
-    | inr last ↦ attacked_by k t (third t small last)
-    | inl both ↦ elim (on_one q r t both) [
-      | inl one ↦ attacked_by i t (first t small one)
-      | inr two ↦ attacked_by j t (second t small two)
-    ]
-  ]
-
-  -- for both together
-  pub all_reach : (r l : ℕ) → AreReached d a region is_rider r → AreReached d a region is_leaper l → AreReached d a region (λ k. true) (bit_or r l)
-  all_reach r l rides leaps = record {
-    reach = λ s x i all near. elim (rides_or_leaps s x i) [
-      | inl e ↦ reached_left d x s r l (rides.reach s x i e near)
-      | inr e ↦ reached_right d x s r l (leaps.reach s x i e near)
-    ];
-  }
+  pub attacked_either : (q r : ℕ) → ((t : ℕ) → t < 64 → (bit_at q t == 1) ≡ true → IsAttackedOver d a t)
+      → ((t : ℕ) → t < 64 → (bit_at r t == 1) ≡ true → IsAttackedOver d a t) → (t : ℕ) → t < 64
+      → (bit_at (bit_or q r) t == 1) ≡ true → IsAttackedOver d a t
+  attacked_either q r first second t small on = elim (on_one q r t on) [ inl y ↦ first t small y | inr y ↦ second t small y ]
 
 -- on a board where each hurdle that a man reaches over the hurdles still stands, he reaches no more than over them
 module _ (d : ℕ) (men : List (Option Man)) where
-  empty_on : (q : ℕ) → ((bit_at d q == 1) ≡ true → q < 64 → ⊥) → is_vacant_at (men_on d) (Some q) ≡ true
+  pub empty_on : (q : ℕ) → ((bit_at d q == 1) ≡ true → q < 64 → ⊥) → is_vacant_at (men_on d) (Some q) ≡ true
   empty_on q none = by (man_on (men_on d) q) refl where
     by : (o : Option Man) → man_on (men_on d) q ≡ o → not (is_some o) ≡ true
     by None e = refl
@@ -222,8 +203,8 @@ module _ (d : ℕ) (men : List (Option Man)) where
     | inr y ↦ or_right _ _ (some_over s t ds (λ b small on r. stand b small on (or_right _ _ r)) y)
   ]
 
-  -- a man who is no fairy man
-  pub later : (c : Colour) (k : Kind) (s t : ℕ) → is_fairy k ≡ false
+  -- a man who is no hopper
+  pub later : (c : Colour) (k : Kind) (s t : ℕ) → is_hopper (gait_of k) ≡ false
       → (is_rider k ≡ true → (b : ℕ) → b < 64 → (bit_at d b == 1) ≡ true → reaches_as (men_on d) c k s b ≡ true → is_some (man_on men b) ≡ true)
       → reaches_as men c k s t ≡ true → reaches_as (men_on d) c k s t ≡ true
   unfolding reaches_as
@@ -231,13 +212,13 @@ module _ (d : ℕ) (men : List (Option Man)) where
   later c Queen s t plain stand h = some_over s t queen_steps (stand refl) h
   later c Rook s t plain stand h = some_over s t straight_steps (stand refl) h
   later c Bishop s t plain stand h = some_over s t diagonal_steps (stand refl) h
+  later c Nightrider s t plain stand h = some_over s t knight_steps (stand refl) h
   later c Knight s t plain stand h = h
   later c Pawn s t plain stand h = h
   later c Grasshopper s t plain stand h = absurd (false≢true (sym plain))
-  later c Nightrider s t plain stand h = absurd (false≢true (sym plain))
 
   -- the same where two hurdles may be gone, on none of his lines
-  pub later_but : (a o : ℕ) (c : Colour) (k : Kind) (s t : ℕ) → is_fairy k ≡ false
+  pub later_but : (a o : ℕ) (c : Colour) (k : Kind) (s t : ℕ) → is_hopper (gait_of k) ≡ false
       → ((e : ℕ) → e < 64 → (bit_at d e == 1) ≡ true → e ≢ a → e ≢ o → is_some (man_on men e) ≡ true)
       → (is_rider k ≡ true → (bit_at d a == 1) ≡ true → reaches_as (men_on d) c k s a ≡ true → ⊥)
       → (is_rider k ≡ true → (bit_at d o == 1) ≡ true → reaches_as (men_on d) c k s o ≡ true → ⊥)
@@ -250,28 +231,30 @@ module _ (d : ℕ) (men : List (Option Man)) where
     ]
   ]) h
 
--- a queen reaches what a rider does
-pub queen_more : (d : ℕ) (c : Colour) (k : Kind) (s t : ℕ) → is_rider k ≡ true → reaches_as (men_on d) c k s t ≡ true
-    → reaches_as (men_on d) c Queen s t ≡ true
-unfolding reaches_as
-queen_more d c Queen s t rider h = h
-queen_more d c Rook s t rider h = list_any-append (rides (men_on d) s t) straight_steps diagonal_steps ∙ or_left _ _ h
-queen_more d c Bishop s t rider h = list_any-append (rides (men_on d) s t) straight_steps diagonal_steps ∙ or_right _ _ h
-queen_more d c King s t rider h = absurd (false≢true rider)
-queen_more d c Knight s t rider h = absurd (false≢true rider)
-queen_more d c Pawn s t rider h = absurd (false≢true rider)
-queen_more d c Grasshopper s t rider h = absurd (false≢true rider)
-queen_more d c Nightrider s t rider h = absurd (false≢true rider)
+-- on the empty board
+module _ (men : List (Option Man)) where
+  -- a man who is no hopper reaches there what he does on any
+  pub openly : (c : Colour) (k : Kind) (s t : ℕ) → is_hopper (gait_of k) ≡ false → reaches_as men c k s t ≡ true → reaches_as (men_on 0) c k s t ≡ true
+  openly c k s t plain h = later 0 men c k s t plain (λ rider b small on reach. absurd (false≢true (sym (off_zero b) ∙ on))) h
 
--- who reaches a square is reached from it by one of the other colour
-pub reaches_back : (men : List (Option Man)) (c : Colour) (k : Kind) (s t : ℕ) → s < 64 → t < 64 → same_kind k Grasshopper ≡ false
-    → reaches_as men c k s t ≡ reaches_as men (other c) k t s
-unfolding reaches_as
-reaches_back men c King s t p q piece = king-back s t p q
-reaches_back men c Queen s t p q piece = queen_rides-back men s t p q
-reaches_back men c Rook s t p q piece = straight-back men s t p q
-reaches_back men c Bishop s t p q piece = diagonal-back men s t p q
-reaches_back men c Knight s t p q piece = knight-back s t p q
-reaches_back men c Pawn s t p q piece = pawn-back c s t p q
-reaches_back men c Nightrider s t p q piece = nightrider-back men s t p q
-reaches_back men c Grasshopper s t p q piece = absurd (false≢true (sym piece))
+  on_line : (o : Option ℕ) → (is_vacant_at men o || is_occupied men o) ≡ true → is_vacant_at (men_on 0) o ≡ true
+  on_line None h = absurd (false≢true h)
+  on_line (Some q) h = empty_on 0 men q (λ on small. false≢true (sym (off_zero q) ∙ on))
+
+  pub hop_openly : (s t : ℕ) (st : Step) → hops men s t st ≡ true → rides (men_on 0) s t st ≡ true
+  hop_openly s t st h =
+      let w = hop-found men s t st h in
+      ride-made (men_on 0) s t st w.0 (record {
+        low = omega (arith, w.1.low);
+        high = w.1.high;
+        at = w.1.at;
+        free = λ j lo hi. on_line (along s st j) (elim (cases_lt j (w.0 - 1)) [
+          | inl before ↦ or_left _ _ (w.1.free j lo before)
+          | inr last ↦ or_right _ _ (let same : w.0 - 1 ≡ j = omega (arith, last, hi) in rw same at w.1.hurdle)
+        ]);
+      })
+
+  -- and a grasshopper what a queen does
+  pub hops_openly : (b c : Colour) (s t : ℕ) → reaches_as men b Grasshopper s t ≡ true → reaches_as (men_on 0) c Queen s t ≡ true
+  unfolding reaches_as
+  hops_openly b c s t h = any_kept (hops men s t) (rides (men_on 0) s t) queen_steps (hop_openly s t) h

@@ -1,24 +1,23 @@
 -- Flights that one move can't take.
 use Rattle.chess_core.proofs.Kept.{same_colour-refl}
 use Rattle.chess_rules.specs.ties.Places.{all_triples}
-use Rattle.chess_rules.proofs.Basics.{List, None, Option, Some, [], and_from, and_left, and_parts, and_right, ap, arith, bit_and, bit_at, bit_at_and, bit_not, bit_or, cases_Bool, eq-eqb, eqb-true, false, false_from_ne_true, false≢true, find, inl, inr, list_any, list_any-append, not, or_cases, or_lt, range_with_len, refl, rules, sym, true, w64, ℕ, ◌&&◌, ◌<◌, ◌==◌, ◌^◌, ◌∙◌, ◌≡◌, ◌≢◌, ◌⊎◌}
-use Rattle.chess_mates.proofs.Chess.{Bishop, Colour, IsWellFormed, King, Knight, Man, Move, Pawn, Position, Queen, Rook, RuleSet, is_promoting, arriving_man, capture_square, diagonal_steps, find_first, is_arrival_free, is_attacked, is_castling, captures_do_more, is_man, is_on_some, is_pseudo_legal, is_of_colour, is_square, king_after, king_square, knight_steps, leaps, man_on, mates, mates_behind, may_go, other, pawn_capture_steps, position_after, queen_steps}
-use Rattle.chess_mates.proofs.Chess.{reaches, reaches_as, reaches_of, rides, same_colour, same_colour-true, side_of, some_square_false, some_square_true, squares_of, straight_steps, is_attacker, triple_at, word}
+use Rattle.chess_rules.proofs.Basics.{List, None, Option, Some, [], and_from, and_left, and_parts, and_right, ap, arith, bit_and, bit_at, bit_at_and, bit_not, bit_or, cases_Bool, eq-eqb, eqb-true, false, false_from_ne_true, false≢true, find, inl, inr, list_any, not, or_lt, range_with_len, refl, rules, sym, true, w64, ℕ, ◌&&◌, ◌<◌, ◌==◌, ◌^◌, ◌∙◌, ◌≡◌, ◌≢◌, ◌⊎◌}
+use Rattle.chess_mates.proofs.Chess.{Bishop, Colour, Grasshopper, IsWellFormed, King, Knight, Man, Move, Nightrider, Pawn, Position, Queen, Rook, RuleSet, is_promoting, arriving_man, capture_square, find_first, is_arrival_free, is_attacked, is_castling, captures_do_more, is_man, is_pseudo_legal, is_of_colour, is_square, king_after, king_square, leaps, man_on, mates, mates_behind, may_go, other, position_after, queen_steps}
+use Rattle.chess_mates.proofs.Chess.{reaches, reaches_as, reaches_of, same_colour, same_colour-true, same_kind, same_kind-true, side_of, some_square_false, some_square_true, squares_of, is_attacker, triple_at, word}
 use Rattle.chess_mates.specs.ties.Flights.{has_flight, is_flight, is_flight_at, is_open}
 use Rattle.std.proofs.Common.{IfSome}
 use Rattle.chess_mates.specs.declared.attackers.Attackers.{Attackers}
-use Rattle.chess_mates.specs.ties.Attackers.{AreAttackers, HasNoFairy, IsAttacker}
+use Rattle.chess_mates.specs.ties.Attackers.{AreAttackers, IsAttacker}
 use Rattle.chess_mates.proofs.KindByKind.{HoldsOf, of_all}
 use Rattle.chess_mates.specs.ties.LastingFlights.{AreApproached, AreGuarded, AreNear, AreReached, IsLeft, KeepsOne, LeaveOne, LeavesOne}
 use Rattle.chess_rules.proofs.Bits.{off_left, off_right, on_left, on_right, word_has}
-use Rattle.chess_core.specs.Steps.{gait_of, is_hopper}
 use Rattle.chess_rules.proofs.rays.Ends.{square_is}
 use Rattle.chess_rules.proofs.rays.Flips.{reaches_back}
 use Rattle.chess_rules.proofs.attacks.Exposing.{king_is_after}
 use Rattle.chess_rules.proofs.attacks.Seeing.{king_stands}
 use Rattle.chess_rules.proofs.attacks.Shielding.{arriving_colour, other_twice, simple_after}
 use Rattle.chess_rules.proofs.listing_moves.Arrivals.{may_go_aimed}
-use Rattle.chess_rules.proofs.listing_moves.Targeting.{arrival_needed, every_square_on, false_by}
+use Rattle.chess_rules.proofs.listing_moves.Targeting.{arrival_needed, false_by}
 use Rattle.chess_rules.proofs.making_moves.Fits.{arrived, castle_of, taken}
 use Rattle.chess_rules.proofs.making_moves.Pseudo.{IsMade, made, on_board}
 use Rattle.chess_rules.proofs.making_moves.Stays.{after_well_formed, maker}
@@ -27,57 +26,10 @@ use Rattle.chess_mates.proofs.FarMen.{off_denied}
 use Rattle.chess_rules.proofs.listing_moves.Walks.{off_second, off_zero, on_first}
 use Rattle.chess_mates.proofs.Fleeing.{IsKingOn, IsKingStep, king_on, no_king_free, no_mate_with_flight, no_strike, step_is_legal, step_to, unseen_bit}
 use Rattle.chess_mates.proofs.Mating.{mates_behind-end, mates_behind-none, not_mating, turn_after}
-use Rattle.chess_mates.proofs.OpenBoard.{rides_on}
-use Rattle.chess_mates.proofs.Standing.{arrival_small, free_man, not_mine, stood, unnamed}
-
--- what a man reaches, he would reach on an empty board
-module _ (x : Man) (s : ℕ) where
-  -- for `open_reach`, kind by kind: a rook's lines
-  pub rook_reach : (l : ℕ) → x.kind ≡ Rook → l ≡ word (is_on_some straight_steps s) → AreReached x s l
-  unfolding reaches_as
-  rook_reach l kind lines = record {
-    inside = λ men t small h. word_has (is_on_some straight_steps s) l t lines small ∙ rides_on men s t straight_steps (rw kind at h);
-  }
-
-  -- a bishop's
-  pub bishop_reach : (l : ℕ) → x.kind ≡ Bishop → l ≡ word (is_on_some diagonal_steps s) → AreReached x s l
-  unfolding reaches_as
-  bishop_reach l kind lines = record {
-    inside = λ men t small h. word_has (is_on_some diagonal_steps s) l t lines small ∙ rides_on men s t diagonal_steps (rw kind at h);
-  }
-
-  queen_on : (men : List (Option Man)) (t l d : ℕ) → l ≡ word (is_on_some straight_steps s) → d ≡ word (is_on_some diagonal_steps s) → t < 64
-      → list_any (rides men s t) queen_steps ≡ true → (bit_at (bit_or l d) t == 1) ≡ true
-  queen_on men t l d lines slants small h = elim (or_cases _ _ (sym (list_any-append (rides men s t) straight_steps diagonal_steps) ∙ h)) [
-    | inl y ↦ on_left l d t (word_has (is_on_some straight_steps s) l t lines small ∙ rides_on men s t straight_steps y)
-    | inr y ↦ on_right l d t (word_has (is_on_some diagonal_steps s) d t slants small ∙ rides_on men s t diagonal_steps y)
-  ]
-
-  -- a queen's
-  pub queen_reach : (l d : ℕ) → x.kind ≡ Queen → l ≡ word (is_on_some straight_steps s) → d ≡ word (is_on_some diagonal_steps s) → AreReached x s (bit_or l d)
-  unfolding reaches_as
-  queen_reach l d kind lines slants = record { inside = λ men t small h. queen_on men t l d lines slants small (rw kind at h) }
-
-  -- a knight's leaps
-  pub knight_reach : (l : ℕ) → x.kind ≡ Knight → l ≡ word (λ q. list_any (leaps s q) knight_steps) → AreReached x s l
-  unfolding reaches_as
-  knight_reach l kind squares = record { inside = λ men t small h. word_has (λ q. list_any (leaps s q) knight_steps) l t squares small ∙ (rw kind at h) }
-
-  -- a king's steps
-  pub king_reach : (l : ℕ) → x.kind ≡ King → l ≡ word (λ q. list_any (leaps s q) queen_steps) → AreReached x s l
-  unfolding reaches_as
-  king_reach l kind squares = record { inside = λ men t small h. word_has (λ q. list_any (leaps s q) queen_steps) l t squares small ∙ (rw kind at h) }
-
-  -- a pawn's captures
-  pub pawn_reach : (l : ℕ) → x.kind ≡ Pawn → l ≡ word (λ q. list_any (leaps s q) (pawn_capture_steps x.colour)) → AreReached x s l
-  unfolding reaches_as
-  pawn_reach l kind squares = record {
-    inside = λ men t small h. word_has (λ q. list_any (leaps s q) (pawn_capture_steps x.colour)) l t squares small ∙ (rw kind at h);
-  }
-
-  -- all squares, for a fairy man
-  pub any_reach : AreReached x s (bit_not w64 0)
-  any_reach = record { inside = λ men t small h. every_square_on t small }
+use Rattle.chess_mates.proofs.Hurdles.{hops_openly}
+use Rattle.chess_mates.specs.ties.Siege.{men_on}
+use Rattle.chess_mates.proofs.OpenBoard.{any_reach}
+use Rattle.chess_mates.proofs.Standing.{arrival_small, free_man, no_hopper, not_mine, stood, unnamed}
 
 -- for words that are joined: the first has what it reached
 pub reached_left : (x : Man) (s a b : ℕ) → AreReached x s a → AreReached x s (bit_or a b)
@@ -88,17 +40,20 @@ pub reached_right : (x : Man) (s a b : ℕ) → AreReached x s b → AreReached 
 reached_right x s a b h = record { inside = λ men t small r. on_right a b t (h.inside men t small r) }
 
 -- for `guarded_squares`
-pub all_guard : (a : Attackers) (k q r b n p : ℕ) → HoldsOf a (λ x s. AreReached x s k) King → HoldsOf a (λ x s. AreReached x s q) Queen
+pub all_guard : (a : Attackers) (k q r b n p g y : ℕ) → HoldsOf a (λ x s. AreReached x s k) King → HoldsOf a (λ x s. AreReached x s q) Queen
     → HoldsOf a (λ x s. AreReached x s r) Rook → HoldsOf a (λ x s. AreReached x s b) Bishop → HoldsOf a (λ x s. AreReached x s n) Knight
-    → HoldsOf a (λ x s. AreReached x s p) Pawn → AreGuarded a (bit_or (bit_or (bit_or (bit_or (bit_or k q) r) b) n) p)
-all_guard a k q r b n p kings queens rooks bishops knights pawns = record {
-  guards = of_all a (λ x s. AreReached x s (bit_or (bit_or (bit_or (bit_or (bit_or k q) r) b) n) p))
-      (λ s low on. reached_left _ s _ p (reached_left _ s _ n (reached_left _ s _ b (reached_left _ s _ r (reached_left _ s k q (kings s low on))))))
-      (λ s low on. reached_left _ s _ p (reached_left _ s _ n (reached_left _ s _ b (reached_left _ s _ r (reached_right _ s k q (queens s low on))))))
-      (λ s low on. reached_left _ s _ p (reached_left _ s _ n (reached_left _ s _ b (reached_right _ s _ r (rooks s low on)))))
-      (λ s low on. reached_left _ s _ p (reached_left _ s _ n (reached_right _ s _ b (bishops s low on))))
-      (λ s low on. reached_left _ s _ p (reached_right _ s _ n (knights s low on)))
-      (λ s low on. reached_right _ s _ p (pawns s low on));
+    → HoldsOf a (λ x s. AreReached x s p) Pawn → HoldsOf a (λ x s. AreReached x s g) Grasshopper → HoldsOf a (λ x s. AreReached x s y) Nightrider
+    → AreGuarded a (bit_or (bit_or (bit_or (bit_or (bit_or (bit_or (bit_or k q) r) b) n) p) g) y)
+all_guard a k q r b n p g y kings queens rooks bishops knights pawns grasshoppers nightriders = record {
+  guards = of_all a (λ x s. AreReached x s (bit_or (bit_or (bit_or (bit_or (bit_or (bit_or (bit_or k q) r) b) n) p) g) y))
+      (λ s low on. search (rules, reached_left, reached_right, kings))
+      (λ s low on. search (rules, reached_left, reached_right, queens))
+      (λ s low on. search (rules, reached_left, reached_right, rooks))
+      (λ s low on. search (rules, reached_left, reached_right, bishops))
+      (λ s low on. search (rules, reached_left, reached_right, knights))
+      (λ s low on. search (rules, reached_left, reached_right, pawns))
+      (λ s low on. search (rules, reached_left, reached_right, grasshoppers))
+      (λ s low on. search (rules, reached_left, reached_right, nightriders));
 }
 
 -- for `open_guards`: all squares
@@ -148,10 +103,18 @@ left_first squares r o t x are rfits ofits only None e = search rules
 left_first squares r o t x are rfits ofits only (Some f) e = left_there squares r o t f x are rfits ofits only (sym e)
 
 -- who reaches a square is reached from there by one of the other colour
-pub come_back : (x : Man) (t w : ℕ) → t < 64 → is_hopper (gait_of x.kind) ≡ false → AreReached (record { colour = other x.colour; kind = x.kind }) t w
+pub come_back : (x : Man) (t w : ℕ) → t < 64 → same_kind x.kind Grasshopper ≡ false → AreReached (record { colour = other x.colour; kind = x.kind }) t w
     → AreApproached x t w
-come_back x t w small plain are = record {
-  inside = λ men s inside h. are.inside men s inside (sym (reaches_back men x.colour x.kind s t plain inside small) ∙ h);
+come_back x t w small other are = record {
+  inside = λ men s inside h. are.inside men s inside (sym (reaches_back men x.colour x.kind s t (no_hopper x.kind other) inside small) ∙ h);
+}
+
+-- a grasshopper comes along a queen's lines
+pub hop_back : (x : Man) (t w : ℕ) → t < 64 → same_kind x.kind Grasshopper ≡ true → AreReached (record { colour = other x.colour; kind = Queen }) t w
+    → AreApproached x t w
+hop_back x t w small kind are = record {
+  inside = λ men s inside h. are.inside (men_on 0) s inside (sym (reaches_back (men_on 0) x.colour Queen s t refl inside small)
+      ∙ hops_openly men x.colour x.colour s t (rw (same_kind-true x.kind Grasshopper kind) at h));
 }
 
 -- where the man neither stands on the first square nor reaches it, that one is left
@@ -197,7 +160,7 @@ keeps_one a w g fits guards leave = record {
 module _ (rule : RuleSet) (p : Position) (m : Move) (x : Man) (k w : ℕ) (well : IsWellFormed p) (may : is_pseudo_legal rule p m ≡ true)
     (here : man_on p.men m.from ≡ Some x) (circe : captures_do_more rule ≡ false) (plain : is_castling x m ≡ false) (small : m.to < 64)
     (king : king_after p x m ≡ Some k) (near : AreNear p m k w) (a : Attackers) (men : AreAttackers p.men a) (colour : a.colour ≡ other p.turn)
-    (fairies : HasNoFairy p.men (other p.turn)) (keeps : KeepsOne a w) where
+    (keeps : KeepsOne a w) where
   is : IsMade rule p x m
   is = made rule p m x may here
 
@@ -230,7 +193,7 @@ module _ (rule : RuleSet) (p : Position) (m : Move) (x : Man) (k w : ℕ) (well 
   ]
 
   attacker : (s : ℕ) (v : Man) → s < 64 → man_on p.men s ≡ Some v → v.colour ≡ other p.turn → IsAttacker a v s
-  attacker s v inside there enemy = men.stand s v inside there (enemy ∙ sym colour) (fairies.none s v inside there enemy)
+  attacker s v inside there enemy = men.stand s v inside there (enemy ∙ sym colour)
 
   module _ (n : Move) (to : n.to < 64) (can : is_pseudo_legal rule q n ≡ true) where
     abbrev y : Man

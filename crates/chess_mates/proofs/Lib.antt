@@ -12,6 +12,7 @@ pub mod Fleeing
 pub mod Flightless
 pub mod QuietSteps
 pub mod KingsApart
+pub mod CalmSteps
 pub mod CastlingChecks
 pub mod CheckTargets
 pub mod FarMen
@@ -21,6 +22,7 @@ pub mod KindByKind
 pub mod Hurdles
 pub mod Risks
 pub mod HomeSquares
+pub mod Springboards
 pub mod Sieges
 pub mod Standing
 pub mod Passing

@@ -1,17 +1,7 @@
 -- The moves that mate, by their numbers.
-use Rattle.chess_rules.specs.ties.Places.{all_triples}
 use Rattle.chess_rules.proofs.Basics.{[], and_left, and_right, arith, cases_Bool, false, not, refl, rules, sym, true, ℕ, ◌&&◌, ◌+◌, ◌<◌, ◌∙◌, ◌∷◌, ◌≡◌, ◌≤◌}
-use Rattle.chess_mates.proofs.Chess.{HaveNone, Move, Position, RuleSet, position_after_by, first_of_and, in_check, is_legal, is_mate, is_mating, is_pseudo_legal, mates, mates_behind, other, position_after, second_of_and, triple_at}
-use Rattle.chess_rules.proofs.listing_moves.Places.{moves_behind-end, moves_behind-here}
+use Rattle.chess_mates.proofs.Chess.{HaveNone, Move, Position, RuleSet, all_triples, first_of_and, in_check, is_legal, is_legal-idle, is_mate, is_mating, is_pseudo_legal, is_pseudo_legal-from_legal, maker, mates, mates_behind, moves_behind-end, moves_behind-here, other, position_after, position_after_by, second_of_and, triple_at}
 use Rattle.chess_rules.proofs.listing_moves.Sifting.{wanted-none}
-use Rattle.chess_rules.specs.ties.Idle.{is_legal-idle}
-use Rattle.chess_rules.proofs.making_moves.Stays.{maker}
-use Rattle.chess_rules.proofs.listing_moves.Calls.{is_pseudo_legal-from_legal}
-
-mates_behind-here : (rule : RuleSet) (p : Position) (n : ℕ) → n < all_triples → mates rule p (triple_at n) ≡ true
-    → mates_behind rule p n ≡ (triple_at n ∷ mates_behind rule p (n + 1))
-unfolding mates_behind mates
-mates_behind-here rule p n lt h = search (rules, first_of_and, moves_behind-here, second_of_and)
 
 -- a move that may not be made doesn't mate
 pub not_mating : (rule : RuleSet) (p : Position) (m : Move) → is_pseudo_legal rule p m ≡ false → mates rule p m ≡ false
@@ -53,7 +43,8 @@ mates_after rule p m may = search rules
 -- the first move that mates from a place on, by its number
 pub mates_numbered : (rule : RuleSet) (p : Position) (start n : ℕ) → n < all_triples → mates_behind rule p n ≡ mates_behind rule p start
     → mates rule p (triple_at n) ≡ true → mates_behind rule p start ≡ (triple_at n ∷ mates_behind rule p (n + 1))
-mates_numbered rule p start n lt same h = sym same ∙ mates_behind-here rule p n lt h
+unfolding mates_behind mates
+mates_numbered rule p start n lt same h = sym same ∙ search (rules, first_of_and, moves_behind-here, second_of_and)
 
 -- a move that mates is legal
 pub legal_of_mate : (rule : RuleSet) (p : Position) (m : Move) → mates rule p m ≡ true → is_legal rule p m ≡ true

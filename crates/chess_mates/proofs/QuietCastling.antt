@@ -1,17 +1,9 @@
 -- Castling gives no check where the rook doesn't see the enemy king from his new square, and the king leaves no line to him.
-use Rattle.chess_rules.proofs.Basics.{Bool, List, Option, Some, [], ◌∷◌, and_left, and_right, ap, arith, eqb-true, false, false≢true, list_any, refl, sym, true, ℕ, ◌<◌, ◌==◌, ◌∙◌, ◌≡◌}
-use Rattle.chess_mates.proofs.Chess.{Bishop, Colour, Grasshopper, IsWellFormed, Kind, King, Man, Move, Nightrider, Position, Rook, RuleSet, Step, halfway, in_check, is_castling, is_fairy, is_man, is_on_some, king_square, knight_steps, man_on, may_check_from, may_check_from_at, other, position_after, queen_steps}
-use Rattle.chess_mates.proofs.Chess.{reaches_as, same_colour, same_kind, some_square_false, straight_steps}
+use Rattle.chess_rules.proofs.Basics.{Bool, List, Option, Some, [], and_left, and_right, ap, arith, eqb-true, false, list_any, or_from, refl, rules, true, ℕ, ◌<◌, ◌==◌, ◌∙◌, ◌∷◌, ◌≡◌}
+use Rattle.chess_mates.proofs.Chess.{Bishop, Colour, Grasshopper, IsMade, IsWellFormed, Kind, Man, Move, Nightrider, Position, Rook, RuleSet, Step, false_by, halfway, in_check, is_castling, is_fairy, is_lined, is_man, is_on_fairy_line, is_on_fairy_line_at, is_on_some, is_reached, is_shut, king_square, king_there, knight_steps, man_on, may_check_from, may_expose, may_stand_between, other, position_after, queen_steps, reaches_as, some_square_false, straight-back, straight_steps}
 use Rattle.chess_mates.specs.ties.Siege.{is_rider}
-use Rattle.chess_rules.proofs.rays.Flips.{straight-back}
-use Rattle.chess_rules.proofs.attacks.StayingInCheck.{king_there}
-use Rattle.chess_rules.proofs.listing_moves.Targeting.{false_by}
-use Rattle.chess_rules.proofs.making_moves.Pseudo.{IsMade}
 use Rattle.chess_mates.proofs.OpenBoard.{rides_on}
 use Rattle.chess_mates.proofs.CastlingChecks.{castling_gives_no_check}
-use Rattle.chess_mates.proofs.Chess.{halfway, is_ahead, is_on_fairy_line, is_on_fairy_line_at, may_expose, may_expose_at, may_stand_between}
-use Rattle.chess_rules.proofs.Chess.{is_lined, is_reached, is_shut}
-use Rattle.chess_rules.proofs.Basics.{or_from}
 use Rattle.chess_mates.proofs.Standing.{not_mine, reach_none}
 
 -- where no step of the list passes the test
@@ -27,8 +19,7 @@ module _ (rule : RuleSet) (p : Position) (x : Man) (m : Move) (c : Colour) (k : 
     (no_fairy : (j : Kind) → is_fairy j ≡ true → (s : ℕ) → s < 64 → is_man (man_on p.men s) (other c) j ≡ false)
     (half : halfway m < 64) (rook : is_on_some straight_steps k (halfway m) ≡ false) (untouched : may_check_from p.men c x m.to ≡ false) where
   no_lined : (j : Kind) → is_fairy j ≡ true → (t : ℕ) (d : Step) → is_lined p.men (other c) j k t d ≡ false
-  no_lined j fairy t d = and_right (is_ahead k d t) _ (some_square_false _ 64 (omega arith)
-      (record { fails = λ s inside. and_left (is_man (man_on p.men s) (other c) j) _ (no_fairy j fairy s inside) }))
+  no_lined j fairy t d = search (rules, and_right, and_left, some_square_false, no_fairy)
 
   unlined : (t : ℕ) → is_on_fairy_line p.men (other c) k t ≡ false
   unfolding is_on_fairy_line
@@ -36,25 +27,14 @@ module _ (rule : RuleSet) (p : Position) (x : Man) (m : Move) (c : Colour) (k : 
 
   rook_off : may_check_from p.men c (record { colour = other c; kind = Rook }) (halfway m) ≡ false
   unfolding may_check_from reaches_as
-  rook_off =
-      ap (λ (o : Option ℕ). may_check_from_at p.men o (record { colour = other c; kind = Rook }) (halfway m)) king
-      ∙ false_by _ (λ h. false≢true (sym rook ∙ rides_on p.men k (halfway m) straight_steps (sym (straight-back p.men (halfway m) k half small) ∙ h)))
+  rook_off = grind (arith, king, rides_on p.men k (halfway m) straight_steps, straight-back p.men (halfway m) k half small)
 
   elsewhere : (k == m.from) ≡ false
-  elsewhere = false_by _ (λ e.
-      let same : k ≡ m.from = eqb-true k m.from e in
-      let mine : is_man (man_on p.men m.from) c King ≡ true =
-      ap (λ (s : ℕ). is_man (man_on p.men s) c King) (sym same) ∙ (king_there p.men c k king).1 in
-      false≢true (sym (and_left (same_colour x.colour c) (same_kind x.kind King) (not_mine x c enemy))
-      ∙ sym (ap (λ (o : Option Man). is_man o c King) is.here) ∙ mine))
+  elsewhere = false_by _ (λ e. grind (arith, eqb-true k m.from e, (king_there p.men c k king).1, is.here, not_mine x c enemy))
 
   covered : may_expose p.men c m.from ≡ false
   unfolding may_expose is_shut is_reached reaches_as
-  covered =
-      ap (λ (o : Option ℕ). may_expose_at p.men o c m.from) king
-      ∙ or_from _ _ (or_from _ _ (or_from _ _ (or_from _ _ (some_square_false _ 64 (omega arith)
-      (record { fails = λ s inside. reach_none p.men k c calm s inside })) elsewhere)
-      (and_left _ _ (unseen Rook refl refl))) (and_left _ _ (unseen Bishop refl refl))) (unlined m.from)
+  covered = grind (arith, king, some_square_false, reach_none p.men k c calm, elsewhere, unseen Rook refl refl, unseen Bishop refl refl, unlined m.from)
 
   aside : may_stand_between p.men c m.to ≡ false
   unfolding may_stand_between

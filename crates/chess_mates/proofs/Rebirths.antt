@@ -1,16 +1,7 @@
 -- A man who is reborn gives his own king no check, but as a grasshopper's hurdle.
-use Rattle.chess_rules.proofs.Basics.{List, None, Option, Some, and_from, and_parts, ap, arith, bit_at, cases_Bool, cond-false, cond-true, false, false_from_ne_true, false≢true, inl, inr, length, list_all, list_any, not-true, range_with_len, refl, sym, true, ℕ, ◌&&◌, ◌-◌, ◌<◌, ◌==◌, ◌∙◌, ◌≡◌, rules}
-use Rattle.chess_mates.proofs.Chess.{AreCheckSquares, AtMostOneKing, CheckSquares, Colour, Grasshopper, IsWellFormed, Kind, King, Man, Move, Position, Queen, RuleSet, Step, position_after_by, along, are_rebirths_quiet, arriving_man, capture_square, can_castle, check_squares_for, circe, corner, find_first, halfway, is_attacked, is_attacked_at, position_after}
-use Rattle.chess_mates.proofs.Chess.{in_check, is_absent, is_castling, is_clear, is_man, is_man-without, is_paralysed, is_pseudo_legal, is_of_colour, is_square, is_vacant_at, king_square, man_on, man_on_at, may_castle, may_check_from, move_man, moved_men, orthodox, other, put_at, queen_steps, reaches, reaches_as, reaches_of, reborn_square}
-use Rattle.chess_mates.proofs.Chess.{rides, same_colour, same_kind, some_square_false, some_square_true, squares, is_attacker, with_man, without_at, without_man}
-use Rattle.chess_mates.specs.ties.CheckSquares.{rule_of_checks}
-use Rattle.chess_rules.specs.ties.Shields.{cannot_expose}
+use Rattle.chess_rules.proofs.Basics.{List, None, Option, Some, and_from, and_parts, arith, bit_at, cases_Bool, cond-false, cond-true, false, false_from_ne_true, false≢true, length, list_all, list_any, not-true, range_with_len, refl, rules, sym, true, ℕ, ◌&&◌, ◌-◌, ◌<◌, ◌==◌, ◌∙◌, ◌≡◌}
+use Rattle.chess_mates.proofs.Chess.{AreCheckSquares, AtMostOneKing, CheckSquares, Colour, Grasshopper, IsMade, IsWellFormed, Kind, King, Man, Move, Position, RuleSet, Step, all_kept, along, any_kept, are_rebirths_quiet, arrived, arriving_man, can_castle, cannot_expose, capture_square, captured_enemy, captured_mortal, check_squares_for, circe, corner, find_first, halfway, in_check, is_absent, is_attacked, is_attacked_at, is_attacker, is_castling, is_clear, is_man, is_man-without, is_of_colour, is_paralysed, is_pseudo_legal, is_square, is_vacant_at, king_is, king_square, made, man_on, man_on-with_cases, man_on_at, man_there, may_castle, may_check_from, move_man, moved_men, moved_sound, on_board, orthodox, other, other_twice, position_after, position_after_by, put_at, reaches, reaches_as, reaches_of, reborn_square, rides, rule_of_checks, same_colour, same_kind, some_square_false, some_square_true, squares, unreborn_after, with_man, without_at, without_man}
 use Rattle.chess_mates.proofs.Checking.{no_check}
-use Rattle.chess_rules.proofs.making_moves.Fits.{arrived}
-use Rattle.chess_rules.proofs.making_moves.Pseudo.{IsMade, made, on_board}
-use Rattle.chess_rules.proofs.attacks.Shielding.{other_twice, king_is, man_there, unreborn_after}
-use Rattle.chess_rules.proofs.making_moves.Stays.{captured_enemy, captured_mortal, man_on-with_cases, moved_sound}
-use Rattle.chess_rules.proofs.Tests.{all_kept, any_kept}
 
 -- no grasshopper of this colour stands there
 abbrev LacksGrasshopper : List (Option Man) → Colour → Type 0
@@ -25,16 +16,14 @@ module _ (men : List (Option Man)) (r : ℕ) (y : Man) where
   unfolding rides is_clear
   rode s t d h =
       any_kept (λ k. is_square (along s d k) t && list_all (λ i. is_vacant_at (with_man men r y) (along s d i)) (range_with_len 1 (k - 1)))
-      (λ k. is_square (along s d k) t && list_all (λ i. is_vacant_at men (along s d i)) (range_with_len 1 (k - 1))) (range_with_len 1 7)
-      (grind (arith, and_parts, and_from, all_kept, was_vacant)) h
+      (λ k. is_square (along s d k) t && is_clear men s d (k - 1)) (range_with_len 1 7) (grind (arith, and_parts, and_from, all_kept, was_vacant)) h
 
   rode_so : (ds : List Step) (s t : ℕ) → list_any (rides (with_man men r y) s t) ds ≡ true → list_any (rides men s t) ds ≡ true
   rode_so ds s t h = any_kept (rides (with_man men r y) s t) (rides men s t) ds (λ d. rode s t d) h
 
   reached : (e : Colour) (j : Kind) (s t : ℕ) → same_kind j Grasshopper ≡ false → reaches_as (with_man men r y) e j s t ≡ true → reaches_as men e j s t ≡ true
   unfolding reaches_as
-  reached e Queen s t g h = rode_so queen_steps s t h
-  reached e j s t g h = search (rules, rode_so, false≢true)
+  reached e v1 s t g h = search (rules, any_kept (rides (with_man men r y) s t) (rides men s t), rode, false≢true)
 
   -- so y gives the king of his colour no check
   module _ (c : Colour) (own : same_colour y.colour (other c) ≡ false) (mortal : same_kind y.kind King ≡ false) (lacks : LacksGrasshopper men (other c))
@@ -58,11 +47,10 @@ module _ (men : List (Option Man)) (r : ℕ) (y : Man) where
       by None e = refl
       by (Some k) e =
           let f = find_first (λ s. is_man (man_on (with_man men r y) s) c King) 0 64 k e in
-          let inside : k < 64 = omega (arith, f.high) in
-          let at : king_square men c ≡ Some k = king_is men c k one inside (king_stood k f.here) in
-          let none : is_attacked_at orthodox men (Some k) (other c) ≡ false = ap (λ (o : Option ℕ). is_attacked_at orthodox men o (other c)) (sym at) ∙ safe in
+          let at : king_square men c ≡ Some k = king_is men c k one (omega (arith, f.high)) (king_stood k f.here) in
           some_square_false (is_attacker circe (with_man men r y) k (other c)) 64 (omega arith) (record {
-            fails = λ s lt. false_from_ne_true _ (search (rules, false≢true, some_square_true, struck));
+            fails = λ s lt. false_from_ne_true _ (λ h.
+                false≢true (sym (rw at at safe) ∙ some_square_true (is_attacker orthodox men k (other c)) s lt (struck k s h)));
           })
 
 -- rebirths apart, Circe is as orthodox chess
@@ -75,7 +63,7 @@ unfolding can_castle may_castle is_paralysed
 same_castles p x m = grind (arith, same_check)
 
 -- what may be played in Circe may be played in orthodox chess
-pub pseudo_so : (p : Position) (m : Move) → is_pseudo_legal circe p m ≡ true → is_pseudo_legal orthodox p m ≡ true
+pseudo_so : (p : Position) (m : Move) → is_pseudo_legal circe p m ≡ true → is_pseudo_legal orthodox p m ≡ true
 unfolding is_pseudo_legal is_paralysed
 pseudo_so p m h = grind (arith, same_castles)
 
@@ -119,29 +107,23 @@ pub rebirth_gives_no_check : (p : Position) (x : Man) (m : Move) → IsWellForme
     → is_absent p.men (record { colour = p.turn; kind = Grasshopper }) ≡ true → in_check orthodox (position_after orthodox p m).men (other p.turn) ≡ false
     → in_check circe (position_after circe p m).men (other p.turn) ≡ false
 rebirth_gives_no_check p x m well may here unpromoted absent safe =
-    ap (λ (men : List (Option Man)). in_check circe men (other p.turn)) (after_is circe p x m here)
-    ∙ by (reborn_square circe p x m) (man_on_at p.men (capture_square p x m)) refl where
+    rw (after_is circe p x m here) (by (reborn_square circe p x m) (man_on_at p.men (capture_square p x m)) refl) where
       is : IsMade circe p x m
       is = made circe p m x may here
 
       before : in_check orthodox (moved_men p x m) (other p.turn) ≡ false
-      before =
-          ap (λ (men : List (Option Man)). in_check orthodox men (other p.turn)) (sym (unreborn_after orthodox p x m here (λ e. absurd (false≢true e)))) ∙ safe
-
-      lacks : LacksGrasshopper (moved_men p x m) p.turn
-      lacks = moved_lacks p x m p.turn here unpromoted (absent_lacks p.men p.turn well.size absent)
+      before = rw (unreborn_after orthodox p x m here (λ e. absurd (false≢true e))) at safe
 
       by : (o : Option ℕ) (w : Option Man) → man_on_at p.men (capture_square p x m) ≡ w → in_check circe (put_at (moved_men p x m) o w) (other p.turn) ≡ false
-      by None w who = same_check (moved_men p x m) (other p.turn) ∙ before
-      by (Some r) None who = same_check (moved_men p x m) (other p.turn) ∙ before
       by (Some r) (Some y) who =
-          reborn_quietly (moved_men p x m) r y (other p.turn)
-          (ap (same_colour y.colour) (other_twice p.turn) ∙ captured_enemy circe p x m y well is who) (captured_mortal circe p x m y well is who)
-          (λ s. ap (λ (e : Colour). is_man (man_on (moved_men p x m) s) e Grasshopper) (other_twice p.turn) ∙ lacks s)
+          reborn_quietly (moved_men p x m) r y (other p.turn) (rw (other_twice p.turn) (captured_enemy circe p x m y well is who))
+          (captured_mortal circe p x m y well is who)
+          (rw (other_twice p.turn) (moved_lacks p x m p.turn here unpromoted (absent_lacks p.men p.turn well.size absent)))
           (moved_sound circe p x m well is).kings before
+      by o w who = same_check (moved_men p x m) (other p.turn) ∙ before
 
 -- what quiet rebirths ask: Circe, and no grasshopper
-pub quiet_parts : (rule : RuleSet) (men : List (Option Man)) (e : Colour) → are_rebirths_quiet rule men e ≡ true
+quiet_parts : (rule : RuleSet) (men : List (Option Man)) (e : Colour) → are_rebirths_quiet rule men e ≡ true
     → (rule ≡ circe) × (is_absent men (record { colour = e; kind = Grasshopper }) ≡ true)
 unfolding are_rebirths_quiet
 quiet_parts rule men e h = grind (arith, false≢true)
@@ -152,7 +134,5 @@ pub no_check_by_rebirth : (rule : RuleSet) (p : Position) (x : Man) (m : Move) (
     → man_on p.men m.from ≡ Some x → AreCheckSquares p.men (other p.turn) s → y ≡ arriving_man x m.promo → w ≡ check_squares_for s y.kind → t ≡ m.to → t < 64
     → (bit_at w t == 1) ≡ false → (same_kind y.kind King ≡ true → may_check_from p.men (other p.turn) y t ≡ false) → m.promo ≡ None
     → cannot_expose (rule_of_checks rule p.men p.turn) p (other p.turn) m ≡ true → in_check rule (position_after rule p m).men (other p.turn) ≡ false
-no_check_by_rebirth rule p x m s y w t well may here a is h same small off apart unpromoted cover = elim (cases_Bool (are_rebirths_quiet rule p.men p.turn)) [
-  | inl quiet ↦ grind (arith, quiet_parts, cond-true, rebirth_gives_no_check, no_check, pseudo_so)
-  | inr loud ↦ grind (arith, cond-false, no_check)
-]
+no_check_by_rebirth rule p x m s y w t well may here a is h same small off apart unpromoted cover =
+    grind (arith, cases_Bool (are_rebirths_quiet rule p.men p.turn), quiet_parts, cond-true, cond-false, rebirth_gives_no_check, no_check, pseudo_so)

@@ -2,11 +2,12 @@
 use Rattle.chess_rules.proofs.Basics.{List, Option, Some, and_left, and_parts, ap, arith, bit_and, bit_at, bit_at-lt, bit_not, bit_or, cases_Bool, cases_eq, eq-eqb, eqb-true, false, false≢true, find, inl, inr, not, range_with_len, refl, sym, true, true_from_ne_false, w64, ℕ, ◌+◌, ◌-◌, ◌<◌, ◌==◌, ◌^◌, ◌∙◌, ◌≡◌, ◌≢◌}
 use Rattle.chess_mates.proofs.Chess.{AreApproaches, Bishop, Colour, Grasshopper, Kind, King, Knight, Man, Nightrider, Pawn, Position, Queen, Rook, is_promoting, find_first, is_square, leaps, may_go, occupied_squares, other}
 use Rattle.chess_mates.proofs.Chess.{reaches_as, rides, same_kind, same_kind-true, squares, word}
+use Rattle.chess_core.specs.Steps.{gait_of, is_hopper}
 use Rattle.chess_mates.specs.ties.Attackers.{IsAttacker, squares_for}
 use Rattle.chess_mates.specs.declared.attackers.Attackers.{Attackers}
-use Rattle.chess_mates.specs.declared.siege.Field.{Field}
-use Rattle.chess_mates.specs.declared.siege.Guards.{Guards}
-use Rattle.chess_mates.specs.declared.siege.Risk.{Risk}
+use Rattle.chess_mates.specs.declared.field.Field.{Field}
+use Rattle.chess_mates.specs.declared.guards.Guards.{Guards}
+use Rattle.chess_mates.specs.declared.risk.Risk.{Risk}
 use Rattle.chess_mates.specs.declared.siege.Siege.{Siege}
 use Rattle.chess_mates.specs.ties.Siege.{AreArrivals, AreGuardsWithout, AreReached, AreWeak, IsCheckWord, IsHarmless, IsMet, IsNear, IsNoCheck, IsOff, IsReached, IsWeak, LeavesOne, is_leaper, is_rider, IsUnguarded}
 use Rattle.chess_rules.proofs.Bits.{off_left, off_right, on_left, on_right, word_has}
@@ -20,8 +21,17 @@ use Rattle.chess_mates.proofs.CheckTargets.{last_rank_on}
 use Rattle.chess_mates.proofs.FarMen.{off_denied}
 use Rattle.chess_rules.proofs.listing_moves.Walks.{off_zero, on_first}
 use Rattle.chess_mates.proofs.LastingFlights.{no_last_rank, on_both}
+use Rattle.chess_mates.proofs.Standing.{no_hopper}
 use Rattle.chess_mates.specs.ties.LastingFlights as Flights
 use Rattle.chess_mates.specs.ties.LastingFlights.{IsLeft}
+
+-- no square is one of none
+pub none_at : (w s : ℕ) → w ≡ 0 → (bit_at w s == 1) ≡ true → ⊥
+none_at w s empty on = false≢true (sym (off_zero s) ∙ ap (λ (n : ℕ). bit_at n s == 1) (sym empty) ∙ on)
+
+-- the same by a test
+pub none_on : (w s : ℕ) → (w == 0) ≡ true → (bit_at w s == 1) ≡ true → ⊥
+none_on w s empty on = none_at w s (eqb-true w 0 empty) on
 
 -- squares off the last ranks
 pub no_last_rank_on : (x : Man) (w t : ℕ) → not (bit_and w 18374686479671623935 == 0) ≡ false → t < 64 → (bit_at w t == 1) ≡ true → is_promoting x t ≡ false
@@ -91,33 +101,40 @@ pub open_arrivals : (d : ℕ) (x : Man) (s w : ℕ) → ((p : Position) (t : ℕ
 open_arrivals d x s w ways = record { inside = λ t i. ways i.position t i.small i.goes }
 
 -- or over the hurdles
-pub piece_arrivals : (d : ℕ) (x : Man) (s w : ℕ) → IsReached d x s w → same_kind x.kind Pawn ≡ false → AreArrivals d x s w
-piece_arrivals d x s w reached piece = record { inside = λ t i. reached.inside t i.small (i.reaches piece) }
+pub piece_arrivals : (d : ℕ) (x : Man) (s w : ℕ) → IsReached d x s w → same_kind x.kind Pawn ≡ false → same_kind x.kind Grasshopper ≡ false
+    → AreArrivals d x s w
+piece_arrivals d x s w reached piece kind = record { inside = λ t i. reached.inside t i.small (i.reaches piece (no_hopper x.kind kind)) }
 
 -- where he doesn't check
-pub king_targets : (x : Man) (checks t : ℕ) → same_kind x.kind King ≡ true → IsNoCheck checks x t
-king_targets x checks t king = record {
+pub king_targets : (x : Man) (checks boards t : ℕ) → same_kind x.kind King ≡ true → (bit_at boards t == 1) ≡ false → IsNoCheck checks boards x t
+king_targets x checks boards t king unsprung = record {
   off = λ mortal. absurd (false≢true (sym mortal ∙ king));
+  unsprung = unsprung;
   plain = no_pawn_arrives x t (king_is_no_pawn x.kind king);
 }
 
-pawn_quiet : (x : Man) (checks t : ℕ) → t < 64 → (bit_at (bit_or checks 18374686479671623935) t == 1) ≡ false → IsNoCheck checks x t
-pawn_quiet x checks t small none = record {
+pawn_quiet : (x : Man) (checks boards t : ℕ) → t < 64 → (bit_at (bit_or checks 18374686479671623935) t == 1) ≡ false → (bit_at boards t == 1) ≡ false
+    → IsNoCheck checks boards x t
+pawn_quiet x checks boards t small none unsprung = record {
   off = λ mortal. off_left checks 18374686479671623935 t none;
+  unsprung = unsprung;
   plain = false_by (is_promoting x t) (λ last. false≢true (sym (off_right checks 18374686479671623935 t none)
       ∙ last_rank_on x.colour t small (and_parts _ _ last).1));
 }
 
 -- a pawn checks or promotes
-pub pawn_targets : (x : Man) (reached checks t : ℕ) → t < 64 → (bit_at reached t == 1) ≡ true
-    → (bit_at (bit_and reached (bit_or checks 18374686479671623935)) t == 1) ≡ false → IsNoCheck checks x t
-pawn_targets x reached checks t small on off = pawn_quiet x checks t small (off_second reached (bit_or checks 18374686479671623935) t off on)
+pub pawn_targets : (x : Man) (reached checks boards t : ℕ) → t < 64 → (bit_at reached t == 1) ≡ true
+    → (bit_at (bit_and reached (bit_or (bit_or checks 18374686479671623935) boards)) t == 1) ≡ false → IsNoCheck checks boards x t
+pawn_targets x reached checks boards t small on off =
+    let none = off_second reached (bit_or (bit_or checks 18374686479671623935) boards) t off on in
+    pawn_quiet x checks boards t small (off_left _ boards t none) (off_right (bit_or checks 18374686479671623935) boards t none)
 
 -- a piece checks from the check squares
-pub piece_targets : (x : Man) (reached checks t : ℕ) → same_kind x.kind Pawn ≡ false → (bit_at reached t == 1) ≡ true
-    → (bit_at (bit_and reached checks) t == 1) ≡ false → IsNoCheck checks x t
-piece_targets x reached checks t piece on off = record {
-  off = λ mortal. off_second reached checks t off on;
+pub piece_targets : (x : Man) (reached checks boards t : ℕ) → same_kind x.kind Pawn ≡ false → (bit_at reached t == 1) ≡ true
+    → (bit_at (bit_and reached (bit_or checks boards)) t == 1) ≡ false → IsNoCheck checks boards x t
+piece_targets x reached checks boards t piece on off = record {
+  off = λ mortal. off_left checks boards t (off_second reached (bit_or checks boards) t off on);
+  unsprung = off_right checks boards t (off_second reached (bit_or checks boards) t off on);
   plain = no_pawn_arrives x t piece;
 }
 
@@ -131,27 +148,23 @@ Without a o = record {
   bishops = bit_and a.bishops (bit_not w64 o);
   knights = bit_and a.knights (bit_not w64 o);
   pawns = bit_and a.pawns (bit_not w64 o);
+  grasshoppers = bit_and a.grasshoppers (bit_not w64 o);
+  nightriders = bit_and a.nightriders (bit_not w64 o);
 }
 
 -- for `without`: who isn't the one who has gone is still there
 pub kept_without : (a : Attackers) (g o s : ℕ) (x : Man) → o ≡ word (λ t. is_square (Some g) t) → o < 2 ^ 64 → IsAttacker a x s → g ≢ s
     → IsAttacker (Without a o) x s
-kept_without a g o s x only fits i ne = record { small = i.small; mine = i.mine; on = by x.kind i.on } where
+kept_without a g o s x only fits i ne = record {
+  small = i.small;
+  mine = i.mine;
+  on = rw (by x.kind) (denied_on (squares_for a x.kind) o s fits i.small i.on off);
+} where
   off : (bit_at o s == 1) ≡ false
   off = false_by _ (λ on. ne (eqb-true g s (sym (word_has (λ t. is_square (Some g) t) o s only i.small) ∙ on)))
 
-  stays : (w : ℕ) → (bit_at w s == 1) ≡ true → (bit_at (bit_and w (bit_not w64 o)) s == 1) ≡ true
-  stays w on = denied_on w o s fits i.small on off
-
-  by : (k : Kind) → (bit_at (squares_for a k) s == 1) ≡ true → (bit_at (squares_for (Without a o) k) s == 1) ≡ true
-  by King on = stays a.kings on
-  by Queen on = stays a.queens on
-  by Rook on = stays a.rooks on
-  by Bishop on = stays a.bishops on
-  by Knight on = stays a.knights on
-  by Pawn on = stays a.pawns on
-  by Grasshopper on = on
-  by Nightrider on = on
+  by : (k : Kind) → squares_for (Without a o) k ≡ bit_and (squares_for a k) (bit_not w64 o)
+  by k = grind arith
 
 -- a square of the first of two words alone isn't in the second
 pub off_word : (w n s : ℕ) → n < 2 ^ 64 → s < 64 → (bit_at (bit_and w (bit_not w64 n)) s == 1) ≡ true → (bit_at n s == 1) ≡ false
@@ -169,7 +182,8 @@ guards_are v s region o r l a only fits others rides leaps = record {
     λ same. false≢true (sym (off_word v.hurdles o e fits small on) ∙ word_has (λ t. is_square (Some s) t) o e only small ∙ eq-eqb s e same),
   );
   rides = λ q z i ne rider near. rides.reach q z (others q z i ne) rider near;
-  guards = λ q z i ne near. (all_reach (bit_and v.hurdles (bit_not w64 o)) a region r l rides leaps).reach q z (others q z i ne) refl near;
+  guards = λ q z i ne plain near.
+      (all_reach (bit_and v.hurdles (bit_not w64 o)) a region r l rides leaps).reach q z (others q z i ne) (ap not plain) near;
 }
 
 -- where everything is critical
@@ -196,35 +210,39 @@ module _ (v : Siege) (g : Field) (s o : ℕ) (gs : Guards) (a : ℕ) (are : AreG
       → ((bit_at gs.guarded g.king == 1) ≡ false → watched ≡ targets)
       → ((bit_at watched t == 1) ≡ true → (bit_at left t == 1) ≡ false → ((bit_at g.captures t == 1) ≡ true) × ((bit_at gs.guarded t == 1) ≡ false))
       → ((q : ℕ) → q < 64 → (bit_at left q == 1) ≡ true → is_promoting x q ≡ false)
+      → ((q : ℕ) → q < 64 → (bit_at left q == 1) ≡ true → (e : ℕ) (z : Man) → IsAttacker v.men z e → s ≢ e → is_hopper (gait_of z.kind) ≡ true
+      → (bit_at g.hops q == 1) ≡ false)
       → ((q : ℕ) → q < 64 → (bit_at left q == 1) ≡ true → LeavesOne (bit_and g.near (bit_not w64 gs.guarded)) v.enemies c x q)
       → IsMet v g x s targets a b t
-  met_is x targets watched left c b t only at_king inside small fits off every same captured plain leaves there = elim (cases_Bool (bit_at left t == 1)) [
-    | inl on ↦
-        let one = (leaves t small on).left b inside off there in
-        let near = on_first g.near _ one.0 one.1.on in
-        inr (inr (record {
-          plain = plain t small on;
-          square = one.0;
-          left = record { small = one.1.small; on = near; off = one.1.off; unreached = one.1.unreached };
-          unguarded = unguarded_at one.0 (on_left _ o one.0 (on_left g.near g.captures one.0 near))
-              (off_denied g.near gs.guarded one.0 fits one.1.small one.1.on);
-          elsewhere = one.2;
-        }))
-    | inr free ↦ elim (cases_Bool (bit_at watched t == 1)) [
-      | inl on ↦
-          let there = captured on free in
-          inr (inl (record { on = there.0; unguarded = unguarded_at t (on_left _ o t (on_right g.near g.captures t there.0)) there.1 }))
-      | inr none ↦
-          let unchecked : (bit_at gs.guarded g.king == 1) ≡ false = false_by _ (λ on. false≢true (sym none ∙ every on)) in
-          inl (
-            ap (λ (w : ℕ). bit_at w t == 1) (sym (same unchecked)) ∙ none,
-            unguarded_at g.king (on_right _ o g.king (word_has (λ q. is_square (Some g.king) q) o g.king only at_king ∙ eq-eqb g.king g.king refl)) unchecked,
-          )
-    ]
-  ]
+  met_is x targets watched left c b t only at_king inside small fits off every same captured plain unsprung leaves there =
+      elim (cases_Bool (bit_at left t == 1)) [
+        | inl on ↦
+            let one = (leaves t small on).left b inside off there in
+            let near = on_first g.near _ one.0 one.1.on in
+            inr (inr (record {
+              plain = plain t small on;
+              unsprung = unsprung t small on;
+              square = one.0;
+              left = record { small = one.1.small; on = near; off = one.1.off; unreached = one.1.unreached };
+              unguarded = unguarded_at one.0 (on_left _ o one.0 (on_left g.near g.captures one.0 near))
+                  (off_denied g.near gs.guarded one.0 fits one.1.small one.1.on);
+              elsewhere = one.2;
+            }))
+        | inr free ↦ elim (cases_Bool (bit_at watched t == 1)) [
+          | inl on ↦
+              let there = captured on free in
+              inr (inl (record { on = there.0; unguarded = unguarded_at t (on_left _ o t (on_right g.near g.captures t there.0)) there.1 }))
+          | inr none ↦
+              let unchecked : (bit_at gs.guarded g.king == 1) ≡ false = false_by _ (λ on. false≢true (sym none ∙ every on)) in
+              inl (
+                ap (λ (w : ℕ). bit_at w t == 1) (sym (same unchecked)) ∙ none,
+                unguarded_at g.king (on_right _ o g.king (word_has (λ q. is_square (Some g.king) q) o g.king only at_king ∙ eq-eqb g.king g.king refl)) unchecked,
+              )
+        ]
+      ]
 
 module _ (v : Siege) (g : Field) (checks : ℕ) (x : Man) (s reached targets : ℕ) (are : AreArrivals v.hurdles x s reached)
-    (quiet : (t : ℕ) → t < 64 → (bit_at reached t == 1) ≡ true → (bit_at targets t == 1) ≡ false → IsNoCheck checks x t) where
+    (quiet : (t : ℕ) → t < 64 → (bit_at reached t == 1) ≡ true → (bit_at targets t == 1) ≡ false → IsNoCheck checks g.springboards x t) where
   -- for a man who goes to no target and uncovers nothing
   pub harmless_quietly : targets ≡ 0 → (bit_at g.lines s == 1) ≡ false → IsHarmless v g checks (record { critical = 0; lines = 0 }) x s
   harmless_quietly none hidden = record {
@@ -252,7 +270,7 @@ module _ (v : Siege) (g : Field) (checks : ℕ) (x : Man) (s reached targets : �
 -- for `suspect_squares`: who uncovers nothing, and a pawn who comes to no target
 module _ (v : Siege) (g : Field) (checks : ℕ) (x : Man) (s : ℕ) (hidden : (bit_at g.lines s == 1) ≡ false) where
   -- a king
-  pub harmless_idly : ((p : Position) (t : ℕ) → t < 64 → may_go p x s t ≡ true → IsNoCheck checks x t)
+  pub harmless_idly : ((p : Position) (t : ℕ) → t < 64 → may_go p x s t ≡ true → IsNoCheck checks g.springboards x t)
       → IsHarmless v g checks (record { critical = 0; lines = 0 }) x s
   harmless_idly quiet = record {
     mild = λ a b small inside off. record {
@@ -262,9 +280,9 @@ module _ (v : Siege) (g : Field) (checks : ℕ) (x : Man) (s : ℕ) (hidden : (b
 
   -- a pawn, by the squares from which he might come to a target
   pub pawn_idly : (w : ℕ) → AreApproaches x (bit_or checks 18374686479671623935) w → s < 64 → (bit_at w s == 1) ≡ false
-      → IsHarmless v g checks (record { critical = 0; lines = 0 }) x s
-  pawn_idly w before small off = harmless_idly (λ p t inside goes. pawn_quiet x checks t inside
-      (false_by _ (λ on. false≢true (sym off ∙ before.approach p s t small inside goes on))))
+      → g.springboards ≡ 0 → IsHarmless v g checks (record { critical = 0; lines = 0 }) x s
+  pawn_idly w before small off none = harmless_idly (λ p t inside goes. pawn_quiet x checks g.springboards t inside
+      (false_by _ (λ on. false≢true (sym off ∙ before.approach p s t small inside goes on))) (false_by _ (none_at g.springboards t none)))
 
 -- for men who aren't suspect: no risk is less than any
 pub harmless_more : (v : Siege) (g : Field) (checks : ℕ) (r : Risk) (x : Man) (s : ℕ)
@@ -293,14 +311,6 @@ pub harmless_right : (v : Siege) (g : Field) (checks : ℕ) (q r : Risk) (x : Ma
     → IsHarmless v g checks (record { critical = bit_or q.critical r.critical; lines = bit_or q.lines r.lines }) x s
 harmless_right v g checks q r x s h = record { mild = λ a b small inside off. h.mild a b small inside (off_other v.hurdles q r a b off) }
 
--- men of one kind
-pub none_at : (w s : ℕ) → w ≡ 0 → (bit_at w s == 1) ≡ true → ⊥
-none_at w s empty on = false≢true (sym (off_zero s) ∙ ap (λ (n : ℕ). bit_at n s == 1) (sym empty) ∙ on)
-
--- the same by a test
-pub none_on : (w s : ℕ) → (w == 0) ≡ true → (bit_at w s == 1) ≡ true → ⊥
-none_on w s empty on = none_at w s (eqb-true w 0 empty) on
-
 -- a man who doesn't reach the region on the empty board
 pub not_near : (x : Man) (s o region : ℕ) → Flights.AreReached x s o → bit_and o region ≡ 0 → IsNear x s region → ⊥
 not_near x s o region reached none near =
@@ -311,29 +321,39 @@ pub weak_never : (v : Siege) (g : Field) (l : ℕ) (x : Man) (s : ℕ) → IsWea
 weak_never v g l x s = record { weak = λ a b small inside off. absurd (never_off v.hurdles l a b inside off) }
 
 -- for men who are harmless and don't check now
-pub weak_is : (v : Siege) (g : Field) (r : Risk) (x : Man) (checks squares s : ℕ) → IsCheckWord v.hurdles g.king x checks
-    → bit_and checks squares ≡ 0 → (bit_at squares s == 1) ≡ true → IsHarmless v g checks r x s → IsWeak v g r x s
-weak_is v g r x checks squares s word none on harmless = record {
-  weak = λ a b small inside off. record {
-    checks = checks;
-    word = word;
-    off = false_by _ (λ h. none_at (bit_and checks squares) s none (on_both checks squares s h on));
-    mild = harmless.mild a b small inside off;
-  };
+pub weak_is : (v : Siege) (g : Field) (r : Risk) (x : Man) (checks s : ℕ) → IsCheckWord v.hurdles g.king x checks
+    → (is_hopper (gait_of x.kind) ≡ false → (bit_at checks s == 1) ≡ false) → IsHarmless v g checks r x s → IsWeak v g r x s
+weak_is v g r x checks s word off harmless = record {
+  weak = λ a b small inside none. record { checks = checks; word = word; off = off; mild = harmless.mild a b small inside none };
 }
 
+-- for `check_now`
+pub none_checks : (checks squares s : ℕ) → not (bit_and checks squares == 0) ≡ false → (bit_at squares s == 1) ≡ true → (bit_at checks s == 1) ≡ false
+none_checks checks squares s none on = false_by _ (λ h.
+    none_on (bit_and checks squares) s (true_from_ne_false _ (λ some. false≢true (sym none ∙ ap not some))) (on_both checks squares s h on))
+
 -- for check squares told from the king's square
-pub check_word : (d k w : ℕ) (x : Man) → d < 2 ^ 64
+pub check_word : (d k w : ℕ) (x : Man) → d < 2 ^ 64 → same_kind x.kind Grasshopper ≡ false
     → ((men : List (Option Man)) → d ≡ occupied_squares men → w ≡ word (reaches_as men (other x.colour) x.kind k)) → IsCheckWord d k x w
-check_word d k w x fits h = record {
-  inside = λ t small reached. (reached_is d (record { colour = other x.colour; kind = x.kind }) k w fits h).inside t small reached;
+check_word d k w x fits kind h = record {
+  hops = λ hop. absurd (false≢true (sym (no_hopper x.kind kind) ∙ hop));
+  inside = λ plain t small reached. (reached_is d (record { colour = other x.colour; kind = x.kind }) k w fits h).inside t small reached;
 }
 
 -- or by the lines of his field
-pub check_lines : (d k w : ℕ) (x : Man) (j : Kind) → same_kind x.kind j ≡ true → ((c : Colour) → IsReached d (record { colour = c; kind = j }) k w)
+pub check_lines : (d k w : ℕ) (x : Man) (j : Kind) → same_kind x.kind j ≡ true → is_hopper (gait_of j) ≡ false
+    → ((c : Colour) → IsReached d (record { colour = c; kind = j }) k w)
     → IsCheckWord d k x w
-check_lines d k w x j kind h = record {
-  inside = λ t small reached. (h (other x.colour)).inside t small (rw (same_kind-true x.kind j kind) at reached);
+check_lines d k w x j kind plain h = record {
+  hops = λ hop. absurd (false≢true (sym plain ∙ (rw (same_kind-true x.kind j kind) at hop)));
+  inside = λ plain t small reached. (h (other x.colour)).inside t small (rw (same_kind-true x.kind j kind) at reached);
+}
+
+-- of a grasshopper by those from which he might come
+pub check_hops : (d k w : ℕ) (x : Man) → same_kind x.kind Grasshopper ≡ true → Flights.AreApproached x k w → IsCheckWord d k x w
+check_hops d k w x kind are = record {
+  hops = λ hop. are;
+  inside = λ plain. absurd (false≢true (sym plain ∙ ap (λ (j : Kind). is_hopper (gait_of j)) (same_kind-true x.kind Grasshopper kind)));
 }
 
 -- each attacker, kind by kind
@@ -348,14 +368,16 @@ module _ (v : Siege) (g : Field) where
   right q r s x h = record { weak = λ a b small inside off. h.weak a b small inside (off_other v.hurdles q r a b off) }
 
   -- for `risk_of_all`
-  pub all_weak : (K Q R B N P : Risk) → WeakAs King K → WeakAs Queen Q → WeakAs Rook R → WeakAs Bishop B → WeakAs Knight N → WeakAs Pawn P
-      → AreWeak v g (Both (Both (Both (Both (Both K Q) R) B) N) P)
-  all_weak K Q R B N P kings queens rooks bishops knights pawns = record {
-    weak = of_all v.men (λ x s. IsWeak v g (Both (Both (Both (Both (Both K Q) R) B) N) P) x s)
-        (λ s low on. left _ P s _ (left _ N s _ (left _ B s _ (left _ R s _ (left K Q s _ (kings s low on))))))
-        (λ s low on. left _ P s _ (left _ N s _ (left _ B s _ (left _ R s _ (right K Q s _ (queens s low on))))))
-        (λ s low on. left _ P s _ (left _ N s _ (left _ B s _ (right _ R s _ (rooks s low on)))))
-        (λ s low on. left _ P s _ (left _ N s _ (right _ B s _ (bishops s low on))))
-        (λ s low on. left _ P s _ (right _ N s _ (knights s low on)))
-        (λ s low on. right _ P s _ (pawns s low on));
+  pub all_weak : (K Q R B N P G Y : Risk) → WeakAs King K → WeakAs Queen Q → WeakAs Rook R → WeakAs Bishop B → WeakAs Knight N → WeakAs Pawn P
+      → WeakAs Grasshopper G → WeakAs Nightrider Y → AreWeak v g (Both (Both (Both (Both (Both (Both (Both K Q) R) B) N) P) G) Y)
+  all_weak K Q R B N P G Y kings queens rooks bishops knights pawns grasshoppers nightriders = record {
+    weak = of_all v.men (λ x s. IsWeak v g (Both (Both (Both (Both (Both (Both (Both K Q) R) B) N) P) G) Y) x s)
+        (λ s low on. search (left, right, kings) depth 12)
+        (λ s low on. search (left, right, queens) depth 12)
+        (λ s low on. search (left, right, rooks) depth 12)
+        (λ s low on. search (left, right, bishops) depth 12)
+        (λ s low on. search (left, right, knights) depth 12)
+        (λ s low on. search (left, right, pawns) depth 12)
+        (λ s low on. search (left, right, grasshoppers) depth 12)
+        (λ s low on. search (left, right, nightriders) depth 12);
   }

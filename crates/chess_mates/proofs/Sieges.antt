@@ -1,22 +1,27 @@
 -- The men of a siege, its castlings and the king's field.
-use Rattle.chess_rules.proofs.Basics.{List, None, Option, Some, and_parts, ap, arith, bit_and, bit_at, bit_not, bit_or, eq-eqb, false, false≢true, inl, inr, list_any, list_any-append, ne_eqb, or_cases, refl, subst, sym, true, w64, ℕ, ◌&&◌, ◌+◌, ◌-◌, ◌<◌, ◌==◌, ◌^◌, ◌||◌, ◌∙◌, ◌≡◌, ◌⊎◌}
+use Rattle.chess_rules.proofs.Basics.{List, None, Option, Some, and_parts, ap, arith, bit_and, bit_at, bit_not, bit_or, eq-eqb, eqb-true, false, false≢true, inl, inr, list_any, list_any-append, ne_eqb, or_cases, refl, subst, sym, true, w64, ℕ, ◌&&◌, ◌+◌, ◌-◌, ◌<◌, ◌==◌, ◌^◌, ◌||◌, ◌∙◌, ◌≡◌, ◌≢◌, ◌⊎◌}
 use Rattle.chess_mates.proofs.Chess.{Bishop, Colour, Grasshopper, IsWellFormed, Kind, King, Knight, Man, Nightrider, Pawn, Position, Queen, Rook, RuleSet, White, corner, is_fairy, is_man, is_on_some, is_of_colour, is_square, king_square, leaps, man_on, occupied_squares, other, queen_steps}
-use Rattle.chess_mates.proofs.Chess.{diagonal_steps, reaches_as, rides, same_colour, same_colour-true, same_kind, same_kind-true, side_of, squares, squares_of, straight_steps, word}
+use Rattle.chess_mates.proofs.Chess.{diagonal_steps, reaches_as, rides, same_colour, same_kind, side_of, squares, squares_of, straight_steps, word}
 use Rattle.chess_core.specs.Castling.{has_unmoved}
-use Rattle.chess_mates.specs.ties.Attackers.{AreAttackers, HasNoFairy, IsAttacker, squares_for}
+use Rattle.chess_mates.specs.ties.Attackers.{AreAttackers, IsAttacker, squares_for}
 use Rattle.chess_mates.specs.declared.attackers.Attackers.{Attackers}
-use Rattle.chess_mates.specs.declared.siege.Field.{Field}
-use Rattle.chess_mates.specs.declared.siege.Risk.{Risk}
+use Rattle.chess_mates.specs.declared.field.Field.{Field}
+use Rattle.chess_mates.specs.declared.field.Landings.{Landings}
+use Rattle.chess_mates.specs.declared.risk.Risk.{Risk}
 use Rattle.chess_mates.specs.declared.siege.Siege.{Siege}
-use Rattle.chess_mates.specs.ties.Siege.{AreAdjacent, AreCastlingSquares, AreClosed, AreHurdles, AreReached, AreThreats, AreWeak, IsCastlingHarmless, IsField, IsHurdle, IsNear, IsRiskAt, IsShut, IsSiege, IsSiegeOf, IsWhole, is_rider, men_on, AreCaptureSquares}
+use Rattle.chess_mates.specs.declared.field.Springs.{Springs}
+use Rattle.chess_mates.specs.ties.Siege.{AreAdjacent, AreCastlingSquares, AreClosed, AreHurdles, AreReached, AreThreats, AreWeak, IsCastlingHarmless, IsField, IsHurdle, IsNear, IsRiskAt, IsShut, IsSiege, IsSiegeOf, IsWhole, is_rider, men_on, AreCaptureSquares, AreFree, AreSpringboards, AreSprings, IsReached, IsUnsprung, MayRide}
 use Rattle.chess_mates.specs.ties.Siege.{reached_over}
 use Rattle.chess_rules.proofs.Bits.{off_left, off_right, on_left, on_right, word_has}
 use Rattle.chess_rules.proofs.Tests.{find_no}
 use Rattle.chess_rules.proofs.attacks.StayingInCheck.{king_there}
 use Rattle.chess_rules.proofs.listing_moves.Targeting.{every_square_on, false_by}
-use Rattle.chess_mates.proofs.Hurdles.{on_one, reached_is}
+use Rattle.chess_mates.proofs.Hurdles.{on_one, reached_is, reached_left, reached_right}
+use Rattle.chess_mates.proofs.FarMen.{man_of_word}
 use Rattle.chess_mates.proofs.KindByKind.{man_is}
-use Rattle.chess_rules.proofs.listing_moves.Walks.{off_zero, on_first}
+use Rattle.chess_mates.proofs.Fleeing.{on_second}
+use Rattle.chess_mates.proofs.Springboards.{grasshopper_on, landing_anywhere, none_sprung, unsprung_right}
+use Rattle.chess_rules.proofs.listing_moves.Walks.{on_first}
 use Rattle.chess_mates.proofs.Risks.{denied_on, none_at, off_word, none_on, weak_never}
 use Rattle.chess_mates.proofs.LastingFlights.{on_both}
 
@@ -29,11 +34,13 @@ adjacent_are v k n near closed kings = record {
   kings = λ f small on. off_word _ v.men.kings f kings small on;
 }
 
--- for `capture_squares`: where no attacker stands on a closed square
-pub captures_are : (v : Siege) (k n : ℕ) → n ≡ word (λ t. list_any (leaps k t) queen_steps) → bit_and v.closed v.enemies ≡ 0 → AreCaptureSquares v k n
-captures_are v k n near none = record {
+-- for `capture_squares`: where no attacker stands on a closed square, and none is a hopper
+pub captures_are : (v : Siege) (k n : ℕ) → n ≡ word (λ t. list_any (leaps k t) queen_steps) → bit_and v.closed v.enemies ≡ 0 → v.men.grasshoppers ≡ 0
+    → AreCaptureSquares v k n
+captures_are v k n near none plain = record {
   next = λ f small on. sym (word_has (λ t. list_any (leaps k t) queen_steps) n f near small) ∙ on;
   off = λ f s on small enemy. false_by _ (λ closed. none_at (bit_and v.closed v.enemies) s none (on_both v.closed v.enemies s closed enemy));
+  plain = λ f s z on i. false_by _ (λ hop. none_at v.men.grasshoppers s plain (grasshopper_on v.men s z i hop));
 }
 
 -- elsewhere none
@@ -41,6 +48,7 @@ pub no_captures : (v : Siege) (k : ℕ) → AreCaptureSquares v k 0
 no_captures v k = record {
   next = λ f small on. absurd (none_at 0 f refl on);
   off = λ f s on small enemy. absurd (none_at 0 f refl on);
+  plain = λ f s z on i. absurd (none_at 0 f refl on);
 }
 
 pub fewer_adjacent : (v : Siege) (k n w : ℕ) → AreAdjacent v k n → AreAdjacent v k (bit_and n w)
@@ -50,44 +58,113 @@ fewer_adjacent v k n w are = record {
   kings = λ f small on. are.kings f small (on_first n w f on);
 }
 
+-- a queen's lines are a rook's and a bishop's
+pub queen_lines : (d k r b : ℕ) (c : Colour) → IsReached d (record { colour = c; kind = Rook }) k r → IsReached d (record { colour = c; kind = Bishop }) k b
+    → IsReached d (record { colour = c; kind = Queen }) k (bit_or r b)
+unfolding reached_over reaches_as
+queen_lines d k r b c rook bishop = record {
+  inside = λ t small reached. elim (or_cases _ _ (sym (list_any-append (rides (men_on d) k t) straight_steps diagonal_steps) ∙ reached)) [
+    | inl y ↦ on_left r b t (rook.inside t small y)
+    | inr y ↦ on_right r b t (bishop.inside t small y)
+  ];
+}
+
+-- for `nightrider_lines`
+pub nightrider_lines : (d k w : ℕ) → d < 2 ^ 64 → ((men : List (Option Man)) → d ≡ occupied_squares men → w ≡ word (reaches_as men White Nightrider k))
+    → (c : Colour) → IsReached d (record { colour = c; kind = Nightrider }) k w
+unfolding reached_over reaches_as
+nightrider_lines d k w fits h c = record { inside = (reached_is d (record { colour = White; kind = Nightrider }) k w fits h).inside }
+
+-- for `springs_of`
+pub springs_are : (v : Siege) (k n s : ℕ) (i : Landings) → AreAdjacent v k n → AreSpringboards v.men k s
+    → ((f : ℕ) → f < 64 → (bit_at i.squares f == 1) ≡ true → IsUnsprung v k f i.springboards)
+    → AreSprings v k (record { near = bit_and n i.squares; own = s; all = bit_or s i.springboards })
+springs_are v k n s i near own landings = record {
+  near = fewer_adjacent v k n i.squares near;
+  unsprung = λ f small on. unsprung_right v k f s i.springboards (landings f small (on_second n i.squares f on));
+  own = own;
+  within = λ h on. on_left s i.springboards h on;
+}
+
+-- for `no_springs`
+pub springless : (v : Siege) (k n : ℕ) → v.men.grasshoppers ≡ 0 → AreAdjacent v k n → AreSprings v k (record { near = n; own = 0; all = 0 })
+springless v k n none near = record {
+  near = near;
+  unsprung = λ f small on. landing_anywhere v k f none;
+  own = none_sprung v.men k none;
+  within = λ h on. on;
+}
+
 -- the king's field
-pub field_is : (v : Siege) (k n c r b : ℕ) → AreAdjacent v k n → v.hurdles < 2 ^ 64
+pub field_is : (v : Siege) (k c r b l : ℕ) (i : Springs) → AreSprings v k i → v.hurdles < 2 ^ 64
     → ((men : List (Option Man)) → v.hurdles ≡ occupied_squares men → r ≡ word (reaches_as men White Rook k))
     → ((men : List (Option Man)) → v.hurdles ≡ occupied_squares men → b ≡ word (reaches_as men White Bishop k))
+    → (v.men.nightriders ≢ 0 → (c : Colour) → IsReached v.hurdles (record { colour = c; kind = Nightrider }) k l)
     → AreCaptureSquares v k c
-    → IsField v (record { king = k; near = n; captures = c; straight = r; diagonal = b; lines = bit_or r b })
+    → IsField v (record {
+      king = k;
+      near = i.near;
+      captures = c;
+      straight = r;
+      diagonal = b;
+      lines = bit_or (bit_or r b) l;
+      springboards = i.own;
+      hops = i.all;
+    })
 unfolding reached_over reaches_as
-field_is v k n c r b near hurdles rook bishop captures = record {
-  near = near;
+field_is v k c r b l i springs hurdles rook bishop riders captures = record {
+  springs = springs;
   captures = captures;
-  straight = λ c. record { inside = straight };
-  diagonal = λ c. record { inside = diagonal };
-  lines = λ c. record {
-    inside = λ t small reached. elim (or_cases _ _ (sym (list_any-append (rides (men_on v.hurdles) k t) straight_steps diagonal_steps) ∙ reached)) [
-      | inl y ↦ on_left r b t (straight t small y)
-      | inr y ↦ on_right r b t (diagonal t small y)
-    ];
-  };
+  straight = straight;
+  diagonal = diagonal;
+  lines = by;
 } where
-  straight : (t : ℕ) → t < 64 → list_any (rides (men_on v.hurdles) k t) straight_steps ≡ true → (bit_at r t == 1) ≡ true
-  straight t small reached = (reached_is v.hurdles (record { colour = White; kind = Rook }) k r hurdles rook).inside t small reached
+  straight : (c : Colour) → IsReached v.hurdles (record { colour = c; kind = Rook }) k r
+  straight c = record { inside = (reached_is v.hurdles (record { colour = White; kind = Rook }) k r hurdles rook).inside }
 
-  diagonal : (t : ℕ) → t < 64 → list_any (rides (men_on v.hurdles) k t) diagonal_steps ≡ true → (bit_at b t == 1) ≡ true
-  diagonal t small reached = (reached_is v.hurdles (record { colour = White; kind = Bishop }) k b hurdles bishop).inside t small reached
+  diagonal : (c : Colour) → IsReached v.hurdles (record { colour = c; kind = Bishop }) k b
+  diagonal c = record { inside = (reached_is v.hurdles (record { colour = White; kind = Bishop }) k b hurdles bishop).inside }
+
+  by : (c : Colour) (j : Kind) → MayRide v j → IsReached v.hurdles (record { colour = c; kind = j }) k (bit_or (bit_or r b) l)
+  by c Queen may = reached_left v.hurdles _ k (bit_or r b) l (queen_lines v.hurdles k r b c (straight c) (diagonal c))
+  by c Rook may = reached_left v.hurdles _ k (bit_or r b) l (reached_left v.hurdles _ k r b (straight c))
+  by c Bishop may = reached_left v.hurdles _ k (bit_or r b) l (reached_right v.hurdles _ k r b (diagonal c))
+  by c Nightrider may = reached_right v.hurdles _ k (bit_or r b) l (riders (may.1 refl) c)
+  by c King may = absurd (false≢true may.0)
+  by c Knight may = absurd (false≢true may.0)
+  by c Pawn may = absurd (false≢true may.0)
+  by c Grasshopper may = absurd (false≢true may.0)
+
+plain_among : (a : Attackers) (s : ℕ) (x : Man) → IsAttacker a x s → (bit_or a.grasshoppers a.nightriders == 0) ≡ true → is_fairy x.kind ≡ false
+plain_among a s x i none = by x.kind refl where
+  by : (k : Kind) → x.kind ≡ k → is_fairy k ≡ false
+  by Grasshopper e = absurd (none_on _ s none (on_left a.grasshoppers a.nightriders s (rw e at i.on)))
+  by Nightrider e = absurd (none_on _ s none (on_right a.grasshoppers a.nightriders s (rw e at i.on)))
+  by King e = refl
+  by Queen e = refl
+  by Rook e = refl
+  by Bishop e = refl
+  by Knight e = refl
+  by Pawn e = refl
 
 -- for `castling_is_harmless`, by the words of rooks and kings
 pub harmless_castling : (v : Siege) (g : Field) (l : ℕ) → l ≡ word (is_on_some straight_steps g.king)
-    → (v.castled == 0 || (bit_and l v.castled == 0 && bit_and g.lines v.men.kings == 0)) ≡ true → IsCastlingHarmless v g
+    → (v.castled == 0 || ((bit_and l v.castled == 0 && bit_and g.lines v.men.kings == 0) && bit_or v.men.grasshoppers v.men.nightriders == 0)) ≡ true
+    → IsCastlingHarmless v g
 harmless_castling v g l lines h = elim (or_cases _ _ h) [
   | inl none ↦ record {
     rooks = λ q small on. absurd (none_on v.castled q none on);
     kings = λ q s small on king. absurd (none_on v.castled q none on);
+    fairies = λ q s x on i. absurd (none_on v.castled q none on);
   }
-  | inr both ↦ record {
-    rooks = λ q small on. false_by _ (λ y. none_on (bit_and l v.castled) q (and_parts _ _ both).0
-        (on_both l v.castled q (word_has (is_on_some straight_steps g.king) l q lines small ∙ y) on));
-    kings = λ q s small on king. false_by _ (λ y. none_on (bit_and g.lines v.men.kings) s (and_parts _ _ both).1 (on_both g.lines v.men.kings s y king));
-  }
+  | inr all ↦
+      let both = and_parts _ _ (and_parts _ _ all).0 in
+      record {
+        rooks = λ q small on. false_by _ (λ y. none_on (bit_and l v.castled) q both.0
+            (on_both l v.castled q (word_has (is_on_some straight_steps g.king) l q lines small ∙ y) on));
+        kings = λ q s small on king. false_by _ (λ y. none_on (bit_and g.lines v.men.kings) s both.1 (on_both g.lines v.men.kings s y king));
+        fairies = λ q s x on i. plain_among v.men s x i (and_parts _ _ all).1;
+      }
 ]
 
 -- the risk of all
@@ -97,6 +174,8 @@ risk_never v k g king field = record {
   king = king;
   is = field;
   castling = λ b small off. absurd (nowhere b small off);
+  unsprung = λ b small off. absurd (nowhere b small off);
+  hops = λ b small off. absurd (nowhere b small off);
   lines = λ a b small off on. absurd (nowhere b small off);
   weak = λ s x i. weak_never v g 0 x s;
 } where
@@ -104,17 +183,26 @@ risk_never v k g king field = record {
   nowhere b small off = false≢true (sym off ∙ every_square_on b small)
 
 -- for the risk told of all attackers
-pub risk_is : (v : Siege) (k : ℕ) (g : Field) (r : Risk) → g.king ≡ k → IsField v g → IsCastlingHarmless v g → AreWeak v g r
-    → IsRiskAt v k (record { critical = r.critical; lines = bit_or r.lines g.lines })
-risk_is v k g r king field castling all = record {
+pub risk_is : (v : Siege) (k : ℕ) (g : Field) (r : Risk) (o : ℕ) → g.king ≡ k → IsField v g → IsCastlingHarmless v g → AreWeak v g r
+    → AreFree v k g.springboards → o ≡ word (λ s. is_square (Some k) s) → o < 2 ^ 64
+    → IsRiskAt v k (record { critical = bit_or r.critical (bit_and g.hops (bit_not w64 o)); lines = bit_or r.lines g.lines })
+risk_is v k g r o king field castling all free only fits = record {
   field = g;
   king = king;
   is = field;
   castling = λ b small off. castling;
   lines = λ a b small critical off. off_right r.lines g.lines a off;
+  unsprung = λ b small off. record {
+    springboards = g.springboards;
+    are = field.springs.own;
+    free = rw king free;
+    within = λ h on. on;
+  };
+  hops = λ b small off ne. false_by _ (λ on. false≢true (sym (off_right r.critical _ b off) ∙ denied_on g.hops o b fits small on
+      (false_by _ (λ at. ne (sym (eqb-true k b (sym (word_has (λ s. is_square (Some k) s) o b only small) ∙ at)) ∙ sym king)))));
   weak = λ s x i. record {
     weak = λ a b small inside off. (all.weak s x i).weak a b small inside
-        (record { lines = λ on. off_left r.lines g.lines a (off.lines on); critical = off.critical });
+        (record { lines = λ on. off_left r.lines g.lines a (off.lines on); critical = off_left r.critical _ b off.critical });
   };
 }
 
@@ -131,6 +219,8 @@ threats_are v r w siege whole risk ridden = record {
     is = risk.is;
     castling = risk.castling;
     lines = λ a b small critical off. risk.lines a b small critical (off_left r.lines w a off);
+    unsprung = risk.unsprung;
+    hops = risk.hops;
     weak = λ s x i. record {
       weak = λ a b small inside off. (risk.weak s x i).weak a b small inside
           (record { lines = λ on. off_left r.lines w a (off.lines on); critical = off.critical });
@@ -171,80 +261,29 @@ pub lifted_off : (a w s : ℕ) (o : Option ℕ) → w ≡ word (λ t. is_square 
 lifted_off a w s o only fits small e = false_by _ (λ on. false≢true (sym (off_word a w s fits small on) ∙ word_has (λ t. is_square o t) w s only small
     ∙ ap (λ (u : Option ℕ). is_square u s) e ∙ eq-eqb s s refl))
 
--- who is of this colour and kind
-is_the_man : (o : Option Man) (x : Man) (c : Colour) (k : Kind) → is_man o c k ≡ true → x.colour ≡ c → x.kind ≡ k → o ≡ Some x
-is_the_man (Some z) x c k h mine kind =
-    let both = and_parts _ _ h in
-    let same : z ≡ x = sym (man_is z c k (same_colour-true _ _ both.0) (same_kind-true z.kind k both.1)) ∙ man_is x c k mine kind in
-    ap (λ (y : Man). Some y) same
-is_the_man None x c k h mine kind = absurd (false≢true h)
+-- who stands on a square is of his colour and kind
+self : (c : Colour) (k : Kind) → (same_colour c c && same_kind k k) ≡ true
+self c k = grind (arith, eq-eqb)
+
+there : (men : List (Option Man)) (s : ℕ) (x : Man) (c : Colour) → man_on men s ≡ Some x → x.colour ≡ c → is_man (man_on men s) c x.kind ≡ true
+there men s x c here mine = ap (λ (o : Option Man). is_man o c x.kind) here ∙ rw mine (self c x.kind)
 
 -- the men of the board
 pub attackers_are : (men : List (Option Man)) (a : Attackers) → a.kings ≡ squares_of men a.colour King → a.queens ≡ squares_of men a.colour Queen
     → a.rooks ≡ squares_of men a.colour Rook → a.bishops ≡ squares_of men a.colour Bishop → a.knights ≡ squares_of men a.colour Knight
-    → a.pawns ≡ squares_of men a.colour Pawn → AreAttackers men a
+    → a.pawns ≡ squares_of men a.colour Pawn → a.grasshoppers ≡ squares_of men a.colour Grasshopper
+    → a.nightriders ≡ squares_of men a.colour Nightrider → AreAttackers men a
 unfolding squares_of
-attackers_are men a kings queens rooks bishops knights pawns = record {
-  stand = λ s x small here mine plain. record { small = small; mine = mine; on = by s x small here mine plain x.kind refl };
-  alone = λ s x i. alone s x i x.kind refl i.on;
+attackers_are men a kings queens rooks bishops knights pawns grasshoppers nightriders = record {
+  stand = λ s x small here mine. record {
+    small = small;
+    mine = mine;
+    on = word_has (λ q. is_man (man_on men q) a.colour x.kind) _ s (words x.kind) small ∙ there men s x a.colour here mine;
+  };
+  alone = λ s x i. man_of_word men a.colour x.kind _ s (words x.kind) i.small i.on ∙ ap (λ (y : Man). Some y) (man_is x a.colour x.kind i.mine refl);
 } where
-  man_there : (s : ℕ) (x : Man) → IsAttacker a x s → (k : Kind) → x.kind ≡ k → (w : ℕ) → w ≡ word (λ s. is_man (man_on men s) a.colour k)
-      → (bit_at w s == 1) ≡ true → man_on men s ≡ Some x
-  man_there s x i k kind w e on =
-      is_the_man (man_on men s) x a.colour k (sym (word_has (λ s. is_man (man_on men s) a.colour k) w s e i.small) ∙ on) i.mine kind
-
-  alone : (s : ℕ) (x : Man) → IsAttacker a x s → (k : Kind) → x.kind ≡ k → (bit_at (squares_for a x.kind) s == 1) ≡ true → man_on men s ≡ Some x
-  alone s x i King e on = man_there s x i King e a.kings kings (rw e at on)
-  alone s x i Queen e on = man_there s x i Queen e a.queens queens (rw e at on)
-  alone s x i Rook e on = man_there s x i Rook e a.rooks rooks (rw e at on)
-  alone s x i Bishop e on = man_there s x i Bishop e a.bishops bishops (rw e at on)
-  alone s x i Knight e on = man_there s x i Knight e a.knights knights (rw e at on)
-  alone s x i Pawn e on = man_there s x i Pawn e a.pawns pawns (rw e at on)
-  alone s x i Grasshopper e on = absurd (false≢true (sym (off_zero s) ∙ (rw e at on)))
-  alone s x i Nightrider e on = absurd (false≢true (sym (off_zero s) ∙ (rw e at on)))
-
-  self : (c : Colour) (k : Kind) → (same_colour c c && same_kind k k) ≡ true
-  self c k = grind (arith, eq-eqb)
-
-  there : (s : ℕ) (x : Man) → s < 64 → man_on men s ≡ Some x → x.colour ≡ a.colour → (k : Kind) → x.kind ≡ k → (w : ℕ)
-      → w ≡ word (λ s. is_man (man_on men s) a.colour k)
-      → (bit_at w s == 1) ≡ true
-  there s x small here mine k kind w e =
-      word_has (λ s. is_man (man_on men s) a.colour k) w s e small ∙ ap (λ (o : Option Man). is_man o a.colour k) here
-      ∙ rw (mine, kind) (self a.colour k)
-
-  by : (s : ℕ) (x : Man) → s < 64 → man_on men s ≡ Some x → x.colour ≡ a.colour → is_fairy x.kind ≡ false → (k : Kind) → x.kind ≡ k
-      → (bit_at (squares_for a x.kind) s == 1) ≡ true
-  by s x small here mine plain King e = rw e (there s x small here mine King e a.kings kings)
-  by s x small here mine plain Queen e = rw e (there s x small here mine Queen e a.queens queens)
-  by s x small here mine plain Rook e = rw e (there s x small here mine Rook e a.rooks rooks)
-  by s x small here mine plain Bishop e = rw e (there s x small here mine Bishop e a.bishops bishops)
-  by s x small here mine plain Knight e = rw e (there s x small here mine Knight e a.knights knights)
-  by s x small here mine plain Pawn e = rw e (there s x small here mine Pawn e a.pawns pawns)
-  by s x small here mine plain Grasshopper e = absurd (false≢true (sym plain ∙ ap is_fairy e))
-  by s x small here mine plain Nightrider e = absurd (false≢true (sym plain ∙ ap is_fairy e))
-
--- for `has_no_fairy`
-pub no_fairies : (men : List (Option Man)) (c : Colour) (g n : ℕ) → g ≡ squares_of men c Grasshopper → n ≡ squares_of men c Nightrider
-    → (bit_or g n == 0) ≡ true → HasNoFairy men c
-unfolding squares_of
-no_fairies men c g n hoppers riders none = record { none = λ s x small here mine. by s x small here mine x.kind refl } where
-  there : (s : ℕ) (x : Man) → man_on men s ≡ Some x → x.colour ≡ c → (k : Kind) → x.kind ≡ k → is_man (man_on men s) c k ≡ true
-  there s x here mine k kind = ap (λ (o : Option Man). is_man o c k) here ∙ rw (mine, kind) (both c k) where
-    both : (c : Colour) (k : Kind) → (same_colour c c && same_kind k k) ≡ true
-    both c k = grind (arith, eq-eqb)
-
-  by : (s : ℕ) (x : Man) → s < 64 → man_on men s ≡ Some x → x.colour ≡ c → (k : Kind) → x.kind ≡ k → is_fairy x.kind ≡ false
-  by s x small here mine Grasshopper e = absurd (none_on (bit_or g n) s none (on_left g n s
-      (word_has (λ q. is_man (man_on men q) c Grasshopper) g s hoppers small ∙ there s x here mine Grasshopper e)))
-  by s x small here mine Nightrider e = absurd (none_on (bit_or g n) s none (on_right g n s (word_has (λ q. is_man (man_on men q) c Nightrider) n s riders small
-      ∙ there s x here mine Nightrider e)))
-  by s x small here mine King e = rw e refl
-  by s x small here mine Queen e = rw e refl
-  by s x small here mine Rook e = rw e refl
-  by s x small here mine Bishop e = rw e refl
-  by s x small here mine Knight e = rw e refl
-  by s x small here mine Pawn e = rw e refl
+  words : (k : Kind) → squares_for a k ≡ squares_of men a.colour k
+  words k = grind arith
 
 -- for `castling_square`: one side, by numbers
 pub shut_on : (p : Position) (c : Colour) (own w corner next a b : ℕ) → own ≡ side_of p.men c → next < 64

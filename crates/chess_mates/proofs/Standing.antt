@@ -1,9 +1,10 @@
 -- Who stands where after a move.
 use Rattle.chess_rules.proofs.Basics.{List, None, Option, Some, and_left, and_parts, and_right, ap, arith, cases_Bool, cases_eq, cond-true, cond-false, eq-eqb, false, false≢true, inl, inr, is_some, length, not-true, or_cases, or_parts, refl, rules, sym, true, ℕ, ◌&&◌, ◌<◌, ◌||◌, ◌∙◌, ◌≡◌, ◌≢◌, ◌⊎◌}
-use Rattle.chess_mates.proofs.Chess.{Colour, Grasshopper, IsWellFormed, Kind, King, Man, Move, Pawn, Position, RuleSet, is_promoting, arriving_man, capture_square, corner, is_arrival_free, is_attacked, is_castling, captures_do_more, is_fairy, is_man, is_of_colour, is_square, man_on, may_castle, other, position_after}
+use Rattle.chess_mates.proofs.Chess.{Colour, Grasshopper, IsWellFormed, Kind, King, Man, Move, Pawn, Position, RuleSet, is_promoting, arriving_man, capture_square, corner, is_arrival_free, is_attacked, is_castling, captures_do_more, is_man, is_of_colour, is_square, man_on, may_castle, other, position_after}
 use Rattle.chess_mates.proofs.Chess.{position_after_by, can_castle, reaches, reaches_as, reaches_of, reborn_square, same_colour, same_colour-true, same_kind, some_square_false, is_attacker, triple_at}
 use Rattle.chess_core.proofs.Castlings.{has_unmoved-parts}
 use Rattle.chess_core.specs.Castling.{has_unmoved, without_unmoved}
+use Rattle.chess_core.specs.Steps.{gait_of, is_hopper}
 use Rattle.chess_rules.specs.Legal.{is_promotion_right}
 use Rattle.chess_rules.specs.Play.{unmoved_after}
 use Rattle.chess_rules.specs.Play.{unmoved_without_at}
@@ -120,9 +121,9 @@ same_man a b h = cc
 pub mine_again : (a c : Colour) → same_colour a (other c) ≡ false → a ≡ c
 mine_again a c h = grind arith
 
--- who is no fairy man is no grasshopper
-pub no_hopper : (k : Kind) → is_fairy k ≡ false → same_kind k Grasshopper ≡ false
-no_hopper k plain = grind (arith, false≢true)
+-- who is no grasshopper is no hopper
+pub no_hopper : (k : Kind) → same_kind k Grasshopper ≡ false → is_hopper (gait_of k) ≡ false
+no_hopper k other = grind (arith, false≢true)
 
 -- a man of the mover is none of the other side
 pub not_mine_enemy : (x : Man) (c : Colour) → x.colour ≡ c → same_colour x.colour (other c) ≡ false

@@ -26,15 +26,15 @@ taken_nowhere : (u : Option ℕ) (t q : ℕ) → ((s : ℕ) → is_square u s �
 taken_nowhere u t q h ne = false_from_ne_true _ (λ y. ne (h q y))
 
 -- the man on a square
-on_flight : (men : List (Option Man)) (a : ℕ) (o : Option ℕ) (b : ℕ) (z : Man) (k : ℕ) (u : Option ℕ) (t : ℕ) (x : Man) (q : ℕ) → t < length men → q ≡ t
+pub on_flight : (men : List (Option Man)) (a : ℕ) (o : Option ℕ) (b : ℕ) (z : Man) (k : ℕ) (u : Option ℕ) (t : ℕ) (x : Man) (q : ℕ) → t < length men → q ≡ t
     → man_on (stepped men a o b z k u t x) q ≡ Some x
 on_flight men a o b z k u t x q small e = search rules
 
-on_left : (men : List (Option Man)) (a : ℕ) (o : Option ℕ) (b : ℕ) (z : Man) (k : ℕ) (u : Option ℕ) (t : ℕ) (x : Man) (q : ℕ) → q ≢ t → (k == q) ≡ true
+pub on_left : (men : List (Option Man)) (a : ℕ) (o : Option ℕ) (b : ℕ) (z : Man) (k : ℕ) (u : Option ℕ) (t : ℕ) (x : Man) (q : ℕ) → q ≢ t → (k == q) ≡ true
     → man_on (stepped men a o b z k u t x) q ≡ None
 on_left men a o b z k u t x q ne y = left_now (gone_to men a o b z) k u t x q ne (or_left (k == q) (is_square u q) y)
 
-on_others : (men : List (Option Man)) (a : ℕ) (o : Option ℕ) (b : ℕ) (z : Man) (k : ℕ) (u : Option ℕ) (t : ℕ) (x : Man) (q : ℕ)
+pub on_others : (men : List (Option Man)) (a : ℕ) (o : Option ℕ) (b : ℕ) (z : Man) (k : ℕ) (u : Option ℕ) (t : ℕ) (x : Man) (q : ℕ)
     → ((s : ℕ) → is_square u s ≡ true → s ≡ t) → q ≢ t → (k == q) ≡ false
     → man_on (stepped men a o b z k u t x) q ≡ man_on (gone_to men a o b z) q
 on_others men a o b z k u t x q h ne off = search (rules, gone_to, kept_now, or_from, taken_nowhere)
@@ -60,7 +60,7 @@ pub lifted_words : (men : List (Option Man)) (a : ℕ) (o : Option ℕ) (b k : �
     → (sight_lifted men a o b k).occupied ≡ word (λ s. is_occupied_after men a o b s && not (k == s))
 lifted_words men a o b k = search (rules, occupied_words, squares_both, squares_not)
 
-occupied_stepped : (men : List (Option Man)) (a : ℕ) (o : Option ℕ) (b : ℕ) (z : Man) (k : ℕ) (u : Option ℕ) (t : ℕ) (x : Man) → b < length men
+pub occupied_stepped : (men : List (Option Man)) (a : ℕ) (o : Option ℕ) (b : ℕ) (z : Man) (k : ℕ) (u : Option ℕ) (t : ℕ) (x : Man) → b < length men
     → t < length men → ((s : ℕ) → is_square u s ≡ true → s ≡ t)
     → (sight_with (sight_lifted men a o b k) t).occupied ≡ occupied_squares (stepped men a o b z k u t x)
 occupied_stepped men a o b z k u t x arrival flight h =

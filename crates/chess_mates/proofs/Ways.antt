@@ -41,7 +41,7 @@ module _ (rule : RuleSet) (p : Position) (x : Man) (v : ToldThreats) (well : IsW
           arrival = arrival;
           own = λ f low on. false_by _ (λ own. false≢true (sym (next.free f low on) ∙ fits.closed.own f low own));
           king = λ f low on. false_by _ (λ king. false≢true (sym (next.kings f low on) ∙ fits.kings f low king));
-        }) v.siege.men fits.men fits.colour threats.told.fairies kept
+        }) v.siege.men fits.men fits.colour kept
 
     -- beside him, whoever comes elsewhere
     man_keeps : same_kind x.kind King ≡ false → captures_do_more rule ≡ false → KeepsFlightBeside v.siege m.to
@@ -70,7 +70,6 @@ module _ (rule : RuleSet) (p : Position) (x : Man) (v : ToldThreats) (well : IsW
           mere = mere;
           siege = siege;
           fits = threats.fits;
-          fairies = threats.told.fairies;
           at = safe.at;
           off = record { lines = λ on. absurd ((siege.hurdles.men m.from from on).1 same); critical = safe.off };
           shut = record { shut = λ s z a rider on. absurd ((siege.hurdles.men m.from from on).1 same) };
@@ -110,7 +109,6 @@ module _ (rule : RuleSet) (p : Position) (x : Man) (v : ToldThreats) (well : IsW
             castled = subst (λ (c : ℕ). AreCastlingSquares p (other p.turn) c) (sym l.castled) fits.castled;
             closed = subst (λ (c : ℕ). AreClosed rule p c) (sym l.closed) fits.closed;
           };
-          fairies = threats.told.fairies;
           at = safe.at;
           off = safe.off;
           shut = safe.shut;

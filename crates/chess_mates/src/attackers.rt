@@ -1,14 +1,17 @@
-//! The men of a side kind by kind, fairy men apart.
-ghost use Rattle.std.specs.Prelude.{◌≡◌, true};
+//! The men of a side kind by kind.
+ghost use Rattle.std.specs.Prelude.{◌≡◌};
 ghost use Rattle.chess_core.specs.declared.man.Kind.TheVariants.{King};
 ghost use Rattle.chess_core.specs.ties.Words.{squares_of};
-ghost use Rattle.chess_mates.specs.ties.Attackers.{AreAttackers, HasNoFairy};
+ghost use Rattle.chess_mates.specs.ties.Attackers.{AreAttackers};
 
 use chess_core::board::Board;
 use chess_core::man::{Colour, Kind};
 use chess_core::square::Squares;
 
-// The squares of a side's men kind by kind, fairy men apart.
+// Against more attackers than these a king seldom keeps a flight whatever is played: such flights are not looked for.
+pub(crate) const MOST_ATTACKERS: u32 = 7;
+
+// The squares of a side's men kind by kind.
 #[derive(Clone, Copy)]
 pub(crate) struct Attackers {
     pub(crate) colour: Colour,
@@ -18,9 +21,12 @@ pub(crate) struct Attackers {
     pub(crate) bishops: Squares,
     pub(crate) knights: Squares,
     pub(crate) pawns: Squares,
+    pub(crate) grasshoppers: Squares,
+    pub(crate) nightriders: Squares,
 }
 
-// The men of the colour, fairy men apart.
+// The men of the colour.
+#[tactic(auto, using(crate::proofs::Sieges::attackers_are))]
 pub(crate) fn attackers_on(board: &Board, colour: Colour) -> Attackers
     ensures colour { result.colour ≡ colour }
     ensures kings { result.kings ≡ squares_of board.now.men colour King }
@@ -34,12 +40,7 @@ pub(crate) fn attackers_on(board: &Board, colour: Colour) -> Attackers
         bishops: board.squares(colour, Kind::Bishop),
         knights: board.squares(colour, Kind::Knight),
         pawns: board.squares(colour, Kind::Pawn),
+        grasshoppers: board.squares(colour, Kind::Grasshopper),
+        nightriders: board.squares(colour, Kind::Nightrider),
     }
-}
-
-// Whether the colour has no fairy man.
-pub(crate) fn has_no_fairy(board: &Board, colour: Colour) -> bool
-    ensures { result ≡ true → HasNoFairy board.now.men colour }
-{
-    board.squares(colour, Kind::Grasshopper) | board.squares(colour, Kind::Nightrider) == 0
 }

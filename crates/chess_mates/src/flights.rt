@@ -1,5 +1,5 @@
 //! Flights of the enemy king after a move, told without playing it.
-ghost use Rattle.std.specs.Prelude.{◌≡◌, ◌<◌, ◌==◌, ◌&&◌, ℕ, IfSome, List, Option, false, is_some, not, true};
+ghost use Rattle.std.specs.Prelude.{◌≡◌, ◌<◌, ◌==◌, ◌&&◌, ℕ, IfNone, IfSome, List, Option, false, is_some, not, true};
 ghost use Rattle.std.specs.Int.{bit_at};
 ghost use Rattle.std.specs.Int.Bits.{bit_and, bit_or};
 ghost use Rattle.chess_core.specs.Position.{other, same_kind};
@@ -8,7 +8,7 @@ ghost use Rattle.chess_core.specs.ties.Words.{side_of, squares_of, word};
 ghost use Rattle.chess_core.specs.declared.man.Man.{Man};
 ghost use Rattle.chess_core.specs.declared.man.Move.{Move};
 ghost use Rattle.chess_core.specs.declared.man.Kind.TheVariants.{King};
-ghost use Rattle.chess_mates.specs.ties.Flights.{AreGuarded, AreSteps, IsOneSafe, IsSeenFrom, IsTold, sight_lifted, sight_with};
+ghost use Rattle.chess_mates.specs.ties.Flights.{AreSteps, AreUnsafe, IsSafe, IsSeenFrom, IsTold, sight_lifted, sight_with};
 ghost use Rattle.chess_rules.specs.Legal.{is_pseudo_legal};
 ghost use Rattle.chess_rules.specs.Play.{arriving_man, capture_square, position_after};
 ghost use Rattle.chess_rules.specs.RuleSet.{captures_do_more, faced_men_stand_still};
@@ -42,7 +42,7 @@ pub(crate) enum Flights {
 
 // The men once one has gone from `from` to `to`, the one on the captured square is gone, and the king on
 // `king` is lifted. The man that went doesn't count as one that stands.
-fn sight_lifted(
+pub(crate) fn sight_lifted(
     board: &Board,
     from: Square,
     captured: Option<Square>,
@@ -59,7 +59,7 @@ fn sight_lifted(
 }
 
 // The men once that king stands on `to`, whoever stood there.
-fn sight_with(sight: Sight, to: Square) -> Sight
+pub(crate) fn sight_with(sight: Sight, to: Square) -> Sight
     ensures { result ≡ sight_with sight to }
 {
     let there = only(Some(to));
@@ -71,7 +71,7 @@ fn sight_with(sight: Sight, to: Square) -> Sight
 
 // The squares to which a king that isn't the mover's may not step: its own men stand there, as far as they
 // still stand, or the mover's king.
-fn held_squares(board: &Board, standing: Squares) -> Squares
+pub(crate) fn held_squares(board: &Board, standing: Squares) -> Squares
     ensures { result ≡ bit_or (bit_and (side_of board.now.men (other board.now.turn)) standing)
         (squares_of board.now.men board.now.turn King) }
 {
@@ -80,7 +80,12 @@ fn held_squares(board: &Board, standing: Squares) -> Squares
 }
 
 // The squares that the man sees from where it arrives, as what it is then.
-fn covered_squares(occupied: Squares, man: Man, promo: Option<Kind>, to: Square) -> Squares
+pub(crate) fn covered_squares(
+    occupied: Squares,
+    man: Man,
+    promo: Option<Kind>,
+    to: Square,
+) -> Squares
     ensures { (men : List (Option Man)) → occupied ≡ occupied_squares men
         → result ≡ word (reaches_as men (arriving_man man promo).colour
         (arriving_man man promo).kind to) }
@@ -92,10 +97,10 @@ fn covered_squares(occupied: Squares, man: Man, promo: Option<Kind>, to: Square)
 // The squares to which the enemy king on `king` may step after a simple move, attacks apart: no man of its
 // own and no king stands there, and in Circe nobody. `sight` is that after the move, the king lifted.
 #[tactic(auto, using(crate::proofs::Fleeing::open_squares_in_circe, crate::proofs::Fleeing::open_squares))]
-fn open_squares<R: Rules>(board: &Board, sight: Sight, king: Square) -> Squares
+pub(crate) fn open_squares<R: Rules>(board: &Board, sight: Sight, king: Square) -> Squares
     ensures { (m : Move) (x : Man) → IsSeenFrom R.rule board.now m x king → m.to < 64
         → sight ≡ sight_lifted board.now.men m.from (capture_square board.now x m) m.to king
-        → AreSteps R.rule (position_after R.rule board.now m).men (other board.now.turn) king
+        → AreSteps R.rule (position_after R.rule board.now m).men x (other board.now.turn) king
         result }
 {
     let near = king_leaps(king);
@@ -105,21 +110,26 @@ fn open_squares<R: Rules>(board: &Board, sight: Sight, king: Square) -> Squares
     near & !held_squares(board, sight.standing)
 }
 
-// Whether there is one among the squares that no man of the colour attacks once the enemy king stands there,
-// the man that moved apart.
+// The first of the squares that no man of the colour attacks once the enemy king stands there, the man that
+// moved apart.
 #[inline(always)]
-fn is_one_safe(board: &Board, sight: Sight, squares: Squares, colour: Colour) -> bool
-    ensures safe { result ≡ true → IsOneSafe board.now.men colour sight squares }
-    ensures guarded { result ≡ false → AreGuarded board.now.men colour sight squares }
+pub(crate) fn first_safe(
+    board: &Board,
+    sight: Sight,
+    squares: Squares,
+    colour: Colour,
+) -> Option<Square>
+    ensures safe { IfSome result (λ t. IsSafe board.now.men colour sight squares t) }
+    ensures guarded { IfNone result (AreUnsafe board.now.men colour sight squares) }
 {
     let mut number = 0u8;
     while let Some(square) = next_bit(squares, number) {
         if !is_attacker_seen(board, sight_with(sight, square), square, colour) {
-            return true;
+            return Some(square);
         }
         number = square.index() + 1;
     }
-    false
+    None
 }
 
 // Whether each flight is seen: none to a man that is captured is passed over, and no attacker stands still.
@@ -130,7 +140,6 @@ fn are_all_seen<R: Rules>() -> bool
 }
 
 // What is told of the flights of the enemy king on `king` after the simple move of this man, who is no king.
-#[tactic(auto, using(crate::proofs::Fleeing::has_flight_to, crate::proofs::Flightless::flightless))]
 fn flights_from<R: Rules>(
     board: &Board,
     man: Man,
@@ -139,6 +148,7 @@ fn flights_from<R: Rules>(
     king: Square,
 ) -> Flights
     requires seen { IsSeenFrom R.rule board.now m.now man king }
+    requires mortal { same_kind man.kind King ≡ false }
     requires captured { captured ≡ capture_square board.now man m.now }
     ensures { IsTold R.rule (position_after R.rule board.now m.now) result }
 {
@@ -147,7 +157,7 @@ fn flights_from<R: Rules>(
     let sight = sight_lifted(board, m.from, captured, m.to, king);
     let near = open_squares::<R>(board, sight, king);
     let covered = covered_squares(sight.occupied, man, m.promo, m.to);
-    if is_one_safe(board, sight, near & !covered, board.turn()) {
+    if let Some(_) = first_safe(board, sight, near & !covered, board.turn()) {
         return Flights::Left;
     }
     if are_all_seen::<R>() {

@@ -2,13 +2,11 @@
 //! stood on the board, so it doesn't matter who goes, captures or is captured.
 ghost use Rattle.std.specs.Prelude.{◌≡◌, ◌≢◌, ◌<◌, ◌==◌, [], ℕ, IfSome, Some, not, true, false};
 ghost use Rattle.std.specs.Int.{bit_at};
-ghost use Rattle.chess_core.specs.Position.{other, same_kind};
+ghost use Rattle.chess_core.specs.Position.{same_kind};
 ghost use Rattle.chess_core.specs.SquareNames.{e1, e8};
-ghost use Rattle.chess_core.specs.Steps.{gait_of, is_hopper};
 ghost use Rattle.chess_core.specs.WellFormed.{IsWellFormed};
 ghost use Rattle.chess_core.specs.declared.man.Kind.TheVariants.{King};
 ghost use Rattle.chess_core.specs.declared.man.Man.{Man};
-ghost use Rattle.chess_mates.specs.ties.Attackers.{HasNoFairy};
 ghost use Rattle.chess_mates.specs.ties.LastingFlights.{AreApproached, AreGuarded, AreNear, AreReached, IsLeft, KeepsOne, LeaveOne, LeavesOne};
 ghost use Rattle.chess_mates.specs.ties.Mates.{mates_behind};
 ghost use Rattle.chess_rules.specs.Legal.{is_legal};
@@ -17,32 +15,15 @@ ghost use Rattle.chess_rules.specs.RuleSet.{captures_do_more};
 ghost use Rattle.chess_rules.specs.ties.Sight.{king_after};
 ghost use Rattle.chess_rules.specs.ties.Targets.{is_promoting};
 
-use crate::attackers::{Attackers, attackers_on, has_no_fairy};
-use crate::open_board::open_targets;
+use crate::attackers::{Attackers, MOST_ATTACKERS, attackers_on};
+use crate::open_board::{open_reach, open_targets};
 use chess_core::board::Board;
 use chess_core::man::{Colour, Kind, Man, Move};
 use chess_core::square::{Square, Squares};
-use chess_rules::leaps::{king_leaps, knight_leaps, pawn_leaps};
-use chess_rules::lines::{diagonal_lines, straight_lines};
+use chess_rules::leaps::king_leaps;
 use chess_rules::play::is_castling;
 use chess_rules::rules::Rules;
 use chess_rules::words::{contains, next_bit, only};
-
-// The squares that the man on `from` reaches, were the others gone: of a fairy man all.
-#[tactic(auto, using(crate::proofs::LastingFlights::any_reach, crate::proofs::LastingFlights::bishop_reach, crate::proofs::LastingFlights::king_reach, crate::proofs::LastingFlights::knight_reach, crate::proofs::LastingFlights::pawn_reach, crate::proofs::LastingFlights::queen_reach, crate::proofs::LastingFlights::rook_reach))]
-pub(crate) fn open_reach(man: Man, from: Square) -> Squares
-    ensures { AreReached man from result }
-{
-    match man.kind {
-        Kind::Queen => straight_lines(from) | diagonal_lines(from),
-        Kind::Rook => straight_lines(from),
-        Kind::Bishop => diagonal_lines(from),
-        Kind::Knight => knight_leaps(from),
-        Kind::Pawn => pawn_leaps(man.colour, from),
-        Kind::King => king_leaps(from),
-        _ => !0,
-    }
-}
 
 // Those that the men of this kind reach so, who stand on the squares of a word.
 #[inline(always)]
@@ -50,6 +31,9 @@ fn open_reach_of(colour: Colour, kind: Kind, squares: Squares) -> Squares
     ensures { (s : ℕ) → s < 64 → (bit_at squares s == 1) ≡ true
         → AreReached (record { colour = colour; kind = kind }) s result }
 {
+    if squares == 0 {
+        return 0;
+    }
     let man = Man { colour, kind };
     let mut reached = 0u64;
     let mut number = 0u8;
@@ -73,9 +57,12 @@ pub(crate) fn guarded_squares(men: &Attackers) -> Squares
         | open_reach_of(men.colour, Kind::Bishop, men.bishops)
         | open_reach_of(men.colour, Kind::Knight, men.knights)
         | open_reach_of(men.colour, Kind::Pawn, men.pawns)
+        | open_reach_of(men.colour, Kind::Grasshopper, men.grasshoppers)
+        | open_reach_of(men.colour, Kind::Nightrider, men.nightriders)
 }
 
 // The first of the squares that is left once the man has come to `to`.
+#[tactic(auto, using(crate::proofs::LastingFlights::left_first))]
 fn first_left(squares: Squares, man: Man, to: Square) -> Option<Square>
     ensures { IfSome result (λ f. IsLeft squares man to f) }
 {
@@ -87,35 +74,34 @@ const LAST_RANKS: Squares = 0xff00_0000_0000_00ff;
 
 const KINGS_HOMES: Squares = 0x1000_0000_0000_0010;
 
-// Whether the man is no fairy man and surely neither promotes nor castles; `targets` are the squares to which he may go.
+// Whether the man surely neither promotes nor castles; `targets` are the squares to which he may go.
 #[tactic(auto, using(crate::proofs::LastingFlights::no_last_rank, chess_rules::proofs::listing_moves::Targeting::no_pawn_arrives, crate::proofs::LastingFlights::off_homes))]
 fn goes_plainly(man: Man, from: Square, targets: Squares) -> bool
     ensures unpromoted { result ≡ true → (t : ℕ) → t < 64 → (bit_at targets t == 1) ≡ true
         → is_promoting man t ≡ false }
     ensures away { result ≡ true → same_kind man.kind King ≡ true → (from ≢ e1) × (from ≢ e8) }
-    ensures plain { result ≡ true → is_hopper (gait_of man.kind) ≡ false }
 {
     match man.kind {
         Kind::Pawn => targets & LAST_RANKS == 0,
         Kind::King => !contains(KINGS_HOMES, from),
-        Kind::Queen | Kind::Rook | Kind::Bishop | Kind::Knight => true,
-        _ => false,
+        _ => true,
     }
 }
 
-// The squares from which the man, who is no hopper, reaches `to`, were the others gone.
-#[tactic(auto, using(crate::proofs::LastingFlights::come_back))]
-fn open_approaches(man: Man, to: Square) -> Squares
-    requires { is_hopper (gait_of man.kind) ≡ false }
+// The squares from which the man reaches `to`, whoever else stands on the board: a grasshopper comes along a queen's lines.
+#[tactic(auto, using(crate::proofs::LastingFlights::come_back, crate::proofs::LastingFlights::hop_back))]
+pub(crate) fn open_approaches(man: Man, to: Square) -> Squares
     ensures { AreApproached man to result }
 {
     // For the proof: a square's number is below 64.
     let _small = to.index();
-    let back = Man {
-        colour: man.colour.other(),
-        kind: man.kind,
-    };
-    open_reach(back, to)
+    let colour = man.colour.other();
+    if man.kind.is(Kind::Grasshopper) {
+        let kind = Kind::Queen;
+        return open_reach(Man { colour, kind }, to);
+    }
+    let kind = man.kind;
+    open_reach(Man { colour, kind }, to)
 }
 
 // Whether one of the squares is left wherever the man comes to a square of the word.
@@ -156,6 +142,9 @@ fn each_leaves_one(squares: Squares, colour: Colour, kind: Kind, men: Squares) -
     ensures { result ≡ true → (s : ℕ) → s < 64 → (bit_at men s == 1) ≡ true
         → LeavesOne squares (record { colour = colour; kind = kind }) s }
 {
+    if men == 0 {
+        return true;
+    }
     let man = Man { colour, kind };
     let mut number = 0u8;
     while let Some(from) = next_bit(men, number) {
@@ -187,11 +176,17 @@ fn leave_one(squares: Squares, men: &Attackers) -> bool
     if !each_leaves_one(squares, men.colour, Kind::Pawn, men.pawns) {
         return false;
     }
+    if !each_leaves_one(squares, men.colour, Kind::Grasshopper, men.grasshoppers) {
+        return false;
+    }
+    if !each_leaves_one(squares, men.colour, Kind::Nightrider, men.nightriders) {
+        return false;
+    }
     each_leaves_one(squares, men.colour, Kind::King, men.kings)
 }
 
 // The square of the mover's king after this man's move, castling apart.
-fn king_after(board: &Board, man: Man, m: &Move) -> Option<Square>
+pub(crate) fn king_after(board: &Board, man: Man, m: &Move) -> Option<Square>
     ensures { result ≡ king_after board.now man m.now }
 {
     if man.kind.is(Kind::King) {
@@ -222,18 +217,12 @@ pub(crate) fn keeps_one(men: &Attackers, guarded: Squares, near: Squares) -> boo
     squares != 0 && leave_one(squares, men)
 }
 
-// Where the enemy has more men than these such flights are rare, and are not looked for.
-const MOST_MEN: u32 = 7;
-
-// Whether such flights are looked for: not in Circe, nor beside many enemies or their fairy men.
+// Whether such flights are looked for: not in Circe, nor beside many enemies.
 fn are_looked_for<R: Rules>(board: &Board) -> bool
-    ensures captures { result ≡ true → captures_do_more R.rule ≡ false }
-    ensures fairies { result ≡ true → HasNoFairy board.now.men (other board.now.turn) }
+    ensures { result ≡ true → captures_do_more R.rule ≡ false }
 {
     let enemy = board.turn().other();
-    !R::captures_do_more()
-        && board.side(enemy).count_ones() <= MOST_MEN
-        && has_no_fairy(board, enemy)
+    !R::captures_do_more() && board.side(enemy).count_ones() <= MOST_ATTACKERS
 }
 
 // Whether the man doesn't castle.
@@ -244,8 +233,7 @@ fn goes_alone(man: Man, m: &Move) -> bool
 }
 
 /// Where it answers `true`, no reply to this move mates: the king keeps a flight, whatever is played. `false`
-/// says nothing: so it answers where kings castle, in Circe, beside a grasshopper or a nightrider of the other
-/// side, and beside many of its men.
+/// says nothing: so it answers where kings castle, in Circe, and beside many men of the other side.
 pub fn keeps_flight<R: Rules>(board: &Board, m: &Move) -> bool
     requires well_formed { IsWellFormed board.now }
     requires legal { is_legal R.rule board.now m.now ≡ true }

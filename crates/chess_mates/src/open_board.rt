@@ -1,9 +1,10 @@
-//! Where a man might go, and from where he might come, if no other stood on the board.
+//! Where a man might go, and from where he might come, whoever else stood on the board: mostly as if no other did.
 ghost use Rattle.std.specs.Prelude.{◌≡◌, ℕ, ◌<◌, ◌==◌, true};
 ghost use Rattle.std.specs.Int.{bit_at};
 ghost use Rattle.chess_core.specs.Position.{Position};
 ghost use Rattle.chess_core.specs.declared.man.Kind.TheVariants.{Pawn};
 ghost use Rattle.chess_mates.specs.ties.CheckSquares.{AreApproaches};
+ghost use Rattle.chess_mates.specs.ties.LastingFlights.{AreReached};
 ghost use Rattle.chess_mates.specs.ties.Threats.{AreCapturers};
 ghost use Rattle.chess_rules.specs.ties.Targets.{may_go};
 
@@ -11,22 +12,36 @@ use chess_core::man::{Colour, Kind, Man};
 use chess_core::square::{Square, Squares};
 use chess_rules::leaps::{king_leaps, knight_leaps, pawn_advances, pawn_leaps};
 use chess_rules::lines::{diagonal_lines, straight_lines};
+use chess_rules::reach::reach_over;
 use chess_rules::targets::steps_to;
 
-// The squares to which the man on `from` might go, were the others gone, castling among them, and perhaps
-// more: of a fairy man all.
+// The squares that the man on `from` reaches, whoever else stands on the board: of a grasshopper a queen's lines.
+#[tactic(auto, using(crate::proofs::OpenBoard::bishop_reach, crate::proofs::OpenBoard::grasshopper_reach, crate::proofs::OpenBoard::king_reach, crate::proofs::OpenBoard::knight_reach, crate::proofs::OpenBoard::nightrider_reach, crate::proofs::OpenBoard::pawn_reach, crate::proofs::OpenBoard::queen_reach, crate::proofs::OpenBoard::rook_reach))]
+pub(crate) fn open_reach(man: Man, from: Square) -> Squares
+    ensures { AreReached man from result }
+{
+    match man.kind {
+        Kind::Queen | Kind::Grasshopper => straight_lines(from) | diagonal_lines(from),
+        Kind::Rook => straight_lines(from),
+        Kind::Bishop => diagonal_lines(from),
+        Kind::Knight => knight_leaps(from),
+        Kind::Pawn => pawn_leaps(man.colour, from),
+        Kind::King => king_leaps(from),
+        Kind::Nightrider => reach_over(0, man.colour, Kind::Nightrider, from),
+    }
+}
+
+// The squares to which he might go, castling among them, and perhaps more.
+#[tactic(auto, using(crate::proofs::OpenBoard::king_targets, crate::proofs::OpenBoard::pawn_targets, crate::proofs::OpenBoard::piece_targets))]
 pub(crate) fn open_targets(man: Man, from: Square) -> Squares
     ensures { (p : Position) (t : ℕ) → t < 64 → may_go p man from t ≡ true
         → (bit_at result t == 1) ≡ true }
 {
+    let reached = open_reach(man, from);
     match man.kind {
-        Kind::Queen => straight_lines(from) | diagonal_lines(from),
-        Kind::Rook => straight_lines(from),
-        Kind::Bishop => diagonal_lines(from),
-        Kind::Knight => knight_leaps(from),
-        Kind::Pawn => pawn_leaps(man.colour, from) | pawn_advances(man.colour, from),
-        Kind::King => king_leaps(from) | steps_to(man, from),
-        _ => !0,
+        Kind::Pawn => reached | pawn_advances(man.colour, from),
+        Kind::King => reached | steps_to(man, from),
+        _ => reached,
     }
 }
 

@@ -6,8 +6,11 @@ ghost use Rattle.chess_mates.specs.ties.LastingFlights.{AreGuarded};
 ghost use Rattle.chess_mates.specs.ties.Siege.{AreToldSteps, IsBarred, IsSettledStep, IsSparedStep, KeepsFlight};
 
 use crate::attackers::Attackers;
+use crate::field::adjacent_squares;
+use crate::guards::{leapt_squares, ridden_squares};
 use crate::lasting_flights::{guarded_squares, keeps_one};
-use crate::siege::{Siege, adjacent_squares, leapt_squares, ridden_squares, risk_at};
+use crate::risk::risk_at;
+use crate::siege::Siege;
 use chess_core::square::{Square, Squares};
 use chess_rules::rules::Rules;
 use chess_rules::words::{contains, next_bit, only};

@@ -13,11 +13,10 @@ ghost use Rattle.chess_rules.specs.Play.{position_after};
 ghost use Rattle.chess_rules.specs.RuleSet.{captures_do_more};
 ghost use Rattle.chess_rules.specs.ties.Targets.{may_go};
 
-use crate::attackers::has_no_fairy;
+use crate::field::needed_squares;
 use crate::open_board::capturers_before;
-use crate::siege::{
-    LAST_RANKS, Risk, RiskBehind, Siege, critical_from, is_of, kept_risk, needed_squares, siege_of,
-};
+use crate::risk::{LAST_RANKS, Risk, RiskBehind, critical_from, kept_risk};
+use crate::siege::{Siege, is_of, siege_of};
 use crate::steps::{ToldSteps, kept_risky_steps};
 use chess_core::board::Board;
 use chess_core::man::{Colour, Kind, Man, Move};
@@ -86,13 +85,11 @@ fn unplain_squares<R: Rules>(board: &Board, man: Man, from: Square) -> Squares
     special | altering_squares(board, man, from)
 }
 
-// Whether threats can be told: not where the side that isn't to move has a grasshopper or a nightrider, nor where captures
-// do more than that men are reborn.
-fn can_be_told<R: Rules>(board: &Board) -> bool
-    ensures { result ≡ true → IsTold R.rule board.now }
+// Whether threats can be told: not where captures do more than that men are reborn.
+fn can_be_told<R: Rules>() -> bool
+    ensures { result ≡ true → IsTold R.rule }
 {
-    (!R::captures_do_more() || R::captures_are_reborn())
-        && has_no_fairy(board, board.turn().other())
+    !R::captures_do_more() || R::captures_are_reborn()
 }
 
 // Those of the squares that are needed; where captures do more all.
@@ -166,7 +163,7 @@ impl Model for Threats {
 impl Threats {
     /// The threats to the king of the side to move, who stands on the square.
     pub fn of<R: Rules>(board: &Board, king: Square) -> Threats
-        ensures { IsWellFormed board.now → IsTold R.rule board.now
+        ensures { IsWellFormed board.now → IsTold R.rule
             → king_square board.now.men board.now.turn ≡ Some king
             → AreThreatsOf R.rule board.now result }
     {
@@ -180,13 +177,12 @@ impl Threats {
         }
     }
 
-    /// Whether they are told at all: not where the side that isn't to move has a grasshopper or a nightrider, nor, but in
-    /// Circe, where it has only so few men or fewer.
+    /// Whether they are told at all: not, but in Circe, where the side that isn't to move has only so few men or fewer.
     pub fn are_told<R: Rules>(board: &Board, few: u32) -> bool
-        ensures { result ≡ true → IsTold R.rule board.now }
+        ensures { result ≡ true → IsTold R.rule }
     {
         (R::captures_do_more() || board.side(board.turn().other()).count_ones() > few)
-            && can_be_told::<R>(board)
+            && can_be_told::<R>()
     }
 
     /// Whether these are the threats in the board's position: they hold in each with the same men and castlings and the
@@ -195,7 +191,7 @@ impl Threats {
         requires { IsWellFormed board.now }
         ensures { result ≡ true → AreThreatsOf R.rule board.now self.now }
     {
-        can_be_told::<R>(board) && is_of::<R>(&self.siege, board)
+        can_be_told::<R>() && is_of::<R>(&self.siege, board)
     }
 
     /// Those of the squares that the man on `from` mustn't come to by a legal move lest a reply may mate. So he mustn't where

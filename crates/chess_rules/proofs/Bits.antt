@@ -1,6 +1,11 @@
--- Bits of words: the first from a place on, one alone, and words that are not 0.
-use Rattle.chess_rules.proofs.Basics.{Bool, None, Some, ap, arith, bit_and, bit_at, bit_at-lt, bit_at-pow_other, bit_at-pow_same, bit_at-trailing_zeros, bit_at-zero, bit_at_and, bit_at_mask_below, bit_at_mask_inside, bit_at_or, bit_not, bit_or, cases_eq, cases_lt, eq-eqb, eqb-true, false, false_from_ne_true, find, inl, inr, not, one_shl, ones_shl, range_with_len, refl, rules, sym, trailing_zeros, true, true_from_ne_false, w64, ℕ, ◌%◌, ◌*◌, ◌-◌, ◌<◌, ◌==◌, ◌^◌, ◌∙◌, ◌≡◌, ◌≤◌}
-use Rattle.chess_rules.proofs.Chess.{bit_of, differs, find_range_none, find_range_some, is_square, some_square, square_bit, square_word, squares_none, squares_not, squares_same, squares_some, word}
+-- Bits of words: the first from a place on, one alone, words that are not 0, and words of several lines joined.
+use Rattle.chess_rules.proofs.Basics.{Bool, List, None, Some, [], ap, arith, bit_and, bit_at, bit_at-lt, bit_at-pow_other, bit_at-pow_same, bit_at-trailing_zeros, bit_at-zero, bit_at_and, bit_at_mask_below, bit_at_mask_inside, bit_at_or, bit_not, bit_or, cases_eq, cases_lt, eq-eqb, eqb-true, false, false_from_ne_true, find, list_any, list_any-append, not, one_shl, ones_shl, range_with_len, refl, rules, sym, trailing_zeros, true, true_from_ne_false, w64, ℕ, ◌%◌, ◌*◌, ◌++◌, ◌-◌, ◌<◌, ◌==◌, ◌^◌, ◌||◌, ◌∙◌, ◌∷◌, ◌≡◌, ◌≤◌}
+use Rattle.chess_core.proofs.Ranges.{find_range_none, find_range_some}
+use Rattle.chess_core.proofs.Words.{square_bit, square_word, squares_either, squares_none, squares_not, squares_same, squares_some}
+use Rattle.chess_core.specs.Squares.{is_square, some_square}
+use Rattle.chess_core.specs.declared.step.Step.{Step}
+use Rattle.chess_core.specs.ties.Words.{bit_of, word}
+use Rattle.chess_rules.proofs.Tests.{differs}
 
 -- the bits of a word from a place on
 abbrev pub from_on : ℕ → ℕ → ℕ
@@ -19,8 +24,7 @@ not_set n h = rw h refl
 -- where no bit is left from the place on, none is found
 pub next_none : (word from : ℕ) → from < 64 → from_on word from ≡ 0 → find (λ s. bit_at word s == 1) (range_with_len from (64 - from)) ≡ None
 next_none word from p h =
-    find_range_none (λ s. bit_at word s == 1) from (64 - from)
-    (λ k lo hi. not_set (bit_at word k) (sym (bit_from_on word from k lo (omega arith)) ∙ ap (λ n. bit_at n k) h ∙ bit_at-zero k))
+    find_range_none (λ s. bit_at word s == 1) from (64 - from) (λ k lo hi. grind (arith, bit_from_on word from k lo, bit_at-zero k, not_set))
 
 -- the lowest bit from the place on isn't below the place
 pub next_low : (word from : ℕ) → from < 64 → 0 < from_on word from → from_on word from < 2 ^ 64 → from ≤ trailing_zeros w64 (from_on word from)
@@ -30,12 +34,10 @@ next_low word from p pos fits = grind (arith, bit_at-trailing_zeros w64 (from_on
 pub next_some : (word from : ℕ) → from < 64 → 0 < from_on word from → from_on word from < 2 ^ 64
     → find (λ s. bit_at word s == 1) (range_with_len from (64 - from)) ≡ Some (trailing_zeros w64 (from_on word from))
 next_some word from p pos fits =
-    let t = trailing_zeros w64 (from_on word from) in
     let w = bit_at-trailing_zeros w64 (from_on word from) pos fits in
-    let lo : from ≤ t = next_low word from p pos fits in
-    find_range_some (λ s. bit_at word s == 1) from (64 - from) t lo (omega (arith, w.0))
-    (eq-eqb (bit_at word t) 1 (sym (bit_from_on word from t lo w.0) ∙ w.1))
-    (λ j a b. not_set (bit_at word j) (sym (bit_from_on word from j a (omega (arith, w.0))) ∙ w.2 j b))
+    let lo = next_low word from p pos fits in
+    find_range_some (λ s. bit_at word s == 1) from (64 - from) _ lo (omega (arith, w.0)) (grind (arith, bit_from_on word from, w, lo))
+    (λ j a b. grind (arith, w.2 j b, bit_from_on word from j a, w.0))
 
 is_bit : (b : Bool) → (bit_of b == 1) ≡ b
 is_bit b = grind arith
@@ -52,10 +54,7 @@ word_empty test h = square_word test 0 (omega arith) (λ s b. bit_at-zero s ∙ 
 pub word_only : (s : ℕ) → s < 64 → 1 * 2 ^ s % 2 ^ 64 ≡ word (λ t. is_square (Some s) t)
 word_only s p =
     square_word (λ t. is_square (Some s) t) _ (omega arith)
-    (λ t b. ap (λ n. bit_at n t) (one_shl s 64 p) ∙ elim (cases_eq t s) [
-      | inl e ↦ rw e (bit_at-pow_same s ∙ sym (ap bit_of (eq-eqb s s refl)))
-      | inr ne ↦ bit_at-pow_other s t ne ∙ sym (ap bit_of (differs s t (λ e. ne (sym e))))
-    ])
+    (λ t b. grind (arith, one_shl s 64 p, cases_eq t s, bit_at-pow_same s, bit_at-pow_other s t, differs s t))
 
 -- a bit of a word says whether the square passes
 pub word_has : (test : ℕ → Bool) (w s : ℕ) → w ≡ word test → s < 64 → (bit_at w s == 1) ≡ test s
@@ -84,3 +83,16 @@ on_left a b i h = true_from_ne_false _ (λ e. let off = off_left a b i e in cc)
 -- and so is one of the second word
 pub on_right : (a b i : ℕ) → (bit_at b i == 1) ≡ true → (bit_at (bit_or a b) i == 1) ≡ true
 on_right a b i h = true_from_ne_false _ (λ e. let off = off_right a b i e in cc)
+
+one_by_one : (a b c d : Bool) → (((a || b) || c) || d) ≡ (a || (b || (c || (d || false))))
+one_by_one a b c d = grind arith
+
+-- the words of four steps joined are the word of the four
+pub four : (p : ℕ → Step → Bool) (a b c d : Step) (k l m n : ℕ) → k ≡ word (λ t. p t a) → l ≡ word (λ t. p t b) → m ≡ word (λ t. p t c) → n ≡ word (λ t. p t d)
+    → bit_or (bit_or (bit_or k l) m) n ≡ word (λ t. list_any (p t) (a ∷ b ∷ c ∷ d ∷ []))
+four p a b c d k l m n x y z w = search (rules, squares_either, squares_same, one_by_one, x, y, z, w)
+
+-- the words of two lists of steps joined are the word of both lists
+pub both_lists : (p : ℕ → Step → Bool) (xs ys : List Step) (k l : ℕ) → k ≡ word (λ t. list_any (p t) xs) → l ≡ word (λ t. list_any (p t) ys)
+    → bit_or k l ≡ word (λ t. list_any (p t) (xs ++ ys))
+both_lists p xs ys k l x y = search (rules, squares_either, squares_same, list_any-append, x, y)

@@ -1,8 +1,6 @@
 -- Moves of all sorts, computed from the definitions.
-use Rattle.chess_rules.proofs.Basics.{None, Some, [], false, map, refl, true, ◌∷◌, ◌≡◌}
-use Rattle.chess_rules.proofs.Chess.{Bishop, Black, Grasshopper, King, Nightrider, Pawn, Rook, White, along, can_castle, capture_square, faces, faces_its_like, hops, in_check, is_attacked, is_attacker, is_clear, is_legal, is_mate, is_paralysed, is_pseudo_legal, leaps, may_castle, moved_men, moves, position_after, position_after_by, reaches, reaches_as, rebirth, reborn_square, rides, some_square, squares, triples, unmoved_after, Position, circe, has_unmoved, kinds, king_square, madrasi, man_on, mark_unmoved, none_unmoved, orthodox, same_kind, with_unmoved}
-use Rattle.chess_rules.proofs.Typed.{go, man, on, position, promoting}
-use Rattle.chess_core.specs.SquareNames.{a1, d1, e1, f1, g1, h1, f2, h2, b3, f3, h3, d5, e5, d6, g6, d7, e7, a8, b8, c8, e8, g8, h8}
+use Rattle.chess_rules.proofs.Chess.{Bishop, Black, Grasshopper, King, Nightrider, None, Pawn, Position, Rook, Some, White, [], circe, false, is_legal, is_mate, kinds, madrasi, man_on, map, none_unmoved, orthodox, position_after, refl, same_kind, true, with_unmoved, ◌∷◌, ◌≡◌}
+use Rattle.chess_rules.proofs.Typed.{legal_moves, go, man, on, position, promoting, a1, d1, e1, f1, g1, h1, f2, h2, b3, f3, h3, d5, e5, d6, g6, d7, e7, a8, b8, c8, e8, g8, h8}
 
 -- White Ke1 Rh1 Re8 Rg8, Black Kf3: castling mates
 abbrev castling : Position
@@ -13,18 +11,12 @@ castling = record (position (on White King e1 ∷ on White Rook h1 ∷ on White 
 
 -- the king castles, and this is mate
 castling_mates : (is_legal orthodox castling (go e1 g1) ≡ true) × (is_mate orthodox (position_after orthodox castling (go e1 g1)) ≡ true)
-unfolding reaches reaches_as rides hops leaps is_clear along squares some_square king_square faces_its_like faces is_attacker is_paralysed is_attacked in_check
-    position_after position_after_by unmoved_after moved_men capture_square reborn_square rebirth can_castle may_castle is_pseudo_legal is_legal none_unmoved
-    has_unmoved
-    mark_unmoved moves triples is_mate
+unfolding legal_moves
 castling_mates = (refl, refl)
 
 -- once the rook has moved it may not
 castling_wants_the_rook_unmoved : is_legal orthodox (record castling { unmoved = with_unmoved none_unmoved e1 }) (go e1 g1) ≡ false
-unfolding reaches reaches_as rides hops leaps is_clear along squares some_square king_square faces_its_like faces is_attacker is_paralysed is_attacked in_check
-    position_after position_after_by unmoved_after moved_men capture_square reborn_square rebirth can_castle may_castle is_pseudo_legal is_legal none_unmoved
-    has_unmoved
-    mark_unmoved moves triples is_mate
+unfolding legal_moves
 castling_wants_the_rook_unmoved = refl
 
 -- the same with a black grasshopper on d1: after castling it hops over f1 to g1
@@ -35,10 +27,7 @@ guarded = record (position (on White King e1 ∷ on White Rook h1 ∷ on White R
 -- so castling isn't legal, and Rh1-f1, which mates without it, doesn't, since the grasshopper captures there
 grasshopper_forbids_castling : (is_legal orthodox guarded (go e1 g1) ≡ false) × (is_mate orthodox (position_after orthodox guarded (go h1 f1)) ≡ false)
     × (is_mate orthodox (position_after orthodox castling (go h1 f1)) ≡ true)
-unfolding reaches reaches_as rides hops leaps is_clear along squares some_square king_square faces_its_like faces is_attacker is_paralysed is_attacked in_check
-    position_after position_after_by unmoved_after moved_men capture_square reborn_square rebirth can_castle may_castle is_pseudo_legal is_legal none_unmoved
-    has_unmoved
-    mark_unmoved moves triples is_mate
+unfolding legal_moves
 grasshopper_forbids_castling = (refl, refl, refl)
 
 -- White Kg6 Ba1 Bb3 Pe5, Black Kh8 Pd5, whose pawn has just passed d6
@@ -49,26 +38,17 @@ passing = record (position (on White King g6 ∷ on White Bishop a1 ∷ on White
 -- the capture en passant is legal, takes the pawn off d5 and mates
 en_passant_mates : (is_legal orthodox passing (go e5 d6) ≡ true) × (man_on (position_after orthodox passing (go e5 d6)).men d5 ≡ None)
     × (is_mate orthodox (position_after orthodox passing (go e5 d6)) ≡ true)
-unfolding reaches reaches_as rides hops leaps is_clear along squares some_square king_square faces_its_like faces is_attacker is_paralysed is_attacked in_check
-    position_after position_after_by unmoved_after moved_men capture_square reborn_square rebirth can_castle may_castle is_pseudo_legal is_legal none_unmoved
-    has_unmoved
-    mark_unmoved moves triples is_mate
+unfolding legal_moves
 en_passant_mates = (refl, refl, refl)
 
 -- in Circe the pawn is reborn on d7
 en_passant_in_circe : man_on (position_after circe passing (go e5 d6)).men d7 ≡ Some (man Black Pawn)
-unfolding reaches reaches_as rides hops leaps is_clear along squares some_square king_square faces_its_like faces is_attacker is_paralysed is_attacked in_check
-    position_after position_after_by unmoved_after moved_men capture_square reborn_square rebirth can_castle may_castle is_pseudo_legal is_legal none_unmoved
-    has_unmoved
-    mark_unmoved moves triples is_mate
+unfolding legal_moves
 en_passant_in_circe = refl
 
 -- without the crossed square there is no such capture
 en_passant_wants_the_crossed_square : is_legal orthodox (record passing { crossed = None }) (go e5 d6) ≡ false
-unfolding reaches reaches_as rides hops leaps is_clear along squares some_square king_square faces_its_like faces is_attacker is_paralysed is_attacked in_check
-    position_after position_after_by unmoved_after moved_men capture_square reborn_square rebirth can_castle may_castle is_pseudo_legal is_legal none_unmoved
-    has_unmoved
-    mark_unmoved moves triples is_mate
+unfolding legal_moves
 en_passant_wants_the_crossed_square = refl
 
 -- White Ke1 Rb3, Black Ke8 Rb8, Black to move in Circe
@@ -81,10 +61,7 @@ rook_takes_rook = record (position (on White King e1 ∷ on White Rook b3 ∷ on
 -- the white rook is reborn on h1, which counts as unmoved then
 rook_is_reborn : (man_on (position_after circe rook_takes_rook (go b8 b3)).men h1 ≡ Some (man White Rook))
     × ((position_after circe rook_takes_rook (go b8 b3)).unmoved ≡ with_unmoved (with_unmoved (with_unmoved none_unmoved e1) h1) e8)
-unfolding reaches reaches_as rides hops leaps is_clear along squares some_square king_square faces_its_like faces is_attacker is_paralysed is_attacked in_check
-    position_after position_after_by unmoved_after moved_men capture_square reborn_square rebirth can_castle may_castle is_pseudo_legal is_legal none_unmoved
-    has_unmoved
-    mark_unmoved moves triples is_mate
+unfolding legal_moves
 rook_is_reborn = (refl, refl)
 
 -- White Kg6 Ra1, Black Kg8 Ba8, in Circe: on a8, a light square, its home is c8
@@ -94,10 +71,7 @@ bishop_at_home = position (on White King g6 ∷ on White Rook a1 ∷ on Black Ki
 -- the captured bishop is reborn there, and this is no mate
 bishop_is_reborn : (man_on (position_after circe bishop_at_home (go a1 a8)).men c8 ≡ Some (man Black Bishop))
     × (is_mate circe (position_after circe bishop_at_home (go a1 a8)) ≡ false)
-unfolding reaches reaches_as rides hops leaps is_clear along squares some_square king_square faces_its_like faces is_attacker is_paralysed is_attacked in_check
-    position_after position_after_by unmoved_after moved_men capture_square reborn_square rebirth can_castle may_castle is_pseudo_legal is_legal none_unmoved
-    has_unmoved
-    mark_unmoved moves triples is_mate
+unfolding legal_moves
 bishop_is_reborn = (refl, refl)
 
 -- the same with a rook on a8, which is its home: it is captured for good
@@ -106,10 +80,7 @@ rook_at_home = position (on White King g6 ∷ on White Rook a1 ∷ on Black King
 
 -- so this is mate
 rook_vanishes : is_mate circe (position_after circe rook_at_home (go a1 a8)) ≡ true
-unfolding reaches reaches_as rides hops leaps is_clear along squares some_square king_square faces_its_like faces is_attacker is_paralysed is_attacked in_check
-    position_after position_after_by unmoved_after moved_men capture_square reborn_square rebirth can_castle may_castle is_pseudo_legal is_legal none_unmoved
-    has_unmoved
-    mark_unmoved moves triples is_mate
+unfolding legal_moves
 rook_vanishes = refl
 
 -- White Kf2 Pe7, Black Kh2 Bh1 Ph3 Na8: a nightrider stands in the diagram
@@ -120,19 +91,13 @@ promotion = record (position (on White King f2 ∷ on White Pawn e7 ∷ on Black
 -- promotion to a nightrider is legal and mates
 nightrider_mates : (is_legal orthodox promotion (promoting e7 e8 Nightrider) ≡ true)
     × (is_mate orthodox (position_after orthodox promotion (promoting e7 e8 Nightrider)) ≡ true)
-unfolding reaches reaches_as rides hops leaps is_clear along squares some_square king_square faces_its_like faces is_attacker is_paralysed is_attacked in_check
-    position_after position_after_by unmoved_after moved_men capture_square reborn_square rebirth can_castle may_castle is_pseudo_legal is_legal none_unmoved
-    has_unmoved
-    mark_unmoved moves triples is_mate
+unfolding legal_moves
 nightrider_mates = (refl, refl)
 
 -- without one in the diagram there is no such promotion, and a king there is never
 no_nightrider_without_one : (is_legal orthodox (record promotion { in_diagram = [] }) (promoting e7 e8 Nightrider) ≡ false)
     × (is_legal orthodox promotion (promoting e7 e8 King) ≡ false)
-unfolding reaches reaches_as rides hops leaps is_clear along squares some_square king_square faces_its_like faces is_attacker is_paralysed is_attacked in_check
-    position_after position_after_by unmoved_after moved_men capture_square reborn_square rebirth can_castle may_castle is_pseudo_legal is_legal none_unmoved
-    has_unmoved
-    mark_unmoved moves triples is_mate
+unfolding legal_moves
 no_nightrider_without_one = (refl, refl)
 
 -- White Kg6 Ra1, Black Kg8 Rh1 in Madrasi: the rooks paralyse each other
@@ -142,8 +107,5 @@ like_rooks = position (on White King g6 ∷ on White Rook a1 ∷ on Black King g
 -- the rook may go to a8 in orthodox chess and mates there, and may not in Madrasi
 paralysed_rook_stays : (is_legal orthodox like_rooks (go a1 a8) ≡ true) × (is_mate orthodox (position_after orthodox like_rooks (go a1 a8)) ≡ true)
     × (is_legal madrasi like_rooks (go a1 a8) ≡ false)
-unfolding reaches reaches_as rides hops leaps is_clear along squares some_square king_square faces_its_like faces is_attacker is_paralysed is_attacked in_check
-    position_after position_after_by unmoved_after moved_men capture_square reborn_square rebirth can_castle may_castle is_pseudo_legal is_legal none_unmoved
-    has_unmoved
-    mark_unmoved moves triples is_mate
+unfolding legal_moves
 paralysed_rook_stays = (refl, refl, refl)

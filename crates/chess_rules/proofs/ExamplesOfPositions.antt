@@ -1,8 +1,6 @@
 -- All legal moves of some positions, computed from the definitions.
-use Rattle.chess_rules.proofs.Basics.{[], false, length, refl, true, ◌∷◌, ◌≡◌}
-use Rattle.chess_rules.proofs.Chess.{Bishop, Black, King, Knight, Pawn, Position, Queen, Rook, White, along, can_castle, capture_square, faces, faces_its_like, hops, in_check, is_attacked, is_attacker, is_clear, is_legal, is_mate, is_nil, is_paralysed, is_pseudo_legal, king_square, leaps, may_castle, moved_men, moves, orthodox, position_after, position_after_by, reaches, reaches_as, rebirth, reborn_square, rides, some_square, squares, triples, unmoved_after, has_unmoved, mark_unmoved, none_unmoved, with_unmoved}
-use Rattle.chess_rules.proofs.Typed.{on, position}
-use Rattle.chess_core.specs.SquareNames.{a1, b1, c1, d1, e1, f1, g1, h1, a2, b2, c2, d2, e2, f2, g2, h2, c3, f3, h3, b4, e4, d5, e5, a6, b6, e6, f6, g6, a7, b7, c7, d7, e7, f7, g7, h7, a8, b8, c8, d8, e8, f8, g8, h8}
+use Rattle.chess_rules.proofs.Chess.{Bishop, Black, King, Knight, Pawn, Position, Queen, Rook, White, [], false, in_check, is_mate, is_nil, length, moves, none_unmoved, orthodox, refl, true, with_unmoved, ◌∷◌, ◌≡◌}
+use Rattle.chess_rules.proofs.Typed.{legal_moves, on, position, a1, b1, c1, d1, e1, f1, g1, h1, a2, b2, c2, d2, e2, f2, g2, h2, c3, f3, h3, b4, e4, d5, e5, a6, b6, e6, f6, g6, a7, b7, c7, d7, e7, f7, g7, h7, a8, b8, c8, d8, e8, f8, g8, h8}
 
 -- the game array
 abbrev array : Position
@@ -17,10 +15,7 @@ array = record (position (on White King e1 ∷ on White Queen d1 ∷ on White Ro
 
 -- 20 moves
 moves_of_the_array : length (moves orthodox array) ≡ 20
-unfolding reaches reaches_as rides hops leaps is_clear along squares some_square king_square faces_its_like faces is_attacker is_paralysed is_attacked in_check
-    position_after position_after_by unmoved_after moved_men capture_square reborn_square rebirth can_castle may_castle is_pseudo_legal is_legal none_unmoved
-    has_unmoved
-    mark_unmoved moves triples is_mate
+unfolding legal_moves
 moves_of_the_array = refl
 
 -- a position with castling on both sides and captures of all sorts
@@ -36,10 +31,7 @@ full = record (position (on White King e1 ∷ on White Rook a1 ∷ on White Rook
 
 -- 48 moves
 moves_of_the_full_position : length (moves orthodox full) ≡ 48
-unfolding reaches reaches_as rides hops leaps is_clear along squares some_square king_square faces_its_like faces is_attacker is_paralysed is_attacked in_check
-    position_after position_after_by unmoved_after moved_men capture_square reborn_square rebirth can_castle may_castle is_pseudo_legal is_legal none_unmoved
-    has_unmoved
-    mark_unmoved moves triples is_mate
+unfolding legal_moves
 moves_of_the_full_position = refl
 
 -- White Ke1 Rh1, Black Ke8 Rf8: the king would cross an attacked square
@@ -51,10 +43,7 @@ rook_on_f8 = record (position (on White King e1 ∷ on White Rook h1 ∷ on Blac
 
 -- 12 moves, 3 of the king and 9 of the rook
 no_castling_over_an_attacked_square : length (moves orthodox rook_on_f8) ≡ 12
-unfolding reaches reaches_as rides hops leaps is_clear along squares some_square king_square faces_its_like faces is_attacker is_paralysed is_attacked in_check
-    position_after position_after_by unmoved_after moved_men capture_square reborn_square rebirth can_castle may_castle is_pseudo_legal is_legal none_unmoved
-    has_unmoved
-    mark_unmoved moves triples is_mate
+unfolding legal_moves
 no_castling_over_an_attacked_square = refl
 
 -- White Kg6 Ra8, Black Kg8, Black to move
@@ -63,10 +52,7 @@ mate = position (on White King g6 ∷ on White Rook a8 ∷ on Black King g8 ∷ 
 
 -- Black is mated
 mated : is_mate orthodox mate ≡ true
-unfolding reaches reaches_as rides hops leaps is_clear along squares some_square king_square faces_its_like faces is_attacker is_paralysed is_attacked in_check
-    position_after position_after_by unmoved_after moved_men capture_square reborn_square rebirth can_castle may_castle is_pseudo_legal is_legal none_unmoved
-    has_unmoved
-    mark_unmoved moves triples is_mate
+unfolding legal_moves
 mated = refl
 
 -- White Kc7 Rb7, Black Ka8, Black to move
@@ -75,8 +61,5 @@ stalemate = position (on White King c7 ∷ on White Rook b7 ∷ on Black King a8
 
 -- Black has no move and isn't in check, which is no mate
 stalemated : (is_nil (moves orthodox stalemate) ≡ true) × (in_check orthodox stalemate.men Black ≡ false) × (is_mate orthodox stalemate ≡ false)
-unfolding reaches reaches_as rides hops leaps is_clear along squares some_square king_square faces_its_like faces is_attacker is_paralysed is_attacked in_check
-    position_after position_after_by unmoved_after moved_men capture_square reborn_square rebirth can_castle may_castle is_pseudo_legal is_legal none_unmoved
-    has_unmoved
-    mark_unmoved moves triples is_mate
+unfolding legal_moves
 stalemated = (refl, refl, refl)

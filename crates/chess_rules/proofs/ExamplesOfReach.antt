@@ -1,8 +1,6 @@
 -- How men go and give check, computed from the definitions.
-use Rattle.chess_rules.proofs.Basics.{List, Option, [], false, refl, true, ◌∷◌, ◌≡◌}
-use Rattle.chess_rules.proofs.Chess.{Black, Grasshopper, King, Knight, Man, Nightrider, Pawn, Rook, White, along, faces, faces_its_like, hops, in_check, is_attacked, is_attacker, is_clear, is_paralysed, king_square, leaps, reaches, reaches_as, rides, some_square, squares, with_man, madrasi, orthodox}
-use Rattle.chess_rules.proofs.Typed.{man, on, set_up}
-use Rattle.chess_core.specs.SquareNames.{a1, e1, f1, a3, b3, a4, a5, e5, a6, f6, d7, e7, f7, g7, b8}
+use Rattle.chess_rules.proofs.Chess.{Black, Grasshopper, King, Knight, List, Man, Nightrider, Option, Pawn, Rook, White, [], along, faces, faces_its_like, false, hops, in_check, is_attacked, is_attacker, is_clear, is_paralysed, king_square, leaps, madrasi, orthodox, reaches, reaches_as, refl, rides, some_square, squares, true, with_man, ◌∷◌, ◌≡◌}
+use Rattle.chess_rules.proofs.Typed.{man, on, set_up, a1, e1, f1, a3, b3, a4, a5, e5, a6, f6, d7, e7, f7, g7, b8}
 
 -- White rook a1 and grasshopper a4, Black king e1
 abbrev three : List (Option Man)

@@ -1,11 +1,9 @@
 -- What the clauses of attack, of lines and of targets exclude: small positions in which the definitions say otherwise than a wrong body would.
-use Rattle.chess_rules.proofs.Basics.{Bool, List, Option, Some, [], ap, arith, bit_at, drop, false, filter, find, not, range_with_len, refl, sym, take, true, ℕ, ◌%◌, ◌&&◌, ◌-◌, ◌/◌, ◌<◌, ◌==◌, ◌^◌, ◌∙◌, ◌∷◌, ◌≡◌, ◌≤◌, rules}
-use Rattle.chess_rules.proofs.Chess.{Bishop, Black, Colour, Grasshopper, IsBarrenFrom, Kind, King, Knight, Man, Nightrider, Pawn, Position, Queen, Rook, White, along, can_castle, can_go, capture_square, faces, faces_its_like, hops, in_check, is_ahead, is_arrival_free, is_attacked, is_attacker, is_clear, is_legal, is_man, is_of_colour, is_on_some, is_paralysed, is_pseudo_legal, king_square, leaps, man_on, may_castle, may_go, may_promote, moved_men, moves_between, pawn_goes, per_arrival, position_after, position_after_by, promotion_at, reaches, reaches_as, rebirth, reborn_square, rides, sight_after, some_square, squares, step_by, steps_to, straight_steps, triple_at, triples, unmoved_after, without_man, word, word_of, AreEvasions, AreEvasionsFrom, RuleSet, cannot_expose, has_fairy, has_fairy_lines_of, has_unmoved, hopped_from, is_behind, is_checker, is_evasion, is_met, is_on_fairy_line, is_plain, is_reached, is_shut, madrasi, mark_unmoved, may_expose, may_stand_between, none_unmoved, orthodox, rides_on, with_unmoved}
-use Rattle.std.proofs.lemmas.Bool.{agree_below_at, and_from, cases_lt, true_from_ne_false, true≢false, false≢true}
+use Rattle.chess_rules.proofs.Chess.{AreEvasions, AreEvasionsFrom, Bishop, Black, Bool, Colour, Grasshopper, IsBarrenFrom, Kind, King, Knight, List, Man, Nightrider, Option, Pawn, Position, Queen, Rook, RuleSet, Some, White, [], agree_below_at, along, and_from, ap, arith, bit_at, can_castle, can_go, cannot_expose, cases_lt, drop, faces, faces_its_like, false, false≢true, filter, find, has_fairy, has_fairy_lines_of, hopped_from, hops, in_check, is_ahead, is_arrival_free, is_attacked, is_behind, is_checker, is_clear, is_evasion, is_legal, is_man, is_met, is_of_colour, is_on_fairy_line, is_on_some, is_paralysed, is_plain, is_pseudo_legal, is_reached, is_shut, king_square, leaps, madrasi, man_on, may_expose, may_go, may_promote, may_stand_between, moves_between, none_unmoved, not, orthodox, pawn_goes, per_arrival, per_origin, position_after, promotion_at, range_with_len, reaches, reaches_as, refl, rides, rides_on, rules, sight_after, some_square, squares, step_by, steps_to, straight_steps, sym, take, triple_at, triples, true, true_from_ne_false, true≢false, with_unmoved, without_man, word, word_of, ℕ, ◌%◌, ◌&&◌, ◌*◌, ◌+◌, ◌-◌, ◌/◌, ◌<◌, ◌==◌, ◌^◌, ◌∙◌, ◌∷◌, ◌≡◌, ◌≤◌}
 use Rattle.chess_rules.proofs.making_moves.Pseudo.{on_board}
 use Rattle.chess_rules.proofs.attacks.StayingInCheck.{side_there}
-use Rattle.chess_rules.proofs.Typed.{go, man, on, position, set_up}
-use Rattle.chess_core.specs.SquareNames.{a1, b1, c1, d1, e1, g1, h1, a2, b2, h2, a3, b3, c3, d3, h3, a4, d5, e4, a5, a6, b6, d6, e5, e7, a8, b8, e8, f8, g8, h8}
+use Rattle.chess_rules.proofs.Typed.{go, man, on, position, set_up, a1, b1, c1, d1, e1, g1, h1, a2, b2, h2, a3, b3, c3, d3, h3, a4, d5, e4, a5, a6, b6, d6, e5, e7, a8, b8, e8, f8, g8, h8}
+unfoldable pub use Rattle.chess_rules.proofs.Typed.{check_after_a_move}
 
 -- White rooks a1 and a8 see each other, and neither is faced by its like: only enemies paralyse
 abbrev own_rooks : List (Option Man)
@@ -33,13 +31,6 @@ pub grasshopper_lands_behind_its_hurdle : (hops (set_up (on Black Pawn a5 ∷ []
     × (hops (set_up (on Black Pawn a5 ∷ [])) a4 b6 (step_by 0 0 1 0) ≡ false)
 unfolding hops is_clear along
 grasshopper_lands_behind_its_hurdle = (refl, refl)
-
--- what these examples compute with
-unfoldable pub check_after_a_move : Unit {0}
-unfolding reaches reaches_as rides hops leaps is_clear along squares some_square king_square faces_its_like faces is_attacker is_paralysed is_attacked in_check
-    position_after position_after_by unmoved_after moved_men capture_square reborn_square rebirth can_castle may_castle is_pseudo_legal none_unmoved has_unmoved
-    mark_unmoved
-check_after_a_move = tt
 
 -- White Ka1 Bb3 Pe5, Black Kg8 Pd5, which has just passed d6: the capture en passant opens the bishop's line
 abbrev pub opening_capture : Position
@@ -83,8 +74,7 @@ unfolding reaches_as rides is_clear along
 no_other_man_meets_it_there = refl
 
 -- a man who arrives on a4 shuts the file: a rook on a8 reached a1 before
-pub arriving_man_shuts : (reaches (set_up (on Black Rook a8 ∷ [])) a8 a1 ≡ true)
-    × (reaches (set_up (on Black Rook a8 ∷ on White Pawn a4 ∷ [])) a8 a1 ≡ false)
+pub arriving_man_shuts : (reaches (set_up (on Black Rook a8 ∷ [])) a8 a1 ≡ true) × (reaches (set_up (on Black Rook a8 ∷ on White Pawn a4 ∷ [])) a8 a1 ≡ false)
 unfolding reaches reaches_as rides is_clear along
 arriving_man_shuts = (refl, refl)
 
@@ -93,7 +83,7 @@ pub promotion_needs_its_man : (may_promote (position [] White) Grasshopper ≡ f
 promotion_needs_its_man = (refl, refl)
 
 -- the last per_origin triples are those of a man on h8
-pub last_triples_are_from_h8 : (triple_at 28224).from ≡ h8
+pub last_triples_are_from_h8 : (triple_at (per_origin * h8)).from ≡ h8
 unfolding triple_at
 last_triples_are_from_h8 = refl
 
@@ -131,16 +121,14 @@ crossing_a_line =
 
 -- he doesn't castle, and would without that rook
 pub no_castling_through_an_attack : (may_go crossing_a_line (man White King) e1 g1 ≡ true)
-    × (can_castle orthodox crossing_a_line (man White King) (go e1 g1) ≡ false)
-    × (can_go orthodox crossing_a_line (man White King) (go e1 g1) ≡ false)
+    × (can_castle orthodox crossing_a_line (man White King) (go e1 g1) ≡ false) × (can_go orthodox crossing_a_line (man White King) (go e1 g1) ≡ false)
     × (can_castle orthodox (record crossing_a_line { men = without_man crossing_a_line.men f8 }) (man White King) (go e1 g1) ≡ true)
 unfolding may_go steps_to check_after_a_move
 no_castling_through_an_attack = (refl, refl, refl, refl)
 
 -- a pawn goes two squares from its second rank alone, and to no square that is taken, nor over one
 pub pawn_steps_over_empty_squares : (pawn_goes (position [] White) (man White Pawn) a2 a4 ≡ true)
-    × (pawn_goes (position [] White) (man White Pawn) a3 a5 ≡ false)
-    × (pawn_goes (position (on Black Rook a3 ∷ []) White) (man White Pawn) a2 a3 ≡ false)
+    × (pawn_goes (position [] White) (man White Pawn) a3 a5 ≡ false) × (pawn_goes (position (on Black Rook a3 ∷ []) White) (man White Pawn) a2 a3 ≡ false)
     × (pawn_goes (position (on Black Rook a3 ∷ []) White) (man White Pawn) a2 a4 ≡ false)
 unfolding along
 pawn_steps_over_empty_squares = (refl, refl, refl, refl)
@@ -203,10 +191,8 @@ unfolding king_square squares
 met_there w t small none are = true_from_ne_false _ (λ e.
     let u = are.elsewhere t small e in
     let enemy = side_there (man_on rook_check.men u.checker) Black u.enemy in
-    let on : u.checker < 64 = on_board rook_check.men u.checker enemy.0 refl enemy.1.0 in
-    let here : Some a1 ≡ Some u.king = u.here in
-    let king : u.king ≡ a1 = cc in
-    false≢true (sym (none u.checker on) ∙ and_from _ _ (and_from _ _ u.enemy (rw king at u.check)) (ap not (rw king at u.no_evasion))))
+    let on = on_board rook_check.men u.checker enemy.0 refl enemy.1.0 in
+    grind (arith, none u.checker on, u.enemy, u.here, u.check, u.no_evasion))
 
 -- so a man may capture the rook on a8, or shut the file on a4
 pub captures_and_shuts_meet_a_check : (w : ℕ) → AreEvasions orthodox rook_check.men White w → ((bit_at w a8 == 1) ≡ true) × ((bit_at w a4 == 1) ≡ true)
@@ -307,10 +293,9 @@ abbrev hurdle_goes : Position
 hurdle_goes = position (on White King a1 ∷ on White Rook a2 ∷ on White Knight a4 ∷ on Black King h8 ∷ on Black Grasshopper a8 ∷ []) White
 
 -- so a move from a4 may uncover the king, and Na4-b6 does
-pub leaving_man_opens_a_hop : (is_shut hurdle_goes.men Black Rook straight_steps a1 a4 ≡ false)
-    × (may_stand_between hurdle_goes.men Black a4 ≡ false) × (may_expose hurdle_goes.men White a4 ≡ true)
-    × (is_pseudo_legal orthodox hurdle_goes (go a4 b6) ≡ true) × (in_check orthodox hurdle_goes.men White ≡ false)
-    × (in_check orthodox (position_after orthodox hurdle_goes (go a4 b6)).men White ≡ true)
+pub leaving_man_opens_a_hop : (is_shut hurdle_goes.men Black Rook straight_steps a1 a4 ≡ false) × (may_stand_between hurdle_goes.men Black a4 ≡ false)
+    × (may_expose hurdle_goes.men White a4 ≡ true) × (is_pseudo_legal orthodox hurdle_goes (go a4 b6) ≡ true)
+    × (in_check orthodox hurdle_goes.men White ≡ false) × (in_check orthodox (position_after orthodox hurdle_goes (go a4 b6)).men White ≡ true)
 unfolding lines_to_a_king check_after_a_move
 leaving_man_opens_a_hop = (refl, refl, refl, refl, refl, refl)
 
@@ -328,8 +313,7 @@ nightriders_line_is_shut = (refl, refl, refl, refl, refl)
 
 -- a stretch without a move ends before a move to one of the word's squares
 ends_at : (p : Position) (s w k b : ℕ) → (bit_at w (k / per_arrival) == 1) ≡ true
-    → is_pseudo_legal orthodox p (record { from = s; to = k / per_arrival; promo = promotion_at (k % per_arrival) }) ≡ true
-    → IsBarrenFrom p s w 0 b → b ≤ k
+    → is_pseudo_legal orthodox p (record { from = s; to = k / per_arrival; promo = promotion_at (k % per_arrival) }) ≡ true → IsBarrenFrom p s w 0 b → b ≤ k
 ends_at p s w k b on may barren = grind (arith, cases_lt, false≢true)
 
 -- of a rook on a1 to b1, and of a pawn that becomes a queen on e8
@@ -338,9 +322,10 @@ unfolding check_after_a_move
 stretch_ends_at_a_move w b there barren = ends_at (position (on White Rook a1 ∷ []) White) a1 w 7 b there refl barren
 
 -- of a pawn on e7 to e8, where it becomes a queen
-pub stretch_ends_at_a_promotion : (w b : ℕ) → (bit_at w e8 == 1) ≡ true → IsBarrenFrom (position (on White Pawn e7 ∷ []) White) e7 w 0 b → b ≤ 421
+pub stretch_ends_at_a_promotion : (w b : ℕ) → (bit_at w e8 == 1) ≡ true → IsBarrenFrom (position (on White Pawn e7 ∷ []) White) e7 w 0 b
+    → b ≤ per_arrival * e8 + 1
 unfolding check_after_a_move
-stretch_ends_at_a_promotion w b there barren = ends_at (position (on White Pawn e7 ∷ []) White) e7 w 421 b there refl barren
+stretch_ends_at_a_promotion w b there barren = ends_at (position (on White Pawn e7 ∷ []) White) e7 w (per_arrival * e8 + 1) b there refl barren
 
 -- no move lies between a place and itself
 pub no_move_lies_between : (rule : RuleSet) (p : Position) (a : ℕ) → moves_between rule p a a ≡ []

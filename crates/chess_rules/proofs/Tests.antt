@@ -1,5 +1,5 @@
 -- Tests joined, and tests over ranges of numbers.
-use Rattle.chess_rules.proofs.Basics.{Bool, List, None, Some, [], and_from, and_left, and_parts, arith, cases_Bool, cases_eq, cases_lt, cond-false, cond-true, false, false≢true, find, inl, inr, list_all, list_any, not, or_cases, or_left, or_right, range_with_len, refl, rules, suc, sym, true, zero, ℕ, ◌&&◌, ◌+◌, ◌-◌, ◌<◌, ◌==◌, ◌||◌, ◌∙◌, ◌∷◌, ◌≡◌, ◌≤◌, ◌⊎◌}
+use Rattle.chess_rules.proofs.Basics.{Bool, List, None, Some, [], and_from, and_left, and_parts, arith, cases_Bool, cases_eq, cases_lt, false, false≢true, find, inr, list_all, list_any, not, or_cases, or_left, or_right, range_with_len, refl, rules, suc, true, zero, ℕ, ◌&&◌, ◌+◌, ◌-◌, ◌<◌, ◌==◌, ◌||◌, ◌∷◌, ◌≡◌, ◌≤◌, ◌⊎◌}
 use Rattle.chess_core.proofs.Ranges.{NoneBelow}
 
 -- where two tests both pass, the first does
@@ -13,10 +13,7 @@ second_of_and a b h = grind (arith, false≢true)
 -- what holds of all numbers of a range holds of each
 pub all_at : (p : ℕ → Bool) (a n k : ℕ) → list_all p (range_with_len a n) ≡ true → a ≤ k → k < a + n → p k ≡ true
 all_at p a zero k h lo hi = absurd (omega arith)
-all_at p a (suc n) k h lo hi = elim (cases_eq k a) [
-  | inl e ↦ rw e (first_of_and (p a) _ h)
-  | inr ne ↦ all_at p (a + 1) n k (second_of_and (p a) _ h) (omega arith) (omega arith)
-]
+all_at p a (suc n) k h lo hi = grind (arith, cases_eq k a, first_of_and (p a), second_of_and (p a), all_at p (a + 1) n k)
 
 -- where the first test passes and implies the second, the second passes
 pub implied : (a b : Bool) → (not a || b) ≡ true → a ≡ true → b ≡ true
@@ -48,10 +45,7 @@ any_range_cases p a (suc n) = grind (arith, cases_Bool (p (a + n)), any_range_ca
 -- tests that agree on a range
 pub any_range_same : (p q : ℕ → Bool) (a n : ℕ) → ((k : ℕ) → a ≤ k → k < a + n → p k ≡ q k) → list_any p (range_with_len a n) ≡ list_any q (range_with_len a n)
 any_range_same p q a zero h = refl
-any_range_same p q a (suc n) h =
-    let r : list_any p (range_with_len (a + 1) n) ≡ list_any q (range_with_len (a + 1) n) = any_range_same p q (a + 1) n
-    (λ k lo hi. h k (omega arith) (omega arith)) in
-    (λ j. h a (omega arith) (omega arith) j || r j)
+any_range_same p q a (suc n) h = grind (arith, h a, any_range_same p q (a + 1) n)
 
 -- k is the first number of the range that passes
 pub record IsFirst (p : ℕ → Bool) (a n k : ℕ) : Type 0 where
@@ -67,30 +61,12 @@ some_is a b h = cc
 -- what `find` gives is the first of the range that passes
 pub find_first : (p : ℕ → Bool) (a n k : ℕ) → find p (range_with_len a n) ≡ Some k → IsFirst p a n k
 find_first p a zero k h = absurd (let bad : None ≡ Some k = h in cc)
-find_first p a (suc n) k h = elim (cases_Bool (p a)) [
-  | inl y ↦
-      let e : a ≡ k = some_is a k (sym (cond-true (p a) (Some a) (find p (range_with_len (a + 1) n)) y) ∙ h) in
-      record { low = omega arith; high = omega arith; here = rw e at y; before = λ j lo hi. absurd (omega arith) }
-  | inr fail ↦
-      let r : IsFirst p (a + 1) n k = find_first p (a + 1) n k (sym (cond-false (p a) (Some a) (find p (range_with_len (a + 1) n)) fail) ∙ h) in
-      record {
-        low = omega (arith, r.low);
-        high = omega (arith, r.high);
-        here = r.here;
-        before = λ j lo hi. elim (cases_eq j a) [ inl e ↦ rw e fail | inr ne ↦ r.before j (omega arith) hi ];
-      }
-]
+find_first p a (suc n) k h = grind (arith, cases_Bool (p a), find_first p (a + 1) n k, cases_eq)
 
 -- where `find` gives nothing, no number of the range passes
 pub find_no : (p : ℕ → Bool) (a n k : ℕ) → find p (range_with_len a n) ≡ None → a ≤ k → k < a + n → p k ≡ false
 find_no p a zero k h lo hi = absurd (omega arith)
-find_no p a (suc n) k h lo hi = elim (cases_Bool (p a)) [
-  | inl y ↦ absurd (let bad : Some a ≡ None = sym (cond-true (p a) (Some a) (find p (range_with_len (a + 1) n)) y) ∙ h in cc)
-  | inr fail ↦ elim (cases_eq k a) [
-    | inl e ↦ rw e fail
-    | inr ne ↦ find_no p (a + 1) n k (sym (cond-false (p a) (Some a) (find p (range_with_len (a + 1) n)) fail) ∙ h) (omega arith) (omega arith)
-  ]
-]
+find_no p a (suc n) k h lo hi = grind (arith, cases_Bool (p a), cases_eq k a, find_no p (a + 1) n k)
 
 -- what fails the first test fails both
 pub skipped : (p r : ℕ → Bool) (a n k : ℕ) → NoneBelow (λ s. p s && r s) a → IsFirst p a n k → NoneBelow (λ s. p s && r s) k
@@ -98,6 +74,4 @@ skipped p r a n k past f = search rules
 
 -- where none of the rest passes the first test, none of the 64 passes both
 pub skipped_all : (p r : ℕ → Bool) (a : ℕ) → NoneBelow (λ s. p s && r s) a → find p (range_with_len a (64 - a)) ≡ None → NoneBelow (λ s. p s && r s) 64
-skipped_all p r a past h = record {
-  fails = λ j b. elim (cases_lt j a) [ inl lt ↦ past.fails j lt | inr ge ↦ and_left (p j) (r j) (find_no p a (64 - a) j h ge (omega arith)) ];
-}
+skipped_all p r a past h = grind (arith, cases_lt, past.fails, and_left, find_no p a (64 - a))

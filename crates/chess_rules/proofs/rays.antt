@@ -6,7 +6,6 @@ pub mod Ahead
 pub mod Computed
 pub mod Stopping
 pub mod Firsts
-pub mod Joining
 pub mod Flips
 pub mod Tables
 pub mod Parting

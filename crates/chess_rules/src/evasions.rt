@@ -33,7 +33,7 @@ fn has_fairy_lines_on(board: &Board, square: Square) -> bool
 // The squares to which a move of another man than the king may go that ends a check to the colour's king,
 // unless it is no plain move: all of them where no check is seen. `checkers` are the squares of the enemies that
 // reach the king.
-#[tactic(auto, using(crate::proofs::attacks::StayingInCheck::evasion_squares_all))]
+#[tactic(auto, using(crate::proofs::listing_moves::Targeting::every_square_on))]
 pub(crate) fn evasion_squares<R: Rules>(board: &Board, colour: Colour, checkers: Squares) -> Squares
     requires { checkers ≡ word (is_checker board.now.men colour) }
     ensures { AreEvasions R.rule board.now.men colour result }
@@ -57,6 +57,7 @@ pub(crate) fn evasion_squares<R: Rules>(board: &Board, colour: Colour, checkers:
 
 // Whether the move leaves its mover in check, as far as it can be told by the squares to which a move
 // that doesn't must go.
+#[tactic(auto, using(crate::proofs::attacks::StayingInCheck::check_unmet))]
 fn leaves_check<R: Rules>(board: &Board, evasion_squares: Squares, m: &Move) -> bool
     requires well_formed { IsWellFormed board.now }
     requires pseudo { is_pseudo_legal R.rule board.now m.now ≡ true }
@@ -90,6 +91,7 @@ pub fn eventful_captures<R: Rules>(board: &Board) -> Squares
 
 // The squares to which the man on `from` must go to leave no check to its king: all of them where none is
 // seen. `evasion_squares` are those to which another man than the king may go that ends it.
+#[tactic(auto, using(crate::proofs::attacks::EvasionTargets::evasions_from_all, crate::proofs::attacks::EvasionTargets::evasions_from_some, crate::proofs::listing_moves::Targeting::nobody_moves))]
 pub(crate) fn evasions_from<R: Rules>(
     board: &Board,
     evasion_squares: Squares,
@@ -115,6 +117,7 @@ pub(crate) fn evasions_from<R: Rules>(
 
 // Whether the mover isn't in check after the move; `squares` are those from which one may expose its
 // king, and `evasion_squares` those to which one may go that ends a check. The board is unchanged after it.
+#[tactic(auto, using(crate::proofs::attacks::Shielding::cannot_expose_own))]
 #[inline(always)]
 pub(crate) fn is_safe<R: Rules>(
     board: &mut Board,

@@ -157,6 +157,7 @@ impl<R: Rules> LegalMoves<R> {
     /// The first legal move behind the place that doesn't lie behind `end`, on which the place then
     /// stands. Where there is none: `None`, and the place stays. The board is unchanged. The place must
     /// be one in the board's position.
+    #[tactic(auto, using(crate::proofs::listing_moves::Between::until))]
     pub fn next_until(&mut self, end: Moves<R>, board: &mut Board) -> Option<Move>
         requires well_formed { IsWellFormed board.old }
         requires place { IsPlaceIn R.rule board.old self.old }
@@ -305,6 +306,7 @@ pub(crate) fn own_origins<R: Rules>(board: &Board) -> Squares
 }
 
 // The squares to which the man on `from` may go by a legal move, and perhaps more.
+#[tactic(auto, using(crate::proofs::listing_moves::Walks::legal_candidates))]
 pub(crate) fn candidates<R: Rules>(board: &Board, evasion_squares: Squares, from: Square) -> Squares
     requires well_formed { IsWellFormed board.now }
     requires evasion_squares { AreEvasions R.rule board.now.men board.now.turn evasion_squares }

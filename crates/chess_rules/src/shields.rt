@@ -35,6 +35,7 @@ pub(crate) fn has_fairy_lines(kind: Kind) -> bool
 }
 
 // Whether a grasshopper or a nightrider of the colour stands on the board.
+#[tactic(auto, using(crate::proofs::attacks::Shielding::some_hopper, crate::proofs::attacks::Shielding::some_nightrider))]
 pub(crate) fn has_fairy(board: &Board, colour: Colour) -> bool
     ensures { result ≡ has_fairy board.now.men colour }
 {

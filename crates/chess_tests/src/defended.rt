@@ -1,4 +1,4 @@
-//! Positions before a defence in Circe: whether a mate follows a move after which none is told to.
+//! Positions before a defence: whether a mate follows a move after which none is told to.
 ghost use Rattle.std.specs.Prelude.{◌≡◌};
 ghost use Rattle.chess_core.specs.WellFormed.{IsWellFormed};
 
@@ -7,7 +7,7 @@ use crate::family::Family;
 use crate::plain::{Plain, Rule};
 use chess_core::{Board, Move};
 use chess_mates::threats::Threats;
-use chess_rules::{Circe, Moves};
+use chess_rules::{Circe, Madrasi, Moves, Orthodox, Rules};
 
 // What is told of the moves in the positions of a family.
 #[derive(Clone, Copy)]
@@ -18,8 +18,8 @@ pub(crate) struct Defences {
     pub(crate) told: u32,
 }
 
-// Asks for so many positions of the family, the other side to move.
-pub(crate) fn defended(family: Family, count: u64) -> Defences {
+// Asks for so many positions of the family under the rule, the other side to move.
+pub(crate) fn defended(rule: Rule, family: Family, count: u64) -> Defences {
     let mut defences = Defences {
         wrong: None,
         told: 0,
@@ -30,7 +30,7 @@ pub(crate) fn defended(family: Family, count: u64) -> Defences {
         diagram.crossed = None;
         if diagram.is_well_formed() {
             let mut board = Board::of(&diagram);
-            if is_told_wrong(&mut board, &mut defences.told) {
+            if is_told_wrong_by(rule, &mut board, &mut defences.told) {
                 defences.wrong = Some(number);
                 return defences;
             }
@@ -40,21 +40,31 @@ pub(crate) fn defended(family: Family, count: u64) -> Defences {
 }
 
 // Whether a mate follows one of the moves after which none is told to. The others told so are counted.
-fn is_told_wrong(board: &mut Board, told: &mut u32) -> bool
+fn is_told_wrong_by(rule: Rule, board: &mut Board, told: &mut u32) -> bool
+    requires { IsWellFormed board.old }
+{
+    match rule {
+        Rule::Orthodox => is_told_wrong::<Orthodox>(rule, board, told),
+        Rule::Circe => is_told_wrong::<Circe>(rule, board, told),
+        Rule::Madrasi => is_told_wrong::<Madrasi>(rule, board, told),
+    }
+}
+
+fn is_told_wrong<R: Rules>(rule: Rule, board: &mut Board, told: &mut u32) -> bool
     requires { IsWellFormed board.old }
 {
     let plain = Plain::of(board);
     let Some(king) = board.king_of(board.turn()) else {
         return false;
     };
-    if !Threats::are_told::<Circe>(board, 0) {
+    if !Threats::are_told::<R>(board, 0) {
         return false;
     }
-    let mut threats = Threats::of::<Circe>(board, king);
-    let mut place = Moves::<Circe>::start();
+    let mut threats = Threats::of::<R>(board, king);
+    let mut place = Moves::<R>::start();
     while let Some(m) = place.next(board) {
-        if threats.rule_out_mate::<Circe>(board, &m) {
-            if is_followed_by_mate(&plain, &m) {
+        if threats.rule_out_mate::<R>(board, &m) {
+            if is_followed_by_mate(rule, &plain, &m) {
                 return true;
             }
             *told = told.saturating_add(1);
@@ -64,13 +74,11 @@ fn is_told_wrong(board: &mut Board, told: &mut u32) -> bool
 }
 
 // Whether some reply to the move mates, by the plain rules.
-fn is_followed_by_mate(plain: &Plain, m: &Move) -> bool {
-    let after = plain.after(Rule::Circe, m);
-    let replies = after.moves_but_for_check(Rule::Circe);
+fn is_followed_by_mate(rule: Rule, plain: &Plain, m: &Move) -> bool {
+    let after = plain.after(rule, m);
+    let replies = after.moves_but_for_check(rule);
     for reply in replies.as_slice() {
-        if after.is_legal(Rule::Circe, reply)
-            && after.after(Rule::Circe, reply).is_mate(Rule::Circe)
-        {
+        if after.is_legal(rule, reply) && after.after(rule, reply).is_mate(rule) {
             return true;
         }
     }

@@ -7,6 +7,7 @@ use crate::plain::{self, Plain, Rule, bit};
 use crate::setup::{move_of, moves_of, posed};
 use arrayvec::ArrayVec;
 use chess_core::{Board, Colour, Diagram, Kind, Move, Square};
+use chess_mates::quiet_steps::QuietSteps;
 use chess_mates::{MatingMoves, keeps_flight};
 use chess_rules::{Circe, Madrasi, Moves, Orthodox, Rules, is_mate};
 
@@ -211,6 +212,33 @@ pub(crate) fn is_told_to_keep(rule: Rule, position: &str, m: &str, wanted: bool)
         Rule::Orthodox => keeps_under::<Orthodox>(&diagram, m),
         Rule::Circe => keeps_under::<Circe>(&diagram, m),
         Rule::Madrasi => keeps_under::<Madrasi>(&diagram, m),
+    };
+    told == Some(wanted)
+}
+
+// Whether a quiet step of the other king is seen to follow this move, if it is legal.
+fn steps_under<R: Rules>(diagram: &Diagram, wanted: Move) -> Option<bool>
+    requires { IsWellFormed (position_of diagram.now) }
+{
+    let mut board = Board::of(diagram);
+    let mut place = Moves::<R>::start();
+    while let Some(m) = place.next(&mut board) {
+        if m == wanted {
+            return Some(QuietSteps::of(&board).follow::<R>(&board, &m));
+        }
+    }
+    None
+}
+
+// Whether such a step is seen to follow the legal move from the position, or is not.
+pub(crate) fn is_told_to_step(rule: Rule, position: &str, m: &str, wanted: bool) -> bool {
+    let (Some(diagram), Some(m)) = (posed(position), move_of(m)) else {
+        return false;
+    };
+    let told = match rule {
+        Rule::Orthodox => steps_under::<Orthodox>(&diagram, m),
+        Rule::Circe => steps_under::<Circe>(&diagram, m),
+        Rule::Madrasi => steps_under::<Madrasi>(&diagram, m),
     };
     told == Some(wanted)
 }

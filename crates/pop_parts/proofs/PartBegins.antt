@@ -1,5 +1,5 @@
 -- How a part begins: behind its first moves stand its solutions.
-use Rattle.pop_solve.proofs.Words.{AreKnown, BareEvent, Bool, Counts, Frame, Game, IsCounted, IsLinked, IsRoomy, IsSound, IsWalking, List, Mate, Move, Posed, Position, RuleSet, [], after_well_formed, ap, append-nil, arith, eqb, false, false≢true, is_followed, get_or, is_given, walk_length, inl, inr, is_for_mate, is_help, is_legal, is_mate, is_pseudo_legal-from_legal, length, length-append, length-reverse, map, min, moves_behind, nat_tests, path, path_end, phase_half_moves, phase_paths, phase_start, plan_of, position, refl, reverse, rules, seeks_last, shown_paths, suc, sym, take, to_come, to_open, true, undo_of, has_variations, walk_count, ℕ, ◌++◌, ◌+◌, ◌-◌, ◌<◌, ◌^◌, ◌∙◌, ◌∷◌, ◌≡◌, ◌≤◌}
+use Rattle.pop_solve.proofs.Words.{AreKnown, BareEvent, Bool, Counts, Frame, Game, IsCounted, IsLinked, IsRoomy, IsSound, IsWalking, List, nil_from_length, Move, Posed, Position, RuleSet, [], after_well_formed, ap, append-nil, arith, eqb, false, false≢true, is_followed, get_or, is_given, walk_length, inl, inr, is_for_mate, is_help, is_legal, is_mate, is_pseudo_legal-from_legal, length, length-append, length-reverse, map, min, moves_behind, nat_tests, path, path_end, phase_half_moves, phase_paths, phase_start, plan_of, position, refl, reverse, rules, seeks_last, shown_paths, suc, sym, take, to_come, to_open, true, undo_of, has_variations, walk_count, ℕ, ◌++◌, ◌+◌, ◌-◌, ◌<◌, ◌^◌, ◌∙◌, ◌∷◌, ◌≡◌, ◌≤◌}
 use Rattle.pop_events.specs.declared.event.Phase.{Phase}
 use Rattle.pop_solve.specs.declared.plan.Plan.{Plan}
 use Rattle.chess_rules.specs.Legal.{moves as legal_moves}
@@ -16,7 +16,7 @@ use Rattle.pop_solve.proofs.ToCome.{come-close, given_path, open-close, skipped,
 use Rattle.pop_solve.proofs.Walking.{popped}
 use Rattle.pop_parts.specs.PhaseParts.{part_events, part_solutions}
 use Rattle.pop_parts.specs.declared.part_search.PartStage.{PartStage}
-use Rattle.pop_parts.specs.declared.part_search.PartStage.TheVariants.{Behind, First, Within}
+use Rattle.pop_parts.specs.declared.part_search.PartStage.TheVariants.{First, Within}
 use Rattle.pop_parts.specs.ties.Beginnings.{IsSeeking, are_idle}
 use Rattle.pop_solve.specs.ties.Frames.{opened_frame}
 use Rattle.pop_parts.specs.ties.PartStages.{IsInPart, IsPartOpened, StandsInPart, begun_at, events_left, part_left, part_paths}
@@ -25,14 +25,14 @@ use Rattle.pop_parts.specs.ties.PartsSeen.{are_legal, is_part_stopped, part_walk
 -- the moves to the lowest frame, and to the one at k
 pub front-none : (frames : List Frame) → [] ≡ path (reverse (take 1 frames))
 unfolding path
-front-none [] = refl
-front-none (f ∷ frames) = refl
+front-none frames = search rules
 
 -- one more frame is one more move
 pub front-more : (frames : List Frame) (k : ℕ) (f : Frame) → f ≡ get_or frames k f → 0 < k → k < length frames
     → path (reverse (take (k + 1) frames)) ≡ path (reverse (take k frames)) ++ f.by ∷ []
-front-more frames k f at some less = ap path (popped _ _ f (cut-at frames (k + 1) k f refl at less)) ∙ path-more f (reverse (take k frames))
-    (omega (arith, some-taken frames k some (omega (arith, less)), length-reverse (take k frames)))
+front-more frames k f at some less =
+    let upper = popped _ _ f (cut-at frames (k + 1) k f refl at less) in
+    search (rules, upper, path-more f (reverse (take k frames)), some-taken frames k, length-reverse)
 
 -- the moves to a walk's top frame are legal
 module _ (rule : RuleSet) where
@@ -46,8 +46,7 @@ module _ (rule : RuleSet) where
   unfolding IsLinked path are_legal
   is_legal-path p [] l = refl
   is_legal-path p (f ∷ []) l = refl
-  is_legal-path p (f ∷ (g ∷ below)) l =
-      is_legal-more p (path (g ∷ below)) f.by (is_legal-path p (g ∷ below) l.3) (rw (← path_end-path Mate rule p (g ∷ below)) l.1)
+  is_legal-path p (f ∷ (g ∷ below)) l = search (rules, is_legal-more, is_legal-path p (g ∷ below), path_end-path)
 
 -- from idle frames nothing is to come
 idle-parts : (f : Frame) (below : List Frame) → are_idle (f ∷ below) ≡ true → (f.left ≡ 0) × (are_idle below ≡ true)
@@ -81,10 +80,7 @@ pub all-opened : (rule : RuleSet) (problem : Posed) (phase : Phase) (front : Lis
     → is_help problem.stipulation.form ≡ true → is_part_stopped rule problem phase front ≡ false → part_left rule problem phase stage frames ≡ []
     → opened ≡ min (part_walk rule problem phase front) (2 ^ 64 - 1)
 unfolding StandsInPart part_left to_open
-all-opened rule problem phase front First frames board opened s o help full none = absurd (some-event _ _ _ none)
-all-opened rule problem phase front (Within count) frames board opened s o help full none = absurd (some-event _ _ _ none)
-all-opened rule problem phase front Behind frames board opened s o help full none =
-    let c = rw s.0 at (o help full) in omega (arith, c.counts)
+all-opened rule problem phase front stage frames board opened s o help full none = search (rules, some-event)
 
 -- a part has begun
 pub record HasBegun (rule : RuleSet) (problem : Posed) (phase : Phase) (front : List Move) (stage : PartStage) (frames : List Frame) (board : Position)
@@ -96,9 +92,7 @@ pub record HasBegun (rule : RuleSet) (problem : Posed) (phase : Phase) (front : 
 -- some frames of a walk, and one more on them
 path-one : (frames : List Frame) → length frames ≡ 1 → path frames ≡ []
 unfolding path
-path-one [] e = refl
-path-one (f ∷ []) e = refl
-path-one (f ∷ (g ∷ below)) e = absurd (omega (arith, e))
+path-one frames e = search (rules, nil_from_length, path-length)
 
 none-before : (n : ℕ) → 0 + n ≡ n
 none-before n = omega arith
@@ -110,8 +104,7 @@ walking-opened : (rule : RuleSet) (h : ℕ) (p : Position) (frames : List Frame)
     → IsWalking rule h p frames board → is_legal rule board m ≡ true → tried + length frames ≤ h
     → IsWalking rule h p (opened_frame m (undo_of rule board m) tried ∷ frames) (position_after rule board m)
 unfolding IsLinked IsRoomy AreKnown position
-walking-opened rule h p [] board m tried some r lawful room = absurd (omega (arith, some))
-walking-opened rule h p (f ∷ below) board m tried some r lawful room =
+walking-opened rule h p frames board m tried some r lawful room =
     grind (arith, after_well_formed rule board m r.sound (is_pseudo_legal-from_legal rule board m lawful), is_pseudo_legal-from_legal rule board m lawful)
 
 module _ (rule : RuleSet) (problem : Posed) (sound : IsSound problem) (phase : Phase) (n : ℕ) (frames : List Frame) (board : Position)
@@ -170,27 +163,21 @@ module _ (rule : RuleSet) (problem : Posed) (sound : IsSound problem) (phase : P
   -- where these paths are to come at a stage, the part has begun there
   events-begun : events_left problem phase 0 come ≡ part_events rule problem phase front
   unfolding part_events
-  events-begun =
-      let all : problem.max_solutions - 0 ≡ problem.max_solutions = omega arith in
-      rw (all, come-cut.kept, come-cut.begun, none-before) refl
+  events-begun = search (rules, come-cut, none-before)
 
   in-part : (stage : PartStage) (new : List Frame) (stand : Position) → begun_at stage ≡ 0 → part_paths rule problem phase stage new ≡ come
       → IsWalking rule h p new stand → IsInPart rule problem phase front stage new stand
-  in-part stage new stand none e walking =
-      let all : problem.max_solutions - 0 ≡ problem.max_solutions = omega arith in
-      record { walking = walking; most = omega (arith, none); counts = rw (none, e, all, none-before) come-cut.begun }
+  in-part stage new stand none e walking = search (rules, come-cut, none-before)
 
   walk-is : part_walk rule problem phase front ≡ walk_count (legal_moves rule) (position_after rule) left q
-  walk-is =
-      let length-is : h - length front ≡ left = omega (arith, length-append (path old) (m ∷ []), path-length old, size, some) in
-      rw (length-is, path_end-append problem.stipulation.goal rule p (path old) m, ← board-at) refl
+  walk-is = grind (arith, length-append, path-length, size, path_end-append problem.stipulation.goal rule p (path old) m, board-at)
 
   -- none of them is to come
   begun-none : (opened : ℕ) → come ≡ [] → IsPartOpened rule problem phase front old opened → HasBegun rule problem phase front (Within 0) old board opened
   unfolding StandsInPart part_left part_paths
   begun-none opened none o =
       let e : phase_paths rule problem phase old ≡ come = idle-come rule plan p h old s.idle ∙ sym none in
-      record { stands = in-part (Within 0) old board refl e s.walking; left = rw e events-begun; opens = o }
+      search (rules, in-part, events-begun, e)
 
   -- the last move doesn't mate where each path ends with it
   come-fails : is_for_mate problem.stipulation.goal ≡ true → seeks_last plan.play ≡ true → left ≡ 0 → is_mate rule q ≡ false → come ≡ []
@@ -202,8 +189,9 @@ module _ (rule : RuleSet) (problem : Posed) (sound : IsSound problem) (phase : P
   pub begun-fails : (opened : ℕ) (after : Position) → opened ≡ 0 → after ≡ board → is_for_mate problem.stipulation.goal ≡ true → seeks_last plan.play ≡ true
       → left ≡ 0 → is_mate rule q ≡ false → HasBegun rule problem phase front (Within 0) old after opened
   unfolding walk_count
-  begun-fails opened after z stays for last none misses = rw stays (begun-none opened (come-fails for last none misses)
-      (λ help full. rw (walk-is, none, z, idle-open rule plan p old s.idle) (record { within = omega arith; counts = omega arith })))
+  begun-fails opened after z stays for last none misses =
+      let come = come-fails for last none misses in
+      rw stays (begun-none opened come (λ help full. search (rules, walk-is, idle-open rule plan p old s.idle)))
 
   -- the move is not followed
   begun-passed : (opened : ℕ) → is_followed plan.play game root left q ≡ false → HasBegun rule problem phase front (Within 0) old board opened
@@ -219,19 +207,9 @@ module _ (rule : RuleSet) (problem : Posed) (sound : IsSound problem) (phase : P
   unfolding shown_paths to_come
   come-entered followed =
       let more : eqb (length old) 0 ≡ false = grind (arith, nat_tests, deep) in
-      rw (
-        followed,
-        more,
-        size,
-        idle-come rule plan p h old s.idle,
-        path-more _ old deep,
-        position-more rule p _ old deep,
-        ← s.walking.board_at,
-        behind_start rule q,
-      )
-      (sym (append-nil _) ∙ turn (is_given plan.play game left q) (path old) m (shown_paths plan game false left (walk_length plan.play
-      (has_variations plan.tree) game left q) q
-      (legal_moves rule q)) [] [])
+      let idle = idle-come rule plan p h old s.idle in
+      rw (followed, more, size, idle, path-more _ old deep, position-more rule p _ old deep, ← s.walking.board_at, behind_start rule q)
+      (sym (append-nil _) ∙ turn _ (path old) m _ [] [])
 
   walking-entered : IsWalking rule h p entered q
   walking-entered = walking-opened rule h p old board m _ deep s.walking lawful
@@ -240,17 +218,12 @@ module _ (rule : RuleSet) (problem : Posed) (sound : IsSound problem) (phase : P
   opens-entered : (opened : ℕ) → Counts rule plan root left q 0 opened → IsPartOpened rule problem phase front entered opened
   unfolding to_open
   opens-entered opened c help full =
+      let helps = help-play problem.stipulation.form help in
       let start : IsCounted (walk_count (legal_moves rule) (position_after rule) left q) 0 (walk_count (legal_moves rule) (position_after rule) left q) =
-      record { within = omega arith; counts = omega arith } in
-      rw (
-        walk-is,
-        walk_length-help plan game left q (help-play problem.stipulation.form help),
-        idle-open rule plan p old s.idle,
-        position-more rule p _ old deep,
-        ← s.walking.board_at,
-      )
-      (counted_by rule plan left _ 0 opened _ _ (walk_count-start rule plan left q ∙ omega arith) (c.more (help-play problem.stipulation.form help))
-      (c.none (help-play problem.stipulation.form help)) start)
+      search rules in
+      let idle = idle-open rule plan p old s.idle in
+      rw (walk-is, walk_length-help plan game left q helps, idle, position-more rule p _ old deep, ← s.walking.board_at)
+      (counted_by rule plan left _ 0 opened _ _ (walk_count-start rule plan left q ∙ omega arith) (c.more helps) (c.none helps) start)
 
   begun-entered : (opened : ℕ) (given : Bool) → given ≡ is_given plan.play game left q → is_followed plan.play game root left q ≡ true
       → Counts rule plan root left q 0 opened → HasBegun rule problem phase front (begins_at given) entered q opened
@@ -258,19 +231,11 @@ module _ (rule : RuleSet) (problem : Posed) (sound : IsSound problem) (phase : P
   begun-entered opened true g followed c =
       let e : part_paths rule problem phase First entered ≡ come =
       rw (path-more _ old deep) (sym (come-entered followed ∙ rw (← g) refl)) in
-      record {
-        stands = (
-          in-part First entered q refl e walking-entered,
-          omega (arith, deep),
-          ended-reached game plan.play
-              (has_variations plan.tree) root left q followed,
-        );
-        left = rw e events-begun;
-        opens = opens-entered opened c;
-      }
+      let ended = ended-reached game plan.play (has_variations plan.tree) root left q followed in
+      search (rules, in-part, events-begun, e, walking-entered, opens-entered, ended, deep)
   begun-entered opened false g followed c =
       let e : part_paths rule problem phase (Within 0) entered ≡ come = sym (come-entered followed ∙ rw (← g) refl) in
-      record { stands = in-part (Within 0) entered q refl e walking-entered; left = rw e events-begun; opens = opens-entered opened c }
+      search (rules, in-part, events-begun, e, walking-entered, opens-entered)
 
   -- what `enter` leaves
   pub begun-by : (opened opened2 : ℕ) (low given : Bool) (last : List Frame) (after : Position) → opened ≡ 0

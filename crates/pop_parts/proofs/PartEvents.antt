@@ -1,14 +1,13 @@
 -- What a search of one part gives at a call, and what it opens.
-use Rattle.pop_solve.proofs.Words.{BareEvent, Bool, Frame, Gives, IsCounted, IsEnded, IsSound, IsWalking, List, Move, Opens, Posed, Position, RuleSet, StandsOn, Walks, [], arith, beginning_count, begins_solution, cond, eqb, event_of, false, half_moves, is_help, is_set, kept_paths, length, length-reverse, nat_tests, path, path_event, phase_half_moves, phase_paths, phase_start, plan_of, refl, reverse, rules, subst, to_open, true, ℕ, ◌+◌, ◌-◌, ◌<◌, ◌||◌, ◌∙◌, ◌∷◌, ◌≡◌, ◌≤◌}
+use Rattle.pop_solve.proofs.Words.{BareEvent, Bool, Frame, Gives, IsEnded, IsSound, IsWalking, List, Move, Opens, Posed, Position, RuleSet, StandsOn, Walks, [], arith, beginning_count, begins_solution, cond, eqb, event_of, false, is_help, kept_paths, length, length-reverse, nat_tests, path, path_event, phase_half_moves, phase_paths, phase_start, plan_of, refl, reverse, rules, to_open, true, ℕ, ◌+◌, ◌-◌, ◌<◌, ◌||◌, ◌∷◌, ◌≡◌, ◌≤◌}
 use Rattle.pop_events.specs.declared.event.Event.{Event}
 use Rattle.pop_events.specs.declared.event.Event.TheVariants.{Total}
 use Rattle.pop_events.specs.declared.event.Phase.{Phase}
-use Rattle.pop_events.specs.declared.event.Phase.TheVariants.{Play, Set}
 use Rattle.pop_parts.specs.declared.part_search.PartStage.{PartStage}
 use Rattle.pop_parts.specs.declared.part_search.PartStage.TheVariants.{Behind, First, Within}
 use Rattle.pop_parts.specs.ties.PartStages.{IsPartOpened, events_left}
 unfoldable use Rattle.pop_parts.specs.ties.PartStages.{StandsInPart, part_left, part_paths}
-use Rattle.pop_parts.specs.ties.PartsSeen.{is_part_stopped, part_walk}
+use Rattle.pop_parts.specs.ties.PartsSeen.{is_part_stopped}
 use Rattle.pop_solve.proofs.Events.{room-length}
 use Rattle.pop_solve.proofs.Kept.{keep-next, beginning_count-next}
 use Rattle.pop_solve.proofs.Paths.{path-length, path_end-path}
@@ -39,11 +38,7 @@ module _ (rule : RuleSet) (problem : Posed) (phase : Phase) where
   here frames = cond (begins_solution help (top frames)) 1 0
 
   few : (frames : List Frame) (board : Position) → IsSound problem → Walking frames board → length frames ≤ 33
-  few frames board s r = omega (arith, room-length _ (reverse frames) r.roomy, at_most phase, length-reverse frames)
-    where
-      at_most : (b : Phase) → cond (is_set b) (half_moves problem.stipulation - 1) (half_moves problem.stipulation) ≤ 32
-      at_most Set = omega (arith, in_range problem s)
-      at_most Play = in_range problem s
+  few frames board s r = search (rules, room-length, length-reverse, in_range)
 
   -- a path is given: the events to come lose their first, and the solutions come to as many as before
   module _ (count : ℕ) (paths rest : List (List Move)) (frames : List Frame) (board : Position) (deep : 2 ≤ length frames)
@@ -65,12 +60,7 @@ module _ (rule : RuleSet) (problem : Posed) (phase : Phase) where
 
     gives-next : (event : Event) → event ≡ event_of rule problem (path_event problem phase (top frames))
         → Gives rule problem (events_left problem phase count paths) (events_left problem phase next rest) event board (length frames)
-    gives-next event e = record {
-      bare = path_event problem phase (top frames);
-      left = rw (← counts-next, kept, left-is) refl;
-      event_is = e;
-      stands = stands-on;
-    }
+    gives-next event e = search (rules, counts-next, left-is, stands-on)
 
   -- the part's own path; the board stands as it was left
   module _ (front : List Move) (frames : List Frame) (board : Position) (sound : IsSound problem) (s : Stands front First frames board) where
@@ -94,11 +84,7 @@ module _ (rule : RuleSet) (problem : Posed) (phase : Phase) where
       -- then the part stands behind that path
       pub first-stands : Stands front (Within next) frames stand
       unfolding StandsInPart part_paths
-      first-stands = rw stays (record {
-        walking = first-asks.2;
-        most = grind arith;
-        counts = counts-next 0 _ _ frames board first-asks.0 kept-first begun-first first-asks.2 next n ∙ s.0.counts;
-      })
+      first-stands = search (rules, first-asks, counts-next, kept-first, begun-first)
 
       -- and the path's event is given
       pub first-gives : (event : Event) → event ≡ event_of rule problem (path_event problem phase (top frames))
@@ -111,11 +97,6 @@ module _ (rule : RuleSet) (problem : Posed) (phase : Phase) where
     pub most : count ≤ problem.max_solutions
     unfolding StandsInPart
     most = in_part.most
-
-    -- the board stands on the top frame of the walk
-    pub walking : IsWalking rule (phase_half_moves problem phase) (phase_start problem phase) old from
-    unfolding StandsInPart
-    walking = in_part.walking
 
     abbrev Walked : List Frame → Position → Bool → Type 0
     Walked frames board given = Walks rule (plan_of problem) help (phase_half_moves problem phase) (phase_start problem phase) (problem.max_solutions - count)
@@ -140,19 +121,14 @@ module _ (rule : RuleSet) (problem : Posed) (phase : Phase) where
         pub given-stands : (front : List Move) → StandsInPart rule problem phase front (Within count) old from
             → (next : ℕ) → next ≡ count + more (length frames) → Stands front (Within next) left stand
         unfolding StandsInPart part_paths
-        given-stands front s next n = rw (same, stays) (record {
-          walking = w.walking;
-          most = omega (arith, n, room-here, most);
-          counts = counts-next count _ _ frames board deep-here (w.come refl) (w.starts refl) w.walking next n ∙ s.counts;
-        })
+        given-stands front s next n = rw (same, stays) (search (rules, room-here, most, counts-next, deep-here))
 
         -- and its event is given
         pub given-gives : (next : ℕ) → next ≡ count + more (length frames) → (event : Event)
             → event ≡ event_of rule problem (path_event problem phase (top frames))
             → Gives rule problem (part_left rule problem phase (Within count) old) (left_at (Within next) left) event stand (length left)
         unfolding part_left part_paths
-        given-gives next n event e = rw (same, stays)
-            (gives-next count _ _ frames board deep-here (w.come refl) (w.starts refl) w.walking next n event e)
+        given-gives next n event e = rw (same, stays) (search (rules, gives-next, deep-here))
 
     -- its end
     module _ (mid : List Frame) (now : Position) (w : Walked mid now false) where
@@ -163,19 +139,13 @@ module _ (rule : RuleSet) (problem : Posed) (phase : Phase) where
       ended-gives new board depth event e = search rules
 
       module _ (front : List Move) (s : StandsInPart rule problem phase front (Within count) old from) where
-        stopped : problem.max_solutions - count ≡ 0 → is_part_stopped rule problem phase front ≡ true
-        unfolding StandsInPart part_paths
-        stopped e = search rules
-
         nothing_open : is_part_stopped rule problem phase front ≡ false → to_open rule (phase_start problem phase) mid ≡ 0
-        unfolding to_open
-        nothing_open none = search (rules, stopped)
+        unfolding to_open StandsInPart part_paths
+        nothing_open none = search rules
 
         -- and its positions were all opened
         pub ended-opens : (new : List Frame) (before after : ℕ) → new ≡ []
             → Opens rule (plan_of problem) (phase_start problem phase) old mid before after
             → IsPartOpened rule problem phase front old before → IsPartOpened rule problem phase front (reverse new) after
         unfolding to_open
-        ended-opens new before after none x o = λ help still.
-            rw none (subst (IsCounted (part_walk rule problem phase front) after) (nothing_open still) (x.counted (help-play problem.stipulation.form help) _
-            (o help still)))
+        ended-opens new before after none x o = search (rules, nothing_open, help-play)

@@ -1,5 +1,5 @@
 -- Lists of moves that begin as a part does: each stands in one part, and the parts joined are all of them.
-use Rattle.pop_solve.proofs.Words.{AllPairs, Bool, Contains, Game, List, Move, Position, Precedes, [], ap, append-nil, arith, cond, eqb, false, filter, filter-append, first_in, flat_map, flat_map-append, from_flat_map, from_map, in_cases, in_flat_map, in_map, inl, inr, later_in, length, lines_to_goal, map, map-append, nat_tests, none_in_nil, pairs_flat_map, pairs_map, pairs_nil, pairs_of, path_end, refl, rules, subst, suc, sym, take, true, zero, ℕ, ◌&&◌, ◌++◌, ◌-◌, ◌<◌, ◌∙◌, ◌∷◌, ◌≡◌, ◌≤◌}
+use Rattle.pop_solve.proofs.Words.{AllPairs, Bool, Contains, Game, List, Move, Position, Precedes, [], ap, append-nil, arith, cond, eqb, false, filter, filter-append, first_in, flat_map, flat_map-append, from_flat_map, from_map, in_cases, in_flat_map, in_map, inr, later_in, length, lines_to_goal, map, map-append, nat_tests, none_in_nil, pairs_flat_map, pairs_map, pairs_nil, pairs_of, path_end, refl, rules, suc, sym, take, true, zero, ℕ, ◌&&◌, ◌++◌, ◌-◌, ◌<◌, ◌∙◌, ◌∷◌, ◌≡◌, ◌≤◌}
 use Rattle.std.proofs.lemmas.List.Folds.{flat_map-map}
 use Rattle.std.proofs.lemmas.Simd.{map-map}
 use Rattle.chess_core.specs.MoveOrder.{order_number}
@@ -18,7 +18,7 @@ module _ {A B : Type 0} where
 
   filter-flat : (test : B → Bool) (F : A → List B) (xs : List A) → filter test (flat_map F xs) ≡ flat_map (λ x. filter test (F x)) xs
   filter-flat test F [] = refl
-  filter-flat test F (x ∷ xs) = filter-append test (F x) (flat_map F xs) ∙ ap (λ ys. filter test (F x) ++ ys) (filter-flat test F xs)
+  filter-flat test F (x ∷ xs) = search (rules, filter-append, filter-flat test F xs)
 
   -- joined lists that are alike for each element of the list
   pub flat-in : (F G : A → List B) (xs : List A) → ((x : A) → Contains xs x → F x ≡ G x) → flat_map F xs ≡ flat_map G xs
@@ -28,11 +28,11 @@ module _ {A B : Type 0} where
   -- joined lists, each element changed
   pub map-flat : {C : Type 0} (f : B → C) (F : A → List B) (xs : List A) → map f (flat_map F xs) ≡ flat_map (λ x. map f (F x)) xs
   map-flat f F [] = refl
-  map-flat f F (x ∷ xs) = map-append f (F x) (flat_map F xs) ∙ ap (λ ys. map f (F x) ++ ys) (map-flat f F xs)
+  map-flat f F (x ∷ xs) = search (rules, map-append, map-flat f F xs)
 
   flat-flat : {C : Type 0} (G : B → List C) (F : A → List B) (xs : List A) → flat_map G (flat_map F xs) ≡ flat_map (λ x. flat_map G (F x)) xs
   flat-flat G F [] = refl
-  flat-flat G F (x ∷ xs) = flat_map-append G (F x) (flat_map F xs) ∙ ap (λ ys. flat_map G (F x) ++ ys) (flat-flat G F xs)
+  flat-flat G F (x ∷ xs) = search (rules, flat_map-append, flat-flat G F xs)
 
   -- elements that become the same one by one
   pub map-each : (f g : A → B) (xs : List A) → ((x : A) → f x ≡ g x) → map f xs ≡ map g xs
@@ -50,24 +50,17 @@ module _ {B : Type 0} (F : Move → List B) (m : Move) (apart : (x : Move) → e
 
   one-of : (ms : List Move) → AllPairs Precedes ms → Contains ms m → flat_map F ms ≡ F m
   one-of [] order c = absurd (none_in_nil m c)
-  one-of (x ∷ ms) order c = elim (in_cases x ms m c) [
-    | inl same ↦
-        rw (behind-none ms (λ y d. subst (λ z. order_number z < order_number y) same (pairs_first Precedes x ms order y d)))
-        (append-nil (F x) ∙ ap F same)
-    | inr later ↦
-        let l = pairs_first Precedes x ms order m later in
-        let a : F x ≡ [] = apart x (grind (arith, nat_tests)) in
-        rw a (one-of ms (pairs_later Precedes x ms order) later)
-  ]
+  one-of (x ∷ ms) order c =
+      let first = pairs_first Precedes x ms order in
+      let later = pairs_later Precedes x ms order in
+      grind (arith, in_cases, behind-none ms, first, later, append-nil, apart x, one-of ms, nat_tests)
 
 -- a line behind a first move begins as a part does where that move is the part's first and the rest begins as the part goes on
 fronts-under : (m : Move) (front : List Move) (x : Move) (b : Bool) → eqb (order_number m) (order_number x) ≡ b → (lines : List (List Move))
     → filter (begins_path (m ∷ front)) (map (λ line. x ∷ line) lines) ≡ cond b (map (λ line. x ∷ line) (filter (begins_path front) lines)) []
 unfolding begins_path
-fronts-under m front x true e [] = refl
-fronts-under m front x false e [] = refl
-fronts-under m front x true e (line ∷ lines) = search (rules, fronts-under m front x true e lines)
-fronts-under m front x false e (line ∷ lines) = search (rules, fronts-under m front x false e lines)
+fronts-under m front x b e [] = search rules
+fronts-under m front x b e (line ∷ lines) = search (rules, fronts-under m front x b e lines)
 
 same-number : (m : Move) → eqb (order_number m) (order_number m) ≡ true
 same-number m = grind (arith, nat_tests)
@@ -107,22 +100,16 @@ module _ (game : Game Position Move) where
   pub beginnings-play : (d : ℕ) (p : Position) (front : List Move) → Contains (beginnings game d p) front
       → IsPlayable game p front × (length front ≡ d)
   unfolding beginnings
-  beginnings-play zero p front c = elim (in_cases [] [] front c) [
-    | inl same ↦ subst (λ l. IsPlayable game p l × (length l ≡ 0)) same (tt, refl)
-    | inr none ↦ absurd (none_in_nil front none)
-  ]
+  beginnings-play zero p front c = grind (arith, in_cases, none_in_nil)
   beginnings-play (suc d) p front c =
       let w = from_flat_map (λ m. map (λ rest. m ∷ rest) (beginnings game d (game.after p m))) (game.moves p) front c in
-      let r = from_map (λ rest. w.0 ∷ rest) (beginnings game d (game.after p w.0)) front w.2 in
-      let i = beginnings-play d (game.after p w.0) r.0 r.1 in
-      subst (λ l. IsPlayable game p l × (length l ≡ suc d)) r.2 ((w.1, i.0), omega (arith, i.1))
+      grind (arith, from_map (λ rest. w.0 ∷ rest) (beginnings game d (game.after p w.0)) front w.2, beginnings-play d (game.after p w.0))
 
   -- and each such list is one of them
   pub in-beginnings : (d : ℕ) (p : Position) (front : List Move) → IsPlayable game p front → length front ≡ d → Contains (beginnings game d p) front
   unfolding beginnings
-  in-beginnings zero p [] are long = first_in [] []
+  in-beginnings d p [] are long = grind (arith, first_in)
   in-beginnings zero p (m ∷ front) are long = absurd (omega (arith, long))
-  in-beginnings (suc d) p [] are long = absurd (omega (arith, long))
   in-beginnings (suc d) p (m ∷ front) are long =
       in_flat_map (λ m. map (λ rest. m ∷ rest) (beginnings game d (game.after p m))) (game.moves p) m (m ∷ front) are.0
       (in_map (λ rest. m ∷ rest) (beginnings game d (game.after p m)) front (in-beginnings d (game.after p m) front are.1 (omega (arith, long))))
@@ -155,12 +142,10 @@ module _ (game : Game Position Move) (order : (p : Position) → AllPairs Preced
       pairs_flat_map Precedes (StandsBefore Precedes) (λ m. map (λ rest. m ∷ rest) (beginnings game d (game.after p m))) (game.moves p) (order p)
       (λ m. pairs_map (StandsBefore Precedes) (StandsBefore Precedes) (λ rest. m ∷ rest) (beginnings game d (game.after p m))
       (λ x y before. inr (refl, before)) (beginnings-stand d (game.after p m)))
-      (λ m n less a b c e. across m n less a b (from_map (λ rest. m ∷ rest) (beginnings game d (game.after p m)) a c)
-      (from_map (λ rest. n ∷ rest) (beginnings game d (game.after p n)) b e))
-    where
-      across : (m n : Move) → Precedes m n → (a b : List Move) → ((x : List Move) × Contains (beginnings game d (game.after p m)) x × (m ∷ x ≡ a))
-          → ((y : List Move) × Contains (beginnings game d (game.after p n)) y × (n ∷ y ≡ b)) → StandsBefore Precedes a b
-      across m n less a b x y = rw (← x.2, ← y.2) (inl less)
+      (λ m n less a b c e.
+      let x = from_map (λ rest. m ∷ rest) (beginnings game d (game.after p m)) a c in
+      let y = from_map (λ rest. n ∷ rest) (beginnings game d (game.after p n)) b e in
+      grind (arith, x, y))
 
   -- of the beginnings a line that can be played begins with one alone
   pub beginnings-one : (d : ℕ) (p : Position) (line : List Move) → IsPlayable game p line → d ≤ length line

@@ -1,24 +1,17 @@
 -- The parts of a phase by their numbers, and how many there are.
-use Rattle.pop_solve.proofs.Words.{Bool, Posed, Position, RuleSet, [], arith, chess, cond, eqb, false, half_moves, is_barred, is_help, min, not, phase_half_moves, phase_start, refl, true, ℕ, ◌||◌, ◌≡◌, ◌≤◌}
+use Rattle.pop_solve.proofs.Words.{Bool, Posed, Position, RuleSet, [], arith, chess, eqb, false, half_moves, is_barred, not, phase_half_moves, phase_start, refl, true, ℕ, ◌||◌, ◌≡◌, ◌≤◌}
 use Rattle.pop_events.specs.declared.event.Phase.{Phase}
-use Rattle.pop_events.specs.declared.event.Phase.TheVariants.{Play, Set}
 use Rattle.pop_input.specs.declared.stipulation.Goal.{Goal}
 use Rattle.pop_parts.specs.PhaseParts.{beginnings, part_depth, parts}
-
--- the moves that tell parts apart are some, and no more than the phase has half-moves
-depth-between : (help : Bool) (depth h : ℕ) → 1 ≤ depth → 1 ≤ h → (1 ≤ cond help (min depth h) 1) × (cond help (min depth h) 1 ≤ h)
-depth-between true depth h some more = (omega (arith, some, more), omega arith)
-depth-between false depth h some more = (omega arith, more)
 
 -- the moves that tell parts apart are one or more, and no more than the half-moves
 pub depth-fits : (problem : Posed) (phase : Phase) (depth : ℕ) → 1 ≤ depth → 1 ≤ phase_half_moves problem phase
     → (1 ≤ part_depth problem phase depth) × (part_depth problem phase depth ≤ phase_half_moves problem phase)
-depth-fits problem phase depth some more = depth-between (is_help problem.stipulation.form) depth (phase_half_moves problem phase) some more
+depth-fits problem phase depth some more = grind arith
 
 -- no phase has more half-moves than the play
 pub half-moves-most : (problem : Posed) (phase : Phase) → phase_half_moves problem phase ≤ half_moves problem.stipulation
-half-moves-most problem Set = omega arith
-half-moves-most problem Play = omega arith
+half-moves-most problem phase = grind arith
 
 -- a phase that has parts has half-moves
 pub some-half-moves : (barred : Bool) (h : ℕ) → (barred || eqb h 0) ≡ false → 1 ≤ h

@@ -1,5 +1,5 @@
 -- What the walk shows behind a part's first moves is the part's solutions.
-use Rattle.pop_solve.proofs.Words.{Bool, Contains, IsSound, IsWellFormed, List, Move, Posed, Position, RuleSet, [], after_well_formed, and_parts, ap, append-nil, append_assoc, arith, chess, eqb, false, filter, game_of, help_lines, is_help_play, is_help, is_legal, is_pseudo_legal-from_legal, length, length-append, lines_to_goal, map, moves_are_the_legal_moves, moves_in_order, path_end, phase_half_moves, phase_start, plan_of, play_of, refl, set_tree, shown_paths, solutions, subst, suc, sym, tree, true, zero, ℕ, ◌++◌, ◌+◌, ◌-◌, ◌∙◌, ◌∷◌, ◌≡◌, ◌≤◌}
+use Rattle.pop_solve.proofs.Words.{Bool, Contains, IsSound, IsWellFormed, List, Move, Posed, Position, RuleSet, [], after_well_formed, ap, append-nil, append_assoc, arith, chess, eqb, false, filter, game_of, help_lines, is_help_play, is_help, is_pseudo_legal-from_legal, length, length-append, lines_to_goal, map, moves_are_the_legal_moves, moves_in_order, path_end, phase_half_moves, phase_start, plan_of, play_of, refl, set_tree, shown_paths, solutions, subst, suc, sym, true, zero, ℕ, ◌++◌, ◌+◌, ◌-◌, ◌∙◌, ◌∷◌, ◌≡◌, ◌≤◌}
 use Rattle.pop_solve.specs.declared.aim.Battle.{Battle}
 use Rattle.pop_solve.specs.declared.aim.Play.{Play as PlayOfSides}
 use Rattle.pop_solve.specs.declared.aim.Play.TheVariants.{Help as HelpPlay, Battle as BattlePlay}
@@ -25,10 +25,9 @@ module _ (rule : RuleSet) (problem : Posed) where
   unfolding are_legal
   is_legal-playable p well [] may = tt
   is_legal-playable p well (m ∷ ms) may =
-      let w = and_parts (is_legal rule p m) (are_legal rule (position_after rule p m) ms) may in (
-        (moves_are_the_legal_moves rule p m well).1 w.0,
-        is_legal-playable (position_after rule p m) (after_well_formed rule p m well (is_pseudo_legal-from_legal rule p m w.0)) ms w.1,
-      )
+      let after = after_well_formed rule p m well in
+      let rest = λ (w : IsWellFormed (position_after rule p m)). is_legal-playable (position_after rule p m) w ms in
+      grind (arith, moves_are_the_legal_moves rule p m well, after, is_pseudo_legal-from_legal rule p m, rest)
 
   -- help play: the lines that go on behind some moves
   abbrev pub lines-behind : Phase → List Move → List (List Move)
@@ -62,10 +61,8 @@ module _ (rule : RuleSet) (problem : Posed) where
       → phase_half_moves problem phase ≡ suc h
       → solutions rule problem phase ≡ battle-by battle phase h (legal_moves rule (phase_start problem phase))
   unfolding set_tree
-  battle-solutions battle fought Set h z = set_paths rule problem battle fought
-      ∙ ap (λ x. set_tree battle (game_of rule problem) problem.variation problem.stipulation.n x (phase_start problem Set)) z
-  battle-solutions battle fought Play h z = play_paths rule problem battle fought
-      ∙ ap (λ x. tree battle (game_of rule problem) problem.variation problem.stipulation.n x (phase_start problem Play)) z
+  battle-solutions battle fought Set h z = rw (set_paths rule problem battle fought, z) refl
+  battle-solutions battle fought Play h z = rw (play_paths rule problem battle fought, z) refl
 
   of-one : (battle : Battle) (phase : Phase) (h : ℕ) (m : Move) → Contains (legal_moves rule (phase_start problem phase)) m
       → filter (begins_so (m ∷ [])) (battle-by battle phase h (legal_moves rule (phase_start problem phase))) ≡ battle-by battle phase h (m ∷ [])
@@ -106,12 +103,8 @@ module _ (rule : RuleSet) (problem : Posed) where
       let most : length (front ++ m ∷ []) ≤ phase_half_moves problem phase = omega (arith, length-append front (m ∷ []), room) in
       let part = help-part help phase (front ++ m ∷ []) (is_legal-playable (phase_start problem phase) (start_sound problem sound phase) (front ++ m ∷ []) may)
       most (omega (arith, room)) in
-      let way = walked help start (phase_half_moves problem phase) (phase_start problem phase) front m room in
-      let n : ℕ = problem.max_solutions in
-      let whole : IsCutInto true n (lines-behind phase (front ++ m ∷ [])) (map (λ path. path ∷ []) (lines-behind phase (front ++ m ∷ []))) =
-      record { kept = lines-kept n (lines-behind phase (front ++ m ∷ [])); begun = lines-begun n (lines-behind phase (front ++ m ∷ [])) } in
-      subst (λ xs. IsCutInto true n xs (part_solutions rule problem phase (front ++ m ∷ []))) (sym way)
-      (subst (λ sols. IsCutInto true n (lines-behind phase (front ++ m ∷ [])) sols) (sym part) whole)
+      rw (walked help start (phase_half_moves problem phase) (phase_start problem phase) front m room, part)
+      (record { kept = lines-kept _ _; begun = lines-begun _ _ })
 
   one-cut : (battle : Battle) → play_of problem.stipulation.form ≡ BattlePlay battle → (phase : Phase) (h : ℕ) → phase_half_moves problem phase ≡ suc h
       → (m : Move)
@@ -142,12 +135,8 @@ module _ (rule : RuleSet) (problem : Posed) where
       let h : ℕ = phase_half_moves problem phase - 1 in
       let z : phase_half_moves problem phase ≡ suc h = omega (arith, room) in
       let c = is_legal-playable (phase_start problem phase) (start_sound problem sound phase) (m ∷ []) may in
-      subst (λ sols. IsCutInto false problem.max_solutions
-      (map (λ line. [] ++ line) (shown_paths (plan_of problem) (game_of rule problem) true
-      (phase_half_moves problem phase - 0) (phase_half_moves problem phase - 0) (phase_start problem phase) (m ∷ []))) sols)
-      (sym (battle-part battle fought phase h z m c.0))
-      (with-none problem.max_solutions (phase_half_moves problem phase) h (phase_start problem phase) (m ∷ []) (battle-by battle phase h (m ∷ [])) z
-      (one-cut battle fought phase h z m))
+      rw (battle-part battle fought phase h z m c.0) (with-none problem.max_solutions (phase_half_moves problem phase) h (phase_start problem phase) (m ∷ [])
+      (battle-by battle phase h (m ∷ [])) z (one-cut battle fought phase h z m))
 
 -- behind a part's first moves, the last of which is still to be made, the walk shows the part's solutions
 pub part_cut : (rule : RuleSet) (problem : Posed) (sound : IsSound problem) (phase : Phase) (front : List Move) (m : Move)

@@ -2,9 +2,7 @@
 use Rattle.chess_mates.specs.ties.Mates.{mates}
 use Rattle.chess_rules.specs.ties.Places.{place_of, place_onto}
 use Rattle.pop_solve.specs.ties.Calls.{IsOnMate}
-use Rattle.pop_solve.proofs.Values.{value-forced, value-mates}
-use Rattle.pop_solve.specs.declared.aim.Battle.TheVariants.{Direct}
-use Rattle.pop_solve.proofs.Words.{Battle, Bool, Goal, IfSome, List, MatchOption, Mate, Move, None, Option, Position, RuleSet, Selfmate, Some, [], arith, can_move, chess, cut_mates, cut_moves, eqb, false, filter, is_for_mate, is_goal_reached, is_legal, is_mate, is_mating, is_nil, is_some, is_stalemate, length, list_all, list_any, mates_behind, mates_between, moves, moves_behind, moves_between, nat_tests, not, refl, rules, sym, true, value, walk_count, ℕ, ◌&&◌, ◌++◌, ◌-◌, ◌<◌, ◌∙◌, ◌∷◌, ◌≡◌, ◌≤◌}
+use Rattle.pop_solve.proofs.Words.{Battle, Bool, Goal, IfSome, List, MatchOption, Mate, Move, None, Option, Position, RuleSet, Some, [], arith, can_move, chess, cut_mates, cut_moves, eqb, false, filter, is_for_mate, is_goal_reached, is_legal, is_mate, is_mating, is_nil, is_some, is_stalemate, length, list_any, mates_behind, mates_between, moves, moves_behind, moves_between, nat_tests, not, refl, rules, sym, true, value, walk_count, ℕ, ◌++◌, ◌-◌, ◌<◌, ◌∙◌, ◌∷◌, ◌≡◌, ◌≤◌}
 use Rattle.pop_solve.specs.Game.{some_move as some_good}
 
 -- there is a legal move exactly where the list of moves isn't empty
@@ -36,19 +34,6 @@ module _ (rule : RuleSet) (p : Position) where
   some_mates : (b : ℕ) → some_good (chess Mate rule) (is_mate rule) p ≡ not (is_nil (mates_between rule p 0 b ++ mates_behind rule p b))
   unfolding mates_behind
   some_mates b = grind (arith, any_mating (moves rule p), behind_start rule p, cut_mates rule p 0 b (omega arith))
-
-  none_mates : (ms : List Move) → filter (is_mating rule p) ms ≡ [] → (not (eqb (length ms) 0) && list_all (is_mating rule p) ms) ≡ false
-  none_mates [] none = refl
-  none_mates (m ∷ ms) none = grind arith
-
-  -- with one half-move left and no mate White doesn't reach his aim
-  pub value_without_mates : (battle : Battle) (goal : Goal) (left : ℕ) → goal ≡ Mate → left ≡ 1 → mates_behind rule p 0 ≡ []
-      → value battle (chess goal rule) left p ≡ false
-  unfolding mates_behind
-  value_without_mates Direct goal left for one none =
-      rw (for, one, value-mates Direct (chess Mate rule) p refl, any_mating (moves rule p)) (rw (← behind_start rule p, none) refl)
-  value_without_mates Selfmate goal left for one none =
-      rw (for, one, value-forced Selfmate (chess Mate rule) p refl) (none_mates (moves rule p) (rw (← behind_start rule p) none))
 
   mate_within : (before behind : List Move) (m : Move) (more : List Move) → behind ≡ m ∷ more → true ≡ not (is_nil (before ++ behind))
   mate_within [] behind m more e = rw e refl

@@ -1,20 +1,8 @@
 -- The first solutions of a phase, by the paths that begin them.
-use Rattle.pop_solve.proofs.Words.{Battle, BattlePlay, Bool, Frame, Game, IsWalking, List, Plan, PlayOfSides, Position, RuleSet, Steps, Walks, [], append-nil, arith, beginning_count, begins_solution, chess, cond, eqb, false, is_help_play, kept_paths, length, map, moves_behind, nat_tests, path, position, refl, rules, shown_paths, suc, to_come, true, zero, ℕ, ◌&&◌, ◌++◌, ◌+◌, ◌-◌, ◌<◌, ◌||◌, ◌∷◌, ◌≡◌, and_parts, HelpPlay}
+use Rattle.pop_solve.proofs.Words.{Battle, BattlePlay, Bool, Frame, Game, IsWalking, List, Plan, PlayOfSides, Position, RuleSet, Steps, Walks, [], append-nil, arith, beginning_count, begins_solution, chess, cond, eqb, false, is_help_play, kept_paths, length, map, moves_behind, nat_tests, is_given, path, position, refl, rules, shown_paths, suc, to_come, true, zero, ℕ, ◌&&◌, ◌++◌, ◌+◌, ◌-◌, ◌<◌, ◌||◌, ◌∷◌, ◌≡◌, ◌⊎◌, and_parts, HelpPlay, map-id, nil_from_length}
 use Rattle.pop_solve.proofs.Paths.{path-length}
-use Rattle.std.proofs.lemmas.List.{map-id, nil_from_length}
-use Rattle.pop_solve.proofs.GoingOn.{given-battle}
-
--- where no path is to come no solution begins
-pub beginning_count-nil : (M : Type 0) (help : Bool) (n : ℕ) → beginning_count {M = M} help n [] ≡ 0
-unfolding beginning_count
-beginning_count-nil M help n = search rules
 
 module _ {M : Type 0} where
-  -- nor is one kept
-  pub keep-nil : (help : Bool) (n : ℕ) → kept_paths {M = M} help n [] ≡ []
-  unfolding kept_paths
-  keep-nil help n = search rules
-
   -- the next path is kept, and of the others those of the solutions that may still begin
   pub keep-next : (help : Bool) (n : ℕ) (x : List M) (xs : List (List M)) (b : Bool) → begins_solution help x ≡ b → (b ≡ true → 0 < n)
       → kept_paths help n (x ∷ xs) ≡ x ∷ kept_paths help (n - cond b 1 0) xs
@@ -41,11 +29,11 @@ module _ {M : Type 0} where
 module _ {P M : Type 0} (plan : Plan) (game : Game P M) (battle : Battle) (fought : plan.play ≡ BattlePlay battle) where
   full-battle : (root : Bool) (k left : ℕ) (p : P) (ms : List M)
       → (kept_paths false 0 (shown_paths plan game root k left p ms) ≡ []) × (beginning_count false 0 (shown_paths plan game root k left p ms) ≡ 0)
-  unfolding shown_paths kept_paths beginning_count
+  unfolding shown_paths kept_paths beginning_count is_given
   full-battle root zero left p ms = search rules
   full-battle root (suc k) zero p ms = search rules
   full-battle root (suc k) (suc t) p [] = search rules
-  full-battle root (suc k) (suc t) p (m ∷ ms) = search (rules, given-battle plan game battle, full-battle root (suc k) (suc t) p ms)
+  full-battle root (suc k) (suc t) p (m ∷ ms) = search (rules, full-battle root (suc k) (suc t) p ms)
 
 module _ (rule : RuleSet) (plan : Plan) (h : ℕ) (p : Position) where
   -- the paths to come from the root alone
@@ -63,25 +51,18 @@ module _ (rule : RuleSet) (plan : Plan) (h : ℕ) (p : Position) where
 
   none : (frames : List Frame) → length frames ≡ 0 → to_come rule plan h p frames ≡ []
   unfolding to_come
-  none [] e = refl
-  none (f ∷ below) e = absurd (omega (arith, e))
+  none frames e = search (rules, nil_from_length)
 
   module _ (old mid : List Frame) (same : to_come rule plan h p old ≡ to_come rule plan h p mid) where
-    -- the walk ends once no frame is left
-    pub walks_none : (limit : ℕ) (board : Position) → IsWalking rule h p mid board → length mid ≡ 0
+    -- the walk ends once no frame is left, or where the limit is reached and no solution is on the way
+    pub walks_ended : (limit : ℕ) (board : Position) → IsWalking rule h p mid board
+        → (length mid ≡ 0) ⊎ ((eqb limit 0 && (is_help_play plan.play || eqb (length mid) 1)) ≡ true)
         → Walks rule plan (is_help_play plan.play) h p limit old mid board false
-    walks_none limit board r e = search (rules, none, keep-nil, nil_from_length, beginning_count-nil)
-
-    -- it ends where the limit is reached and no solution is on the way
-    pub walks_full : (limit : ℕ) (board : Position) → IsWalking rule h p mid board → (eqb limit 0 && (is_help_play plan.play || eqb (length mid) 1)) ≡ true
-        → Walks rule plan (is_help_play plan.play) h p limit old mid board false
-    walks_full limit board r e = grind (arith, nat_tests, and_parts, full plan.play refl mid, none)
-
-    room : (n : ℕ) (b : Bool) → (eqb n 0 && b) ≡ false → b ≡ true → 0 < n
-    room n b e t = search rules
+    unfolding kept_paths beginning_count
+    walks_ended limit board r e = grind (arith, nat_tests, and_parts, full plan.play refl mid, none mid, nil_from_length)
 
     -- a step that gives a path ends it too
     pub walks_given : (limit : ℕ) (new : List Frame) (board : Position) (before after : ℕ) (given : Bool) → Steps rule plan h p mid new board before after given
         → given ≡ true → 0 < length mid → (eqb limit 0 && (is_help_play plan.play || eqb (length mid) 1)) ≡ false
         → Walks rule plan (is_help_play plan.play) h p limit old new board true
-    walks_given limit new board before after given made is some e = grind (arith, path-length, room, keep-next, beginning_count-next, none)
+    walks_given limit new board before after given made is some e = grind (arith, path-length, nat_tests, keep-next, beginning_count-next, none)

@@ -1,6 +1,5 @@
 -- The least length by half-moves is the least number of moves.
-use Rattle.pop_solve.proofs.Words.{Bool, Game, Selfmate, arith, cond, false, least_length_from, least_moves, position_or_len, range_with_len, refl, rules, self_wins, suc, wins, zero, ℕ, ◌*◌, ◌+◌, ◌≡◌}
-use Rattle.pop_solve.specs.declared.aim.Battle.TheVariants.{Direct}
+use Rattle.pop_solve.proofs.Words.{Bool, Game, Selfmate, arith, cond, false, least_length_from, least_moves, position_or_len, range_with_len, refl, rules, self_wins, suc, wins, zero, ℕ, ◌*◌, ◌+◌, ◌≡◌, Direct}
 use Rattle.pop_solve.proofs.Battles.{value-wins, value-self_wins}
 
 -- the first number from a on that passes, or the n-th after a
@@ -39,10 +38,7 @@ module _ {P M : Type 0} (game : Game P M) (q : P) where
     by_twos_self zero k = search rules
     by_twos_self (suc n) k = grind (arith, by_twos_self n (k + 1), value-self_wins)
 
-    zero_loses_self : (n : ℕ) → first_number (λ k. self_wins game k q) (suc n) 0 ≡ first_number (λ k. self_wins game k q) n (0 + 1)
-    unfolding first_number self_wins
-    zero_loses_self n = refl
-
     -- the same of a selfmate
     pub least_moves-selfmate : (n : ℕ) → least_length_from Selfmate game q n 2 ≡ 2 * least_moves Selfmate game (suc n) q
-    least_moves-selfmate n = search (rules, first_number, by_twos_self n 1, first_number-is, zero_loses_self n)
+    unfolding first_number self_wins
+    least_moves-selfmate n = search (rules, by_twos_self n 1, first_number-is)

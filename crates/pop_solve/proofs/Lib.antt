@@ -2,8 +2,10 @@ pub mod Words
 pub mod Boards
 pub mod Values
 pub mod SmallestTrees
+pub mod LastMoves
 pub mod Orders
 pub mod Tests
+pub mod LastDefences
 pub mod Battles
 pub mod Lengths
 pub mod Least

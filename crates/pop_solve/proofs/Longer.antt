@@ -1,36 +1,28 @@
 -- One more move never harms.
-use Rattle.pop_solve.proofs.Words.{Bool, Game, List, [], ap, arith, can_move, cases_lt, every_move, fails_before_first, false, get_or, inl, inr, is_lost, is_self_lost, length, list_all, list_any, not, or_left, passes_at_first, position_or_len, prefix_len-le-length, range_with_len, rules, self_wins, some_move, suc, sym, true, wins, zero, ℕ, ◌&&◌, ◌-◌, ◌<◌, ◌||◌, ◌∙◌, ◌∷◌, ◌≡◌, ◌≤◌}
+use Rattle.pop_solve.proofs.Words.{Bool, Game, List, [], arith, can_move, cases_lt, every_move, fails_before_first, false, is_lost, is_self_lost, list_all, list_any, passes_at_first, position_or_len, prefix_len-le-length, range_with_len, rules, self_wins, some_move, suc, true, wins, zero, ℕ, ◌&&◌, ◌-◌, ◌<◌, ◌||◌, ◌∷◌, ◌≡◌, ◌≤◌}
 use Rattle.std.proofs.lemmas.List.FromFn.{get_or-range_with_len, length-range_with_len}
-
-or_weaker : (a b c d : Bool) → (a ≡ true → c ≡ true) → (b ≡ true → d ≡ true) → (a || b) ≡ true → (c || d) ≡ true
-or_weaker a b c d v w h = search rules
-
-and_weaker : (a b c d : Bool) → (a ≡ true → c ≡ true) → (b ≡ true → d ≡ true) → (a && b) ≡ true → (c && d) ≡ true
-and_weaker a b c d v w h = search rules
 
 module _ {X : Type 0} (f g : X → Bool) (weaker : (x : X) → f x ≡ true → g x ≡ true) where
   any_weaker : (xs : List X) → list_any f xs ≡ true → list_any g xs ≡ true
   any_weaker [] h = h
-  any_weaker (x ∷ xs) h = or_weaker (f x) (list_any f xs) (g x) (list_any g xs) (weaker x) (any_weaker xs) h
+  any_weaker (x ∷ xs) h = search (rules, any_weaker xs, weaker)
 
   all_weaker : (xs : List X) → list_all f xs ≡ true → list_all g xs ≡ true
   all_weaker [] h = h
-  all_weaker (x ∷ xs) h = and_weaker (f x) (list_all f xs) (g x) (list_all g xs) (weaker x) (all_weaker xs) h
+  all_weaker (x ∷ xs) h = search (rules, all_weaker xs, weaker)
 
 module _ {P M : Type 0} (game : Game P M) where
   some_weaker : (f g : P → Bool) → ((q : P) → f q ≡ true → g q ≡ true) → (p : P) → some_move game f p ≡ true → some_move game g p ≡ true
-  some_weaker f g w p h = any_weaker (λ m. f (game.after p m)) (λ m. g (game.after p m)) (λ m. w (game.after p m)) (game.moves p) h
+  some_weaker f g w p h = search (rules, any_weaker)
 
   every_weaker : (f g : P → Bool) → ((q : P) → f q ≡ true → g q ≡ true) → (p : P) → every_move game f p ≡ true → every_move game g p ≡ true
-  every_weaker f g w p h = all_weaker (λ m. f (game.after p m)) (λ m. g (game.after p m)) (λ m. w (game.after p m)) (game.moves p) h
+  every_weaker f g w p h = search (rules, all_weaker)
 
   -- who is lost within some moves is lost within more
   pub is_lost-more : (j : ℕ) (q : P) → is_lost game j q ≡ true → is_lost game (suc j) q ≡ true
   unfolding is_lost
-  is_lost-more zero q h = or_left (game.goal q) _ h
-  is_lost-more (suc j) q h =
-      or_weaker (game.goal q) _ _ _ (λ e. e) (and_weaker (can_move game q) _ _ _ (λ e. e) (every_weaker _ (some_move game (is_lost game (suc j)))
-      (some_weaker (is_lost game j) (is_lost game (suc j)) (λ r. is_lost-more j r)) q)) h
+  is_lost-more zero q h = search rules
+  is_lost-more (suc j) q h = search (rules, every_weaker, some_weaker, is_lost-more j)
 
   -- who wins within some moves wins within more
   pub wins-more : (k : ℕ) (p : P) → wins game k p ≡ true → wins game (suc k) p ≡ true
@@ -40,15 +32,13 @@ module _ {P M : Type 0} (game : Game P M) where
   -- after Black's move White wins, or Black has reached the goal
   won-more : (f g : P → Bool) → ((r : P) → f r ≡ true → g r ≡ true) → (q : P)
       → (can_move game q && every_move game (λ r. game.goal r || f r) q) ≡ true → (can_move game q && every_move game (λ r. game.goal r || g r) q) ≡ true
-  won-more f g w q h = search (rules, and_weaker, every_weaker, or_weaker)
+  won-more f g w q h = search (rules, every_weaker)
 
   -- the same of a selfmate
   pub self_wins-more : (k : ℕ) (p : P) → self_wins game k p ≡ true → self_wins game (suc k) p ≡ true
   unfolding self_wins
   self_wins-more zero p h = absurd cc
-  self_wins-more (suc k) p h = some_weaker (λ q. can_move game q && every_move game (λ r. game.goal r || self_wins game k r) q)
-      (λ q. can_move game q && every_move game (λ r. game.goal r || self_wins game (suc k) r) q)
-      (won-more (self_wins game k) (self_wins game (suc k)) (λ r. self_wins-more k r)) p h
+  self_wins-more (suc k) p h = search (rules, some_weaker, won-more, self_wins-more k)
 
   -- and after a move of White's
   pub is_self_lost-more : (j : ℕ) (q : P) → is_self_lost game j q ≡ true → is_self_lost game (suc j) q ≡ true
@@ -65,25 +55,15 @@ climbs f up k (suc n) le h = search (rules, cases_lt k (suc n), up n, climbs f u
 
 -- the first number that passes a test, looked for below n
 module _ (test : ℕ → Bool) (n : ℕ) where
-  long : length (range_with_len 0 n) ≡ n
-  long = length-range_with_len 0 n
-
   -- the first number that passes is at most their count
   pub first_at_most : position_or_len test (range_with_len 0 n) ≤ n
-  first_at_most = rw long at (prefix_len-le-length (λ k. not (test k)) (range_with_len 0 n))
-
-  at : (k : ℕ) → k < n → get_or (range_with_len 0 n) k 0 ≡ k
-  at k less = get_or-range_with_len 0 n k 0 less ∙ omega arith
+  first_at_most = search (rules, length-range_with_len, prefix_len-le-length)
 
   -- no lower number passes
   pub first_is_first : (k : ℕ) → k < position_or_len test (range_with_len 0 n) → test k ≡ false
   first_is_first k less =
-      let within : k < n = omega (arith, less, first_at_most) in
-      ap test (sym (at k within)) ∙ fails_before_first test (range_with_len 0 n) k 0 less
+      search (rules, get_or-range_with_len, length-range_with_len, fails_before_first test (range_with_len 0 n) k 0, first_at_most)
 
   -- it passes itself, if the count does
   pub first_passes : test n ≡ true → test (position_or_len test (range_with_len 0 n)) ≡ true
-  first_passes h = elim (cases_lt (position_or_len test (range_with_len 0 n)) n) [
-    | inl less ↦ ap test (sym (at (position_or_len test (range_with_len 0 n)) less)) ∙ passes_at_first test (range_with_len 0 n) 0 (rw long less)
-    | inr ge ↦ let e : position_or_len test (range_with_len 0 n) ≡ n = omega (arith, ge, first_at_most) in ap test e ∙ h
-  ]
+  first_passes h = search (rules, cases_lt, get_or-range_with_len, length-range_with_len, passes_at_first test (range_with_len 0 n) 0, first_at_most)

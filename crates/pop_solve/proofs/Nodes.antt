@@ -1,23 +1,16 @@
 -- The paths of trees.
-use Rattle.pop_solve.proofs.Words.{AllPairs, AllPairs-filter, Battle, Bool, Contains, Game, List, [], continuations, ap, arith, best_moves, cond, false, false≢true, filter, first_in, flat_map, flat_map_single, from_filter, from_flat_map, from_map, in_cases, in_filter, in_flat_map, in_map, inl, inr, keeps_win, later_in, list_any, map, node, nodes_below, none_in_nil, or_cases, or_left, or_right, pairs_flat_map, pairs_map, pairs_nil, pairs_of, refl, rules, is_in_set_play, set_tree, subst, suc, take, take-map, tree, true, zero, ℕ, ◌++◌, ◌-◌, ◌↔◌, ◌∙◌, ◌∷◌, ◌≡◌, ◌≢◌, ◌⊎◌}
-use Rattle.std.proofs.lemmas.List.Folds.{flat_map-map}
+use Rattle.pop_solve.proofs.Words.{AllPairs, AllPairs-filter, Battle, Bool, Contains, Game, List, [], continuations, arith, best_moves, cond, false, false≢true, filter, first_in, flat_map, flat_map_single, from_filter, from_flat_map, from_map, in_cases, in_filter, in_flat_map, in_map, inr, keeps_win, later_in, list_any, map, node, nodes_below, none_in_nil, or_cases, pairs_flat_map, pairs_map, pairs_nil, pairs_of, refl, rules, is_in_set_play, set_tree, subst, suc, take, take-map, tree, true, zero, ℕ, ◌++◌, ◌-◌, ◌↔◌, ◌∷◌, ◌≡◌, ◌≢◌, ◌⊎◌, flat_map-map}
 use Rattle.pop_solve.proofs.theorems.Lists.{HasBeginnings, StandsBefore}
 
 -- some element passes a test
 pub any_from_element : {X : Type 0} (test : X → Bool) (xs : List X) (x : X) → Contains xs x → test x ≡ true → list_any test xs ≡ true
 any_from_element test [] x c t = absurd (none_in_nil x c)
-any_from_element test (y ∷ xs) x c t = elim (in_cases y xs x c) [
-  | inl same ↦ or_left (test y) (list_any test xs) (ap test same ∙ t)
-  | inr r ↦ or_right (test y) (list_any test xs) (any_from_element test xs x r t)
-]
+any_from_element test (y ∷ xs) x c t = search (rules, in_cases, any_from_element test xs x)
 
 -- where some element passes, one that does
 pub element_from_any : {X : Type 0} (test : X → Bool) (xs : List X) → list_any test xs ≡ true → (x : X) × (Contains xs x × (test x ≡ true))
 element_from_any test [] h = absurd (false≢true h)
-element_from_any test (y ∷ xs) h = elim (or_cases (test y) (list_any test xs) h) [
-  | inl here ↦ (y, (first_in y xs, here))
-  | inr r ↦ let w = element_from_any test xs r in (w.0, (later_in y xs w.0 w.1.0, w.1.1))
-]
+element_from_any test (y ∷ xs) h = search (rules, or_cases, first_in, later_in, element_from_any test xs)
 
 -- the first of joined lists of a map
 joined_first : {X Y : Type 0} (g : X → List Y) (k : ℕ) (xs : List X) → flat_map (λ s. s) (take k (map g xs)) ≡ flat_map g (take k xs)
@@ -30,10 +23,8 @@ HasNoEmpty {M} paths = (path : List M) → Contains paths path → path ≢ []
 module _ {M : Type 0} where
   -- a path of a node begins with its move
   starts : (m : M) (below : List (List M)) (path : List M) → Contains (node m below) path → (rest : List M) × (m ∷ rest ≡ path)
-  starts m below path c = elim (in_cases (m ∷ []) (map (λ path. m ∷ path) below) path c) [
-    | inl same ↦ ([], same)
-    | inr r ↦ let w = from_map (λ path. m ∷ path) below path r in (w.0, w.2)
-  ]
+  starts m below path c =
+      search (rules, in_cases (m ∷ []) (map (λ path. m ∷ path) below) path, from_map (λ path. m ∷ path) below path)
 
   module _ (f : M → List (List M)) where
     -- a path of nodes: its first move is one of theirs, and the others are none or a path below it
@@ -41,17 +32,13 @@ module _ {M : Type 0} where
         → Contains ms m × ((path ≡ []) ⊎ Contains (f m) path)
     from_nodes ms m path c =
         let w = from_flat_map (λ m. node m (f m)) ms (m ∷ path) c in
-        elim (in_cases (w.0 ∷ []) (map (λ path. w.0 ∷ path) (f w.0)) (m ∷ path) w.2) [
-          | inl same ↦ grind arith
-          | inr r ↦ let u = from_map (λ path. w.0 ∷ path) (f w.0) (m ∷ path) r in grind arith
-        ]
+        search (rules, in_cases (w.0 ∷ []) (map (λ path. w.0 ∷ path) (f w.0)) (m ∷ path) w.2, from_map (λ path. w.0 ∷ path) (f w.0) (m ∷ path))
 
     root_in_nodes : (ms : List M) (m : M) → Contains ms m → Contains (flat_map (λ m. node m (f m)) ms) (m ∷ [])
     root_in_nodes ms m c = in_flat_map (λ m. node m (f m)) ms m (m ∷ []) c (first_in (m ∷ []) (map (λ path. m ∷ path) (f m)))
 
     path_in_nodes : (ms : List M) (m : M) (path : List M) → Contains ms m → Contains (f m) path → Contains (flat_map (λ m. node m (f m)) ms) (m ∷ path)
-    path_in_nodes ms m path c b =
-        in_flat_map (λ m. node m (f m)) ms m (m ∷ path) c (later_in (m ∷ []) (map (λ path. m ∷ path) (f m)) (m ∷ path) (in_map (λ path. m ∷ path) (f m) path b))
+    path_in_nodes ms m path c b = search (rules, in_flat_map (λ m. node m (f m)) ms m, later_in, in_map (λ path. m ∷ path))
 
     nodes_not_empty : (ms : List M) → HasNoEmpty (flat_map (λ m. node m (f m)) ms)
     nodes_not_empty ms path c e = let w = from_flat_map (λ m. node m (f m)) ms path c in grind (arith, starts w.0 (f w.0) path w.2)
@@ -60,8 +47,7 @@ module _ {M : Type 0} where
     pub nodes_have_beginnings : ((m : M) → HasBeginnings (f m)) → (ms : List M) → HasBeginnings (flat_map (λ m. node m (f m)) ms)
     nodes_have_beginnings closed ms x [] ys c = root_in_nodes ms x (from_nodes ms x ys c).0
     nodes_have_beginnings closed ms x (y ∷ xs) ys c =
-        let w = from_nodes ms x ((y ∷ xs) ++ ys) c in
-        elim w.1 [ inl none ↦ absurd cc | inr b ↦ path_in_nodes ms x (y ∷ xs) w.0 (closed x y xs ys b) ]
+        grind (arith, from_nodes ms x ((y ∷ xs) ++ ys) c, path_in_nodes ms x (y ∷ xs), closed x y xs ys)
 
     module _ (before : M → M → Type 0) where
       -- nodes in order, with paths in order below each
@@ -69,19 +55,10 @@ module _ {M : Type 0} where
           → AllPairs (StandsBefore before) (flat_map (λ m. node m (f m)) ms)
       nodes_stand ms order each full =
           pairs_flat_map before (StandsBefore before) (λ m. node m (f m)) ms order
-          (λ m. pairs_of (StandsBefore before) (m ∷ []) (map (λ path. m ∷ path) (f m)) (λ path c. behind m path (from_map (λ path. m ∷ path) (f m) path c))
+          (λ m. pairs_of (StandsBefore before) (m ∷ []) (map (λ path. m ∷ path) (f m))
+          (λ path c. grind (arith, from_map (λ path. m ∷ path) (f m) path c, full m))
           (pairs_map (StandsBefore before) (StandsBefore before) (λ path. m ∷ path) (f m) (λ x y b. inr (refl, b)) (each m)))
-          (λ m n less a b c d. across m n less a b (starts m (f m) a c) (starts n (f n) b d))
-        where
-          behind : (m : M) (path : List M) → ((rest : List M) × Contains (f m) rest × (m ∷ rest ≡ path)) → StandsBefore before (m ∷ []) path
-          behind m path w = subst (StandsBefore before (m ∷ [])) w.2 (inr (refl, goes_on w.0 (full m w.0 w.1)))
-            where
-              goes_on : (rest : List M) → rest ≢ [] → StandsBefore before [] rest
-              goes_on [] some = absurd (some refl)
-              goes_on (x ∷ rest) some = tt
-
-          across : (m n : M) → before m n → (a b : List M) → ((x : List M) × (m ∷ x ≡ a)) → ((y : List M) × (n ∷ y ≡ b)) → StandsBefore before a b
-          across m n less a b x y = rw (← x.1, ← y.1) (inl less)
+          (λ m n less a b c d. grind (arith, starts m (f m) a c, starts n (f n) b d))
 
 -- a list, unless the goal is reached
 in_unless : {X : Type 0} (g : Bool) (xs : List X) (x : X) → Contains (cond g [] xs) x ↔ ((g ≡ false) × Contains xs x)
@@ -115,29 +92,6 @@ module _ {P M : Type 0} (game : Game P M) where
   }
 
 module _ {P M : Type 0} (battle : Battle) (game : Game P M) (n : ℕ) where
-  -- no half-move left: nothing stands below Black's position
-  pub below_zero : (q : P) → nodes_below battle game n zero q ≡ []
-  unfolding nodes_below continuations
-  below_zero q = refl
-
-  -- nor below White's
-  pub answers_zero : (r : P) → continuations battle game n zero r ≡ []
-  unfolding nodes_below continuations
-  answers_zero r = refl
-
-  -- Black's defences, each over White's answers
-  pub below_more : (h : ℕ) (q : P)
-      → nodes_below battle game n (suc h) q ≡ cond (game.goal q) [] (flat_map (λ d. node d (continuations battle game n h (game.after q d))) (game.moves q))
-  unfolding nodes_below continuations
-  below_more h q = refl
-
-  -- White's best moves, each over Black's defences
-  pub answers_more : (h : ℕ) (r : P)
-      → continuations battle game n (suc h) r ≡ cond (game.goal r) [] (flat_map (λ m. node m (nodes_below battle game n h (game.after r m)))
-      (best_moves battle game n r))
-  unfolding nodes_below continuations
-  answers_more h r = refl
-
   -- the keys, and the moves that set play shows
   abbrev pub kept : P → List M
   kept p = filter (λ m. keeps_win battle game n (game.after p m)) (game.moves p)
@@ -162,33 +116,16 @@ module _ {P M : Type 0} (battle : Battle) (game : Game P M) (n : ℕ) where
     unfolding below_key
     tree_paths h p = flat_map-map (λ s. s) (λ m. node m (cond variation (nodes_below battle game n (h - 1) (game.after p m)) [])) (kept p)
 
-    -- set play without half-moves has no paths
-    pub set_tree_none : (p : P) → flat_map (λ s. s) (set_tree battle game variation n zero p) ≡ []
-    unfolding set_tree
-    set_tree_none p = refl
-
     -- set play's paths as nodes
     pub set_tree_paths : (h : ℕ) (p : P)
         → flat_map (λ s. s) (set_tree battle game variation n (suc h) p) ≡ flat_map (λ d. node d (below_set h p d)) (set_moves p)
     unfolding set_tree below_set
     set_tree_paths h p = flat_map-map (λ s. s) (λ d. node d (below_set h p d)) (set_moves p)
 
-    -- and those of their first k solutions
-    pub first_tree_paths : (k h : ℕ) (p : P)
-        → flat_map (λ s. s) (take k (tree battle game variation n h p)) ≡ flat_map (λ m. node m (below_key h p m)) (take k (kept p))
-    unfolding below_key
-    first_tree_paths k h p = joined_first (λ m. node m (cond variation (nodes_below battle game n (h - 1) (game.after p m)) [])) k (kept p)
-
-    -- the same of its first solutions
+    -- set play without half-moves has no first solutions
     pub first_set_tree_none : (k : ℕ) (p : P) → flat_map (λ s. s) (take k (set_tree battle game variation n zero p)) ≡ []
     unfolding set_tree
     first_set_tree_none k p = grind arith
-
-    -- the paths of its first solutions as nodes
-    pub first_set_tree_paths : (k h : ℕ) (p : P)
-        → flat_map (λ s. s) (take k (set_tree battle game variation n (suc h) p)) ≡ flat_map (λ d. node d (below_set h p d)) (take k (set_moves p))
-    unfolding set_tree below_set
-    first_set_tree_paths k h p = joined_first (λ d. node d (below_set h p d)) k (set_moves p)
 
   -- so what holds of trees holds of all of them
   module _ {Ok : List M → Type 0} {Q : List (List M) → Type 0} (holds : HoldsOfTrees game Ok Q) where
@@ -223,7 +160,8 @@ module _ {P M : Type 0} (battle : Battle) (game : Game P M) (n : ℕ) where
 
     -- of set play
     pub set_play_holds : (variation : Bool) (h : ℕ) (p : P) → Q (flat_map (λ s. s) (set_tree battle game variation n h p))
-    set_play_holds variation zero p = rw (set_tree_none variation p) holds.none
+    unfolding set_tree
+    set_play_holds variation zero p = holds.none
     set_play_holds variation (suc h) p =
         rw (set_tree_paths variation h p) (holds.nodes _ (set_moves p) (holds.some _ _ (holds.moves p)) (below_set_holds variation h p))
 
@@ -231,35 +169,29 @@ module _ {P M : Type 0} (battle : Battle) (game : Game P M) (n : ℕ) where
     module _ (ok : (ms : List M) → Ok ms) (k : ℕ) (variation : Bool) where
       -- of a play
       pub first_play_holds : (h : ℕ) (p : P) → Q (flat_map (λ s. s) (take k (tree battle game variation n h p)))
-      first_play_holds h p = rw (first_tree_paths variation k h p) (holds.nodes _ (take k (kept p)) (ok _) (below_key_holds variation h p))
+      unfolding below_key
+      first_play_holds h p =
+          rw (joined_first (λ m. node m (below_key variation h p m)) k (kept p)) (holds.nodes _ (take k (kept p)) (ok _) (below_key_holds variation h p))
 
       -- of set play
       pub first_set_play_holds : (h : ℕ) (p : P) → Q (flat_map (λ s. s) (take k (set_tree battle game variation n h p)))
+      unfolding set_tree below_set
       first_set_play_holds zero p = rw (first_set_tree_none variation k p) holds.none
       first_set_play_holds (suc h) p =
-          rw (first_set_tree_paths variation k h p) (holds.nodes _ (take k (set_moves p)) (ok _) (below_set_holds variation h p))
+          rw (joined_first (λ d. node d (below_set variation h p d)) k (set_moves p))
+          (holds.nodes _ (take k (set_moves p)) (ok _) (below_set_holds variation h p))
 
 -- the paths of nodes, unless the goal is reached
 module _ {M : Type 0} (f : M → List (List M)) (g : Bool) (ms : List M) (m : M) where
   -- a path of one move, where nothing stands below the goal
   pub roots_unless : Contains (cond g [] (flat_map (λ m. node m (f m)) ms)) (m ∷ []) ↔ ((g ≡ false) × Contains ms m)
-  roots_unless = (
-    λ c. let w = (in_unless g (flat_map (λ m. node m (f m)) ms) (m ∷ [])).0 c in (w.0, (from_nodes f ms m [] w.1).0),
-    λ w. (in_unless g (flat_map (λ m. node m (f m)) ms) (m ∷ [])).1 (w.0, root_in_nodes f ms m w.1),
-  )
-
-  deeper : (x : M) (path : List M) → (x ∷ path ≡ []) ⊎ Contains (f m) (x ∷ path) → Contains (f m) (x ∷ path)
-  deeper x path e = search rules
+  roots_unless = search (rules, in_unless g (flat_map (λ m. node m (f m)) ms) (m ∷ []), from_nodes f ms m [], root_in_nodes f ms m)
 
   -- a longer path there
   pub deeper_unless : (x : M) (path : List M)
       → Contains (cond g [] (flat_map (λ m. node m (f m)) ms)) (m ∷ (x ∷ path)) ↔ ((g ≡ false) × Contains ms m × Contains (f m) (x ∷ path))
-  deeper_unless x path = (
-    λ c.
-        let w = (in_unless g (flat_map (λ m. node m (f m)) ms) (m ∷ (x ∷ path))).0 c in
-        grind (arith, from_nodes f ms m (x ∷ path) w.1),
-    λ w. (in_unless g (flat_map (λ m. node m (f m)) ms) (m ∷ (x ∷ path))).1 (w.0, path_in_nodes f ms m (x ∷ path) w.1 w.2),
-  )
+  deeper_unless x path =
+      grind (arith, in_unless g (flat_map (λ m. node m (f m)) ms) (m ∷ (x ∷ path)), from_nodes f ms m (x ∷ path), path_in_nodes f ms m (x ∷ path))
 
 -- nodes of the moves that pass a test
 module _ {M : Type 0} (f : M → List (List M)) (test : M → Bool) (ms : List M) (m : M) where
@@ -270,9 +202,4 @@ module _ {M : Type 0} (f : M → List (List M)) (test : M → Bool) (ms : List M
   -- a longer path there
   pub deeper_are : (x : M) (path : List M)
       → Contains (flat_map (λ m. node m (f m)) (filter test ms)) (m ∷ (x ∷ path)) ↔ (Contains ms m × (test m ≡ true) × Contains (f m) (x ∷ path))
-  deeper_are x path = (
-    λ c.
-        let w = (deeper_unless f false (filter test ms) m x path).0 c in
-        grind (arith, from_filter test ms m w.1),
-    λ w. path_in_nodes f (filter test ms) m (x ∷ path) (in_filter test ms m w.0 w.1) w.2,
-  )
+  deeper_are x path = grind (arith, deeper_unless f false (filter test ms) m x path, from_filter test ms m, in_filter test ms m)

@@ -1,7 +1,5 @@
 -- The moves of a position, stretch by stretch, are all its moves in another order.
-use Rattle.pop_solve.proofs.Words.{Bool, Earlier, Killer, List, Move, Order, Others, Position, RuleSet, [], all_moves_of, ap, append-nil, arith, belongs, between-here, between-none, between-past, between-skip, cases_Bool, cases_lt, comes_early, cond, eqb, false, filter, filter_agree, inl, inr, is_at, moves_ahead, moves_behind, moves_behind-end, moves_behind-here, moves_behind-skip, moves_between, moves_here, moves_later, nat_tests, not, place_of_triple, refl, rules, suc, sym, true, zero, ℕ, ◌&&◌, ◌++◌, ◌+◌, ◌-◌, ◌<◌, ◌∙◌, ◌∷◌, ◌≡◌, ◌≤◌, append_assoc}
-use Rattle.chess_rules.specs.ties.Places.{all_triples}
-use Rattle.chess_rules.specs.Legal.{moves as legal_moves}
+use Rattle.pop_solve.proofs.Words.{Bool, Earlier, Killer, List, Move, Order, Others, Position, RuleSet, [], all_moves_of, ap, append-nil, arith, belongs, between-here, between-none, between-past, between-skip, cases_Bool, cases_lt, comes_early, cond, eqb, false, filter, filter_agree, inl, inr, is_at, moves_ahead, moves_behind, moves_behind-end, moves_behind-here, moves_behind-skip, moves_between, moves_here, moves_later, nat_tests, not, place_of_triple, refl, rules, suc, sym, true, zero, ℕ, ◌&&◌, ◌++◌, ◌+◌, ◌-◌, ◌<◌, ◌∙◌, ◌∷◌, ◌≡◌, ◌≤◌, append_assoc, all_triples, legal_moves}
 use Rattle.pop_solve.specs.declared.frame.Early.TheVariants.{NoMoves}
 use Rattle.pop_solve.proofs.Boards.{behind_start}
 
@@ -20,10 +18,10 @@ module _ {M C : Type 0} (step : M → C → C) (g : List M → C) (cons : (x : M
   to_front x (y ∷ xs) ys = search (rules, to_front x xs ys)
 
   past_two : (x : M) (xs ys zs : List M) → g (xs ++ (ys ++ x ∷ zs)) ≡ step x (g (xs ++ (ys ++ zs)))
-  past_two x xs ys zs = rw (← append_assoc xs ys (x ∷ zs), ← append_assoc xs ys zs) (to_front x (xs ++ ys) zs)
+  past_two x xs ys zs = search (rules, ← append_assoc, to_front)
 
   past_three : (x : M) (ws xs ys zs : List M) → g (ws ++ (xs ++ (ys ++ x ∷ zs))) ≡ step x (g (ws ++ (xs ++ (ys ++ zs))))
-  past_three x ws xs ys zs = rw (← append_assoc ws xs (ys ++ x ∷ zs), ← append_assoc ws xs (ys ++ zs)) (past_two x (ws ++ xs) ys zs)
+  past_three x ws xs ys zs = search (rules, to_front x (ws ++ (xs ++ ys)) zs, append_assoc)
 
   same_parted : (a b c : M → Bool) (ms : List M) → g (parted a b c ms) ≡ g ms
   same_parted a b c [] = search rules
@@ -44,20 +42,15 @@ module _ (rule : RuleSet) (p : Position) (k : ℕ) where
 
   pass_all : (n a b : ℕ) → b ≡ a + n → ((i : ℕ) → a ≤ i → i < b → i + 1 ≡ k → ⊥)
       → filter (is_at k) (moves_behind rule p a) ≡ filter (is_at k) (moves_behind rule p b)
-  pass_all zero a b e off = let same : a ≡ b = omega (arith, e) in ap (λ i. filter (is_at k) (moves_behind rule p i)) same
+  pass_all zero a b e off = grind arith
   pass_all (suc n) a b e off =
       pass a (off a (omega arith) (omega (arith, e))) ∙ pass_all n (a + 1) b (omega (arith, e)) (λ i lo hi. off i (omega (arith, lo)) hi)
 
-  none_behind : filter (is_at k) (moves_behind rule p k) ≡ []
-  none_behind =
-      pass_all all_triples k (k + all_triples) refl (λ i lo hi h. omega (arith, lo, h)) ∙ (rw (moves_behind-end rule p (k + all_triples) (omega arith)) refl)
-
   here_alone : filter (is_at k) (moves_behind rule p (k - 1)) ≡ moves_between rule p (k - 1) k
-  here_alone = search (rules, places, between-past, between-here, between-skip, between-none, none_behind)
+  here_alone = search (rules, places, between-past, between-here, between-skip, between-none, pass_all all_triples k (k + all_triples), moves_behind-end)
 
   one_place : moves_between rule p (k - 1) k ≡ filter (is_at k) (legal_moves rule p)
-  one_place =
-      sym (ap (filter (is_at k)) (sym (behind_start rule p)) ∙ pass_all (k - 1) 0 (k - 1) (omega arith) (λ i lo hi h. omega (arith, hi, h)) ∙ here_alone)
+  one_place = search (rules, ← behind_start, pass_all (k - 1) 0 (k - 1), here_alone)
 
 module _ (rule : RuleSet) (p : Position) (order : Order) where
   -- the place before a stretch

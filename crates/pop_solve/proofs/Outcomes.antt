@@ -1,9 +1,8 @@
 -- The outcomes of a step, for frames listed from the top down.
-use Rattle.pop_solve.proofs.Words.{AreKnown, Battle, Bool, CameFrom, CameFromAt, Counts, Frame, GoesTo, HelpPlay, IfSome, IsCounted, IsLinked, IsPlaceIn, IsRoomy, IsWalking, are_whites, LegalPlace, List, Move, Option, Plan, Position, RuleSet, Steps, Undo, [], after_well_formed, ap, arith, chess, eqb, false, fewest_left, is_followed, is_given, walk_length, inl, inr, is_legal, is_pseudo_legal-from_legal, length, min, moves_behind, opened_frame, path, position, refl, rules, seeks, suc, to_come, to_open, true, walk_work, undo_of, has_variations, walk_behind, ℕ, ◌+◌, ◌-◌, ◌<◌, ◌^◌, ◌∷◌, ◌≡◌, ◌≤◌, ◌⊎◌}
-use Rattle.chess_rules.specs.Play.{position_after}
+use Rattle.pop_solve.proofs.Words.{AreKnown, Bool, CameFrom, CameFromAt, Counts, Frame, GoesTo, HelpPlay, IfSome, IsCounted, IsLinked, IsPlaceIn, IsRoomy, IsWalking, are_whites, LegalPlace, List, Move, Option, Plan, Position, RuleSet, Steps, [], after_well_formed, ap, arith, chess, eqb, false, fewest_left, is_followed, is_given, walk_length, inl, inr, is_legal, is_pseudo_legal-from_legal, length, min, moves_behind, opened_frame, path, position, refl, rules, suc, to_come, to_open, true, walk_work, undo_of, has_variations, walk_behind, ℕ, ◌+◌, ◌-◌, ◌<◌, ◌^◌, ◌∷◌, ◌≡◌, ◌⊎◌, position_after}
 use Rattle.pop_solve.proofs.Tests.{learned, moved, came_from}
 use Rattle.pop_solve.proofs.GoingOn.{no_zero, walk_length-help, follows-help, walk_length-keys, walk_length-most, ended-reached}
-use Rattle.pop_solve.proofs.ToCome.{one, walk_count-start, walk_behind-none, come-pass, come-enter, tries-pass, tries-enter, turns-pass, turns-enter, open-next, open-enter, come-close, tries-close, turns-close, open-close, steps-skip}
+use Rattle.pop_solve.proofs.ToCome.{one, walk_count-start, come-pass, come-enter, tries-pass, tries-enter, turns-pass, turns-enter, open-next, come-close, tries-close, turns-close, open-close, steps-skip}
 
 -- what undoes the top frame
 module _ (rule : RuleSet) (h : ℕ) (p : Position) where
@@ -17,11 +16,6 @@ module _ (rule : RuleSet) (h : ℕ) (p : Position) where
   unfolding IsLinked IsRoomy AreKnown position
   walking-close f below board after r lowest before = search (rules, came_from)
 
-  -- the top frame has room for its half-moves
-  pub top_room : (f : Frame) (below : List Frame) (board : Position) → IsWalking rule h p (f ∷ below) board → f.left + length below ≤ h
-  unfolding IsRoomy
-  top_room f below board r = r.roomy.0
-
   -- the top frame learns something of its position
   pub walking-learned : (f : Frame) (known : Option LegalPlace) (below : List Frame) (board : Position) → IsWalking rule h p (f ∷ below) board
       → IfSome known (IsPlaceIn rule board) → IsWalking rule h p (learned f known ∷ below) board
@@ -34,49 +28,19 @@ module _ (rule : RuleSet) (h : ℕ) (p : Position) where
   unfolding IsRoomy IsLinked AreKnown position
   walking-moved f next below board after r e = search rules
 
-  walking-enter : (plan : Plan) (f : Frame) (next : ℕ) (m : Move) (tried : ℕ) (below : List Frame) (board after : Position)
-      → IsWalking rule h p (f ∷ below) board → tried < f.left → is_legal rule board m ≡ true → after ≡ position_after rule board m
-      → IsWalking rule h p (opened_frame m (undo_of rule board m) tried ∷ (moved f next ∷ below)) after
-  unfolding IsLinked IsRoomy AreKnown position
-  walking-enter plan f next m tried below board after r less lawful e =
-      grind (arith, after_well_formed rule board m r.sound (is_pseudo_legal-from_legal rule board m lawful), is_pseudo_legal-from_legal rule board m lawful)
-
--- where keys alone are shown
-whites-cut : (battle : Battle) (f : Frame) (below : List Frame) → are_whites battle (f ∷ below) ≡ true → are_whites battle below ≡ true
-unfolding are_whites
-whites-cut battle f below e = search rules
-
-whites-top : (battle : Battle) (f : Frame) (below : List Frame) (t : ℕ) → f.left ≡ suc t → are_whites battle (f ∷ below) ≡ true → seeks battle (t + 1) ≡ true
-unfolding are_whites
-whites-top battle f below t left e = search (rules, no_zero)
-
-whites-moved : (battle : Battle) (f : Frame) (place : ℕ) (below : List Frame) → are_whites battle (f ∷ below) ≡ true
-    → are_whites battle (moved f place ∷ below) ≡ true
-unfolding are_whites
-whites-moved battle f place below e = e
-
-whites-none : (battle : Battle) (m : Move) (undo : Undo) (tried : ℕ) (below : List Frame) → tried ≡ 0 → are_whites battle below ≡ true
-    → are_whites battle (opened_frame m undo tried ∷ below) ≡ true
-unfolding are_whites
-whites-none battle m undo tried below z e = rw z e
-
 -- the count stays exact where one frame is opened
 pub counted_by : (rule : RuleSet) (plan : Plan) (t walk opened opened2 before after : ℕ) → before ≡ one rule plan t + after
     → (0 < t → opened2 ≡ min (opened + 1) (2 ^ 64 - 1)) → (t ≡ 0 → opened2 ≡ opened) → IsCounted walk opened before → IsCounted walk opened2 after
 counted_by rule plan t walk opened opened2 before after e more same c = search rules
-
--- one frame at most is opened
-pub opened-most : (rule : RuleSet) (plan : Plan) (t opened opened2 : ℕ) → (0 < t → opened2 ≡ min (opened + 1) (2 ^ 64 - 1)) → (t ≡ 0 → opened2 ≡ opened)
-    → opened2 ≤ opened + one rule plan t
-opened-most rule plan t opened opened2 more same = search rules
 
 -- the outcomes of a step, for frames listed from the top down
 module _ (rule : RuleSet) (plan : Plan) (h : ℕ) (p : Position) (f : Frame) (below : List Frame) (board : Position)
     (r : IsWalking rule h p (f ∷ below) board) where
   steps-close : (after : Position) (count : ℕ) → (f.left ≡ 0) ⊎ (moves_behind rule board f.place ≡ []) → (length below ≡ 0 → after ≡ board)
       → ((q : Position) → 0 < length below → CameFromAt rule f board q → after ≡ q) → Steps rule plan h p (f ∷ below) below after count count false
+  unfolding are_whites
   steps-close after count e lowest before =
-      search (rules, walking-close rule h p f below board after r lowest before, come-close, turns-close, whites-cut, open-close, tries-close)
+      search (rules, walking-close rule h p f below board after r lowest before, come-close, turns-close, open-close, tries-close)
 
   module _ (next : ℕ) (m : Move) (t : ℕ) (left : f.left ≡ suc t) (e : moves_behind rule board f.place ≡ m ∷ moves_behind rule board next) where
     here : moves_behind rule (position rule p (f ∷ below)) f.place ≡ m ∷ moves_behind rule (position rule p (f ∷ below)) next
@@ -86,24 +50,22 @@ module _ (rule : RuleSet) (plan : Plan) (h : ℕ) (p : Position) (f : Frame) (be
     after_here = ap (λ b. position_after rule b m) r.board_at
 
     fuel : h - length below ≡ suc (h - length below - 1)
-    fuel = omega (arith, top_room rule h p f below board r, left)
+    unfolding IsRoomy
+    fuel = omega (arith, r.roomy.0, left)
 
     -- its next move is passed over
     pub steps-pass : (after : Position) (opened opened2 : ℕ)
         → is_followed plan.play (chess plan.goal rule) (eqb (length below) 0) t (position_after rule board m) ≡ false → after ≡ board
         → Counts rule plan (eqb (length below) 0) t (position_after rule board m) opened opened2
         → Steps rule plan h p (f ∷ below) (moved f next ∷ below) after opened opened2 false
+    unfolding are_whites
     steps-pass after opened opened2 b at x =
-        let o = open-next rule plan h p f next m below _ t fuel left here in
-        record {
-          walking = walking-moved rule h p f next below board after r at;
-          come = come-pass rule plan h p f next m below _ t fuel left here (rw (← after_here) b);
-          deep = λ g. absurd cc;
-          ended = λ g. absurd cc;
-          falls = turns-pass rule plan h p f next m below _ t fuel left here;
-          opens = grind (arith, whites-moved, whites-top, follows-help);
-          tries = record { grows = omega (arith, x.tries); fewest = search (rules, x.tries, tries-pass rule plan h p f next m below _ t fuel left here) };
-        }
+        let walking = walking-moved rule h p f next below board after r at in
+        let come = come-pass rule plan h p f next m below _ t fuel left here in
+        let falls = turns-pass rule plan h p f next m below _ t fuel left here in
+        let tries = tries-pass rule plan h p f next m below _ t fuel left here in
+        let opens = open-next rule plan h p f next m below _ t fuel left here in
+        search (rules, walking, come, falls, tries, opens, follows-help, after_here, no_zero)
 
     -- its next move is followed
     pub steps-enter : (after : Position) (opened opened2 : ℕ) → is_legal rule board m ≡ true
@@ -112,28 +74,28 @@ module _ (rule : RuleSet) (plan : Plan) (h : ℕ) (p : Position) (f : Frame) (be
         → Steps rule plan h p (f ∷ below) (opened_frame m (undo_of rule board m)
         (walk_length plan.play (has_variations plan.tree) (chess plan.goal rule) t (position_after rule board m)) ∷ (moved f next ∷
         below)) after opened opened2 (is_given plan.play (chess plan.goal rule) t (position_after rule board m))
+    unfolding are_whites IsLinked IsRoomy AreKnown position walk_behind to_open
     steps-enter after opened opened2 lawful b at x =
         let o = open-next rule plan h p f next m below _ t fuel left here in
         let u = undo_of rule board m in
         let q = position_after rule (position rule p (f ∷ below)) m in
         let tried = walk_length plan.play (has_variations plan.tree) (chess plan.goal rule) t (position_after rule board m) in
-        let n = open-enter rule plan h p f next m below _ t fuel left here u tried in
         let helped : plan.play ≡ HelpPlay
         → to_open rule p (f ∷ below) ≡ one rule plan t + to_open rule p (opened_frame m u tried ∷ (moved f next ∷ below)) = λ a.
         let w : walk_behind rule tried q 0 ≡ walk_behind rule t q 0 = ap (λ x. walk_behind rule x q 0) (walk_length-help plan (chess plan.goal rule) t _ a) in
-        omega (arith, o, n, w, walk_count-start rule plan t q) in
+        omega (arith, o, w, walk_count-start rule plan t q) in
+        let more = tries-enter rule plan h p f next m below _ t fuel left here u (rw (← after_here) b) in
+        let less = walk_length-most (chess plan.goal rule) plan.play (has_variations plan.tree) t (position_after rule board m) in
+        let pseudo = is_pseudo_legal-from_legal rule board m lawful in
         record {
-          walking = walking-enter rule h p plan f next m tried below board after r
-              (omega (arith, left, walk_length-most (chess plan.goal rule) plan.play (has_variations plan.tree) t (position_after rule board m))) lawful at;
+          walking = grind (arith, less, after_well_formed rule board m r.sound pseudo, pseudo);
           come = rw after_here (come-enter rule plan h p f next m below _ t fuel left here u (rw (← after_here) b));
           deep = λ g. omega arith;
           ended = λ g e. rw at
               (ended-reached (chess plan.goal rule) plan.play (has_variations plan.tree) (eqb (length below) 0) t (position_after rule board m) b e);
           falls = turns-enter rule plan h p f next m below _ t fuel left here u tried;
-          opens = grind (arith, whites-none, walk_length-keys, whites-top, whites-moved, walk_behind-none, after_here, counted_by);
-          tries =
-              let more = tries-enter rule plan h p f next m below _ t fuel left here u (rw (← after_here) b) in
-              record { grows = omega (arith, x.tries); fewest = search (rules, after_here, x.tries, more) };
+          opens = grind (arith, walk_length-keys, after_here, counted_by, no_zero);
+          tries = search (rules, after_here, x.tries, more);
         }
 
 -- a frame is closed once moves that have no paths have been passed over
@@ -141,8 +103,8 @@ pub skips-close : (rule : RuleSet) (plan : Plan) (h : ℕ) (p : Position) (f : F
     → IsWalking rule h p (f ∷ below) board → (after : Position) (before count : ℕ)
     → ((f.left ≡ 0) × (count ≡ before)) ⊎ GoesTo rule plan f.left (position rule p (f ∷ below)) f.place [] before count → (length below ≡ 0 → after ≡ board)
     → ((q : Position) → 0 < length below → CameFromAt rule f board q → after ≡ q) → Steps rule plan h p (f ∷ below) below after before count false
-skips-close rule plan h p f below board r after before count (inl e) lowest back = rw e.1
-    (steps-close rule plan h p f below board r after before (inl e.0) lowest back)
+skips-close rule plan h p f below board r after before count (inl e) lowest back =
+    search (rules, steps-close rule plan h p f below board r after before)
 skips-close rule plan h p f below board r after before count (inr g) lowest back = steps-skip rule plan h p f below [] before count g below after count false
     (steps-close rule plan h p (moved f g.mid) below board (walking-moved rule h p f g.mid below board board r refl) after count
     (inr (rw r.board_at g.here)) lowest back)

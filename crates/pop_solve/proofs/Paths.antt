@@ -1,21 +1,16 @@
 -- The path to the top frame, and what is shown of it.
-use Rattle.pop_solve.proofs.Words.{CameFrom, CameFromAt, Frame, Goal, IsEnded, IsLinked, IsWalking, List, Move, Plan, Position, RuleSet, [], ap, arith, chess, cond, drop, ends_variation, get_or, is_legal, length, length-append, length-reverse, length-take, path, path_end, position, refl, reverse, reverse-append, rules, moves_shown, last_shown, shown_move, subst, sym, take, take-append-drop, take_all, take_more, true, has_variations, ℕ, ◌++◌, ◌+◌, ◌-◌, ◌<◌, ◌∙◌, ◌∷◌, ◌≡◌, ◌≤◌}
-use Rattle.chess_rules.specs.Play.{position_after}
+use Rattle.pop_solve.proofs.Words.{CameFrom, CameFromAt, Frame, Goal, IsEnded, IsLinked, IsWalking, List, Move, Plan, Position, RuleSet, [], ap, arith, chess, cond, drop, ends_variation, get_or, is_legal, length, length-append, length-reverse, length-take, path, path_end, position, refl, reverse, reverse-append, rules, moves_shown, last_shown, shown_move, subst, sym, take, take-append-drop, take_all, take_more, true, has_variations, ℕ, ◌++◌, ◌+◌, ◌-◌, ◌<◌, ◌∙◌, ◌∷◌, ◌≡◌, ◌≤◌, position_after}
 use Rattle.pop_solve.proofs.Outcomes.{CameFrom-deep, walking-close}
 use Rattle.pop_solve.specs.declared.chess.Reached.{Reached}
 use Rattle.pop_solve.specs.declared.chess.Reached.TheVariants.{Perhaps, Surely}
 use Rattle.pop_solve.proofs.Walking.{popped}
 
-length-path : (f : Frame) (below : List Frame) → length (path (f ∷ below)) ≡ length below
-unfolding path
-length-path f [] = refl
-length-path f (g ∷ below) = length-append (path (g ∷ below)) (f.by ∷ []) ∙ omega (arith, length-path g below)
-
--- so one fewer than frames
+-- a path has one move fewer than frames
 pub path-length : (frames : List Frame) → length (path frames) ≡ length frames - 1
 unfolding path
 path-length [] = omega arith
-path-length (f ∷ below) = omega (arith, length-path f below)
+path-length (f ∷ []) = omega arith
+path-length (f ∷ (g ∷ below)) = grind (arith, length-append, path-length (g ∷ below))
 
 -- a move more
 pub path-more : (f : Frame) (fs : List Frame) → 0 < length fs → path (f ∷ fs) ≡ path fs ++ f.by ∷ []
@@ -80,8 +75,7 @@ module _ (rule : RuleSet) where
   linked-cut : (p : Position) (xs ys : List Frame) → IsLinked rule p (xs ++ ys) → IsLinked rule p ys
   unfolding IsLinked
   linked-cut p [] ys l = l
-  linked-cut p (f ∷ []) ys l = grind arith
-  linked-cut p (f ∷ (g ∷ xs)) ys l = linked-cut p (g ∷ xs) ys l.3
+  linked-cut p (f ∷ xs) ys l = search (rules, linked-cut p xs ys)
 
   -- the lower frames are linked as before
   pub linked-take : (p : Position) (frames : List Frame) (n : ℕ) → IsLinked rule p (reverse frames) → IsLinked rule p (reverse (take n frames))
@@ -115,9 +109,7 @@ module _ (rule : RuleSet) where
         (before : (q : Position) → CameFromAt rule f board q → after ≡ q) where
       -- the walk stands on the frames below
       pub back-walking : IsWalking rule h p (reverse lower) after
-      back-walking =
-          let T : List Frame → Type 0 = λ fs. IsWalking rule h p fs board in
-          walking-close rule h p f (reverse lower) board after (subst T stacked r) (λ z. absurd (grind (arith, length-reverse))) (λ q z cf. before q cf)
+      back-walking = let r2 = rw stacked at r in search (rules, walking-close rule h p f (reverse lower) board after r2, length-reverse)
 
       -- the move is legal
       pub back-is_legal : is_legal rule after f.by ≡ true

@@ -1,8 +1,6 @@
 -- The paths of a phase's solutions.
-use Rattle.pop_solve.proofs.Words.{AllPairs, Battle, BattlePlay, HelpPlay, List, Move, Phase, Play, Posed, RuleSet, Set, [], arith, drop, flat_map, flat_map-append, game_of, help_lines, pairs_front, phase_half_moves, phase_start, play_of, refl, set_tree, solutions, take, take-append-drop, tree, ℕ, ◌<◌, ◌∷◌, ◌≡◌, flat_map_single, ◌∙◌}
+use Rattle.pop_solve.proofs.Words.{AllPairs, Battle, BattlePlay, HelpPlay, List, Move, Phase, Play, Posed, RuleSet, Set, [], arith, drop, flat_map, flat_map-append, game_of, help_lines, pairs_front, phase_half_moves, phase_start, play_of, refl, set_tree, solutions, take, take-append-drop, tree, ℕ, ◌<◌, ◌∷◌, ◌≡◌, flat_map_single, ◌∙◌, map-id, flat_map-map}
 use Rattle.chess_core.specs.MoveOrder.{order_number}
-use Rattle.std.proofs.lemmas.List.{map-id}
-use Rattle.std.proofs.lemmas.List.Folds.{flat_map-map}
 
 -- the first of joined lists
 pub first_joined : {X : Type 0} (R : X → X → Type 0) (n : ℕ) (xss : List (List X)) → AllPairs R (flat_map (λ s. s) xss)

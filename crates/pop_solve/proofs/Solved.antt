@@ -1,11 +1,9 @@
 -- What is to come from the root frame of a phase is the phase's solutions.
-use Rattle.pop_solve.proofs.Words.{Battle, BattlePlay, Bool, Direct, Form, Frame, Game, HelpPlay, IsSound, List, Phase, Plan, Play, PlayOfSides, Posed, RuleSet, Selfmate, Set, [], continuations, ap, arith, beginning_count, best_moves, cond, false, filter, flat_map, game_of, half_moves_of, help_lines, is_help_play, is_help, kept_paths, keeps_win, length, list_all, map, moves_behind, nat_tests, node, nodes_below, phase_half_moves, phase_paths, phase_start, plan_of, play_of, refl, rules, seeks, is_in_set_play, set_tree, shown_paths, has_variations, solutions, solutions_by, suc, sym, take, tree_with, true, value, zero, ℕ, ◌++◌, ◌+◌, ◌-◌, ◌∙◌, ◌∷◌, ◌≡◌}
-use Rattle.chess_rules.specs.Legal.{moves as legal_moves}
+use Rattle.pop_solve.proofs.Words.{Battle, BattlePlay, Bool, Form, Frame, Game, HelpPlay, IsSound, List, Phase, Plan, Play, PlayOfSides, Posed, RuleSet, Set, [], continuations, ap, arith, beginning_count, best_moves, cond, false, filter, flat_map, game_of, half_moves_of, help_lines, is_help_play, is_help, kept_paths, keeps_win, length, list_all, map, moves_behind, nat_tests, node, nodes_below, phase_half_moves, phase_paths, phase_start, plan_of, play_of, refl, rules, seeks, is_in_set_play, set_tree, shown_paths, has_variations, solutions, solutions_by, suc, sym, take, tree_with, true, value, zero, ℕ, ◌++◌, ◌+◌, ◌-◌, ◌∙◌, ◌∷◌, ◌≡◌, legal_moves, list_all-append}
 use Rattle.pop_solve.proofs.Sound.{helps-form, some_way}
 use Rattle.pop_solve.proofs.Battles.{value-wins, value-self_wins}
 use Rattle.pop_solve.proofs.Trees.{as_nodes, beneath, by_test, flat-filter, halves, halves-seek, keeps-value, nodes_below-key, nodes_below-set, shown_paths-help, shown_paths-zero}
-use Rattle.pop_solve.proofs.Kept.{keep-nil, beginning_count-nil, to_come-root}
-use Rattle.std.proofs.lemmas.List.Folds.{list_all-append}
+use Rattle.pop_solve.proofs.Kept.{to_come-root}
 
 -- what is kept of a list of paths, and the solutions begun: `sols` are its solutions
 pub record IsCutInto {M : Type 0} (help : Bool) (n : ℕ) (paths : List (List M)) (sols : List (List (List M))) : Type 0 where
@@ -18,7 +16,7 @@ unfolding kept_paths
 lines-kept zero [] = refl
 lines-kept zero (x ∷ xs) = refl
 lines-kept (suc n) [] = refl
-lines-kept (suc n) (x ∷ xs) = ap (λ ys. x ∷ ys) (lines-kept n xs)
+lines-kept (suc n) (x ∷ xs) = search (rules, lines-kept n xs)
 
 -- each path begins one
 pub lines-begun : {M : Type 0} (n : ℕ) (xs : List (List M)) → beginning_count true n xs ≡ length (take n (map (λ x. x ∷ []) xs))
@@ -75,13 +73,10 @@ module _ {P M : Type 0} (game : Game P M) (plan : Plan) where
   root-cut battle fought h n p ms other G same each =
       let T : M → Bool = λ m. value battle game h (game.after p m) in
       let X : M → List (List M) = λ m. beneath game plan battle fought h h (game.after p m) in
-      let a : shown_paths plan game true (suc h) (suc h) p ms ≡ flat_map (λ m. node m (X m)) (filter T ms) =
-      as_nodes game plan battle fought true h h p ms
+      let nodes = as_nodes game plan battle fought true h h p ms
       ∙ flat-filter _ T (λ m. node m (X m)) (λ m. node m (X m)) ms (λ m. by_test game plan battle fought true h (game.after p m) refl) (λ m t. refl) in
-      let b : map (λ m. node m (X m)) (filter T ms) ≡ map (λ m. node m (G m)) (filter other ms) =
-      map-filter T other _ _ ms same (λ m t. ap (node m) (each m t)) in
-      let full : (m : M) → list_all some (X m) ≡ true = grind (arith, shown_paths-full) in
-      rw (a, ← b) (nodes-cut X full n (filter T ms))
+      rw (nodes, ← map-filter T other (λ m. node m (X m)) (λ m. node m (G m)) ms same (λ m t. ap (node m) (each m t)))
+      (nodes-cut X (grind (arith, shown_paths-full)) n (filter T ms))
 
 -- half-moves of a battle
 pub halves-form : (form : Form) (n : ℕ) (battle : Battle) → play_of form ≡ BattlePlay battle → half_moves_of form n ≡ halves battle n
@@ -102,11 +97,7 @@ module _ {P M : Type 0} where
 
 module _ {P M : Type 0} (game : Game P M) (plan : Plan) (battle : Battle) (fought : plan.play ≡ BattlePlay battle) where
   set_value : (battle : Battle) (n h : ℕ) (r : P) → suc h ≡ halves battle n - 1 → value battle game h r ≡ is_in_set_play battle game n r
-  set_value Direct n h r e = grind (arith, value-wins game (n - 2) r)
-  set_value Selfmate n h r e = grind (arith, value-self_wins game (n - 1) r)
-
-  two_on : (battle : Battle) (h : ℕ) → seeks battle (suc h + 1) ≡ true → seeks battle h ≡ true
-  two_on battle h s = search rules
+  set_value battle n h r e = grind (arith, value-wins game (n - 2) r, value-self_wins game (n - 1) r)
 
   -- the play: the tree
   pub tree-cut : (n h max : ℕ) (p : P) (ms : List M) → suc h ≡ halves battle n
@@ -121,13 +112,14 @@ module _ {P M : Type 0} (game : Game P M) (plan : Plan) (battle : Battle) (fough
       → IsCutInto false max (shown_paths plan game true (suc h) (suc h) p ms) (set_by battle game (has_variations plan.tree) n h p ms)
   set-cut n h max p ms e =
       let s : seeks battle (suc h + 1) ≡ true = halves-seek game battle n (suc h) (omega (arith, e)) in
-      let s2 : seeks battle h ≡ true = two_on battle h s in
+      let s2 : seeks battle h ≡ true = search rules in
       root-cut game plan battle fought h max p ms _ _ (λ m. set_value battle n h (game.after p m) e)
       (λ m v. nodes_below-set game plan battle fought n h (game.after p m) s2 (grind arith) v)
 
 -- a phase of no half-moves
 none-cut : {M : Type 0} (help : Bool) (n : ℕ) → IsCutInto {M = M} help n [] []
-none-cut {M = M} help n = search (rules, keep-nil, beginning_count-nil)
+unfolding kept_paths beginning_count
+none-cut {M = M} help n = search rules
 
 -- variations are shown where the problem asks for them
 pub shown_paths-varied : (variation : Bool) → has_variations (tree_with variation) ≡ variation
@@ -141,8 +133,7 @@ module _ (rule : RuleSet) (problem : Posed) (stated : IsSound problem) where
       → IsCutInto (is_help_play play) problem.max_solutions (shown_paths plan (game_of rule problem) true h h (phase_start problem phase) (legal_moves rule
       (phase_start problem phase))) (solutions_by play rule problem phase)
   unfolding help_lines set_tree
-  cut phase HelpPlay e zero z = rw z (search (rules, shown_paths-zero, none-cut))
-  cut phase HelpPlay e (suc h) z = search (rules, shown_paths-help (game_of rule problem) plan e true h (phase_start problem phase), lines-kept, lines-begun)
+  cut phase HelpPlay e h z = search (rules, shown_paths-zero, none-cut, shown_paths-help (game_of rule problem) plan e true, lines-kept, lines-begun)
   cut Set (BattlePlay battle) e zero z = rw z (search (rules, shown_paths-zero, none-cut))
   cut Set (BattlePlay battle) e (suc h) z =
       rw z (rw (shown_paths-varied problem.variation) at (set-cut (game_of rule problem) plan battle e problem.stipulation.n h problem.max_solutions
@@ -159,6 +150,4 @@ module _ (rule : RuleSet) (problem : Posed) (stated : IsSound problem) where
       → moves_behind rule (phase_start problem phase) f.place ≡ legal_moves rule (phase_start problem phase)
       → IsCutInto (is_help problem.stipulation.form) problem.max_solutions (phase_paths rule problem phase (f ∷ [])) (solutions rule problem phase)
   unfolding solutions
-  root-solutions phase f l b =
-      let r = to_come-root rule plan (phase_half_moves problem phase) (phase_start problem phase) f in
-      search (rules, r, helps-form, cut phase _ refl _ refl)
+  root-solutions phase f l b = search (rules, to_come-root, helps-form, cut phase _ refl _ refl)

@@ -1,9 +1,5 @@
 -- One turn of a test over frames.
-use Rattle.pop_solve.proofs.Words.{AreKnown, Bool, CameFrom, CameFromAt, Ends, Frame, HasCounted, IfNone, IfSome, IsDescending, IsLinked, IsOpenedOn, IsPlaceIn, IsTesting, IsWellFormed, Killer, LegalPlace, List, MatchOption, Move, None, Option, Order, Position, RuleSet, Some, Turns, Undo, [], after_well_formed, ap, arith, cases_lt, chess, cond, delivered_value, drop, drop-append-le, is_legal, join, joined_value, least_of, length, length-append, length-drop, length-reverse, moves_ahead}
-use Rattle.pop_solve.proofs.Words.{is_pseudo_legal-from_legal, list_all, list_any, min, not, pending_value, position, refl, reverse, reverse-append, rules, seeks, smallest_below, smallest_tree, work_from, work_among, subst, suc, sum_by, sum_by-cons, sym, take, take-append-le, take_all, tested_frame, tests, to_test, to_try, to_try_with, left_at_top, true, undo_of, untried_moves, value, walk_among, walk_count, test_work, ℕ, ◌&&◌, ◌++◌, ◌+◌, ◌-◌, ◌<◌, ◌^◌, ◌||◌, ◌∙◌, ◌∷◌, ◌≡◌, ◌≤◌, ◌⊎◌}
-use Rattle.chess_rules.specs.Play.{position_after}
-use Rattle.chess_rules.specs.Legal.{moves as legal_moves}
-use Rattle.pop_solve.specs.declared.aim.Aim.{Aim}
+use Rattle.pop_solve.proofs.Words.{AreKnown, Bool, CameFrom, CameFromAt, Ends, Frame, HasCounted, IfNone, IfSome, IsDescending, IsLinked, IsOpenedOn, IsPlaceIn, IsTesting, IsWellFormed, Killer, LegalPlace, List, MatchOption, Move, None, Option, Order, Position, RuleSet, Some, Turns, Undo, [], after_well_formed, ap, arith, cases_lt, chess, cond, delivered_value, drop, drop-append-le, is_legal, joined_value, least_of, length, length-append, length-drop, length-reverse, moves_ahead, is_pseudo_legal-from_legal, list_all, list_any, min, not, pending_value, position, refl, reverse, reverse-append, rules, seeks, smallest_below, smallest_tree, work_from, work_among, suc, sum_by, sum_by-cons, take, take-append-le, take_all, tested_frame, tests, to_test, to_try, to_try_with, left_at_top, true, undo_of, untried_moves, value, walk_among, walk_count, test_work, ℕ, ◌&&◌, ◌++◌, ◌+◌, ◌-◌, ◌<◌, ◌^◌, ◌||◌, ◌∙◌, ◌∷◌, ◌≡◌, ◌≤◌, ◌⊎◌, position_after, legal_moves, Aim}
 use Rattle.pop_solve.proofs.Orders.{same_start}
 use Rattle.pop_solve.specs.declared.frame.Stretch.{Stretch}
 use Rattle.pop_solve.proofs.SmallestTrees.{trees-next, trees-end, trees-start}
@@ -26,7 +22,8 @@ module _ (rule : RuleSet) (q : Position) (o : Order) where
   abbrev pub first : List Move
   first = moves_ahead rule q o Killer (o.killer - 1)
 
-  any-start : (test : Move → Bool) → list_any test first ≡ list_any test (legal_moves rule q)
+  -- some of them pass a test exactly where some legal move does
+  pub any-start : (test : Move → Bool) → list_any test first ≡ list_any test (legal_moves rule q)
   any-start test = same_start rule q o (λ m c. test m || c) (list_any test) (λ m ms. refl) (λ m n c. grind arith)
 
   all-start : (test : Move → Bool) → list_all test first ≡ list_all test (legal_moves rule q)
@@ -44,16 +41,8 @@ module _ (rule : RuleSet) (aim : Aim) where
   abbrev pub rest : ℕ → Position → List Move → Bool
   rest left P ms = joined_value aim.battle (chess aim.goal rule) left P ms
 
-  rest-none : (left : ℕ) (P : Position) (ms : List Move) → 0 < left → ms ≡ [] → rest left P ms ≡ not (seeks aim.battle left)
-  unfolding joined_value
-  rest-none left P ms some e = search rules
-
-  rest-next : (t : ℕ) (P : Position) (ms more : List Move) (m : Move) → ms ≡ m ∷ more
-      → rest (suc t) P ms ≡ join (seeks aim.battle (suc t)) (value aim.battle (chess aim.goal rule) t (position_after rule P m)) (rest (suc t) P more)
-  unfolding joined_value
-  rest-next t P ms more m e = search rules
-
-  rest-start : (t : ℕ) (q : Position) (o : Order) → rest t q (first rule q o) ≡ rest t q (legal_moves rule q)
+  -- all moves to try have the value of all legal moves
+  pub rest-start : (t : ℕ) (q : Position) (o : Order) → rest t q (first rule q o) ≡ rest t q (legal_moves rule q)
   unfolding joined_value
   rest-start t q o = search (rules, any-start, all-start)
 
@@ -73,7 +62,8 @@ module _ (rule : RuleSet) (aim : Aim) where
   abbrev pub fewest : ℕ → Position → List Move → ℕ
   fewest left P ms = smallest_below aim.battle (chess aim.goal rule) left P ms
 
-  fewest-start : (t : ℕ) (q : Position) (o : Order) → smallest_tree aim.battle (chess aim.goal rule) t q ≤ 1 + fewest t q (first rule q o)
+  -- and at least as many positions below them
+  pub fewest-start : (t : ℕ) (q : Position) (o : Order) → smallest_tree aim.battle (chess aim.goal rule) t q ≤ 1 + fewest t q (first rule q o)
   unfolding smallest_below
   fewest-start t q o = search (rules, trees-start, sum-start, least-start)
 
@@ -96,12 +86,14 @@ module _ (rule : RuleSet) (aim : Aim) where
   unfolding work_among
   steps-next t P ms more m e = rw e (sum_by-cons (λ x. 1 + work_from rule t (position_after rule P x)) m more)
 
-  walk_count-start : (t : ℕ) (q : Position) (o : Order) → 0 < t → walk_count (legal_moves rule) (position_after rule) t q
+  -- and as many lists of moves
+  pub walk_count-start : (t : ℕ) (q : Position) (o : Order) → 0 < t → walk_count (legal_moves rule) (position_after rule) t q
       ≡ 1 + walk_among rule t q (first rule q o)
   unfolding walk_count walk_among
   walk_count-start t q o some = search (rules, sum-start)
 
-  walk-next : (t : ℕ) (P : Position) (ms more : List Move) (m : Move) → ms ≡ m ∷ more
+  -- a move has its own lists of moves
+  pub walk-next : (t : ℕ) (P : Position) (ms more : List Move) (m : Move) → ms ≡ m ∷ more
       → walk_among rule (suc t) P ms ≡ walk_count (legal_moves rule) (position_after rule) t (position_after rule P m) + walk_among rule (suc t) P more
   unfolding walk_among
   walk-next t P ms more m e = rw e (sum_by-cons (λ x. walk_count (legal_moves rule) (position_after rule) t (position_after rule P x)) m more)
@@ -114,34 +106,20 @@ module _ (rule : RuleSet) (aim : Aim) where
     -- the value of the position after the move decides with the moves still untried
     delivered_value-next : delivered_value rule aim p below (rest f.left P (untried_moves rule P f)) ≡ delivered_value rule aim p (passed f next s kn ∷ below)
         (value aim.battle (chess aim.goal rule) t (position_after rule P m))
-    unfolding delivered_value position
-    delivered_value-next = search (rules, rest-next)
+    unfolding delivered_value position joined_value
+    delivered_value-next = search rules
 
     try-next : fewest f.left P (untried_moves rule P f) + to_try_with rule aim p below (rest f.left P (untried_moves rule P f))
         ≤ smallest_tree aim.battle (chess aim.goal rule) t (position_after rule P m)
         + to_try_with rule aim p (passed f next s kn ∷ below) (value aim.battle (chess aim.goal rule) t (position_after rule P m))
-    unfolding to_try_with position
-    try-next = search (rules, trees-next, rest-next)
+    unfolding to_try_with position joined_value
+    try-next = search (rules, trees-next)
 
     work-settled : test_work rule p (passed f next s kn ∷ below) < test_work rule p (f ∷ below)
     unfolding test_work position
     work-settled = rw (left, steps-next t P (untried_moves rule P f) (moves_ahead rule P f.order s next) m e) (omega arith)
 
-    open-settled : walk_count (legal_moves rule) (position_after rule) t (position_after rule P m) + to_test rule p (passed f next s kn ∷ below)
-        ≤ to_test rule p (f ∷ below)
-    unfolding to_test position
-    open-settled = rw (left, walk-next t P (untried_moves rule P f) (moves_ahead rule P f.order s next) m e) (omega arith)
-
-  -- closing a frame opens none
-  pub open-close : (p : Position) (f : Frame) (below : List Frame) → to_test rule p below ≤ to_test rule p (f ∷ below)
-  unfolding to_test
-  open-close p f below = omega arith
-
 module _ (rule : RuleSet) (p : Position) where
-  top_cut : (f : Frame) (below : List Frame) (board : Position) → IsTesting rule p (f ∷ below) board → 0 < f.left
-  unfolding IsDescending
-  top_cut f below board r = search rules
-
   -- a frame above the lowest came from the position below
   pub came_from : (f : Frame) (below : List Frame) (board : Position) → IsLinked rule p (f ∷ below) → board ≡ position rule p (f ∷ below)
       → 0 < length below → CameFromAt rule f board (position rule p below)
@@ -162,13 +140,12 @@ module _ (rule : RuleSet) (aim : Aim) (floor : ℕ) (top : Frame) (old new : Lis
   popped = grind (arith, tests-push, length-append)
 
   testing_top : (p board : Position) → IsTesting rule p (tests floor old) board → IsTesting rule p (top ∷ tests floor new) board
-  testing_top p board r = let P : List Frame → Type 0 = λ fs. IsTesting rule p fs board in subst P popped r
+  testing_top p board r = rw popped at r
 
   -- what closing a frame asks for
   pub close_asks : (p board : Position) (depth : ℕ) → depth ≡ length new → IsTesting rule p (tests floor old) board → floor < depth → CameFrom rule top board
   close_asks p board depth d r deep =
-      let t = testing_top p board r in
-      (_, came_from rule p top (tests floor new) board t.linked t.board_at (omega (arith, length-tests floor new, d)))
+      let t = testing_top p board r in search (rules, came_from rule p top (tests floor new) board t.linked t.board_at, length-tests)
 
   -- with v for the value of the top frame those below have its value, and as many positions left to try
   abbrev HandsDown : Position → Option Bool → Bool → Type 0
@@ -181,9 +158,9 @@ module _ (rule : RuleSet) (aim : Aim) (floor : ℕ) (top : Frame) (old new : Lis
     -- a frame that is closed ends the test or hands its value down
     pub close_turns : (count : ℕ) (p : Position) → IsTesting rule p (tests floor old) board → HandsDown p was v
         → MatchOption result (Turns rule aim floor p old new was is after count count) (λ w. Ends rule aim floor p old new was after count count w)
-    unfolding IsLinked IsDescending AreKnown position test_work delivered_value to_try_with
+    unfolding IsLinked IsDescending AreKnown position test_work delivered_value to_try_with to_test
     close_turns count p r hands =
-        search (rules, cases_lt, testing_top, length-tests, popped, delivered_value-some, open-close, try-some, take_all, take-append-le, length-append)
+        search (rules, cases_lt, testing_top, length-tests, popped, delivered_value-some, try-some, take_all, take-append-le, length-append)
 
     -- closing keeps the room
     pub close_room : (p : Position) (N : ℕ) → IsTesting rule p (tests floor old) board → left_at_top (tests floor old) + length old ≤ N + 1
@@ -241,13 +218,13 @@ module _ (rule : RuleSet) (aim : Aim) (floor : ℕ) (top : Frame) (old new : Lis
     }
     descend_turns (Some v) d before count o tries p r = record {
       testing = rw (settled_last v d, d.1) (let t = testing_top p board r in search rules);
-      same = rw (settled_last v d, popped)
-          (pending_value-undecided rule aim p top (tests floor new) was open_yet ∙ delivered_value-next rule aim p top _ place s m _ kn left_is (here p r)
-          ∙ ap (delivered_value rule aim p _) (rw (← at p r) (sym d.0)) ∙ delivered_value-some rule aim p _ v (omega arith));
+      same =
+          let n = delivered_value-next rule aim p top (tests floor new) place s m _ kn left_is (here p r) in
+          rw (settled_last v d, popped) (search (rules, n, at p r, pending_value-undecided, delivered_value-some));
       falls = rw (settled_last v d, popped) (search (rules, here p r, work-settled, left_is));
       above = grind (arith, length-append);
       base = grind (arith, take-append-le, length-append);
-      counted = rw (settled_last v d, popped) (search (rules, at p r, here p r, open-settled, left_is));
+      counted = rw (settled_last v d, popped) (search (rules, at p r, here p r, walk-next, left_is));
       tried = rw (settled_last v d, popped)
           (let n = try-next rule aim p top (tests floor new) place s m _ kn left_is (here p r) in search (rules, at p r, try-undecided, try-some));
     }
@@ -259,7 +236,8 @@ module _ (rule : RuleSet) (aim : Aim) (floor : ℕ) (top : Frame) (old new : Lis
 
   -- what the top frame asks of the calls
   pub top_some : (p board : Position) → IsTesting rule p (tests floor old) board → 0 < top.left
-  top_some p board r = top_cut rule p top (tests floor new) board (testing_top p board r)
+  unfolding IsDescending
+  top_some p board r = let t = testing_top p board r in search rules
 
   -- what the top frame knows is of the board's position
   pub top_known : (p board : Position) → IsTesting rule p (tests floor old) board → IfSome top.known (IsPlaceIn rule board)
@@ -278,10 +256,8 @@ module _ (rule : RuleSet) (aim : Aim) (floor : ℕ) (top : Frame) (old new : Lis
   -- where no move is left untried and none decided, all moves did together
   pub exhausted : (p board : Position) (was : Option Bool) → IsTesting rule p (tests floor old) board
       → (was ≡ None) ⊎ (was ≡ Some (not (seeks aim.battle top.left))) → untried_moves rule board top ≡ [] → HandsDown p was (not (seeks aim.battle top.left))
-  exhausted p board was r u e =
-      let none : untried_moves rule (position rule p (top ∷ tests floor new)) top ≡ [] = rw (← (testing_top p board r).board_at) e in
-      let v = rest-none rule aim top.left (position rule p (top ∷ tests floor new)) _ (top_some p board r) none in
-      (grind (arith, pending_value-undecided rule aim p top (tests floor new) was u), grind (arith, try-undecided, trees-end))
+  unfolding joined_value
+  exhausted p board was r u e = search (rules, testing_top p board r, top_some p board r, pending_value-undecided, try-undecided, trees-end)
 
 -- a call that leaves the board as it was
 pub testing_same : (rule : RuleSet) (p : Position) (frames : List Frame) (board now : Position) → IsTesting rule p frames board → now ≡ board

@@ -1,7 +1,5 @@
 -- What the moves still to come say of paths, turns and counts: the next move, and those passed over.
-use Rattle.pop_solve.proofs.Words.{Battle, BattlePlay, Bool, Frame, GoesTo, HelpPlay, are_whites, List, Mate, Move, Plan, Position, RuleSet, Steps, Undo, [], ap, append_assoc, append-nil, allows_mate, arith, chess, cond, eqb, false, fewest_for, fewest_left, fewest_walked, filter, is_followed, is_given, walk_length, inl, inr, is_mate, is_mating, length, length-append, map, map-append, mates_behind, moves_behind, opened_frame, path, position, refl, rules, seeks, seeks_last, shown_paths, smallest_tree, work_from, work_behind, suc, sum_by, sum_by-append, sum_by-cons, sym, to_come, to_open, true, walk_work, value, has_variations, walk_behind, walk_count, zero, ℕ, ◌++◌, ◌+◌, ◌-◌, ◌<◌, ◌∙◌, ◌∷◌, ◌≡◌, ◌≤◌, ◌⊎◌}
-use Rattle.chess_rules.specs.Play.{position_after}
-use Rattle.chess_rules.specs.Legal.{moves as legal_moves}
+use Rattle.pop_solve.proofs.Words.{Battle, BattlePlay, Bool, Frame, GoesTo, HelpPlay, are_whites, List, Mate, Move, Plan, Position, RuleSet, Steps, Undo, [], ap, append_assoc, append-nil, allows_mate, arith, chess, cond, eqb, false, fewest_for, fewest_left, fewest_walked, filter, is_followed, is_given, walk_length, inl, inr, is_mating, length, length-append, map, map-append, mates_behind, moves_behind, opened_frame, path, position, refl, rules, seeks_last, shown_paths, smallest_tree, work_from, work_behind, suc, sum_by, sum_by-append, sum_by-cons, to_come, to_open, true, walk_work, value, has_variations, walk_behind, walk_count, zero, ℕ, ◌++◌, ◌+◌, ◌-◌, ◌<◌, ◌∙◌, ◌∷◌, ◌≡◌, ◌≤◌, ◌⊎◌, position_after, legal_moves}
 use Rattle.pop_solve.proofs.Boards.{behind_start}
 use Rattle.pop_solve.proofs.Tests.{moved}
 use Rattle.pop_solve.proofs.GoingOn.{cases, no_zero, ways, walk_length-help, follows-help}
@@ -39,48 +37,6 @@ unfolding work_behind
 work_behind-next rule k P place next m e = rw e (sum_by-cons (λ x. 1 + work_from rule k (position_after rule P x)) m (moves_behind rule P next))
 
 module _ (rule : RuleSet) (plan : Plan) where
-  -- the paths by the next move, and by the others
-  shown_paths-next : (root : Bool) (k t : ℕ) (P : Position) (m : Move) (ms : List Move)
-      → shown_paths plan (chess plan.goal rule) root (suc k) (suc t) P (m ∷ ms) ≡ cond (is_followed plan.play (chess plan.goal rule) root t
-      (position_after rule P m))
-      (given_path (is_given plan.play (chess plan.goal rule) t (position_after rule P m)) (m ∷ []) ++ map (λ line. m ∷ line)
-      (shown_paths plan (chess plan.goal rule) false k (walk_length plan.play (has_variations plan.tree) (chess plan.goal rule) t (position_after rule P m))
-      (position_after rule P m)
-      (legal_moves rule (position_after rule P m)))) [] ++ shown_paths plan (chess plan.goal rule) root (suc k) (suc t) P ms
-  unfolding shown_paths
-  shown_paths-next root k t P m ms = refl
-
-  shown_paths-none : (root : Bool) (k left : ℕ) (P : Position) (ms : List Move) → (left ≡ 0) ⊎ (ms ≡ [])
-      → shown_paths plan (chess plan.goal rule) root k left P ms ≡ []
-  unfolding shown_paths
-  shown_paths-none root k left P ms e = search rules
-
-  -- the positions to be tried for the next move, and for the others
-  fewest-next : (root : Bool) (k t : ℕ) (P : Position) (m : Move) (ms : List Move)
-      → fewest_walked plan (chess plan.goal rule) root (suc k) (suc t) P (m ∷ ms)
-      ≡ (fewest_for plan.play (has_variations plan.tree) (chess plan.goal rule) root t (position_after rule P m)
-      + cond (is_followed plan.play (chess plan.goal rule) root t (position_after rule P m)) (fewest_walked plan (chess plan.goal rule) false k (walk_length
-      plan.play (has_variations plan.tree) (chess plan.goal rule) t (position_after rule P m)) (position_after rule P m) (legal_moves rule (position_after rule
-      P m))) 0) + fewest_walked plan (chess plan.goal rule) root (suc k) (suc t) P ms
-  unfolding fewest_walked
-  fewest-next root k t P m ms = search (rules, sum_by-cons)
-
-  fewest-none : (root : Bool) (k left : ℕ) (P : Position) (ms : List Move) → (left ≡ 0) ⊎ (ms ≡ [])
-      → fewest_walked plan (chess plan.goal rule) root k left P ms ≡ 0
-  unfolding fewest_walked
-  fewest-none root k left P ms e = search rules
-
-  walk_behind-next : (k : ℕ) (P : Position) (place next : ℕ) (m : Move) → moves_behind rule P place ≡ m ∷ moves_behind rule P next
-      → walk_behind rule (suc k) P place ≡ walk_count (legal_moves rule) (position_after rule) k (position_after rule P m) + walk_behind rule (suc k) P next
-  unfolding walk_behind
-  walk_behind-next k P place next m e =
-      rw e (sum_by-cons (λ x. walk_count (legal_moves rule) (position_after rule) k (position_after rule P x)) m (moves_behind rule P next))
-
-  -- nothing is opened where no half-move or no move is left
-  pub walk_behind-none : (k : ℕ) (P : Position) (place : ℕ) → (k ≡ 0) ⊎ (moves_behind rule P place ≡ []) → walk_behind rule k P place ≡ 0
-  unfolding walk_behind
-  walk_behind-none k P place e = search rules
-
   -- a frame counts where it has half-moves below it
   abbrev pub one : ℕ → ℕ
   one zero = 0
@@ -103,8 +59,8 @@ module _ (rule : RuleSet) (plan : Plan) where
     -- a move that is not followed is passed over
     pub come-pass : is_followed plan.play (chess plan.goal rule) root t q ≡ false
         → to_come rule plan h p (f ∷ below) ≡ to_come rule plan h p (moved f next ∷ below)
-    unfolding to_come position path
-    come-pass b = search (rules, shown_paths-next)
+    unfolding to_come position path shown_paths
+    come-pass b = search rules
 
     -- a move that is followed: its path, where that is given, and what stands below it
     pub come-enter : (undo : Undo) → is_followed plan.play (chess plan.goal rule) root t q ≡ true
@@ -112,26 +68,26 @@ module _ (rule : RuleSet) (plan : Plan) where
         (path (opened_frame m undo (walk_length plan.play (has_variations plan.tree) (chess plan.goal rule) t q)
         ∷ (moved f next ∷ below))) ++ to_come rule plan h p (opened_frame m undo (walk_length plan.play (has_variations plan.tree) (chess plan.goal rule) t q) ∷
         (moved f next ∷ below))
-    unfolding to_come position path
+    unfolding to_come position path shown_paths
     come-enter undo b =
         let less : h - suc (length below) ≡ k = omega arith in
-        let P = position rule p (f ∷ below) in
-        rw (fuel, less, left, e, shown_paths-next root k t P m (moves_behind rule P next), b, behind_start rule q, no_zero (length below))
-        (search (rules, turn))
+        simp (fuel, less, left, e, b, behind_start, no_zero) (search (rules, turn))
 
     -- a move that isn't followed has only its test
     pub tries-pass : is_followed plan.play (chess plan.goal rule) root t q ≡ false
         → fewest_left rule plan h p (f ∷ below) ≡ fewest_for plan.play (has_variations plan.tree) (chess plan.goal rule) root t q + fewest_left rule plan h p
         (moved f next ∷ below)
-    unfolding fewest_left position
-    tries-pass b = search (rules, fewest-next)
+    unfolding fewest_left position fewest_walked
+    tries-pass b = simp (fuel, left, e, sum_by-cons, b) (omega arith)
 
     -- one that is followed adds what is tried below it
     pub tries-enter : (undo : Undo) → is_followed plan.play (chess plan.goal rule) root t q ≡ true → fewest_left rule plan h p (f ∷ below)
         ≡ fewest_for plan.play (has_variations plan.tree) (chess plan.goal rule) root t q + fewest_left rule plan h p
         (opened_frame m undo (walk_length plan.play (has_variations plan.tree) (chess plan.goal rule) t q) ∷ (moved f next ∷ below))
-    unfolding fewest_left position
-    tries-enter undo b = search (rules, behind_start, fewest-next, no_zero)
+    unfolding fewest_left position fewest_walked
+    tries-enter undo b =
+        let less : h - suc (length below) ≡ k = omega arith in
+        simp (fuel, less, left, e, sum_by-cons, b, behind_start, no_zero) (omega arith)
 
     -- passing a move over takes a turn
     pub turns-pass : walk_work rule h p (moved f next ∷ below) < walk_work rule h p (f ∷ below)
@@ -145,26 +101,22 @@ module _ (rule : RuleSet) (plan : Plan) where
 
     -- the next move opens what it can, and the others theirs
     pub open-next : to_open rule p (f ∷ below) ≡ walk_count (legal_moves rule) (position_after rule) t q + to_open rule p (moved f next ∷ below)
-    unfolding to_open position
-    open-next = rw (left, walk_behind-next t (position rule p (f ∷ below)) f.place next m e) (omega arith)
-
-    -- a frame that is opened can open what its moves can
-    pub open-enter : (undo : Undo) (tried : ℕ)
-        → to_open rule p (opened_frame m undo tried ∷ (moved f next ∷ below)) ≡ walk_behind rule tried q 0 + to_open rule p (moved f next ∷ below)
-    unfolding to_open position
-    open-enter undo tried = refl
+    unfolding to_open position walk_behind
+    open-next =
+        let counts = λ (x : Move). walk_count (legal_moves rule) (position_after rule) t (position_after rule (position rule p (f ∷ below)) x) in
+        rw (left, e) (omega (arith, sum_by-cons counts m (moves_behind rule (position rule p (f ∷ below)) next)))
 
   -- a frame without moves gives no path
   pub come-close : (h : ℕ) (p : Position) (f : Frame) (below : List Frame) → (f.left ≡ 0) ⊎ (moves_behind rule (position rule p (f ∷ below)) f.place ≡ [])
       → to_come rule plan h p (f ∷ below) ≡ to_come rule plan h p below
-  unfolding to_come
-  come-close h p f below e = search (rules, shown_paths-none)
+  unfolding to_come shown_paths
+  come-close h p f below e = search rules
 
   -- nor does it try anything
   pub tries-close : (h : ℕ) (p : Position) (f : Frame) (below : List Frame) → (f.left ≡ 0) ⊎ (moves_behind rule (position rule p (f ∷ below)) f.place ≡ [])
       → fewest_left rule plan h p (f ∷ below) ≡ fewest_left rule plan h p below
-  unfolding fewest_left
-  tries-close h p f below e = search (rules, fewest-none)
+  unfolding fewest_left fewest_walked
+  tries-close h p f below e = search rules
 
   -- closing it takes a turn
   pub turns-close : (h : ℕ) (p : Position) (f : Frame) (below : List Frame) → walk_work rule h p below < walk_work rule h p (f ∷ below)
@@ -174,8 +126,8 @@ module _ (rule : RuleSet) (plan : Plan) where
   -- it opens nothing
   pub open-close : (p : Position) (f : Frame) (below : List Frame) → (f.left ≡ 0) ⊎ (moves_behind rule (position rule p (f ∷ below)) f.place ≡ [])
       → to_open rule p (f ∷ below) ≡ to_open rule p below
-  unfolding to_open
-  open-close p f below e = omega (arith, walk_behind-none f.left (position rule p (f ∷ below)) f.place e)
+  unfolding to_open walk_behind
+  open-close p f below e = search rules
 
   -- moves that have no paths: at the last half-move those that don't mate, by a side that seeks mate
   module _ (P : Position) where
@@ -185,28 +137,22 @@ module _ (rule : RuleSet) (plan : Plan) where
     unfolding shown_paths
     ends low fuel k m q qs ms = search rules
 
-    -- in direct play a move that doesn't mate isn't followed, and tries nothing
-    follows-last : (low : Bool) (q : Position) (battle : Battle) → plan.play ≡ BattlePlay battle → seeks battle 1 ≡ true → plan.goal ≡ Mate
-        → is_mate rule q ≡ false → is_followed plan.play (chess plan.goal rule) low 0 q ≡ false
-    unfolding is_followed value
-    follows-last low q battle fought white for misses = search rules
-
     -- a last move that doesn't mate gives no path, where the side seeks mate
     pub skipped : (low : Bool) (fuel : ℕ) → seeks_last plan.play ≡ true → plan.goal ≡ Mate → (m : Move) (ms : List Move) → is_mating rule P m ≡ false
         → shown_paths plan (chess plan.goal rule) low fuel 1 P (m ∷ ms) ≡ shown_paths plan (chess plan.goal rule) low fuel 1 P ms
-    unfolding shown_paths is_given
-    skipped low fuel last for m ms misses = search (rules, shown_paths-next, ways, follows-help, walk_length-help, ends, follows-last)
+    unfolding shown_paths is_given is_followed value
+    skipped low fuel last for m ms misses = search (rules, ways, walk_length-help, ends)
 
     fewest-skipped : (low : Bool) (fuel : ℕ) → seeks_last plan.play ≡ true → plan.goal ≡ Mate → (battle : Battle) → plan.play ≡ BattlePlay battle
         → (m : Move) (ms : List Move) → is_mating rule P m ≡ false
         → fewest_walked plan (chess plan.goal rule) low fuel 1 P (m ∷ ms) ≡ fewest_walked plan (chess plan.goal rule) low fuel 1 P ms
-    unfolding fewest_walked smallest_tree
-    fewest-skipped low fuel last for battle fought m ms misses = search (rules, fewest-next, follows-last)
+    unfolding fewest_walked smallest_tree is_followed value
+    fewest-skipped low fuel last for battle fought m ms misses = search (rules, sum_by-cons)
 
     none_of : (ms : List Move) → sum_by (λ m. walk_count (legal_moves rule) (position_after rule) 0 (position_after rule P m)) ms ≡ 0
     unfolding walk_count
     none_of [] = refl
-    none_of (m ∷ ms) = sum_by-cons (λ m. walk_count (legal_moves rule) (position_after rule) 0 (position_after rule P m)) m ms ∙ omega (arith, none_of ms)
+    none_of (m ∷ ms) = search (rules, none_of ms)
 
     nothing : (k place : ℕ) → k ≡ 1 → walk_behind rule k P place ≡ 0
     unfolding walk_behind
@@ -216,27 +162,22 @@ module _ (rule : RuleSet) (plan : Plan) where
   module _ (help : plan.play ≡ HelpPlay) (for : plan.goal ≡ Mate) where
     -- where no move mates no path is left
     mateless : (P : Position) (fuel : ℕ) → mates_behind rule P 0 ≡ [] → shown_paths plan (chess plan.goal rule) false fuel 1 P (legal_moves rule P) ≡ []
-    unfolding mates_behind
+    unfolding mates_behind shown_paths
     mateless P fuel none =
-        let all = append-nil (legal_moves rule P) in
-        let skip = passed-over (shown_paths plan (chess plan.goal rule) false fuel 1 P) (is_mating rule P) (skipped P false fuel (rw help refl) for)
-        (legal_moves rule P) [] (rw (← behind_start rule P) none) in
-        (rw all at skip) ∙ shown_paths-none false fuel 1 P [] (inr refl)
-
-    no_mates : (P : Position) (m : Move) → allows_mate rule P m ≡ false → mates_behind rule (position_after rule P m) 0 ≡ []
-    no_mates P m none = search rules
+        rw (← append-nil (legal_moves rule P)) (passed-over (shown_paths plan (chess plan.goal rule) false fuel 1 P) (is_mating rule P)
+        (skipped P false fuel (rw help refl) for) (legal_moves rule P) [] (rw (← behind_start rule P) none) ∙ search rules)
 
     pub settled : (P : Position) (low : Bool) (fuel : ℕ) (m : Move) (ms : List Move) → allows_mate rule P m ≡ false
         → shown_paths plan (chess plan.goal rule) low fuel 2 P (m ∷ ms) ≡ shown_paths plan (chess plan.goal rule) low fuel 2 P ms
     unfolding shown_paths is_given
-    settled P low fuel m ms none = search (rules, shown_paths-next, follows-help, walk_length-help, mateless, no_mates)
+    settled P low fuel m ms none = search (rules, follows-help, walk_length-help, mateless)
 
   -- each move counts one, with a half-move left behind it
   each_one : (P : Position) (ms : List Move) → sum_by (λ m. walk_count (legal_moves rule) (position_after rule) 1 (position_after rule P m)) ms ≡ length ms
   unfolding walk_count
   each_one P [] = refl
-  each_one P (m ∷ ms) = sum_by-cons (λ m. walk_count (legal_moves rule) (position_after rule) 1 (position_after rule P m)) m ms
-      ∙ omega (arith, each_one P ms, none_of (position_after rule P m) (legal_moves rule (position_after rule P m)))
+  each_one P (m ∷ ms) =
+      rw sum_by-cons (omega (arith, each_one P ms, none_of (position_after rule P m) (legal_moves rule (position_after rule P m))))
 
   -- moves are passed over that have no paths
   module _ (h : ℕ) (p : Position) (f : Frame) (below : List Frame) (rest : List Move) (before between : ℕ)
@@ -270,23 +211,18 @@ module _ (rule : RuleSet) (plan : Plan) where
     unfolding work_behind
     fewer k = search (rules, sum_by-append)
 
-    same : (k : ℕ) → moves_behind rule P f.place ≡ moves_behind rule P g.mid → walk_behind rule k P f.place ≡ walk_behind rule k P g.mid
-    unfolding walk_behind
-    same k e = search rules
-
     -- in play with two half-moves left each opens one frame
     each : (k : ℕ) → k ≡ 2 → walk_behind rule k P f.place ≡ length g.over + walk_behind rule k P g.mid
     unfolding walk_behind
-    each k e = rw (e, each_one P (moves_behind rule P f.place), each_one P (moves_behind rule P g.mid)) (ap length g.passed ∙ length-append g.over _)
+    each k e = rw (e, each_one P, each_one P) (simp (g.passed, length-append))
 
     tries-skip : (battle : Battle) → plan.play ≡ BattlePlay battle → fewest_left rule plan h p (f ∷ below) ≡ fewest_left rule plan h p later
     unfolding fewest_left position
-    tries-skip battle fought = ap (λ n. n + fewest_left rule plan h p below)
-        (same-later (λ n ms. fewest_walked plan (chess plan.goal rule) (eqb (length below) 0) (h - length below) n P ms)
-        (λ last for. fewest-skipped P _ _ last for battle fought) (λ help. absurd (let e : HelpPlay ≡ BattlePlay battle = sym help ∙ fought in cc)))
+    tries-skip battle fought =
+        search (rules, same-later (λ n ms. fewest_walked plan (chess plan.goal rule) (eqb (length below) 0) (h - length below) n P ms), fewest-skipped P)
 
     -- what follows moves that are passed over follows from before them
     pub steps-skip : (new : List Frame) (board : Position) (after : ℕ) (given : Bool) → Steps rule plan h p later new board between after given
         → Steps rule plan h p (f ∷ below) new board before after given
-    unfolding are_whites to_open position walk_work
-    steps-skip new board after given s = search (rules, come-skip, tries-skip, nothing, same, each, fewer)
+    unfolding are_whites to_open position walk_work walk_behind
+    steps-skip new board after given s = search (rules, come-skip, tries-skip, nothing, each, fewer)

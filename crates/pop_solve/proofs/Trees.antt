@@ -1,5 +1,5 @@
 -- What the walk shows is the tree that the definitions name.
-use Rattle.pop_solve.proofs.Words.{Battle, BattlePlay, Bool, Direct, Game, HelpPlay, List, Plan, Selfmate, [], continuations, ap, append-nil, arith, best_moves, cond, eqb, every_move, false, fewest_half_moves, filter, least_length_from, flat_map, flat_map_single, is_followed, is_given, walk_length, keeps_win, least_moves, lines_to_goal, list_all, map, nat_tests, node, nodes_below, not, shown_length, refl, rules, seeks, shown_paths, suc, sym, true, value, has_variations, zero, ℕ, ◌%◌, ◌*◌, ◌++◌, ◌+◌, ◌-◌, ◌/◌, ◌<◌, ◌||◌, ◌∙◌, ◌∷◌, ◌≡◌, ◌≤◌, and_parts, inl, inr}
+use Rattle.pop_solve.proofs.Words.{Battle, BattlePlay, Bool, Direct, Game, HelpPlay, List, Plan, Selfmate, [], continuations, ap, append-nil, arith, best_moves, cond, eqb, every_move, false, fewest_half_moves, filter, least_length_from, flat_map, flat_map_single, is_followed, is_given, walk_length, keeps_win, least_moves, lines_to_goal, list_all, map, nat_tests, node, nodes_below, not, shown_length, refl, rules, seeks, shown_paths, suc, sym, true, value, has_variations, zero, ℕ, ◌%◌, ◌*◌, ◌++◌, ◌+◌, ◌-◌, ◌/◌, ◌<◌, ◌||◌, ◌∙◌, ◌∷◌, ◌≡◌, ◌≤◌, inl, inr}
 use Rattle.pop_solve.proofs.Battles.{value-is_lost, value-is_self_lost, value-zero}
 use Rattle.pop_solve.proofs.Lengths.{length-more}
 use Rattle.pop_solve.proofs.GoingOn.{length_most, walk_length-keys, given-battle, walk_length-help, cases, least_length_from-least}
@@ -20,8 +20,7 @@ module _ {A B : Type 0} where
   flat-all : (test : A → Bool) (F G : A → List B) (xs : List A) → list_all test xs ≡ true → ((x : A) → test x ≡ true → F x ≡ G x)
       → flat_map F xs ≡ flat_map G xs
   flat-all test F G [] t e = refl
-  flat-all test F G (x ∷ xs) t e =
-      let b = and_parts (test x) (list_all test xs) t in rw (e x b.0, flat-all test F G xs b.1 e) refl
+  flat-all test F G (x ∷ xs) t e = search (rules, flat-all test F G xs, e)
 
   -- by those that pass it
   pub flat-filter : (test other : A → Bool) (F G : A → List B) (xs : List A) → ((x : A) → test x ≡ other x) → ((x : A) → test x ≡ true → F x ≡ G x)
@@ -47,8 +46,7 @@ module _ {P M : Type 0} (game : Game P M) where
         → shown_paths plan game root (suc k) (suc k) p ms ≡ flat_map (λ m. map (λ line. m ∷ line) (lines_to_goal game k (game.after p m))) ms
     unfolding shown_paths is_followed is_given lines_to_goal
     shown_paths-moves root zero p ms = grind (arith, flat-same, by_move, append-nil)
-    shown_paths-moves root (suc k) p ms =
-        flat-same _ _ ms (λ m. grind (arith, by_move, walk_length-help, nat_tests, shown_paths-moves false k (game.after p m) (game.moves (game.after p m))))
+    shown_paths-moves root (suc k) p ms = search (rules, flat-same, by_move, walk_length-help, nat_tests, shown_paths-moves false k)
 
     -- so from all moves of a position
     pub shown_paths-help : (root : Bool) (k : ℕ) (p : P) → shown_paths plan game root (suc k) (suc k) p (game.moves p) ≡ lines_to_goal game (suc k) p
@@ -65,18 +63,13 @@ module _ {P M : Type 0} (game : Game P M) where
 
   -- the test of a move of White
   pub keeps-value : (battle : Battle) (k l : ℕ) (q : P) → suc l ≡ halves battle k → value battle game l q ≡ keeps_win battle game k q
-  keeps-value Direct k l q e = let h : l ≡ 2 * (k - 1) = omega (arith, e) in rw h (value-is_lost game (k - 1) q)
-  keeps-value Selfmate zero l q e = absurd (omega (arith, e))
-  keeps-value Selfmate (suc k) l q e = let h : l ≡ suc (2 * k) = omega (arith, e) in rw h (value-is_self_lost game k q)
+  keeps-value battle k l q e = grind (arith, value-is_lost game (k - 1), value-is_self_lost game (k - 1))
 
   -- the least length by half-moves is that of the least number of moves
   least_moves-halves : (battle : Battle) (n t : ℕ) (q : P) → seeks battle t ≡ true → 0 < t → t ≤ 2 * n → game.goal q ≡ false → value battle game t q ≡ true
       → least_length_from battle game q ((t - fewest_half_moves battle) / 2) (fewest_half_moves battle) ≡ halves battle (least_moves battle game n q)
-  least_moves-halves Selfmate zero t q s some most open_yet v = absurd (omega (arith, some, most))
-  least_moves-halves Selfmate (suc n) t q s some most open_yet v =
-      grind (arith, seeks-halves Selfmate t s some, length-more, least_moves-selfmate game q open_yet n)
-  least_moves-halves Direct zero t q s some most open_yet v = absurd (omega (arith, some, most))
-  least_moves-halves Direct (suc n) t q s some most open_yet v = grind (arith, seeks-halves Direct t s some, length-more, least_moves-direct game q n)
+  least_moves-halves battle n t q s some most open_yet v =
+      grind (arith, seeks-halves battle t s some, length-more, least_moves-selfmate game q open_yet (n - 1), least_moves-direct game q (n - 1))
 
   -- the value of Black's position holds after each of his moves
   value-black : (battle : Battle) (t : ℕ) (q : P) → game.goal q ≡ false → seeks battle (suc t) ≡ false → value battle game (suc t) q ≡ true
@@ -84,24 +77,9 @@ module _ {P M : Type 0} (game : Game P M) where
   unfolding value
   value-black battle t q g s v = search rules
 
-  -- nothing stands below the goal
-  nothing : (n k : ℕ) (q : P) → game.goal q ≡ true → (battle : Battle) (s : Bool)
-      → cond s (continuations battle game n k q) (nodes_below battle game n k q) ≡ []
-  unfolding continuations nodes_below
-  nothing n k q g battle s = search rules
-
   -- White is to move with all half-moves of a battle left
   pub halves-seek : (battle : Battle) (k l : ℕ) → suc l ≡ halves battle k → seeks battle (l + 1) ≡ true
-  halves-seek Direct k l e = let odd : (l + 1) % 2 ≡ 1 = omega (arith, e) in grind (arith, nat_tests)
-  halves-seek Selfmate k l e = let even : (l + 1) % 2 ≡ 0 = omega (arith, e) in grind (arith, nat_tests)
-
-  -- what isn't true is false
-  pub flip : (b : Bool) → not b ≡ true → b ≡ false
-  flip b e = search rules
-
-  -- what isn't false is true
-  pub unflip : (b : Bool) → not b ≡ false → b ≡ true
-  unflip b e = search rules
+  halves-seek battle k l e = grind (arith, nat_tests)
 
   -- in battle play
   module _ (plan : Plan) (battle : Battle) (fought : plan.play ≡ BattlePlay battle) where
@@ -134,24 +112,17 @@ module _ {P M : Type 0} (game : Game P M) where
     unfolding shown_length
     white n k zero q G s some most room open_yet v each = absurd (omega (arith, some))
     white n k (suc t) q G s some most room open_yet v each =
-        rw (z, open_yet, s) (go L refl (grind (arith, least_moves-halves)))
-      where
-        z : eqb (suc t) 0 ≡ false
-        z = grind arith
-
-        L : ℕ
-        L = least_length_from battle game q ((suc t - fewest_half_moves battle) / 2) (fewest_half_moves battle)
-
-        go : (x : ℕ) → L ≡ x → x ≡ halves battle (least_moves battle game n q)
-            → shown_paths plan game false (suc k) x q (game.moves q) ≡ flat_map G (best_moves battle game n q)
-        go zero e h = absurd (grind (arith, least_length_from-least))
-        go (suc l) e h =
-            let least = least_moves battle game n q in
-            let s2 = halves-seek battle least l h in
-            let most2 : L ≤ suc t = length_most game battle (suc t) q false true false z s in
-            as_nodes false k l q (game.moves q) ∙ flat-filter _ (λ m. keeps_win battle game least (game.after q m)) _ G (game.moves q)
-            (λ m. by_test false l (game.after q m) s2 ∙ keeps-value battle least l (game.after q m) h)
-            (λ m v2. each l m s2 (omega (arith, e, most2)) (sym (by_test false l (game.after q m) s2) ∙ v2))
+        let z : eqb (suc t) 0 ≡ false = grind arith in
+        let least = least_moves battle game n q in
+        let L = least_length_from battle game q ((suc t - fewest_half_moves battle) / 2) (fewest_half_moves battle) in
+        let first = least_length_from-least game battle q ((suc t - fewest_half_moves battle) / 2) (fewest_half_moves battle) in
+        let up : L ≡ suc (L - 1) = grind (arith, first) in
+        let h : suc (L - 1) ≡ halves battle least = sym up ∙ least_moves-halves battle n (suc t) q s some most open_yet v in
+        let s2 = halves-seek battle least (L - 1) h in
+        let most2 : L ≤ suc t = length_most game battle (suc t) q false true false z s in
+        rw (z, open_yet, s, up) (as_nodes false k (L - 1) q (game.moves q) ∙ flat-filter _ (λ m. keeps_win battle game least (game.after q m)) _ G
+        (game.moves q) (λ m. by_test false (L - 1) (game.after q m) s2 ∙ keeps-value battle least (L - 1) (game.after q m) h)
+        (λ m v2. each (L - 1) m s2 (omega (arith, up, most2)) (sym (by_test false (L - 1) (game.after q m) s2) ∙ v2)))
 
     open-goal : (k : ℕ) (q : P) → game.goal q ≡ true → shown_paths plan game false k (shown_length battle game k q) q (game.moves q) ≡ []
     unfolding shown_length
@@ -167,22 +138,21 @@ module _ {P M : Type 0} (game : Game P M) where
           (continuations battle game n k q) (nodes_below battle game n k q)
 
       tie-goal : (n k t : ℕ) (q : P) → game.goal q ≡ true → Tie n k t q
-      unfolding shown_length
-      tie-goal n k t q g = search (rules, shown_paths-zero, nothing)
+      unfolding shown_length continuations nodes_below
+      tie-goal n k t q g = search (rules, shown_paths-zero)
 
       tie-white : (n k t : ℕ) (q : P) → ((l : ℕ) (r : P) → value battle game l r ≡ true → l ≤ k → l ≤ 2 * n → Tie n k l r) → value battle game (suc t) q ≡ true
           → suc t ≤ suc k → suc t ≤ 2 * n → game.goal q ≡ false → seeks battle (suc t) ≡ true → Tie n (suc k) (suc t) q
       unfolding continuations
-      tie-white n k t q ih v room most g s = search (rules, white, flip, seeks-step, beneath-is)
+      tie-white n k t q ih v room most g s = search (rules, white, seeks-step, beneath-is)
 
       tie-black : (n k t : ℕ) (q : P) → ((l : ℕ) (r : P) → value battle game l r ≡ true → l ≤ k → l ≤ 2 * n → Tie n k l r) → value battle game (suc t) q ≡ true
           → suc t ≤ suc k → suc t ≤ 2 * n → game.goal q ≡ false → seeks battle (suc t) ≡ false → Tie n (suc k) (suc t) q
       unfolding nodes_below shown_length
       tie-black n k t q ih v room most g s =
           let z : eqb (suc t) 0 ≡ false = grind arith in
-          let one : suc t ≡ t + 1 = omega arith in
-          let s1 : seeks battle (t + 1) ≡ false = (rw (← one) s) in
-          let w : seeks battle t ≡ true = unflip _ (sym (seeks-step battle t) ∙ s1) in
+          let s1 : seeks battle (t + 1) ≡ false = grind arith in
+          let w : seeks battle t ≡ true = grind (arith, seeks-step) in
           grind (arith, as_nodes, game.moves q, flat-all, value-black battle t q g s v, by_none, beneath-is)
 
       -- what the walk shows below a move that is shown
@@ -190,13 +160,7 @@ module _ {P M : Type 0} (game : Game P M) where
       tie n k zero q v room most = tie-goal n k 0 q (sym (value-zero game battle q) ∙ v)
       tie n zero (suc t) q v room most = absurd (omega (arith, room))
       tie n (suc k) (suc t) q v room most =
-          elim (cases (game.goal q)) [
-            | inl open_yet ↦ elim (cases (seeks battle (suc t))) [
-              | inl black ↦ tie-black n k t q (λ l r a b c. tie n k l r a b c) v room most open_yet black
-              | inr white ↦ tie-white n k t q (λ l r a b c. tie n k l r a b c) v room most open_yet white
-            ]
-            | inr g ↦ tie-goal n (suc k) (suc t) q g
-          ]
+          search (rules, cases (game.goal q), cases (seeks battle (suc t)), tie-black, tie-white, tie-goal, tie n k)
 
     -- where no variations are shown, nothing stands below a move of White
     beneath-none : (k t : ℕ) (q : P) → has_variations plan.tree ≡ false → seeks battle (t + 1) ≡ true → beneath k t q ≡ []
@@ -211,20 +175,19 @@ module _ {P M : Type 0} (game : Game P M) where
     pub nodes_below-key : (n h : ℕ) (q : P) → seeks battle (h + 1) ≡ true → suc h ≤ 2 * n → value battle game h q ≡ true
         → beneath h h q ≡ cond (has_variations plan.tree) (nodes_below battle game n h q) []
     nodes_below-key n h q s most v = elim (cases (has_variations plan.tree)) [
-      | inl alone ↦ beneath-none h h q alone s ∙ (rw alone refl)
-      | inr e ↦ let black = flip _ (sym (seeks-step battle h) ∙ s) in
-          beneath-is e h h q ∙ tie e n h h q v (omega arith) (omega (arith, most)) ∙ (rw (black, e) refl)
+      | inl alone ↦ search (rules, beneath-none h h q alone s)
+      | inr e ↦ search (rules, beneath-is e h h q, tie e n h h q v, seeks-step)
     ]
 
     -- below a first move of Black in set play
     pub nodes_below-set : (n h : ℕ) (r : P) → seeks battle h ≡ true → h ≤ 2 * n → value battle game h r ≡ true
         → beneath h h r ≡ cond (has_variations plan.tree) (continuations battle game n h r)
         (cond (game.goal r) [] (map (λ m. m ∷ []) (best_moves battle game n r)))
-    nodes_below-set n h r s most v = go (has_variations plan.tree) refl
+    nodes_below-set n h r s most v = elim (cases (has_variations plan.tree)) [
+      | inl alone ↦ beneath-set h h r (seeks-step battle h ∙ ap not s) ∙ (rw alone (no_variation alone h refl (game.goal r) refl))
+      | inr e ↦ search (rules, beneath-is e h h r, tie e n h h r v)
+    ]
       where
-        s1 : seeks battle (h + 1) ≡ false
-        s1 = seeks-step battle h ∙ ap not s
-
         no_variation : has_variations plan.tree ≡ false → (h2 : ℕ) → h ≡ h2 → (g : Bool) → game.goal r ≡ g
             → shown_paths plan game false h2 (shown_length battle game h2 r) r (game.moves r) ≡ cond g []
             (map (λ m. m ∷ []) (best_moves battle game n r))
@@ -234,9 +197,3 @@ module _ {P M : Type 0} (game : Game P M) where
             white n k (suc k) r (λ m. (m ∷ []) ∷ []) (rw i at s) (omega arith) (rw i at most) (omega arith) g (rw i at v)
             (λ l m s2 less v2. ap (node m) (beneath-none k l (game.after r m) e s2))
             ∙ flat_map_single (λ m. m ∷ []) (best_moves battle game n r)
-
-        go : (b : Bool) → has_variations plan.tree ≡ b
-            → beneath h h r ≡ cond b (continuations battle game n h r)
-            (cond (game.goal r) [] (map (λ m. m ∷ []) (best_moves battle game n r)))
-        go true e = beneath-is e h h r ∙ tie e n h h r v (omega arith) most ∙ (rw s refl)
-        go false e = beneath-set h h r s1 ∙ no_variation e h refl (game.goal r) refl

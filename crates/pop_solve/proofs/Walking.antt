@@ -1,13 +1,8 @@
 -- The outcomes of a step for frames listed from the bottom up, as the code holds them, and what its calls hand on.
-use Rattle.pop_solve.specs.declared.aim.Aim.{Aim}
-use Rattle.chess_rules.specs.ties.Places.{all_triples}
-use Rattle.pop_solve.proofs.Words.{AreKnown, Bool, CameFrom, CameFromAt, Counts, Frame, GoesTo, HasCounted, HelpPlay, IfSome, IsNextMate, IsNextOf, IsNextUnsettled, IsPlaceIn, IsWalking, LegalPlace, List, MatchOption, Mate, Option, Plan, Position, RuleSet, Steps, [], ap, append-nil, arith, chess, eqb, false, is_followed, is_given, walk_length, inl, inr, is_for_mate, is_mate, is_legal, length, length-reverse, mates_behind, nat_tests, moves_behind, moves_behind-end, position, refl, reverse, reverse-append, rules, seeks_last, smallest_tree, subst, suc, sym, true, undo_of, value, has_variations, ℕ, ◌++◌, ◌+◌, ◌-◌, ◌<◌, ◌∙◌, ◌∷◌, ◌≡◌, ◌≤◌, ◌⊎◌, Move}
-use Rattle.chess_rules.specs.Play.{position_after}
-use Rattle.pop_solve.proofs.Boards.{for_mate}
-use Rattle.pop_solve.specs.ties.Frames.{opened_frame}
+use Rattle.pop_solve.proofs.Words.{all_triples, AreKnown, Bool, CameFrom, CameFromAt, Counts, Frame, GoesTo, IfSome, IsNextMate, IsNextOf, IsPlaceIn, IsRoomy, IsWalking, LegalPlace, List, MatchOption, Mate, Option, Plan, Position, RuleSet, Steps, [], ap, append-nil, arith, chess, eqb, false, is_followed, is_given, walk_length, inl, inr, is_legal, length, length-reverse, mates_behind, nat_tests, moves_behind, moves_behind-end, position, refl, reverse, reverse-append, rules, seeks_last, suc, true, undo_of, has_variations, ℕ, ◌++◌, ◌+◌, ◌-◌, ◌<◌, ◌∙◌, ◌∷◌, ◌≡◌, ◌≤◌, ◌⊎◌, Move, position_after, opened_frame, nil_from_length}
 use Rattle.pop_solve.proofs.Tests.{learned, moved}
 use Rattle.pop_solve.proofs.GoingOn.{cases}
-use Rattle.pop_solve.proofs.Outcomes.{CameFrom-deep, walking-close, walking-learned, top_room, steps-learned, skips-close, steps-pass, steps-enter, walking-moved}
+use Rattle.pop_solve.proofs.Outcomes.{CameFrom-deep, walking-close, walking-learned, steps-learned, skips-close, steps-pass, steps-enter, walking-moved}
 use Rattle.pop_solve.proofs.ToCome.{steps-skip}
 
 -- a push, and the frames before a frame was taken off, seen from the top
@@ -36,13 +31,13 @@ module _ (rule : RuleSet) (plan : Plan) (h : ℕ) (top : Frame) (old new : List 
       → ((q : Position) → 0 < depth → CameFromAt rule top now q → after ≡ q) → Steps rule plan h p (reverse old) (reverse new) after opened count false
   close_steps p board now after depth opened count r e d none lowest before =
       let r2 = walking_top p board now r e in
-      let T : Position → Type 0 = λ b. ((top.left ≡ 0) × (count ≡ opened)) ⊎ GoesTo rule plan top.left b top.place [] opened count in
-      rw (popped old new top taken) (skips-close rule plan h p top (reverse new) now r2 after opened count (subst T (sym e ∙ r2.board_at) none)
-      (λ z. lowest (omega (arith, depth_is, d, z))) (λ q z cf. before q (omega (arith, depth_is, d, z)) cf))
+      let none2 = rw (← e, r2.board_at) at none in
+      rw (popped old new top taken) (search (rules, skips-close rule plan h p top (reverse new) now r2 after opened count none2, depth_is))
 
   -- there is room for its half-moves
   pub room_left : (p board : Position) → IsWalking rule h p (reverse old) board → top.left + length new ≤ h
-  room_left p board r = omega (arith, top_room rule h p top (reverse new) board (walking_top p board board r refl), depth_is)
+  unfolding IsRoomy
+  room_left p board r = omega (arith, (walking_top p board board r refl).roomy.0, depth_is)
 
   -- what it knows is of the board's position
   pub top_known : (p board : Position) → IsWalking rule h p (reverse old) board → IfSome top.known (IsPlaceIn rule board)
@@ -74,25 +69,24 @@ module _ (rule : RuleSet) (plan : Plan) (h : ℕ) (top : Frame) (old new : List 
         let left : top.left ≡ suc behind = omega (arith, some.0) in
         let f = learned top known in
         let r2 = walking-learned rule h p top known (reverse new) now (walking_top p board now r at) (rw at within) in
-        let flag2 : eqb (length (reverse new)) 0 ≡ root = ap (λ x. eqb x 0) (depth_is ∙ sym d) ∙ sym flag in
+        let flag2 : eqb (length (reverse new)) 0 ≡ root = grind (arith, depth_is) in
         let lawful : is_legal rule now m ≡ true = rw at some.2 in
-        let T : Position → Type 0 = λ b. GoesTo rule plan top.left b top.place (m ∷ moves_behind rule b place) opened between in
-        let g = subst T (sym at ∙ r2.board_at) some.1 in
+        let g = rw (← at, r2.board_at) at some.1 in
         let r3 = walking-moved rule h p f g.mid (reverse new) now now r2 refl in
         let here : moves_behind rule now g.mid ≡ m ∷ moves_behind rule now place = rw r2.board_at g.here in
         elim (cases (is_followed plan.play (chess plan.goal rule) root behind arrived)) [
           | inl passed ↦
               let x = passes passed in
+              let s = steps-pass rule plan h p (moved f g.mid) (reverse new) now r3 place m behind left here after between opened2
+              (rw flag2 passed) x.1 (rw flag2 counts) in
               rw (popped old new top taken, x.2, mid_is, x.0) (steps-learned rule plan h p top known (reverse new) _ after opened opened2 false
-              (steps-skip rule plan h p f (reverse new) _ opened between g _ after opened2 false
-              (steps-pass rule plan h p (moved f g.mid) (reverse new) now r3 place m behind left here after between opened2
-              (rw flag2 passed) x.1 (rw flag2 counts))))
+              (steps-skip rule plan h p f (reverse new) _ opened between g _ after opened2 false s))
           | inr entered ↦
               let x = enters entered in
+              let s = steps-enter rule plan h p (moved f g.mid) (reverse new) now r3 place m behind left here after between opened2 lawful
+              (rw flag2 entered) x.1 (rw flag2 counts) in
               rw (popped old new top taken, x.2, reverse-push mid, mid_is, x.0) (steps-learned rule plan h p top known (reverse new) _ after opened opened2 _
-              (steps-skip rule plan h p f (reverse new) _ opened between g _ after opened2 _
-              (steps-enter rule plan h p (moved f g.mid) (reverse new) now r3 place m behind left here after between opened2 lawful
-              (rw flag2 entered) x.1 (rw flag2 counts))))
+              (steps-skip rule plan h p f (reverse new) _ opened between g _ after opened2 _ s))
         ]
 
 -- what the next move or the next mate says of the moves passed over
@@ -104,11 +98,6 @@ module _ (rule : RuleSet) (plan : Plan) (left : ℕ) (p : Position) (place next 
   unfolding mates_behind
   next_mating o for last single e same = grind (arith, moves_behind-end rule p all_triples (omega arith), append-nil)
 
-  -- the next move that isn't settled is it with two half-moves left
-  pub next_settling : (o : Option Move) → (plan.play ≡ HelpPlay) × (plan.goal ≡ Mate) × (left ≡ 2) → IsNextUnsettled rule p place next before after o
-      → IsNextOf rule plan left p place next before after o
-  next_settling o e found = search rules
-
 -- a frame is closed, whatever is walked
 module _ (rule : RuleSet) (h : ℕ) (top : Frame) (old new : List Frame) (taken : old ≡ new ++ top ∷ []) where
   -- what closing a frame asks for
@@ -118,28 +107,13 @@ module _ (rule : RuleSet) (h : ℕ) (top : Frame) (old new : List Frame) (taken 
   -- it leaves the walk on the frames below
   pub back_walking : (p board after : Position) (depth : ℕ) → IsWalking rule h p (reverse old) board → depth ≡ length new → (depth ≡ 0 → after ≡ board)
       → ((q : Position) → 0 < depth → CameFromAt rule top board q → after ≡ q) → IsWalking rule h p (reverse new) after
-  back_walking p board after depth r d lowest before = walking-close rule h p top (reverse new) board after
-      (grind (arith, popped)) (λ z. lowest (omega (arith, length-reverse new, d, z))) (λ q z cf. before q (omega (arith, length-reverse new, d, z)) cf)
+  back_walking p board after depth r d lowest before =
+      let r2 = rw (popped old new top taken) at r in search (rules, walking-close rule h p top (reverse new) board after r2, length-reverse)
 
 -- with no frame left the board stands on the first position
 pub walking_back : (rule : RuleSet) (h : ℕ) (p board : Position) (frames : List Frame) → IsWalking rule h p (reverse frames) board → length frames ≡ 0
     → board ≡ p
 unfolding position
-walking_back rule h p board [] r none = r.board_at
-walking_back rule h p board (f ∷ frames) r none = absurd (omega (arith, none))
-
--- after a mating last half-move the value is known, and nothing has to be tried for it
-pub value-mated : (rule : RuleSet) (aim : Aim) (left : ℕ) (q : Position) → is_for_mate aim.goal ≡ true → left ≡ 0 → is_mate rule q ≡ true
-    → true ≡ value aim.battle (chess aim.goal rule) left q
-unfolding value
-value-mated rule aim left q for last mated = search (rules, for_mate)
-
--- nor is anything to be tried there
-pub tried-mated : (rule : RuleSet) (aim : Aim) (left count : ℕ) (q : Position) → left ≡ 0
-    → HasCounted count count (smallest_tree aim.battle (chess aim.goal rule) left q)
-unfolding smallest_tree
-tried-mated rule aim left count q last = search rules
-
-pub ruleset mated = (value-mated, tried-mated)
+walking_back rule h p board frames r none = grind (arith, nil_from_length, length-reverse)
 
 pub ruleset top_frame = (top_known, room_left)

@@ -72,3 +72,13 @@ pub use Rattle.pop_solve.specs.ties.Values.{decides, join, seeks}
 unfoldable pub use Rattle.pop_solve.specs.ties.Values.{joined_value, value}
 pub use Rattle.pop_solve.specs.ties.Walk.{AreSettled, GoesTo, HaveNoPaths, IsCounted, IsEnded, IsNextOf, IsNextUnsettled, IsWalking, Passes, Opens, Steps, Tries, ends_variation, fewest_half_moves, fewest_for, seeks_last}
 unfoldable pub use Rattle.pop_solve.specs.ties.Walk.{IsRoomy, are_whites, fewest_left, fewest_walked, least_length_from, is_followed, is_given, walk_length, shown_length, path, shown_paths, to_come, walk_work}
+pub use Rattle.chess_rules.proofs.listing_moves.Between.{behind_cut}
+pub use Rattle.chess_rules.proofs.listing_moves.Members.{from_range}
+pub use Rattle.chess_rules.proofs.listing_moves.Places.{triples_numbered}
+pub use Rattle.chess_rules.specs.Legal.{moves as legal_moves}
+pub use Rattle.chess_rules.specs.Play.{position_after}
+pub use Rattle.chess_rules.specs.ties.Places.{all_triples, place_of, triple_at}
+unfoldable pub use Rattle.pop_events.specs.Shown.{mark_of, shown_of}
+pub use Rattle.pop_solve.specs.declared.aim.Aim.{Aim}
+pub use Rattle.std.proofs.lemmas.List.{drop-drop, map-id, nil_from_length}
+pub use Rattle.std.proofs.lemmas.List.Folds.{flat_map-map, list_all-append}

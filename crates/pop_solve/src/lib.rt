@@ -7,10 +7,13 @@ pub mod frame;
 pub mod guess;
 pub mod history;
 pub mod killers;
+mod last_defence;
+mod last_move;
 pub mod phases;
 pub mod plan;
 pub mod search;
 mod showing;
+mod stretches;
 mod value;
 pub mod walk;
 

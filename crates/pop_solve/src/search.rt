@@ -85,7 +85,6 @@ impl<R: Rules, const N: usize> Search<R, N> {
 
     /// The next event; `None` behind the last, and then for good. After a line or node the board stands where its path
     /// leads; where there is none it stands on the play's first position.
-    #[tactic(auto, using(crate::proofs::Events::next_event))]
     pub fn next(&mut self) -> Option<Event>
         ensures event { result ≡ option_map (event_of R.rule self.old.problem)
             (slice_get self.old.left 0) }

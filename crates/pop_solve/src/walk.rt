@@ -45,7 +45,7 @@ fn fewest_half_moves(battle: Battle) -> usize
 }
 
 /// The least number of half-moves, by rising lengths, with which White to move reaches his aim; the last, `left`, untried.
-#[tactic(auto, using(crate::proofs::Lengths::least_lengths))]
+#[tactic(auto, using(crate::proofs::Lengths::next_length), unfolding(crate::specs::ties::Walk::least_length_from))]
 fn least_length<R: Rules, const N: usize>(
     aim: Aim,
     left: usize,

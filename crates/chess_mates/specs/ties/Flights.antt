@@ -46,18 +46,19 @@ is_open rule men c k t =
 pub record AreOpen (rule : RuleSet) (men : List (Option Man)) (c : Colour) (k w : ℕ) : Type 0 where
   pub inside : (t : ℕ) → t < 64 → (bit_at w t == 1) ≡ true → is_open rule men c k t ≡ true
 
--- the same, and without Circe to no other
-pub record AreSteps (rule : RuleSet) (men : List (Option Man)) (c : Colour) (k w : ℕ) : Type 0 where
+-- the same, and without Circe to no other, after a move of x, unless x is a king
+pub record AreSteps (rule : RuleSet) (men : List (Option Man)) (x : Man) (c : Colour) (k w : ℕ) : Type
+    0 where
   pub inside : (t : ℕ) → t < 64 → (bit_at w t == 1) ≡ true → is_open rule men c k t ≡ true
-  pub outside : captures_do_more rule ≡ false → (t : ℕ) → t < 64 → (bit_at w t == 1) ≡ false
-      → is_open rule men c k t ≡ false
+  pub outside : same_kind x.kind King ≡ false → captures_do_more rule ≡ false → (t : ℕ) → t < 64
+      → (bit_at w t == 1) ≡ false → is_open rule men c k t ≡ false
 
--- x, that is no king, may make the simple move m, and the enemy king stands on k
+-- x may make the simple move m, and the enemy king stands on k: x doesn't come next to it if it is a king
 pub record IsSeenFrom (rule : RuleSet) (p : Position) (m : Move) (x : Man) (k : ℕ) : Type 0 where
   pub well_formed : IsWellFormed p
   pub pseudo : is_pseudo_legal rule p m ≡ true
   pub here : man_on p.men m.from ≡ Some x
-  pub mortal : same_kind x.kind King ≡ false
+  pub apart : same_kind x.kind King ≡ true → reaches_as p.men (other p.turn) King k m.to ≡ false
   pub simple : is_simple rule x m (is_some (capture_square p x m)) ≡ true
   pub king : king_square p.men (other p.turn) ≡ Some k
 
@@ -76,18 +77,29 @@ sight_with v t = record {
   standing = bit_and v.standing (bit_not w64 (word (is_square (Some t))));
 }
 
--- on one of the word's squares no man of colour c, the one that moved apart, reaches the king who stands
--- there
-pub record IsOneSafe (before : List (Option Man)) (c : Colour) (v : Sight) (w : ℕ) : Type 0 where
-  pub square : ℕ
-  pub small : square < 64
-  pub here : (bit_at w square == 1) ≡ true
-  pub unreached : (men : List (Option Man)) → AreSeen before men c (sight_with v square)
-      → is_reached men square c ≡ false
+-- t is one of the word's squares, and there no man of colour c, the one that moved apart, reaches the king
+-- who stands on it
+pub record IsSafe (before : List (Option Man)) (c : Colour) (v : Sight) (w t : ℕ) : Type 0 where
+  pub small : t < 64
+  pub here : (bit_at w t == 1) ≡ true
+  pub unreached : (men : List (Option Man)) → AreSeen before men c (sight_with v t)
+      → is_reached men t c ≡ false
+
+-- the words once that king, lifted from k, stands on t: of his side the others count
+abbrev pub sight_stepped : Sight → ℕ → ℕ → Sight
+sight_stepped v k t = record {
+  occupied = (sight_with v t).occupied;
+  standing = bit_and (sight_with v t).standing (bit_not w64 (word (is_square (Some k))));
+}
+
+-- no other man of the side that steps from k to t reaches s then, where the mover, of colour c, has his king
+pub record IsQuietTo (before : List (Option Man)) (c : Colour) (v : Sight) (k t s : ℕ) : Type 0 where
+  pub unreached : (men : List (Option Man)) → AreSeen before men (other c) (sight_stepped v k t)
+      → is_reached men s (other c) ≡ false
 
 -- on each of the word's squares a man of colour c, the one that moved apart, reaches the king who stands
 -- there
-pub record AreGuarded (before : List (Option Man)) (c : Colour) (v : Sight) (w : ℕ) : Type 0 where
+pub record AreUnsafe (before : List (Option Man)) (c : Colour) (v : Sight) (w : ℕ) : Type 0 where
   pub reached : (t : ℕ) → t < 64 → (bit_at w t == 1) ≡ true → (men : List (Option Man))
       → AreSeen before men c (sight_with v t) → is_reached men t c ≡ true
 

@@ -3,23 +3,24 @@ use Rattle.std.specs.Prelude.{◌≡◌, ◌≢◌, ◌<◌, ◌==◌, ◌⊎◌
 use Rattle.std.specs.Int.{bit_at}
 use Rattle.std.specs.List.{list_any}
 use Rattle.chess_core.specs.Castling.{has_unmoved}
-use Rattle.chess_core.specs.Position.{Position, is_man, is_of_colour, king_square, man_on, other, same_kind}
+use Rattle.chess_core.specs.Position.{Position, is_fairy, is_man, is_of_colour, king_square, man_on, other, same_kind}
 use Rattle.chess_core.specs.Squares.{file_of, squares}
-use Rattle.chess_core.specs.Steps.{queen_steps, straight_steps}
+use Rattle.chess_core.specs.Steps.{gait_of, is_hopper, queen_steps, straight_steps}
 use Rattle.chess_core.specs.declared.man.Colour.{Colour}
 use Rattle.chess_core.specs.declared.man.Colour.TheVariants.{White}
 use Rattle.chess_core.specs.declared.man.Kind.{Kind}
-use Rattle.chess_core.specs.declared.man.Kind.TheVariants.{King, Queen, Rook, Bishop, Knight, Pawn}
+use Rattle.chess_core.specs.declared.man.Kind.TheVariants.{King, Queen, Rook, Bishop, Knight, Pawn, Nightrider}
 use Rattle.chess_core.specs.declared.man.Man.{Man}
 use Rattle.chess_core.specs.ties.Words.{side_of}
 use Rattle.chess_mates.specs.declared.attackers.Attackers.{Attackers}
-use Rattle.chess_mates.specs.declared.siege.Field.{Field}
-use Rattle.chess_mates.specs.declared.siege.Guards.{Guards}
-use Rattle.chess_mates.specs.declared.siege.Risk.{Risk}
+use Rattle.chess_mates.specs.declared.field.Field.{Field}
+use Rattle.chess_mates.specs.declared.guards.Guards.{Guards}
+use Rattle.chess_mates.specs.declared.risk.Risk.{Risk}
 use Rattle.chess_mates.specs.declared.siege.Siege.{Siege}
+use Rattle.chess_mates.specs.declared.field.Springs.{Springs}
 use Rattle.chess_mates.specs.declared.steps.ToldSteps.{ToldSteps}
 use Rattle.chess_mates.specs.ties.Attackers.{AreAttackers, IsAttacker}
-use Rattle.chess_mates.specs.ties.LastingFlights.{IsLeft, KeepsOne}
+use Rattle.chess_mates.specs.ties.LastingFlights.{AreApproached, IsLeft, KeepsOne}
 use Rattle.chess_rules.specs.Play.{rebirth}
 use Rattle.chess_rules.specs.Reaches.{leaps, reaches_as}
 use Rattle.chess_rules.specs.RuleSet.{RuleSet, captures_do_more, faced_men_stand_still}
@@ -40,8 +41,9 @@ reached_over d x s t = reaches_as (men_on d) x.colour x.kind s t
 pub record IsReached (d : ℕ) (x : Man) (s w : ℕ) : Type 0 where
   pub inside : (t : ℕ) → t < 64 → reached_over d x s t ≡ true → (bit_at w t == 1) ≡ true
 
--- rides along a queen's lines
+-- rides along lines
 abbrev pub is_rider : Kind → Bool
+is_rider Nightrider = true
 is_rider Queen = true
 is_rider Rook = true
 is_rider Bishop = true
@@ -150,6 +152,35 @@ pub record IsSiegeOf (rule : RuleSet) (p : Position) (v : Siege) : Type 0 where
   pub castled : AreCastlingSquares p (other p.turn) v.castled
   pub closed : AreClosed rule p v.closed
 
+-- a man stands on a square of the word, other than t
+pub record IsSprung (men : List (Option Man)) (t w : ℕ) : Type 0 where
+  pub square : ℕ
+  pub small : square < 64
+  pub on : (bit_at w square == 1) ≡ true
+  pub apart : square ≢ t
+  pub stands : is_some (man_on men square) ≡ true
+
+-- the word has the springboards of t: whoever else stands on the board, a hopper reaches t only over a man on one of them
+pub record AreSpringboards (a : Attackers) (t w : ℕ) : Type 0 where
+  pub sprung : (men : List (Option Man)) (q : ℕ) (z : Man) → IsAttacker a z q
+      → is_hopper (gait_of z.kind) ≡ true → reaches_as men z.colour z.kind q t ≡ true
+      → IsSprung men t w
+
+-- k apart, no man stands on a square of the word, and none is closed
+pub record AreFree (v : Siege) (k w : ℕ) : Type 0 where
+  pub own : (h : ℕ) → (bit_at w h == 1) ≡ true → h < 64 → h ≢ k → (bit_at v.own h == 1) ≡ false
+  pub enemies : (h : ℕ) → (bit_at w h == 1) ≡ true → h < 64 → h ≢ k
+      → (bit_at v.enemies h == 1) ≡ false
+  pub closed : (h : ℕ) → (bit_at w h == 1) ≡ true → h < 64 → h ≢ k
+      → (bit_at v.closed h == 1) ≡ false
+
+-- the word has the springboards of t, and these are free
+pub record IsUnsprung (v : Siege) (k t w : ℕ) : Type 0 where
+  pub springboards : ℕ
+  pub are : AreSpringboards v.men t springboards
+  pub free : AreFree v k springboards
+  pub within : (h : ℕ) → (bit_at springboards h == 1) ≡ true → (bit_at w h == 1) ≡ true
+
 -- wherever the defender comes, critical squares apart, another square of the word is left; where an enemy stands, x
 -- comes only after a capture there
 pub record LeavesOne (w enemies critical : ℕ) (x : Man) (t : ℕ) : Type 0 where
@@ -157,25 +188,29 @@ pub record LeavesOne (w enemies critical : ℕ) (x : Man) (t : ℕ) : Type 0 whe
       → ((bit_at enemies t == 1) ≡ true → b ≡ t)
       → (f : ℕ) × IsLeft w x t f × (f ≢ b)
 
--- x may go from s to t, a piece over the hurdles
+-- x may go from s to t, a piece that is no hopper over the hurdles
 pub record IsArrival (d : ℕ) (x : Man) (s t : ℕ) : Type 0 where
   pub small : t < 64
   pub position : Position
   pub goes : may_go position x s t ≡ true
-  pub reaches : same_kind x.kind Pawn ≡ false → reached_over d x s t ≡ true
+  pub reaches : same_kind x.kind Pawn ≡ false → is_hopper (gait_of x.kind) ≡ false
+      → reached_over d x s t ≡ true
 
 -- the word has each such square
 pub record AreArrivals (d : ℕ) (x : Man) (s w : ℕ) : Type 0 where
   pub inside : (t : ℕ) → IsArrival d x s t → (bit_at w t == 1) ≡ true
 
--- x neither checks from t, unless he is a king, nor promotes there
-pub record IsNoCheck (checks : ℕ) (x : Man) (t : ℕ) : Type 0 where
+-- x neither checks from t, unless he is a king, nor promotes there, nor lets a hopper check from one of the springboards
+pub record IsNoCheck (checks springboards : ℕ) (x : Man) (t : ℕ) : Type 0 where
   pub off : same_kind x.kind King ≡ false → (bit_at checks t == 1) ≡ false
+  pub unsprung : (bit_at springboards t == 1) ≡ false
   pub plain : is_promoting x t ≡ false
 
--- the word has each square from which x checks the king on k over the hurdles
+-- the word has each square from which x checks the king on k: a hopper whoever else stands on the board, others over
+-- the hurdles
 pub record IsCheckWord (d k : ℕ) (x : Man) (w : ℕ) : Type 0 where
-  pub inside : (t : ℕ) → t < 64
+  pub hops : is_hopper (gait_of x.kind) ≡ true → AreApproached x k w
+  pub inside : is_hopper (gait_of x.kind) ≡ false → (t : ℕ) → t < 64
       → reached_over d (record { colour = other x.colour; kind = x.kind }) k t ≡ true
       → (bit_at w t == 1) ≡ true
 
@@ -191,8 +226,8 @@ pub record AreGuardsWithout (v : Siege) (s region : ℕ) (g : Guards) : Type 0 w
       → ((bit_at v.hurdles e == 1) ≡ true) × (s ≢ e)
   pub rides : (q : ℕ) (z : Man) → IsAttacker v.men z q → s ≢ q → is_rider z.kind ≡ true
       → IsNear z q region → IsReached hurdles z q g.ridden
-  pub guards : (q : ℕ) (z : Man) → IsAttacker v.men z q → s ≢ q → IsNear z q region
-      → IsReached hurdles z q g.guarded
+  pub guards : (q : ℕ) (z : Man) → IsAttacker v.men z q → s ≢ q
+      → is_hopper (gait_of z.kind) ≡ false → IsNear z q region → IsReached hurdles z q g.guarded
 
 -- they don't reach t then, and the defender who leaves a opens no line
 pub record IsUnguarded (v : Siege) (s a t : ℕ) : Type 0 where
@@ -203,9 +238,11 @@ pub record IsUnguarded (v : Siege) (s a t : ℕ) : Type 0 where
   pub shut : (bit_at v.hurdles a == 1) ≡ true → (bit_at guards.ridden a == 1) ≡ false
   pub off : (bit_at guards.guarded t == 1) ≡ false
 
--- after x goes from s to t, and the defender from a to b, a square of the field is left
+-- after x goes from s to t, and the defender from a to b, a square of the field is left, and no other man hops over x
 pub record IsFlight (v : Siege) (g : Field) (x : Man) (s a b t : ℕ) : Type 0 where
   pub plain : is_promoting x t ≡ false
+  pub unsprung : (q : ℕ) (z : Man) → IsAttacker v.men z q → s ≢ q
+      → is_hopper (gait_of z.kind) ≡ true → (bit_at g.hops t == 1) ≡ false
   pub square : ℕ
   pub left : IsLeft g.near x t square
   pub unguarded : IsUnguarded v s a square
@@ -226,9 +263,9 @@ IsMet v g x s targets a b t =
     ((bit_at v.enemies t == 1) ≡ true → b ≡ t)
     → (((bit_at targets t == 1) ≡ false) × IsUnguarded v s a g.king) ⊎ LeavesFlight v g x s a b t
 
--- x doesn't check from t, nor does he uncover a check
+-- x doesn't check from t, nor let a hopper check, nor does he uncover a check
 pub record IsQuiet (v : Siege) (g : Field) (checks : ℕ) (x : Man) (s a t : ℕ) : Type 0 where
-  pub check : IsNoCheck checks x t
+  pub check : IsNoCheck checks g.springboards x t
   pub covered : ((bit_at g.lines s == 1) ≡ false) ⊎ IsUnguarded v s a g.king
 
 -- wherever x goes from s, he gives no check or leaves a flight
@@ -241,11 +278,11 @@ pub record IsHarmless (v : Siege) (g : Field) (checks : ℕ) (r : Risk) (x : Man
     0 where
   pub mild : (a b : ℕ) → a < 64 → b < 64 → IsOff v.hurdles r a b → IsMild v g checks x s a b
 
--- and x on s, who may check from these squares, doesn't check now
+-- and x on s, who may check from these squares, doesn't check now, unless he is a hopper
 pub record IsWeakAt (v : Siege) (g : Field) (x : Man) (s a b : ℕ) : Type 0 where
   pub checks : ℕ
   pub word : IsCheckWord v.hurdles g.king x checks
-  pub off : (bit_at checks s == 1) ≡ false
+  pub off : is_hopper (gait_of x.kind) ≡ false → (bit_at checks s == 1) ≡ false
   pub mild : IsMild v g checks x s a b
 
 pub record IsWeak (v : Siege) (g : Field) (r : Risk) (x : Man) (s : ℕ) : Type 0 where
@@ -261,29 +298,45 @@ pub record AreAdjacent (v : Siege) (k w : ℕ) : Type 0 where
   pub free : (f : ℕ) → f < 64 → (bit_at w f == 1) ≡ true → (bit_at v.closed f == 1) ≡ false
   pub kings : (f : ℕ) → f < 64 → (bit_at w f == 1) ≡ true → (bit_at v.men.kings f == 1) ≡ false
 
--- the word has squares next to k, but none if an attacker stands on a closed square
+-- the word has squares next to k, but none if an attacker stands on a closed square, or is a hopper
 pub record AreCaptureSquares (v : Siege) (k w : ℕ) : Type 0 where
   pub next : (f : ℕ) → f < 64 → (bit_at w f == 1) ≡ true → list_any (leaps k f) queen_steps ≡ true
   pub off : (f s : ℕ) → (bit_at w f == 1) ≡ true → s < 64 → (bit_at v.enemies s == 1) ≡ true
       → (bit_at v.closed s == 1) ≡ false
+  pub plain : (f s : ℕ) (z : Man) → (bit_at w f == 1) ≡ true → IsAttacker v.men z s
+      → is_hopper (gait_of z.kind) ≡ false
 
--- the field of the king: such squares next to him, and those on which he may capture; his lines
+-- a rider, a nightrider only if the attackers have one
+abbrev pub MayRide : Siege → Kind → Type 0
+MayRide v k = (is_rider k ≡ true) × (same_kind k Nightrider ≡ true → v.men.nightriders ≢ 0)
+
+-- squares next to k which hoppers don't reach but over springboards; those of k, and those of all
+pub record AreSprings (v : Siege) (k : ℕ) (i : Springs) : Type 0 where
+  pub near : AreAdjacent v k i.near
+  pub unsprung : (f : ℕ) → f < 64 → (bit_at i.near f == 1) ≡ true → IsUnsprung v k f i.all
+  pub own : AreSpringboards v.men k i.own
+  pub within : (h : ℕ) → (bit_at i.own h == 1) ≡ true → (bit_at i.all h == 1) ≡ true
+
+-- the field of the king: such squares next to him, and those on which he may capture; his lines; springboards
 pub record IsField (v : Siege) (g : Field) : Type 0 where
-  pub near : AreAdjacent v g.king g.near
+  pub springs : AreSprings v g.king
+      (record { near = g.near; own = g.springboards; all = g.hops })
   pub captures : AreCaptureSquares v g.king g.captures
   pub straight : (c : Colour)
       → IsReached v.hurdles (record { colour = c; kind = Rook }) g.king g.straight
   pub diagonal : (c : Colour)
       → IsReached v.hurdles (record { colour = c; kind = Bishop }) g.king g.diagonal
-  pub lines : (c : Colour)
-      → IsReached v.hurdles (record { colour = c; kind = Queen }) g.king g.lines
+  pub lines : (c : Colour) (k : Kind) → MayRide v k
+      → IsReached v.hurdles (record { colour = c; kind = k }) g.king g.lines
 
--- no rook checks from a square to which he may castle, and no king leaves a line of the field
+-- no rook checks from a square to which he may castle, no king leaves a line of the field, and there is no fairy man
 pub record IsCastlingHarmless (v : Siege) (g : Field) : Type 0 where
   pub rooks : (h : ℕ) → h < 64 → (bit_at v.castled h == 1) ≡ true
       → is_on_some straight_steps g.king h ≡ false
   pub kings : (h s : ℕ) → s < 64 → (bit_at v.castled h == 1) ≡ true
       → (bit_at v.men.kings s == 1) ≡ true → (bit_at g.lines s == 1) ≡ false
+  pub fairies : (h s : ℕ) (x : Man) → (bit_at v.castled h == 1) ≡ true → IsAttacker v.men x s
+      → is_fairy x.kind ≡ false
 
 -- the risk of a defender whose king is on k: after each move without it no reply mates
 pub record IsRiskAt (v : Siege) (k : ℕ) (r : Risk) : Type 0 where
@@ -293,6 +346,10 @@ pub record IsRiskAt (v : Siege) (k : ℕ) (r : Risk) : Type 0 where
   pub castling : (b : ℕ) → b < 64 → (bit_at r.critical b == 1) ≡ false → IsCastlingHarmless v field
   pub lines : (a b : ℕ) → b < 64 → (bit_at r.critical b == 1) ≡ false
       → (bit_at r.lines a == 1) ≡ false → (bit_at field.lines a == 1) ≡ false
+  pub unsprung : (b : ℕ) → b < 64 → (bit_at r.critical b == 1) ≡ false
+      → IsUnsprung v field.king field.king field.springboards
+  pub hops : (b : ℕ) → b < 64 → (bit_at r.critical b == 1) ≡ false → b ≢ field.king
+      → (bit_at field.hops b == 1) ≡ false
   pub weak : (s : ℕ) (x : Man) → IsAttacker v.men x s → IsWeak v field r x s
 
 -- a siege of the same men by the same attackers

@@ -9,7 +9,6 @@ use Rattle.chess_core.specs.declared.man.Kind.TheVariants.{Pawn}
 use Rattle.chess_core.specs.declared.man.Man.{Man}
 use Rattle.chess_core.specs.declared.man.Move.{Move}
 use Rattle.chess_mates.specs.declared.siege.Siege.{Siege}
-use Rattle.chess_mates.specs.ties.Attackers.{HasNoFairy}
 use Rattle.chess_mates.specs.ties.Mates.{mates_behind}
 use Rattle.chess_mates.specs.ties.Siege.{IsSiege, IsSiegeOf, IsWhole}
 use Rattle.chess_core.specs.Steps.{pawn_capture_steps}
@@ -19,10 +18,9 @@ use Rattle.chess_rules.specs.Play.{capture_square, halfway, is_castling, is_doub
 use Rattle.chess_rules.specs.RuleSet.{RuleSet, captures_are_reborn, captures_do_more}
 use Rattle.chess_rules.specs.ties.Targets.{is_promoting, may_go}
 
--- threats are told: where all that captures do more is that men are reborn, against a side that has no fairy man
-pub record IsTold (rule : RuleSet) (p : Position) : Type 0 where
+-- threats are told: where all that captures do more is that men are reborn
+pub record IsTold (rule : RuleSet) : Type 0 where
   pub captures : captures_do_more rule ≡ true → captures_are_reborn rule ≡ true
-  pub fairies : HasNoFairy p.men (other p.turn)
 
 -- what is told of: a siege
 pub record ToldThreats : Type 0 where
@@ -30,7 +28,7 @@ pub record ToldThreats : Type 0 where
 
 -- it is that of this position
 pub record AreThreatsOf (rule : RuleSet) (p : Position) (t : ToldThreats) : Type 0 where
-  pub told : IsTold rule p
+  pub told : IsTold rule
   pub fits : IsSiegeOf rule p t.siege
   pub siege : IsSiege t.siege
   pub whole : IsWhole t.siege

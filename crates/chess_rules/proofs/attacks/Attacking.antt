@@ -1,17 +1,11 @@
 -- Attack looked for outward from the square.
-use Rattle.chess_rules.proofs.Basics.{Bool, List, Option, [], and_left, ap, arith, bit_and, bit_at, bit_or, false, false_from_ne_true, false≢true, inl, inr, list_any, list_any-append, not, or_left, or_right, refl, rules, sym, true, ℕ, ◌&&◌, ◌<◌, ◌==◌, ◌||◌, ◌∙◌, ◌∷◌, ◌≡◌}
-use Rattle.chess_rules.proofs.Chess.{Bishop, Colour, Grasshopper, Kind, King, Knight, Man, Nightrider, Pawn, Queen, Rook, RuleSet, Step, any_range_cases, diagonal_steps, differs, faces, faced_men_stand_still, faces_its_like, first_of_and, gait_of, hopped_from, is_ahead, is_attacked, is_man, is_on_some, is_paralysed, is_reached, is_of_colour, man_on, other, queen_steps, reaches, reaches_as, reaches_of, rides, same_colour-true, same_kind-true, second_of_and, some_square, some_square_false, some_square_true, squares, squares_both, squares_either, squares_of, squares_same, straight_steps, is_attacker, word, Hopper, any_kept, is_fairy_man, is_leaping_man, is_met}
-use Rattle.chess_rules.proofs.Bits.{not_zero, word_empty, word_has, word_lacks}
+use Rattle.chess_rules.proofs.Chess.{Bishop, Bool, Colour, Grasshopper, Hopper, Kind, King, Knight, List, Man, Nightrider, Option, Pawn, Queen, Rook, RuleSet, Step, [], and_left, any_kept, any_range_same, ap, arith, bit_and, bit_at, bit_or, diagonal_steps, differs, faced_men_stand_still, faces, faces_its_like, false, false_from_ne_true, false≢true, first_of_and, gait_of, hopped_from, hops, is_ahead, is_attacked, is_attacker, is_fairy_man, is_leaping_man, is_man, is_met, is_of_colour, is_on_some, is_paralysed, is_reached, list_any, list_any-append, man_on, not, not_zero, other, queen_steps, reaches, reaches_as, reaches_of, refl, rides, rules, same_colour-true, same_kind-true, second_of_and, some_square, squares, squares_both, squares_either, squares_of, squares_same, straight_steps, sym, true, word, word_empty, word_has, word_lacks, ℕ, ◌&&◌, ◌<◌, ◌==◌, ◌||◌, ◌∙◌, ◌∷◌, ◌≡◌}
 use Rattle.chess_rules.proofs.rays.Flips.{diagonal-back, hops-turned, queen_rides-back, reaches_back, straight-back}
 
 -- tests that agree on the squares
 pub some_square_same : (p q : ℕ → Bool) → ((s : ℕ) → s < 64 → p s ≡ q s) → some_square p ≡ some_square q
-some_square_same p q h = elim (any_range_cases p 0 64) [
-  | inl w ↦ some_square_true p w.0 (omega (arith, w.2)) w.3 ∙ sym (some_square_true q w.0 (omega (arith, w.2)) (sym (h w.0 (omega (arith, w.2))) ∙ w.3))
-  | inr none ↦
-      some_square_false p 64 (omega arith) (record { fails = λ s b. none s (omega arith) b })
-      ∙ sym (some_square_false q 64 (omega arith) (record { fails = λ s b. sym (h s b) ∙ none s (omega arith) b }))
-]
+unfolding some_square squares
+some_square_same p q h = any_range_same p q 0 64 (λ k lo hi. h k hi)
 
 -- a man, hoppers apart, reaches t from where its like of the other colour on t reaches
 pub comes_back : (men : List (Option Man)) (c e : Colour) (j : Kind) (t w : ℕ) → (gait_of j ≡ Hopper → ⊥) → t < 64 → w ≡ word (reaches_as men e j t)
@@ -29,17 +23,13 @@ reaches_of_man : (men : List (Option Man)) (o : Option Man) (c : Colour) (k : Ki
     → reaches_of men o s t ≡ reaches_as men c k s t
 reaches_of_man men o c k s t h = grind (arith, first_of_and, same_colour-true, same_kind-true, second_of_and)
 
-only_then : (a b c : Bool) → (a ≡ true → b ≡ c) → (a && b) ≡ (a && c)
-only_then a b c p = grind arith
-
 -- the men of a kind on the squares from which that kind reaches t
 pub reached : (men : List (Option Man)) (c : Colour) (k : Kind) (t w n : ℕ) → w ≡ squares_of men c k → n ≡ word (λ s. reaches_as men c k s t)
     → bit_and w n ≡ word (λ s. is_man (man_on men s) c k && reaches men s t)
 unfolding reaches squares_of
 reached men c k t w n h r =
     (λ j. bit_and (h j) (r j)) ∙ squares_both (λ s. is_man (man_on men s) c k) (λ s. reaches_as men c k s t)
-    ∙ squares_same _ _ (λ s b. only_then (is_man (man_on men s) c k) (reaches_as men c k s t) (reaches men s t)
-    (λ h. sym (reaches_of_man men (man_on men s) c k s t h)))
+    ∙ squares_same _ _ (λ s b. grind (arith, reaches_of_man men (man_on men s) c k s t))
 
 -- where no men of the kind stand, none reaches t
 pub reached_none : (men : List (Option Man)) (c : Colour) (k : Kind) (t w : ℕ) → w ≡ squares_of men c k → w ≡ 0
@@ -69,8 +59,7 @@ at_square men c o s t p q = search (rules, bishop_reaches, rook_reaches, p, q, l
 
 -- the riders of a kind and the queens on the squares to which a ride from t gets
 pub met : (men : List (Option Man)) (c : Colour) (k : Kind) (t m n w : ℕ) (ds : List Step) → m ≡ squares_of men c k → n ≡ squares_of men c Queen
-    → w ≡ word (λ s. list_any (rides men t s) ds)
-    → bit_and (bit_or m n) w ≡ word (is_met men c k ds t)
+    → w ≡ word (λ s. list_any (rides men t s) ds) → bit_and (bit_or m n) w ≡ word (is_met men c k ds t)
 unfolding squares_of is_met
 met men c k t m n w ds h i j = search (rules, squares_both, squares_either)
 
@@ -92,14 +81,11 @@ apart m l r p q = grind arith
 
 -- where none of them stands on a line from t, none is met
 pub met_none : (men : List (Option Man)) (c : Colour) (k : Kind) (t m n l : ℕ) (ds : List Step) → m ≡ squares_of men c k → n ≡ squares_of men c Queen
-    → l ≡ word (is_on_some ds t) → bit_and (bit_or m n) l ≡ 0
-    → 0 ≡ word (is_met men c k ds t)
+    → l ≡ word (is_on_some ds t) → bit_and (bit_or m n) l ≡ 0 → 0 ≡ word (is_met men c k ds t)
 unfolding squares_of is_met
 met_none men c k t m n l ds h i j z =
     let rider : ℕ → Bool = λ s. is_man (man_on men s) c k || is_man (man_on men s) c Queen in
-    let lined : word (λ s. rider s && is_on_some ds t s) ≡ 0 =
-    sym ((λ a. bit_and (bit_or (h a) (i a)) (j a)) ∙ (λ a. bit_and (squares_either (λ s. is_man (man_on men s) c k) (λ s. is_man (man_on men s) c Queen) a)
-    (word (is_on_some ds t))) ∙ squares_both rider (is_on_some ds t)) ∙ z in
+    let lined : word (λ s. rider s && is_on_some ds t s) ≡ 0 = search (rules, squares_both, squares_either) in
     word_empty _ (λ s b. apart (rider s) (is_on_some ds t s) (list_any (rides men t s) ds) (word_lacks (λ s. rider s && is_on_some ds t s) lined s b)
     (rides_some men t s ds))
 
@@ -125,32 +111,23 @@ pub leapers_are : (men : List (Option Man)) (c : Colour) (t k n p : ℕ) → k �
 leapers_are men c t k n p hk hn hp = search (rules, squares_either, squares_same, leaping_by_kind, hk, hn, hp)
 
 -- the men that reach t: leapers, riders on straight lines, on diagonals, and fairy men
-pub attackers_are : (men : List (Option Man)) (c : Colour) (t l r b f : ℕ) → t < 64
-    → l ≡ word (leaping_comer men c t)
-    → r ≡ word (is_met men c Rook straight_steps t)
-    → b ≡ word (is_met men c Bishop diagonal_steps t)
-    → f ≡ word (fairy_comer men c t)
+pub attackers_are : (men : List (Option Man)) (c : Colour) (t l r b f : ℕ) → t < 64 → l ≡ word (leaping_comer men c t)
+    → r ≡ word (is_met men c Rook straight_steps t) → b ≡ word (is_met men c Bishop diagonal_steps t) → f ≡ word (fairy_comer men c t)
     → bit_or (bit_or (bit_or l r) b) f ≡ word (λ s. is_of_colour (man_on men s) c && reaches men s t)
 unfolding reaches is_met
 attackers_are men c t l r b f q hl hr hb hf = search (rules, squares_either, squares_same, at_square, q, hl, hr, hb, hf)
 
-or_exchange : (a b c d : Bool) → ((a || b) || (c || d)) ≡ ((a || c) || (b || d))
-or_exchange a b c d = grind arith
-
 any_either : (p q : ℕ → Bool) (xs : List ℕ) → (list_any p xs || list_any q xs) ≡ list_any (λ s. p s || q s) xs
 any_either p q [] = refl
-any_either p q (x ∷ xs) = or_exchange (p x) (list_any p xs) (q x) (list_any q xs) ∙ ap (λ (b : Bool). (p x || q x) || b) (any_either p q xs)
+any_either p q (x ∷ xs) = grind (arith, any_either p q xs)
 
 some_either : (p q : ℕ → Bool) → (some_square p || some_square q) ≡ some_square (λ s. p s || q s)
 unfolding some_square
 some_either p q = any_either p q squares
 
 -- some man reaches t exactly if one of these words isn't 0
-pub some_reach : (men : List (Option Man)) (c : Colour) (t l r b f : ℕ) → t < 64
-    → l ≡ word (leaping_comer men c t)
-    → r ≡ word (is_met men c Rook straight_steps t)
-    → b ≡ word (is_met men c Bishop diagonal_steps t)
-    → f ≡ word (fairy_comer men c t)
+pub some_reach : (men : List (Option Man)) (c : Colour) (t l r b f : ℕ) → t < 64 → l ≡ word (leaping_comer men c t)
+    → r ≡ word (is_met men c Rook straight_steps t) → b ≡ word (is_met men c Bishop diagonal_steps t) → f ≡ word (fairy_comer men c t)
     → (((not (l == 0) || not (r == 0)) || not (b == 0)) || not (f == 0)) ≡ is_reached men t c
 unfolding reaches is_met is_reached
 some_reach men c t l r b f q hl hr hb hf = search (rules, not_zero, some_either, some_square_same, at_square, q, hl, hr, hb, hf)
@@ -158,23 +135,22 @@ some_reach men c t l r b f q hl hr hb hf = search (rules, not_zero, some_either,
 -- some leaper reaches t
 pub leap_reaches : (men : List (Option Man)) (c : Colour) (t l : ℕ) → t < 64 → l ≡ word (leaping_comer men c t) → (l ≡ 0 → ⊥) → true ≡ is_reached men t c
 leap_reaches men c t l q h some =
-    sym (or_left _ _ (or_left _ _ (or_left (not (l == 0)) _ (ap not (differs l 0 some)))))
-    ∙ some_reach men c t l (word (is_met men c Rook straight_steps t)) (word (is_met men c Bishop diagonal_steps t)) (word (fairy_comer men c t)) q h refl refl
-    refl
+    let reach = some_reach men c t l (word (is_met men c Rook straight_steps t)) (word (is_met men c Bishop diagonal_steps t)) (word (fairy_comer men c t)) in
+    grind (arith, reach q h refl refl refl, differs l 0 some)
 
 -- some rider along a straight line
 pub straight_reaches : (men : List (Option Man)) (c : Colour) (t r : ℕ) → t < 64 → r ≡ word (is_met men c Rook straight_steps t) → (r ≡ 0 → ⊥)
     → true ≡ is_reached men t c
 straight_reaches men c t r q h some =
-    sym (or_left _ _ (or_left _ _ (or_right (not (word (leaping_comer men c t) == 0)) (not (r == 0)) (ap not (differs r 0 some)))))
-    ∙ some_reach men c t (word (leaping_comer men c t)) r (word (is_met men c Bishop diagonal_steps t)) (word (fairy_comer men c t)) q refl h refl refl
+    let reach = some_reach men c t (word (leaping_comer men c t)) r (word (is_met men c Bishop diagonal_steps t)) (word (fairy_comer men c t)) in
+    grind (arith, reach q refl h refl refl, differs r 0 some)
 
 -- some rider along a diagonal
 pub diagonal_reaches : (men : List (Option Man)) (c : Colour) (t b : ℕ) → t < 64 → b ≡ word (is_met men c Bishop diagonal_steps t) → (b ≡ 0 → ⊥)
     → true ≡ is_reached men t c
 diagonal_reaches men c t b q h some =
-    sym (or_left _ _ (or_right _ (not (b == 0)) (ap not (differs b 0 some))))
-    ∙ some_reach men c t (word (leaping_comer men c t)) (word (is_met men c Rook straight_steps t)) b (word (fairy_comer men c t)) q refl refl h refl
+    let reach = some_reach men c t (word (leaping_comer men c t)) (word (is_met men c Rook straight_steps t)) b (word (fairy_comer men c t)) in
+    grind (arith, reach q refl refl h refl, differs b 0 some)
 
 -- a fairy man is of one of the fairy kinds
 fairy_by_kind : (o : Option Man) (c : Colour) (r : Bool) → ((is_man o c Grasshopper && r) || (is_man o c Nightrider && r)) ≡ (is_fairy_man o c && r)

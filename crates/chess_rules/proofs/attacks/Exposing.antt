@@ -1,10 +1,7 @@
 -- Whether a move leaves its mover in check, told by the men that an attack sees after it.
-use Rattle.chess_rules.proofs.Basics.{Bool, List, None, Option, Some, and_from, and_left, and_parts, and_right, ap, arith, bit_at, cases_Bool, cases_eq, cond-false, cond-true, eq-eqb, false, false_from_ne_true, false≢true, inl, inr, is_some, not, not-true, or_parts, rules, subst, sym, true, ℕ, ◌&&◌, ◌<◌, ◌==◌, ◌||◌, ◌∙◌, ◌≡◌}
-use Rattle.chess_rules.proofs.Chess.{AreArrived, AreOthers, AreSeen, Colour, IsWellFormed, Kind, King, Man, Move, Position, RuleSet, arriving_man, capture_square, differs, faces, faces_its_like, in_check, is_arrival_free, is_attacked, is_attacked_at, is_castling, captures_do_more, is_faced, faced_men_stand_still, is_man, is_paralysed, is_promotion_right, is_pseudo_legal, is_of_colour, is_simple, is_square, king_after, king_square, man_on, other, position_after, reaches, same_colour, same_colour-true, same_kind, sight_after, some_square, squares_both, squares_either, squares_not, squares_of, squares_same, word, same_colour-refl}
-use Rattle.chess_rules.specs.ties.Sight.{is_arriving_as, own_after}
+use Rattle.chess_rules.proofs.Chess.{AreArrived, AreOthers, AreSeen, Bool, Colour, IsWellFormed, Kind, King, List, Man, Move, None, Option, Position, RuleSet, Some, and_from, and_left, and_parts, ap, arith, arriving_man, bit_at, capture_square, captures_do_more, cases_Bool, cases_eq, cond-false, cond-true, differs, eq-eqb, faced_men_stand_still, faces, faces_its_like, false, false≢true, in_check, is_arrival_free, is_arriving_as, is_attacked, is_attacked_at, is_castling, is_man, is_of_colour, is_paralysed, is_promotion_right, is_pseudo_legal, is_simple, is_some, is_square, king_after, king_square, man_on, not, not-true, not_zero, or_parts, other, own_after, position_after, reaches, rules, same_colour, same_colour-refl, same_colour-true, same_kind, sight_after, some_square, squares_both, squares_either, squares_not, squares_of, squares_same, subst, sym, true, word, word_empty, word_has, ℕ, ◌&&◌, ◌<◌, ◌==◌, ◌||◌, ◌∙◌, ◌≡◌}
 use Rattle.chess_rules.specs.declared.sight.Sight.{Sight}
 use Rattle.chess_rules.proofs.attacks.Attacking.{attacked_by}
-use Rattle.chess_rules.proofs.Bits.{not_zero, word_empty, word_has}
 use Rattle.chess_rules.proofs.rays.Ends.{square_is}
 use Rattle.chess_rules.proofs.making_moves.Fits.{arrived, arriving_king, pawn_is_no_king, taken}
 use Rattle.chess_rules.proofs.making_moves.Pseudo.{IsMade, made}
@@ -47,17 +44,10 @@ faced_king king f h = (λ i. not (h i)) ∙ sym (ap (λ (k : Bool). not k && f) 
 
 -- an enemy man, if no king, is paralysed exactly if a mover's man of its kind reaches it
 pub paralysed_by : (rule : RuleSet) (before men : List (Option Man)) (x : Man) (m : Move) (v : Sight) (s : ℕ) (y : Man) (b : Bool)
-    → faced_men_stand_still rule ≡ true
-    → AreArrived before men x m v → is_of_colour (man_on men s) (other x.colour) ≡ true → man_on before s ≡ Some y
-    → b ≡ (not (same_kind y.kind King) && some_square (λ q. is_man (man_on men q) x.colour y.kind && reaches men q s))
-    → b ≡ is_paralysed rule men s
+    → faced_men_stand_still rule ≡ true → AreArrived before men x m v → is_of_colour (man_on men s) (other x.colour) ≡ true → man_on before s ≡ Some y
+    → b ≡ (not (same_kind y.kind King) && some_square (λ q. is_man (man_on men q) x.colour y.kind && reaches men q s)) → b ≡ is_paralysed rule men s
 unfolding is_paralysed
-paralysed_by rule before men x m v s y b is are side at h =
-    let there : man_on men s ≡ Some y = are.others s side ∙ at in
-    let mine : same_colour y.colour (other x.colour) ≡ true = ap (λ (o : Option Man). is_of_colour o (other x.colour)) (sym there) ∙ side in
-    h ∙ ap (λ (f : Bool). not (same_kind y.kind King) && f) (faced_is men x.colour y s mine)
-    ∙ sym (ap (λ (o : Option Man). is_faced men o s) there)
-    ∙ sym (ap (λ (a : Bool). a && is_faced men (man_on men s) s) is)
+paralysed_by rule before men x m v s y b is are side at h = grind (arith, are.others s side, faced_is men x.colour y s)
 
 -- outside Madrasi nobody is paralysed
 pub none_paralysed : (rule : RuleSet) (men : List (Option Man)) (s : ℕ) → faced_men_stand_still rule ≡ false → false ≡ is_paralysed rule men s
@@ -73,9 +63,9 @@ goes_capturing : (rule : RuleSet) (p : Position) (x : Man) (m : Move) → IsWell
     → IsCapture p.men m.from (capture_square p x m) m.to (arriving_man x m.promo) p.turn
 goes_capturing rule p x m well is small = search (rules, captures_arrival, other_differs)
 
--- the king after the move
-free_of_king : (c : Colour) (o : Option Man) → is_arrival_free c o ≡ true → is_man o c King ≡ false
-free_of_king c o h = grind (arith, and_left, and_parts, not-true)
+-- on a free arrival stands no man of the mover's
+pub free_of_own : (c : Colour) (k : Kind) (o : Option Man) → is_arrival_free c o ≡ true → is_man o c k ≡ false
+free_of_own c k o h = grind (arith, and_left, not-true, and_parts)
 
 -- a king isn't promoted
 pub king_stays_king : (p : Position) (x : Man) (m : Move) (r : Option Kind) → is_promotion_right p x m r ≡ true → same_kind x.kind King ≡ true
@@ -86,15 +76,10 @@ goes_without_king : (rule : RuleSet) (p : Position) (x : Man) (m : Move) → IsW
     → IsNoKing p.men m.from (capture_square p x m) m.to (arriving_man x m.promo) p.turn
 goes_without_king rule p x m well is small other_man = record {
   small = omega (arith, small, well.size);
-  here = ap (λ (o : Option Man). is_man o p.turn King) is.here ∙ and_right (same_colour x.colour p.turn) _ other_man;
-  comes = false_from_ne_true _ (λ h.
-      let king : same_kind (arriving_man x m.promo).kind King ≡ true = (and_parts (same_colour (arriving_man x m.promo).colour p.turn) _ h).1 in
-      let same : arriving_man x m.promo ≡ x = arriving_king p x m m.promo is.promotion king in
-      false≢true (sym other_man ∙ ap (λ (y : Man). same_kind y.kind King) (sym same) ∙ king));
-  arrival = free_of_king p.turn (man_on p.men m.to) is.arrival;
-  captured = λ s at.
-      let t = taken rule p x m s well is (square_is (capture_square p x m) s at) in
-      ap (λ (o : Option Man). is_man o p.turn King) t.there ∙ and_right (same_colour t.man.colour p.turn) _ t.mortal;
+  here = grind (arith, is.here);
+  comes = grind (arith, and_parts, arriving_king p x m m.promo is.promotion);
+  arrival = free_of_own p.turn King (man_on p.men m.to) is.arrival;
+  captured = λ s at. grind (arith, taken rule p x m s well is (square_is (capture_square p x m) s at));
 }
 
 -- where a king stands once a man has moved
@@ -128,34 +113,17 @@ own_gone mine o a k b p q = grind arith
 own_there : (mine o a k b : Bool) → mine ≡ false → b ≡ true → (((mine && not o) && not a) || (k && b)) ≡ k
 own_there mine o a k b p q = grind arith
 
-free_of_own : (c : Colour) (k : Kind) (o : Option Man) → is_arrival_free c o ≡ true → is_man o c k ≡ false
-free_of_own c k o h = grind (arith, and_left, not-true, and_parts)
+ruleset own_cases = (own_elsewhere, own_gone, own_there)
 
 own_on : (rule : RuleSet) (p : Position) (x : Man) (m : Move) (k : Kind) (s : ℕ) → IsWellFormed p → IsMade rule p x m → m.to < 64
     → (((is_man (man_on p.men s) x.colour k && not (is_square (capture_square p x m) s)) && not (is_square (Some m.from) s)) || is_arriving_as x m k s)
     ≡ is_man (man_on (arrived p x m) s) x.colour k
-own_on rule p x m k s well is small = elim (cases_eq s m.to) [
-  | inl e ↦
-      let there : man_on (arrived p x m) s ≡ Some (arriving_man x m.promo) = ap (man_on (arrived p x m)) e
-      ∙ there_now p.men m.from (capture_square p x m) m.to (arriving_man x m.promo) (omega (arith, small, well.size)) in
-      let free : is_man (man_on p.men s) x.colour k ≡ false =
-      (λ j. is_man (man_on p.men (e j)) (is.mine j) k) ∙ free_of_own p.turn k (man_on p.men m.to) is.arrival in
-      own_there (is_man (man_on p.men s) x.colour k) _ _ (same_kind (arriving_man x m.promo).kind k) (is_square (Some m.to) s) free (eq-eqb m.to s (sym e))
-      ∙ sym (ap (λ (o : Option Man). is_man o x.colour k) there
-      ∙ ap (λ (y : Bool). y && same_kind (arriving_man x m.promo).kind k)
-      (ap (λ (c : Colour). same_colour c x.colour) (arriving_colour x m.promo) ∙ same_colour-refl x.colour))
-  | inr ne ↦
-      let off : is_square (Some m.to) s ≡ false = differs m.to s (λ e. ne (sym e)) in
-      elim (cases_Bool (is_square (Some m.from) s || is_square (capture_square p x m) s)) [
-        | inl y ↦
-            own_gone (is_man (man_on p.men s) x.colour k) _ _ (same_kind (arriving_man x m.promo).kind k) (is_square (Some m.to) s) y off
-            ∙ sym (ap (λ (o : Option Man). is_man o x.colour k) (left_now p.men m.from (capture_square p x m) m.to (arriving_man x m.promo) s ne y))
-        | inr n ↦
-            let parts = or_parts (is_square (Some m.from) s) (is_square (capture_square p x m) s) n in
-            own_elsewhere (is_man (man_on p.men s) x.colour k) _ _ (same_kind (arriving_man x m.promo).kind k) (is_square (Some m.to) s) parts.1 parts.0 off
-            ∙ sym (ap (λ (o : Option Man). is_man o x.colour k) (kept_now p.men m.from (capture_square p x m) m.to (arriving_man x m.promo) s ne n))
-      ]
-]
+own_on rule p x m k s well is small =
+    let gone = cases_Bool (is_square (Some m.from) s || is_square (capture_square p x m) s) in
+    let there = there_now p.men m.from (capture_square p x m) m.to (arriving_man x m.promo) (omega (arith, small, well.size)) in
+    let free = free_of_own p.turn k (man_on p.men m.to) is.arrival in
+    let colour = arriving_colour x m.promo in
+    grind (arith, cases_eq s m.to, gone, there, left_now, kept_now, colour, same_colour-refl, free, is.mine, own_cases, or_parts, differs, eq-eqb)
 
 others_on : (rule : RuleSet) (p : Position) (x : Man) (m : Move) (s : ℕ) → IsWellFormed p → IsMade rule p x m → m.to < 64
     → is_of_colour (man_on (arrived p x m) s) (other x.colour) ≡ true → man_on (arrived p x m) s ≡ man_on p.men s
@@ -175,8 +143,7 @@ are_arrived rule p x m well is small = search (rules, seen_after, goes_capturing
 -- a square is attacked after a move exactly if a man of the word of those that reach it isn't paralysed
 pub attacked_after : (rule : RuleSet) (men : List (Option Man)) (c : Colour) (t w : ℕ) (b : Bool)
     → w ≡ word (λ s. is_of_colour (man_on men s) (other c) && reaches men s t)
-    → (AreOthers men c w → b ≡ some_square (λ s. bit_at w s == 1 && not (is_paralysed rule men s)))
-    → b ≡ is_attacked rule men t (other c)
+    → (AreOthers men c w → b ≡ some_square (λ s. bit_at w s == 1 && not (is_paralysed rule men s))) → b ≡ is_attacked rule men t (other c)
 attacked_after rule men c t w b are free = search (rules, and_parts, word_has, attacked_by, are, free)
 
 -- the mover is in check exactly if the king's square is attacked then

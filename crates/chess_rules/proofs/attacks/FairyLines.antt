@@ -1,11 +1,7 @@
 -- Lines of grasshoppers and nightriders to a square: what stands elsewhere changes nothing on them.
-use Rattle.chess_rules.proofs.Basics.{Bool, List, None, Option, Some, [], and_from, and_left, and_right, ap, arith, bit_and, bit_or, eq-eqb, false, false_from_ne_true, false≢true, list_any, not, or_cases, or_left, or_parts, or_right, refl, rules, sym, true, ℕ, ◌&&◌, ◌-◌, ◌<◌, ◌==◌, ◌||◌, ◌∙◌, ◌∷◌, ◌≡◌, ◌≤◌, ◌⊎◌}
-use Rattle.chess_rules.proofs.Chess.{Colour, Direction, East, EastNorthEast, EastSouthEast, Grasshopper, Kind, Man, Nightrider, North, NorthEast, NorthNorthEast, NorthNorthWest, NorthWest, South, SouthEast, SouthSouthEast, SouthSouthWest, SouthWest, Step, West, WestNorthWest, WestSouthWest, along, any_range_true}
-use Rattle.chess_rules.proofs.Chess.{has_fairy, hops, is_ahead, is_lined, is_man, is_occupied, is_on_fairy_line, is_on_fairy_line_at, is_square, king_square, knight_steps, man_on, may_stand_between, other, place, queen_steps, ray, rides, some_square, some_square_false, some_square_true}
-use Rattle.chess_rules.proofs.Chess.{squares_both, squares_either, squares_of, squares_same, step_of, word}
+use Rattle.chess_rules.proofs.Chess.{Bool, Colour, Direction, East, EastNorthEast, EastSouthEast, Grasshopper, Kind, List, Man, Nightrider, None, North, NorthEast, NorthNorthEast, NorthNorthWest, NorthWest, Option, Some, South, SouthEast, SouthSouthEast, SouthSouthWest, SouthWest, Step, West, WestNorthWest, WestSouthWest, [], along, and_from, and_left, and_right, any_range_true, ap, arith, bit_and, bit_or, eq-eqb, false, false_from_ne_true, false≢true, has_fairy, hops, is_ahead, is_lined, is_man, is_occupied, is_on_fairy_line, is_on_fairy_line_at, is_square, king_square, knight_steps, list_any, man_on, may_stand_between, not, not_zero, or_cases, or_left, or_parts, or_right, other, place, queen_steps, ray, refl, rides, rules, some_square, some_square_false, some_square_true, squares_both, squares_either, squares_of, squares_same, step_of, sym, true, word, word_empty, ℕ, ◌&&◌, ◌-◌, ◌<◌, ◌==◌, ◌||◌, ◌∙◌, ◌∷◌, ◌≡◌, ◌≤◌, ◌⊎◌}
 use Rattle.chess_rules.proofs.rays.Ahead.{ordered}
 use Rattle.chess_rules.proofs.attacks.Attacking.{some_square_same}
-use Rattle.chess_rules.proofs.Bits.{not_zero, word_empty}
 use Rattle.chess_rules.proofs.rays.Ends.{back, mirrored, square_is, stays}
 use Rattle.chess_rules.proofs.rays.Ways.{hop-found, hop-made, ride-found, ride-made}
 use Rattle.chess_rules.proofs.rays.Flips.{backward}
@@ -33,10 +29,6 @@ IsBeside a s k d = (n i : ℕ) → along s d n ≡ Some k → 1 ≤ i → i < n 
 abbrev pub IsNoHurdle : ℕ → ℕ → ℕ → Step → Type 0
 IsNoHurdle a s k d = (n : ℕ) → along s d n ≡ Some k → 2 ≤ n → n ≤ 7 → is_square (along s d (n - 1)) a ≡ false
 
--- where a lies off the line on which s lies
-off_line : (a s k : ℕ) (d : Step) → s < 64 → (is_ahead k (back d) s ≡ true → is_ahead k (back d) a ≡ false) → IsBeside a s k d
-off_line a s k d small off = grind (arith, false_from_ne_true, false≢true, its_own, ahead_on)
-
 -- a ride from s to k is one before a man left a, off the line
 pub ride_kept : (men after : List (Option Man)) (a s k : ℕ) (d : Step) → Frees after men a → IsBeside a s k d → rides after s k d ≡ true
     → rides men s k d ≡ true
@@ -45,16 +37,7 @@ ride_kept men after a s k d i beside h = let w = ride-found after s k d h in rid
 -- a hop from s to k is one before a man left a, off the line, and another came to b, which is off it between them
 pub hop_kept : (men after : List (Option Man)) (a b s k : ℕ) (d : Step) → Frees after men a → Holds after men b → IsBeside a s k d → IsNoHurdle b s k d
     → hops after s k d ≡ true → hops men s k d ≡ true
-hop_kept men after a b s k d i o beside none_there h =
-    let w = hop-found after s k d h in
-    let le : w.0 ≤ 7 = omega (arith, w.1.high) in
-    hop-made men s k d w.0 (record {
-      low = w.1.low;
-      high = w.1.high;
-      at = w.1.at;
-      hurdle = o.occupied (along s d (w.0 - 1)) w.1.hurdle (none_there w.0 w.1.at w.1.low le);
-      free = λ j lo hi. i.vacant (along s d j) (w.1.free j lo hi) (beside w.0 j w.1.at lo (omega (arith, hi)) le);
-    })
+hop_kept men after a b s k d i o beside none_there h = let w = hop-found after s k d h in hop-made men s k d w.0 (grind arith)
 
 -- the eight directions of a queen
 abbrev pub queen_directions : List Direction
@@ -86,10 +69,10 @@ module _ (men after : List (Option Man)) (e : Colour) (a b k s : ℕ) (i : Frees
   unlined j q t d off inside man ahead = search (rules, false_from_ne_true, false≢true, and_from, some_square_true)
 
   beside : (j : Kind) (d : Step) → WasThere men e j a b s → is_lined men e j k a (back d) ≡ false → IsBeside a s k d
-  beside j d was off = grind (arith, off_line a s k d small, unlined, false_from_ne_true, false≢true)
+  beside j d was off = grind (arith, its_own, ahead_on, unlined, false_from_ne_true, false≢true)
 
   no_hurdle : (x : Direction) → WasThere men e Grasshopper a b s → is_lined men e Grasshopper k b (back (step_of x)) ≡ false → IsNoHurdle b s k (step_of x)
-  no_hurdle x was off = grind (arith, off_line, unlined, false_from_ne_true, once, stays s (step_of x) small, square_is)
+  no_hurdle x was off = grind (arith, its_own, ahead_on, unlined, false_from_ne_true, false≢true, once, stays s (step_of x) small, square_is)
 
   -- a grasshopper that stands where it stood hops as it hopped, and one that has come from a as it would have hopped
   pub hopper_before : Holds after men b → WasThere men e Grasshopper a b s → list_any (is_lined men e Grasshopper k a) queen_steps ≡ false
@@ -97,8 +80,7 @@ module _ (men after : List (Option Man)) (e : Colour) (a b k s : ℕ) (i : Frees
       ≡ true
   hopper_before o was p q h =
       any_off queen_directions (λ x. hops after s k (step_of x)) (λ x. hops men s k (step_of x)) (λ x. is_lined men e Grasshopper k a (back (step_of x)))
-      (λ x. is_lined men e Grasshopper k b (back (step_of x)))
-      (λ x u v hop. hop_kept men after a b s k (step_of x) i o (beside Grasshopper (step_of x) was u) (no_hurdle x was v) hop)
+      (λ x. is_lined men e Grasshopper k b (back (step_of x))) (search (rules, hop_kept, beside, no_hurdle))
       (backward queen_steps (is_lined men e Grasshopper k a) refl ∙ p) (backward queen_steps (is_lined men e Grasshopper k b) refl ∙ q) h
 
   -- and so for nightriders
@@ -140,12 +122,8 @@ no_man_lined : (men : List (Option Man)) (e : Colour) (j : Kind) (k t : ℕ) (ds
     → list_any (is_lined men e j k t) ds ≡ false
 no_man_lined men e j k t [] h = refl
 no_man_lined men e j k t (d ∷ ds) h =
-    let nobody : some_square (λ q. is_man (man_on men q) e j && is_ahead k d q) ≡ false =
-    some_square_false (λ q. is_man (man_on men q) e j && is_ahead k d q) 64 (omega arith) (record {
-      fails = λ q lt. and_left (is_man (man_on men q) e j) _ (none_of (λ s. is_man (man_on men s) e j) q h lt);
-    }) in
-    let first : is_lined men e j k t d ≡ false = and_right (is_ahead k d t) _ nobody in
-    (λ i. first i || no_man_lined men e j k t ds h i)
+    let nobody = some_square_false (λ q. is_man (man_on men q) e j && is_ahead k d q) 64 in
+    grind (arith, nobody, and_left, none_of (λ s. is_man (man_on men s) e j), no_man_lined men e j k t ds h, and_right)
 
 no_line : (men : List (Option Man)) (e : Colour) (k t : ℕ) → has_fairy men e ≡ false → is_on_fairy_line men e k t ≡ false
 unfolding has_fairy is_on_fairy_line

@@ -1,8 +1,6 @@
 -- The men that an attack sees once a move is made.
-use Rattle.chess_rules.proofs.Basics.{Bool, List, None, Option, Some, and_left, ap, arith, bit_and, bit_not, cases_Bool, cases_eq, eq-eqb, eqb-true, false, false≢true, inl, inr, is_some, length, not, or_cases, or_parts, or_right, refl, rules, true, w64, ℕ, ◌&&◌, ◌<◌, ◌||◌, ◌∙◌, ◌≡◌, ◌≢◌}
-use Rattle.chess_rules.proofs.Chess.{AreSeen, Colour, Kind, King, Man, differs, is_man, is_of_colour, is_square, king_square, man_on, man_on-with_other, man_on-without_other, man_on-without_same, other, same_colour, sight_after, squares, squares_both, squares_either, squares_not, squares_of, squares_same, with_man, without_at, without_man, word}
+use Rattle.chess_rules.proofs.Chess.{AreSeen, Bool, Colour, Kind, King, List, Man, None, Option, Some, and_left, ap, arith, bit_and, bit_not, cases_Bool, cases_eq, differs, eq-eqb, eqb-true, every_square, false, false≢true, is_man, is_of_colour, is_some, is_square, king_square, length, man_on, man_on-with_other, man_on-without_other, man_on-without_same, not, or_cases, or_parts, or_right, other, refl, rules, same_colour, sight_after, squares, squares_both, squares_either, squares_not, squares_of, squares_same, true, w64, with_man, without_at, without_man, word, ℕ, ◌&&◌, ◌<◌, ◌||◌, ◌∙◌, ◌≡◌, ◌≢◌}
 use Rattle.chess_rules.proofs.making_moves.Plays.{stays_empty}
-use Rattle.chess_rules.proofs.Bits.{every_square}
 
 and_true : (a : Bool) → (a && true) ≡ a
 and_true a = grind arith
@@ -15,8 +13,7 @@ is_occupied_after men a o b s = (is_some (man_on men s) && not (is_square (Some 
 pub seen_now : (men : List (Option Man)) (c : Colour) (k : Kind) → bit_and (squares_of men c k) (bit_not w64 0) ≡ squares_of men c k
 unfolding squares_of
 seen_now men c k =
-    ap (bit_and (word (λ s. is_man (man_on men s) c k))) (every_square (λ s. true) (λ s b. refl))
-    ∙ squares_both (λ s. is_man (man_on men s) c k) (λ s. true)
+    ap (bit_and (word (λ s. is_man (man_on men s) c k))) (every_square (λ s. true) (λ s b. refl)) ∙ squares_both (λ s. is_man (man_on men s) c k) (λ s. true)
     ∙ squares_same _ _ (λ s b. and_true (is_man (man_on men s) c k))
 
 -- the words after a move, by tests
@@ -38,11 +35,9 @@ gone_at men o q h = grind (arith, false≢true, eqb-true, man_on-without_same)
 pub left_now : (men : List (Option Man)) (a : ℕ) (o : Option ℕ) (b : ℕ) (z : Man) (q : ℕ) → q ≢ b → (is_square (Some a) q || is_square o q) ≡ true
     → man_on (gone_to men a o b z) q ≡ None
 left_now men a o b z q ne h =
-    man_on-with_other (without_at (without_man men a) o) b q z ne
-    ∙ elim (or_cases (is_square (Some a) q) (is_square o q) h) [
-      | inl y ↦ stays_empty (without_man men a) o q (gone_at men (Some a) q y)
-      | inr y ↦ gone_at (without_man men a) o q y
-    ]
+    let left = without_man men a in
+    let beside = man_on-with_other (without_at left o) b q z ne in
+    grind (arith, beside, or_cases (is_square (Some a) q), stays_empty left o q, gone_at men (Some a) q, gone_at left o q)
 
 -- every other square is as it was
 pub kept_now : (men : List (Option Man)) (a : ℕ) (o : Option ℕ) (b : ℕ) (z : Man) (q : ℕ) → q ≢ b → (is_square (Some a) q || is_square o q) ≡ false

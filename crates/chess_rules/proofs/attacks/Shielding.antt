@@ -1,12 +1,7 @@
 -- A plain move from a square that a queen on the king's doesn't see opens no line to the king.
-use Rattle.chess_rules.proofs.Basics.{Bool, List, None, Option, Some, [], and_from, and_parts, and_right, ap, arith, bit_at, bit_not, bit_or, cases_Bool, cases_eq, cond-false, cond-true, eq-eqb, false, false_from_ne_true, false≢true, inl, inr, length, list_any, list_any-append, not, not-true, or_cases, or_left, or_parts, or_right, refl, rules, sym, true, w64, ℕ, ◌&&◌, ◌<◌, ◌==◌, ◌||◌, ◌∙◌, ◌∷◌, ◌≡◌, ◌≢◌}
-use Rattle.chess_rules.proofs.Chess.{AtMostOneKing, Bishop, Colour, Direction, East, Grasshopper, IsWellFormed, Kind, King, Man, Move, Nightrider, North, NorthEast, NorthWest, Position, Queen, Rook, RuleSet, South, SouthEast, SouthWest, Step, Straight, West, position_after_by, arriving_man, capture_square, is_attacked, is_attacked_at, position_after}
-use Rattle.chess_rules.proofs.Chess.{diagonal_steps, differs, find_first, has_fairy, hops, in_check, is_behind, is_castling, is_checker, is_checker_at, captures_do_more, is_man, is_on_fairy_line, is_on_fairy_line_at, is_on_some, is_plain, is_promotion_right, is_reached, is_shut, is_of_colour, is_square, is_vacant_at, king_square, knight_steps, man_on}
-use Rattle.chess_rules.proofs.Chess.{is_paralysed, is_pseudo_legal, may_expose, may_expose_at, may_stand_between, moved_men, other, queen_steps, reaches, reaches_as, reborn_square, rider_along, rides, same_colour, same_kind, some_square_false, some_square_true, squares, squares_either, squares_of, squares_same, step_of, steps_along, straight_steps, is_attacker, word, any_kept, cannot_expose, find_square_some, second_fails}
+use Rattle.chess_rules.proofs.Chess.{AtMostOneKing, Bishop, Bool, Colour, Diagonal, Direction, East, Grasshopper, IsWellFormed, Kind, King, List, Man, Move, Nightrider, None, North, NorthEast, NorthWest, Option, Position, Queen, Rook, RuleSet, Some, South, SouthEast, SouthWest, Step, Straight, West, [], and_from, and_parts, and_right, any_kept, ap, arith, arriving_man, bit_at, bit_not, bit_or, cannot_expose, capture_square, captures_do_more, cases_Bool, cases_eq, cond-false, cond-true, diagonal_steps, differs, eq-eqb, every_square, false, false_from_ne_true, false≢true, find_first, find_square_some, has_fairy, hops, in_check, inl, inr, is_attacked, is_attacked_at, is_attacker, is_behind, is_castling, is_checker, is_checker_at, is_man, is_of_colour, is_on_fairy_line, is_on_some, is_plain, is_promotion_right, is_pseudo_legal, is_reached, is_shut, is_square, king_square, knight_steps, length, list_any, list_any-append, man_on, may_expose, may_expose_at, may_stand_between, moved_men, not, not-true, not_zero, or_cases, or_left, or_parts, or_right, other, position_after, position_after_by, queen_steps, reaches, reaches_as, reborn_square, refl, rider_along, rides, rules, same_colour, same_kind, second_fails, some_square_false, some_square_true, squares, squares_either, squares_of, squares_same, step_of, steps_along, straight_steps, sym, true, w64, word, word_empty, word_has, ℕ, ◌&&◌, ◌<◌, ◌==◌, ◌||◌, ◌∙◌, ◌∷◌, ◌≡◌, ◌≢◌}
 use Rattle.chess_rules.specs.declared.shields.RiderLines.{RiderLines}
-use Rattle.chess_rules.specs.declared.shields.RiderLines.TheVariants.{Diagonal}
 use Rattle.chess_rules.proofs.rays.Ends.{square_is}
-use Rattle.chess_rules.proofs.Bits.{not_zero, word_empty, word_has, every_square}
 use Rattle.chess_rules.proofs.attacks.FairyLines.{Holds, WasThere, fairy_parts, hopper_before, nightrider_before, once, ride_kept}
 use Rattle.chess_rules.proofs.making_moves.Fits.{arrived, arriving_king}
 use Rattle.chess_rules.proofs.rays.Flips.{backward, opposed, rides_turned}
@@ -89,12 +84,9 @@ king_is men c k one small h =
     })
 
 module _ (men after : List (Option Man)) (a b : ℕ) (z : Man) (i : IsShift men after a b z) where
-  stays_vacant : (o : Option ℕ) → is_vacant_at after o ≡ true → is_square o a ≡ false → is_vacant_at men o ≡ true
-  stays_vacant o h ne = grind (arith, none_from_is_some, not-true, eq-eqb)
-
   -- what is empty after a shift was empty before, the origin apart
   pub frees : Frees after men a
-  frees = record { vacant = stays_vacant }
+  frees = grind (arith, none_from_is_some, not-true, eq-eqb)
 
   -- what stands now stood before, the arrival apart
   pub stood : Holds after men b
@@ -109,8 +101,7 @@ module _ (men after : List (Option Man)) (a b : ℕ) (z : Man) (i : IsShift men 
   rode_there Diagonal k h = rode (NorthEast ∷ SouthEast ∷ NorthWest ∷ SouthWest ∷ []) k h
 
   -- a rider's line that is open after a shift was open before, unless the origin shut it
-  pub line_before : (l : RiderLines) (k s : ℕ) → s < 64 → k < 64
-      → (is_on_some (steps_along l) k s ≡ true → IsParted men a k s (steps_along l) → ⊥)
+  pub line_before : (l : RiderLines) (k s : ℕ) → s < 64 → k < 64 → (is_on_some (steps_along l) k s ≡ true → IsParted men a k s (steps_along l) → ⊥)
       → list_any (rides after s k) (steps_along l) ≡ true → list_any (rides men s k) (steps_along l) ≡ true
   unfolding is_on_some
   line_before l k s p q never h = grind (arith, opposed_along, rides_turned, line_open, frees, goes_on, rode_there, backward)
@@ -133,10 +124,8 @@ module _ (men after : List (Option Man)) (a b : ℕ) (z : Man) (i : IsShift men 
 
   module _ (c : Colour) (k : ℕ) (g : IsCovered men c a k) (q : k < 64) (f : is_on_fairy_line men (other c) k b ≡ false) where
     -- a fairy man of the enemy's among those that are looked at
-    unshut : (s : ℕ) (j : Kind) → s < 64
-        → ((l : RiderLines) → (same_kind j (rider_along l) || same_kind j Queen) ≡ true → is_on_some (steps_along l) k s ≡ true
-        → IsParted men a k s (steps_along l) → ⊥)
-        → ((d : Kind) → same_kind j d ≡ true → WasThere men (other c) d a b s) → NoneShut men after a k s j
+    unshut : (s : ℕ) (j : Kind) → s < 64 → ((l : RiderLines) → (same_kind j (rider_along l) || same_kind j Queen) ≡ true → is_on_some (steps_along l) k s ≡ true
+        → IsParted men a k s (steps_along l) → ⊥) → ((d : Kind) → same_kind j d ≡ true → WasThere men (other c) d a b s) → NoneShut men after a k s j
     unshut s j p lines was =
         let left = fairy_parts men (other c) k a g.unlined in
         let come = fairy_parts men (other c) k b f in
@@ -153,35 +142,28 @@ module _ (men after : List (Option Man)) (a b : ℕ) (z : Man) (i : IsShift men 
     checks_before s None at p ne side h = cc
     checks_before s (Some y) at p ne side h =
         let there : man_on men s ≡ Some y = i.others s y at ne in
-        let of : (j : Kind) → same_kind y.kind j ≡ true → is_man (man_on men s) (other c) j ≡ true = search (rules, and_from) in
         let rider : (j : Kind) → (same_kind y.kind j || same_kind y.kind Queen) ≡ true
         → (is_man (man_on men s) (other c) j || is_man (man_on men s) (other c) Queen) ≡ true = search rules in
-        let none =
-        unshut s y.kind p (λ l h on both. not_parted men a k s (other c) (rider_along l) (steps_along l) (shut men c a k l g) (rider (rider_along l) h)
-        p on both) (λ d is. inl (of d is)) in
-        let mine : is_of_colour (man_on men s) (other c) ≡ true = rw there side in
-        let then : reaches men s k ≡ true = rw there (reaches_before y.colour k s y.kind p q none (rw at at h)) in
-        and_from _ _ mine then
+        let none = unshut s y.kind p (λ l h on both. not_parted men a k s (other c) (rider_along l) (steps_along l) (shut men c a k l g)
+        (rider (rider_along l) h) p on both) (λ d is. inl (search (rules, and_from))) in
+        grind (arith, there, reaches_before y.colour k s y.kind p q none, side, h, at)
 
     -- no man reached the king from its origin
     attacked_from : a < 64 → man_on men a ≡ Some z → same_colour z.colour (other c) ≡ true → reaches_as men z.colour z.kind a k ≡ true → ⊥
     unfolding is_reached reaches
     attacked_from small here side h = search (rules, false≢true, some_square_true, and_from, small, here, side, h)
 
-    arrival_strikes : (o : Option Man) → man_on after b ≡ o → IsQuiet men c a b k z → b < 64 → is_of_colour o (other c) ≡ true
-        → reaches after b k ≡ true → ⊥
+    arrival_strikes : (o : Option Man) → man_on after b ≡ o → IsQuiet men c a b k z → b < 64 → is_of_colour o (other c) ≡ true → reaches after b k ≡ true → ⊥
     unfolding reaches
     arrival_strikes None at l p side h = cc
     arrival_strikes (Some y) at l p side h =
         let is : y ≡ z = i.arrived y at in
         let mine : same_colour z.colour (other c) ≡ true = ap (λ (x : Man). same_colour x.colour (other c)) (sym is) ∙ side in
-        let now : reaches_as after y.colour y.kind b k ≡ true = rw at at h in
         let here = l.stood mine in
         let none = unshut b z.kind p (λ d h on both. attacked_from here.1 here.0 mine
         (rider_reaches men z.colour d z.kind a k h (rides_turned (steps_along d) men a k (opposed_along d) here.1 q ∙ both.0)))
         (λ d is. inr (refl, here.1, ap (λ (o : Option Man). is_man o (other c) d) here.0 ∙ and_from _ _ mine is)) in
-        false≢true (sym (l.quiet mine)
-        ∙ reaches_before z.colour k b z.kind p q none (ap (λ (x : Man). reaches_as after x.colour x.kind b k) (sym is) ∙ now))
+        grind (arith, l.quiet mine, reaches_before z.colour k b z.kind p q none, is, at, h)
 
     -- no enemy reaches the king
     pub unreached : IsQuiet men c a b k z → is_reached after k (other c) ≡ false
@@ -189,23 +171,16 @@ module _ (men after : List (Option Man)) (a b : ℕ) (z : Man) (i : IsShift men 
     unreached l =
         some_square_false (λ s. is_of_colour (man_on after s) (other c) && reaches after s k) 64 (omega arith) (record {
           fails = λ s p. false_from_ne_true _ (λ h.
-              let h1 = and_parts (is_of_colour (man_on after s) (other c)) (reaches after s k) h in
-              elim (cases_eq s b) [
-                | inl e ↦ search (rules, arrival_strikes)
-                | inr ne ↦ search (rules, false≢true, some_square_true, checks_before)
-              ]);
+              let reached = some_square_true (λ s. is_of_colour (man_on men s) (other c) && reaches men s k) s p in
+              grind (arith, and_parts, cases_eq s b, arrival_strikes (man_on after s), checks_before s (man_on after s) refl p, reached));
         })
 
 -- so none attacks him
 pub not_attacked : (rule : RuleSet) (men : List (Option Man)) (e : Colour) (k : ℕ) → is_reached men k e ≡ false → is_attacked rule men k e ≡ false
 unfolding is_attacked is_attacker is_reached
 not_attacked rule men e k h =
-    some_square_false (is_attacker rule men k e) 64 (omega arith) (record {
-      fails = λ s p. false_from_ne_true _ (λ y.
-          let y1 = and_parts (is_of_colour (man_on men s) e && not (is_paralysed rule men s)) (reaches men s k) y in
-          let y2 = and_parts (is_of_colour (man_on men s) e) (not (is_paralysed rule men s)) y1.0 in
-          false≢true (sym h ∙ some_square_true (λ s. is_of_colour (man_on men s) e && reaches men s k) s p (and_from _ _ y2.0 y1.1)));
-    })
+    let reached = some_square_true (λ s. is_of_colour (man_on men s) e && reaches men s k) in
+    grind (arith, some_square_false (is_attacker rule men k e) 64, reached, and_parts, and_from)
 
 -- what is asked of a shift, so that the king of colour c isn't in check after it
 record IsHarmless (men : List (Option Man)) (c : Colour) (a b : ℕ) (z : Man) : Type 0 where
@@ -220,23 +195,12 @@ king_stays : (men after : List (Option Man)) (a b : ℕ) (z : Man) (c : Colour) 
 unfolding may_expose
 king_stays men after a b z c k i g small h =
     let y = man_there (man_on after k) c King h in
-    let is : is_man (Some y.0) c King ≡ true = rw y.1 at h in
     elim (cases_eq k b) [
-      | inl e ↦
-          let came : man_on after b ≡ Some y.0 = ap (λ (n : ℕ). man_on after n) (sym e) ∙ y.1 in
-          let same : y.0 ≡ z = i.arrived y.0 came in
-          let was : king_square men c ≡ Some a = g.king (ap (λ (x : Man). is_man (Some x) c King) (sym same) ∙ is) in
-          let no : may_expose_at men (Some a) c a ≡ false = rw was at g.cannot_expose in
-          let apart : (a == a) ≡ false = (covered_parts men c a a no).apart in
-          let yes : (a == a) ≡ true = eq-eqb a a refl in
-          cc
-      | inr ne ↦
-          let there : man_on men k ≡ Some y.0 = i.others k y.0 y.1 ne in
-          king_is men c k g.one small (rw there is)
+      | inl e ↦ grind (arith, i.arrived y.0, g.king, g.cannot_expose, covered_parts men c a a, eq-eqb a a)
+      | inr ne ↦ king_is men c k g.one small (rw (i.others k y.0 y.1 ne) (rw y.1 at h))
     ]
 
-stays_safe : (rule : RuleSet) (men after : List (Option Man)) (a b : ℕ) (z : Man) (c : Colour) → IsShift men after a b z
-    → IsHarmless men c a b z
+stays_safe : (rule : RuleSet) (men after : List (Option Man)) (a b : ℕ) (z : Man) (c : Colour) → IsShift men after a b z → IsHarmless men c a b z
     → in_check rule after c ≡ false
 unfolding in_check king_square squares may_expose may_stand_between
 stays_safe rule men after a b z c i g = by (king_square after c) refl where
@@ -246,9 +210,8 @@ stays_safe rule men after a b z c i g = by (king_square after c) refl where
       let f = find_first (λ s. is_man (man_on after s) c King) 0 64 k e in
       let small : k < 64 = omega (arith, f.high) in
       let at : king_square men c ≡ Some k = king_stays men after a b z c k i g small f.here in
-      let no : may_expose_at men (Some k) c a ≡ false = ap (λ (o : Option ℕ). may_expose_at men o c a) (sym at) ∙ g.cannot_expose in
-      let off : is_on_fairy_line_at men (Some k) c b ≡ false = ap (λ (o : Option ℕ). is_on_fairy_line_at men o c b) (sym at) ∙ g.aside in
-      not_attacked rule after (other c) k (unreached men after a b z i c k (covered_parts men c a k no) small off (g.quiet k at))
+      let covered = covered_parts men c a k (rw at at g.cannot_expose) in
+      not_attacked rule after (other c) k (unreached men after a b z i c k covered small (rw at at g.aside) (g.quiet k at))
 
 -- a plain move captures on its arrival alone
 captures_there : (p : Position) (x : Man) (m : Move) (s : ℕ) → is_square p.crossed m.to ≡ false → capture_square p x m ≡ Some s → s ≡ m.to
@@ -261,11 +224,6 @@ pub record IsPlain (rule : RuleSet) (p : Position) (x : Man) (m : Move) : Type 0
   pub crossed : is_square p.crossed m.to ≡ false
   pub rebirth : captures_do_more rule ≡ true → capture_square p x m ≡ None
 
--- a plain move has them
-pub plain_parts : (rule : RuleSet) (p : Position) (x : Man) (m : Move) → is_plain rule p x m ≡ true → IsPlain rule p x m
-unfolding is_plain capture_square
-plain_parts rule p x m h = grind (arith, and_parts, not-true, second_fails, cond-false, and_right)
-
 -- where nobody castles, the moved men are those once the man has arrived
 pub moved_plainly : (p : Position) (x : Man) (m : Move) → is_castling x m ≡ false → moved_men p x m ≡ arrived p x m
 unfolding moved_men
@@ -273,8 +231,7 @@ moved_plainly p x m h = rw h refl
 
 -- where nobody is reborn
 pub unreborn_after : (rule : RuleSet) (p : Position) (x : Man) (m : Move) → man_on p.men m.from ≡ Some x
-    → (captures_do_more rule ≡ true → capture_square p x m ≡ None)
-    → (position_after rule p m).men ≡ moved_men p x m
+    → (captures_do_more rule ≡ true → capture_square p x m ≡ None) → (position_after rule p m).men ≡ moved_men p x m
 unfolding position_after position_after_by reborn_square
 unreborn_after rule p x m here rebirth = search rules
 
@@ -298,16 +255,12 @@ arrived_shift rule p x m well is small plain =
 -- a king that arrives left its own square
 king_came : (p : Position) (x : Man) (m : Move) (c : Colour) → IsWellFormed p → man_on p.men m.from ≡ Some x → is_promotion_right p x m m.promo ≡ true
     → is_man (Some (arriving_man x m.promo)) c King ≡ true → king_square p.men c ≡ Some m.from
-king_came p x m c well here right h =
-    let same : arriving_man x m.promo ≡ x = arriving_king p x m m.promo right (and_parts (same_colour (arriving_man x m.promo).colour c) _ h).1 in
-    let is : is_man (Some x) c King ≡ true = ap (λ (y : Man). is_man (Some y) c King) (sym same) ∙ h in
-    king_is p.men c m.from well.kings (on_board p.men m.from x well.size here) (rw here is)
+king_came p x m c well here right h = grind (arith, and_parts, arriving_king, king_is p.men c m.from, on_board p.men m.from x well.size here)
 
 -- a plain move that uncovers no king, and whose man doesn't reach him, gives no check
 pub plain_safe : (rule : RuleSet) (p : Position) (x : Man) (m : Move) (c : Colour) → IsWellFormed p → IsMade rule p x m → m.to < 64 → IsPlain rule p x m
     → may_expose p.men c m.from ≡ false → may_stand_between p.men c m.to ≡ false
-    → ((k : ℕ) → king_square p.men c ≡ Some k → IsQuiet p.men c m.from m.to k (arriving_man x m.promo))
-    → in_check rule (position_after rule p m).men c ≡ false
+    → ((k : ℕ) → king_square p.men c ≡ Some k → IsQuiet p.men c m.from m.to k (arriving_man x m.promo)) → in_check rule (position_after rule p m).men c ≡ false
 plain_safe rule p x m c well is small plain cannot_expose aside quiet = search (rules, men_after, stays_safe, arrived, arrived_shift, king_came)
 
 -- a promoted man keeps its colour
@@ -331,22 +284,20 @@ pub record CannotExpose (rule : RuleSet) (p : Position) (x : Man) (c : Colour) (
 -- a move that passes has them
 pub cannot_expose_parts : (rule : RuleSet) (p : Position) (x : Man) (c : Colour) (m : Move) → man_on p.men m.from ≡ Some x → cannot_expose rule p c m ≡ true
     → CannotExpose rule p x c m
-unfolding cannot_expose
-cannot_expose_parts rule p x c m here h = grind (arith, and_parts, not-true, plain_parts)
+unfolding cannot_expose is_plain capture_square
+cannot_expose_parts rule p x c m here h = grind (arith, and_parts, not-true, second_fails, cond-false, and_right)
 
 -- such a move doesn't leave its mover in check
 pub cannot_expose_own : (rule : RuleSet) (p : Position) (m : Move) → IsWellFormed p → is_pseudo_legal rule p m ≡ true → m.to < 64
-    → cannot_expose rule p p.turn m ≡ true
-    → in_check rule (position_after rule p m).men p.turn ≡ false
+    → cannot_expose rule p p.turn m ≡ true → in_check rule (position_after rule p m).men p.turn ≡ false
 cannot_expose_own rule p m well may small h =
-    let w = maker rule p m may in
-    let x : Man = w.0 in
-    let is : IsMade rule p x m = made rule p m x may w.1 in
-    let parts = cannot_expose_parts rule p x p.turn m w.1 h in
-    let own : same_colour (arriving_man x m.promo).colour (other p.turn) ≡ false = search (rules, arriving_colour, other_differs) in
-    plain_safe rule p x m p.turn well is small parts.plain parts.origin parts.aside (λ k at. record {
-      quiet = λ enemy. absurd (false≢true (sym own ∙ enemy));
-      stood = λ enemy. absurd (false≢true (sym own ∙ enemy));
+    let x = maker rule p m may in
+    let is = made rule p m x.0 may x.1 in
+    let parts = cannot_expose_parts rule p x.0 p.turn m x.1 h in
+    let own : same_colour (arriving_man x.0 m.promo).colour (other p.turn) ≡ false = grind (arith, is.mine, arriving_colour x.0 m.promo, other_differs) in
+    plain_safe rule p x.0 m p.turn well is small parts.plain parts.origin parts.aside (λ k at. record {
+      quiet = λ theirs. false_from_ne_true _ (λ _. false≢true (sym own ∙ theirs));
+      stood = λ theirs. absurd (false≢true (sym own ∙ theirs));
     })
 
 -- a fairy man by the words of the two kinds
@@ -395,10 +346,8 @@ shield_squares_all men c e k w enemy at h some =
 
 -- else his own, those that shut a line to him, and those on fairy lines
 pub shield_squares_some : (men : List (Option Man)) (c e : Colour) (k r w n : ℕ) → e ≡ other c → king_square men c ≡ Some k → r ≡ word (reaching men e k)
-    → r ≡ 0
-    → w ≡ bit_or (bit_or (word (is_square (Some k))) (word (is_shut men (other c) Rook straight_steps k)))
-    (word (is_shut men (other c) Bishop diagonal_steps k))
-    → n ≡ word (may_stand_between men c) → bit_or w n ≡ word (may_expose men c)
+    → r ≡ 0 → w ≡ bit_or (bit_or (word (is_square (Some k))) (word (is_shut men (other c) Rook straight_steps k)))
+    (word (is_shut men (other c) Bishop diagonal_steps k)) → n ≡ word (may_stand_between men c) → bit_or w n ≡ word (may_expose men c)
 unfolding may_expose may_stand_between
 shield_squares_some men c e k r w n enemy at reachers none h i =
     let unreached : is_reached men k (other c) ≡ false = sym (reached_by_word men c e k r enemy reachers) ∙ ap (λ (v : ℕ). not (v == 0)) none in

@@ -1,9 +1,6 @@
 -- The words of the squares to which a man may go.
-use Rattle.chess_rules.proofs.Basics.{Bool, List, None, Option, Some, agree_below_at, and_from, and_left, and_parts, ap, arith, bit_and, bit_at, bit_not, bit_or, cases_Bool, cond-false, cond-true, eqb-true, false, false≢true, find, inl, inr, is_some, list_any, not, not-true, or_cases, or_left, or_right, range_with_len, refl, rules, sym, true, w64, ℕ, ◌&&◌, ◌+◌, ◌/◌, ◌<◌, ◌==◌, ◌||◌, ◌∙◌, ◌≡◌}
-use Rattle.chess_rules.proofs.Chess.{Black, Colour, IsAimed, IsFirst, Kind, King, Man, Move, Pawn, Position, RuleSet, White, along, find_no, forward, can_go, has_unmoved, is_advance, is_arrival, is_arrival_free, is_arrival_of, is_paralysed, is_promotion_right, is_pseudo_legal, is_square, is_vacant, leaps, man_on, may_go, may_promote, other, pawn_goes, queen_steps, rank_of, reaches, reaches_as, same_Bool, same_colour, same_kind, second_rank, side_of, squares_both, squares_either, squares_not, squares_of, squares_same, steps_to, word}
-use Rattle.chess_rules.proofs.Bits.{word_empty, word_has}
+use Rattle.chess_rules.proofs.Chess.{Black, Bool, Colour, IsAimed, IsFirst, Kind, King, List, Man, Move, None, Option, Pawn, Position, RuleSet, Some, White, agree_below_at, along, and_from, and_left, and_parts, ap, arith, bit_and, bit_at, bit_not, bit_or, can_go, cases_Bool, cond-false, cond-true, eqb-true, false, false≢true, find, find_no, forward, has_unmoved, inl, inr, is_advance, is_arrival, is_arrival_free, is_arrival_of, is_paralysed, is_pseudo_legal, is_some, is_square, leaps, list_any, man_on, may_go, may_promote, not, not-true, or_cases, or_left, or_right, other, pawn_goes, queen_steps, range_with_len, rank_of, reaches, reaches_as, refl, rules, same_Bool, same_colour, same_kind, second_rank, side_of, squares_both, squares_either, squares_not, squares_of, squares_same, steps_to, sym, true, w64, word, word_empty, word_has, ℕ, ◌&&◌, ◌+◌, ◌/◌, ◌<◌, ◌==◌, ◌||◌, ◌∙◌, ◌≡◌}
 use Rattle.chess_rules.proofs.making_moves.Pseudo.{king_is_no_pawn}
-use Rattle.chess_rules.proofs.listing_moves.Targeting.{false_by}
 
 -- the squares with neither a man of the mover nor an enemy king
 pub free_word : (men : List (Option Man)) (c : Colour) (a b : ℕ) → a ≡ side_of men c → b ≡ squares_of men (other c) King
@@ -43,19 +40,9 @@ two_ahead c s t p two =
     on_it (is_behind_next c s) (along s (forward c) 2) t (and_parts (holds_on (is_next s) (along s (forward c) 1)) _ (steps_are c s p)).1 two
 
 one_near : (c : Colour) (s t : ℕ) → s < 64 → t < 64 → is_square (along s (forward c) 1) t ≡ (is_advance c s t && list_any (leaps s t) queen_steps)
-one_near c s t p q = same_Bool _ _ onto back
-  where
-    onto : is_square (along s (forward c) 1) t ≡ true → (is_advance c s t && is_next s t) ≡ true
-    onto one = and_from _ _ (or_left (is_square (along s (forward c) 1) t) _ one)
-        (on_it (is_next s) (along s (forward c) 1) t (and_parts (holds_on (is_next s) (along s (forward c) 1)) _ (steps_are c s p)).0 one)
-
-    back : (is_advance c s t && is_next s t) ≡ true → is_square (along s (forward c) 1) t ≡ true
-    back h =
-        let both = and_parts (is_advance c s t) (is_next s t) h in
-        elim (or_cases (is_square (along s (forward c) 1) t) (is_square (along s (forward c) 2) t) both.0) [
-          | inl one ↦ one
-          | inr two ↦ absurd (false≢true (sym (not-true (is_next s t) (and_parts (not (is_next s t)) _ (two_ahead c s t p two)).0) ∙ both.1))
-        ]
+one_near c s t p q =
+    let next = and_parts (holds_on (is_next s) (along s (forward c) 1)) _ (steps_are c s p) in
+    grind (arith, on_it (is_next s) (along s (forward c) 1) t next.0, two_ahead c s t p, not-true, and_parts)
 
 half_one : (c : Colour) (s t : ℕ) → s < 64 → t < 64 → is_square (along s (forward c) 2) t ≡ true → is_square (along s (forward c) 1) ((s + t) / 2) ≡ true
 half_one c s t p q h = (and_parts (not (is_next s t)) _ (two_ahead c s t p h)).1
@@ -84,65 +71,38 @@ module _ (p : Position) (x : Man) (s : ℕ) (small : s < 64) (a o k : ℕ) (adva
   one_of : (t : ℕ) → t < 64 → next t ≡ true → is_square (along s (forward x.colour) 1) t ≡ true
   one_of t lt h = search (rules, and_from, and_parts, one_near)
 
-  half_small : (t : ℕ) → t < 64 → (s + t) / 2 < 64
-  half_small t lt = omega (arith, lt, small)
-
   -- where no free square is next, the pawn steps nowhere
   pub goes-blocked : find (λ q. bit_at (bit_and (bit_and a (bit_not w64 o)) k) q == 1) (range_with_len 0 64) ≡ None → 0 ≡ word (pawn_goes p x s)
-  goes-blocked none = word_empty (pawn_goes p x s) (λ t lt. false_by (pawn_goes p x s t) (λ y.
-      let parts = and_parts (is_vacant p.men t) (is_square (along s (forward x.colour) 1) t
-      || (rank_of s == second_rank x.colour && is_square (along s (forward x.colour) 2) t && is_vacant p.men ((s + t) / 2))) y in
-      elim (or_cases (is_square (along s (forward x.colour) 1) t) _ parts.1) [
-        | inl one ↦ blocked t lt one parts.0
-        | inr two ↦
-            let two1 = and_parts _ _ two in
-            let two2 = and_parts _ _ two1.0 in
-            blocked ((s + t) / 2) (half_small t lt) (half_one x.colour s t small lt two2.1) two1.1
-      ]))
-    where
-      blocked : (t : ℕ) → t < 64 → is_square (along s (forward x.colour) 1) t ≡ true → not (is_some (man_on p.men t)) ≡ true → ⊥
-      blocked t lt one free =
-          let off : next t ≡ false = sym (word_has next (bit_and (bit_and a (bit_not w64 o)) k) t next_word lt)
-          ∙ find_no (λ q. bit_at (bit_and (bit_and a (bit_not w64 o)) k) q == 1) 0 64 t none (omega arith) (omega (arith, lt)) in
-          let on : next t ≡ true = next_of t lt one free in
-          cc
+  goes-blocked none =
+      let off = find_no (λ q. bit_at (bit_and (bit_and a (bit_not w64 o)) k) q == 1) 0 64 in
+      let has = word_has next (bit_and (bit_and a (bit_not w64 o)) k) in
+      word_empty (pawn_goes p x s) (λ t lt.
+      let one = half_one x.colour s t small lt in
+      let half : ℕ = (s + t) / 2 in
+      grind (arith, and_parts, or_cases, off t none, has t next_word lt, next_of t lt, off half none, has half next_word, next_of half, one))
 
   -- where it is free, a pawn on its second rank steps to what is free of both
   pub goes-twice : (u : ℕ) → IsFirst (λ q. bit_at (bit_and (bit_and a (bit_not w64 o)) k) q == 1) 0 64 u → (rank_of s == second_rank x.colour) ≡ true
       → bit_and a (bit_not w64 o) ≡ word (pawn_goes p x s)
-  goes-twice u first second = ahead_word ∙ squares_same ahead (pawn_goes p x s) (λ t lt. same_Bool (ahead t) (pawn_goes p x s t) (onto t lt) (back t))
+  goes-twice u first second = ahead_word ∙ squares_same ahead (pawn_goes p x s) (λ t lt. same_Bool (ahead t) (pawn_goes p x s t) (onto t lt)
+      (search (rules, and_parts, and_from, or_cases, or_left, or_right)))
     where
-      u_small : u < 64
-      u_small = omega (arith, first.high)
-
-      on : next u ≡ true
-      on = sym (word_has next (bit_and (bit_and a (bit_not w64 o)) k) u next_word u_small) ∙ first.here
-
       onto : (t : ℕ) → t < 64 → ahead t ≡ true → pawn_goes p x s t ≡ true
       onto t lt h =
           let n = and_parts (is_advance x.colour s t) (not (is_some (man_on p.men t))) h in
+          let small_u : u < 64 = omega (arith, first.high) in
+          let on : next u ≡ true = sym (word_has next (bit_and (bit_and a (bit_not w64 o)) k) u next_word small_u) ∙ first.here in
           and_from _ _ n.1 (elim (or_cases (is_square (along s (forward x.colour) 1) t) (is_square (along s (forward x.colour) 2) t) n.0) [
-            | inl one ↦ or_left (is_square (along s (forward x.colour) 1) t)
-                (rank_of s == second_rank x.colour && is_square (along s (forward x.colour) 2) t && is_vacant p.men ((s + t) / 2)) one
+            | inl one ↦ or_left (is_square (along s (forward x.colour) 1) t) _ one
             | inr two ↦
-                let same : (s + t) / 2 ≡ u = one_is (along s (forward x.colour) 1) ((s + t) / 2) u (half_one x.colour s t small lt two) (one_of u u_small on) in
-                let free : not (is_some (man_on p.men u)) ≡ true = (and_parts (is_advance x.colour s u) _ (and_parts (ahead u) _ on).0).1 in
-                let between : is_vacant p.men ((s + t) / 2) ≡ true = rw same free in
-                or_right (is_square (along s (forward x.colour) 1) t) _ (and_from _ _ (and_from _ _ second two) between)
+                let same : (s + t) / 2 ≡ u = one_is (along s (forward x.colour) 1) ((s + t) / 2) u (half_one x.colour s t small lt two) (one_of u small_u on) in
+                grind (arith, same, on, two, second, and_parts)
           ])
-
-      back : (t : ℕ) → pawn_goes p x s t ≡ true → ahead t ≡ true
-      back t h = search (rules, and_parts, and_from, or_cases, or_left, or_right)
 
   -- from another rank it steps to the next one alone
   pub goes-once : (rank_of s == second_rank x.colour) ≡ false → bit_and (bit_and a (bit_not w64 o)) k ≡ word (pawn_goes p x s)
-  goes-once none = next_word ∙ squares_same next (pawn_goes p x s) (λ t lt. same_Bool (next t) (pawn_goes p x s t) (onto t lt) (back t lt))
-    where
-      onto : (t : ℕ) → t < 64 → next t ≡ true → pawn_goes p x s t ≡ true
-      onto t lt h = and_from _ _ (and_parts (is_advance x.colour s t) _ (and_parts (ahead t) _ h).0).1 (or_left _ _ (one_of t lt h))
-
-      back : (t : ℕ) → t < 64 → pawn_goes p x s t ≡ true → next t ≡ true
-      back t lt h = search (rules, and_parts, or_cases, next_of)
+  goes-once none = next_word ∙ squares_same next (pawn_goes p x s) (λ t lt. same_Bool (next t) (pawn_goes p x s t)
+      (search (rules, and_parts, and_from, or_left, one_of)) (search (rules, and_parts, or_cases, next_of)))
 
 -- the squares to which a man goes
 pub pawn_ways : (p : Position) (x : Man) (s r o y g : ℕ) → same_kind x.kind Pawn ≡ true → r ≡ word (λ t. reaches_as p.men x.colour x.kind s t)
@@ -187,11 +147,6 @@ pub may_go_aimed : (rule : RuleSet) (p : Position) (x : Man) (m : Move) → man_
 unfolding is_arrival
 may_go_aimed rule p x m here h = search (rules, and_parts)
 
-goes_as_pawn : (rule : RuleSet) (p : Position) (x : Man) (m : Move) → man_on p.men m.from ≡ Some x → same_kind x.kind Pawn ≡ true
-    → may_go p x m.from m.to ≡ true → can_go rule p x m ≡ true
-unfolding may_go reaches
-goes_as_pawn rule p x m here pawn h = search (rules, and_from, and_parts, cond-true, or_cases, or_left, or_right)
-
 -- a man that is neither pawn nor king goes only where it reaches
 pub no_steps : (x : Man) (s t : ℕ) (a u : Bool) → same_kind x.kind Pawn ≡ false → same_kind x.kind King ≡ false → (a || (u && steps_to x s t)) ≡ true → a ≡ true
 unfolding steps_to
@@ -201,23 +156,15 @@ no_steps x s t a u none piece h = search (rules, and_parts, cond-false, or_cases
 pub goes_on : (rule : RuleSet) (p : Position) (x : Man) (m : Move) → man_on p.men m.from ≡ Some x → may_go p x m.from m.to ≡ true
     → (same_kind x.kind King && has_unmoved p.unmoved m.from) ≡ false → true ≡ can_go rule p x m
 unfolding may_go reaches
-goes_on rule p x m here h free = search (rules, cases_Bool, goes_as_pawn, cond-false, no_steps, or_left, and_parts, king_is_no_pawn, or_cases)
-
-last_two : (a b c : Bool) → a ≡ true → (a && b && c) ≡ (b && c)
-last_two a b c h = rw h refl
-
--- of such a move, promotion and way are left to be tested
-left_to_test : (rule : RuleSet) (p : Position) (x : Man) (m : Move) → man_on p.men m.from ≡ Some x → is_arrival rule p m.from m.to ≡ true
-    → is_pseudo_legal rule p m ≡ (is_promotion_right p x m m.promo && can_go rule p x m)
-unfolding is_arrival is_pseudo_legal
-left_to_test rule p x m here h = search (rules, and_parts, last_two)
+goes_on rule p x m here h free = grind (arith, cases_Bool, and_from, and_parts, cond-true, or_cases, or_left, or_right, cond-false, no_steps, king_is_no_pawn)
 
 -- it may be made with a promotion exactly if this promotion is allowed
 pub aimed_promotion : (rule : RuleSet) (p : Position) (m : Move) (k : Kind) → IsAimed rule p m → m.promo ≡ Some k → may_promote p k ≡ is_pseudo_legal rule p m
-aimed_promotion rule p m k a e =
-    grind (arith, and_parts, goes_as_pawn, may_go_aimed rule p a.man m a.here a.arrival, left_to_test rule p a.man m a.here a.arrival)
+unfolding may_go reaches is_arrival is_pseudo_legal
+aimed_promotion rule p m k a e = grind (arith, and_parts, and_from, cond-true, or_cases, or_left, or_right, may_go_aimed rule p a.man m a.here a.arrival)
 
 -- and without one exactly if the man goes so
 pub aimed_plain : (rule : RuleSet) (p : Position) (m : Move) (x : Man) → IsAimed rule p m → m.promo ≡ None → man_on p.men m.from ≡ Some x
     → can_go rule p x m ≡ is_pseudo_legal rule p m
-aimed_plain rule p m x a e here = grind (arith, left_to_test rule p x m here a.arrival)
+unfolding is_arrival is_pseudo_legal
+aimed_plain rule p m x a e here = grind (arith, and_parts)

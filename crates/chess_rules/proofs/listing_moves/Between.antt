@@ -1,9 +1,7 @@
 -- The legal moves between two places.
 use Rattle.std.proofs.Math.Seq.{take-add}
-use Rattle.std.proofs.lemmas.List.{drop-drop}
-use Rattle.chess_rules.proofs.Basics.{List, [], ap, arith, drop, false, filter, filter-append, refl, rules, sym, take, take-append-drop, true, ℕ, ◌++◌, ◌+◌, ◌-◌, ◌<◌, ◌∙◌, ◌∷◌, ◌≡◌, ◌≤◌}
-use Rattle.chess_rules.proofs.Chess.{HaveNone, Move, Position, RuleSet, all_triples, is_legal, moves, moves_behind, moves_between, triple_at, triples}
-use Rattle.chess_rules.proofs.listing_moves.Places.{drop_triples, drop_triples_past, over}
+use Rattle.chess_rules.proofs.Chess.{HaveNone, List, Move, Position, RuleSet, [], all_triples, ap, arith, drop, drop-drop, false, filter-append, is_legal, moves, moves_behind, moves_between, refl, rules, sym, take, take-append-drop, triple_at, triples, true, ℕ, ◌++◌, ◌+◌, ◌-◌, ◌<◌, ◌∙◌, ◌∷◌, ◌≡◌, ◌≤◌}
+use Rattle.chess_rules.proofs.listing_moves.Places.{drop_triples, drop_triples_past, moves_behind-start, over, place_of_triple}
 
 take-none : (n : ℕ) → take {A = Move} n [] ≡ []
 take-none n = grind arith
@@ -38,8 +36,7 @@ between-none-is_legal rule p a b e =
 
 -- up to the first legal one, and where none is left before the end
 pub until-is_legal : (rule : RuleSet) (p : Position) (a n e : ℕ) → a ≤ n → n < e → n < all_triples → HaveNone (is_legal rule p) a n
-    → is_legal rule p (triple_at n) ≡ true
-    → moves_between rule p a e ≡ triple_at n ∷ moves_between rule p (n + 1) e
+    → is_legal rule p (triple_at n) ≡ true → moves_between rule p a e ≡ triple_at n ∷ moves_between rule p (n + 1) e
 until-is_legal rule p a n e low before fits none h = grind (arith, between-none-is_legal, between-here rule p n e fits before h)
 
 -- where the walk gets to the end without one, no move lies before it
@@ -50,34 +47,27 @@ until-end rule p a n e fits before all none = search (rules, between-none, betwe
 drop_twice : (a b : ℕ) (l : List Move) → a ≤ b → drop (b - a) (drop a l) ≡ drop b l
 drop_twice a b l le = let e : a + (b - a) ≡ b = omega (arith, le) in drop-drop (b - a) a l ∙ ap (λ n. drop n l) e
 
--- all moves, cut at two places
-pub cut_moves : (rule : RuleSet) (p : Position) (a b : ℕ) → a ≤ b
-    → moves rule p ≡ moves_between rule p 0 a ++ (moves_between rule p a b ++ moves_behind rule p b)
-unfolding moves moves_between moves_behind
-cut_moves rule p a b le =
-    let z : a - 0 ≡ a = omega arith in
-    rw z (sym (ap (filter (is_legal rule p)) (take-append-drop a triples))
-    ∙ filter-append (is_legal rule p) (take a triples) (drop a triples)
-    ∙ ap (λ ms. filter (is_legal rule p) (take a triples) ++ ms) (sym (ap (filter (is_legal rule p)) (take-append-drop (b - a) (drop a triples)))
-    ∙ filter-append (is_legal rule p) (take (b - a) (drop a triples)) (drop (b - a) (drop a triples))
-    ∙ ap (λ l. filter (is_legal rule p) (take (b - a) (drop a triples)) ++ filter (is_legal rule p) l) (drop_twice a b triples le)))
-
 -- the moves between two places, cut at a third
 pub between_cut : (rule : RuleSet) (p : Position) (a b e : ℕ) → a ≤ b → b ≤ e → moves_between rule p a e ≡ moves_between rule p a b ++ moves_between rule p b e
 unfolding moves_between
 between_cut rule p a b e lo hi =
     let n : e - a ≡ (b - a) + (e - b) = omega arith in
-    let kept = filter (is_legal rule p) in
-    rw n (ap kept (take-add (b - a) (e - b) (drop a triples)) ∙ filter-append (is_legal rule p) (take (b - a) (drop a triples)) _
-    ∙ ap (λ l. kept (take (b - a) (drop a triples)) ++ kept (take (e - b) l)) (drop_twice a b triples lo))
+    grind (arith, n, take-add (b - a) (e - b) (drop a triples), filter-append (is_legal rule p) (take (b - a) (drop a triples)), drop_twice a b triples lo)
 
 -- the moves behind a place, cut at another
 pub behind_cut : (rule : RuleSet) (p : Position) (a b : ℕ) → a ≤ b → moves_behind rule p a ≡ moves_between rule p a b ++ moves_behind rule p b
 unfolding moves_between moves_behind
 behind_cut rule p a b le =
-    sym (ap (filter (is_legal rule p)) (take-append-drop (b - a) (drop a triples)))
-    ∙ filter-append (is_legal rule p) (take (b - a) (drop a triples)) (drop (b - a) (drop a triples))
-    ∙ ap (λ l. filter (is_legal rule p) (take (b - a) (drop a triples)) ++ filter (is_legal rule p) l) (drop_twice a b triples le)
+    grind (arith, take-append-drop (b - a) (drop a triples), filter-append (is_legal rule p) (take (b - a) (drop a triples)), drop_twice a b triples le)
+
+-- all moves, cut at two places
+pub cut_moves : (rule : RuleSet) (p : Position) (a b : ℕ) → a ≤ b
+    → moves rule p ≡ moves_between rule p 0 a ++ (moves_between rule p a b ++ moves_behind rule p b)
+cut_moves rule p a b le =
+    sym (moves_behind-start rule p) ∙ behind_cut rule p 0 a (omega arith) ∙ ap (λ ms. moves_between rule p 0 a ++ ms) (behind_cut rule p a b le)
 
 -- for the walk up to an end
-pub ruleset until = (until-is_legal, until-end)
+pub ruleset until = (place_of_triple, until-end, until-is_legal)
+
+-- and where it begins at the end
+pub ruleset nothing_left = (between-none)

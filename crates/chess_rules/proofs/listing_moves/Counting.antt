@@ -1,33 +1,24 @@
 -- How many legal moves lie between two places.
-use Rattle.std.proofs.Common.{pow_mono}
-use Rattle.std.proofs.lemmas.List.{length-take}
 use Rattle.std.proofs.lemmas.List.Sums.{count_by-le-length, length-filter}
-use Rattle.std.proofs.lemmas.Nat.{ones-le, shr-shr, shr_below}
-use Rattle.std.specs.Int.{from_bool}
 use Rattle.std.specs.Int.Count.{ones_step}
 use Rattle.std.specs.Prelude.{count_ones, min}
-use Rattle.chess_rules.proofs.Basics.{Bool, None, Some, ap, arith, bit_at, cases_Bool, cases_eq, and_left, and_right, bit_at-lt, cases_lt, false, find, inl, inr, length, length-append, range_with_len, refl, suc, sym, zero, ℕ, ◌%◌, ◌&&◌, ◌*◌, ◌+◌, ◌-◌, ◌/◌, ◌<◌, ◌==◌, ◌^◌, ◌∙◌, ◌≡◌, ◌≤◌, rules}
-use Rattle.chess_rules.proofs.Chess.{AreCandidates, AreOrigins, HaveNone, IsBarrenFrom, Move, Position, RuleSet, all_triples, differs, find_first, find_no, is_legal, moves_between, per_arrival, per_origin, promotion_at, triple_at, is_legal-idle}
+use Rattle.chess_rules.proofs.Chess.{AreCandidates, AreLegal, AreOrigins, Bool, HaveNone, IsBarrenFrom, Move, None, Position, RuleSet, Some, all_triples, ap, arith, bit_at, bit_at-lt, cases_Bool, cases_eq, cases_lt, differs, false, find, find_first, find_no, from_bool, inl, inr, is_legal, is_legal-idle, length, length-append, length-take, moves_between, ones-le, per_arrival, per_origin, pow_mono, promotion_at, range_with_len, refl, rules, shr-shr, shr_below, suc, sym, triple_at, zero, ℕ, ◌%◌, ◌&&◌, ◌*◌, ◌+◌, ◌-◌, ◌/◌, ◌<◌, ◌==◌, ◌^◌, ◌∙◌, ◌≡◌, ◌≤◌}
 use Rattle.chess_rules.proofs.listing_moves.Between.{between-here, between-none, between-none-is_legal, between-past, between-skip, between_cut}
 use Rattle.chess_rules.proofs.listing_moves.Targeting.{arrival_from, named_by, no_promotion_here, some_named}
-use Rattle.chess_rules.proofs.listing_moves.Walks.{none-from, none-missed}
-use Rattle.chess_rules.specs.ties.Counting.{AreLegal}
+use Rattle.chess_rules.proofs.listing_moves.Walks.{none-from, none-missed, triple_of}
 
 bit_is : (n : ℕ) → n < 2 → n ≡ from_bool (n == 1)
 bit_is n less = grind arith
 
 -- the squares of a word from one on: that one, if the word has it, and those behind it
 ones_from : (w t : ℕ) → count_ones (w / 2 ^ t) ≡ from_bool (bit_at w t == 1) + count_ones (w / 2 ^ (t + 1))
-ones_from w t =
-    ones_step (w / 2 ^ t) ∙ ap (λ n. bit_at w t + count_ones n) (shr-shr w t 1)
-    ∙ ap (λ n. n + count_ones (w / 2 ^ (t + 1))) (bit_is (bit_at w t) (bit_at-lt w t))
+ones_from w t = grind (arith, ones_step (w / 2 ^ t), shr-shr w t 1, bit_is (bit_at w t), bit_at-lt w t)
 
 -- behind the last square there is none
 pub none_from : (w t : ℕ) → w < 2 ^ 64 → 64 ≤ t → 0 ≡ count_ones (w / 2 ^ t)
 none_from w t fits past =
-    let same : 0 + t ≡ t = omega arith in
     let le : 2 ^ 64 ≤ 2 ^ t = pow_mono past in
-    omega (arith, ones-le 0 (w / 2 ^ t) (shr_below w 0 t (rw same (omega (arith, fits, le)))))
+    grind (arith, le, ones-le 0 (w / 2 ^ t), shr_below w 0 t)
 
 module _ (rule : RuleSet) (p : Position) where
   -- how many lie between two places
@@ -48,72 +39,56 @@ module _ (rule : RuleSet) (p : Position) where
 
   module _ (o : ℕ) (own : AreOrigins (is_legal rule p) o) where
     missed : (a b : ℕ) → b ≤ all_triples → ((s : ℕ) → a / per_origin ≤ s → per_origin * s < b → (bit_at o s == 1) ≡ false) → HaveNone (is_legal rule p) a b
-    missed a b le none = none-missed rule p (is_legal rule p) (λ m h. is_legal-idle rule p m h) a b o own le none
+    missed a b le none = none-missed rule p (is_legal rule p) (is_legal-idle rule p) a b o own le none
 
     -- where no origin is left there is no move
     no_origin : (a e : ℕ) → find (λ q. bit_at o q == 1) (range_with_len (a / per_origin) (64 - a / per_origin)) ≡ None → between a e ≡ 0
     no_origin a e none =
-        ap length (between-none-is_legal rule p a all_triples e (λ lt. absurd (omega (arith, lt))) (omega arith)
-        (missed a all_triples (omega arith) (λ q lo hi. find_no (λ q. bit_at o q == 1) (a / per_origin) (64 - a / per_origin) q none lo (omega (arith, hi))))
-        ∙ between-past rule p all_triples e (omega arith))
+        let off = find_no (λ q. bit_at o q == 1) (a / per_origin) (64 - a / per_origin) in
+        let free = missed a all_triples (omega arith) (λ q lo hi. off q none lo (omega (arith, hi))) in
+        grind (arith, between-none-is_legal rule p a all_triples e, free, between-past rule p all_triples e)
 
     -- else those of the next one come first, as far as they lie before the end, and then those of later ones
     by_origin : (a e s n z m : ℕ) → find (λ q. bit_at o q == 1) (range_with_len (a / per_origin) (64 - a / per_origin)) ≡ Some s
-        → n ≡ per_origin * s → z ≡ a - n → m ≡ min (e - n) per_origin → between a e ≡ between (per_origin * s + z) (per_origin * s + m) + between (n + per_origin) e
+        → n ≡ per_origin * s → z ≡ a - n → m ≡ min (e - n) per_origin
+        → between a e ≡ between (per_origin * s + z) (per_origin * s + m) + between (n + per_origin) e
     by_origin a e s n z m found first from to =
         let f = find_first (λ q. bit_at o q == 1) (a / per_origin) (64 - a / per_origin) s found in
         let b : ℕ = per_origin * s + z in
         let h = missed a (per_origin * s) (omega (arith, f.high, f.low)) (λ q lo hi. f.before q lo (omega (arith, hi))) in
         let onward = ap length (between-none-is_legal rule p a b e (λ lt. omega (arith, first, from)) (omega (arith, first, from, f.high, f.low))
         (record { fails = λ k lo hi. h.fails k lo (omega (arith, first, from, lo, hi)) })) in
-        onward ∙ elim (cases_lt e (n + per_origin)) [
-          | inr ge ↦
-              let stop : per_origin * s + m ≡ n + per_origin = omega (arith, first, to, ge) in
-              rw stop (count_cut b (n + per_origin) e (omega (arith, first, from, f.low)) ge)
-          | inl lt ↦ elim (cases_lt e n) [
-            | inl none ↦ omega (
-              arith,
-              none_left b e (omega (arith, first, none)),
-              none_left b (per_origin * s + m) (omega (arith, to, none)),
-              none_left (n + per_origin) e (omega (arith, lt)),
-            )
-            | inr some ↦
-                let stop : per_origin * s + m ≡ e = omega (arith, first, to, lt, some) in
-                rw stop (omega (arith, none_left (n + per_origin) e (omega (arith, lt))))
-          ]
-        ]
+        let next : ℕ = n + per_origin in
+        let none = none_left b (per_origin * s + m) in
+        grind (arith, onward, cases_lt e next, cases_lt e n, f.low, count_cut b next e, none_left b e, none, none_left next e)
 
     -- those up to a triple of the next origin are those so far and its own before that one
     pub passed_on : (start number s a n z : ℕ) → start ≤ number
-        → find (λ q. bit_at o q == 1) (range_with_len (number / per_origin) (64 - number / per_origin)) ≡ Some s
-        → n ≡ per_origin * s → z ≡ number - n → z ≤ a → a ≤ per_origin
-        → between start (n + a) ≡ between start number + between (per_origin * s + z) (per_origin * s + a)
+        → find (λ q. bit_at o q == 1) (range_with_len (number / per_origin) (64 - number / per_origin)) ≡ Some s → n ≡ per_origin * s → z ≡ number - n → z ≤ a
+        → a ≤ per_origin → between start (n + a) ≡ between start number + between (per_origin * s + z) (per_origin * s + a)
     passed_on start number s a n z low found first from more few =
-        omega (
-          arith,
-          count_cut start number (n + a) low (omega (arith, from, more)),
-          by_origin number (n + a) s n z a found first from (omega (arith, few)),
-          none_left (n + per_origin) (n + a) (omega (arith, few)),
-        )
+        grind (arith, count_cut start number (n + a), by_origin number (n + a) s n z a found first from, none_left (n + per_origin) (n + a))
 
     -- where no origin is left those so far are all
     pub passed_all : (start number : ℕ) → start ≤ number → find (λ q. bit_at o q == 1) (range_with_len (number / per_origin) (64 - number / per_origin)) ≡ None
         → between start all_triples ≡ between start number
-    passed_all start number low none = elim (cases_lt number all_triples) [
-      | inl lt ↦ omega (arith, count_cut start number all_triples low (omega (arith, lt)), no_origin number all_triples none)
-      | inr ge ↦ elim (cases_lt start all_triples) [
-        | inl small ↦
-            omega (arith, count_cut start all_triples number (omega (arith, small)) ge, ap length (between-past rule p all_triples number (omega arith)))
-        | inr past ↦ ap length (between-past rule p start all_triples past) ∙ sym (ap length (between-past rule p start number past))
-      ]
-    ]
+    passed_all start number low none =
+        let behind = between-past rule p in
+        grind (
+          arith,
+          cases_lt number all_triples,
+          count_cut start number all_triples,
+          no_origin number all_triples,
+          count_cut start all_triples number,
+          ap length (behind all_triples number (omega arith)),
+          behind start all_triples,
+          behind start number,
+        )
 
   module _ (s w : ℕ) (small : s < 64) (are : AreCandidates rule p (is_legal rule p) s w) where
     -- triples that are no moves don't count
     pub count_barren : (a b e : ℕ) → a ≤ b → b ≤ per_origin → IsBarrenFrom p s w a b → between (per_origin * s + a) e ≡ between (per_origin * s + b) e
-    count_barren a b e lo hi h =
-        ap length (between-none-is_legal rule p (per_origin * s + a) (per_origin * s + b) e (λ lt. omega (arith, lo)) (omega (arith, hi, small))
-        (none-from rule p (is_legal rule p) (λ m h. is_legal-idle rule p m h) s w a b hi are h))
+    count_barren a b e lo hi h = grind (arith, between-none-is_legal, none-from, is_legal-idle)
 
     -- one that is a move counts once
     pub count_here : (a n e : ℕ) (legal : Bool) → a < per_origin → n ≡ per_origin * s + a → n < e → is_legal rule p (triple_at n) ≡ legal
@@ -128,20 +103,14 @@ module _ (rule : RuleSet) (p : Position) where
           | inr ne ↦
               let kind = named_by (promotion_at k) (some_named k (omega (arith, ne)) few) in
               let m : Move = record { from = s; to = t; promo = promotion_at k } in
-              is_legal-idle rule p m (no_promotion_here rule p legal.man m kind.0 legal.here kind.1 (legal.unpromoted t lt on))
-              ∙ sym (and_left (k == 0) (bit_at w t == 1) (differs k 0 ne))
+              grind (arith, is_legal-idle rule p m, no_promotion_here rule p legal.man m kind.0 legal.here kind.1 (legal.unpromoted t lt on), differs k 0 ne)
         ]
-        | inr off ↦ are.outside (record { from = s; to = t; promo = promotion_at k }) refl lt off ∙ sym (and_right (k == 0) _ off)
+        | inr off ↦ grind (arith, are.outside (record { from = s; to = t; promo = promotion_at k }) refl lt off)
       ]
 
       -- a triple is a move exactly where it goes to a square of the word and names no promotion
       legal_is : (a : ℕ) → a < per_origin → is_legal rule p (triple_at (per_origin * s + a)) ≡ (a % per_arrival == 0 && bit_at w (a / per_arrival) == 1)
-      unfolding triple_at
-      legal_is a inside =
-          let from : (per_origin * s + a) / per_origin ≡ s = omega (arith, inside) in
-          let to : (per_origin * s + a) / per_arrival % 64 ≡ a / per_arrival = omega (arith, inside) in
-          let promo : (per_origin * s + a) % per_arrival ≡ a % per_arrival = omega (arith, inside) in
-          rw (from, to, promo) (legal_to (a / per_arrival) (a % per_arrival) (omega (arith, inside)) (omega arith))
+      legal_is a inside = rw (triple_of s a inside) (legal_to (a / per_arrival) (a % per_arrival) (omega (arith, inside)) (omega arith))
 
       one_more : (a : ℕ)
           → count_ones (w / 2 ^ arrival_from a) ≡ from_bool (a % per_arrival == 0 && bit_at w (a / per_arrival) == 1)
@@ -154,8 +123,7 @@ module _ (rule : RuleSet) (p : Position) where
       counted : (n a b : ℕ) → b ≡ a + n → b ≤ per_origin
           → between (per_origin * s + a) (per_origin * s + b) + count_ones (w / 2 ^ arrival_from b) ≡ count_ones (w / 2 ^ arrival_from a)
       counted zero a b e le = let same : b ≡ a = omega (arith, e) in rw same (omega (arith, none_left (per_origin * s + a) (per_origin * s + a) (omega arith)))
-      counted (suc n) a b e le =
-          grind (arith, one_more a, counted n (a + 1) b, count_here a (per_origin * s + a) (per_origin * s + b), legal_is a)
+      counted (suc n) a b e le = grind (arith, one_more a, counted n (a + 1) b, count_here a (per_origin * s + a) (per_origin * s + b), legal_is a)
 
       -- where all are legal, the squares of the word are counted
       pub count_by_word : (a b : ℕ) → a ≤ b → b ≤ per_origin

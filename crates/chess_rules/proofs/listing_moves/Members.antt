@@ -1,6 +1,5 @@
 -- The elements of lists that are made of others, and lists whose elements stand in order.
-use Rattle.chess_rules.proofs.Basics.{sym, ◌-◌, AllPairs, Bool, Contains, Contains-append_cases, Contains-append_left, Contains-append_right, Contains-get_or, List, [], ap, arith, cond, false, false≢true, filter, flat_map, get_or, inl, inr, map, range_with_len, refl, suc, true, ℕ, ◌++◌, ◌+◌, ◌<◌, ◌∙◌, ◌∷◌, ◌≡◌, ◌≤◌, ◌⊎◌, get_or-map, get_or-range_with_len, length-map, length-range_with_len}
-use Rattle.std.proofs.lemmas.List.Kept.{AllPairs-cons}
+use Rattle.chess_rules.proofs.Basics.{AllPairs, AllPairs-cons, Bool, Contains, Contains-append_cases, Contains-append_left, Contains-append_right, Contains-get_or, List, [], ap, arith, cond, false, false≢true, filter, flat_map, get_or, get_or-map, get_or-range_with_len, inl, inr, length-map, length-range_with_len, map, range_with_len, refl, suc, sym, true, ℕ, ◌++◌, ◌+◌, ◌-◌, ◌<◌, ◌∙◌, ◌∷◌, ◌≡◌, ◌≤◌, ◌⊎◌}
 
 module _ {X : Type 0} where
   -- an empty list has no elements
@@ -92,10 +91,8 @@ module _ {X : Type 0} (R : X → X → Type 0) where
   pub pairs_append : (xs ys : List X) → AllPairs R xs → AllPairs R ys → ((x y : X) → Contains xs x → Contains ys y → R x y) → AllPairs R (xs ++ ys)
   pairs_append [] ys a b across = b
   pairs_append (x ∷ xs) ys a b across =
-      pairs_of x (xs ++ ys) (λ y c. elim (Contains-append_cases xs ys y c) [
-        | inl here ↦ pairs_first x xs a y here
-        | inr there ↦ across x y (first_in x xs) there
-      ]) (pairs_append xs ys (pairs_later x xs a) b (λ z y c. across z y (later_in x xs z c)))
+      pairs_of x (xs ++ ys) (λ y c. grind (arith, Contains-append_cases xs ys y c, pairs_first x xs a y, across x y, first_in x xs))
+      (pairs_append xs ys (pairs_later x xs a) b (λ z y c. across z y (later_in x xs z c)))
 
   -- the beginning of a list in order is in order
   pub pairs_front : (xs ys : List X) → AllPairs R (xs ++ ys) → AllPairs R xs

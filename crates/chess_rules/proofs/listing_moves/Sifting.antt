@@ -1,14 +1,11 @@
 -- The legal moves that a sieve takes, passed over by walking from candidate to candidate.
-use Rattle.std.proofs.lemmas.List.{append-nil, append_assoc}
-use Rattle.chess_rules.proofs.Basics.{Bool, [], and_left, ap, append_cancel_right, arith, bit_and, cases_Bool, cases_lt, false, filter, filter-append, length, rules, sym, true, ℕ, ◌++◌, ◌+◌, ◌<◌, ◌∙◌, ◌∷◌, ◌≡◌, ◌≤◌}
-use Rattle.chess_rules.proofs.Chess.{all_triples, AreCandidates, AreOrigins, HaveNone, Move, Position, RuleSet, is_legal, moves_behind, moves_between, triple_at, AreSifted, IsSifted, is_wanted, second_fails}
+use Rattle.chess_rules.proofs.Chess.{AreCandidates, AreOrigins, AreSifted, Bool, HaveNone, IsSifted, Move, Position, RuleSet, [], all_triples, and_left, ap, append-nil, append_assoc, append_cancel_right, arith, bit_and, cases_Bool, cases_lt, false, filter, filter-append, is_legal, is_wanted, length, moves_behind, moves_between, rules, second_fails, sym, triple_at, true, ℕ, ◌++◌, ◌+◌, ◌<◌, ◌∙◌, ◌∷◌, ◌≡◌, ◌≤◌}
 use Rattle.chess_rules.proofs.listing_moves.Between.{behind_cut, between-past}
 use Rattle.chess_rules.proofs.listing_moves.Places.{moves_behind-end, moves_behind-here, moves_behind-skip, over, place_of_none, place_of_triple}
 use Rattle.chess_rules.proofs.listing_moves.Walks.{off_second, on_first}
 
 -- for callers whose place has moved on, or stands behind all triples
-pub moved_on : (rule : RuleSet) (p : Position) (a b : ℕ) → (b < all_triples → a ≤ b)
-    → moves_behind rule p a ≡ moves_between rule p a b ++ moves_behind rule p b
+pub moved_on : (rule : RuleSet) (p : Position) (a b : ℕ) → (b < all_triples → a ≤ b) → moves_behind rule p a ≡ moves_between rule p a b ++ moves_behind rule p b
 moved_on rule p a b on = grind (arith, cases_lt, behind_cut, between-past, moves_behind-end)
 
 module _ (rule : RuleSet) (p : Position) (test : Move → Bool) where
@@ -28,8 +25,7 @@ module _ (rule : RuleSet) (p : Position) (test : Move → Bool) where
   -- over a stretch without a wanted move the same moves that pass lie behind a place
   pub wanted-none : (a b : ℕ) → (b < all_triples → a ≤ b) → b ≤ all_triples → HaveNone (is_wanted rule p test) a b
       → filter test (moves_behind rule p a) ≡ filter test (moves_behind rule p b)
-  wanted-none =
-      over (λ n. filter test (moves_behind rule p n)) (is_wanted rule p test) wanted-skip [] (λ n ge. ap (filter test) (moves_behind-end rule p n ge))
+  wanted-none = over (λ n. filter test (moves_behind rule p n)) (is_wanted rule p test) wanted-skip [] (λ n ge. ap (filter test) (moves_behind-end rule p n ge))
 
   -- up to a legal move, by its number
   pub sifted_numbered : (a n c : ℕ) → a ≤ n → n < all_triples → c ≡ length (moves_between rule p a n) → HaveNone (is_wanted rule p test) a n
@@ -53,9 +49,7 @@ module _ (rule : RuleSet) (p : Position) (test : Move → Bool) where
 -- all that lie behind a place lie before the end
 pub counted_behind : (rule : RuleSet) (p : Position) (a b c : ℕ) → all_triples ≤ b → b ≤ all_triples → c ≡ length (moves_between rule p a b)
     → c ≡ length (moves_behind rule p a)
-counted_behind rule p a b c ge le count =
-    count ∙ ap length (sym (moved_on rule p a b (λ lt. absurd (omega (arith, lt, ge))) ∙ ap (λ l. moves_between rule p a b ++ l) (moves_behind-end rule p b ge)
-    ∙ append-nil (moves_between rule p a b)))
+counted_behind rule p a b c ge le count = grind (arith, moved_on rule p a b, moves_behind-end rule p b ge, append-nil (moves_between rule p a b))
 
 -- for the next legal move that a sieve leaves
 pub ruleset next_sifted = (counted_behind, moved_on, place_of_none, place_of_triple, sifted_missing, sifted_numbered)

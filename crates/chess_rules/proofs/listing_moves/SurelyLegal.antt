@@ -1,12 +1,9 @@
 -- Moves that are legal without a look.
-use Rattle.chess_rules.proofs.Basics.{Bool, None, Some, and_from, ap, if◌then◌else◌, refl, bit_or, and_left, bit_and, bit_at, eqb-true, false, is_some, not, or_parts, rules, sym, true, ℕ, ◌&&◌, ◌<◌, ◌==◌, ◌∙◌, ◌≡◌}
-use Rattle.chess_rules.proofs.Chess.{AreCandidates, IsAimed, IsWellFormed, King, Man, Move, Pawn, Position, RuleSet, is_promoting, captures_do_more, is_legal, is_plain, is_square, last_rank, man_on, may_expose, may_stand_between, rank_of, same_kind, squares_either, squares_same, word, cannot_expose}
-use Rattle.chess_rules.proofs.Bits.{word_empty, word_has}
+use Rattle.chess_rules.proofs.Chess.{AreCandidates, AreLegal, Bool, IsAimed, IsWellFormed, King, Man, Move, None, Pawn, Position, RuleSet, Some, and_from, and_left, arith, bit_and, bit_at, bit_or, cannot_expose, captures_do_more, eqb-true, false, if◌then◌else◌, is_legal, is_plain, is_promoting, is_some, is_square, is_unsure, last_rank, man_on, may_expose, may_stand_between, or_parts, rank_of, refl, rules, same_kind, squares_either, squares_same, sym, true, word, word_empty, word_has, ℕ, ◌&&◌, ◌<◌, ◌==◌, ◌∙◌, ◌≡◌}
 use Rattle.chess_rules.proofs.attacks.Shielding.{cannot_expose_own}
 use Rattle.chess_rules.proofs.listing_moves.Arrivals.{aimed_plain, goes_on, may_go_aimed}
 use Rattle.chess_rules.proofs.listing_moves.Targeting.{no_pawn_arrives}
 use Rattle.chess_rules.proofs.listing_moves.Walks.{off_second, off_zero}
-use Rattle.chess_rules.specs.ties.Counting.{AreLegal, is_unsure}
 
 -- a move to a square that is sure changes nothing else, and uncovers no king
 sure_unexposed : (rule : RuleSet) (p : Position) (x : Man) (m : Move) → man_on p.men m.from ≡ Some x → same_kind x.kind King ≡ false
@@ -30,10 +27,9 @@ surely_legal rule p x s w v u well here small are piece shields unshielding unsu
       unpromoted = λ t lt on. (parts t lt on).1;
       to = λ t lt on.
           let m : Move = record { from = s; to = t; promo = None } in
-          let aimed : IsAimed rule p m = record { man = x; here = here; arrival = are.inside t lt on; promotion = sym (parts t lt on).1 } in
-          let goes = goes_on rule p x m here (may_go_aimed rule p x m here (are.inside t lt on)) (and_left _ _ piece) in
-          let may = sym (goes ∙ aimed_plain rule p m x aimed refl here) in
-          and_from _ _ may (ap not (cannot_expose_own rule p m well may lt (parts t lt on).0));
+          let safe = parts t lt on in
+          let aimed : IsAimed rule p m = record { man = x; here = here; arrival = are.inside t lt on; promotion = sym safe.1 } in
+          grind (arith, goes_on rule p x m here, may_go_aimed rule p x m here, aimed_plain rule p m x aimed, cannot_expose_own rule p m well, and_from);
     }
 
 reborn_word : (b : Bool) (test : ℕ → Bool) → (if b then word test else 0) ≡ word (λ t. b && test t)

@@ -1,7 +1,5 @@
 -- Where a man may go, and no move is missed by going from one such square to the next.
-use Rattle.chess_rules.proofs.Basics.{Bool, List, None, Option, Some, agree_below_at, and_from, and_parts, ap, arith, bit_at, bit_not, cases_Bool, cases_eq, cond-false, cond-true, false, find, inl, inr, is_some, or_left, or_right, range_with_len, refl, rules, sym, true, w64, ℕ, ◌%◌, ◌*◌, ◌+◌, ◌-◌, ◌/◌, ◌<◌, ◌==◌, ◌∙◌, ◌≡◌, ◌≤◌}
-use Rattle.chess_rules.proofs.Chess.{IsBarrenFrom, IsFirst, IsNamed, Kind, King, Man, Move, Pawn, Position, RuleSet, along, can_castle, file_of, find_first, find_no, is_advance, is_arrival, is_castling, is_of_colour, is_promoting, is_promotion_right, is_pseudo_legal, is_pseudo_legal_of, is_square, is_two_files_aside, man_on, may_castle, may_go, per_arrival, per_origin, promotion_at, rank_of, reaches, reaches_as, same_colour, same_kind, square_at, squares_same, steps_to, word, same_colour-refl}
-use Rattle.chess_rules.proofs.Bits.{word_empty}
+use Rattle.chess_rules.proofs.Chess.{Bool, IsBarrenFrom, IsFirst, IsNamed, Kind, King, List, Man, Move, None, Option, Pawn, Position, RuleSet, Some, agree_below_at, along, and_from, and_parts, ap, arith, bit_at, bit_not, can_castle, cases_Bool, cases_eq, cond-false, cond-true, false, file_of, find, find_first, find_no, is_advance, is_arrival, is_castling, is_of_colour, is_promoting, is_promotion_right, is_pseudo_legal, is_pseudo_legal_of, is_some, is_square, is_two_files_aside, man_on, may_castle, may_go, or_left, or_right, per_arrival, per_origin, promotion_at, range_with_len, rank_of, reaches, reaches_as, refl, rules, same_colour-refl, same_kind, square_at, squares_same, steps_to, sym, true, w64, word, word_empty, ℕ, ◌%◌, ◌*◌, ◌+◌, ◌-◌, ◌/◌, ◌<◌, ◌==◌, ◌∙◌, ◌≡◌, ◌≤◌}
 use Rattle.chess_rules.proofs.making_moves.Pseudo.{made}
 
 -- the words of a pawn's steps, of a king's in castling, and of the others
@@ -56,15 +54,13 @@ unpromoted p x m o k h e = grind (arith, and_parts)
 
 -- on another rank than the last none may be named
 pub no_promotion_here : (rule : RuleSet) (p : Position) (x : Man) (m : Move) (k : Kind) → man_on p.men m.from ≡ Some x → m.promo ≡ Some k
-    → is_promoting x m.to ≡ false
-    → is_pseudo_legal rule p m ≡ false
+    → is_promoting x m.to ≡ false → is_pseudo_legal rule p m ≡ false
 no_promotion_here rule p x m k here e h =
     false_by (is_pseudo_legal rule p m) (λ y. let t = unpromoted p x m m.promo k (made rule p m x y here).promotion e in cc)
 
 promotion_missing : (rule : RuleSet) (p : Position) (x : Man) (m : Move) → man_on p.men m.from ≡ Some x → m.promo ≡ None → is_promoting x m.to ≡ true
     → is_pseudo_legal rule p m ≡ false
-promotion_missing rule p x m here e h =
-    false_by (is_pseudo_legal rule p m) (λ y. let t = promoted p x m m.promo (made rule p m x y here).promotion e in cc)
+promotion_missing rule p x m here e h = false_by (is_pseudo_legal rule p m) (λ y. let t = promoted p x m m.promo (made rule p m x y here).promotion e in cc)
 
 -- without a man of the side to move on the origin there is no move
 pub nobody_moves : (rule : RuleSet) (p : Position) (m : Move) → man_on p.men m.from ≡ None → is_pseudo_legal rule p m ≡ false
@@ -75,9 +71,7 @@ nobody_moves rule p m h = ap (λ o. is_pseudo_legal_of rule p o m) h
 pub own_moves : (p : Position) (rule : RuleSet) (m : Move) (o : Option Man) → man_on p.men m.from ≡ o → is_of_colour o p.turn ≡ false
     → is_pseudo_legal rule p m ≡ false
 own_moves p rule m None e h = nobody_moves rule p m e
-own_moves p rule m (Some x) e h =
-    false_by (is_pseudo_legal rule p m) (λ y. let c : x.colour ≡ p.turn = (made rule p m x y e).mine in let t : same_colour p.turn p.turn ≡ false = rw c at h in
-    let u = same_colour-refl p.turn in cc)
+own_moves p rule m (Some x) e h = false_by (is_pseudo_legal rule p m) (λ y. grind (arith, (made rule p m x y e).mine, same_colour-refl p.turn))
 
 -- the first arrival whose triples are all numbered from a on, counted from their origin's first
 abbrev pub arrival_from : ℕ → ℕ
@@ -108,9 +102,8 @@ pub from-unpromoted : (p : Position) (x : Man) (s z t a : ℕ) → man_on p.men 
     → IsBarrenFrom p s z a (per_arrival * t + per_arrival)
 from-unpromoted p x s z t a here h lt = record {
   fails = λ rule k lo hi on.
-      let to : k / per_arrival ≡ t = omega arith in
       let some = named_by (promotion_at (k % per_arrival)) (some_named (k % per_arrival) (omega arith) (omega arith)) in
-      no_promotion_here rule p x (record { from = s; to = k / per_arrival; promo = promotion_at (k % per_arrival) }) some.0 here some.1 (rw to h);
+      no_promotion_here rule p x _ some.0 here some.1 (search rules);
 }
 
 -- on the last there is one
@@ -120,13 +113,12 @@ from-promoted p x s z t here h = record {
   fails = λ rule k lo hi on.
       let to : k / per_arrival ≡ t = omega arith in
       let first : k % per_arrival ≡ 0 = omega arith in
-      promotion_missing rule p x (record { from = s; to = k / per_arrival; promo = promotion_at (k % per_arrival) }) here (rw first refl) (rw to h);
+      grind (arith, promotion_missing rule p x (record { from = s; to = k / per_arrival; promo = promotion_at (k % per_arrival) }) here);
 }
 
 -- up to the first target
 pub from-target : (p : Position) (s start at t w : ℕ) → IsBarrenFrom p s w start at
-    → IsFirst (λ q. bit_at w q == 1) (at / per_arrival) (64 - at / per_arrival) t
-    → IsBarrenFrom p s w start (per_arrival * t)
+    → IsFirst (λ q. bit_at w q == 1) (at / per_arrival) (64 - at / per_arrival) t → IsBarrenFrom p s w start (per_arrival * t)
 from-target p s start at t w past f = search rules
 
 -- and past the move to it without a promotion, where a pawn arrives on its last rank
@@ -137,11 +129,8 @@ from-first p x s start at t w n here past found last e = search (rules, from-joi
 
 -- up to the end, where there is none
 pub from-none : (p : Position) (s start at w : ℕ) → IsBarrenFrom p s w start at
-    → find (λ q. bit_at w q == 1) (range_with_len (at / per_arrival) (64 - at / per_arrival)) ≡ None
-    → IsBarrenFrom p s w start per_origin
-from-none p s start at w past none =
-    from-join p s w start at per_origin past (from-missed p s at per_origin w
-    (λ q lo hi. find_no (λ q. bit_at w q == 1) (at / per_arrival) (64 - at / per_arrival) q none lo (omega arith)))
+    → find (λ q. bit_at w q == 1) (range_with_len (at / per_arrival) (64 - at / per_arrival)) ≡ None → IsBarrenFrom p s w start per_origin
+from-none p s start at w past none = grind (arith, from-join p s w start at per_origin past, from-missed p s at per_origin w, find_no (λ q. bit_at w q == 1))
 
 -- another man than a pawn never arrives as one
 pub no_pawn_arrives : (x : Man) (t : ℕ) → same_kind x.kind Pawn ≡ false → is_promoting x t ≡ false
@@ -150,10 +139,9 @@ no_pawn_arrives x t h = rw h refl
 -- a man that is no pawn has no other triple to a square than that without a promotion
 from-plain : (p : Position) (x : Man) (s a w : ℕ) → man_on p.men s ≡ Some x → same_kind x.kind Pawn ≡ false
     → IsBarrenFrom p s w a (per_arrival * arrival_from a)
-from-plain p x s a w here h = elim (cases_eq (a % per_arrival) 0) [
-  | inl e ↦ grind (arith, from-empty p s w a)
-  | inr ne ↦ grind (arith, from-unpromoted p x s w (a / per_arrival) a here, no_pawn_arrives)
-]
+from-plain p x s a w here h =
+    let none = no_pawn_arrives x (a / per_arrival) h in
+    grind (arith, cases_eq (a % per_arrival) 0, from-empty p s w a, from-unpromoted p x s w (a / per_arrival) a here none)
 
 -- for another man than a pawn, up to the next target
 pub plain-target : (p : Position) (x : Man) (s start t w n : ℕ) → man_on p.men s ≡ Some x → same_kind x.kind Pawn ≡ false
@@ -163,8 +151,7 @@ plain-target p x s start t w n here h found e =
 
 -- or to the end, where there is none
 pub plain-none : (p : Position) (x : Man) (s start w : ℕ) → man_on p.men s ≡ Some x → same_kind x.kind Pawn ≡ false
-    → find (λ q. bit_at w q == 1) (range_with_len (arrival_from start) (64 - arrival_from start)) ≡ None
-    → IsBarrenFrom p s w start per_origin
+    → find (λ q. bit_at w q == 1) (range_with_len (arrival_from start) (64 - arrival_from start)) ≡ None → IsBarrenFrom p s w start per_origin
 plain-none p x s start w here h none = search (rules, from-none, from-plain p x s start w here h)
 
 -- the triple that is found

@@ -1,7 +1,5 @@
 -- The triples: which moves they are, in which order they stand, and that each legal move is one of them.
-use Rattle.chess_rules.proofs.Basics.{AllPairs, Bool, Contains, List, Option, Some, [], and_parts, ap, arith, false≢true, flat_map, inl, inr, length, list_any, map, or_cases, range_with_len, refl, rules, suc, true, zero, ℕ, ◌+◌, ◌-◌, ◌<◌, ◌↔◌, ◌∷◌, ◌≡◌, ◌⊎◌, get_or-range_with_len, length-range_with_len}
-use Rattle.chess_rules.proofs.Chess.{Bishop, Colour, Grasshopper, Kind, King, Knight, Man, Move, Nightrider, Pawn, Position, Queen, Rook, RuleSet, Step, all_triples, along, along-is, can_castle, gait_of, goes_by, hops, is_nil, is_promotion_right, is_pseudo_legal, is_square, kind_steps, leaps, man_on, may_castle, may_promote, promotions, reaches, reaches_as, reaches_of, rides, squares, triple_at, triples, Gait, Hopper, Leaper, Rider}
-use Rattle.chess_core.specs.MoveOrder.{promotion_order, order_number}
+use Rattle.chess_rules.proofs.Chess.{AllPairs, Bishop, Bool, Colour, Contains, Gait, Grasshopper, Hopper, Kind, King, Knight, Leaper, List, Man, Move, Nightrider, Option, Pawn, Position, Queen, Rider, Rook, RuleSet, Some, Step, [], all_triples, along, along-is, and_parts, ap, arith, can_castle, false≢true, flat_map, gait_of, get_or-range_with_len, goes_by, hops, is_nil, is_promotion_right, is_pseudo_legal, is_square, kind_steps, leaps, length, length-range_with_len, list_any, man_on, map, may_castle, may_promote, or_cases, order_number, promotion_order, promotions, range_with_len, reaches, reaches_as, reaches_of, refl, rides, rules, squares, suc, triple_at, triples, true, zero, ℕ, ◌+◌, ◌-◌, ◌<◌, ◌↔◌, ◌∷◌, ◌≡◌, ◌⊎◌}
 use Rattle.chess_rules.proofs.listing_moves.Members.{first_in, none_in_nil, from_flat_map, from_map, from_range, in_flat_map, in_map, in_range, pairs_map}
 use Rattle.chess_rules.proofs.listing_moves.Places.{triples_numbered}
 use Rattle.chess_rules.proofs.making_moves.Pseudo.{IsMade, made, pawn_goes, ways, on_board}
@@ -24,12 +22,8 @@ from_triples m c =
     let a = from_flat_map (λ s. flat_map (λ t. map (λ r. record { from = s; to = t; promo = r }) promotions) (range_with_len 0 64)) (range_with_len 0 64) m c in
     let b = from_flat_map (λ t. map (λ r. record { from = a.0; to = t; promo = r }) promotions) (range_with_len 0 64) m a.2 in
     let r = from_map (λ r. record { from = a.0; to = b.0; promo = r }) promotions m b.2 in
-    let origin : a.0 ≡ m.from = ap (λ (n : Move). n.from) r.2 in
-    let arrival : b.0 ≡ m.to = ap (λ (n : Move). n.to) r.2 in
     let promotion : r.0 ≡ m.promo = ap (λ (n : Move). n.promo) r.2 in
-    let f = from_range 0 64 a.0 a.1 in
-    let t = from_range 0 64 b.0 b.1 in
-    (omega (arith, f, origin), omega (arith, t, arrival), rw promotion at r.1)
+    (grind (arith, from_range 0 64 a.0 a.1, r.2), grind (arith, from_range 0 64 b.0 b.1, r.2), rw promotion at r.1)
 
 -- the numbers of the triples rise
 next_rises : (n : ℕ) → n < 28671 → order_number (triple_at n) < order_number (triple_at (n + 1))
@@ -42,25 +36,19 @@ later_rises (suc d) n less = grind (arith, next_rises, later_rises d n (omega (a
 
 -- the numbers of a range rise
 range_rises : (a n : ℕ) → AllPairs (λ j k. (j < k) × (k < a + n)) (range_with_len a n)
-range_rises a n i j d low high =
-    let less : j < n = rw length-range_with_len at high in
-    rw (get_or-range_with_len a n i d (omega (arith, low, less)), get_or-range_with_len a n j d less) (omega (arith, low), omega (arith, less))
+range_rises a n i j d low high = search (rules, length-range_with_len, get_or-range_with_len)
 
 -- the triples stand in the order of their numbers
 pub triples_rise : AllPairs (λ m n. order_number m < order_number n) triples
 triples_rise =
     rw triples_numbered (pairs_map (λ j k. (j < k) × (k < 0 + all_triples)) (λ m n. order_number m < order_number n) triple_at (range_with_len 0 all_triples)
-    (λ j k w. let e : j + suc (k - j - 1) ≡ k = omega (arith, w) in rw e at (later_rises (k - j - 1) j (omega (arith, w))))
-    (range_rises 0 all_triples))
+    (λ j k w. let e : j + suc (k - j - 1) ≡ k = omega (arith, w) in rw e at (later_rises (k - j - 1) j (omega (arith, w)))) (range_rises 0 all_triples))
 
 -- Each move that may be made goes from a square to a square, with one of the promotions or none.
 
 some_passes : {X Q : Type 0} (test : X → Bool) (xs : List X) → ((x : X) → test x ≡ true → Q) → list_any test xs ≡ true → Q
 some_passes test [] give h = absurd (false≢true h)
-some_passes test (x ∷ xs) give h = elim (or_cases (test x) (list_any test xs) h) [
-  | inl here ↦ give x here
-  | inr r ↦ some_passes test xs give r
-]
+some_passes test (x ∷ xs) give h = grind (arith, or_cases (test x) (list_any test xs) h, give x, some_passes test xs give)
 
 stays_on_board : (s : ℕ) (d : Step) (k t : ℕ) → is_square (along s d k) t ≡ true → t < 64
 stays_on_board s d k t h = (along-is s d k t h).small

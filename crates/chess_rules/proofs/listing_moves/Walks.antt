@@ -1,7 +1,5 @@
 -- No move is missed by walking from candidate to candidate.
-use Rattle.chess_rules.proofs.Basics.{Bool, None, Some, and_right, ap, arith, bit_and, bit_at, bit_at-lt, bit_at-zero, bit_at_and, cases_Bool, cases_eq, cases_lt, eq-eqb, eqb-true, false, find, inl, inr, not, range_with_len, refl, rules, true, ℕ, ◌%◌, ◌*◌, ◌+◌, ◌-◌, ◌/◌, ◌<◌, ◌==◌, ◌≡◌, ◌≤◌}
-use Rattle.chess_rules.proofs.Chess.{per_arrival, all_triples, per_origin, AreCandidates, AreEvasionsFrom, AreOrigins, HaveNone, IsAimed, IsBarrenFrom, IsNamed, Move, Position, RuleSet, find_first, find_no, is_arrival, is_legal, is_pseudo_legal, promotion_at, side_of, triple_at, word, is_legal-idle}
-use Rattle.chess_rules.proofs.Bits.{word_has}
+use Rattle.chess_rules.proofs.Chess.{AreCandidates, AreEvasionsFrom, AreOrigins, Bool, HaveNone, IsAimed, IsBarrenFrom, IsNamed, Move, None, Position, RuleSet, Some, all_triples, and_right, ap, arith, bit_and, bit_at, bit_at-lt, bit_at-zero, bit_at_and, cases_Bool, cases_eq, cases_lt, eq-eqb, eqb-true, false, find, find_first, find_no, inl, inr, is_arrival, is_legal, is_legal-idle, is_pseudo_legal, not, per_arrival, per_origin, promotion_at, range_with_len, refl, rules, side_of, subst, triple_at, true, word, word_has, ℕ, ◌%◌, ◌*◌, ◌+◌, ◌-◌, ◌/◌, ◌<◌, ◌==◌, ◌≡◌, ◌≤◌}
 use Rattle.chess_rules.proofs.listing_moves.Targeting.{arrival_needed, false_by, own_moves}
 
 -- squares of two words
@@ -16,6 +14,15 @@ off_second a b i h on = search (rules, bit_at_and, eq-eqb, eqb-true, false_by)
 pub off_zero : (i : ℕ) → (bit_at 0 i == 1) ≡ false
 off_zero i = rw (bit_at-zero i) refl
 
+-- an origin's triples by their numbers
+pub triple_of : (s a : ℕ) → a < per_origin → triple_at (per_origin * s + a) ≡ record { from = s; to = a / per_arrival; promo = promotion_at (a % per_arrival) }
+unfolding triple_at
+triple_of s a lt =
+    let from : (per_origin * s + a) / per_origin ≡ s = omega (arith, lt) in
+    let to : (per_origin * s + a) / per_arrival % 64 ≡ a / per_arrival = omega (arith, lt) in
+    let promo : (per_origin * s + a) % per_arrival ≡ a % per_arrival = omega (arith, lt) in
+    rw (from, to, promo) refl
+
 module _ (rule : RuleSet) (p : Position) (test : Move → Bool) (needs : (m : Move) → is_pseudo_legal rule p m ≡ false → test m ≡ false) where
   -- the candidates of one origin
   pub candidates : (s a w : ℕ) → a ≡ word (is_arrival rule p s)
@@ -24,9 +31,8 @@ module _ (rule : RuleSet) (p : Position) (test : Move → Bool) (needs : (m : Mo
   candidates s a w arrivals h = search (rules, arrival_needed, cases_Bool, off_second, on_first, word_has)
 
   -- where no arrival could pass the test there are none
-  pub no_candidates : (s w : ℕ) → w ≡ 0 → ((m : Move) → m.from ≡ s → m.to < 64 → is_pseudo_legal rule p m ≡ true → (bit_at w m.to == 1) ≡ false
-      → test m ≡ false)
-      → AreCandidates rule p test s 0
+  pub no_candidates : (s w : ℕ) → w ≡ 0
+      → ((m : Move) → m.from ≡ s → m.to < 64 → is_pseudo_legal rule p m ≡ true → (bit_at w m.to == 1) ≡ false → test m ≡ false) → AreCandidates rule p test s 0
   no_candidates s w zero h = search (rules, cases_Bool, off_zero)
 
   none-join : (a b c : ℕ) → HaveNone test a b → HaveNone test b c → HaveNone test a c
@@ -39,15 +45,10 @@ module _ (rule : RuleSet) (p : Position) (test : Move → Bool) (needs : (m : Mo
   -- of an origin's candidates none passes over a stretch without a move
   pub none-from : (s w a b : ℕ) → b ≤ per_origin → AreCandidates rule p test s w → IsBarrenFrom p s w a b
       → HaveNone test (per_origin * s + a) (per_origin * s + b)
-  unfolding triple_at
   none-from s w a b le are h = record {
     fails = λ k lo hi.
-        let from : k / per_origin ≡ s = omega (arith, lo, hi, le) in
-        let to : k / per_arrival % 64 ≡ (k - per_origin * s) / per_arrival = omega (arith, lo, hi, le) in
-        let promo : k % per_arrival ≡ (k - per_origin * s) % per_arrival = omega (arith, lo, hi, le) in
-        let m : Move = record { from = s; to = (k - per_origin * s) / per_arrival; promo = promotion_at ((k - per_origin * s) % per_arrival) } in
-        rw (from, to, promo) (none-move s w m are refl
-        (omega (arith, hi, le)) (h.fails rule (k - per_origin * s) (omega (arith, lo)) (omega (arith, lo, hi))));
+        let at : per_origin * s + (k - per_origin * s) ≡ k = omega (arith, lo) in
+        grind (arith, at, triple_of s (k - per_origin * s), none-move s w (triple_at k) are, h.fails rule (k - per_origin * s));
   }
 
   -- past one that fails too
@@ -72,15 +73,7 @@ module _ (rule : RuleSet) (p : Position) (test : Move → Bool) (needs : (m : Mo
       → HaveNone test (per_origin * s + z) (per_origin * s + a) → HaveNone test start (n + a)
   none-origin start number s a o n z h past found at off here =
       let f = find_first (λ q. bit_at o q == 1) (number / per_origin) (64 - number / per_origin) s found in
-      rw at (elim (cases_lt (per_origin * s) number) [
-        | inl lt ↦
-            let e : per_origin * s + z ≡ number = omega (arith, lt, at, off) in
-            none-join start number (per_origin * s + a) past (rw e at here)
-        | inr ge ↦
-            let e : per_origin * s + z ≡ per_origin * s = omega (arith, ge, at, off) in
-            let before = none-missed number (per_origin * s) o h (omega (arith, f.high, f.low)) (λ q lo hi. f.before q lo (omega (arith, hi))) in
-            none-join start (per_origin * s) (per_origin * s + a) (none-join start number (per_origin * s) past before) (rw e at here)
-      ])
+      grind (arith, cases_lt (per_origin * s) number, none-join, none-missed number (per_origin * s) o h, f.before)
 
   -- up to the end, where there is none
   pub none-end : (start number o : ℕ) → AreOrigins test o → HaveNone test start number
@@ -92,23 +85,11 @@ module _ (rule : RuleSet) (p : Position) (test : Move → Bool) (needs : (m : Mo
 -- the triple that is found
 pub aimed_from : (rule : RuleSet) (p : Position) (test : Move → Bool) (s w a : ℕ) → a < per_origin → AreCandidates rule p test s w → IsNamed p s w a
     → IsAimed rule p (triple_at (per_origin * s + a))
-unfolding triple_at
-aimed_from rule p test s w a lt are named =
-    let from : (per_origin * s + a) / per_origin ≡ s = omega (arith, lt) in
-    let to : (per_origin * s + a) / per_arrival % 64 ≡ a / per_arrival = omega (arith, lt) in
-    let promo : (per_origin * s + a) % per_arrival ≡ a % per_arrival = omega (arith, lt) in
-    rw (from, to, promo) (record {
-      man = named.man;
-      here = named.here;
-      arrival = are.inside (a / per_arrival) (omega (arith, lt)) named.inside;
-      promotion =
-          named.promotion;
-    })
+aimed_from rule p test s w a lt are named = rw (triple_of s a lt) (grind (arith, are.inside (a / per_arrival), named))
 
 -- a move to no square that ends a check isn't legal
 pub evasions_elsewhere : (rule : RuleSet) (p : Position) (s w : ℕ) → AreEvasionsFrom rule p s w → (m : Move) → m.from ≡ s → m.to < 64
-    → is_pseudo_legal rule p m ≡ true
-    → (bit_at w m.to == 1) ≡ false → is_legal rule p m ≡ false
+    → is_pseudo_legal rule p m ≡ true → (bit_at w m.to == 1) ≡ false → is_legal rule p m ≡ false
 unfolding is_legal
 evasions_elsewhere rule p s w h m at small may off = and_right (is_pseudo_legal rule p m) _ (ap not (h.elsewhere m at small may off))
 

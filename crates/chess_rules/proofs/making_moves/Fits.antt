@@ -1,6 +1,5 @@
 -- A move that may be made can be made on the board.
-use Rattle.chess_rules.proofs.Basics.{IsSome, List, None, Option, Some, and_from, and_parts, ap, arith, cases_Bool, cond-false, cond-true, eq-eqb, eqb-true, false, false_from_ne_true, inl, inr, is_some, list_any, not-true, refl, rules, sym, true, ℕ, ◌&&◌, ◌<◌, ◌∙◌, ◌≡◌, ◌≢◌}
-use Rattle.chess_rules.proofs.Chess.{CanCastle, CanMove, Colour, HasNoKing, IsAt, IsWellFormed, Kind, King, Man, Move, Pawn, Position, RuleSet, arriving_man, capture_square, corner, file_of, halfway, is_castling, is_crossed_right, is_diagonal, is_man, is_man-without, is_promotion_right, is_square, leaps, man_on, man_on-without_none, man_on-without_other, queen_steps, rank_of, reaches, reaches_as, same_colour, same_kind, same_kind-true, square_at, square_at-is, was_passed, with_man, without_at, without_man}
+use Rattle.chess_rules.proofs.Chess.{CanCastle, CanMove, Colour, HasNoKing, IsAt, IsSome, IsWellFormed, Kind, King, List, Man, Move, None, Option, Pawn, Position, RuleSet, Some, and_parts, arith, arriving_man, capture_square, cases_Bool, cond-false, cond-true, corner, eq-eqb, eqb-true, false, false_from_ne_true, file_of, halfway, inl, inr, is_castling, is_crossed_right, is_diagonal, is_man, is_man-without, is_promotion_right, is_some, is_square, leaps, list_any, man_on, man_on-without_none, man_on-without_other, queen_steps, rank_of, reaches, reaches_as, refl, rules, same_colour, same_kind, same_kind-true, square_at, square_at-is, sym, true, was_passed, with_man, without_at, without_man, ℕ, ◌&&◌, ◌∙◌, ◌≡◌, ◌≢◌}
 use Rattle.chess_rules.proofs.making_moves.Castles.{no_king_left, same_colour_self}
 use Rattle.chess_rules.proofs.making_moves.Plays.{stays_empty}
 use Rattle.chess_rules.proofs.making_moves.Pseudo.{IsCastle, IsMade, IsPawnTake, king_castles, king_is_no_pawn, made, on_board, pawn_goes, pawn_reaches, ways}
@@ -41,28 +40,18 @@ diagonal_takes rule p x m made pawn diagonal = search (rules, pawn_goes, pawn_re
 pub taken : (rule : RuleSet) (p : Position) (x : Man) (m : Move) (s : ℕ) → IsWellFormed p → IsMade rule p x m → capture_square p x m ≡ Some s → IsTaken p m s
 unfolding capture_square is_crossed_right
 taken rule p x m s well made h = elim (cases_Bool (is_some (man_on p.men m.to))) [
-  | inl e ↦
-      let c : Some m.to ≡ Some s = sym (cond-true (is_some (man_on p.men m.to)) _ _ e) ∙ h in
-      let is : m.to ≡ s = cc in
-      rw (← is) (taken_there rule p x m made e)
-  | inr e ↦
-      let h1 = sym (cond-false (is_some (man_on p.men m.to)) _ _ e) ∙ h in
-      elim (cases_Bool (same_kind x.kind Pawn && is_diagonal m && is_square p.crossed m.to)) [
-        | inl q ↦
-            let h2 : square_at (file_of m.to) (rank_of m.from) ≡ Some s =
-            sym (cond-true (same_kind x.kind Pawn && is_diagonal m && is_square p.crossed m.to) _ _ q) ∙ h1 in
-            let q1 = and_parts _ _ q in
-            let q2 = and_parts _ _ q1.0 in
-            let crossed : p.crossed ≡ Some m.to = square_is p.crossed m.to q1.1 in
-            let right : is_crossed_right p.men p.turn (Some m.to) ≡ true = ap (λ (o : Option ℕ). is_crossed_right p.men p.turn o) (sym crossed)
-            ∙ well.crossed in
-            let passed : was_passed p.men x.colour m.to ≡ true = ap (λ (c : Colour). was_passed p.men c m.to) made.mine ∙ right in
-            let at : IsAt (file_of m.to) (rank_of m.from) s = square_at-is _ _ s (rw h2 (eq-eqb s s refl)) in
-            taken_passing x.colour p x m s (sym made.mine) refl made.here (diagonal_takes rule p x m made q2.0 q2.1) passed at
-        | inr q ↦
-            let h2 : None ≡ Some s = sym (cond-false (same_kind x.kind Pawn && is_diagonal m && is_square p.crossed m.to) _ _ q) ∙ h1 in
-            cc
-      ]
+  | inl e ↦ grind (arith, taken_there rule p x m made e, cond-true)
+  | inr e ↦ elim (cases_Bool (same_kind x.kind Pawn && is_diagonal m && is_square p.crossed m.to)) [
+    | inl q ↦
+        let q1 = and_parts _ _ q in
+        let q2 = and_parts _ _ q1.0 in
+        let crossed = square_is p.crossed m.to q1.1 in
+        let passed : was_passed p.men x.colour m.to ≡ true = grind (arith, crossed, well.crossed, made.mine) in
+        let there : square_at (file_of m.to) (rank_of m.from) ≡ Some s = rw (e, q) at h in
+        let at = square_at-is _ _ s (rw there (eq-eqb s s refl)) in
+        taken_passing x.colour p x m s (sym made.mine) refl made.here (diagonal_takes rule p x m made q2.0 q2.1) passed at
+    | inr q ↦ grind (arith, cond-false, e, q)
+  ]
 ]
 
 -- a king that arrives is the king that went
@@ -77,8 +66,9 @@ without_at-no_king men o c none = grind (arith, false_from_ne_true, is_man-witho
 man_on-without_at : (men : List (Option Man)) (o : Option ℕ) (t : ℕ) → ((s : ℕ) → o ≡ Some s → t ≢ s) → man_on (without_at men o) t ≡ man_on men t
 man_on-without_at men o t ne = grind (arith, man_on-without_other)
 
-some-is_some : (men : List (Option Man)) (s : ℕ) (y : Man) → man_on men s ≡ Some y → IsSome (man_on men s)
-some-is_some men s y e = rw e (search rules)
+-- where a man stands, some man does
+pub some_there : (o : Option Man) (y : Man) → o ≡ Some y → IsSome o
+some_there o y e = rw e (search rules)
 
 -- a man that goes where nobody stood captures nothing but en passant
 pub no_capture : (p : Position) (x : Man) (m : Move) → man_on p.men m.to ≡ None → same_kind x.kind Pawn && is_diagonal m ≡ false → capture_square p x m ≡ None
@@ -101,14 +91,7 @@ unfolding reaches reaches_as
 king_no_step p x m well here castling king h =
     let k : x.kind ≡ King = same_kind-true x.kind King king in
     let steps : list_any (leaps m.from m.to) queen_steps ≡ true = rw (here, k) at h in
-    let c1 = and_parts _ _ castling in
-    let c2 = and_parts _ _ c1.0 in
-    let from : m.from < 64 = on_board p.men m.from x well.size here in
-    let rank : rank_of m.from ≡ rank_of m.to = eqb-true _ _ c2.1 in
-    let to : m.to < 64 = omega arith in
-    let table = not-true _ (king_step_is_no_castling m.from m.to from to) in
-    let all = and_from _ _ (and_from _ _ c2.1 c1.1) steps in
-    cc
+    grind (arith, and_parts, eqb-true, on_board p.men m.from x well.size here, king_step_is_no_castling m.from m.to)
 
 -- a king that castles goes neither by a step nor as a pawn
 pub castle_of : (rule : RuleSet) (p : Position) (x : Man) (m : Move) → IsWellFormed p → IsMade rule p x m → is_castling x m ≡ true
@@ -135,11 +118,9 @@ can_move rule p x m well made = record {
   here = made.here;
   taken = λ s h.
       let t = taken rule p x m s well made h in
-      some-is_some (without_man p.men m.from) s t.man (man_on-without_other p.men m.from s t.apart ∙ t.there);
+      some_there (man_on (without_man p.men m.from) s) t.man (man_on-without_other p.men m.from s t.apart ∙ t.there);
   one_king = λ king.
-      let same : arriving_man x m.promo ≡ x = arriving_king p x m m.promo made.promotion king in
-      let k : same_kind x.kind King ≡ true = ap (λ (y : Man). same_kind y.kind King) (sym same) ∙ king in
-      let none : HasNoKing (without_man p.men m.from) x.colour = no_king_left p.men m.from x well.kings made.here (same_colour_self x k) in
-      rw same (without_at-no_king (without_man p.men m.from) (capture_square p x m) x.colour none);
+      let none = without_at-no_king (without_man p.men m.from) (capture_square p x m) x.colour in
+      grind (arith, arriving_king p x m m.promo made.promotion king, no_king_left p.men m.from x well.kings made.here, same_colour_self x, none);
   rook = rook_can_castle rule p x m well made;
 }

@@ -1,6 +1,5 @@
 -- What a move that may be made is made of, check to the mover apart.
-use Rattle.chess_rules.proofs.Basics.{arith, List, None, Option, Some, and_parts, cases_lt, cond-false, cond-true, eqb-true, false, get_or_past, inl, inr, le-ltb, length, list_any, lt-ltb, or_cases, rules, true, ℕ, ◌+◌, ◌<◌, ◌≡◌, ◌≢◌, ◌⊎◌}
-use Rattle.chess_rules.proofs.Chess.{Black, Colour, IsWellFormed, Kind, King, Man, Move, Pawn, Position, Rook, RuleSet, White, along, along-is, can_castle, corner, file_of, forward, can_go, halfway, is_arrival_free, is_home-none, is_home-square, is_promotion_right, is_pseudo_legal, is_square, leaps, man_on, may_castle, pawn_capture_steps, is_pawn_step, is_pawn_capture, rank_of, reaches, reaches_as, same_colour-true, same_kind, same_kind-true, second_rank}
+use Rattle.chess_rules.proofs.Chess.{Black, Colour, IsWellFormed, Kind, King, List, Man, Move, None, Option, Pawn, Position, Rook, RuleSet, Some, White, along, along-is, and_parts, arith, can_castle, can_go, cases_lt, cond-false, cond-true, corner, eqb-true, false, file_of, forward, get_or_past, halfway, is_arrival_free, is_home-none, is_home-square, is_pawn_capture, is_pawn_step, is_promotion_right, is_pseudo_legal, is_square, le-ltb, leaps, length, list_any, lt-ltb, man_on, may_castle, or_cases, pawn_capture_steps, rank_of, reaches, reaches_as, rules, same_colour-true, same_kind, same_kind-true, second_rank, true, ℕ, ◌+◌, ◌<◌, ◌≡◌, ◌≢◌, ◌⊎◌}
 use Rattle.chess_rules.proofs.making_moves.Castles.{no_man}
 
 -- the parts of the definition
@@ -55,9 +54,7 @@ pawn_leaps c s t h = grind (arith, along-is, or_cases)
 pub pawn_reaches : (men : List (Option Man)) (x : Man) (s t : ℕ) → man_on men s ≡ Some x → same_kind x.kind Pawn ≡ true → reaches men s t ≡ true
     → IsPawnTake x.colour s t
 unfolding reaches reaches_as
-pawn_reaches men x s t here pawn h =
-    let k : x.kind ≡ Pawn = same_kind-true x.kind Pawn pawn in
-    pawn_leaps x.colour s t (rw (here, k) at h)
+pawn_reaches men x s t here pawn h = grind (arith, same_kind-true x.kind Pawn, pawn_leaps x.colour s t)
 
 -- a pawn's step, or two of them
 pub record IsPawnStep (p : Position) (x : Man) (m : Move) : Type 0 where
@@ -71,26 +68,12 @@ record IsAhead (c : Colour) (s t n : ℕ) : Type 0 where
   pub file : file_of s ≡ file_of t
   pub small : t < 64
 
-ahead_one : (c : Colour) (s t : ℕ) → is_square (along s (forward c) 1) t ≡ true → IsAhead c s t 1
-ahead_one c s t h = grind (arith, along-is)
-
-ahead_two : (c : Colour) (s t : ℕ) → is_square (along s (forward c) 2) t ≡ true → IsAhead c s t 2
-ahead_two c s t h = grind (arith, along-is)
+ahead : (c : Colour) (s t n : ℕ) → is_square (along s (forward c) n) t ≡ true → IsAhead c s t n
+ahead c s t n h = grind (arith, along-is)
 
 -- where a pawn steps, it goes so
 pub pawn_goes : (p : Position) (x : Man) (m : Move) → is_pawn_step p x m ≡ true → IsPawnStep p x m
-pawn_goes p x m h =
-    let h1 = and_parts _ _ h in
-    elim (or_cases _ _ h1.1) [
-      | inl e ↦
-          let i = ahead_one x.colour m.from m.to e in
-          record { empty = no_man p.men m.to h1.0; small = i.small; ahead = i.file; way = inl i.advances }
-      | inr e ↦
-          let h2 = and_parts _ _ e in
-          let h3 = and_parts _ _ h2.0 in
-          let i = ahead_two x.colour m.from m.to h3.1 in
-          record { empty = no_man p.men m.to h1.0; small = i.small; ahead = i.file; way = inr (eqb-true _ _ h3.0, (i.advances, no_man p.men (halfway m) h2.1)) }
-    ]
+pawn_goes p x m h = grind (arith, and_parts, or_cases, ahead x.colour m.from m.to 1, ahead x.colour m.from m.to 2, no_man, eqb-true)
 
 -- a king and a rook that castle
 pub record IsCastle (p : Position) (m : Move) : Type 0 where

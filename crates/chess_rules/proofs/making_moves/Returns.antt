@@ -1,11 +1,10 @@
 -- The position before a move, found again.
-use Rattle.chess_rules.proofs.Basics.{IsSome, List, None, Option, Some, and_parts, ap, arith, cases_Bool, inl, inr, length, length-set, refl, rules, sym, true, ℕ, ◌<◌, ◌∙◌, ◌≡◌}
-use Rattle.chess_rules.proofs.Chess.{captured_man, same_kind-true, CanCastle, CanReturn, IsWellFormed, Kind, Man, Move, Position, RuleSet, position_after_by, arriving_man, before_by, capture_square, corner, halfway, is_castling, is_crossed_right, is_promotion_right, is_pseudo_legal, leaving_man, man_on, man_on-with_same, man_on-without_other, man_on-without_same, man_on_at, moved_men, position_after, put_at, reborn_square, returned_men, return_square, uncastled_men, undo_by, undo_of, without_at, without_man}
+use Rattle.chess_rules.proofs.Chess.{CanCastle, CanReturn, IsSome, IsWellFormed, Kind, List, Man, Move, None, Option, Position, RuleSet, Some, and_parts, arith, arriving_man, before_by, capture_square, captured_man, cases_Bool, corner, halfway, inl, inr, is_castling, is_crossed_right, is_promotion_right, is_pseudo_legal, leaving_man, length, length-set, man_on, man_on-with_same, man_on-without_other, man_on-without_same, man_on_at, moved_men, position_after, position_after_by, put_at, reborn_square, refl, return_square, returned_men, rules, same_kind-true, true, uncastled_men, undo_by, undo_of, without_at, without_man, ℕ, ◌<◌, ◌∙◌, ◌≡◌}
 use Rattle.chess_rules.specs.Undo.{Undo}
 use Rattle.chess_rules.proofs.making_moves.Pseudo.{made}
 use Rattle.chess_rules.proofs.making_moves.Back.{lift_after_place, place_after_lift, unborn, uncastled}
 use Rattle.chess_rules.proofs.making_moves.Castles.{no_king_left, same_colour_self}
-use Rattle.chess_rules.proofs.making_moves.Fits.{IsTaken, arrived, can_move, castle_of, corner_stays, taken}
+use Rattle.chess_rules.proofs.making_moves.Fits.{IsTaken, arrived, can_move, castle_of, corner_stays, some_there, taken}
 use Rattle.chess_rules.proofs.making_moves.Plays.{capture_clears, length-without_at}
 use Rattle.chess_rules.proofs.making_moves.Pseudo.{IsCastle, IsMade}
 use Rattle.chess_rules.proofs.making_moves.Stays.{captured_mortal, move_man_other, moved_sound, reborn_is, rebirth_small, maker}
@@ -23,10 +22,8 @@ pub moved_arrival : (rule : RuleSet) (p : Position) (x : Man) (m : Move) → IsW
 unfolding moved_men
 moved_arrival rule p x m well made small = elim (cases_Bool (is_castling x m)) [
   | inl e ↦
-      let c = castle_of rule p x m well made e in
-      rw e (move_man_other (arrived p x m) (corner m) (halfway m) (man_on (arrived p x m) (corner m)) m.to
-      (λ q. elim c.1.far [ inl f ↦ omega arith | inr f ↦ omega arith ]) (λ q. elim c.1.far [ inl f ↦ omega arith | inr f ↦ omega arith ])
-      ∙ arrived_there p x m well.size small)
+      let stays = move_man_other (arrived p x m) (corner m) (halfway m) (man_on (arrived p x m) (corner m)) m.to in
+      grind (arith, (castle_of rule p x m well made e).1.far, stays, arrived_there p x m well.size small)
   | inr e ↦ rw e (arrived_there p x m well.size small)
 ]
 
@@ -62,25 +59,14 @@ returned : (rule : RuleSet) (p : Position) (x : Man) (m : Move) (u : Undo) → I
     → returned_men (moved_men p x m) x m u ≡ without_man p.men m.from
 unfolding returned_men undo_by
 returned rule p x m u well made lost =
-    let back : put_at (cleared p x m) (capture_square p x m) (captured_man p x m)
-    ≡ without_man p.men m.from = recapture (capture_square p x m) (λ s e. taken rule p x m s well made e) in
-    rw (
-      lost,
-      uncastles rule p x m well made,
-      lift_after_place (cleared p x m) m.to (arriving_man x m.promo) (capture_clears p x m),
-      returns_there rule p x m well
-          made,
-    ) back where
-      recapture : (o : Option ℕ) → ((s : ℕ) → o ≡ Some s → IsTaken p m s)
-          → put_at (without_at (without_man p.men m.from) o) o (man_on_at p.men o) ≡ without_man p.men m.from
-      recapture None t = refl
-      recapture (Some s) t =
-          let k = t s refl in
-          let there : man_on (without_man p.men m.from) s ≡ Some k.man = man_on-without_other p.men m.from s k.apart ∙ k.there in
-          rw k.there (place_after_lift (without_man p.men m.from) s k.man there)
-
-some_there : (o : Option Man) (y : Man) → o ≡ Some y → IsSome o
-some_there o y e = rw e (search rules)
+    let back = recapture (capture_square p x m) (λ s e. taken rule p x m s well made e) in
+    let lifted = lift_after_place (cleared p x m) m.to (arriving_man x m.promo) (capture_clears p x m) in
+    rw (lost, uncastles rule p x m well made, lifted, returns_there rule p x m well made) back
+  where
+    recapture : (o : Option ℕ) → ((s : ℕ) → o ≡ Some s → IsTaken p m s)
+        → put_at (without_at (without_man p.men m.from) o) o (man_on_at p.men o) ≡ without_man p.men m.from
+    recapture None t = refl
+    recapture (Some s) t = let k = t s refl in grind (arith, k, man_on-without_other p.men m.from s, place_after_lift (without_man p.men m.from) s k.man)
 
 castle_back : (rule : RuleSet) (p : Position) (x : Man) (m : Move) → IsWellFormed p → IsMade rule p x m → is_castling x m ≡ true
     → CanCastle (moved_men p x m) (halfway m) (corner m)
@@ -127,19 +113,15 @@ after_is rule p x m here = rw here refl
 
 -- a reborn man can be taken off
 pub can_take_off : (rule : RuleSet) (q p : Position) (m : Move) (u : Undo) (s : ℕ) → IsWellFormed p → is_pseudo_legal rule p m ≡ true
-    → q ≡ position_after rule p m
-    → u ≡ undo_of rule p m → u.rebirth ≡ Some s → IsSome (man_on q.men s)
+    → q ≡ position_after rule p m → u ≡ undo_of rule p m → u.rebirth ≡ Some s → IsSome (man_on q.men s)
 unfolding undo_by position_after_by
 can_take_off rule q p m u s well may now was e =
     let x = maker rule p m may in
-    let at : reborn_square rule p x.0 m ≡ Some s = ap (λ (v : Undo). v.rebirth) (sym (was ∙ undo_is rule p x.0 m x.1)) ∙ e in
-    let men : q.men ≡ put_at (moved_men p x.0 m) (reborn_square rule p x.0 m) (captured_man p x.0 m) = search (rules, after_is) in
-    rw men (reborn_stands rule p x.0 m s well (made rule p m x.0 may x.1) at)
+    grind (arith, undo_is rule p x.0 m x.1, after_is rule p x.0 m x.1, reborn_stands rule p x.0 m s well (made rule p m x.0 may x.1))
 
 -- the board when the reborn man is off
 off_is : (rule : RuleSet) (q q2 p : Position) (x : Man) (m : Move) (u : Undo) → man_on p.men m.from ≡ Some x → q ≡ position_after rule p m
-    → u ≡ undo_by rule p x m
-    → q2 ≡ record q { men = without_at q.men u.rebirth } → q2 ≡ record (position_after_by rule p x m) { men = moved_men p x m }
+    → u ≡ undo_by rule p x m → q2 ≡ record q { men = without_at q.men u.rebirth } → q2 ≡ record (position_after_by rule p x m) { men = moved_men p x m }
 unfolding undo_by position_after_by
 off_is rule q q2 p x m u here now lost off = grind (arith, after_is rule p x m here, unreborn rule p x m)
 
@@ -158,15 +140,7 @@ restores rule q q2 p m u a r well may now was off to small promo =
     let made_is = made rule p m x.0 may x.1 in
     let lost = was ∙ undo_is rule p x.0 m x.1 in
     let q2_is = off_is rule q q2 p x.0 m u x.1 now lost off in
-    let men : q2.men ≡ moved_men p x.0 m = ap (λ (v : Position). v.men) q2_is in
     let in_board : m.to < 64 = omega (arith, to, small) in
-    let arrival : man_on q2.men a ≡ Some (arriving_man x.0 m.promo) = rw (men, to) (moved_arrival rule p x.0 m well made_is in_board) in
-    let back : (y : Man) → man_on q2.men a ≡ Some y → leaving_man y r ≡ x.0 = λ y there.
-    let both : Some y ≡ Some (arriving_man x.0 m.promo) = sym there ∙ arrival in
-    let y_is : y ≡ arriving_man x.0 m.promo = cc in
-    rw (promo, y_is) (goes_back rule p x.0 m made_is) in
-    record {
-      stands = λ none. let bad : None ≡ Some (arriving_man x.0 m.promo) = sym none ∙ arrival in cc;
-      can = λ y there. rw (back y there, men) (can_return rule p x.0 m u well made_is in_board lost);
-      gives = λ y there. rw (back y there, q2_is) (before_is rule p x.0 m u well made_is lost);
-    }
+    let can = can_return rule p x.0 m u well made_is in_board lost in
+    let before = before_is rule p x.0 m u well made_is lost in
+    grind (arith, q2_is, moved_arrival rule p x.0 m well made_is in_board, goes_back rule p x.0 m made_is, can, before)

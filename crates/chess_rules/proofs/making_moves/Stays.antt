@@ -1,8 +1,5 @@
 -- A well-formed position stays well formed.
-use Rattle.chess_rules.proofs.Basics.{Bool, List, None, Option, Some, and_from, and_parts, ap, arith, cases_Bool, cases_eq, cases_lt, cond-false, cond-true, eq-eqb, eqb-true, false, if◌then◌else◌, inl, inr, length, length-set, ne_eqb, not-true, or_cases, refl, rules, set_past, sym, true, ℕ, ◌<◌, ◌∙◌, ◌≡◌, ◌≢◌, ◌≤◌, ◌⊎◌}
-use Rattle.chess_rules.proofs.Chess.{captured_man, AtMostOneKing, AtMostOneKing-without, CanCastle, Colour, HasNoKing, IsAt, IsWellFormed, Kind, King, Man, Move, Pawn, Position, Rook, RuleSet, position_after_by, arriving_man, capture_square, corner, file_of, halfway, has_unmoved, has_unmoved-mark_other, has_unmoved-parts, position_after}
-use Rattle.chess_rules.proofs.Chess.{is_castling, captures_are_reborn, is_crossed_right, is_double_step, is_home, is_home-none, is_man, is_pawn_inside, is_promotion_right, is_vacant, man_on, man_on-with_other, man_on-with_same, man_on-without_none, man_on-without_other, man_on-without_same, man_on_at, move_man}
-use Rattle.chess_rules.proofs.Chess.{is_pseudo_legal, moved_men, other, put_at, rank_of, rebirth, reborn_square, same_colour, same_kind, same_kind-true, second_rank, square_at, square_at-is, unmoved_after, unmoved_with_rook, unmoved_without_at, was_passed, with_man, without_at, without_man, without_unmoved, same_colour-refl, second_fails}
+use Rattle.chess_rules.proofs.Chess.{AtMostOneKing, AtMostOneKing-without, Bool, Colour, HasNoKing, IsWellFormed, Kind, King, List, Man, Move, None, Option, Pawn, Position, Rook, RuleSet, Some, and_from, and_parts, arith, arriving_man, capture_square, captured_man, captures_are_reborn, cases_Bool, cases_eq, cases_lt, cond-false, cond-true, corner, eq-eqb, eqb-true, false, file_of, halfway, has_unmoved, has_unmoved-mark_other, has_unmoved-parts, inl, inr, is_castling, is_crossed_right, is_double_step, is_home, is_home-none, is_man, is_pawn_inside, is_promotion_right, is_pseudo_legal, is_vacant, length, length-set, man_on, man_on-with_other, man_on-with_same, man_on-without_none, man_on-without_other, man_on-without_same, man_on_at, move_man, moved_men, ne_eqb, not-true, or_cases, other, position_after, position_after_by, put_at, rank_of, rebirth, reborn_square, refl, rules, same_colour, same_colour-refl, same_kind, same_kind-true, second_fails, second_rank, set_past, square_at-is, true, unmoved_after, unmoved_with_rook, unmoved_without_at, was_passed, with_man, without_at, without_man, without_unmoved, ℕ, if◌then◌else◌, ◌<◌, ◌≡◌, ◌≢◌, ◌⊎◌}
 use Rattle.chess_core.specs.declared.man.Unmoved.{Unmoved}
 use Rattle.chess_rules.proofs.making_moves.Fits.{arrived, arrived_other, can_move, castle_of, corner_stays, no_capture, pawn_is_no_king, taken}
 use Rattle.chess_rules.proofs.making_moves.Plays.{none_from_is_some}
@@ -33,24 +30,19 @@ IsSound-with men s y sound inside king = search (rules, man_on-with_cases)
 other_inside : (y : Man) (s : ℕ) → same_kind y.kind Pawn ≡ false → is_pawn_inside (Some y) s ≡ true
 other_inside y s h = cond-false (same_kind y.kind Pawn) _ _ h
 
-pawn_inside : (y : Man) (s : ℕ) → 2 ≤ rank_of s → rank_of s ≤ 7 → is_pawn_inside (Some y) s ≡ true
-pawn_inside y s low high = search rules
-
 -- the man that arrives stands where he may
 arriving_inside : (rule : RuleSet) (p : Position) (x : Man) (m : Move) (r : Option Kind) → IsWellFormed p → IsMade rule p x m
     → is_promotion_right p x m r ≡ true → is_pawn_inside (Some (arriving_man x r)) m.to ≡ true
 arriving_inside rule p x m r well made right =
-    grind (arith, and_parts, other_inside, second_fails, cases_Bool, not-true, pawn_goes, pawn_inside, pawn_reaches, ways, cases_eq, eq-eqb)
+    search (rules, and_parts, other_inside, second_fails, cases_Bool, not-true, pawn_goes, pawn_reaches, ways, cases_eq, eq-eqb)
 
 rook_is_no_pawn : (k : Kind) → same_kind k Rook ≡ true → same_kind k Pawn ≡ false
 rook_is_no_pawn k h = grind arith
 
 arrived_sound : (rule : RuleSet) (p : Position) (x : Man) (m : Move) → IsWellFormed p → IsMade rule p x m → IsSound (arrived p x m)
 arrived_sound rule p x m well made =
-    let sound : IsSound p.men = record { size = well.size; kings = well.kings; pawns = well.pawns } in
-    IsSound-with (without_at (without_man p.men m.from) (capture_square p x m)) m.to (arriving_man x m.promo)
-    (IsSound-without_at (without_man p.men m.from) (capture_square p x m) (IsSound-without p.men m.from sound))
-    (arriving_inside rule p x m m.promo well made made.promotion) (can_move rule p x m well made).one_king
+    IsSound-with _ m.to (arriving_man x m.promo) (IsSound-without_at (without_man p.men m.from) (capture_square p x m)
+    (IsSound-without p.men m.from (search rules))) (arriving_inside rule p x m m.promo well made made.promotion) (can_move rule p x m well made).one_king
 
 -- the men once a rook has gone to the square between
 castled_sound : (men : List (Option Man)) (a b : ℕ) (o : Option Man) → IsSound men
@@ -60,16 +52,11 @@ castled_sound men a b o sound rook = search (rules, IsSound-with, IsSound-withou
 -- the men are sound after a move, before a rebirth
 pub moved_sound : (rule : RuleSet) (p : Position) (x : Man) (m : Move) → IsWellFormed p → IsMade rule p x m → IsSound (moved_men p x m)
 unfolding moved_men
-moved_sound rule p x m well made =
-    let sound = arrived_sound rule p x m well made in
-    elim (cases_Bool (is_castling x m)) [
-      | inl e ↦
-          let can : CanCastle (arrived p x m) (corner m) (halfway m) = (can_move rule p x m well made).rook e in
-          let c = castle_of rule p x m well made e in
-          rw e (castled_sound (arrived p x m) (corner m) (halfway m) (man_on (arrived p x m) (corner m)) sound
-          (λ z h. (can.no_king z h, rook_is_no_pawn z.kind (c.1.rook z (sym (corner_stays p x m c.0 c.1) ∙ h)))))
-      | inr e ↦ rw e sound
-    ]
+moved_sound rule p x m well made = elim (cases_Bool (is_castling x m)) [
+  | inl e ↦ rw e (castled_sound (arrived p x m) (corner m) (halfway m) (man_on (arrived p x m) (corner m)) (arrived_sound rule p x m well made)
+      (grind (arith, can_move rule p x m well made, castle_of rule p x m well made e, rook_is_no_pawn, corner_stays p x m)))
+  | inr e ↦ rw e (arrived_sound rule p x m well made)
+]
 
 -- where and who is reborn
 pub record IsReborn (circe : Bool) (men : List (Option Man)) (o : Option Man) (c : Option ℕ) (r : ℕ) : Type 0 where
@@ -83,7 +70,7 @@ pub record IsReborn (circe : Bool) (men : List (Option Man)) (o : Option Man) (c
 -- a pawn is reborn on rank 2 or 7
 reborn_inside : (y : Man) (s r : ℕ) → rebirth y.colour y.kind s ≡ Some r → is_pawn_inside (Some y) r ≡ true
 unfolding rebirth
-reborn_inside y s r h = search (rules, same_kind-true, other_inside, pawn_inside, square_at-is, eq-eqb)
+reborn_inside y s r h = search (rules, same_kind-true, other_inside, square_at-is, eq-eqb)
 
 -- a rook is reborn on a corner of its side
 rook_reborn : (y : Man) (c : Colour) (s r : ℕ) → is_man (Some y) c Rook ≡ true → rebirth c Rook s ≡ Some r → is_home (Some y) r ≡ true
@@ -127,11 +114,8 @@ reborn_is rule p x m r h = search (rules, cases_Bool, cond-false, cond-true, non
 after_sound : (rule : RuleSet) (p : Position) (x : Man) (m : Move) → IsWellFormed p → IsMade rule p x m
     → IsSound (put_at (moved_men p x m) (reborn_square rule p x m) (captured_man p x m))
 after_sound rule p x m well made =
-    reborn_sound (moved_men p x m) (reborn_square rule p x m) (captured_man p x m) (moved_sound rule p x m well made) (λ r z at who.
-    let b = reborn_is rule p x m r at in
-    let e : Some b.man ≡ Some z = sym b.who ∙ who in
-    let man : b.man ≡ z = cc in
-    (ap (λ (y : Man). is_pawn_inside (Some y) r) (sym man) ∙ reborn_inside b.man b.square r b.home, captured_mortal rule p x m z well made who))
+    reborn_sound (moved_men p x m) (reborn_square rule p x m) (captured_man p x m) (moved_sound rule p x m well made)
+    (λ r z at who. grind (arith, reborn_is rule p x m r at, reborn_inside, captured_mortal rule p x m z well made who))
 
 -- a set of unmoved squares each of which has its man
 abbrev AreHome : Unmoved → List (Option Man) → Type 0
@@ -165,18 +149,12 @@ unfolding moved_men
 moved_home rule p x m well made = λ t h. elim (cases_Bool (is_castling x m)) [
   | inl e ↦
       let c = castle_of rule p x m well made e in
-      let h1 : has_unmoved (without_unmoved (unmoved_without_at (without_unmoved (without_unmoved p.unmoved m.from) m.to) (capture_square p x m)) (corner m)) t
-      ≡ true = rw e at h in
-      let parts = has_unmoved-parts (unmoved_without_at (without_unmoved (without_unmoved p.unmoved m.from) m.to) (capture_square p x m)) (corner m) t h1 in
+      let stayed = unmoved_without_at (without_unmoved (without_unmoved p.unmoved m.from) m.to) (capture_square p x m) in
+      let parts = has_unmoved-parts stayed (corner m) t (rw e at h) in
       let left = is_left p x m t parts.1 in
-      let off : t ≢ halfway m = λ same.
-      let home : is_home (man_on p.men t) t ≡ true = well.homes t left.unmoved in
-      let none : man_on p.men t ≡ None = rw same c.1.between in
-      is_home-none t (rw none at home) in
-      rw e (rw (move_man_other (arrived p x m) (corner m) (halfway m) (man_on (arrived p x m) (corner m)) t parts.0 off) (home_stays p x m t well left))
-  | inr e ↦
-      let h1 : has_unmoved (unmoved_without_at (without_unmoved (without_unmoved p.unmoved m.from) m.to) (capture_square p x m)) t ≡ true = rw e at h in
-      rw e (home_stays p x m t well (is_left p x m t h1))
+      let stays = move_man_other (arrived p x m) (corner m) (halfway m) (man_on (arrived p x m) (corner m)) t parts.0 in
+      rw e (rw (stays (grind (arith, well.homes t left.unmoved, is_home-none t, c.1.between))) (home_stays p x m t well left))
+  | inr e ↦ rw e (home_stays p x m t well (is_left p x m t (rw e at h)))
 ]
 
 -- a reborn man stands on no unmoved square but as a rook
@@ -185,22 +163,17 @@ reborn_home : (u : Unmoved) (men : List (Option Man)) (o : Option ℕ) (y : Opti
     → AreHome (unmoved_with_rook u o y) (put_at men o y)
 reborn_home u men o y size homes h = grind (arith, cases_Bool, cases_eq, has_unmoved-mark_other, is_home-none, man_on-with_other, man_on-with_same)
 
-at_small : (f k r : ℕ) → square_at f k ≡ Some r → r < 64
-at_small f k r h = let i : IsAt f k r = square_at-is f k r (rw h (eq-eqb r r refl)) in i.small
-
 -- a man is reborn on a square of the board
 pub rebirth_small : (c : Colour) (k : Kind) (s r : ℕ) → rebirth c k s ≡ Some r → r < 64
 unfolding rebirth
-rebirth_small c k s r h = grind (arith, at_small)
+rebirth_small c k s r h = grind (arith, square_at-is, eq-eqb)
 
 after_home : (rule : RuleSet) (p : Position) (x : Man) (m : Move) → IsWellFormed p → IsMade rule p x m
     → AreHome (unmoved_after rule p x m) (put_at (moved_men p x m) (reborn_square rule p x m) (captured_man p x m))
 unfolding unmoved_after
 after_home rule p x m well made =
     reborn_home (stayed p x m) (moved_men p x m) (reborn_square rule p x m) (captured_man p x m) (moved_sound rule p x m well made).size
-    (moved_home rule p x m well made) (λ r at.
-    let b = reborn_is rule p x m r at in
-    (b.empty, (rebirth_small b.man.colour b.man.kind b.square r b.home, (b.man, (b.who, λ rook. reborn_rook_home b.man b.square r rook b.home)))))
+    (moved_home rule p x m well made) (λ r at. let b = reborn_is rule p x m r at in search (rules, rebirth_small, reborn_rook_home))
 
 -- a double step leaves the pawn behind the square that it passed
 vacant : (men : List (Option Man)) (s : ℕ) → man_on men s ≡ None → is_vacant men s ≡ true
@@ -214,8 +187,7 @@ double_passed c p x m size mine pawn small file second adv empty =
 
 -- a move that captures nothing and doesn't castle
 plain_men : (rule : RuleSet) (p : Position) (x : Man) (m : Move) → capture_square p x m ≡ None → is_castling x m ≡ false
-    → put_at (moved_men p x m) (reborn_square rule p x m) (captured_man p x m)
-    ≡ with_man (without_man p.men m.from) m.to (arriving_man x m.promo)
+    → put_at (moved_men p x m) (reborn_square rule p x m) (captured_man p x m) ≡ with_man (without_man p.men m.from) m.to (arriving_man x m.promo)
 unfolding moved_men reborn_square
 plain_men rule p x m none plain = rw (none, plain) refl
 
@@ -225,15 +197,10 @@ double_right : (rule : RuleSet) (p : Position) (x : Man) (m : Move) → IsWellFo
 double_right rule p x m well made double =
     search (rules, double_passed, no_capture, pawn_goes, pawn_is_no_king, pawn_reaches, plain_men, ways, and_parts, ne_eqb, eqb-true, or_cases)
 
-after_crossed : (rule : RuleSet) (p : Position) (x : Man) (m : Move) → IsWellFormed p → IsMade rule p x m
-    → is_crossed_right (position_after_by rule p x m).men (position_after_by rule p x m).turn (position_after_by rule p x m).crossed ≡ true
-unfolding position_after_by is_crossed_right
-after_crossed rule p x m well made = search (rules, double_right)
-
 -- the position after a man's move is well formed
 pub after_by_well : (rule : RuleSet) (p : Position) (x : Man) (m : Move) → IsWellFormed p → IsMade rule p x m → IsWellFormed (position_after_by rule p x m)
-unfolding position_after_by
-after_by_well rule p x m well made = grind (arith, after_sound rule p x m well made, made, after_home rule p x m well made, after_crossed rule p x m well made)
+unfolding position_after_by is_crossed_right
+after_by_well rule p x m well made = grind (arith, after_sound rule p x m well made, made, after_home rule p x m well made, double_right)
 
 -- some man makes the move
 pub maker : (rule : RuleSet) (p : Position) (m : Move) → is_pseudo_legal rule p m ≡ true → (x : Man) × (man_on p.men m.from ≡ Some x)

@@ -1,6 +1,5 @@
 -- Squares one after another on a line.
-use Rattle.chess_rules.proofs.Basics.{cases_eq, inl, inr, sym, Some, add-mul, and_from, ap, arith, cases_lt, false, leb-true, mul-add, refl, rules, true, ℕ, ◌&&◌, ◌*◌, ◌+◌, ◌-◌, ◌<◌, ◌∙◌, ◌≡◌, ◌≤◌}
-use Rattle.chess_rules.proofs.Chess.{some_is, Direction, Step, along, file_of, is_on_board, place, rank_of, rises, step_of}
+use Rattle.chess_rules.proofs.Chess.{Direction, Some, Step, add-mul, along, and_from, ap, arith, cases_eq, cases_lt, false, file_of, is_on_board, leb-true, mul-add, place, rank_of, refl, rises, rules, some_is, step_of, true, ℕ, ◌&&◌, ◌*◌, ◌+◌, ◌-◌, ◌<◌, ◌∙◌, ◌≡◌, ◌≤◌}
 use Rattle.chess_rules.proofs.rays.Ends.{Placed, cond-on, on_board, placed_from}
 
 further : (f j i r l : ℕ) → 1 ≤ f + j * r - j * l → f + j * r - j * l + i * r - i * l ≡ f + (j + i) * r - (j + i) * l
@@ -13,17 +12,7 @@ onward s b d j i h = search (rules, placed_from)
 
 -- between two files or ranks of the board lie others of it
 within : (f k i r l : ℕ) → 1 ≤ f → f ≤ 8 → i ≤ k → 1 ≤ f + k * r - k * l → f + k * r - k * l ≤ 8 → (1 ≤ f + i * r - i * l) × (f + i * r - i * l ≤ 8)
-within f k i r l a b le low high =
-    grind (
-      arith,
-      cases_lt r l,
-      mul-add k r (l - r),
-      mul-add i r (l - r),
-      add-mul i (k - i) (l - r),
-      mul-add k l (r - l),
-      mul-add i l (r - l),
-      add-mul i (k - i) (r - l),
-    )
+within f k i r l a b le low high = grind (arith, cases_lt r l, mul-add k, mul-add i, add-mul i (k - i))
 
 -- a square before t on its line
 pub record Passed (s : ℕ) (d : Step) (i q : ℕ) : Type 0 where
@@ -71,39 +60,23 @@ pub record Ordered (d : Step) : Type 0 where
 
 -- so what is passed no later is no more steps on
 pub not_later : (s j k b t : ℕ) (d : Step) → Ordered d → along s d j ≡ Some b → along s d k ≡ Some t → place d b ≤ place d t → j ≤ k
-not_later s j k b t d line h i le = elim (cases_lt k j) [
-  | inl less ↦ let past : place d t < place d b = line.in_order s k j t b i h less in omega (arith, past, le)
-  | inr ge ↦ ge
-]
+not_later s j k b t d line h i le = search (rules, cases_lt)
 
 -- and what is passed earlier is fewer
 pub earlier : (s j k b t : ℕ) (d : Step) → Ordered d → along s d j ≡ Some b → along s d k ≡ Some t → place d b < place d t → j < k
-earlier s j k b t d line h i lt = elim (cases_eq j k) [
-  | inl e ↦ let same : place d b ≡ place d t = ap (place d) (some_is b t (sym h ∙ ap (along s d) e ∙ i)) in omega (arith, same, lt)
-  | inr ne ↦ omega (arith, ne, not_later s j k b t d line h i (omega (arith, lt)))
-]
+earlier s j k b t d line h i lt = search (rules, cases_eq, some_is, not_later)
 
 rising : (d : Step) → rises d ≡ true → Ordered d
 unfolding rises
 rising d up = record {
   in_order = λ s j k b t h i lt.
-      let x = number_at s b d j h in
-      let y = number_at s t d k i in
-      let less : b < t = grows s b t j k (d.left + 8 * d.down) (d.right + 8 * d.up) x.0 y.0 lt
-      (omega (arith, leb-true (d.left + 8 * d.down + 1) (d.right + 8 * d.up) up)) in
-      rw up less;
+      grind (arith, number_at s b d j h, number_at s t d k i, grows s b t j k, leb-true (d.left + 8 * d.down + 1) (d.right + 8 * d.up) up);
 }
 
 falling : (d : Step) → rises d ≡ false → d.right + 8 * d.up < d.left + 8 * d.down → Ordered d
 unfolding rises
 falling d non down = record {
-  in_order = λ s j k b t h i lt.
-      let x = number_at s b d j h in
-      let y = number_at s t d k i in
-      let less : t < b = shrinks s b t j k (d.left + 8 * d.down) (d.right + 8 * d.up) x.0 y.0 lt down in
-      let small : b < 64 = x.1 in
-      let far : 63 - b < 63 - t = omega arith in
-      rw non far;
+  in_order = λ s j k b t h i lt. grind (arith, number_at s b d j h, number_at s t d k i, shrinks s b t j k (d.left + 8 * d.down) (d.right + 8 * d.up));
 }
 
 -- each of the sixteen directions does

@@ -1,8 +1,5 @@
 -- The tables of lines and leaps, computed.
-use Rattle.chess_rules.proofs.Basics.{List, [], bit_or, None, Option, Some, ap, arith, cases_lt, cond-false, cond-true, false, get_or, get_or-map-range_with_len, if◌then◌else◌, list_any, map, range_with_len, refl, sym, ℕ, ◌%◌, ◌*◌, ◌<◌, ◌^◌, ◌∙◌, ◌∷◌, ◌≡◌, ◌||◌, le-ltb, lt-ltb, rules}
-use Rattle.chess_rules.proofs.Chess.{Black, Direction, East, North, NorthEast, NorthWest, South, SouthEast, SouthWest, Step, West, White, along, diagonal_steps, differs, direction_number, forward, is_advance, is_ahead, is_two_files_aside, is_on_some, is_square, knight_steps, leaps, pawn_capture_steps, queen_steps, ray, squares_either, step_by, step_of, straight_steps, word}
-use Rattle.chess_rules.proofs.Bits.{word_empty, word_only}
-use Rattle.chess_rules.proofs.rays.Joining.{four}
+use Rattle.chess_rules.proofs.Chess.{Black, Direction, East, List, None, North, NorthEast, NorthWest, Option, Some, South, SouthEast, SouthWest, Step, West, White, [], along, ap, arith, bit_or, cases_lt, cond-false, cond-true, diagonal_steps, differs, direction_number, false, forward, four, get_or, get_or-map-range_with_len, if◌then◌else◌, is_advance, is_ahead, is_on_some, is_square, is_two_files_aside, knight_steps, le-ltb, leaps, list_any, lt-ltb, map, pawn_capture_steps, queen_steps, range_with_len, ray, refl, rules, squares_either, step_by, step_of, straight_steps, sym, word, word_empty, word_only, ℕ, ◌%◌, ◌*◌, ◌<◌, ◌^◌, ◌||◌, ◌∙◌, ◌∷◌, ◌≡◌}
 use Rattle.chess_rules.specs.declared.geometry.TheConstants.{ASIDE, BLACK_CAPTURES, BLACK_STEPS, DIAGONAL_LINES, KNIGHT_LEAPS, NEIGHBOURS, RAYS, STRAIGHT_LINES, WHITE_CAPTURES, WHITE_STEPS}
 use Rattle.std.proofs.Math.Dec.{ltb}
 

@@ -1,6 +1,5 @@
 -- Lines looked at from their other end.
-use Rattle.chess_rules.proofs.Basics.{Bool, None, Option, Some, add-mul, and_from, arith, cond, eq-eqb, eqb-true, false≢true, le-leb, leb-true, refl, rules, true, ℕ, ◌&&◌, ◌*◌, ◌+◌, ◌-◌, ◌<◌, ◌≡◌, ◌≤◌}
-use Rattle.chess_rules.proofs.Chess.{Step, along, file_of, first_of_and, is_on_board, is_square, rank_of, second_of_and, some_is, square_at}
+use Rattle.chess_rules.proofs.Chess.{Bool, None, Option, Some, Step, add-mul, along, and_from, arith, cond, eq-eqb, eqb-true, false≢true, file_of, first_of_and, is_on_board, is_square, le-leb, leb-true, rank_of, refl, rules, second_of_and, some_is, square_at, true, ℕ, ◌&&◌, ◌*◌, ◌+◌, ◌-◌, ◌<◌, ◌≡◌, ◌≤◌}
 
 -- the step the other way
 abbrev pub back : Step → Step

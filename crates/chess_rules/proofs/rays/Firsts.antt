@@ -1,6 +1,5 @@
 -- The square of a word that a line passes first: its lowest bit or its highest.
-use Rattle.chess_rules.proofs.Basics.{arith, bit_at, bit_at-lt, bit_at-trailing_zeros, bit_at_above, bit_at_or, bit_at_set_other, bit_at_set_same, bit_or, cases_lt, false, inl, inr, or_lt, pow-suc, rules, suc, sym, trailing_zeros, true, w64, ℕ, ◌%◌, ◌*◌, ◌-◌, ◌<◌, ◌^◌, ◌∙◌, ◌≡◌, ◌≤◌}
-use Rattle.chess_rules.proofs.Chess.{IsStop, Step, rises}
+use Rattle.chess_rules.proofs.Chess.{IsStop, Step, arith, bit_at, bit_at-lt, bit_at-trailing_zeros, bit_at_above, bit_at_or, bit_at_set_other, bit_at_set_same, bit_or, cases_lt, false, or_lt, pow-suc, rises, rules, suc, trailing_zeros, true, w64, ℕ, ◌%◌, ◌*◌, ◌<◌, ◌^◌, ◌≡◌, ◌≤◌}
 
 -- a number with a bit isn't 0
 pub has_bit : (n i : ℕ) → bit_at n i ≡ 1 → 0 < n
@@ -16,15 +15,7 @@ lowest_stop d w fits up =
     let v : ℕ = bit_or w (1 * 2 ^ 63 % 2 ^ 64) in
     let last : bit_at (bit_or w (1 * 2 ^ 63 % 2 ^ 64)) 63 ≡ 1 = bit_at_set_same w64 w 63 (omega arith) in
     let z = bit_at-trailing_zeros w64 v (has_bit v 63 last) (or_lt 64 w (1 * 2 ^ 63 % 2 ^ 64) fits (omega arith)) in
-    record {
-      small = z.0;
-      first = λ q p h. rw up (elim (cases_lt q (trailing_zeros w64 v)) [
-        | inl lt ↦ absurd (let no_bit : bit_at v q ≡ 0 = z.2 q lt in let yes_bit : bit_at v q ≡ 1 = kept w (1 * 2 ^ 63 % 2 ^ 64) q h in omega arith)
-        | inr ge ↦ ge
-      ]);
-      here = λ lt. let less : trailing_zeros w64 v < 63 = rw up at lt in sym (bit_at_set_other w64 w 63 (omega arith) (trailing_zeros w64 v) (λ e. omega arith))
-          ∙ z.1;
-    }
+    grind (arith, z, cases_lt, kept w (1 * 2 ^ 63 % 2 ^ 64), bit_at_set_other w64 w 63 (omega arith))
 
 top_bit : (n r : ℕ) → 2 ^ r ≤ n → n < 2 * 2 ^ r → bit_at n r ≡ 1
 top_bit n r a b = search rules
@@ -34,12 +25,5 @@ none_above n r q b lt = bit_at_above n (suc r) q (omega (arith, pow-suc 2 r)) (o
 
 -- where they fall, the highest
 pub highest_stop : (d : Step) (w r : ℕ) → rises d ≡ false → 2 ^ r ≤ bit_or w 1 → bit_or w 1 < 2 * 2 ^ r → r < 64 → IsStop d w r
-highest_stop d w r down a b small = record {
-  small = small;
-  first = λ q p h. rw down (elim (cases_lt r q) [
-    | inl lt ↦ absurd (let none : bit_at (bit_or w 1) q ≡ 0 = none_above (bit_or w 1) r q b lt in let some : bit_at (bit_or w 1) q ≡ 1 = kept w 1 q h in
-        omega arith)
-    | inr ge ↦ let far : 63 - r ≤ 63 - q = omega arith in far
-  ]);
-  here = λ lt. let less : 63 - r < 63 = rw down at lt in sym (bit_at_set_other w64 w 0 (omega arith) r (λ e. omega arith)) ∙ top_bit (bit_or w 1) r a b;
-}
+highest_stop d w r down a b small =
+    grind (arith, cases_lt, none_above (bit_or w 1) r, kept w 1, bit_at_set_other w64 w 0 (omega arith) r, top_bit (bit_or w 1) r a b)

@@ -1,6 +1,5 @@
 -- Lists of steps that hold each step with its opposite.
-use Rattle.chess_rules.proofs.Basics.{arith, Bool, List, Option, [], and_parts, ap, eqb-true, false, false≢true, inl, inr, list_all, list_any, or_cases, or_left, or_right, refl, rules, sym, true, ℕ, ◌&&◌, ◌<◌, ◌==◌, ◌∙◌, ◌∷◌, ◌≡◌}
-use Rattle.chess_rules.proofs.Chess.{Colour, Kind, Man, Step, diagonal_steps, gait_of, goes_by, hopped_from, hops, is_hopper, kind_steps, knight_steps, leaps, other, pawn_capture_steps, queen_steps, reaches_as, rides, same_Bool, straight_steps, Gait, Hopper, Leaper, Rider}
+use Rattle.chess_rules.proofs.Chess.{Bool, Colour, Gait, Hopper, Kind, Leaper, List, Man, Option, Rider, Step, [], and_parts, arith, diagonal_steps, eqb-true, false, false≢true, gait_of, goes_by, hopped_from, hops, is_hopper, kind_steps, knight_steps, leaps, list_all, list_any, or_cases, other, pawn_capture_steps, queen_steps, reaches_as, refl, rides, rules, same_Bool, straight_steps, sym, true, ℕ, ◌&&◌, ◌<◌, ◌==◌, ◌∷◌, ◌≡◌}
 use Rattle.chess_rules.proofs.rays.Ends.{back, return_square}
 use Rattle.chess_rules.proofs.rays.Ways.{hops-back, rides-back}
 
@@ -17,20 +16,16 @@ opposed xs ds = list_all (λ d. list_any (same_step (back d)) ds) xs
 
 held : (q : Step → Bool) (ds : List Step) (d : Step) → list_any (same_step d) ds ≡ true → q d ≡ true → list_any q ds ≡ true
 held q [] d h y = h
-held q (x ∷ ds) d h y = elim (or_cases (same_step d x) (list_any (same_step d) ds) h) [
-  | inl e ↦ or_left (q x) _ (ap q (sym (step_is d x e)) ∙ y)
-  | inr r ↦ or_right (q x) _ (held q ds d r y)
-]
+held q (x ∷ ds) d h y = grind (arith, or_cases (same_step d x) (list_any (same_step d) ds) h, step_is d x, held q ds d)
 
 across : (p q : Step → Bool) (xs ds : List Step) → ((d : Step) → p d ≡ true → q (back d) ≡ true) → opposed xs ds ≡ true → list_any p xs ≡ true
     → list_any q ds ≡ true
 across p q [] ds h o y = let empty : list_any p [] ≡ true = y in cc
 across p q (x ∷ xs) ds h o y =
     let parts = and_parts (list_any (same_step (back x)) ds) (opposed xs ds) o in
-    elim (or_cases (p x) (list_any p xs) y) [ inl e ↦ held q ds (back x) parts.0 (h x e) | inr r ↦ across p q xs ds h parts.1 r ]
+    grind (arith, parts, or_cases (p x) (list_any p xs) y, held q ds (back x), h x, across p q xs ds h)
 
-flip : (xs ds : List Step) (p q : Step → Bool) → opposed xs ds ≡ true → opposed ds xs ≡ true → ((d : Step) → p d ≡ q (back d))
-    → list_any p xs ≡ list_any q ds
+flip : (xs ds : List Step) (p q : Step → Bool) → opposed xs ds ≡ true → opposed ds xs ≡ true → ((d : Step) → p d ≡ q (back d)) → list_any p xs ≡ list_any q ds
 flip xs ds p q there here h = search (rules, across, back, same_Bool)
 
 -- lines looked at backward
@@ -42,8 +37,7 @@ pub rides_turned : (ds : List Step) (men : List (Option Man)) (s t : ℕ) → op
     → list_any (rides men s t) ds ≡ list_any (rides men t s) ds
 rides_turned ds men s t o p q = flip ds ds (rides men s t) (rides men t s) o o (λ d. rides-back men s t d p q)
 
-leaps_turned : (xs ds : List Step) (s t : ℕ) → opposed xs ds ≡ true → opposed ds xs ≡ true → s < 64 → t < 64
-    → list_any (leaps s t) xs ≡ list_any (leaps t s) ds
+leaps_turned : (xs ds : List Step) (s t : ℕ) → opposed xs ds ≡ true → opposed ds xs ≡ true → s < 64 → t < 64 → list_any (leaps s t) xs ≡ list_any (leaps t s) ds
 unfolding leaps
 leaps_turned xs ds s t there here p q = search (rules, back, flip, return_square, same_Bool)
 
@@ -52,13 +46,11 @@ pub queen_rides-back : (men : List (Option Man)) (s t : ℕ) → s < 64 → t < 
 queen_rides-back men s t = rides_turned queen_steps men s t refl
 
 -- so does a rook
-pub straight-back : (men : List (Option Man)) (s t : ℕ) → s < 64 → t < 64
-    → list_any (rides men s t) straight_steps ≡ list_any (rides men t s) straight_steps
+pub straight-back : (men : List (Option Man)) (s t : ℕ) → s < 64 → t < 64 → list_any (rides men s t) straight_steps ≡ list_any (rides men t s) straight_steps
 straight-back men s t = rides_turned straight_steps men s t refl
 
 -- so does a bishop
-pub diagonal-back : (men : List (Option Man)) (s t : ℕ) → s < 64 → t < 64
-    → list_any (rides men s t) diagonal_steps ≡ list_any (rides men t s) diagonal_steps
+pub diagonal-back : (men : List (Option Man)) (s t : ℕ) → s < 64 → t < 64 → list_any (rides men s t) diagonal_steps ≡ list_any (rides men t s) diagonal_steps
 diagonal-back men s t = rides_turned diagonal_steps men s t refl
 
 -- the steps of a kind lead back by those of its like of the other colour

@@ -1,8 +1,6 @@
 -- The word of a hop.
-use Rattle.chess_rules.proofs.Basics.{false_from_ne_true, Bool, List, None, Option, Some, ap, arith, bit_at-trailing_zeros, cases_eq, cases_lt, eq-eqb, false, false≢true, inl, inr, is_some, not, refl, rules, sym, trailing_zeros, true, w64, ℕ, ◌&&◌, ◌+◌, ◌-◌, ◌<◌, ◌^◌, ◌∙◌, ◌≡◌, ◌≢◌, ◌≤◌}
-use Rattle.chess_rules.proofs.Chess.{Direction, IsStop, Man, Step, along, first_of_and, hopped_from, hops, is_ahead, is_occupied, is_square, is_vacant_at, man_on, place, passing_order_by, ray, rides, rides_on, rises, same_Bool, second_of_and, some_is, square_word_small, squares_same, step_of, word}
+use Rattle.chess_rules.proofs.Chess.{Bool, Direction, IsStop, List, Man, None, Option, Some, Step, along, ap, arith, bit_at-trailing_zeros, cases_eq, cases_lt, eq-eqb, false, false_from_ne_true, false≢true, first_of_and, hopped_from, hops, inl, inr, is_ahead, is_occupied, is_some, is_square, is_vacant_at, man_on, passing_order_by, place, ray, refl, rides, rides_on, rises, rules, same_Bool, second_of_and, square_word_small, squares_same, step_of, sym, trailing_zeros, true, w64, word, word_empty, word_lacks, ℕ, ◌&&◌, ◌+◌, ◌-◌, ◌<◌, ◌^◌, ◌∙◌, ◌≡◌, ◌≢◌, ◌≤◌}
 use Rattle.chess_rules.proofs.rays.Ahead.{Ordered, Passed, not_later, onward, ordered, passes}
-use Rattle.chess_rules.proofs.Bits.{word_empty, word_lacks}
 use Rattle.chess_rules.proofs.rays.Computed.{eighth}
 use Rattle.chess_rules.proofs.rays.Ends.{square_is, stays}
 use Rattle.chess_rules.proofs.rays.Ways.{hop-found, hop-made, ride-found, ride-made, ride_on-found, ride_on-made}
@@ -17,27 +15,19 @@ free_before : (men : List (Option Man)) (s : ℕ) (d : Step) (b j i : ℕ) → O
     → is_vacant_at men (along s d i) ≡ true
 free_before men s d b j i line stop p on lo lt =
     let w = passes s b d j i p (omega (arith, lt)) on.at in
-    rw w.1.at (ap not (false_from_ne_true _ (λ man.
-    let le = stop.first w.0 w.1.small (ahead_at s d w.0 i lo (omega (arith, lt, on.high)) w.1.at) man in
-    omega (arith, le, line.in_order s i j w.0 b w.1.at on.at lt))))
+    grind (arith, stop.first w.0 w.1.small, ahead_at s d w.0 i lo, line.in_order s i j w.0 b w.1.at on.at lt, w.1.at, false_from_ne_true)
 
 -- behind the stop lands a hop
 lands : (men : List (Option Man)) (s : ℕ) (x : Direction) (b t : ℕ) → Stops men s (step_of x) b → s < 64 → t < 64 → is_square (along b (step_of x) 1) t ≡ true
     → hops men s t (step_of x) ≡ true
 lands men s x b t stop p q h =
     let next : along b (step_of x) 1 ≡ Some t = square_is _ t h in
-    let past : place (step_of x) b < place (step_of x) t = (ordered x).in_order b 0 1 b t (stays b (step_of x) stop.small) next (omega arith) in
+    let past = (ordered x).in_order b 0 1 b t (stays b (step_of x) stop.small) next (omega arith) in
     let here = stop.here (omega (arith, past, place_le (rises (step_of x)) t q)) in
     let on = steps_on s (step_of x) b (first_of_and _ _ here) in
-    let at : along s (step_of x) (on.0 + 1) ≡ Some t = sym (onward s b (step_of x) on.0 1 on.1.at) ∙ next in
-    let before : on.0 + 1 - 1 ≡ on.0 = omega arith in
-    hop-made men s t (step_of x) (on.0 + 1) (record {
-      low = omega (arith, on.1.low);
-      high = short x s t (on.0 + 1) p at (omega (arith, on.1.high));
-      at = at;
-      hurdle = rw (before, on.1.at) (second_of_and (is_ahead s (step_of x) b) _ here);
-      free = λ j lo hi. free_before men s (step_of x) b on.0 j (ordered x) stop p on.1 lo (omega (arith, hi));
-    })
+    let free = free_before men s (step_of x) b on.0 in
+    let man = second_of_and (is_ahead s (step_of x) b) in
+    hop-made men s t (step_of x) (on.0 + 1) (grind (arith, onward s b (step_of x) on.0 1 on.1.at, man, free, ordered x, short x s t (on.0 + 1)))
 
 -- and every hop
 landed : (men : List (Option Man)) (s : ℕ) (d : Step) (b t : ℕ) → Ordered d → Stops men s d b → s < 64 → t < 64 → hops men s t d ≡ true
@@ -51,10 +41,8 @@ landed men s d b t line stop p q h =
     let here = stop.here (omega (arith, le, lt, place_le (rises d) t q)) in
     let on = steps_on s d b (first_of_and _ _ here) in
     let full = occupied_not_vacant men (along s d on.0) b on.1.at (second_of_and (is_ahead s d b) _ here) in
-    let e : on.0 + 1 ≡ w.0 = elim (cases_lt on.0 (w.0 - 1)) [
-      | inl less ↦ absurd (false≢true (sym full ∙ w.1.free on.0 on.1.low less))
-      | inr ge ↦ omega (arith, w.1.low, ge, not_later s on.0 (w.0 - 1) b v.0 d line on.1.at v.1.at le)
-    ] in
+    let later = not_later s on.0 (w.0 - 1) b v.0 d line on.1.at v.1.at le in
+    let e : on.0 + 1 ≡ w.0 = grind (arith, cases_lt on.0 (w.0 - 1), w.1.free on.0 on.1.low, full, later, w.1.low) in
     rw (onward s b d on.0 1 on.1.at ∙ ap (along s d) e ∙ w.1.at) (eq-eqb t t refl)
 
 -- a hop goes to the square right behind the first man ahead, if the board has one
@@ -68,8 +56,7 @@ from_second : (men : List (Option Man)) (t n s : ℕ) (x : Direction) → t < 64
 from_second men t n s x p at =
     let on : (k j : ℕ) → 1 + k ≡ j → along n (step_of x) k ≡ along t (step_of x) j =
     λ k j e. onward t n (step_of x) 1 k at ∙ ap (along t (step_of x)) e in
-    same_Bool _ _
-    (λ h.
+    same_Bool _ _ (λ h.
     let w = ride-found men n s (step_of x) h in
     let there : along t (step_of x) (1 + w.0) ≡ Some s = sym (on w.0 (1 + w.0) refl) ∙ w.1.at in
     ride_on-made 2 men t s (step_of x) (1 + w.0) (record {
@@ -77,8 +64,7 @@ from_second men t n s x p at =
       high = short x t s (1 + w.0) p there (omega (arith, w.1.high));
       at = there;
       free = λ j lo hi. ap (is_vacant_at men) (sym (on (j - 1) j (omega (arith, lo)))) ∙ w.1.free (j - 1) (omega (arith, lo)) (omega (arith, hi));
-    }))
-    (λ h.
+    })) (λ h.
     let w = ride_on-found 2 men t s (step_of x) h in
     ride-made men n s (step_of x) (w.0 - 1) (record {
       low = omega (arith, w.1.low);
@@ -111,13 +97,12 @@ unfolding ray
 next_is s x r b t p h stop ahead =
     let w = some_next s (step_of x) t p ahead in
     let near : is_ahead s (step_of x) w.0 ≡ true = ahead_at s (step_of x) w.0 1 (omega arith) (omega arith) w.1.at in
-    let le : place (step_of x) b ≤ place (step_of x) w.0 = stop.first w.0 w.1.small (marked (is_ahead s (step_of x)) r w.0 h w.1.small near) in
-    let end : place (step_of x) w.0 ≤ 63 = place_le (rises (step_of x)) w.0 w.1.small in
+    let le = stop.first w.0 w.1.small (marked (is_ahead s (step_of x)) r w.0 h w.1.small near) in
+    let end = place_le (rises (step_of x)) w.0 w.1.small in
     let same : b ≡ w.0 = elim (cases_lt (place (step_of x) b) 63) [
       | inl lt ↦
           let on = steps_on s (step_of x) b (passes_test (is_ahead s (step_of x)) r b h stop.small (stop.here lt)) in
-          let one : on.0 ≡ 1 = omega (arith, on.1.low, not_later s on.0 1 b w.0 (step_of x) (ordered x) on.1.at w.1.at le) in
-          some_is b w.0 (sym on.1.at ∙ ap (along s (step_of x)) one ∙ w.1.at)
+          grind (arith, not_later s on.0 1 b w.0 (step_of x) (ordered x) on.1.at w.1.at le, on.1.low, on.1.at, w.1.at)
       | inr ge ↦ unplaced (rises (step_of x)) b w.0 stop.small w.1.small (omega (arith, le, end, ge))
     ] in
     ap (λ (n : ℕ). Some n) same ∙ sym w.1.at

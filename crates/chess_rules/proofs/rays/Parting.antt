@@ -1,6 +1,5 @@
 -- A line on which one square alone may have been shut.
-use Rattle.chess_rules.proofs.Basics.{arith, sym, false≢true, List, Option, [], and_from, and_parts, false, false_from_ne_true, list_any, or_cases, or_left, or_parts, or_right, rules, true, ℕ, ◌&&◌, ◌∙◌, ◌∷◌, ◌≡◌}
-use Rattle.chess_rules.proofs.Chess.{Man, Step, along, is_square, is_vacant_at, rides}
+use Rattle.chess_rules.proofs.Chess.{List, Man, Option, Step, [], and_from, and_parts, arith, false, false_from_ne_true, is_square, is_vacant_at, list_any, or_cases, or_left, or_parts, or_right, rides, rules, true, ℕ, ◌&&◌, ◌∷◌, ◌≡◌}
 use Rattle.chess_rules.proofs.rays.Ends.{back, square_is}
 use Rattle.chess_rules.proofs.rays.Ways.{from_end, from_start, ride-found, ride-made}
 
@@ -11,20 +10,10 @@ pub record Frees (men others : List (Option Man)) (b : ℕ) : Type 0 where
 -- a line that is shut by b alone was open from both ends to b
 blocked : (men others : List (Option Man)) (b k s : ℕ) (d : Step) → Frees men others b → rides men k s d ≡ true
     → (rides men k b d && rides men s b (back d)) ≡ false → rides others k s d ≡ true
-blocked men others b k s d i h ne =
-    let w = ride-found men k s d h in
-    ride-made others k s d w.0 (record {
-      low = w.1.low;
-      high = w.1.high;
-      at = w.1.at;
-      free = λ j lo hi. i.vacant (along k d j) (w.1.free j lo hi) (false_from_ne_true _ (λ y.
-          let at = square_is (along k d j) b y in
-          false≢true (sym ne ∙ and_from _ _ (from_start men k s b d w.0 j w.1 lo hi at) (from_end men k s b d w.0 j w.1 hi at))));
-    })
+blocked men others b k s d i h ne = search (rules, ride-found, ride-made, false_from_ne_true, square_is, and_from, from_start, from_end)
 
 some_blocked : (men others : List (Option Man)) (b k s : ℕ) (ds : List Step) → Frees men others b → list_any (rides men k s) ds ≡ true
-    → list_any (rides others k s) ds ≡ false
-    → (list_any (rides men k b) ds ≡ true) × (list_any (λ d. rides men s b (back d)) ds ≡ true)
+    → list_any (rides others k s) ds ≡ false → (list_any (rides men k b) ds ≡ true) × (list_any (λ d. rides men s b (back d)) ds ≡ true)
 some_blocked men others b k s [] i h ne = cc
 some_blocked men others b k s (d ∷ ds) i h ne =
     grind (arith, or_parts, or_cases, and_parts, or_left, or_right, blocked men others b k s d i, some_blocked men others b k s ds i)

@@ -1,8 +1,6 @@
 -- A ride: the line as far as the first man on it.
-use Rattle.chess_rules.proofs.Basics.{false_from_ne_true, not-true, Bool, List, Option, Some, and_from, ap, arith, bit_and, bit_at, bit_not, eq-eqb, eqb-true, false, false≢true, inl, inr, is_some, not, refl, sym, true, w64, ℕ, ◌&&◌, ◌+◌, ◌-◌, ◌<◌, ◌∙◌, ◌≡◌, ◌≤◌, rules}
-use Rattle.chess_rules.proofs.Chess.{same_Bool, IsStop, Man, Step, along, any_range_cases, any_range_false, any_range_true, first_of_and, is_ahead, is_square, is_vacant_at, man_on, place, passing_order_by, ray, rides, rises, second_of_and, squares_both, squares_not, squares_same, word}
+use Rattle.chess_rules.proofs.Chess.{Bool, IsStop, List, Man, Option, Some, Step, along, and_from, any_range_cases, any_range_false, any_range_true, ap, arith, bit_and, bit_at, bit_not, eq-eqb, eqb-true, false, false_from_ne_true, false≢true, first_of_and, inl, inr, is_ahead, is_some, is_square, is_vacant_at, man_on, not, not-true, passing_order_by, place, ray, refl, rides, rises, rules, same_Bool, second_of_and, squares_both, squares_not, squares_same, sym, true, w64, word, word_has, ℕ, ◌&&◌, ◌-◌, ◌<◌, ◌∙◌, ◌≡◌, ◌≤◌}
 use Rattle.chess_rules.proofs.rays.Ahead.{Ordered, earlier, not_later, onward, passes}
-use Rattle.chess_rules.proofs.Bits.{word_has}
 use Rattle.chess_rules.proofs.rays.Ends.{square_is, stays}
 use Rattle.chess_rules.proofs.rays.Ways.{Ride, ride-found, ride-made}
 
@@ -61,12 +59,11 @@ occupied_not_vacant men o q at man = rw at (ap not man)
 -- what lies ahead of the stop isn't reached
 blocked : (men : List (Option Man)) (s : ℕ) (d : Step) (b t k : ℕ) → Ordered d → Stops men s d b → t < 64 → Ride 1 men s t d k → is_ahead b d t ≡ true → ⊥
 blocked men s d b t k line stop p ride behind =
+    let man = second_of_and (is_ahead s d b) in
+    let from_stop = stays b d stop.small in
     let on = steps_on b d t behind in
-    let past : place d b < place d t = line.in_order b 0 on.0 b t (stays b d stop.small) on.1.at (omega (arith, on.1.low)) in
-    let here = stop.here (omega (arith, past, place_le (rises d) t p)) in
-    let to = steps_on s d b (first_of_and _ _ here) in
-    let full = occupied_not_vacant men (along s d to.0) b to.1.at (second_of_and (is_ahead s d b) _ here) in
-    false≢true (sym full ∙ ride.free to.0 to.1.low (earlier s to.0 k b t d line to.1.at ride.at past))
+    let end = place_le (rises d) t p in
+    grind (arith, on, line.in_order b 0, from_stop, stop.here, end, steps_on s d b, first_of_and, occupied_not_vacant, man, ride.free, earlier)
 
 -- up to the stop the line is empty
 nobody : (men : List (Option Man)) (s : ℕ) (d : Step) (b t k i q : ℕ) → Ordered d → Stops men s d b → t < 64 → 1 ≤ i → i < k → k < 8 → along s d k ≡ Some t
@@ -75,17 +72,13 @@ nobody men s d b t k i q line stop p lo lt hi at here small not_behind man =
     let le : place d b ≤ place d q = stop.first q small (ahead_at s d q i lo (omega arith) here) man in
     let past : place d q < place d t = line.in_order s i k q t here at lt in
     let to = steps_on s d b (first_of_and _ _ (stop.here (omega (arith, le, past, place_le (rises d) t p)))) in
-    let sooner = not_later s to.0 i b q d line to.1.at here le in
-    let e : to.0 + (k - to.0) ≡ k = omega arith in
-    let on : along b d (k - to.0) ≡ Some t = onward s b d to.0 (k - to.0) to.1.at ∙ ap (along s d) e ∙ at in
-    false≢true (sym not_behind ∙ ahead_at b d t (k - to.0) (omega arith) (omega arith) on)
+    grind (arith, not_later s to.0 i b q d line to.1.at here le, onward s b d to.0 (k - to.0) to.1.at, ahead_at b d t (k - to.0))
 
 -- a ride gets to what is ahead and not ahead of the stop
 ridden : (men : List (Option Man)) (s : ℕ) (d : Step) (b t : ℕ) → Ordered d → Stops men s d b → s < 64 → t < 64
     → (is_ahead s d t && not (is_ahead b d t)) ≡ rides men s t d
 ridden men s d b t line stop p q =
-    same_Bool _ _
-    (λ h.
+    same_Bool _ _ (λ h.
     let on = steps_on s d t (first_of_and _ _ h) in
     let free = not-true _ (second_of_and (is_ahead s d t) _ h) in
     ride-made men s t d on.0 (record {
@@ -94,9 +87,8 @@ ridden men s d b t line stop p q =
       at = on.1.at;
       free = λ i lo lt.
           let w = passes s t d on.0 i p (omega (arith, lt)) on.1.at in
-          rw w.1.at (ap not (false_from_ne_true _ (nobody men s d b t on.0 i w.0 line stop q lo lt on.1.high on.1.at w.1.at w.1.small free)));
-    }))
-    (λ h.
+          grind (arith, nobody men s d b t on.0 i w.0 line stop q lo lt on.1.high on.1.at w.1.at w.1.small free, false_from_ne_true);
+    })) (λ h.
     let w = ride-found men s t d h in
     and_from _ _ (ahead_at s d t w.0 w.1.low w.1.high w.1.at) (ap not (false_from_ne_true _ (blocked men s d b t w.0 line stop q w.1))))
 

@@ -1,6 +1,5 @@
 -- Rides and hops told by how many steps they take.
-use Rattle.chess_rules.proofs.Basics.{Bool, List, Option, Some, and_from, ap, arith, eq-eqb, false≢true, list_all, list_any, range_with_len, refl, rules, true, ℕ, ◌&&◌, ◌+◌, ◌-◌, ◌<◌, ◌∙◌, ◌≡◌, ◌≤◌}
-use Rattle.chess_rules.proofs.Chess.{Man, Step, all_at, all_range_true, along, any_range_cases, any_range_false, any_range_true, first_of_and, hopped_from, hops, is_clear, is_occupied, is_square, is_vacant_at, rides, rides_on, same_Bool, second_of_and}
+use Rattle.chess_rules.proofs.Chess.{Bool, List, Man, Option, Some, Step, all_at, all_range_true, along, and_from, and_parts, any_range_cases, any_range_false, any_range_true, ap, arith, eq-eqb, false≢true, first_of_and, hopped_from, hops, is_clear, is_occupied, is_square, is_vacant_at, list_all, list_any, range_with_len, refl, rides, rides_on, rules, same_Bool, second_of_and, true, ℕ, ◌&&◌, ◌+◌, ◌-◌, ◌<◌, ◌∙◌, ◌≡◌, ◌≤◌}
 use Rattle.chess_rules.proofs.rays.Ends.{back, mirrored, square_is, stays}
 
 -- a number of the range that passes
@@ -17,15 +16,8 @@ pub record Ride (f : ℕ) (men : List (Option Man)) (s t : ℕ) (d : Step) (k : 
 pub ride_on-found : (f : ℕ) (men : List (Option Man)) (s t : ℕ) (d : Step) → rides_on f men s t d ≡ true → (k : ℕ) × Ride f men s t d k
 unfolding rides_on
 ride_on-found f men s t d h =
-    let w = found (λ k. is_square (along s d k) t && list_all (λ i. is_vacant_at men (along s d i)) (range_with_len f (k - f))) f (8 - f) h in (
-      w.0,
-      record {
-        low = w.1;
-        high = omega (arith, w.1, w.2);
-        at = square_is _ t (first_of_and _ _ w.3);
-        free = λ j lo hi. all_at _ f (w.0 - f) j (second_of_and (is_square (along s d w.0) t) _ w.3) lo (omega (arith, w.1, hi));
-      },
-    )
+    let w = found (λ k. is_square (along s d k) t && list_all (λ i. is_vacant_at men (along s d i)) (range_with_len f (k - f))) f (8 - f) h in
+    (w.0, grind (arith, square_is (along s d w.0) t, and_parts, all_at (λ i. is_vacant_at men (along s d i)) f (w.0 - f)))
 
 pub ride_on-made : (f : ℕ) (men : List (Option Man)) (s t : ℕ) (d : Step) (k : ℕ) → Ride f men s t d k → rides_on f men s t d ≡ true
 unfolding rides_on
@@ -54,17 +46,7 @@ pub hop-found : (men : List (Option Man)) (s t : ℕ) (d : Step) → hops men s 
 unfolding hops is_clear
 hop-found men s t d h =
     let w = found (λ k. is_square (along s d k) t && is_occupied men (along s d (k - 1)) && is_clear men s d (k - 2)) 2 6 h in
-    let both = first_of_and _ (is_clear men s d (w.0 - 2)) w.3 in (
-      w.0,
-      record {
-        low = w.1;
-        high = omega (arith, w.2);
-        at = square_is _ t (first_of_and _ _ both);
-        hurdle = second_of_and (is_square (along s d w.0) t) _ both;
-        free = λ j lo hi. all_at (λ i. is_vacant_at men (along s d i)) 1 (w.0 - 2) j
-            (second_of_and (is_square (along s d w.0) t && is_occupied men (along s d (w.0 - 1))) _ w.3) lo (omega (arith, w.1, hi));
-      },
-    )
+    (w.0, grind (arith, square_is (along s d w.0) t, and_parts, all_at (λ i. is_vacant_at men (along s d i)) 1 (w.0 - 2)))
 
 pub hop-made : (men : List (Option Man)) (s t : ℕ) (d : Step) (k : ℕ) → Hop men s t d k → hops men s t d ≡ true
 unfolding hops is_clear
@@ -77,8 +59,7 @@ hop-made men s t d k r =
 pub from_start : (men : List (Option Man)) (s t b : ℕ) (d : Step) (k j : ℕ) → Ride 1 men s t d k → 1 ≤ j → j < k → along s d j ≡ Some b → rides men s b d ≡ true
 from_start men s t b d k j r lo lt at = ride-made men s b d j (search rules)
 
-pub from_end : (men : List (Option Man)) (s t b : ℕ) (d : Step) (k j : ℕ) → Ride 1 men s t d k → j < k → along s d j ≡ Some b
-    → rides men t b (back d) ≡ true
+pub from_end : (men : List (Option Man)) (s t b : ℕ) (d : Step) (k j : ℕ) → Ride 1 men s t d k → j < k → along s d j ≡ Some b → rides men t b (back d) ≡ true
 from_end men s t b d k j r lt at = ride-made men t b (back d) (k - j) (grind (arith, mirrored))
 
 ride_back : (men : List (Option Man)) (s t : ℕ) (d : Step) → s < 64 → rides men s t d ≡ true → rides men t s (back d) ≡ true
@@ -94,22 +75,9 @@ rides-back men s t d p q = same_Bool _ _ (ride_back men s t d p) (ride_back men 
 pub hops-back : (men : List (Option Man)) (s t : ℕ) (d : Step) → s < 64 → t < 64 → hops men s t d ≡ hopped_from men t s (back d)
 unfolding hopped_from
 hops-back men s t d p q =
-    same_Bool _ _
-    (λ h.
+    same_Bool _ _ (λ h.
     let w = hop-found men s t d h in
     and_from _ _ (ap (is_occupied men) (mirrored s t d w.0 (w.0 - 1) 1 (omega (arith, w.1.low)) w.1.at) ∙ w.1.hurdle)
-    (ride_on-made 2 men t s (back d) w.0 (record {
-      low = w.1.low;
-      high = w.1.high;
-      at = mirrored s t d w.0 0 w.0 (omega arith) w.1.at ∙ stays s d p;
-      free = λ j lo hi. ap (is_vacant_at men) (mirrored s t d w.0 (w.0 - j) j (omega arith) w.1.at) ∙ w.1.free (w.0 - j) (omega arith) (omega arith);
-    })))
-    (λ h.
+    (ride_on-made 2 men t s (back d) w.0 (grind (arith, mirrored s t d w.0, stays s d p)))) (λ h.
     let w = ride_on-found 2 men t s (back d) (second_of_and (is_occupied men (along t (back d) 1)) _ h) in
-    hop-made men s t d w.0 (record {
-      low = w.1.low;
-      high = w.1.high;
-      at = mirrored t s (back d) w.0 0 w.0 (omega arith) w.1.at ∙ stays t (back d) q;
-      hurdle = ap (is_occupied men) (mirrored t s (back d) w.0 1 (w.0 - 1) (omega (arith, w.1.low)) w.1.at) ∙ first_of_and _ _ h;
-      free = λ j lo hi. ap (is_vacant_at men) (mirrored t s (back d) w.0 (w.0 - j) j (omega arith) w.1.at) ∙ w.1.free (w.0 - j) (omega arith) (omega arith);
-    }))
+    hop-made men s t d w.0 (grind (arith, mirrored t s (back d) w.0, stays t (back d) q, first_of_and)))

@@ -1,12 +1,8 @@
 -- The moves of a position are its legal moves, each once, in the stated order; and what mate and stalemate say of legal moves.
-use Rattle.chess_rules.proofs.Basics.{AllPairs, Contains, ap, arith, false, sym, true, ◌<◌, ◌↔◌, ◌∙◌, ◌≡◌, ◌≢◌, ◌⊎◌}
-use Rattle.chess_rules.proofs.Chess.{IsWellFormed, Move, Position, RuleSet, in_check, is_legal, is_mate, is_nil, is_stalemate, moves, promotions, triples}
-use Rattle.chess_core.specs.MoveOrder.{promotion_order, order_number}
+use Rattle.chess_rules.proofs.Chess.{AllPairs, AllPairs-filter, Contains, IsWellFormed, Move, Position, RuleSet, and_from, and_parts, ap, arith, false, false_from_ne_true, in_check, is_legal, is_mate, is_nil, is_stalemate, moves, not-true, not_from_false, order_number, promotion_order, promotions, sym, triples, true, true≢false, ◌<◌, ◌↔◌, ◌∙◌, ◌≡◌, ◌≢◌, ◌⊎◌}
 use Rattle.chess_rules.proofs.listing_moves.Calls.{is_pseudo_legal-from_legal}
 use Rattle.chess_rules.proofs.listing_moves.Members.{from_filter, in_filter, pairs_weaker}
 use Rattle.chess_rules.proofs.listing_moves.Triples.{from_triples, in_triples, made_is_triple, triples_rise, by_parts, nil_where_nothing, nothing_in}
-use Rattle.std.proofs.lemmas.Bool.{and_from, and_parts, false_from_ne_true, not-true, not_from_false, true≢false}
-use Rattle.std.proofs.lemmas.List.Kept.{AllPairs-filter}
 
 -- The move goes from a square of the board to a square of the board, and names none or one of the promotions.
 abbrev pub IsTriple : Move → Type 0
@@ -18,8 +14,7 @@ Precedes m n = order_number m < order_number n
 
 -- That is: the lower origin; or the same one, and the lower arrival; or the same two, and the promotion that is named first, none before all.
 pub precedes_by_parts : (m n : Move) → IsTriple m → IsTriple n
-    → Precedes m n ↔ ((m.from < n.from)
-    ⊎ ((m.from ≡ n.from) × ((m.to < n.to) ⊎ ((m.to ≡ n.to) × (promotion_order m.promo < promotion_order n.promo)))))
+    → Precedes m n ↔ ((m.from < n.from) ⊎ ((m.from ≡ n.from) × ((m.to < n.to) ⊎ ((m.to ≡ n.to) × (promotion_order m.promo < promotion_order n.promo)))))
 precedes_by_parts m n a b = by_parts m n a.1 b.1
 
 module _ (rule : RuleSet) (p : Position) where

@@ -1,6 +1,6 @@
 //! Small positions whose legal moves, or mates, are worked out by hand.
 use crate::plain::Rule;
-use crate::probe::{has_mates, has_moves, is_told_to_keep};
+use crate::probe::{has_mates, has_moves, is_told_to_keep, is_told_to_step};
 
 // The rules, the position, and the legal moves of White.
 const LEGAL_MOVES: [(Rule, &str, &str); 28] = [
@@ -230,6 +230,37 @@ const KEPT: [(Rule, &str, &str, bool); 14] = [
     (Rule::Orthodox, "8/8/8/3k4/8/8/5PPP/K4BSR b", "d5e5", true),
     (Rule::Orthodox, "8/8/8/3k4/8/8/PPPP4/KRSB4 b", "d5e5", false),
 ];
+
+// The rules, a position of White's, his legal move, and whether Black's king is told to have a quiet step then.
+const QUIET_STEPS: [(Rule, &str, &str, bool); 11] = [
+    // He steps to b8, but not where the rook that comes reaches him.
+    (Rule::Orthodox, "k7/8/1K6/8/8/8/8/7R", "h1h2", true),
+    (Rule::Madrasi, "k7/8/1K6/8/8/8/8/7R", "h1h2", true),
+    (Rule::Orthodox, "k7/8/1K6/8/8/8/8/7R", "h1h8", false),
+    // The first step, to a6, opens the bishop's line to h1.
+    (Rule::Orthodox, "b7/1k6/8/8/8/8/P7/7K", "a2a3", false),
+    (Rule::Orthodox, "b7/1k6/8/8/8/8/P7/6K1", "a2a3", true),
+    // White's king comes to that line, or leaves it.
+    (Rule::Orthodox, "b7/1k6/8/8/8/8/7K/8", "h2h1", false),
+    (Rule::Orthodox, "b7/1k6/8/8/8/8/8/7K", "h1g1", true),
+    // He captures the pawn that comes next to him.
+    (Rule::Orthodox, "k7/8/1P6/8/8/8/8/7K", "b6b7", true),
+    // In Circe nothing is told of captures, since men come back.
+    (Rule::Orthodox, "k7/8/8/8/8/8/7p/K6R", "h1h2", true),
+    (Rule::Circe, "k7/8/8/8/8/8/7p/K6R", "h1h2", false),
+    // A step that only the move makes possible isn't looked for.
+    (Rule::Orthodox, "k1K5/8/8/8/8/8/8/6B1", "g1h2", false),
+];
+
+#[test]
+fn quiet_steps(rt: HostRuntime) {
+    for (rule, position, m, wanted) in &QUIET_STEPS {
+        assert!(rt;
+            is_told_to_step(*rule, position, m, *wanted),
+            "{position} {m}"
+        );
+    }
+}
 
 #[test]
 fn lasting_flights(rt: HostRuntime) {

@@ -1,19 +1,25 @@
-//! Positions before a defence in Circe, beside the plain rules.
+//! Positions before a defence, beside the plain rules.
 use crate::defended::defended;
 use crate::family::Family;
+use crate::plain::Rule;
+use crate::plain::Rule::{Circe, Madrasi, Orthodox};
 use std::process::Abort;
 
-// A name, the family, how many of its positions are compared, and how many moves at least are told to be followed by no mate.
-const FAMILIES: [(&str, Family, u64, u32); 3] = [
-    ("flights", Family::Flights, 500, 300),
-    ("rebirths before mates", Family::Nets, 1_500, 5_000),
-    ("discovered checks", Family::Batteries, 500, 1_500),
+// A name, the rule, the family, how many of its positions are compared, and how many moves at least are told to be followed by
+// no mate.
+const FAMILIES: [(&str, Rule, Family, u64, u32); 6] = [
+    ("flights", Circe, Family::Flights, 500, 300),
+    ("rebirths before mates", Circe, Family::Nets, 1_500, 5_000),
+    ("discovered checks", Circe, Family::Batteries, 500, 1_500),
+    ("springboards", Orthodox, Family::Hurdles, 500, 1_500),
+    ("reborn hurdles", Circe, Family::RebornHurdles, 500, 1_000),
+    ("nightriders", Madrasi, Family::NightriderLines, 300, 1_000),
 ];
 
 #[test]
-fn defences_in_circe(rt: HostRuntime) {
-    for (name, family, count, least) in &FAMILIES {
-        let defences = defended(*family, *count);
+fn defences(rt: HostRuntime) {
+    for (name, rule, family, count, least) in &FAMILIES {
+        let defences = defended(*rule, *family, *count);
         let (wrong, told) = (defences.wrong, defences.told);
         assert!(rt;
             wrong.is_none(),

@@ -52,10 +52,8 @@ module _ (rule : RuleSet) (problem : Posed) where
   in_phase : (phase : Phase) (x : BareEvent) → Contains (phase_events rule problem phase) x → GivesPath x
       → (path : List Move) × (path_event problem phase path ≡ x)
   unfolding phase_events
-  in_phase phase x c gives = elim (in_cases (opening phase) _ x c) [
-    | inl e ↦ absurd (subst GivesPath (sym e) gives)
-    | inr r ↦ in_rest phase (is_barred rule problem phase) _ x (λ none. none) r gives
-  ]
+  in_phase phase x c gives =
+      elim (in_cases (opening phase) _ x c) [ inl e ↦ grind arith | inr r ↦ in_rest phase (is_barred rule problem phase) _ x (λ none. none) r gives ]
 
   -- No line and no node of a problem comes twice.
   pub events_differ : AllPairs IsOtherThan (events rule problem)

@@ -1,6 +1,5 @@
 -- The lines of help play: which lists of moves they are, that each stands once, and in which order.
-use Rattle.pop_solve.proofs.Words.{AllPairs, Contains, Game, Goal, IsWellFormed, List, Move, Position, Precedes, RuleSet, [], after_well_formed, arith, chess, help_lines, is_goal_reached, is_legal, is_pseudo_legal-from_legal, length, moves_are_the_legal_moves, moves_differ, moves_in_order, none_in_nil, pairs_nil, pairs_weaker, path_end, refl, suc, true, zero, ℕ, ◌↔◌, ◌∷◌, ◌≡◌, ◌≢◌, ◌≤◌}
-use Rattle.chess_rules.specs.Play.{position_after}
+use Rattle.pop_solve.proofs.Words.{AllPairs, Contains, Game, Goal, IsWellFormed, List, Move, Position, Precedes, RuleSet, [], after_well_formed, arith, chess, help_lines, is_goal_reached, is_legal, is_pseudo_legal-from_legal, length, moves_are_the_legal_moves, moves_differ, moves_in_order, none_in_nil, pairs_nil, pairs_weaker, path_end, refl, suc, true, zero, ℕ, ◌↔◌, ◌∷◌, ◌≡◌, ◌≢◌, ◌≤◌, position_after}
 use Rattle.pop_solve.proofs.HelpPlay.{from_lines, in_lines, lines_stand}
 use Rattle.pop_solve.proofs.theorems.Lists.{IsPlayable, StandsBefore, never_before_itself}
 
@@ -11,8 +10,8 @@ module _ {P M : Type 0} (game : Game P M) where
   pub help_lines_are : (h : ℕ) (p : P) (line : List M)
       → Contains (help_lines game h p) line ↔ ((1 ≤ h) × (length line ≡ h) × IsPlayable game p line × (game.goal (path_end game.after p line) ≡ true))
   unfolding help_lines
-  help_lines_are zero p line = (λ c. absurd (none_in_nil line c), λ w. absurd (omega (arith, w.0)))
-  help_lines_are (suc h) p line = (λ c. let w = from_lines game (suc h) p line c in (omega arith, w.0, w.1, w.2), λ w. in_lines game (suc h) p line w.1 w.2 w.3)
+  help_lines_are zero p line = grind (arith, none_in_nil)
+  help_lines_are (suc h) p line = grind (arith, from_lines game (suc h) p line, in_lines game (suc h) p line)
 
   -- They stand in lexicographic order of the order in which the moves of each position stand.
   pub help_lines_in_order : (before : M → M → Type 0) → ((p : P) → AllPairs before (game.moves p))
@@ -38,15 +37,9 @@ module _ (goal : Goal) (rule : RuleSet) where
   -- From a well-formed position a list can be played exactly where it is such a line.
   pub playable_is_legal : (p : Position) (line : List Move) → IsWellFormed p → IsPlayable (chess goal rule) p line ↔ IsLegalLine rule p line
   playable_is_legal p [] well = (λ w. tt, λ w. tt)
-  playable_is_legal p (m ∷ line) well = (
-    λ w.
-        let may = (moves_are_the_legal_moves rule p m well).0 w.0 in
-        (may, (playable_is_legal (position_after rule p m) line (after_well_formed rule p m well (is_pseudo_legal-from_legal rule p m may))).0 w.1),
-    λ w. (
-      (moves_are_the_legal_moves rule p m well).1 w.0,
-      (playable_is_legal (position_after rule p m) line (after_well_formed rule p m well (is_pseudo_legal-from_legal rule p m w.0))).1 w.1,
-    ),
-  )
+  playable_is_legal p (m ∷ line) well =
+      let rest = playable_is_legal (position_after rule p m) line in
+      grind (arith, moves_are_the_legal_moves, rest, after_well_formed, is_pseudo_legal-from_legal)
 
   -- From a well-formed position a list stands among the lines of help play in h half-moves, one or more, exactly where it has h moves, each
   -- legal where it is made, and the goal is reached in its last position.

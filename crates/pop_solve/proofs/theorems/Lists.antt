@@ -50,13 +50,9 @@ module _ {M : Type 0} (before : M → M → Type 0) where
   -- below it stand before its next sibling.
   pub all_below_first : (xs ys zs : List M) → StandsBefore xs zs → ((ws : List M) → zs ≡ xs ++ ws → ⊥) → StandsBefore (xs ++ ys) zs
   all_below_first [] ys zs b apart = absurd (apart zs refl)
-  all_below_first (x ∷ xs) ys [] b apart = absurd b
-  all_below_first (x ∷ xs) ys (z ∷ zs) (inl less) apart = inl less
-  all_below_first (x ∷ xs) ys (z ∷ zs) (inr (same, b)) apart = inr (same, all_below_first xs ys zs b (λ ws e. apart ws (λ i. sym same i ∷ e i)))
+  all_below_first (x ∷ xs) ys zs b apart = grind (arith, all_below_first xs ys)
 
   -- Where no move stands before itself, no list does.
   pub never_before_itself : ((m : M) → before m m → ⊥) → (xs ys : List M) → StandsBefore xs ys → xs ≢ ys
   never_before_itself strict [] xs b e = grind arith
-  never_before_itself strict (x ∷ xs) [] b e = b
-  never_before_itself strict (x ∷ xs) (y ∷ ys) (inl less) e = let same : x ≡ y = cc in strict x (rw (← same) at less)
-  never_before_itself strict (x ∷ xs) (y ∷ ys) (inr (same, b)) e = let rest : xs ≡ ys = cc in never_before_itself strict xs ys b rest
+  never_before_itself strict (x ∷ xs) ys b e = grind (arith, never_before_itself strict xs, strict)

@@ -1,6 +1,5 @@
 -- The solutions of a chess problem: which lines and keys they are, that no path of a phase stands twice, and in which order the paths stand.
-use Rattle.pop_solve.proofs.Words.{AllPairs, Battle, BattlePlay, Contains, HelpPlay, IsSound, List, Move, Phase, Play, PlayOfSides, Posed, Precedes, RuleSet, Set, [], game_of, is_goal_reached, is_legal, keeps_win, length, moves_are_the_legal_moves, moves_in_order, pairs_weaker, path_end, phase_half_moves, phase_start, play_of, play_start, refl, rules, is_in_set_play, solutions, take, true, ◌↔◌, ◌∷◌, ◌≡◌, ◌≢◌, ◌≤◌}
-use Rattle.chess_rules.specs.Play.{position_after}
+use Rattle.pop_solve.proofs.Words.{AllPairs, Battle, BattlePlay, Contains, HelpPlay, IsSound, List, Move, Phase, Play, PlayOfSides, Posed, Precedes, RuleSet, Set, [], game_of, is_goal_reached, is_legal, keeps_win, length, moves_are_the_legal_moves, moves_in_order, pairs_weaker, path_end, phase_half_moves, phase_start, play_of, play_start, refl, rules, is_in_set_play, solutions, take, true, ◌↔◌, ◌∷◌, ◌≡◌, ◌≢◌, ◌≤◌, position_after}
 use Rattle.pop_solve.proofs.PhasePaths.{first_joined, help_paths, never_itself, play_paths, set_paths}
 use Rattle.pop_solve.proofs.Sound.{start_sound}
 use Rattle.pop_solve.proofs.theorems.HelpLines.{IsLegalLine, help_lines_of_chess_are, help_lines_of_chess_in_order}
@@ -47,15 +46,9 @@ module _ (rule : RuleSet) (problem : Posed) where
     where
       by_play : (play : PlayOfSides) → play_of problem.stipulation.form ≡ play → (phase : Phase)
           → AllPairs (StandsBefore Precedes) (paths (solutions rule problem phase))
-      by_play HelpPlay help phase =
-          rw (help_paths rule problem phase help)
-          (help_lines_of_chess_in_order problem.stipulation.goal rule (phase_half_moves problem phase) (phase_start problem phase))
-      by_play (BattlePlay battle) fought Play =
-          rw (play_paths rule problem battle fought)
-          (search (rules, play_in_order, moves_in_order))
-      by_play (BattlePlay battle) fought Set =
-          rw (set_paths rule problem battle fought)
-          (search (rules, set_play_in_order, moves_in_order))
+      by_play HelpPlay help phase = rw (help_paths rule problem phase help) (search (rules, help_lines_of_chess_in_order))
+      by_play (BattlePlay battle) fought Play = rw (play_paths rule problem battle fought) (search (rules, play_in_order, moves_in_order))
+      by_play (BattlePlay battle) fought Set = rw (set_paths rule problem battle fought) (search (rules, set_play_in_order, moves_in_order))
 
   -- No two paths of a phase are alike.
   pub paths_differ : (phase : Phase) → AllPairs (λ a b. a ≢ b) (paths (solutions rule problem phase))

@@ -1,6 +1,6 @@
 -- The trees of battle play, over any game: which moves stand in them, that no path stands twice, and in which order the paths stand.
-use Rattle.pop_solve.proofs.Words.{AllPairs, Battle, Bool, Contains, Game, List, [], continuations, arith, best_moves, false, from_filter, in_filter, keeps_win, least_moves, nodes_below, none_in_nil, pairs_weaker, refl, is_in_set_play, set_tree, suc, sym, take, tree, true, wins_in, zero, ℕ, ◌-◌, ◌↔◌, ◌∙◌, ◌∷◌, ◌≡◌, ◌≢◌, ◌≤◌, rules}
-use Rattle.pop_solve.proofs.Nodes.{any_from_element, element_from_any, answers_more, answers_zero, beginnings, below_more, below_zero, deeper_unless, first_play_holds, first_set_play_holds, in_order, play_holds, roots_are, roots_unless, deeper_are, set_play_holds, tree_paths, set_tree_paths, set_tree_none, from_nodes, below_key, kept, below_set}
+use Rattle.pop_solve.proofs.Words.{AllPairs, Battle, Bool, Contains, Game, List, [], continuations, arith, best_moves, false, from_filter, in_filter, keeps_win, least_moves, nodes_below, none_in_nil, pairs_weaker, refl, is_in_set_play, set_tree, suc, take, tree, true, wins_in, zero, ℕ, ◌-◌, ◌↔◌, ◌∷◌, ◌≡◌, ◌≢◌, ◌≤◌, rules}
+use Rattle.pop_solve.proofs.Nodes.{any_from_element, element_from_any, beginnings, deeper_unless, first_play_holds, first_set_play_holds, in_order, play_holds, roots_are, roots_unless, deeper_are, set_play_holds, tree_paths, set_tree_paths, from_nodes, below_key, kept, below_set}
 use Rattle.pop_solve.proofs.theorems.Lengths.{no_win_in_none, wins_by_a_move, wins_in_least}
 use Rattle.pop_solve.proofs.theorems.Lists.{HasBeginnings, StandsBefore, never_before_itself, paths}
 
@@ -20,10 +20,9 @@ module _ {P M : Type 0} (battle : Battle) (game : Game P M) (n : ℕ) where
 
   -- There is a key exactly where White wins within n moves.
   pub some_key_where_won : (p : P) → 1 ≤ n → ((m : M) × IsKey p m) ↔ (wins_in battle game n p ≡ true)
-  some_key_where_won p some = (
-    λ k. wins_by_a_move game battle n p some ∙ any_from_element (λ m. keeps_win battle game n (game.after p m)) (game.moves p) k.0 k.1.0 k.1.1,
-    λ w. element_from_any (λ m. keeps_win battle game n (game.after p m)) (game.moves p) (sym (wins_by_a_move game battle n p some) ∙ w),
-  )
+  some_key_where_won p some =
+      let wins = λ (m : M). keeps_win battle game n (game.after p m) in
+      grind (arith, wins_by_a_move game battle n p some, any_from_element wins (game.moves p), element_from_any wins (game.moves p))
 
   -- Every path of the play begins with a key.
   pub paths_begin_with_keys : (variation : Bool) (h : ℕ) (p : P) (m : M) (path : List M)
@@ -39,28 +38,28 @@ module _ {P M : Type 0} (battle : Battle) (game : Game P M) (n : ℕ) where
   unfolding below_key
   variations_are h p m x path =
       let are = deeper_are (below_key battle game n true h p) (λ m. keeps_win battle game n (game.after p m)) (game.moves p) m x path in
-      rw (tree_paths battle game n true h p) (λ c. let w = are.0 c in ((w.0, w.1), w.2), λ w. are.1 (w.0.0, w.0.1, w.1))
+      grind (arith, tree_paths battle game n true h p, are)
 
   -- Without variations no path goes on behind a key.
   pub keys_alone : (h : ℕ) (p : P) (m x : M) (path : List M) → Contains (paths (tree battle game false n h p)) (m ∷ (x ∷ path)) → ⊥
   unfolding below_key
   keys_alone h p m x path c =
       let are = deeper_are (below_key battle game n false h p) (λ m. keeps_win battle game n (game.after p m)) (game.moves p) m x path in
-      none_in_nil (x ∷ path) (are.0 (rw (tree_paths battle game n false h p) at c)).2
+      grind (arith, tree_paths battle game n false h p, none_in_nil, are)
 
   -- Below a position in which Black moves, with half-moves left and the goal not reached, all his moves stand.
   pub defences_are : (h : ℕ) (q : P) (d : M) → Contains (nodes_below battle game n h q) (d ∷ []) ↔ ((1 ≤ h) × (game.goal q ≡ false) × Contains (game.moves q) d)
-  defences_are zero q d = rw (below_zero battle game n q) (λ c. absurd (none_in_nil (d ∷ []) c), λ w. absurd (omega (arith, w.0)))
+  unfolding nodes_below
+  defences_are zero q d = grind (arith, none_in_nil)
   defences_are (suc h) q d =
-      let are = roots_unless (λ d. continuations battle game n h (game.after q d)) (game.goal q) (game.moves q) d in
-      rw (below_more battle game n h q) (λ c. let w = are.0 c in (omega arith, w.0, w.1), λ w. are.1 (w.1, w.2))
+      grind (arith, roots_unless (λ d. continuations battle game n h (game.after q d)) (game.goal q) (game.moves q) d)
 
   -- And below a defence stands what answers it, with a half-move less.
   pub defences_go_on : (h : ℕ) (q : P) (d x : M) (path : List M)
       → Contains (nodes_below battle game n (suc h) q) (d ∷ (x ∷ path))
       ↔ ((game.goal q ≡ false) × Contains (game.moves q) d × Contains (continuations battle game n h (game.after q d)) (x ∷ path))
-  defences_go_on h q d x path =
-      rw (below_more battle game n h q) (deeper_unless (λ d. continuations battle game n h (game.after q d)) (game.goal q) (game.moves q) d x path)
+  unfolding nodes_below
+  defences_go_on h q d x path = deeper_unless (λ d. continuations battle game n h (game.after q d)) (game.goal q) (game.moves q) d x path
 
   is_best : (r : P) (m : M) → Contains (best_moves battle game n r) m ↔ IsBest r m
   is_best r m = (
@@ -74,27 +73,27 @@ module _ {P M : Type 0} (battle : Battle) (game : Game P M) (n : ℕ) where
 
   -- Below a position in which White moves, with half-moves left and the goal not reached, his best continuations stand.
   pub continuations_are : (h : ℕ) (r : P) (m : M) → Contains (continuations battle game n h r) (m ∷ []) ↔ ((1 ≤ h) × (game.goal r ≡ false) × IsBest r m)
-  continuations_are zero r m = rw (answers_zero battle game n r) (λ c. absurd (none_in_nil (m ∷ []) c), λ w. absurd (omega (arith, w.0)))
+  unfolding continuations
+  continuations_are zero r m = grind (arith, none_in_nil)
   continuations_are (suc h) r m =
-      let are = roots_unless (λ m. nodes_below battle game n h (game.after r m)) (game.goal r) (best_moves battle game n r) m in
-      grind (arith, answers_more, is_best r m)
+      grind (arith, is_best r m, roots_unless (λ m. nodes_below battle game n h (game.after r m)) (game.goal r) (best_moves battle game n r) m)
 
   -- And below a continuation stand the defences to it, with a half-move less.
   pub continuations_go_on : (h : ℕ) (r : P) (m x : M) (path : List M)
       → Contains (continuations battle game n (suc h) r) (m ∷ (x ∷ path))
       ↔ ((game.goal r ≡ false) × IsBest r m × Contains (nodes_below battle game n h (game.after r m)) (x ∷ path))
+  unfolding continuations
   continuations_go_on h r m x path =
-      let are = deeper_unless (λ m. nodes_below battle game n h (game.after r m)) (game.goal r) (best_moves battle game n r) m x path in
-      grind (arith, answers_more, is_best r m)
+      grind (arith, is_best r m, deeper_unless (λ m. nodes_below battle game n h (game.after r m)) (game.goal r) (best_moves battle game n r) m x path)
 
   -- Set play, with half-moves left, shows those moves of Black after which the goal is reached or White wins with a move less.
   pub set_play_is : (variation : Bool) (h : ℕ) (p : P) (d : M)
       → Contains (paths (set_tree battle game variation n h p)) (d ∷ [])
       ↔ ((1 ≤ h) × Contains (game.moves p) d × (is_in_set_play battle game n (game.after p d) ≡ true))
-  set_play_is variation zero p d = grind (arith, set_tree_none, none_in_nil)
+  unfolding set_tree
+  set_play_is variation zero p d = grind (arith, none_in_nil)
   set_play_is variation (suc h) p d =
-      let are = roots_are (below_set battle game n variation h p) (λ d. is_in_set_play battle game n (game.after p d)) (game.moves p) d in
-      rw (set_tree_paths battle game n variation h p) (λ c. let w = are.0 c in (omega arith, w.0, w.1), λ w. are.1 (w.1, w.2))
+      grind (arith, set_tree_paths, roots_are (below_set battle game n variation h p) (λ d. is_in_set_play battle game n (game.after p d)) (game.moves p) d)
 
   module _ (variation : Bool) (h : ℕ) (p : P) where
     -- A beginning of a path of the play is a path too.

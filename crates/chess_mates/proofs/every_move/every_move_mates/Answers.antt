@@ -1,6 +1,6 @@
 use Rattle.chess_rules.proofs.Basics.{rules}
+use Rattle.chess_mates.proofs.Chess.{moves_behind-start}
 use Rattle.chess_mates.proofs.EveryMove.{none-all}
-use Rattle.chess_rules.proofs.listing_moves.Places.{moves_behind-start}
 use Rattle.chess_mates.proofs.every_move.every_move_mates.Goals as goal
 
 pub returns-then-has_quiet_move-clause-answer : goal.returns-then-has_quiet_move-clause-answer

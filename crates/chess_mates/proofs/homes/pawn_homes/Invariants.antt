@@ -1,9 +1,6 @@
-use Rattle.chess_rules.proofs.Basics.{Some, true, ◌-◌, ◌==◌, ◌≡◌, ℕ}
-use Rattle.std.specs.Int.{bit_at}
-use Rattle.chess_core.specs.Squares.{file_of}
-use Rattle.chess_mates.proofs.Chess.{Pawn}
+use Rattle.chess_rules.proofs.Basics.{Some, bit_at, true, ℕ, ◌-◌, ◌==◌, ◌≡◌}
+use Rattle.chess_mates.proofs.Chess.{Pawn, file_of, rebirth}
 use Rattle.chess_mates.proofs.HoldBelow.{HoldBelow}
-use Rattle.chess_rules.specs.Play.{rebirth}
 use Rattle.chess_mates.proofs.homes.pawn_homes.Given as goal
 
 abbrev pub invariant-loop-from : goal.invariant-loop-from

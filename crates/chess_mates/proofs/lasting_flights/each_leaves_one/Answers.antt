@@ -1,7 +1,11 @@
 use Rattle.chess_rules.proofs.Basics.{sym, ◌∙◌}
 use Rattle.chess_mates.proofs.HoldBelow.{hold_all, hold_next, hold_none}
+use Rattle.chess_mates.proofs.Risks.{none_at}
 use Rattle.chess_mates.specs.ties.LastingFlights.{LeavesOne}
 use Rattle.chess_mates.proofs.lasting_flights.each_leaves_one.Goals as goal
+
+pub returns-then-men-eq0 : goal.returns-then-men-eq0
+returns-then-men-eq0 c = λ yes s small on. absurd (none_at c.args.men s c.if-men-eq0.true on)
 
 pub loop-from-init : goal.loop-from-init
 loop-from-init c = hold_none _ _

@@ -17,7 +17,7 @@ returns g c = λ yes.
     let small : m.to < 64 = omega (arith, to, c.index-small.ensures.value, c.index-small.ensures.small) in
     let here : man_on p.men m.from ≡ Some c.in-Some.man = ap (man_on p.men) (sym from) ∙ sym c.man_at.ensures ∙ c.in-Some.is in
     no_mate_behind rule p m c.in-Some.man c.in-Some-king_after.king c.near_squares-near.result c.requires.well_formed
-    (is_pseudo_legal-from_legal rule p m c.requires.legal) here (c.are_looked_for.ensures.captures looked)
+    (is_pseudo_legal-from_legal rule p m c.requires.legal) here (c.are_looked_for.ensures looked)
     (not-true _ (sym c.goes_alone.ensures ∙ c.if-not-goes_alone.false))
     small (sym c.king_after.ensures ∙ c.in-Some-king_after.is) c.near_squares-near.ensures c.attackers_on-men.result men.men (men.colour ∙ enemy)
-    (c.are_looked_for.ensures.fairies looked) (c.keeps_one.ensures yes)
+    (c.keeps_one.ensures yes)

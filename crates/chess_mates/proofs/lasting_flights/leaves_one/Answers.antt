@@ -2,9 +2,6 @@ use Rattle.chess_rules.proofs.Basics.{bit_and, bit_at, bit_or, cases_Bool, inl, 
 use Rattle.chess_mates.proofs.LastingFlights.{first_there}
 use Rattle.chess_mates.proofs.lasting_flights.leaves_one.Goals as goal
 
-pub open_approaches-requires : goal.open_approaches-requires
-open_approaches-requires c = c.goes_plainly.ensures.plain c.if-not-goes_plainly.false
-
 pub returns : goal.returns
 returns c = λ yes.
     let plain = c.if-not-goes_plainly.false in

@@ -2,8 +2,12 @@ use Rattle.chess_rules.proofs.Basics.{sym, ◌∙◌}
 use Rattle.chess_mates.proofs.Chess.{Man}
 use Rattle.chess_mates.proofs.HoldBelow.{hold_all, hold_map, hold_next, hold_none}
 use Rattle.chess_mates.proofs.LastingFlights.{reached_left, reached_right}
+use Rattle.chess_mates.proofs.Risks.{none_at}
 use Rattle.chess_mates.specs.ties.LastingFlights.{AreReached}
 use Rattle.chess_mates.proofs.lasting_flights.open_reach_of.Goals as goal
+
+pub returns-then-squares-eq0 : goal.returns-then-squares-eq0
+returns-then-squares-eq0 c = λ s small on. absurd (none_at c.args.squares s c.if-squares-eq0.true on)
 
 pub loop-from-init : goal.loop-from-init
 loop-from-init c = hold_none _ _

@@ -1,5 +1,5 @@
-use Rattle.chess_rules.proofs.Basics.{Some, arith, bit_at, false, rules, sym, ◌<◌, ◌==◌, ◌∙◌, ◌≡◌}
-use Rattle.chess_mates.proofs.Chess.{King, find_first, man_on, own_man}
+use Rattle.chess_rules.proofs.Basics.{arith, bit_at, rules, sym, ◌<◌, ◌==◌, ◌∙◌}
+use Rattle.chess_mates.proofs.Chess.{find_first}
 use Rattle.chess_mates.proofs.FarMen.{far_none, far_one}
 use Rattle.chess_mates.proofs.origins.far_king.Goals as goal
 
@@ -10,11 +10,8 @@ pub is_far-requires-clause-targets : goal.is_far-requires-clause-targets
 is_far-requires-clause-targets g c =
     let first = find_first (λ s. bit_at c.men_off_shields.result s == 1) 0 64 c.in-Some.from (sym c.next_bit.ensures.value ∙ c.in-Some.is) in
     let small : c.in-Some.from < 64 = omega (arith, first.high) in
-    let stands : man_on c.args.board.now.men c.in-Some.from ≡ Some (own_man c.args.board.now King) =
-    c.men_off_shields.ensures.stands c.in-Some.from small first.here in
-    let unshielding : (bit_at c.args.squares.now.shield_squares c.in-Some.from == 1) ≡ false =
-    c.men_off_shields.ensures.unshielding c.in-Some.from small first.here in
-    search (rules, c.targets_off_shields-targets.ensures)
+    let men = c.men_off_shields.ensures in
+    search (rules, c.targets_off_shields-targets.ensures, men.stands c.in-Some.from small first.here, men.unshielding c.in-Some.from small first.here)
 
 pub is_far-requires-clause-here : goal.is_far-requires-clause-here
 is_far-requires-clause-here g c =

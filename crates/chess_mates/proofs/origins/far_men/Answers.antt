@@ -1,8 +1,8 @@
-use Rattle.chess_rules.proofs.Basics.{arith, bit_at, false≢true, refl, sym, ◌+◌, ◌-◌, ◌<◌, ◌==◌, ◌∙◌, ◌≤◌}
+use Rattle.chess_rules.proofs.Basics.{arith, bit_at, false≢true, refl, rules, sym, ◌+◌, ◌-◌, ◌<◌, ◌==◌, ◌∙◌, ◌≤◌}
 use Rattle.chess_mates.proofs.Chess.{find_first, own_man}
 use Rattle.chess_mates.proofs.FarMen.{far_either, far_none, far_one}
+use Rattle.chess_mates.proofs.origins.far_men.Goals.{else-is_far, then-is_far}
 use Rattle.chess_mates.proofs.origins.far_men.Goals as goal
-use Rattle.chess_mates.proofs.origins.far_men.Goals.{then-is_far, else-is_far}
 
 pub loop-from-init : goal.loop-from-init
 loop-from-init g c = record { small = omega arith; far = far_none g.R.Rules.rule c.args.board.now }
@@ -27,11 +27,7 @@ pub loop-from-preserved : goal.loop-from-preserved
 loop-from-preserved g c =
     let small : c.index-number.result + 1 ≤ 64 = omega (arith, c.index-number.ensures.small) in
     elim c.if-is_far.branch [
-      | then-is_far w ↦ record {
-        small = small;
-        far = rw w.far-is (far_either g.R.Rules.rule c.args.board.now c.loop-from.far w.only-far.result c.loop-from.invariant.far
-            (far_one g.R.Rules.rule c.args.board.now c.in-Some.from w.only-far.result w.only-far.ensures (c.is_far.ensures w.if-is_far.true)));
-      }
+      | then-is_far w ↦ record { small = small; far = rw w.far-is (search (rules, far_either, far_one)) }
       | else-is_far w ↦ record { small = small; far = rw w.far-is c.loop-from.invariant.far }
     ]
 

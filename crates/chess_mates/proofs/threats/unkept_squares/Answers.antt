@@ -1,5 +1,5 @@
 use Rattle.chess_rules.proofs.Basics.{rules}
-use Rattle.chess_rules.proofs.listing_moves.Walks.{off_second}
+use Rattle.chess_mates.proofs.Chess.{off_second}
 use Rattle.chess_mates.proofs.threats.unkept_squares.Goals as goal
 
 pub returns : goal.returns

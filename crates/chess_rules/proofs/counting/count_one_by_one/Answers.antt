@@ -1,5 +1,4 @@
-use Rattle.chess_rules.proofs.Basics.{arith, refl, sym, ◌*◌, ◌+◌, ◌∙◌, ◌≡◌}
-use Rattle.chess_rules.proofs.Chess.{is_legal, per_origin}
+use Rattle.chess_rules.proofs.Chess.{arith, is_legal, per_origin, refl, sym, ◌*◌, ◌+◌, ◌∙◌, ◌≡◌}
 use Rattle.chess_rules.proofs.listing_moves.Counting.{count_barren, count_here}
 use Rattle.chess_rules.proofs.listing_moves.Walks.{aimed_from}
 use Rattle.chess_rules.proofs.counting.count_one_by_one.Goals as goal
@@ -7,8 +6,8 @@ use Rattle.chess_rules.proofs.counting.count_one_by_one.Goals as goal
 pub is_legal-requires-clause-aimed : goal.is_legal-requires-clause-aimed
 is_legal-requires-clause-aimed g c =
     let at : c.from-first.result * per_origin ≡ per_origin * c.args.from = omega (arith, c.from-first.ensures, c.index.ensures.value) in
-    rw (c.loop-at.invariant.board, c.triple-m.ensures, at) (aimed_from g.R.Rules.rule c.args.board.now (is_legal g.R.Rules.rule c.args.board.now)
-    c.args.from c.args.squares c.loop-at.at (omega arith) c.requires.squares (c.loop-at.invariant.named (omega arith)))
+    rw (c.loop-at.invariant.board, c.triple-m.ensures, at)
+    (aimed_from _ _ (is_legal g.R.Rules.rule c.args.board.now) _ _ _ (omega arith) c.requires.squares (c.loop-at.invariant.named (omega arith)))
 
 pub loop-at-preserved : goal.loop-at-preserved
 loop-at-preserved g c =
@@ -19,14 +18,11 @@ loop-at-preserved g c =
     let at : c.from-first.result * per_origin ≡ per_origin * s = omega (arith, c.from-first.ensures, c.index.ensures.value) in
     let answer = rw (c.loop-at.invariant.board, c.triple-m.ensures, at) at c.is_legal.ensures.answer in
     let next = rw (c.is_legal.ensures.board, c.loop-at.invariant.board) at c.next_from-at-in-loop-at.ensures in
+    let here = count_here rule p s _ (omega arith) c.requires.squares c.loop-at.at _ end c.is_legal.result (omega arith) refl (omega arith) (sym answer) in
+    let barren = count_barren rule p s _ (omega arith) c.requires.squares (c.loop-at.at + 1) _ end next.low next.high next.barren in
     record {
       board = c.is_legal.ensures.board ∙ c.loop-at.invariant.board;
       high = next.high;
       named = next.named;
-      all = omega (
-        arith,
-        count_here rule p s c.args.squares (omega arith) c.requires.squares c.loop-at.at _ end c.is_legal.result (omega arith) refl (omega arith) (sym answer),
-        count_barren rule p s c.args.squares (omega arith) c.requires.squares (c.loop-at.at + 1) c.next_from-at-in-loop-at.result end next.low next.high
-            next.barren,
-      );
+      all = omega (arith, here, barren);
     }

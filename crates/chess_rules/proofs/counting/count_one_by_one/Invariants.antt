@@ -1,5 +1,4 @@
-use Rattle.chess_rules.proofs.Basics.{length, ◌*◌, ◌+◌, ◌-◌, ◌<◌, ◌≡◌, ◌≤◌}
-use Rattle.chess_rules.proofs.Chess.{IsNamed, moves_between, per_origin}
+use Rattle.chess_rules.proofs.Chess.{IsNamed, length, moves_between, per_origin, ◌*◌, ◌+◌, ◌-◌, ◌<◌, ◌≡◌, ◌≤◌}
 use Rattle.chess_rules.proofs.counting.count_one_by_one.Given as goal
 
 -- those counted and those still to come are all

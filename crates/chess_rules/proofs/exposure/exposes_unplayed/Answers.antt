@@ -1,5 +1,4 @@
-use Rattle.chess_rules.proofs.Basics.{Some, ap, arith, is_some, rules, sym, true, ◌<◌, ◌∙◌, ◌≡◌}
-use Rattle.chess_rules.proofs.Chess.{Move, capture_square, is_simple, king_after, man_on, sight_after}
+use Rattle.chess_rules.proofs.Chess.{Move, Some, ap, arith, capture_square, is_simple, is_some, king_after, man_on, rules, sight_after, sym, true, ◌<◌, ◌∙◌, ◌≡◌}
 use Rattle.chess_rules.proofs.attacks.Exposing.{exposed_is, no_king_exposed}
 use Rattle.chess_rules.proofs.exposure.exposes_unplayed.Goals as goal
 

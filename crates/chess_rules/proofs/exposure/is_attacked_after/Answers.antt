@@ -9,5 +9,4 @@ returns-then-not-faced_men_stand_still g c = search (rules, attacked_plainly, c.
 pub returns : goal.returns
 returns g c = λ men are seen.
     attacked_after g.R.Rules.rule men c.args.man.colour c.args.square c.attackers_seen-attackers.result c.some_free_after.result
-    (rw c.other-enemy.ensures at (c.attackers_seen-attackers.ensures men (rw c.other-enemy.ensures seen)))
-    (c.some_free_after.ensures men are)
+    (rw c.other-enemy.ensures at (c.attackers_seen-attackers.ensures men (rw c.other-enemy.ensures seen))) (c.some_free_after.ensures men are)

@@ -1,5 +1,4 @@
-use Rattle.chess_rules.proofs.Basics.{List, Option, bit_at, not, ◌&&◌, ◌-◌, ◌==◌}
-use Rattle.chess_rules.proofs.Chess.{AreArrived, AreOthers, Man, NoneBelow, is_paralysed}
+use Rattle.chess_rules.proofs.Chess.{AreArrived, AreOthers, List, Man, NoneBelow, Option, bit_at, is_paralysed, not, ◌&&◌, ◌-◌, ◌==◌}
 use Rattle.chess_rules.proofs.exposure.some_free_after.Given as goal
 
 abbrev pub invariant-loop-square : goal.invariant-loop-square

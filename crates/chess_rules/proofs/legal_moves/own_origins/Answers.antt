@@ -6,4 +6,4 @@ pub returns : goal.returns
 returns g c =
     let rule = g.R.Rules.rule in
     let p = c.args.board.now in
-    own-origins rule p (is_legal rule p) (λ m h. is_legal-idle rule p m h) c.side.result (rw c.turn.ensures at c.side.ensures)
+    own-origins rule p (is_legal rule p) (is_legal-idle rule p) c.side.result (rw c.turn.ensures at c.side.ensures)

@@ -1,7 +1,5 @@
-use Rattle.chess_rules.proofs.Basics.{Bool, ℕ}
-use Rattle.chess_rules.proofs.Chess.{EastNorthEast, EastSouthEast, Nightrider, NorthNorthEast, NorthNorthWest, SouthSouthEast, SouthSouthWest, WestNorthWest, WestSouthWest, flat_steps, is_lined, is_man, man_on, steep_steps, step_of}
+use Rattle.chess_rules.proofs.Chess.{Bool, EastNorthEast, EastSouthEast, Nightrider, NorthNorthEast, NorthNorthWest, SouthSouthEast, SouthSouthWest, WestNorthWest, WestSouthWest, both_lists, flat_steps, four, is_lined, is_man, man_on, steep_steps, step_of, ℕ}
 use Rattle.chess_rules.proofs.attacks.FairyLines.{man_test}
-use Rattle.chess_rules.proofs.rays.Joining.{both_lists, four}
 use Rattle.chess_rules.proofs.lines.knight_lines_with.Goals as goal
 
 pub returns : goal.returns

@@ -1,5 +1,4 @@
-use Rattle.chess_rules.proofs.Chess.{flat_steps, rides, steep_steps}
-use Rattle.chess_rules.proofs.rays.Joining.{both_lists}
+use Rattle.chess_rules.proofs.Chess.{both_lists, flat_steps, rides, steep_steps}
 use Rattle.chess_rules.proofs.lines.knight_rides.Goals as goal
 
 pub returns : goal.returns

@@ -1,5 +1,4 @@
-use Rattle.chess_rules.proofs.Basics.{refl}
-use Rattle.chess_rules.proofs.Chess.{differs, step_of}
+use Rattle.chess_rules.proofs.Chess.{differs, refl, step_of}
 use Rattle.chess_rules.proofs.attacks.FairyLines.{line_misses, line_passes}
 use Rattle.chess_rules.proofs.lines.line_with.Goals as goal
 
@@ -9,5 +8,4 @@ returns-then-ray-squares-eq0 c = λ test held.
 
 pub returns : goal.returns
 returns c = λ test held.
-    line_passes test c.args.from c.args.squares c.ray-ray.result (step_of c.args.direction) held c.ray-ray.ensures
-    (differs _ 0 c.if-ray-squares-eq0.false)
+    line_passes test c.args.from c.args.squares c.ray-ray.result (step_of c.args.direction) held c.ray-ray.ensures (differs _ 0 c.if-ray-squares-eq0.false)

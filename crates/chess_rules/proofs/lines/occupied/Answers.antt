@@ -1,5 +1,4 @@
-use Rattle.chess_rules.proofs.Basics.{List, Option, bit_or, is_some, rules, true, ◌||◌, ◌≡◌}
-use Rattle.chess_rules.proofs.Chess.{Black, Colour, Man, White, is_of_colour, man_on, same_colour, side_of, squares_either, squares_same, word}
+use Rattle.chess_rules.proofs.Chess.{Black, Colour, List, Man, Option, White, bit_or, is_of_colour, is_some, man_on, rules, same_colour, side_of, squares_either, squares_same, true, word, ◌||◌, ◌≡◌}
 use Rattle.chess_rules.proofs.lines.occupied.Goals as goal
 
 of_one : (c : Colour) → (same_colour c White || same_colour c Black) ≡ true

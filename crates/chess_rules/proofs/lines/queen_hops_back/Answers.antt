@@ -1,5 +1,4 @@
-use Rattle.std.proofs.Common.{rules}
-use Rattle.chess_rules.proofs.rays.Joining.{both_lists}
+use Rattle.chess_rules.proofs.Chess.{both_lists, rules}
 use Rattle.chess_rules.proofs.lines.queen_hops_back.Goals as goal
 
 pub returns : goal.returns

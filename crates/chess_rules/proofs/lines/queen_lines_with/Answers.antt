@@ -1,7 +1,5 @@
-use Rattle.chess_rules.proofs.Basics.{Bool, ℕ}
-use Rattle.chess_rules.proofs.Chess.{East, Grasshopper, North, NorthEast, NorthWest, South, SouthEast, SouthWest, West, diagonal_steps, is_lined, is_man, man_on, step_of, straight_steps}
+use Rattle.chess_rules.proofs.Chess.{Bool, East, Grasshopper, North, NorthEast, NorthWest, South, SouthEast, SouthWest, West, both_lists, diagonal_steps, four, is_lined, is_man, man_on, step_of, straight_steps, ℕ}
 use Rattle.chess_rules.proofs.attacks.FairyLines.{man_test}
-use Rattle.chess_rules.proofs.rays.Joining.{both_lists, four}
 use Rattle.chess_rules.proofs.lines.queen_lines_with.Goals as goal
 
 pub returns : goal.returns

@@ -1,5 +1,4 @@
-use Rattle.chess_rules.proofs.Basics.{◌<◌}
-use Rattle.chess_rules.proofs.Chess.{step_of}
+use Rattle.chess_rules.proofs.Chess.{◌<◌}
 use Rattle.chess_rules.proofs.rays.Ahead.{ordered}
 use Rattle.chess_rules.proofs.rays.Stopping.{ride_is}
 use Rattle.chess_rules.proofs.lines.ride.Goals as goal
@@ -7,5 +6,4 @@ use Rattle.chess_rules.proofs.lines.ride.Goals as goal
 pub returns : goal.returns
 returns c = λ men held.
     let small : c.args.from < 64 = rw c.index-small.ensures.value at c.index-small.ensures.small in
-    ride_is men c.args.from (step_of c.args.direction) c.ray-ray.result c.args.occupied c.first-stop.result c.ray.result (ordered c.args.direction) small
-    c.ray-ray.ensures held c.first-stop.ensures c.ray.ensures
+    ride_is _ _ _ _ _ _ _ (ordered c.args.direction) small c.ray-ray.ensures held c.first-stop.ensures c.ray.ensures

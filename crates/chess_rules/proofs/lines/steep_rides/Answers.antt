@@ -1,5 +1,4 @@
-use Rattle.std.proofs.Common.{rules}
-use Rattle.chess_rules.proofs.rays.Joining.{four}
+use Rattle.chess_rules.proofs.Chess.{four, rules}
 use Rattle.chess_rules.proofs.lines.steep_rides.Goals as goal
 
 pub returns : goal.returns

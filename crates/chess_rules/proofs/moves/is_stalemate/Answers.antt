@@ -1,5 +1,4 @@
-use Rattle.chess_rules.proofs.Basics.{rules}
-use Rattle.chess_rules.specs.Legal.{is_stalemate}
+use Rattle.chess_rules.proofs.Chess.{is_stalemate, rules}
 use Rattle.chess_rules.proofs.moves.is_stalemate.Goals as goal
 
 pub returns-then-not-checked-clause-answer : goal.returns-then-not-checked-clause-answer

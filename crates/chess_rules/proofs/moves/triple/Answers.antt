@@ -1,5 +1,4 @@
-use Rattle.chess_rules.proofs.Basics.{rules}
-use Rattle.chess_rules.specs.ties.Places.{triple_at}
+use Rattle.chess_rules.proofs.Chess.{rules, triple_at}
 use Rattle.chess_rules.proofs.moves.triple.Goals as goal
 
 pub returns : goal.returns

@@ -3,6 +3,5 @@ use Rattle.chess_rules.proofs.outward.attackers_seen.Goals as goal
 
 pub returns : goal.returns
 returns c = λ men seen.
-    attackers_are men c.args.colour c.args.square c.leapers_seen.result c.straight_attackers.result c.diagonal_attackers.result c.fairy_attackers.result
-    (rw c.index-small.ensures.value at c.index-small.ensures.small) (c.leapers_seen.ensures men seen) (c.straight_attackers.ensures men seen)
-    (c.diagonal_attackers.ensures men seen) (c.fairy_attackers.ensures men seen)
+    attackers_are _ _ _ _ _ _ _ (rw c.index-small.ensures.value at c.index-small.ensures.small) (c.leapers_seen.ensures men seen)
+    (c.straight_attackers.ensures men seen) (c.diagonal_attackers.ensures men seen) (c.fairy_attackers.ensures men seen)

@@ -3,11 +3,9 @@ use Rattle.chess_rules.proofs.outward.fairy_attackers.Goals as goal
 
 pub returns-then-nightriders-eq0 : goal.returns-then-nightriders-eq0
 returns-then-nightriders-eq0 c = λ men seen.
-    fairy_none men c.args.colour c.args.square c.squares_seen-hoppers.result c.squares_seen-nightriders.result (c.squares_seen-hoppers.ensures men seen)
-    (c.squares_seen-nightriders.ensures men seen) c.if-hoppers-eq0.true c.if-nightriders-eq0.true
+    fairy_none _ _ _ _ _ (c.squares_seen-hoppers.ensures men seen) (c.squares_seen-nightriders.ensures men seen) c.if-hoppers-eq0.true c.if-nightriders-eq0.true
 
 pub returns : goal.returns
 returns c = λ men seen.
-    fairy_are men c.args.colour c.args.square c.those_reaching.result c.those_reaching-2.result
-    (c.those_reaching.ensures men seen.occupied (c.squares_seen-hoppers.ensures men seen))
+    fairy_are _ _ _ _ _ (c.those_reaching.ensures men seen.occupied (c.squares_seen-hoppers.ensures men seen))
     (c.those_reaching-2.ensures men seen.occupied (c.squares_seen-nightriders.ensures men seen))

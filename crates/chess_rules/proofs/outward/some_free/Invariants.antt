@@ -1,5 +1,4 @@
-use Rattle.chess_rules.proofs.Basics.{bit_at, not, ◌&&◌, ◌-◌, ◌==◌}
-use Rattle.chess_rules.proofs.Chess.{NoneBelow, is_paralysed}
+use Rattle.chess_rules.proofs.Chess.{NoneBelow, bit_at, is_paralysed, not, ◌&&◌, ◌-◌, ◌==◌}
 use Rattle.chess_rules.proofs.outward.some_free.Given as goal
 
 abbrev pub invariant-loop-square : goal.invariant-loop-square

@@ -1,5 +1,4 @@
-use Rattle.chess_rules.proofs.Basics.{rules}
-use Rattle.chess_rules.specs.Play.{position_after_by, reborn_square, undo_by, unmoved_after}
+use Rattle.chess_rules.proofs.Chess.{position_after_by, reborn_square, rules, undo_by, unmoved_after}
 use Rattle.chess_rules.proofs.play.play_by.Goals as goal
 
 pub returns-clause-after : goal.returns-clause-after

@@ -1,13 +1,10 @@
-use Rattle.chess_rules.proofs.Basics.{ap, arith, rules, sym, ◌∙◌}
-use Rattle.chess_rules.proofs.Bits.{word_has}
-use Rattle.chess_rules.proofs.Chess.{Move, cannot_expose}
+use Rattle.chess_rules.proofs.Chess.{Move, ap, arith, cannot_expose, rules, sym, word_has, ◌∙◌}
 use Rattle.chess_rules.proofs.attacks.Shielding.{cannot_expose_nobody, cannot_expose_to}
 use Rattle.chess_rules.proofs.shields.cannot_expose.Goals as goal
 
 pub returns-then-not-contains : goal.returns-then-not-contains
 returns-then-not-contains g c =
-    cannot_expose_to g.R.Rules.rule c.args.board.now c.in-Some.man c.args.colour c.args.m.now c.args.squares c.m.inside.from c.contains.result _
-    (sym c.man_at.ensures ∙ c.in-Some.is) c.requires (ap (λ (v : Move). v.from) c.m.view_is)
+    cannot_expose_to _ _ _ _ _ _ _ _ _ (sym c.man_at.ensures ∙ c.in-Some.is) c.requires (ap (λ (v : Move). v.from) c.m.view_is)
     (omega (arith, c.index-small.ensures.value, c.index-small.ensures.small)) c.contains.ensures c.if-not-contains.true c.stands_aside.ensures
 
 pub returns-else-not-contains : goal.returns-else-not-contains

@@ -1,4 +1,3 @@
-use Rattle.chess_rules.proofs.Chess.{Bishop, Rook, diagonal_steps, straight_steps}
 use Rattle.chess_rules.proofs.attacks.Attacking.{attackers_are}
 use Rattle.chess_rules.proofs.rays.Riding.{met_by_rides}
 use Rattle.chess_rules.proofs.shields.checkers_of.Goals as goal
@@ -7,8 +6,6 @@ pub returns : goal.returns
 returns c =
     let men = c.args.board.now.men in
     let seen = c.sight_now-sight.ensures c.args.colour in
-    attackers_are men c.args.colour c.args.square c.leapers_seen.result _ _ c.fairy_attackers.result
-    (rw c.index-small.ensures.value at c.index-small.ensures.small) (c.leapers_seen.ensures men seen)
-    (met_by_rides men c.args.colour Rook straight_steps c.args.square c.line_riders.result c.args.straight c.line_riders.ensures c.requires.straight)
-    (met_by_rides men c.args.colour Bishop diagonal_steps c.args.square c.line_riders-2.result c.args.diagonal c.line_riders-2.ensures c.requires.diagonal)
+    attackers_are _ _ _ _ _ _ _ (rw c.index-small.ensures.value at c.index-small.ensures.small) (c.leapers_seen.ensures men seen)
+    (met_by_rides _ _ _ _ _ _ _ c.line_riders.ensures c.requires.straight) (met_by_rides _ _ _ _ _ _ _ c.line_riders-2.ensures c.requires.diagonal)
     (c.fairy_attackers.ensures men seen)

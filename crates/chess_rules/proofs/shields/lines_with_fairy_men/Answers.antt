@@ -7,6 +7,5 @@ returns-in_default c = search (rules, no_king_lined)
 
 pub returns : goal.returns
 returns c =
-    fairy_lines_are c.args.board.now.men c.args.colour c.in-Some.king c.queen_lines_with.result
-    c.knight_lines_with.result (search rules) (search (rules, c.queen_lines_with.ensures))
-    (search (rules, c.knight_lines_with.ensures))
+    fairy_lines_are c.args.board.now.men c.args.colour c.in-Some.king c.queen_lines_with.result c.knight_lines_with.result (search rules)
+    (search (rules, c.queen_lines_with.ensures)) (search (rules, c.knight_lines_with.ensures))

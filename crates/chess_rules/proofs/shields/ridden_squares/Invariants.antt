@@ -1,5 +1,4 @@
-use Rattle.chess_rules.proofs.Basics.{List, Option, ◌-◌, ◌≡◌, ◌≤◌}
-use Rattle.chess_rules.proofs.Chess.{Man, occupied_squares, steps_along, word}
+use Rattle.chess_rules.proofs.Chess.{List, Man, Option, occupied_squares, steps_along, word, ◌-◌, ◌≡◌, ◌≤◌}
 use Rattle.chess_rules.proofs.rays.Riding.{ridden_below}
 use Rattle.chess_rules.proofs.shields.ridden_squares.Given as goal
 

@@ -1,5 +1,4 @@
-use Rattle.chess_rules.proofs.Basics.{length, ◌-◌, ◌≡◌, ◌≤◌}
-use Rattle.chess_rules.proofs.Chess.{HaveNone, moves_between, is_wanted}
+use Rattle.chess_rules.proofs.Chess.{HaveNone, is_wanted, length, moves_between, ◌-◌, ◌≡◌, ◌≤◌}
 use Rattle.chess_rules.proofs.sift.next_left.Given as goal
 
 -- the moves passed over so far fail the test, and are counted

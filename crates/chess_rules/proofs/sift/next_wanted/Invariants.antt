@@ -1,5 +1,4 @@
-use Rattle.chess_rules.proofs.Basics.{◌*◌, ◌+◌, ◌-◌, ◌<◌, ◌≡◌, ◌≤◌}
-use Rattle.chess_rules.proofs.Chess.{per_origin, HaveNone, IsNamed, is_wanted}
+use Rattle.chess_rules.proofs.Chess.{HaveNone, IsNamed, is_wanted, per_origin, ◌*◌, ◌+◌, ◌-◌, ◌<◌, ◌≡◌, ◌≤◌}
 use Rattle.chess_rules.proofs.sift.next_wanted.Given as goal
 
 abbrev pub invariant-loop-at : goal.invariant-loop-at

@@ -1,5 +1,4 @@
-use Rattle.chess_rules.proofs.Basics.{◌-◌, ◌≤◌}
-use Rattle.chess_rules.proofs.Chess.{AreKept, HaveNone}
+use Rattle.chess_rules.proofs.Chess.{AreKept, HaveNone, ◌-◌, ◌≤◌}
 use Rattle.chess_rules.proofs.sought.next_candidate.Given as goal
 
 abbrev pub invariant-loop-from : goal.invariant-loop-from

@@ -1,5 +1,4 @@
-use Rattle.chess_rules.proofs.Basics.{sym, ◌∙◌}
-use Rattle.chess_rules.proofs.Chess.{has_unmoved}
+use Rattle.chess_rules.proofs.Chess.{has_unmoved, sym, ◌∙◌}
 use Rattle.chess_rules.proofs.listing_moves.Arrivals.{castling_none}
 use Rattle.chess_rules.proofs.targets.castling_squares.Goals as goal
 

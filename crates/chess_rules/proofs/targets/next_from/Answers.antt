@@ -1,5 +1,4 @@
-use Rattle.chess_rules.proofs.Basics.{arith, bit_at, rules, sym, ◌*◌, ◌+◌, ◌-◌, ◌/◌, ◌==◌, ◌∙◌, ◌≡◌}
-use Rattle.chess_rules.proofs.Chess.{find_first, per_arrival}
+use Rattle.chess_rules.proofs.Chess.{arith, bit_at, find_first, per_arrival, rules, sym, ◌*◌, ◌==◌, ◌∙◌, ◌≡◌}
 use Rattle.chess_rules.proofs.listing_moves.Targeting.{from-first, from-join, from-none, from-target, from-unpromoted, named_at, some_named, unnamed_at, nobody_moves}
 use Rattle.chess_rules.proofs.targets.next_from.Goals as goal
 
@@ -14,18 +13,14 @@ returns-then-at-first-2-clause-barren c = search (rules, find_first, from-target
 
 pub loop-to-preserved : goal.loop-to-preserved
 loop-to-preserved c =
-    let t = c.in-Some-next_bit.to in
-    let at : c.from-first.result * per_arrival ≡ per_arrival * t = omega (arith, c.from-first.ensures, c.index.ensures.value) in
-    let first =
-    find_first (λ s. bit_at c.args.word s == 1) (c.loop-to.at / per_arrival) (64 - c.loop-to.at / per_arrival) t
-    (sym c.next_bit.ensures.value ∙ c.in-Some-next_bit.is) in
+    let found = sym c.next_bit.ensures.value ∙ c.in-Some-next_bit.is in
+    let at : c.from-first.result * per_arrival ≡ per_arrival * c.in-Some-next_bit.to = omega (arith, c.from-first.ensures, c.index.ensures.value) in
     record {
-      low = omega (arith, c.loop-to.invariant.low, first.low);
+      low = omega (arith, c.loop-to.invariant.low, (find_first (λ s. bit_at c.args.word s == 1) _ _ _ found).low);
       high = omega (arith, c.from-first.ensures, c.index.ensures.small);
       barren =
-          rw at (from-join c.args.board.now c.args.from c.args.word c.args.start c.loop-to.at (per_arrival * t + per_arrival) c.loop-to.invariant.barren
-          (from-unpromoted c.args.board.now c.in-Some.man c.args.from c.args.word t c.loop-to.at (sym c.man_at.ensures ∙ c.in-Some.is)
-          (sym c.is_promoting.ensures ∙ c.if-is_promoting.false) (omega arith)));
+          rw at (from-join _ _ _ _ _ _ c.loop-to.invariant.barren (from-unpromoted _ c.in-Some.man _ _ c.in-Some-next_bit.to _
+          (sym c.man_at.ensures ∙ c.in-Some.is) (sym c.is_promoting.ensures ∙ c.if-is_promoting.false) (omega arith)));
     }
 
 pub returns-clause-barren : goal.returns-clause-barren
@@ -39,6 +34,5 @@ returns-else-at-first-clause-named c lt = search (rules, find_first, named_at, s
 
 pub returns-then-at-first-2-clause-named : goal.returns-then-at-first-2-clause-named
 returns-then-at-first-2-clause-named c lt =
-    unnamed_at c.args.board.now c.in-Some.man c.args.from _ c.in-Some-next_bit.to _ c.args.word (sym c.man_at.ensures ∙ c.in-Some.is)
-    (sym c.is_promoting.ensures ∙ c.if-is_promoting.false) (sym c.next_bit.ensures.value ∙ c.in-Some-next_bit.is)
-    (omega (arith, c.from-first.ensures, c.index.ensures.value))
+    unnamed_at _ _ _ _ _ _ _ (sym c.man_at.ensures ∙ c.in-Some.is) (sym c.is_promoting.ensures ∙ c.if-is_promoting.false)
+    (sym c.next_bit.ensures.value ∙ c.in-Some-next_bit.is) (omega (arith, c.from-first.ensures, c.index.ensures.value))

@@ -1,5 +1,4 @@
-use Rattle.chess_rules.proofs.Basics.{◌-◌, ◌≤◌}
-use Rattle.chess_rules.proofs.Chess.{IsBarrenFrom, per_origin}
+use Rattle.chess_rules.proofs.Chess.{IsBarrenFrom, per_origin, ◌-◌, ◌≤◌}
 use Rattle.chess_rules.proofs.targets.next_from.Given as goal
 
 abbrev pub invariant-loop-to : goal.invariant-loop-to

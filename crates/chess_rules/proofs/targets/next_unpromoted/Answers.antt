@@ -4,13 +4,13 @@ use Rattle.chess_rules.proofs.targets.next_unpromoted.Goals as goal
 
 pub returns-in-Some-clause-barren : goal.returns-in-Some-clause-barren
 returns-in-Some-clause-barren c =
-    plain-target c.args.board.now c.args.man c.args.from c.args.start c.in-Some.to c.args.word _ c.requires.here c.requires.no_pawn
-    (sym c.next_bit.ensures.value ∙ c.in-Some.is) (omega (arith, c.from.ensures, c.index.ensures.value))
+    plain-target _ _ _ _ _ _ _ c.requires.here c.requires.no_pawn (sym c.next_bit.ensures.value ∙ c.in-Some.is)
+    (omega (arith, c.from.ensures, c.index.ensures.value))
 
 pub returns-in-Some-clause-named : goal.returns-in-Some-clause-named
 returns-in-Some-clause-named c lt =
-    unnamed_at c.args.board.now c.args.man c.args.from _ c.in-Some.to _ c.args.word c.requires.here (no_pawn_arrives c.args.man c.in-Some.to c.requires.no_pawn)
-    (sym c.next_bit.ensures.value ∙ c.in-Some.is) (omega (arith, c.from.ensures, c.index.ensures.value))
+    unnamed_at _ _ _ _ _ _ _ c.requires.here (no_pawn_arrives _ _ c.requires.no_pawn) (sym c.next_bit.ensures.value ∙ c.in-Some.is)
+    (omega (arith, c.from.ensures, c.index.ensures.value))
 
 pub returns-in-None-clause-barren : goal.returns-in-None-clause-barren
 returns-in-None-clause-barren c = search (rules, plain-none)

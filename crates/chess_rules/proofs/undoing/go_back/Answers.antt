@@ -1,5 +1,4 @@
-use Rattle.chess_rules.proofs.Basics.{rules}
-use Rattle.chess_rules.specs.ties.Undoing.{before_by, returned_men}
+use Rattle.chess_rules.proofs.Chess.{before_by, returned_men, rules}
 use Rattle.chess_rules.proofs.undoing.go_back.Goals as goal
 
 pub returns : goal.returns

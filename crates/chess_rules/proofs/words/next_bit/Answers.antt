@@ -1,6 +1,4 @@
-use Rattle.chess_rules.proofs.Basics.{arith, rules, sym, ℕ, ◌%◌, ◌*◌, ◌-◌, ◌<◌, ◌^◌}
-use Rattle.std.proofs.lemmas.Nat.{and_le_l}
-use Rattle.chess_rules.proofs.Bits.{from_on, next_none, next_some, next_low}
+use Rattle.chess_rules.proofs.Chess.{and_le_l, arith, from_on, next_low, next_none, next_some, rules, sym, ℕ, ◌%◌, ◌*◌, ◌-◌, ◌<◌, ◌^◌}
 use Rattle.chess_rules.proofs.words.next_bit.Goals as goal
 
 fits : (word from : ℕ) → word < 2 ^ 64 → from_on word from < 2 ^ 64
@@ -10,8 +8,7 @@ pub returns-then-rest-eq0-clause-value : goal.returns-then-rest-eq0-clause-value
 returns-then-rest-eq0-clause-value c = sym (next_none c.args.word c.args.from (omega arith) c.if-rest-eq0.true)
 
 pub returns-clause-value : goal.returns-clause-value
-returns-clause-value c =
-    rw c.lowest.ensures (sym (next_some c.args.word c.args.from (omega arith) (omega arith) (fits c.args.word c.args.from (omega arith))))
+returns-clause-value c = rw c.lowest.ensures (sym (next_some c.args.word c.args.from (omega arith) (omega arith) (fits c.args.word c.args.from (omega arith))))
 
 pub returns-clause-behind : goal.returns-clause-behind
 returns-clause-behind c = search (rules, fits, next_low)

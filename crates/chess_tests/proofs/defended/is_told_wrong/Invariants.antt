@@ -1,13 +1,12 @@
 use Rattle.std.proofs.Common.{◌≡◌, length}
 use Rattle.chess_mates.specs.ties.Threats.{AreThreatsOf}
 use Rattle.chess_rules.specs.ties.Places.{moves_behind}
-use Rattle.chess_rules.specs.RuleSet.{circe}
 use Rattle.chess_tests.proofs.defended.is_told_wrong.Given as goal
 
 -- no move is played, and the threats stay those of the board
 abbrev pub invariant-loop-m : goal.invariant-loop-m
-invariant-loop-m l = (l.board ≡ l.fn.board) × AreThreatsOf circe l.fn.board l.threats
+invariant-loop-m g l = (l.board ≡ l.fn.board) × AreThreatsOf g.R.Rules.rule l.fn.board l.threats
 
 -- fewer legal moves are still to come
 abbrev pub decreases-loop-m : goal.decreases-loop-m
-decreases-loop-m l = length (moves_behind circe l.fn.board l.place)
+decreases-loop-m g l = length (moves_behind g.R.Rules.rule l.fn.board l.place)

@@ -1,17 +1,15 @@
-use Rattle.pop_solve.proofs.Words.{arith, refl, rules}
+use Rattle.pop_solve.proofs.Words.{arith, rules}
 use Rattle.pop_parts.proofs.PartNumbers as numbers
 use Rattle.pop_parts.proofs.beginnings.count_parts.Goals as goal
 
 pub new-frames-requires : goal.new-frames-requires
-new-frames-requires g c = omega (arith, c.requires.few)
+new-frames-requires g c = search rules
 
 pub set_out-requires : goal.set_out-requires
-set_out-requires g c = (search rules, (search rules, (omega (arith, c.requires.room), search rules)))
+set_out-requires g c = search rules
 
 pub returns-then-not-set_out : goal.returns-then-not-set_out
-returns-then-not-set_out g c =
-    rw (numbers.no-parts g.R.Rules.rule c.args.problem.now c.args.phase c.args.depth (numbers.has-none _ _ c.set_out.ensures.possible c.if-not-set_out.true))
-    refl
+returns-then-not-set_out g c = search (rules, numbers.no-parts)
 
 pub count_to_come-requires : goal.count_to_come-requires
 count_to_come-requires g c =

@@ -4,12 +4,9 @@ use Rattle.pop_parts.proofs.beginnings.seek.Goals as goal
 
 pub next_move-requires : goal.next_move-requires
 next_move-requires g c =
-    let known : c.top.inside.known ≡ c.in-Some.top.known = ap (λ (f : Frame). f.known) c.top.view_is in
-    record {
-      well_formed = c.requires.seeking.2.walking.sound;
-      known = rw known
-          (seeking.top-known g.R.Rules.rule c.requires.seeking.0 c.args.depth c.requires.seeking.1 _ _ _ c.in-Some.ensures.items _ c.requires.seeking.2);
-    }
+    let s = c.requires.seeking.2 in
+    let top = seeking.top-known g.R.Rules.rule c.requires.seeking.0 c.args.depth c.requires.seeking.1 _ _ _ c.in-Some.ensures.items _ s in
+    search (rules, top)
 
 pub step_back-requires : goal.step_back-requires
 step_back-requires g c = seeking.back-asks g.R.Rules.rule c.requires.seeking.0 c.args.depth c.requires.seeking.1 _ _ _ c.in-Some.ensures.items _

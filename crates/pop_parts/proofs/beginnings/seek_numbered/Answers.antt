@@ -3,13 +3,11 @@ use Rattle.pop_parts.proofs.Seeking as seeking
 use Rattle.pop_parts.proofs.beginnings.seek_numbered.Goals as goal
 
 pub loop-board-init : goal.loop-board-init
-loop-board-init g c = search (rules, seeking.numbered-start g.R.Rules.rule _ _ _ _ _ _ c.requires.seeking c.requires.number)
+loop-board-init g c = search rules
 
 pub returns-then-left-eq1 : goal.returns-then-left-eq1
-returns-then-left-eq1 g c = record {
-  found = seeking.numbered-found g.R.Rules.rule _ _ _ _ _ _ _ _ c.args.number c.loop-board.left _ (search (rules, c.if-is_some.true, c.is_some.ensures))
-      (search (rules, nat_tests, c.if-left-eq1.true)) c.loop-board.invariant (c.seek-found.ensures.seeks _ _ c.loop-board.invariant.seeking);
-}
+returns-then-left-eq1 g c =
+    let x = c.seek-found.ensures.seeks _ _ c.loop-board.invariant.seeking in search (rules, nat_tests, x)
 
 pub loop-board-preserved-then-is_some : goal.loop-board-preserved-then-is_some
 loop-board-preserved-then-is_some g c = seeking.numbered-next g.R.Rules.rule _ _ _ _ _ _ _ _ c.args.number c.loop-board.left _ _
@@ -17,8 +15,7 @@ loop-board-preserved-then-is_some g c = seeking.numbered-next g.R.Rules.rule _ _
     c.loop-board.invariant (c.seek-found.ensures.seeks _ _ c.loop-board.invariant.seeking)
 
 pub loop-board-preserved : goal.loop-board-preserved
-loop-board-preserved g c = seeking.numbered-on g.R.Rules.rule _ _ _ _ _ _ _ _ c.args.number c.loop-board.left _
-    (search (rules, c.if-is_some.false, c.is_some.ensures)) c.loop-board.invariant (c.seek-found.ensures.seeks _ _ c.loop-board.invariant.seeking)
+loop-board-preserved g c = let x = c.seek-found.ensures.seeks _ _ c.loop-board.invariant.seeking in search (rules, x)
 
 pub returns : goal.returns
 returns g c = record {

@@ -11,5 +11,4 @@ returns-clause-seeking g c = λ sound there d some room.
     (seeking.seeking-begun g.R.Rules.rule _ _ refl _ d _ refl some room set (rw set (start_sound c.args.problem.now sound c.args.phase)))
 
 pub returns-clause-come : goal.returns-clause-come
-returns-clause-come g c = λ there aim d some.
-    rw (c.push-2.ensures.items, walking.reverse-push, c.requires.none) (seeking.come-begun g.R.Rules.rule _ _ refl aim d c.start.ensures some)
+returns-clause-come g c = search (rules, walking.reverse-push, seeking.come-begun)

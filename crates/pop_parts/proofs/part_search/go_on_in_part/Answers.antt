@@ -6,10 +6,8 @@ use Rattle.pop_parts.specs.ties.PartStages.{StandsInPart}
 use Rattle.pop_parts.proofs.part_search.go_on_in_part.Goals as goal
 
 pub walk_on-requires : goal.walk_on-requires
-walk_on-requires g c =
-    let e = c.of-walk.ensures in
-    let room = half_moves-fit c.args.problem.now c.of-walk.result (rw e refl) _ c.requires.room in
-    (search rules, (search rules, (room, (events.most _ _ _ _ _ _ _ c.requires.stands.1, rw e (events.walking _ _ _ _ _ _ _ c.requires.stands.1)))))
+unfolding StandsInPart
+walk_on-requires g c = search (rules, half_moves-fit)
 
 pub count_with-count-requires-clause-begins : goal.count_with-count-requires-clause-begins
 count_with-count-requires-clause-begins g c =

@@ -19,11 +19,7 @@ returns-clause-mates g c =
     search (rules, none, place, cut)
 
 pub returns-then-is_some-clause-place : goal.returns-then-is_some-clause-place
-returns-then-is_some-clause-place g c =
-    let at = ap (λ (v : MatingPlace). v.place) c.next.ensures.place in
-    search (rules, on_mate_behind, at)
+returns-then-is_some-clause-place g c = search (rules, on_mate_behind)
 
 pub returns-then-is_some-2-clause-place : goal.returns-then-is_some-2-clause-place
-returns-then-is_some-2-clause-place g c =
-    let at = ap (λ (v : MatingPlace). v.place) c.next_until.ensures.place in
-    search (rules, on_mate_before, at)
+returns-then-is_some-2-clause-place g c = search (rules, on_mate_before, c.next_until.ensures.place)

@@ -1,6 +1,4 @@
-use Rattle.pop_solve.proofs.Words.{rules}
-use Rattle.pop_events.specs.Shown.{mark_of}
-use Rattle.chess_rules.specs.Legal.{is_mate, is_stalemate}
+use Rattle.pop_solve.proofs.Words.{rules, mark_of, is_mate, is_stalemate}
 use Rattle.pop_solve.proofs.chess.mark_after.Goals as goal
 
 pub returns-in-Surely-Stalemate-clause-mark : goal.returns-in-Surely-Stalemate-clause-mark

@@ -1,5 +1,4 @@
-use Rattle.pop_solve.proofs.Words.{rules}
-use Rattle.pop_events.specs.Shown.{shown_of}
+use Rattle.pop_solve.proofs.Words.{rules, shown_of}
 use Rattle.pop_solve.proofs.chess.shown_of.Goals as goal
 
 pub returns : goal.returns

@@ -7,27 +7,21 @@ take_back-requires g c =
     let top = paths.topped-last _ _ c.index-frames-frames.is c.requires.deep in
     record { came = paths.back-asks g.R.Rules.rule top _ _ _ c.requires.walking.2 }
 
-pub play_shown-requires-clause-well_formed : goal.play_shown-requires-clause-well_formed
-play_shown-requires-clause-well_formed g c =
+pub play_shown-requires : goal.play_shown-requires
+play_shown-requires g c =
     let top = paths.topped-last _ _ c.index-frames-frames.is c.requires.deep in
-    (paths.back-walking g.R.Rules.rule top _ _ _ _ c.requires.walking.2 c.take_back.ensures.before).sound
+    let back = c.take_back.ensures.before in
+    record {
+      well_formed = (paths.back-walking g.R.Rules.rule top _ _ _ _ c.requires.walking.2 back).sound;
+      legal = paths.back-is_legal g.R.Rules.rule top _ _ _ _ c.requires.walking.2 back;
+      reached = paths.back-ended g.R.Rules.rule top _ _ _ _ c.requires.walking.2 back c.args.plan c.requires.ended _ c.reached_at-reached.ensures;
+    }
 
-pub play_shown-requires-clause-legal : goal.play_shown-requires-clause-legal
-play_shown-requires-clause-legal g c =
+pub returns : goal.returns
+returns g c =
     let top = paths.topped-last _ _ c.index-frames-frames.is c.requires.deep in
-    paths.back-is_legal g.R.Rules.rule top _ _ _ _ c.requires.walking.2 c.take_back.ensures.before
-
-pub play_shown-requires-clause-reached : goal.play_shown-requires-clause-reached
-play_shown-requires-clause-reached g c =
-    let top = paths.topped-last _ _ c.index-frames-frames.is c.requires.deep in
-    paths.back-ended g.R.Rules.rule top _ _ _ _ c.requires.walking.2 c.take_back.ensures.before c.args.plan c.requires.ended _ c.reached_at-reached.ensures
-
-pub returns-clause-unchanged : goal.returns-clause-unchanged
-returns-clause-unchanged g c =
-    let top = paths.topped-last _ _ c.index-frames-frames.is c.requires.deep in
-    c.play_shown.ensures.after ∙ paths.back-again g.R.Rules.rule top _ _ _ _ c.requires.walking.2 c.take_back.ensures.before
-
-pub returns-clause-shown : goal.returns-clause-shown
-returns-clause-shown g c = λ h p w.
-    let top = paths.topped-last _ _ c.index-frames-frames.is c.requires.deep in
-    c.play_shown.ensures.shown ∙ paths.back-shown g.R.Rules.rule top h p _ _ w c.take_back.ensures.before c.args.plan.goal
+    let back = c.take_back.ensures.before in
+    record {
+      unchanged = c.play_shown.ensures.after ∙ paths.back-again g.R.Rules.rule top _ _ _ _ c.requires.walking.2 back;
+      shown = λ h p w. c.play_shown.ensures.shown ∙ paths.back-shown g.R.Rules.rule top h p _ _ w back c.args.plan.goal;
+    }

@@ -1,5 +1,4 @@
-use Rattle.pop_solve.proofs.Words.{rules}
-use Rattle.pop_events.specs.Shown.{shown_move}
+use Rattle.pop_solve.proofs.Words.{rules, shown_move}
 use Rattle.pop_solve.proofs.showing.play_shown.Goals as goal
 
 pub returns-clause-shown : goal.returns-clause-shown

@@ -1,5 +1,4 @@
-use Rattle.pop_solve.proofs.Words.{after_well_formed, is_pseudo_legal-from_legal, rules}
-use Rattle.pop_solve.specs.ties.Walk.{is_followed, walk_length}
+use Rattle.pop_solve.proofs.Words.{after_well_formed, is_pseudo_legal-from_legal, rules, is_followed, walk_length}
 use Rattle.pop_solve.proofs.walk.enter.Goals as goal
 
 pub returns-then-not-value_after-clause-counts : goal.returns-then-not-value_after-clause-counts

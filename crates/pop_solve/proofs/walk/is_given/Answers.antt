@@ -1,5 +1,4 @@
-use Rattle.pop_solve.proofs.Words.{rules}
-use Rattle.pop_solve.specs.ties.Walk.{is_given}
+use Rattle.pop_solve.proofs.Words.{rules, is_given}
 use Rattle.pop_solve.proofs.walk.is_given.Goals as goal
 
 pub returns-else-is_for_mate-clause-given : goal.returns-else-is_for_mate-clause-given

@@ -1,10 +1,10 @@
 use Rattle.pop_solve.proofs.Words.{rules}
 use Rattle.pop_solve.proofs.Boards.{for_mate}
-use Rattle.pop_solve.proofs.Walking.{next_mating, next_settling}
+use Rattle.pop_solve.proofs.Walking.{next_mating}
 use Rattle.pop_solve.proofs.walk.next_of.Goals as goal
 
 pub returns-then-ends_with_mate-clause-next : goal.returns-then-ends_with_mate-clause-next
 returns-then-ends_with_mate-clause-next g c = search (rules, for_mate, next_mating)
 
 pub returns-then-may_settle-clause-next : goal.returns-then-may_settle-clause-next
-returns-then-may_settle-clause-next g c = search (rules, next_settling)
+returns-then-may_settle-clause-next g c = search rules

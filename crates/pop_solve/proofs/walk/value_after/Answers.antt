@@ -1,6 +1,6 @@
-use Rattle.pop_solve.proofs.Words.{rules}
-use Rattle.pop_solve.proofs.Walking.{mated}
+use Rattle.pop_solve.proofs.Words.{rules, smallest_tree, value}
 use Rattle.pop_solve.proofs.walk.value_after.Goals as goal
 
 pub returns-then-seeks : goal.returns-then-seeks
-returns-then-seeks g c = search (rules, mated)
+unfolding value smallest_tree
+returns-then-seeks g c = search rules

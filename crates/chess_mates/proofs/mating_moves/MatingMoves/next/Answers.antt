@@ -1,8 +1,7 @@
 use Rattle.chess_rules.proofs.Basics.{arith, rules}
+use Rattle.chess_mates.proofs.Chess.{place_of, place_of_triple}
 use Rattle.chess_mates.proofs.Mating.{legal_of_mate, mates_behind-none, mates_numbered}
 use Rattle.chess_mates.proofs.MatesBetween.{next_mate_numbered, next_mates}
-use Rattle.chess_rules.proofs.listing_moves.Places.{place_of_triple}
-use Rattle.chess_rules.specs.ties.Places.{place_of}
 use Rattle.chess_mates.proofs.mating_moves.MatingMoves.next.Goals as goal
 
 pub returns-clause-rest : goal.returns-clause-rest

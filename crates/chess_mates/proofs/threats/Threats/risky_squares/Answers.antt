@@ -1,7 +1,5 @@
 use Rattle.chess_rules.proofs.Basics.{Some, ap, arith, sym, ◌<◌, ◌∙◌, ◌≡◌}
-use Rattle.chess_rules.proofs.listing_moves.Calls.{is_pseudo_legal-from_legal}
-use Rattle.chess_rules.proofs.making_moves.Stays.{maker}
-use Rattle.chess_mates.proofs.Chess.{man_on}
+use Rattle.chess_mates.proofs.Chess.{is_pseudo_legal-from_legal, maker, man_on}
 use Rattle.chess_mates.proofs.Ways.{moves_are_risky, steps_are_risky, unkept_are_risky}
 use Rattle.chess_mates.specs.ties.Threats.{ToldThreats}
 use Rattle.chess_mates.proofs.threats.Threats.risky_squares.Goals as goal
@@ -10,9 +8,7 @@ pub returns-in_default-clause-risky : goal.returns-in_default-clause-risky
 returns-in_default-clause-risky g c = record {
   settled = λ m legal origin on off.
       let x = maker g.R.Rules.rule c.args.board.now m (is_pseudo_legal-from_legal g.R.Rules.rule c.args.board.now m legal) in
-      let none = sym c.man_at.ensures ∙ c.in_default.is in
-      let some = ap (man_on c.args.board.now.men) (sym origin) ∙ x.1 in
-      absurd (cc);
+      grind (arith, x.1, c.man_at.ensures, c.in_default.is);
 }
 
 pub returns-then-is-clause-risky : goal.returns-then-is-clause-risky
@@ -23,7 +19,8 @@ returns-then-is-clause-risky g c =
     let here : man_on p.men c.args.from ≡ Some c.in-Some.man = sym c.man_at.ensures ∙ c.in-Some.is in
     steps_are_risky g.R.Rules.rule p c.in-Some.man v c.requires.well_formed c.requires.threats c.args.from c.args.squares c.unplain_squares-unplain.result
     c.kept_risky_steps-risky.result here (omega (arith, c.index-small.ensures.value, c.index-small.ensures.small)) (omega arith)
-    c.unplain_squares-unplain.ensures.plain c.unplain_squares-unplain.ensures.mere (omega arith) (sym c.is.ensures ∙ c.if-is.true) (rw siege at c.kept_risky_steps-risky.ensures.risky)
+    c.unplain_squares-unplain.ensures.plain c.unplain_squares-unplain.ensures.mere (omega arith) (sym c.is.ensures ∙ c.if-is.true)
+    (rw siege at c.kept_risky_steps-risky.ensures.risky)
 
 pub returns-clause-risky : goal.returns-clause-risky
 returns-clause-risky g c =

@@ -5,7 +5,7 @@ use Rattle.pop_parts.proofs.part_search.PartSearch.next.Goals as goal
 pub invariant_of-self-in-Within : goal.invariant_of-self-in-Within
 invariant_of-self-in-Within g c =
     let s = rw c.in-Within.is at c.self.invariant.2 in
-    (c.self.invariant.0, c.self.invariant.1, c.go_on_in_part-stage.ensures.stands _ s, c.go_on_in_part-stage.ensures.opens _ s c.self.invariant.3)
+    search (rules, s, c.go_on_in_part-stage.ensures.stands, c.go_on_in_part-stage.ensures.opens)
 
 pub returns-in-Behind-clause-event : goal.returns-in-Behind-clause-event
 unfolding part_left

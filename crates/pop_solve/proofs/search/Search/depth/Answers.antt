@@ -1,9 +1,10 @@
-use Rattle.pop_solve.proofs.Words.{rules}
-use Rattle.pop_solve.proofs.Events.{frames_in_use}
+use Rattle.pop_solve.proofs.Words.{IsStanding, length-reverse, rules}
+use Rattle.pop_solve.proofs.Events.{room-length}
 use Rattle.pop_solve.proofs.search.Search.depth.Goals as goal
 
 pub returns-clause-depth : goal.returns-clause-depth
 returns-clause-depth g c = search rules
 
 pub returns-clause-most : goal.returns-clause-most
-returns-clause-most g c = search (rules, frames_in_use)
+unfolding IsStanding
+returns-clause-most g c = search (rules, length-reverse, room-length)

@@ -1,0 +1,13 @@
+use Rattle.chess_rules.proofs.Basics.{true, ◌-◌, ◌<◌, ◌==◌, ◌≡◌, ℕ}
+use Rattle.std.specs.Int.{bit_at}
+use Rattle.chess_mates.proofs.HoldBelow.{HoldBelow}
+use Rattle.chess_mates.specs.ties.Siege.{IsNear, IsReached, IsReachedFrom}
+use Rattle.chess_mates.proofs.guards.reach_together.Given as goal
+
+abbrev pub invariant-loop-from : goal.invariant-loop-from
+invariant-loop-from l = (
+    HoldBelow l.squares (λ s. IsNear l.man s l.region → IsReached l.hurdles l.man s l.reached) l.number
+    ) × ((t : ℕ) → t < 64 → (bit_at l.reached t == 1) ≡ true → IsReachedFrom l.hurdles l.man l.squares t)
+
+abbrev pub decreases-loop-from : goal.decreases-loop-from
+decreases-loop-from l = 64 - l.number

@@ -1,0 +1,8 @@
+use Rattle.chess_rules.proofs.Basics.{rules}
+use Rattle.chess_mates.proofs.CalmSteps.{seen_from}
+use Rattle.chess_mates.proofs.quiet_steps.QuietSteps.follow.Goals as goal
+
+pub steps_quietly-requires-clause-seen : goal.steps_quietly-requires-clause-seen
+steps_quietly-requires-clause-seen g c =
+    seen_from g.R.Rules.rule c.args.board.now c.in-Some.man c.args.m.now c.in-Some-king_of.king c.requires.well_formed c.requires.legal (search rules)
+    (search rules) (search rules)

@@ -1,0 +1,10 @@
+use Rattle.chess_rules.proofs.Basics.{◌-◌}
+use Rattle.chess_mates.proofs.HoldBelow.{HoldBelow}
+use Rattle.chess_mates.specs.ties.Siege.{LeavesOne}
+use Rattle.chess_mates.proofs.risk.critical_after.Given as goal
+
+abbrev pub invariant-loop-to : goal.invariant-loop-to
+invariant-loop-to l = HoldBelow l.targets (λ t. LeavesOne l.near l.enemies l.critical l.man t) l.number
+
+abbrev pub decreases-loop-to : goal.decreases-loop-to
+decreases-loop-to l = 64 - l.number

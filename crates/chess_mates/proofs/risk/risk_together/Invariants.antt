@@ -1,0 +1,10 @@
+use Rattle.chess_rules.proofs.Basics.{◌-◌}
+use Rattle.chess_mates.proofs.HoldBelow.{HoldBelow}
+use Rattle.chess_mates.specs.ties.Siege.{IsHarmless}
+use Rattle.chess_mates.proofs.risk.risk_together.Given as goal
+
+abbrev pub invariant-loop-from : goal.invariant-loop-from
+invariant-loop-from l = HoldBelow l.squares (λ s. IsHarmless l.siege l.field l.checks (record { critical = l.critical; lines = l.lines }) l.man s) l.number
+
+abbrev pub decreases-loop-from : goal.decreases-loop-from
+decreases-loop-from l = 64 - l.number

@@ -1,8 +1,0 @@
-use Rattle.chess_rules.proofs.Basics.{arith}
-use Rattle.chess_mates.proofs.Sieges.{field_is}
-use Rattle.chess_mates.proofs.siege.field_of.Goals as goal
-
-pub returns-clause-field : goal.returns-clause-field
-returns-clause-field c =
-    field_is c.args.siege.now c.args.king c.adjacent_squares.result c.capture_squares.result c.reach_over-straight.result c.reach_over-diagonal.result
-    c.adjacent_squares.ensures (omega arith) c.reach_over-straight.ensures c.reach_over-diagonal.ensures c.capture_squares.ensures

@@ -1,6 +1,0 @@
-use Rattle.chess_rules.proofs.Basics.{arith}
-use Rattle.chess_mates.proofs.Risks.{kept_without}
-use Rattle.chess_mates.proofs.siege.without.Goals as goal
-
-pub returns : goal.returns
-returns c = λ s x i ne. kept_without c.args.men.now c.args.gone c.only-others.result s x c.only-others.ensures (omega arith) i ne

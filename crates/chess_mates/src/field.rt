@@ -1,0 +1,234 @@
+//! The field of a besieged king: where he might go, and from where he might be checked. Hoppers need a man right before the
+//! square that they reach, on a springboard.
+ghost use Rattle.std.specs.Prelude.{◌≡◌, ◌≢◌, ◌<◌, ◌==◌, ℕ, true};
+ghost use Rattle.std.specs.Int.{bit_at};
+ghost use Rattle.chess_core.specs.declared.man.Kind.TheVariants.{Nightrider};
+ghost use Rattle.chess_core.specs.declared.man.Colour.{Colour};
+ghost use Rattle.chess_mates.specs.ties.Siege.{AreAdjacent, AreFree, AreNeeded, AreSpringboards, AreSprings, IsCastlingHarmless, IsField, IsReached, IsUnsprung, AreCaptureSquares};
+
+use crate::attackers::{Attackers, MOST_ATTACKERS};
+use crate::guards::reach_of;
+use crate::lasting_flights::{guarded_squares, keeps_one};
+use crate::siege::Siege;
+use chess_core::man::{Colour, Kind};
+use chess_core::square::{Square, Squares};
+use chess_rules::leaps::king_leaps;
+use chess_rules::lines::{diagonal_lines, straight_lines};
+use chess_rules::reach::reach_over;
+use chess_rules::rules::Rules;
+use chess_rules::words::{next_bit, only};
+
+// A king's square, the squares next to it to which he might go, attacks apart, those on which he might capture who comes
+// there, and those of the lines from there: the straight ones, the diagonals, and all; the springboards of his square, and
+// with them those of the squares next to it.
+#[derive(Clone, Copy)]
+pub(crate) struct Field {
+    pub(crate) king: Square,
+    pub(crate) near: Squares,
+    pub(crate) captures: Squares,
+    pub(crate) straight: Squares,
+    pub(crate) diagonal: Squares,
+    pub(crate) lines: Squares,
+    pub(crate) springboards: Squares,
+    pub(crate) hops: Squares,
+}
+
+// Squares that no hopper reaches but over a man who comes to one of these springboards.
+#[derive(Clone, Copy)]
+pub(crate) struct Landings {
+    squares: Squares,
+    springboards: Squares,
+}
+
+// Such squares next to a king; the springboards of his own square, and with them those of the others.
+#[derive(Clone, Copy)]
+pub(crate) struct Springs {
+    near: Squares,
+    own: Squares,
+    all: Squares,
+}
+
+// The squares next to a king of the defender on this square to which he might go, attacks apart.
+#[tactic(auto, using(crate::proofs::Sieges::adjacent_are))]
+pub(crate) fn adjacent_squares(siege: &Siege, king: Square) -> Squares
+    ensures { AreAdjacent siege.now king result }
+{
+    king_leaps(king) & !siege.closed & !siege.men.kings
+}
+
+// The squares next to the king on which he may capture, attacks apart: in Circe, where attackers stand on closed squares,
+// and beside hoppers none.
+#[tactic(auto, using(crate::proofs::Sieges::captures_are, crate::proofs::Sieges::no_captures))]
+fn capture_squares(siege: &Siege, king: Square) -> Squares
+    ensures { AreCaptureSquares siege.now king result }
+{
+    if siege.closed & siege.enemies != 0 || siege.men.grasshoppers != 0 {
+        return 0;
+    }
+    king_leaps(king)
+}
+
+// The squares of a nightrider's lines from a king on this square, if the attackers have one.
+#[tactic(auto, using(crate::proofs::Sieges::nightrider_lines))]
+pub(crate) fn nightrider_lines(siege: &Siege, king: Square) -> Squares
+    ensures { siege.now.men.nightriders ≢ 0 → (c : Colour)
+        → IsReached siege.now.hurdles (record { colour = c; kind = Nightrider }) king result }
+{
+    if siege.men.nightriders == 0 {
+        return 0;
+    }
+    reach_over(siege.hurdles, Colour::White, Kind::Nightrider, king)
+}
+
+// The springboards of a square: those next to it on the lines to it from grasshoppers farther off.
+#[tactic(auto, using(crate::proofs::Springboards::none_sprung, crate::proofs::Springboards::springboards_are))]
+fn springboards_of(men: &Attackers, to: Square) -> Squares
+    ensures { AreSpringboards men.now to result }
+{
+    // For the proof: a square's number is below 64.
+    let _small = to.index();
+    if men.grasshoppers == 0 {
+        return 0;
+    }
+    let near = king_leaps(to);
+    let straight = straight_lines(to);
+    let diagonal = diagonal_lines(to);
+    let over = only(Some(to));
+    let rooks = men.grasshoppers & straight;
+    let bishops = men.grasshoppers & diagonal;
+    let before = reach_of(over, men.colour, Kind::Rook, rooks, near) & straight;
+    let aslant = reach_of(over, men.colour, Kind::Bishop, bishops, near) & diagonal;
+    (before | aslant) & near
+}
+
+// Whether no man stands on one of the squares, but perhaps the king on `king`, and none is closed.
+#[tactic(auto, using(crate::proofs::Springboards::free_are))]
+pub(crate) fn are_free(siege: &Siege, king: Square, squares: Squares) -> bool
+    ensures { result ≡ true → AreFree siege.now king squares }
+{
+    squares & (siege.own | siege.enemies | siege.closed) & !only(Some(king)) == 0
+}
+
+// The square, unless a grasshopper may reach it as the men stand.
+#[tactic(auto, using(crate::proofs::Risks::none_at, crate::proofs::Springboards::landing_is))]
+fn landing_on(siege: &Siege, king: Square, to: Square) -> Landings
+    ensures { (f : ℕ) → f < 64 → (bit_at result.squares f == 1) ≡ true
+        → IsUnsprung siege.now king f result.springboards }
+{
+    let springboards = springboards_of(&siege.men, to);
+    if !are_free(siege, king, springboards) {
+        return Landings {
+            squares: 0,
+            springboards: 0,
+        };
+    }
+    Landings {
+        squares: only(Some(to)),
+        springboards,
+    }
+}
+
+// Such squares of a word.
+fn landings_among(siege: &Siege, king: Square, squares: Squares) -> Landings
+    ensures { (f : ℕ) → f < 64 → (bit_at result.squares f == 1) ≡ true
+        → IsUnsprung siege.now king f result.springboards }
+{
+    if siege.men.grasshoppers == 0 {
+        return Landings {
+            squares,
+            springboards: 0,
+        };
+    }
+    let mut found = 0u64;
+    let mut springboards = 0u64;
+    let mut number = 0u8;
+    while let Some(to) = next_bit(squares, number) {
+        let more = landing_on(siege, king, to);
+        found |= more.squares;
+        springboards |= more.springboards;
+        number = to.index() + 1;
+    }
+    Landings {
+        squares: found,
+        springboards,
+    }
+}
+
+// What is told of springboards to a king on this square.
+pub(crate) fn springs_of(siege: &Siege, king: Square) -> Springs
+    ensures { AreSprings siege.now king result }
+{
+    let own = springboards_of(&siege.men, king);
+    let adjacent = adjacent_squares(siege, king);
+    let landings = landings_among(siege, king, adjacent);
+    Springs {
+        near: adjacent & landings.squares,
+        own,
+        all: own | landings.springboards,
+    }
+}
+
+// The same against attackers without a grasshopper.
+#[tactic(auto, using(crate::proofs::Sieges::springless))]
+pub(crate) fn no_springs(siege: &Siege, king: Square) -> Springs
+    requires { siege.now.men.grasshoppers ≡ 0 }
+    ensures { AreSprings siege.now king result }
+{
+    Springs {
+        near: adjacent_squares(siege, king),
+        own: 0,
+        all: 0,
+    }
+}
+
+// The field of a king of the defender on this square. If the attackers have nightriders, `riders` are the squares of their
+// lines from there.
+#[inline(always)]
+pub(crate) fn field_of(siege: &Siege, king: Square, riders: Squares, springs: &Springs) -> Field
+    requires riders { siege.now.men.nightriders ≢ 0 → (c : Colour)
+        → IsReached siege.now.hurdles (record { colour = c; kind = Nightrider }) king riders }
+    requires springs { AreSprings siege.now king springs.now }
+    ensures king { result.king ≡ king }
+    ensures field { IsField siege.now result }
+{
+    let straight = reach_over(siege.hurdles, Colour::White, Kind::Rook, king);
+    let diagonal = reach_over(siege.hurdles, Colour::White, Kind::Bishop, king);
+    Field {
+        king,
+        near: springs.near,
+        captures: capture_squares(siege, king),
+        straight,
+        diagonal,
+        lines: straight | diagonal | riders,
+        springboards: springs.own,
+        hops: springs.all,
+    }
+}
+
+// Whether no castling of the attackers checks: no rook from his new square, nor another man once their king has gone. Beside
+// fairy men of theirs it isn't told.
+#[tactic(auto, using(crate::proofs::Sieges::harmless_castling))]
+pub(crate) fn castling_is_harmless(siege: &Siege, field: &Field) -> bool
+    ensures { result ≡ true → IsCastlingHarmless siege.now field.now }
+{
+    let rooks = straight_lines(field.king) & siege.castled;
+    let kings = field.lines & siege.men.kings;
+    let fairies = siege.men.grasshoppers | siege.men.nightriders;
+    (siege.castled == 0) | ((rooks == 0) & (kings == 0) & (fairies == 0))
+}
+
+// The squares to which no other man may come lest the king, who stays, keeps no flight whatever is played: those that no
+// attacker reaches, were all others gone, if they can't all be taken with one move. Where captures do more it isn't asked.
+pub(crate) fn needed_squares<R: Rules>(siege: &Siege) -> Squares
+    ensures { AreNeeded siege.now result }
+{
+    if R::captures_do_more() || siege.enemies.count_ones() > MOST_ATTACKERS {
+        return !0;
+    }
+    let guarded = guarded_squares(&siege.men);
+    let flights = adjacent_squares(siege, siege.king) & !guarded;
+    if !keeps_one(&siege.men, guarded, flights) {
+        return !0;
+    }
+    flights
+}

@@ -1,0 +1,144 @@
+//! The squares that the men of a siege reach over the hurdles.
+ghost use Rattle.std.specs.Prelude.{◌≡◌, ◌≢◌, ◌<◌, ◌==◌, ℕ, true};
+ghost use Rattle.std.specs.Int.{bit_at};
+ghost use Rattle.chess_core.specs.declared.man.Man.{Man};
+ghost use Rattle.chess_mates.specs.ties.Attackers.{IsAttacker};
+ghost use Rattle.chess_mates.specs.ties.Siege.{AreGuardsWithout, AreReached, IsAttackedOver, IsNear, IsReached, IsReachedFrom, is_leaper, is_rider, reached_over};
+
+use crate::attackers::Attackers;
+use crate::open_board::open_reach;
+use crate::siege::Siege;
+use chess_core::man::{Colour, Kind, Man};
+use chess_core::square::{Square, Squares};
+use chess_rules::reach::reach_over;
+use chess_rules::words::{next_bit, only};
+
+// The squares that attackers reach, and those that their riders do.
+#[derive(Clone, Copy)]
+pub(crate) struct Guards {
+    pub(crate) ridden: Squares,
+    pub(crate) guarded: Squares,
+}
+
+// The squares that the man on `from` reaches over the hurdles.
+#[tactic(auto, using(crate::proofs::Hurdles::reached_alone, crate::proofs::Hurdles::reached_is))]
+pub(crate) fn reach_from(hurdles: Squares, man: Man, from: Square) -> Squares
+    ensures all { IsReached hurdles man from result }
+    ensures alone { (t : ℕ) → t < 64 → (bit_at result t == 1) ≡ true
+        → reached_over hurdles man from t ≡ true }
+{
+    reach_over(hurdles, man.colour, man.kind, from)
+}
+
+// The same, but none if he reaches no square of the region, whoever stands on the board.
+#[tactic(auto, using(crate::proofs::Risks::none_at, crate::proofs::Risks::not_near))]
+fn reach_towards(hurdles: Squares, man: Man, from: Square, region: Squares) -> Squares
+    ensures all { IsNear man from region → IsReached hurdles man from result }
+    ensures alone { (t : ℕ) → t < 64 → (bit_at result t == 1) ≡ true
+        → reached_over hurdles man from t ≡ true }
+{
+    if open_reach(man, from) & region == 0 {
+        return 0;
+    }
+    reach_from(hurdles, man, from)
+}
+
+// Those that such men on the squares of a word reach.
+fn reach_together(hurdles: Squares, man: Man, squares: Squares, region: Squares) -> Squares
+    ensures all { (s : ℕ) → s < 64 → (bit_at squares s == 1) ≡ true
+        → IsNear man s region → IsReached hurdles man s result }
+    ensures alone { (t : ℕ) → t < 64 → (bit_at result t == 1) ≡ true
+        → IsReachedFrom hurdles man squares t }
+{
+    let mut reached = 0u64;
+    let mut number = 0u8;
+    while let Some(from) = next_bit(squares, number) {
+        let more = reach_towards(hurdles, man, from, region);
+        reached |= more;
+        number = from.index() + 1;
+    }
+    reached
+}
+
+// The same of the attackers of one kind.
+#[tactic(auto, using(crate::proofs::Risks::none_at))]
+pub(crate) fn reach_of(
+    hurdles: Squares,
+    colour: Colour,
+    kind: Kind,
+    squares: Squares,
+    region: Squares,
+) -> Squares
+    ensures all { (s : ℕ) → s < 64 → (bit_at squares s == 1) ≡ true
+        → IsNear (record { colour = colour; kind = kind }) s region
+        → IsReached hurdles (record { colour = colour; kind = kind }) s result }
+    ensures alone { (t : ℕ) → t < 64 → (bit_at result t == 1) ≡ true
+        → IsReachedFrom hurdles (record { colour = colour; kind = kind }) squares t }
+{
+    if squares == 0 {
+        return 0;
+    }
+    reach_together(hurdles, Man { colour, kind }, squares, region)
+}
+
+// The squares that riders reach.
+pub(crate) fn ridden_squares(hurdles: Squares, men: &Attackers, region: Squares) -> Squares
+    ensures all { AreReached hurdles men.now region is_rider result }
+    ensures alone { (t : ℕ) → t < 64 → (bit_at result t == 1) ≡ true
+        → IsAttackedOver hurdles men.now t }
+{
+    let queens = reach_of(hurdles, men.colour, Kind::Queen, men.queens, region);
+    let rooks = reach_of(hurdles, men.colour, Kind::Rook, men.rooks, region);
+    let bishops = reach_of(hurdles, men.colour, Kind::Bishop, men.bishops, region);
+    let nightriders = reach_of(
+        hurdles,
+        men.colour,
+        Kind::Nightrider,
+        men.nightriders,
+        region,
+    );
+    queens | rooks | bishops | nightriders
+}
+
+// Those that knights, pawns and kings reach.
+pub(crate) fn leapt_squares(hurdles: Squares, men: &Attackers, region: Squares) -> Squares
+    ensures all { AreReached hurdles men.now region is_leaper result }
+    ensures alone { (t : ℕ) → t < 64 → (bit_at result t == 1) ≡ true
+        → IsAttackedOver hurdles men.now t }
+{
+    let knights = reach_of(hurdles, men.colour, Kind::Knight, men.knights, region);
+    let pawns = reach_of(hurdles, men.colour, Kind::Pawn, men.pawns, region);
+    let kings = reach_of(hurdles, men.colour, Kind::King, men.kings, region);
+    knights | pawns | kings
+}
+
+// The attackers but the one on the square.
+fn without(men: &Attackers, gone: Square) -> Attackers
+    ensures { (s : ℕ) (x : Man) → IsAttacker men.now x s → gone ≢ s → IsAttacker result x s }
+{
+    let others = !only(Some(gone));
+    Attackers {
+        colour: men.colour,
+        kings: men.kings & others,
+        queens: men.queens & others,
+        rooks: men.rooks & others,
+        bishops: men.bishops & others,
+        knights: men.knights & others,
+        pawns: men.pawns & others,
+        grasshoppers: men.grasshoppers & others,
+        nightriders: men.nightriders & others,
+    }
+}
+
+// What the attackers who may reach a square of the region reach once the one on `from` has gone.
+pub(crate) fn guards_without(siege: &Siege, from: Square, region: Squares) -> Guards
+    ensures { AreGuardsWithout siege.now from region result }
+{
+    let hurdles = siege.hurdles & !only(Some(from));
+    let men = without(&siege.men, from);
+    let ridden = ridden_squares(hurdles, &men, region);
+    Guards {
+        ridden,
+        guarded: ridden | leapt_squares(hurdles, &men, region),
+    }
+}

@@ -1,0 +1,138 @@
+//! Steps of the enemy king after a move, told without playing it: if one gives no check not every reply mates.
+ghost use Rattle.std.specs.Prelude.{◌≡◌, Option, false, true};
+ghost use Rattle.std.specs.List.{list_all};
+ghost use Rattle.chess_core.specs.WellFormed.{IsWellFormed};
+ghost use Rattle.chess_mates.specs.ties.Flights.{IsQuietTo, IsSeenFrom, sight_stepped};
+ghost use Rattle.chess_mates.specs.ties.Mates.{is_mating};
+ghost use Rattle.chess_rules.specs.Legal.{is_legal, moves};
+ghost use Rattle.chess_rules.specs.Play.{capture_square, position_after};
+
+use crate::flights::{
+    covered_squares, first_safe, held_squares, open_squares, sight_lifted, sight_with,
+};
+use crate::lasting_flights::king_after;
+use chess_core::board::Board;
+use chess_core::man::{Colour, Man, Move};
+use chess_core::square::{Square, Squares};
+use chess_rules::exposure::is_simple;
+use chess_rules::leaps::king_leaps;
+use chess_rules::outward::is_attacker_seen;
+use chess_rules::play::capture_square;
+use chess_rules::rules::Rules;
+use chess_rules::sight::Sight;
+use chess_rules::words::{next_bit, only};
+
+// The men once the enemy king, lifted from `king`, stands on `to`: of his side the others count.
+fn sight_stepped(sight: Sight, king: Square, to: Square) -> Sight
+    ensures { result ≡ sight_stepped sight king to }
+{
+    let seen = sight_with(sight, to);
+    Sight {
+        occupied: seen.occupied,
+        standing: seen.standing & !only(Some(king)),
+    }
+}
+
+// Whether none of those others reaches the mover's king, who stands on `own`.
+#[inline(always)]
+fn is_quiet_to(board: &Board, sight: Sight, king: Square, to: Square, own: Square) -> bool
+    ensures { result ≡ true → IsQuietTo board.now.men board.now.turn sight king to own }
+{
+    let seen = sight_stepped(sight, king, to);
+    !is_attacker_seen(board, seen, own, board.turn().other())
+}
+
+// Whether the enemy king on `king` has a legal step to one of the squares after this man's simple move, the first
+// of which gives no check.
+#[tactic(auto, using(crate::proofs::CalmSteps::not_all_mate))]
+fn steps_quietly<R: Rules>(
+    board: &Board,
+    man: Man,
+    m: &Move,
+    captured: Option<Square>,
+    king: Square,
+    squares: Squares,
+) -> bool
+    requires seen { IsSeenFrom R.rule board.now m.now man king }
+    requires captured { captured ≡ capture_square board.now man m.now }
+    ensures { result ≡ true
+        → list_all (is_mating R.rule (position_after R.rule board.now m.now))
+        (moves R.rule (position_after R.rule board.now m.now)) ≡ false }
+{
+    // For the proof: a square's number is below 64.
+    let _small = m.to.index();
+    let Some(own) = king_after(board, man, m) else {
+        return false;
+    };
+    let sight = sight_lifted(board, m.from, captured, m.to, king);
+    let near = open_squares::<R>(board, sight, king);
+    let covered = covered_squares(sight.occupied, man, m.promo, m.to);
+    match first_safe(board, sight, near & squares & !covered, board.turn()) {
+        Some(to) => is_quiet_to(board, sight, king, to, own),
+        None => false,
+    }
+}
+
+// The squares to which the enemy king on `king` could step if it were his move.
+fn steps_now(board: &Board, king: Square) -> Squares {
+    let mover = board.turn();
+    let men = board.side(Colour::White) | board.side(Colour::Black);
+    let sight = Sight {
+        occupied: men & !only(Some(king)),
+        standing: !0,
+    };
+    let near = king_leaps(king) & !held_squares(board, sight.standing);
+    let mut steps = 0u64;
+    let mut number = 0u8;
+    while let Some(to) = next_bit(near, number) {
+        if !is_attacker_seen(board, sight_with(sight, to), to, mover) {
+            steps |= only(Some(to));
+        }
+        number = to.index() + 1;
+    }
+    steps
+}
+
+/// Steps of the enemy king that give no check, for the moves of one position.
+#[derive(Clone, Copy)]
+pub struct QuietSteps {
+    // Where they are looked for: the squares to which he could step if it were his move.
+    squares: Squares,
+}
+
+impl QuietSteps {
+    /// Those of this position.
+    pub fn of(board: &Board) -> QuietSteps {
+        let squares = match board.king_of(board.turn().other()) {
+            Some(king) => steps_now(board, king),
+            None => 0,
+        };
+        QuietSteps { squares }
+    }
+
+    /// Whether one is seen to be legal after the move, so that not every reply mates. `false` says nothing: so it
+    /// answers where kings castle and men are reborn.
+    pub fn follow<R: Rules>(&self, board: &Board, m: &Move) -> bool
+        requires well_formed { IsWellFormed board.now }
+        requires legal { is_legal R.rule board.now m.now ≡ true }
+        ensures { result ≡ true
+            → list_all (is_mating R.rule (position_after R.rule board.now m.now))
+            (moves R.rule (position_after R.rule board.now m.now)) ≡ false }
+    {
+        let squares = self.squares;
+        if squares == 0 {
+            return false;
+        }
+        let Some(man) = board.man_at(m.from) else {
+            return false;
+        };
+        let captured = capture_square(board, man, m);
+        if !is_simple::<R>(man, m, captured.is_some()) {
+            return false;
+        }
+        match board.king_of(board.turn().other()) {
+            Some(king) => steps_quietly::<R>(board, man, m, captured, king, squares),
+            None => false,
+        }
+    }
+}

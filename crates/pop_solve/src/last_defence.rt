@@ -1,0 +1,83 @@
+//! Black's last defences in a direct mate, after which White must mate at once.
+ghost use Rattle.std.specs.Prelude.{◌≡◌, ◌+◌, ◌≤◌, true};
+ghost use Rattle.chess_core.specs.WellFormed.{IsWellFormed};
+ghost use Rattle.chess_rules.specs.Legal.{is_legal, moves as legal_moves};
+ghost use Rattle.chess_rules.specs.Play.{position_after};
+ghost use Rattle.pop_input.specs.declared.stipulation.Goal.TheVariants.{Mate};
+ghost use Rattle.pop_solve.specs.Chess.{chess};
+ghost use Rattle.pop_solve.specs.declared.aim.Battle.TheVariants.{Direct};
+ghost use Rattle.pop_solve.specs.ties.Counts.{HasCounted, smallest_tree, walk_count};
+ghost use Rattle.pop_solve.specs.ties.Values.{value};
+
+use crate::aim::Battle;
+use crate::chess::{find_mate, is_reached_without_move, retract};
+use crate::frame::Stretch;
+use crate::history::History;
+use crate::killers::Killers;
+use crate::stretches::{next_tried, order_of};
+use chess_core::board::Board;
+use chess_core::man::Move;
+use chess_rules::legal_moves::LegalMoves;
+use chess_rules::rules::Rules;
+use pop_input::stipulation::Goal;
+
+/// Whether White, who is to move, mates at once. The move that does is remembered for the next such position, until one has
+/// none.
+#[tactic(auto, using(crate::proofs::Values::last_half_move))]
+pub(crate) fn has_mate<R: Rules>(board: &mut Board, killers: &mut Killers<R>) -> bool
+    requires well_formed { IsWellFormed board.old }
+    ensures unchanged { board.new ≡ board.old }
+    ensures value { result ≡ value Direct (chess Mate R.rule) 1 board.old }
+{
+    let found = find_mate::<R>(killers.of(Battle::Direct, 1), board);
+    killers.put(1, found.unwrap_or_default());
+    found.is_some()
+}
+
+/// Whether White mates after this move of Black's; the position after it is counted.
+#[tactic(auto, using(chess_rules::proofs::listing_moves::Calls::playing))]
+fn lets_mate<R: Rules>(by: Move, board: &mut Board, history: &mut History<R>) -> bool
+    requires well_formed { IsWellFormed board.old }
+    requires legal { is_legal R.rule board.old by ≡ true }
+    ensures unchanged { board.new ≡ board.old }
+    ensures value { result
+        ≡ value Direct (chess Mate R.rule) 1 (position_after R.rule board.old by) }
+    ensures opened { history.new.opened ≤ history.old.opened + 1 }
+    ensures tried { HasCounted history.old.opened history.new.opened 1 }
+{
+    history.opened = history.opened.saturating_add(1);
+    let undo = R::play(board, by);
+    let mates = has_mate::<R>(board, &mut history.killers);
+    retract::<R>(board, by, undo);
+    mates
+}
+
+/// The value of a position with two half-moves left of a direct mate: Black's moves are tried in the order of a test. It is
+/// counted if it has a legal move, and so is each position after a move that is tried.
+pub(crate) fn value_of_last_defence<R: Rules>(board: &mut Board, history: &mut History<R>) -> bool
+    requires well_formed { IsWellFormed board.old }
+    ensures unchanged { board.new ≡ board.old }
+    ensures value { result ≡ value Direct (chess Mate R.rule) 2 board.old }
+    ensures opened { history.new.opened ≤ history.old.opened
+        + walk_count (legal_moves R.rule) (position_after R.rule) 2 board.old }
+    ensures tried { HasCounted history.old.opened history.new.opened
+        (smallest_tree Direct (chess Mate R.rule) 2 board.old) }
+{
+    let order = order_of(&history.killers, Battle::Direct, 2);
+    let mut moves = LegalMoves::<R>::of(board);
+    moves.go_to(order.killer.back());
+    let mut stretch = Stretch::Killer;
+    let mut next = next_tried::<R>(order, &mut stretch, &mut moves, board);
+    if next.is_none() {
+        return is_reached_without_move::<R>(Goal::Mate, board);
+    }
+    history.opened = history.opened.saturating_add(1);
+    while let Some(by) = next {
+        if !lets_mate::<R>(by, board, history) {
+            history.killers.put(2, moves.place());
+            return false;
+        }
+        next = next_tried::<R>(order, &mut stretch, &mut moves, board);
+    }
+    true
+}
