@@ -529,13 +529,12 @@ class NewUser(unittest.TestCase):
             run = subprocess.Popen(
                 [*words, "-o", str(target)], stdin=subprocess.PIPE, stderr=subprocess.PIPE
             )
-            assert run.stdin is not None and run.stderr is not None
+            assert run.stderr is not None
             self.assertIn(b"replaced", run.stderr.readline())
             run.send_signal(signal.SIGINT)
-            error = run.stderr.read()
-            run.stdin.close()
-            run.stderr.close()
-            self.assertEqual((run.wait(), error), (6, b"pops-import: stopped\n"))
+            # (it also ends the input: a signal just before the run begins to wait for it ends no wait)
+            error = run.communicate(timeout=30)[1]
+            self.assertEqual((run.returncode, error), (6, b"pops-import: stopped\n"))
             self.assertEqual(list(Path(room).iterdir()), [target])
             self.assertEqual(target.read_text(), "what stood there")
 
