@@ -1,10 +1,7 @@
 -- From where pawns come to a square: so many squares before it, or behind it.
-use Rattle.chess_rules.proofs.Basics.{Bool, None, agree_below, agree_below_at, and_from, and_parts, ap, arith, bit_at, bit_or, eqb-true, false, false≢true, if◌then◌else◌, list_any, not, not-true, or_cases, or_left, or_right, refl, rules, true, ℕ, ◌%◌, ◌&&◌, ◌*◌, ◌+◌, ◌-◌, ◌/◌, ◌<◌, ◌==◌, ◌^◌, ◌||◌, ◌≡◌, ◌≤◌}
-use Rattle.chess_mates.proofs.Chess.{AreApproaches, Black, Colour, Pawn, Position, White, along, forward, implied, is_advance, is_square, leaps, man_on, may_go, on_left, on_right, other, pawn_capture_steps, pawn_goes, queen_steps, rank_of, reaches_as, same_colour, second_rank}
-use Rattle.chess_mates.specs.ties.Threats.{AreCapturers}
+use Rattle.chess_mates.proofs.Chess.{AreApproaches, AreCapturers, Black, Bool, Colour, None, Pawn, Position, White, agree_below, agree_below_at, along, and_from, and_parts, ap, arith, bit_at, bit_at_cat_high, bit_at_cat_low, bit_or, eqb-true, false, false≢true, forward, if◌then◌else◌, implied, is_advance, is_square, leaps, list_any, man_on, may_go, not, not-true, on_left, on_right, or_cases, or_left, or_right, other, pawn_capture_steps, pawn_goes, queen_steps, rank_of, reaches_as, refl, rules, same_colour, second_rank, true, ℕ, ◌%◌, ◌&&◌, ◌*◌, ◌+◌, ◌-◌, ◌/◌, ◌<◌, ◌==◌, ◌^◌, ◌||◌, ◌≡◌, ◌≤◌}
 use Rattle.std.proofs.Math.Nat.{div-add-mod}
 use Rattle.std.proofs.lemmas.Nat.{pow_pos, shr-shr}
-use Rattle.std.proofs.lemmas.Nat.Bits.{bit_at_cat_high, bit_at_cat_low}
 use Rattle.chess_mates.proofs.OpenBoard.{advances}
 
 -- a word moved down or up by k squares

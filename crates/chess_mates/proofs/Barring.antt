@@ -1,20 +1,5 @@
 -- A king's step to an empty square that an attacker reaches over the hurdles is illegal.
-use Rattle.chess_rules.proofs.Basics.{cases_lt, or_lt, ◌&&◌, Bool, List, None, Option, Some, and_from, and_left, ap, arith, bit_and, bit_at, bit_not, bit_or, cases_Bool, cases_eq, cond-true, false, false≢true, inl, inr, is_some, length, not, refl, sym, true, w64, ℕ, ◌<◌, ◌==◌, ◌^◌, ◌∙◌, ◌≡◌, ◌≢◌}
-use Rattle.chess_mates.proofs.Chess.{Colour, IsWellFormed, King, Man, Move, Position, RuleSet, captures_do_more, in_check, is_attacked, is_attacked_at, is_attacker, is_legal, is_of_colour, is_paralysed, is_pseudo_legal, king_square, man_on, other, position_after, reaches, reaches_as, same_colour, same_kind, side_of, some_square_true}
-use Rattle.chess_mates.specs.declared.siege.Siege.{Siege}
-use Rattle.chess_mates.specs.ties.Siege.{IsAttackedOver, IsBarred, IsSiege, IsSiegeOf, IsWhole, men_on}
-use Rattle.chess_mates.specs.ties.Siege.{reached_over}
-use Rattle.chess_mates.specs.ties.Threats.{IsMereMove, IsPlainMove}
-use Rattle.chess_rules.specs.RuleSet.{faced_men_stand_still}
-use Rattle.chess_core.proofs.Kept.{same_colour-refl}
-use Rattle.chess_rules.proofs.Bits.{off_left, off_right, word_has}
-use Rattle.chess_rules.proofs.attacks.Exposing.{king_is_after}
-use Rattle.chess_rules.proofs.attacks.Shielding.{simple_after}
-use Rattle.chess_rules.proofs.listing_moves.Targeting.{false_by}
-use Rattle.chess_rules.proofs.listing_moves.Walks.{off_second}
-use Rattle.chess_rules.proofs.making_moves.Fits.{arrived}
-use Rattle.chess_rules.proofs.making_moves.Pseudo.{IsMade, made, on_board}
-use Rattle.chess_rules.proofs.making_moves.Stays.{after_well_formed}
+use Rattle.chess_mates.proofs.Chess.{Bool, Colour, IsAttackedOver, IsBarred, IsMade, IsMereMove, IsPlainMove, IsSiege, IsSiegeOf, IsWellFormed, IsWhole, King, List, Man, Move, None, Option, Position, RuleSet, Siege, Some, after_well_formed, and_from, and_left, ap, arith, arrived, bit_and, bit_at, bit_not, bit_or, captures_do_more, cases_Bool, cases_eq, cases_lt, cond-true, faced_men_stand_still, false, false_by, false≢true, in_check, inl, inr, is_attacked, is_attacked_at, is_attacker, is_legal, is_of_colour, is_paralysed, is_pseudo_legal, is_some, king_is_after, king_square, length, made, man_on, men_on, not, off_left, off_right, off_second, on_board, or_lt, other, position_after, reached_over, reaches, reaches_as, refl, same_colour, same_colour-refl, same_kind, side_of, simple_after, some_square_true, sym, true, w64, word_has, ℕ, ◌&&◌, ◌<◌, ◌==◌, ◌^◌, ◌∙◌, ◌≡◌, ◌≢◌}
 use Rattle.chess_mates.proofs.HomeSquares.{some_of}
 use Rattle.chess_mates.proofs.Hurdles.{on_one, one_on, size_on}
 use Rattle.chess_mates.proofs.Landing.{StandAlike, reaches_alike}

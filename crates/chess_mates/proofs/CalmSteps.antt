@@ -1,23 +1,11 @@
 -- After a move a legal step of the enemy king that gives no check: not every reply mates.
-use Rattle.chess_rules.proofs.Basics.{Bool, List, Option, Some, and_left, and_right, ap, arith, bit_and, bit_not, cases_Bool, cases_eq, eq-eqb, false, inl, inr, is_some, length, list_all, not, not-true, or_parts, refl, rules, sym, true, w64, ℕ, ◌&&◌, ◌<◌, ◌==◌, ◌∙◌, ◌≡◌, ◌≢◌, ◌||◌}
-use Rattle.chess_mates.proofs.Chess.{AreOpen, AreSeen, Colour, IsWellFormed, Kind, King, Man, Move, Position, RuleSet, arriving_man, capture_square, differs, in_check, is_absent, is_attacked, is_attacked_at, is_legal, is_man, is_mating, is_of_colour, is_reached, is_square, king_square, man_on, man_on-with_other, may_check_from, may_check_from_at, moves, occupied_squares, other, position_after, reaches, reaches_as, same_colour, same_kind, same_kind-true, sight_lifted, squares_both, squares_not, squares_of, word}
+use Rattle.chess_mates.proofs.Chess.{AreOpen, AreSeen, AreSteps, Bool, Colour, IsQuietTo, IsSafe, IsSeenFrom, IsSimple, IsWellFormed, Kind, King, List, Man, Move, Option, Position, RuleSet, Some, after_well_formed, and_left, and_right, ap, arith, arriving_man, bit_and, bit_not, capture_square, captures_arrival, cases_Bool, cases_eq, differs, eq-eqb, false, gone_to, in_check, inl, inr, is_absent, is_attacked, is_attacked_at, is_legal, is_man, is_mating, is_of_colour, is_open, is_pseudo_legal-from_legal, is_reached, is_simple, is_some, is_square, kept_now, king-back, king_after, king_is_after, king_square, king_stands, left_now, legal_moves_are_triples, length, list_all, man_on, man_on-with_other, may_check_from, may_check_from_at, moves, no_man, not, not-true, not_attacked, occupied_squares, on_first, or_parts, other, other_twice, position_after, reaches, reaches_as, refl, rules, same_colour, same_kind, same_kind-true, sight_lifted, sight_stepped, simple_after, some_square_same, squares_both, squares_not, squares_of, sym, there_now, true, w64, word, ℕ, ◌&&◌, ◌<◌, ◌==◌, ◌||◌, ◌∙◌, ◌≡◌, ◌≢◌}
 use Rattle.chess_mates.proofs.EveryMove.{quiet}
 use Rattle.chess_mates.proofs.Fleeing.{IsKingOn, after_seen, is_made, king_is_other, king_on, king_seen, king_step, no_king_free, no_own_arrives, open_parts, reaches_alike_of, safe_step, simple_step, some_of_colour, is_step, step_taken, step_to, turn_is}
 use Rattle.chess_mates.proofs.KingsApart.{kings_apart}
 use Rattle.chess_mates.proofs.Landing.{StandAlike}
 use Rattle.chess_mates.proofs.QuietSteps.{one_fails}
 use Rattle.chess_mates.proofs.Stepping.{occupied_stepped, on_flight, on_left, on_others, stands, stepped}
-use Rattle.chess_mates.specs.ties.Flights.{AreSteps, IsQuietTo, IsSafe, IsSeenFrom, is_open, sight_stepped}
-use Rattle.chess_rules.proofs.attacks.Attacking.{some_square_same}
-use Rattle.chess_rules.proofs.attacks.Exposing.{IsSimple, captures_arrival, king_is_after}
-use Rattle.chess_rules.proofs.attacks.Seeing.{gone_to, kept_now, king_stands, left_now, no_man, there_now}
-use Rattle.chess_rules.proofs.attacks.Shielding.{not_attacked, other_twice, simple_after}
-use Rattle.chess_rules.proofs.listing_moves.Walks.{on_first}
-use Rattle.chess_rules.proofs.listing_moves.Calls.{is_pseudo_legal-from_legal}
-use Rattle.chess_rules.proofs.making_moves.Stays.{after_well_formed}
-use Rattle.chess_rules.proofs.rays.Flips.{king-back}
-use Rattle.chess_rules.proofs.theorems.Moves.{legal_moves_are_triples}
-use Rattle.chess_rules.specs.ties.Sight.{is_simple, king_after}
 
 -- what is asked of the squares: the men of colour c are looked at, but for their king, who goes from k to t
 record IsLeft (men : List (Option Man)) (a : ℕ) (o : Option ℕ) (b : ℕ) (z : Man) (u : Option ℕ) (t : ℕ) (c : Colour) : Type 0 where

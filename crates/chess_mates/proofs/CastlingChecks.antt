@@ -1,15 +1,8 @@
 -- Castling that uncovers no king gives check by its rook alone.
-use Rattle.chess_rules.proofs.Basics.{Bool, List, None, Option, Some, [], agree_below, agree_below_at, and_from, and_left, and_parts, ap, arith, bit_and, bit_or, cases_eq, cond-true, eq-eqb, eqb-true, false, false_from_ne_true, false≢true, inl, inr, is_some, length, length-set, list_all, list_any, not, or_cases, or_left, or_parts, range_with_len, refl, rules, sym, true, ℕ, ◌%◌, ◌&&◌, ◌*◌, ◌+◌, ◌-◌, ◌/◌, ◌<◌, ◌==◌, ◌^◌, ◌||◌, ◌∙◌, ◌∷◌, ◌≡◌, ◌≢◌, ◌≤◌, ◌⊎◌}
-use Rattle.chess_mates.proofs.Chess.{AreCastlingTargets, Bishop, CheckSquares, Colour, Direction, East, Grasshopper, IsCastle, IsMade, IsWellFormed, Kind, King, Man, Move, Nightrider, North, NorthEast, NorthWest, Pawn, Position, Queen, Rook, RuleSet, South, SouthEast, SouthWest, Step, Straight, West, all_at, along, along-is, any_kept, arrived, can_castle, capture_square, castle_of, castling_steps, corner, corner_stays, enemy, find_first, halfway, hops, implied, in_check, is_ahead, is_attacked_at, is_castling, is_clear, is_diagonal, is_man, is_of_colour, is_on_some, is_reached, is_square, is_two_files_aside, is_vacant, king_is, king_no_step, king_square, king_stays_king, man_on, man_on-with_same, man_there, may_castle, may_check_from, may_expose, may_expose_at, may_stand_between, moved_men, no_capture, not_attacked, off_left, off_right, off_second, other, position_after, queen_steps, reaches, reaches_as, rides, same_colour, same_kind, same_kind-true, some_square_false, some_square_true, square_is, squares, squares_between, step_of, steps_to, straight_steps, unreborn_after, with_man, without_man, word, word_has}
-use Rattle.chess_rules.proofs.rays.Ahead.{onward, passes}
+use Rattle.chess_mates.proofs.Chess.{AreCastlingTargets, Bishop, Bool, CheckSquares, Colour, Direction, East, Grasshopper, Holds, IsBeside, IsCastle, IsCovered, IsMade, IsNoHurdle, IsShift, IsWellFormed, Kind, King, List, Man, Move, Nightrider, None, North, NorthEast, NorthWest, Option, Pawn, Position, Queen, Rook, RuleSet, Some, South, SouthEast, SouthWest, Step, Straight, West, [], agree_below, agree_below_at, all_at, along, along-is, and_from, and_left, and_parts, any_kept, ap, arith, arrived, back, bit_and, bit_or, can_castle, capture_square, cases_eq, castle_of, castling_steps, cond-true, corner, corner_stays, covered_parts, enemy, eq-eqb, eqb-true, false, false_from_ne_true, false≢true, find_first, frees, goes_on, gone_shift, halfway, hop_kept, hops, implied, in_check, inl, inr, is_ahead, is_attacked_at, is_castling, is_clear, is_diagonal, is_man, is_of_colour, is_on_some, is_reached, is_some, is_square, is_two_files_aside, is_vacant, king_is, king_no_step, king_square, king_stays_king, knight_directions, length, length-set, line_before, list_all, list_any, man_on, man_on-with_same, man_there, may_castle, may_check_from, may_expose, may_expose_at, may_stand_between, moved_men, no_capture, not, not_attacked, not_parted, off_left, off_right, off_second, onward, or_cases, or_left, or_parts, other, passes, position_after, queen_directions, queen_steps, range_with_len, reaches, reaches_as, refl, return_square, ride_kept, rides, rules, same_colour, same_kind, same_kind-true, some_square_false, some_square_true, square_is, squares, squares_between, step_of, steps_to, stood, straight_steps, sym, true, unreached, unreborn_after, ways, with_man, without_man, word, word_has, ℕ, ◌%◌, ◌&&◌, ◌*◌, ◌+◌, ◌-◌, ◌/◌, ◌<◌, ◌==◌, ◌^◌, ◌||◌, ◌∙◌, ◌∷◌, ◌≡◌, ◌≢◌, ◌≤◌, ◌⊎◌}
 use Rattle.chess_rules.proofs.making_moves.Castles.{no_man}
-use Rattle.chess_rules.proofs.rays.Ends.{back, return_square}
-use Rattle.chess_rules.proofs.attacks.FairyLines.{Holds, IsBeside, IsNoHurdle, hop_kept, knight_directions, queen_directions, ride_kept}
 use Rattle.chess_rules.proofs.rays.Parting.{Frees}
-use Rattle.chess_rules.proofs.making_moves.Pseudo.{ways}
-use Rattle.chess_rules.proofs.attacks.Shielding.{IsCovered, IsShift, covered_parts, frees, gone_shift, line_before, not_parted, stood, unreached}
 use Rattle.chess_mates.proofs.Approaches.{bit_down, bit_up}
-use Rattle.chess_rules.proofs.attacks.Attacking.{goes_on}
 
 -- the corners of the board: no line goes through one
 abbrev is_corner : ℕ → Bool

@@ -1,6 +1,5 @@
 -- A move that goes to no square from which its man may give check gives none.
-use Rattle.chess_rules.proofs.Basics.{None, Some, agree_below_at, and_parts, ap, arith, bit_and, bit_at, bit_not, bit_or, cases_Bool, false, inl, inr, is_some, not, refl, rules, sym, true, w64, ℕ, ◌+◌, ◌/◌, ◌<◌, ◌==◌, ◌||◌, ◌∙◌, ◌≡◌}
-use Rattle.chess_mates.proofs.Chess.{AreCastlingTargets, AreCheckSquares, AreCheckTargets, Black, CheckSquares, Colour, IsMade, IsWellFormed, King, Man, Move, Pawn, Position, Rook, RuleSet, White, are_rebirths_quiet, arrival_needed, cannot_expose, captures_do_more, check_squares_for, enemy, every_square_on, false_by, halfway, implied, in_check, is_castling, is_legal, is_pseudo_legal, is_pseudo_legal-from_legal, is_square, is_two_files_aside, last_rank, made, man_on, may_check_from, may_expose, may_go, may_go_aimed, may_stand_between, nobody_moves, off_left, off_right, off_second, other, position_after, rank_of, rule_of_checks, same_kind, word, word_has}
+use Rattle.chess_mates.proofs.Chess.{AreCastlingTargets, AreCheckSquares, AreCheckTargets, Black, CheckSquares, Colour, IsMade, IsWellFormed, King, Man, Move, None, Pawn, Position, Rook, RuleSet, Some, White, agree_below_at, and_parts, ap, are_rebirths_quiet, arith, arrival_needed, bit_and, bit_at, bit_not, bit_or, cannot_expose, captures_do_more, cases_Bool, check_squares_for, enemy, every_square_on, false, false_by, halfway, implied, in_check, inl, inr, is_castling, is_legal, is_pseudo_legal, is_pseudo_legal-from_legal, is_some, is_square, is_two_files_aside, last_rank, made, man_on, may_check_from, may_expose, may_go, may_go_aimed, may_stand_between, nobody_moves, not, off_left, off_right, off_second, other, position_after, rank_of, refl, rule_of_checks, rules, same_kind, sym, true, w64, word, word_has, ℕ, ◌+◌, ◌/◌, ◌<◌, ◌==◌, ◌||◌, ◌∙◌, ◌≡◌}
 use Rattle.chess_rules.proofs.attacks.EvasionTargets.{plain_elsewhere}
 use Rattle.chess_mates.proofs.CastlingChecks.{castling_aside, castling_gives_no_check}
 use Rattle.chess_mates.proofs.KingsApart.{kings_apart}

@@ -1,6 +1,5 @@
 -- The squares from which a move may give check, by kinds.
-use Rattle.chess_rules.proofs.Basics.{List, None, Option, Some, ap, arith, bit_at, bit_not, bit_or, cases_Bool, false, false≢true, inl, list_any-append, or_left, or_parts, rules, true, w64, ℕ, ◌&&◌, ◌<◌, ◌==◌, ◌||◌, ◌∙◌, ◌≡◌}
-use Rattle.chess_mates.proofs.Chess.{AreCheckSquares, AreRides, Bishop, CheckSquares, Colour, IsWellFormed, Kind, King, Man, Move, Position, Queen, Rook, RuleSet, arriving_colour, arriving_man, cannot_expose, cannot_expose_parts, check_squares_for, diagonal-back, diagonal_steps, enemy, every_square, in_check, is_absent, is_fairy, is_pseudo_legal, king_square, king_there, made, man_on, may_check_from, may_check_from_at, not_zero, on_board, other, other_twice, plain_safe, position_after, reaches_as, same_kind, squares_either, squares_of, squares_same, straight-back, straight_steps, word, word_empty, word_has}
+use Rattle.chess_mates.proofs.Chess.{AreCheckSquares, AreRides, Bishop, CheckSquares, Colour, IsWellFormed, Kind, King, List, Man, Move, None, Option, Position, Queen, Rook, RuleSet, Some, ap, arith, arriving_colour, arriving_man, bit_at, bit_not, bit_or, cannot_expose, cannot_expose_parts, cases_Bool, check_squares_for, diagonal-back, diagonal_steps, enemy, every_square, false, false≢true, in_check, inl, is_absent, is_fairy, is_pseudo_legal, king_square, king_there, list_any-append, made, man_on, may_check_from, may_check_from_at, not_zero, on_board, or_left, or_parts, other, other_twice, plain_safe, position_after, reaches_as, rules, same_kind, squares_either, squares_of, squares_same, straight-back, straight_steps, true, w64, word, word_empty, word_has, ℕ, ◌&&◌, ◌<◌, ◌==◌, ◌||◌, ◌∙◌, ◌≡◌}
 
 -- a move that can't expose the enemy's king, and whose man doesn't strike him where he arrives, gives no check
 gives_no_check : (rule : RuleSet) (p : Position) (x : Man) (m : Move) → IsWellFormed p → is_pseudo_legal rule p m ≡ true → m.to < 64

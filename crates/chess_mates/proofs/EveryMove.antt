@@ -1,8 +1,5 @@
 -- Lists of legal moves of which one doesn't mate.
-use Rattle.chess_core.proofs.Ranges.{second_fails}
-use Rattle.chess_rules.proofs.Basics.{Bool, arith, false, not, sym, true, ◌&&◌, ◌≡◌}
-use Rattle.chess_mates.proofs.Chess.{Move, Position, RuleSet, in_check, is_legal, is_mating, mates, other, position_after}
-use Rattle.chess_rules.proofs.listing_moves.Calls.{is_pseudo_legal-from_legal}
+use Rattle.chess_mates.proofs.Chess.{Bool, Move, Position, RuleSet, arith, false, in_check, is_legal, is_mating, is_pseudo_legal-from_legal, mates, not, other, position_after, second_fails, sym, true, ◌&&◌, ◌≡◌}
 use Rattle.chess_mates.proofs.Mating.{no_mate_quietly}
 
 -- a legal move that gives no check doesn't mate

@@ -1,21 +1,8 @@
 -- What the clauses of check squares and targets exclude: small positions in which the definitions say otherwise than a wrong body would.
-use Rattle.std.proofs.Common.{◌≡◌, ℕ, true, false, [], ◌∷◌, List, Option, refl, sym, ◌∙◌, arith}
-use Rattle.std.specs.Prelude.{◌==◌}
-use Rattle.std.specs.Int.{bit_at}
-use Rattle.std.proofs.lemmas.Bool.{true_from_ne_false, false≢true}
-use Rattle.chess_core.specs.Position.{Position}
-use Rattle.chess_core.specs.declared.man.Colour.TheVariants.{White, Black}
-use Rattle.chess_core.specs.declared.man.Kind.TheVariants.{King, Queen, Rook, Knight, Grasshopper, Pawn}
-use Rattle.chess_core.specs.declared.man.Man.{Man}
-use Rattle.chess_rules.specs.Attacks.{in_check}
-use Rattle.chess_rules.specs.Legal.{is_legal}
-use Rattle.chess_rules.specs.Play.{position_after}
-use Rattle.chess_rules.specs.RuleSet.{circe, orthodox}
-use Rattle.chess_rules.specs.ties.Shields.{is_behind, is_reached, is_shut, may_expose, is_on_fairy_line}
-use Rattle.chess_rules.specs.ties.Lines.{is_ahead}
+use Rattle.chess_mates.proofs.Chess.{AreCheckTargets, Black, Grasshopper, King, Knight, List, Man, Option, Pawn, Position, Queen, Rook, White, [], arith, bit_at, circe, enemy, false, false≢true, in_check, is_ahead, is_legal, is_on_fairy_line, is_reached, is_shut, may_check_from, may_expose, orthodox, position_after, refl, sym, true, true_from_ne_false, ℕ, ◌==◌, ◌∙◌, ◌∷◌, ◌≡◌}
+use Rattle.chess_rules.specs.ties.Shields.{is_behind}
 use Rattle.chess_rules.proofs.Typed.{go, on, position, set_up}
 use Rattle.chess_core.specs.SquareNames.{a1, d1, h1, a2, a3, d3, d6, e5, h7, a8, h8}
-use Rattle.chess_mates.specs.ties.CheckSquares.{AreCheckTargets, enemy, may_check_from}
 use Rattle.chess_rules.proofs.Excluded.{check_after_a_move, opening_capture}
 
 -- White Ka1 Bb3 Pe5, Black Kg8 Pd5, which has just passed d6 (`opening_capture`): the capture en passant gives check by the bishop

@@ -1,7 +1,5 @@
 -- Men who couldn't come to a check square give no check.
-use Rattle.chess_rules.proofs.Basics.{Some, arith, bit_and, bit_at, bit_at-lt, bit_at_and, bit_not, bit_or, cases_Bool, eq-eqb, eqb-true, false, refl, rules, true, w64, ℕ, ◌<◌, ◌==◌, ◌^◌, ◌≡◌}
-use Rattle.chess_mates.proofs.Chess.{AreApproaches, AreCheckOrigins, AreCheckTargets, Colour, Kind, Man, Move, Position, RuleSet, arrival_needed, false_by, is_pseudo_legal, is_pseudo_legal-from_legal, is_square, man_on, may_go, may_go_aimed, off_zero, on_first, own_moves, same_colour-true, same_kind-true, side_of, squares_of, word, word_has}
-use Rattle.std.proofs.lemmas.Nat.Bits.{bit_at_not}
+use Rattle.chess_mates.proofs.Chess.{AreApproaches, AreCheckOrigins, AreCheckTargets, Colour, Kind, Man, Move, Position, RuleSet, Some, arith, arrival_needed, bit_and, bit_at, bit_at-lt, bit_at_and, bit_at_not, bit_not, bit_or, cases_Bool, eq-eqb, eqb-true, false, false_by, is_pseudo_legal, is_pseudo_legal-from_legal, is_square, man_on, may_go, may_go_aimed, off_zero, on_first, own_moves, refl, rules, same_colour-true, same_kind-true, side_of, squares_of, true, w64, word, word_has, ℕ, ◌<◌, ◌==◌, ◌^◌, ◌≡◌}
 use Rattle.chess_mates.proofs.Hurdles.{on_either, unset}
 use Rattle.chess_mates.proofs.CheckTargets.{check_targets_there}
 

@@ -1,28 +1,9 @@
 -- A flight after a move, told by the men that an attack on it sees.
-use Rattle.chess_rules.proofs.Basics.{Bool, List, None, Option, Some, and_from, and_left, and_parts, and_right, ap, arith, bit_and, bit_at, bit_at-lt, bit_at_and, bit_not, bit_or, cases_Bool, cases_eq, cond-false, cond-true, eq-eqb, eqb-true, false, false_from_ne_true, false≢true, inl, inr, is_some, length, list_any, not, not-true, or_cases, or_left, or_parts, or_right, refl, rules, suc, sym, true, w64, zero, ℕ, ◌&&◌, ◌*◌, ◌+◌, ◌<◌, ◌==◌, ◌||◌, ◌∙◌, ◌≡◌, ◌≢◌}
-use Rattle.chess_rules.specs.ties.Places.{all_triples, per_arrival, per_origin}
-use Rattle.chess_mates.proofs.Chess.{Colour, IsWellFormed, King, Man, Move, Pawn, Position, RuleSet, any_range_cases, any_range_false, arriving_man, capture_square, differs, first_of_and, is_arrival_free, is_attacked, captures_do_more, is_legal, is_man, is_mate, is_nil, is_of_colour, is_square, king_after, king_square, leaps, man_on, mates, moves, position_after}
-use Rattle.chess_mates.proofs.Chess.{is_paralysed, is_pseudo_legal, is_reached, moves_behind, occupied_squares, other, queen_steps, reaches, reaches_as, reaches_of, same_colour, same_colour-true, same_kind, side_of, sight_lifted, some_square, some_square_true, squares, squares_both, squares_either, squares_not}
-use Rattle.chess_mates.proofs.Chess.{squares_of, triple_at, without_man, word}
-use Rattle.std.proofs.Common.{ap₂}
-use Rattle.chess_mates.specs.ties.Flights.{AreOpen, AreSteps, IsSafe, IsSeenFrom, has_flight, is_flight, is_flight_at, is_open}
-use Rattle.chess_rules.proofs.Bits.{word_has}
-use Rattle.chess_rules.proofs.rays.Ends.{square_is}
-use Rattle.chess_rules.proofs.attacks.Attacking.{some_square_same}
-use Rattle.chess_rules.proofs.attacks.Shielding.{not_attacked}
-use Rattle.chess_rules.proofs.attacks.Exposing.{IsSimple, captures_arrival, check_is}
-use Rattle.chess_rules.proofs.making_moves.Fits.{arrived, arriving_king, capture_of_piece, king_no_step, no_capture, taken}
+use Rattle.chess_mates.proofs.Chess.{AreOpen, AreSteps, Bool, Colour, IsMade, IsSafe, IsSeenFrom, IsSimple, IsWellFormed, King, List, Man, Move, None, Option, Pawn, Position, RuleSet, Some, after_well_formed, all_triples, and_from, and_left, and_parts, and_right, any_range_cases, any_range_false, ap, ap₂, arith, arrived, arriving_colour, arriving_king, arriving_man, bit_and, bit_at, bit_at-lt, bit_at_and, bit_not, bit_or, capture_of_piece, capture_square, captures_arrival, captures_do_more, cases_Bool, cases_eq, check_is, cond-false, cond-true, differs, eq-eqb, eqb-true, false, false_from_ne_true, false≢true, first_of_and, gone_to, has_flight, inl, inr, is_arrival_free, is_attacked, is_flight, is_flight_at, is_legal, is_man, is_mate, is_nil, is_occupied_after, is_of_colour, is_open, is_paralysed, is_pseudo_legal, is_reached, is_some, is_square, kept_now, king_after, king_is_no_pawn, king_no_step, king_square, king_stands, king_there, leaps, left_now, length, list_any, made, man_on, man_there, mates, moves, moves_behind, moves_behind-here, moves_behind-start, no_capture, none_from_is_some, not, not-true, not_attacked, occupied_now, occupied_squares, on_first, or_cases, or_left, or_parts, or_right, other, other_differs, other_twice, per_arrival, per_origin, position_after, queen_steps, reaches, reaches_as, reaches_of, refl, rules, same_colour, same_colour-true, same_kind, side_of, sight_lifted, simple_after, some_square, some_square_same, some_square_true, square_is, squares, squares_both, squares_either, squares_not, squares_of, suc, sym, taken, there_now, triple_at, true, w64, without_man, word, word_has, zero, ℕ, ◌&&◌, ◌*◌, ◌+◌, ◌<◌, ◌==◌, ◌||◌, ◌∙◌, ◌≡◌, ◌≢◌}
 use Rattle.chess_mates.proofs.Landing.{StandAlike, no_reach_there, reaches_alike}
 use Rattle.chess_mates.proofs.Mating.{turn_after}
-use Rattle.chess_rules.proofs.listing_moves.Places.{moves_behind-here, moves_behind-skip, moves_behind-start}
-use Rattle.chess_rules.proofs.making_moves.Plays.{none_from_is_some}
-use Rattle.chess_rules.proofs.making_moves.Pseudo.{IsMade, king_is_no_pawn, made}
-use Rattle.chess_rules.proofs.attacks.Seeing.{gone_to, is_occupied_after, kept_now, king_stands, left_now, occupied_now, there_now}
-use Rattle.chess_rules.proofs.attacks.Shielding.{other_twice, arriving_colour, man_there, other_differs, simple_after}
-use Rattle.chess_rules.proofs.attacks.StayingInCheck.{king_there}
-use Rattle.chess_rules.proofs.making_moves.Stays.{after_well_formed}
+use Rattle.chess_rules.proofs.listing_moves.Places.{moves_behind-skip}
 use Rattle.chess_mates.proofs.Stepping.{IsStep, arrival_alike, lifted_alike, lifted_words, occupied_lifted, same_elsewhere, seen_stepped, stands_arrived, stepped}
-use Rattle.chess_rules.proofs.listing_moves.Walks.{on_first}
 
 -- a legal move is one of the moves
 some_left : (rule : RuleSet) (p : Position) (n : ℕ) → n < all_triples → is_legal rule p (triple_at n) ≡ true → (j a : ℕ) → a + j ≡ n

@@ -1,7 +1,5 @@
 -- Loops over the squares of a word.
-use Rattle.chess_rules.proofs.Basics.{None, Some, arith, bit_at, cases_eq, cases_lt, false≢true, find, inl, inr, range_with_len, subst, sym, true, ℕ, ◌+◌, ◌-◌, ◌<◌, ◌==◌, ◌∙◌, ◌≡◌}
-use Rattle.chess_mates.proofs.Chess.{find_first}
-use Rattle.chess_rules.proofs.Tests.{find_no}
+use Rattle.chess_mates.proofs.Chess.{None, Some, arith, bit_at, cases_eq, cases_lt, false≢true, find, find_first, find_no, inl, inr, range_with_len, subst, sym, true, ℕ, ◌+◌, ◌-◌, ◌<◌, ◌==◌, ◌∙◌, ◌≡◌}
 
 -- what holds of each square of a word below a number
 pub record HoldBelow (w : ℕ) (P : ℕ → Type 0) (n : ℕ) : Type 0 where

@@ -1,7 +1,5 @@
 -- The squares on which captured men may be reborn, and those that are closed to a king.
-use Rattle.chess_rules.proofs.Basics.{List, None, Option, Some, agree_below_at, arith, bit_at, bit_or, cases_Bool, eq-eqb, false, false≢true, is_some, not, refl, rules, sym, true, ℕ, ◌&&◌, ◌<◌, ◌==◌, ◌||◌, ◌∙◌, ◌≡◌, ◌⊎◌}
-use Rattle.chess_mates.proofs.Chess.{Bishop, Black, Colour, Grasshopper, IsAt, Kind, King, Knight, Man, Nightrider, Pawn, Position, Queen, Rook, RuleSet, White, captures_do_more, file_of, is_man, is_of_colour, is_square, man_on, on_left, on_right, other, rank_of, rebirth, rebirth_small, same_colour, same_kind, side_of, square_at, square_at-is, squares_of, word, word_has}
-use Rattle.chess_mates.specs.ties.Siege.{AreClosed, AreHomes, AreHomesOf, IsHome}
+use Rattle.chess_mates.proofs.Chess.{AreClosed, AreHomes, AreHomesOf, Bishop, Black, Colour, Grasshopper, IsAt, IsHome, Kind, King, Knight, List, Man, Nightrider, None, Option, Pawn, Position, Queen, Rook, RuleSet, Some, White, agree_below_at, arith, bit_at, bit_or, captures_do_more, cases_Bool, eq-eqb, false, false≢true, file_of, is_man, is_of_colour, is_some, is_square, man_on, not, on_left, on_right, other, rank_of, rebirth, rebirth_small, refl, rules, same_colour, same_kind, side_of, square_at, square_at-is, squares_of, sym, true, word, word_has, ℕ, ◌&&◌, ◌<◌, ◌==◌, ◌||◌, ◌∙◌, ◌≡◌, ◌⊎◌}
 use Rattle.chess_mates.proofs.Risks.{none_on}
 
 far_end : (f k r : ℕ) → square_at f k ≡ Some r → (r < 64) × ((rank_of r == k) ≡ true)

@@ -1,24 +1,8 @@
 -- What men reach over hurdles, the squares of a word, and later on the board.
-use Rattle.chess_rules.proofs.Basics.{Bool, List, None, Option, Some, [], ◌∷◌, and_from, and_parts, ap, arith, bit_at, bit_at-lt, bit_at_or, bit_or, cases_lt, eq-eqb, eqb-true, false, false≢true, if◌then◌else◌, get_or-map-range_with_len, inl, inr, is_some, length, length-map-range_with_len, list_any, not, not-true, or_cases, or_left, or_right, refl, subst, suc, sym, true, zero, ℕ, ◌&&◌, ◌+◌, ◌-◌, ◌<◌, ◌≤◌, ◌==◌, ◌^◌, ◌||◌, ◌∙◌, ◌≡◌, ◌⊎◌}
-use Rattle.chess_rules.proofs.Basics.{cases_Bool, cases_eq, find, range_with_len, ◌≢◌}
-use Rattle.chess_mates.proofs.Chess.{find_first}
-use Rattle.chess_mates.proofs.Chess.{Bishop, Colour, Grasshopper, Kind, King, Knight, Man, Nightrider, Pawn, Queen, Rook, Step, White, all_at, along, any_range_cases, any_range_false, diagonal_steps, hops, is_clear, is_square, knight_steps, is_vacant_at, leaps, man_on, occupied_squares, other, queen_steps}
-use Rattle.chess_mates.proofs.Chess.{reaches_as, rides, same_kind, same_kind-true, squares, straight_steps, word}
-use Rattle.chess_core.proofs.Ranges.{all_range_true, any_range_true}
+use Rattle.chess_mates.proofs.Chess.{AreReached, Attackers, Bishop, Bool, Colour, Grasshopper, IsAttackedOver, IsNear, IsReached, IsReachedFrom, Kind, King, Knight, List, Man, Nightrider, None, Option, Pawn, Queen, Rook, Some, Step, White, [], all_at, all_range_true, along, and_from, and_parts, any_kept, any_range_cases, any_range_false, any_range_true, ap, arith, bit_at, bit_at-lt, bit_at_or, bit_or, cases_Bool, cases_eq, cases_lt, diagonal_steps, eq-eqb, eqb-true, false, false≢true, find, find_first, gait_of, get_or-map-range_with_len, hop-found, hops, if◌then◌else◌, inl, inr, is_clear, is_hopper, is_leaper, is_occupied, is_rider, is_some, is_square, is_vacant_at, knight_steps, leaps, length, length-map-range_with_len, list_any, man_on, men_on, not, not-true, occupied_squares, off_zero, on_board, on_left, on_right, or_cases, or_left, or_right, other, queen_steps, range_with_len, reached_over, reaches_as, refl, ride-made, rides, same_kind, same_kind-true, squares, squares_for, straight_steps, subst, suc, sym, true, word, word_has, zero, ℕ, ◌&&◌, ◌+◌, ◌-◌, ◌<◌, ◌==◌, ◌^◌, ◌||◌, ◌∙◌, ◌∷◌, ◌≡◌, ◌≢◌, ◌≤◌, ◌⊎◌}
 use Rattle.chess_core.proofs.Words.{square_word}
 use Rattle.chess_core.specs.ties.Words.{bit_of}
-use Rattle.chess_mates.specs.ties.Attackers.{squares_for}
-use Rattle.chess_mates.specs.declared.attackers.Attackers.{Attackers}
-use Rattle.chess_mates.specs.ties.Siege.{AreReached, IsAttackedOver, IsNear, IsReached, IsReachedFrom, is_leaper, is_rider, men_on}
-use Rattle.chess_mates.specs.ties.Siege.{reached_over}
 use Rattle.chess_mates.proofs.KindByKind.{of_kind}
-use Rattle.chess_rules.proofs.Bits.{on_left, on_right, word_has}
-use Rattle.chess_rules.proofs.Tests.{any_kept}
-use Rattle.chess_rules.proofs.rays.Ways.{hop-found, ride-made}
-use Rattle.chess_core.specs.Steps.{gait_of, is_hopper}
-use Rattle.chess_rules.specs.Reaches.{is_occupied}
-use Rattle.chess_rules.proofs.making_moves.Pseudo.{on_board}
-use Rattle.chess_rules.proofs.listing_moves.Walks.{off_zero}
 
 -- for words that are joined: the first has what it reached
 pub reached_left : (d : ℕ) (x : Man) (s a b : ℕ) → IsReached d x s a → IsReached d x s (bit_or a b)

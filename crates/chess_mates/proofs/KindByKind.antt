@@ -1,8 +1,5 @@
 -- What holds of attackers kind by kind holds of all.
-use Rattle.chess_rules.proofs.Basics.{ap, bit_at, refl, subst, sym, true, ℕ, ◌<◌, ◌==◌, ◌∙◌, ◌≡◌}
-use Rattle.chess_mates.proofs.Chess.{Bishop, Colour, Grasshopper, Kind, King, Knight, Man, Nightrider, Pawn, Queen, Rook}
-use Rattle.chess_mates.specs.declared.attackers.Attackers.{Attackers}
-use Rattle.chess_mates.specs.ties.Attackers.{IsAttacker, squares_for}
+use Rattle.chess_mates.proofs.Chess.{Attackers, Bishop, Colour, Grasshopper, IsAttacker, Kind, King, Knight, Man, Nightrider, Pawn, Queen, Rook, ap, bit_at, refl, squares_for, subst, sym, true, ℕ, ◌<◌, ◌==◌, ◌∙◌, ◌≡◌}
 
 -- a man by his colour and his kind
 pub man_is : (x : Man) (c : Colour) (k : Kind) → x.colour ≡ c → x.kind ≡ k → record { colour = c; kind = k } ≡ x

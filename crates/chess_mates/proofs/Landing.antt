@@ -1,9 +1,5 @@
 -- What a man reaches doesn't depend on who stands on the square that it reaches.
-use Rattle.chess_rules.proofs.Basics.{Bool, List, Option, Some, [], and_left, arith, cases_Bool, false, false_from_ne_true, inl, inr, is_some, list_all, list_any, range_with_len, refl, rules, suc, zero, ℕ, ◌&&◌, ◌+◌, ◌-◌, ◌<◌, ◌||◌, ◌∙◌, ◌∷◌, ◌≡◌, ◌≢◌, ◌≤◌}
-use Rattle.chess_mates.proofs.Chess.{Bishop, Black, Colour, Direction, East, Gait, Hopper, Kind, Knight, Leaper, Man, Nightrider, North, NorthEast, NorthWest, Pawn, Rider, Rook, South, SouthEast, SouthWest, Step, West, White, along, any_range_false, any_range_same, gait_of, goes_by, hops, is_clear, is_occupied, is_square, kind_steps, leaps, man_on, place, reaches_as, rides, square_is, step_of}
-use Rattle.chess_rules.proofs.attacks.FairyLines.{knight_directions, queen_directions}
-use Rattle.chess_rules.proofs.rays.Ahead.{Ordered, ordered}
-use Rattle.chess_rules.proofs.rays.Ends.{stays}
+use Rattle.chess_mates.proofs.Chess.{Bishop, Black, Bool, Colour, Direction, East, Gait, Hopper, Kind, Knight, Leaper, List, Man, Nightrider, North, NorthEast, NorthWest, Option, Ordered, Pawn, Rider, Rook, Some, South, SouthEast, SouthWest, Step, West, White, [], along, and_left, any_range_false, any_range_same, arith, cases_Bool, false, false_from_ne_true, gait_of, goes_by, hops, inl, inr, is_clear, is_occupied, is_some, is_square, kind_steps, knight_directions, leaps, list_all, list_any, man_on, ordered, place, queen_directions, range_with_len, reaches_as, refl, rides, rules, square_is, stays, step_of, suc, zero, ℕ, ◌&&◌, ◌+◌, ◌-◌, ◌<◌, ◌||◌, ◌∙◌, ◌∷◌, ◌≡◌, ◌≢◌, ◌≤◌}
 
 -- men stand on the same squares, t apart
 pub record StandAlike (men others : List (Option Man)) (t : ℕ) : Type 0 where

@@ -1,33 +1,12 @@
 -- Flights that one move can't take.
-use Rattle.chess_core.proofs.Kept.{same_colour-refl}
-use Rattle.chess_rules.specs.ties.Places.{all_triples}
-use Rattle.chess_rules.proofs.Basics.{List, None, Option, Some, [], and_from, and_left, and_parts, and_right, ap, arith, bit_and, bit_at, bit_at_and, bit_not, bit_or, cases_Bool, eq-eqb, eqb-true, false, false_from_ne_true, false≢true, find, inl, inr, list_any, not, or_lt, range_with_len, refl, rules, sym, true, w64, ℕ, ◌&&◌, ◌<◌, ◌==◌, ◌^◌, ◌∙◌, ◌≡◌, ◌≢◌, ◌⊎◌}
-use Rattle.chess_mates.proofs.Chess.{Bishop, Colour, Grasshopper, IsWellFormed, King, Knight, Man, Move, Nightrider, Pawn, Position, Queen, Rook, RuleSet, is_promoting, arriving_man, capture_square, find_first, is_arrival_free, is_attacked, is_castling, captures_do_more, is_man, is_pseudo_legal, is_of_colour, is_square, king_after, king_square, leaps, man_on, mates, mates_behind, may_go, other, position_after, queen_steps}
-use Rattle.chess_mates.proofs.Chess.{reaches, reaches_as, reaches_of, same_colour, same_colour-true, same_kind, same_kind-true, side_of, some_square_false, some_square_true, squares_of, is_attacker, triple_at, word}
-use Rattle.chess_mates.specs.ties.Flights.{has_flight, is_flight, is_flight_at, is_open}
-use Rattle.std.proofs.Common.{IfSome}
-use Rattle.chess_mates.specs.declared.attackers.Attackers.{Attackers}
-use Rattle.chess_mates.specs.ties.Attackers.{AreAttackers, IsAttacker}
+use Rattle.chess_mates.proofs.Chess.{AreApproached, AreAttackers, AreGuarded, AreNear, Attackers, Bishop, Colour, Grasshopper, IfSome, IsAttacker, IsLeft, IsMade, IsWellFormed, KeepsOne, King, Knight, LeaveOne, List, Man, Move, Nightrider, None, Option, Pawn, Position, Queen, Rook, RuleSet, Some, [], after_well_formed, all_triples, and_from, and_left, and_parts, and_right, ap, arith, arrival_needed, arrived, arriving_colour, arriving_man, bit_and, bit_at, bit_at_and, bit_not, bit_or, capture_square, captures_do_more, cases_Bool, castle_of, eq-eqb, eqb-true, false, false_by, false_from_ne_true, false≢true, find, find_first, has_flight, inl, inr, is_arrival_free, is_attacked, is_attacker, is_castling, is_flight, is_flight_at, is_man, is_of_colour, is_open, is_promoting, is_pseudo_legal, is_square, king_after, king_is_after, king_square, king_stands, leaps, list_any, made, maker, man_on, mates, mates_behind, may_go, may_go_aimed, men_on, not, off_left, off_right, off_second, off_zero, on_board, on_first, on_left, on_right, or_lt, other, other_twice, position_after, queen_steps, range_with_len, reaches, reaches_as, reaches_back, reaches_of, refl, rules, same_colour, same_colour-refl, same_colour-true, same_kind, same_kind-true, side_of, simple_after, some_square_false, some_square_true, square_is, squares_of, sym, taken, triple_at, true, w64, word, word_has, ℕ, ◌&&◌, ◌<◌, ◌==◌, ◌^◌, ◌∙◌, ◌≡◌, ◌≢◌, ◌⊎◌}
 use Rattle.chess_mates.proofs.KindByKind.{HoldsOf, of_all}
-use Rattle.chess_mates.specs.ties.LastingFlights.{AreApproached, AreGuarded, AreNear, AreReached, IsLeft, KeepsOne, LeaveOne, LeavesOne}
-use Rattle.chess_rules.proofs.Bits.{off_left, off_right, on_left, on_right, word_has}
-use Rattle.chess_rules.proofs.rays.Ends.{square_is}
-use Rattle.chess_rules.proofs.rays.Flips.{reaches_back}
-use Rattle.chess_rules.proofs.attacks.Exposing.{king_is_after}
-use Rattle.chess_rules.proofs.attacks.Seeing.{king_stands}
-use Rattle.chess_rules.proofs.attacks.Shielding.{arriving_colour, other_twice, simple_after}
-use Rattle.chess_rules.proofs.listing_moves.Arrivals.{may_go_aimed}
-use Rattle.chess_rules.proofs.listing_moves.Targeting.{arrival_needed, false_by}
-use Rattle.chess_rules.proofs.making_moves.Fits.{arrived, castle_of, taken}
-use Rattle.chess_rules.proofs.making_moves.Pseudo.{IsMade, made, on_board}
-use Rattle.chess_rules.proofs.making_moves.Stays.{after_well_formed, maker}
+use Rattle.chess_mates.specs.ties.LastingFlights.{AreReached, LeavesOne}
 use Rattle.chess_mates.proofs.CheckTargets.{last_rank_on}
 use Rattle.chess_mates.proofs.FarMen.{off_denied}
-use Rattle.chess_rules.proofs.listing_moves.Walks.{off_second, off_zero, on_first}
 use Rattle.chess_mates.proofs.Fleeing.{IsKingOn, IsKingStep, king_on, no_king_free, no_mate_with_flight, no_strike, step_is_legal, step_to, unseen_bit}
 use Rattle.chess_mates.proofs.Mating.{mates_behind-end, mates_behind-none, not_mating, turn_after}
 use Rattle.chess_mates.proofs.Hurdles.{hops_openly}
-use Rattle.chess_mates.specs.ties.Siege.{men_on}
 use Rattle.chess_mates.proofs.OpenBoard.{any_reach}
 use Rattle.chess_mates.proofs.Standing.{arrival_small, free_man, no_hopper, not_mine, stood, unnamed}
 

@@ -1,6 +1,5 @@
 -- The mates between two places, and the walk that finds them.
-use Rattle.chess_rules.proofs.Basics.{List, [], append_cancel_right, arith, bit_at, cases_lt, false, filter-append, refl, sym, true, ℕ, ◌++◌, ◌+◌, ◌-◌, ◌<◌, ◌==◌, ◌∷◌, ◌≡◌, ◌≤◌}
-use Rattle.chess_mates.proofs.Chess.{AreCheckOrigins, AreCheckTargets, AreOrigins, HaveNone, IsNextMate, Move, Position, RuleSet, all_triples, candidates, first_of_and, is_mating, is_pseudo_legal, mates, mates_behind, mates_between, moves_behind, moves_behind-here, moves_between, no_candidates, place_of_triple, second_of_and, triple_at}
+use Rattle.chess_mates.proofs.Chess.{AreCheckOrigins, AreCheckTargets, AreOrigins, HaveNone, IsNextMate, List, Move, Position, RuleSet, [], all_triples, append_cancel_right, arith, bit_at, candidates, cases_lt, false, filter-append, first_of_and, is_mating, is_pseudo_legal, mates, mates_behind, mates_between, moves_behind, moves_behind-here, moves_between, no_candidates, place_of_triple, refl, second_of_and, sym, triple_at, true, ℕ, ◌++◌, ◌+◌, ◌-◌, ◌<◌, ◌==◌, ◌∷◌, ◌≡◌, ◌≤◌}
 use Rattle.chess_rules.proofs.listing_moves.Between.{behind_cut, between-none, between-past}
 use Rattle.chess_mates.proofs.Mating.{legal_of_mate, mates_behind-end, mates_behind-none, mates_numbered, no_mate, no_mate_quietly, not_mating}
 

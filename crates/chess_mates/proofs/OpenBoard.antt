@@ -1,14 +1,7 @@
 -- Where a man goes, he might go whoever else stood on the board.
-use Rattle.std.proofs.Common.{arith}
-use Rattle.chess_rules.proofs.Basics.{Bool, List, Option, and_parts, bit_at, bit_not, bit_or, cond-false, cond-true, false, false≢true, inl, inr, list_any, list_any-append, or_cases, refl, rules, sym, true, w64, ℕ, ◌&&◌, ◌<◌, ◌==◌, ◌||◌, ◌∙◌, ◌≡◌}
-use Rattle.chess_mates.proofs.Chess.{Bishop, Grasshopper, King, Knight, Man, Nightrider, Pawn, Position, Queen, Rook, diagonal_steps, is_advance, is_on_some, knight_steps, leaps, may_go, occupied_squares, pawn_capture_steps, queen_steps, reaches_as, rides, same_kind, steps_to, straight_steps, word}
-use Rattle.chess_rules.proofs.listing_moves.Arrivals.{no_steps}
-use Rattle.chess_rules.proofs.Bits.{on_left, on_right, word_has}
-use Rattle.chess_rules.proofs.attacks.Attacking.{goes_on}
-use Rattle.chess_rules.proofs.listing_moves.Targeting.{every_square_on}
+use Rattle.chess_mates.proofs.Chess.{Bishop, Bool, Grasshopper, King, Knight, List, Man, Nightrider, Option, Pawn, Position, Queen, Rook, and_parts, arith, bit_at, bit_not, bit_or, cond-false, cond-true, diagonal_steps, every_square_on, false, false≢true, goes_on, inl, inr, is_advance, is_on_some, knight_steps, leaps, list_any, list_any-append, may_go, men_on, no_steps, occupied_squares, on_left, on_right, or_cases, pawn_capture_steps, queen_steps, reached_over, reaches_as, refl, rides, rules, same_kind, steps_to, straight_steps, sym, true, w64, word, word_has, ℕ, ◌&&◌, ◌<◌, ◌==◌, ◌||◌, ◌∙◌, ◌≡◌}
 use Rattle.chess_mates.proofs.Hurdles.{hops_openly, openly, reached_is}
 use Rattle.chess_mates.specs.ties.LastingFlights.{AreReached}
-use Rattle.chess_mates.specs.ties.Siege.{men_on, reached_over}
 
 -- a piece that is no king reaches where it goes
 pub reached : (p : Position) (x : Man) (s t : ℕ) → same_kind x.kind Pawn ≡ false → same_kind x.kind King ≡ false → may_go p x s t ≡ true

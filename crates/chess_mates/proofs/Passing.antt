@@ -1,7 +1,5 @@
 -- Moves that are plain: who castles, captures en passant or might be captured so.
-use Rattle.chess_rules.proofs.Basics.{None, Some, and_from, and_left, and_parts, and_right, arith, bit_and, bit_at, bit_not, bit_or, cond-false, cond-true, false, false≢true, inl, inr, list_any, or_cases, refl, rules, sym, true, true_from_ne_false, w64, ℕ, ◌<◌, ◌==◌, ◌^◌, ◌∙◌, ◌≡◌}
-use Rattle.chess_mates.proofs.Chess.{Black, Colour, King, Man, Move, Pawn, Position, White, capture_of_piece, capture_square, false_by, halfway, is_advance, is_castling, is_man, is_of_colour, is_square, king_is_no_pawn, leaps, man_on, may_go, no_capture, off_left, off_right, other, pawn_goes, pawn_is_no_king, queen_steps, same_colour-refl, same_kind, same_kind-true, side_of, squares_of, word, word_has}
-use Rattle.chess_mates.specs.ties.Threats.{AreCapturers, IsMereMove, IsPassing, IsPlainMove}
+use Rattle.chess_mates.proofs.Chess.{AreCapturers, Black, Colour, IsMereMove, IsPassing, IsPlainMove, King, Man, Move, None, Pawn, Position, Some, White, and_from, and_left, and_parts, and_right, arith, bit_and, bit_at, bit_not, bit_or, capture_of_piece, capture_square, cond-false, cond-true, false, false_by, false≢true, halfway, inl, inr, is_advance, is_castling, is_man, is_of_colour, is_square, king_is_no_pawn, leaps, list_any, man_on, may_go, no_capture, off_left, off_right, or_cases, other, pawn_goes, pawn_is_no_king, queen_steps, refl, rules, same_colour-refl, same_kind, same_kind-true, side_of, squares_of, sym, true, true_from_ne_false, w64, word, word_has, ℕ, ◌<◌, ◌==◌, ◌^◌, ◌∙◌, ◌≡◌}
 use Rattle.chess_rules.proofs.rays.Tables.{king_step_is_no_castling}
 use Rattle.chess_mates.proofs.Approaches.{far_is_vacant, goes_over_next, no_far_step, steps_from_there, takes_or_steps}
 use Rattle.chess_mates.proofs.KindByKind.{man_is}

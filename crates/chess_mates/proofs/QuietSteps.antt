@@ -1,16 +1,7 @@
 -- Steps of the king that give no check, told without playing them.
-use Rattle.chess_rules.proofs.Basics.{[], Bool, List, Option, Some, and_from, and_left, ap, arith, bit_and, bit_at, bit_at-lt, bit_at-zero, bit_at_and, cond-true, eq-eqb, eqb-true, false, false≢true, inl, inr, is_some, list_all, list_any, not, refl, rules, subst, sym, true, ℕ, ◌&&◌, ◌<◌, ◌==◌, ◌∙◌, ◌∷◌, ◌≡◌}
-use Rattle.chess_mates.proofs.Chess.{AreOpen, AreSeen, Colour, IsWellFormed, King, Man, Move, Position, RuleSet, capture_square, captures_do_more, is_legal, is_mating, is_paralysed, king_after, king_square, leaps, man_on, may_go, moves, other, queen_steps, reaches_as, same_colour, same_colour-true, same_kind, word}
+use Rattle.chess_mates.proofs.Chess.{AreOpen, AreSeen, Bool, Colour, IsUnreached, IsWellFormed, King, List, Man, Move, Option, Position, RuleSet, Some, [], and_from, and_left, ap, arith, bit_and, bit_at, bit_at-lt, bit_at-zero, bit_at_and, capture_square, captures_do_more, cond-true, eq-eqb, eqb-true, exposed_is, false, false≢true, inl, inr, is_arrival, is_legal, is_mating, is_open, is_paralysed, is_some, king_after, king_square, leaps, list_all, list_any, man_on, may_go, moves, moves_are_the_legal_moves, not, not_attacked, on_first, other, queen_steps, reaches_as, refl, rules, same_colour, same_colour-true, same_kind, sight_after, subst, sym, true, word, word_has, ℕ, ◌&&◌, ◌<◌, ◌==◌, ◌∙◌, ◌∷◌, ◌≡◌}
 use Rattle.chess_mates.proofs.Fleeing.{IsKingStep, king_on, may_step, reached_near, simple_step, step_to}
-use Rattle.chess_mates.specs.ties.Flights.{IsUnreached, is_open}
-use Rattle.chess_rules.proofs.Bits.{word_has}
-use Rattle.chess_rules.proofs.attacks.Exposing.{exposed_is}
-use Rattle.chess_rules.proofs.attacks.Shielding.{not_attacked}
 use Rattle.chess_rules.proofs.listing_moves.Members.{in_cases, none_in_nil}
-use Rattle.chess_rules.proofs.listing_moves.Walks.{on_first}
-use Rattle.chess_rules.proofs.theorems.Moves.{moves_are_the_legal_moves}
-use Rattle.chess_rules.specs.ties.Sight.{sight_after}
-use Rattle.chess_rules.specs.ties.Targets.{is_arrival}
 use Rattle.std.specs.List.{Contains}
 
 -- where the king may step

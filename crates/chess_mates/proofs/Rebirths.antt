@@ -1,6 +1,5 @@
 -- A man who is reborn gives his own king no check, but as a grasshopper's hurdle.
-use Rattle.chess_rules.proofs.Basics.{List, None, Option, Some, and_from, and_parts, arith, bit_at, cases_Bool, cond-false, cond-true, false, false_from_ne_true, false≢true, length, list_all, list_any, not-true, range_with_len, refl, rules, sym, true, ℕ, ◌&&◌, ◌-◌, ◌<◌, ◌==◌, ◌∙◌, ◌≡◌}
-use Rattle.chess_mates.proofs.Chess.{AreCheckSquares, AtMostOneKing, CheckSquares, Colour, Grasshopper, IsMade, IsWellFormed, Kind, King, Man, Move, Position, RuleSet, Step, all_kept, along, any_kept, are_rebirths_quiet, arrived, arriving_man, can_castle, cannot_expose, capture_square, captured_enemy, captured_mortal, check_squares_for, circe, corner, find_first, halfway, in_check, is_absent, is_attacked, is_attacked_at, is_attacker, is_castling, is_clear, is_man, is_man-without, is_of_colour, is_paralysed, is_pseudo_legal, is_square, is_vacant_at, king_is, king_square, made, man_on, man_on-with_cases, man_on_at, man_there, may_castle, may_check_from, move_man, moved_men, moved_sound, on_board, orthodox, other, other_twice, position_after, position_after_by, put_at, reaches, reaches_as, reaches_of, reborn_square, rides, rule_of_checks, same_colour, same_kind, some_square_false, some_square_true, squares, unreborn_after, with_man, without_at, without_man}
+use Rattle.chess_mates.proofs.Chess.{AreCheckSquares, AtMostOneKing, CheckSquares, Colour, Grasshopper, IsMade, IsWellFormed, Kind, King, List, Man, Move, None, Option, Position, RuleSet, Some, Step, all_kept, along, and_from, and_parts, any_kept, are_rebirths_quiet, arith, arrived, arriving_man, bit_at, can_castle, cannot_expose, capture_square, captured_enemy, captured_mortal, cases_Bool, check_squares_for, circe, cond-false, cond-true, corner, false, false_from_ne_true, false≢true, find_first, halfway, in_check, is_absent, is_attacked, is_attacked_at, is_attacker, is_castling, is_clear, is_man, is_man-without, is_of_colour, is_paralysed, is_pseudo_legal, is_square, is_vacant_at, king_is, king_square, length, list_all, list_any, made, man_on, man_on-with_cases, man_on_at, man_there, may_castle, may_check_from, move_man, moved_men, moved_sound, not-true, on_board, orthodox, other, other_twice, position_after, position_after_by, put_at, range_with_len, reaches, reaches_as, reaches_of, reborn_square, refl, rides, rule_of_checks, rules, same_colour, same_kind, some_square_false, some_square_true, squares, sym, true, unreborn_after, with_man, without_at, without_man, ℕ, ◌&&◌, ◌-◌, ◌<◌, ◌==◌, ◌∙◌, ◌≡◌}
 use Rattle.chess_mates.proofs.Checking.{no_check}
 
 -- no grasshopper of this colour stands there

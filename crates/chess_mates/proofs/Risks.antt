@@ -1,29 +1,13 @@
 -- The words of risks: what a defender must avoid lest a reply may mate.
-use Rattle.chess_rules.proofs.Basics.{List, Option, Some, and_left, and_parts, ap, arith, bit_and, bit_at, bit_at-lt, bit_not, bit_or, cases_Bool, cases_eq, eq-eqb, eqb-true, false, false≢true, find, inl, inr, not, range_with_len, refl, sym, true, true_from_ne_false, w64, ℕ, ◌+◌, ◌-◌, ◌<◌, ◌==◌, ◌^◌, ◌∙◌, ◌≡◌, ◌≢◌}
-use Rattle.chess_mates.proofs.Chess.{AreApproaches, Bishop, Colour, Grasshopper, Kind, King, Knight, Man, Nightrider, Pawn, Position, Queen, Rook, is_promoting, find_first, is_square, leaps, may_go, occupied_squares, other}
-use Rattle.chess_mates.proofs.Chess.{reaches_as, rides, same_kind, same_kind-true, squares, word}
-use Rattle.chess_core.specs.Steps.{gait_of, is_hopper}
-use Rattle.chess_mates.specs.ties.Attackers.{IsAttacker, squares_for}
-use Rattle.chess_mates.specs.declared.attackers.Attackers.{Attackers}
-use Rattle.chess_mates.specs.declared.field.Field.{Field}
+use Rattle.chess_mates.proofs.Chess.{AreApproaches, AreArrivals, AreGuardsWithout, AreReached, AreWeak, Attackers, Bishop, Colour, Field, Grasshopper, IsAttacker, IsCheckWord, IsHarmless, IsLeft, IsMet, IsNear, IsNoCheck, IsOff, IsReached, IsUnguarded, IsWeak, Kind, King, Knight, LeavesOne, List, Man, Nightrider, Option, Pawn, Position, Queen, Risk, Rook, Siege, Some, and_left, and_parts, ap, arith, bit_and, bit_at, bit_at-lt, bit_at_not, bit_not, bit_or, cases_Bool, cases_eq, eq-eqb, eqb-true, every_square_on, false, false_by, false≢true, find, find_first, gait_of, inl, inr, is_hopper, is_leaper, is_promoting, is_rider, is_square, king_is_no_pawn, leaps, may_go, not, occupied_squares, off_left, off_right, off_second, off_zero, on_first, on_left, on_right, other, range_with_len, reaches_as, refl, rides, same_kind, same_kind-true, squares, squares_for, sym, true, true_from_ne_false, w64, word, word_has, ℕ, ◌+◌, ◌-◌, ◌<◌, ◌==◌, ◌^◌, ◌∙◌, ◌≡◌, ◌≢◌}
 use Rattle.chess_mates.specs.declared.guards.Guards.{Guards}
-use Rattle.chess_mates.specs.declared.risk.Risk.{Risk}
-use Rattle.chess_mates.specs.declared.siege.Siege.{Siege}
-use Rattle.chess_mates.specs.ties.Siege.{AreArrivals, AreGuardsWithout, AreReached, AreWeak, IsCheckWord, IsHarmless, IsMet, IsNear, IsNoCheck, IsOff, IsReached, IsWeak, LeavesOne, is_leaper, is_rider, IsUnguarded}
-use Rattle.chess_rules.proofs.Bits.{off_left, off_right, on_left, on_right, word_has}
-use Rattle.chess_rules.proofs.listing_moves.Targeting.{every_square_on, false_by}
-use Rattle.chess_rules.proofs.making_moves.Pseudo.{king_is_no_pawn}
 use Rattle.chess_mates.proofs.Hurdles.{all_reach, reached_is}
 use Rattle.chess_mates.proofs.KindByKind.{of_all}
-use Rattle.chess_rules.proofs.listing_moves.Walks.{off_second}
-use Rattle.std.proofs.lemmas.Nat.Bits.{bit_at_not}
 use Rattle.chess_mates.proofs.CheckTargets.{last_rank_on}
 use Rattle.chess_mates.proofs.FarMen.{off_denied}
-use Rattle.chess_rules.proofs.listing_moves.Walks.{off_zero, on_first}
 use Rattle.chess_mates.proofs.LastingFlights.{no_last_rank, on_both}
 use Rattle.chess_mates.proofs.Standing.{no_hopper}
 use Rattle.chess_mates.specs.ties.LastingFlights as Flights
-use Rattle.chess_mates.specs.ties.LastingFlights.{IsLeft}
 
 -- no square is one of none
 pub none_at : (w s : ℕ) → w ≡ 0 → (bit_at w s == 1) ≡ true → ⊥

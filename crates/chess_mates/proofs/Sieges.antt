@@ -1,27 +1,12 @@
 -- The men of a siege, its castlings and the king's field.
-use Rattle.chess_rules.proofs.Basics.{List, None, Option, Some, and_parts, ap, arith, bit_and, bit_at, bit_not, bit_or, eq-eqb, eqb-true, false, false≢true, inl, inr, list_any, list_any-append, ne_eqb, or_cases, refl, subst, sym, true, w64, ℕ, ◌&&◌, ◌+◌, ◌-◌, ◌<◌, ◌==◌, ◌^◌, ◌||◌, ◌∙◌, ◌≡◌, ◌≢◌, ◌⊎◌}
-use Rattle.chess_mates.proofs.Chess.{Bishop, Colour, Grasshopper, IsWellFormed, Kind, King, Knight, Man, Nightrider, Pawn, Position, Queen, Rook, RuleSet, White, corner, is_fairy, is_man, is_on_some, is_of_colour, is_square, king_square, leaps, man_on, occupied_squares, other, queen_steps}
-use Rattle.chess_mates.proofs.Chess.{diagonal_steps, reaches_as, rides, same_colour, same_kind, side_of, squares, squares_of, straight_steps, word}
-use Rattle.chess_core.specs.Castling.{has_unmoved}
-use Rattle.chess_mates.specs.ties.Attackers.{AreAttackers, IsAttacker, squares_for}
-use Rattle.chess_mates.specs.declared.attackers.Attackers.{Attackers}
-use Rattle.chess_mates.specs.declared.field.Field.{Field}
+use Rattle.chess_mates.proofs.Chess.{AreAdjacent, AreAttackers, AreCaptureSquares, AreCastlingSquares, AreClosed, AreFree, AreHurdles, AreReached, AreSpringboards, AreSprings, AreThreats, AreWeak, Attackers, Bishop, Colour, Field, Grasshopper, IsAttacker, IsCastlingHarmless, IsField, IsHurdle, IsNear, IsReached, IsRiskAt, IsShut, IsSiege, IsSiegeOf, IsUnsprung, IsWellFormed, IsWhole, Kind, King, Knight, List, Man, MayRide, Nightrider, None, Option, Pawn, Position, Queen, Risk, Rook, RuleSet, Siege, Some, White, and_parts, ap, arith, bit_and, bit_at, bit_not, bit_or, corner, diagonal_steps, eq-eqb, eqb-true, every_square_on, false, false_by, false≢true, find_no, has_unmoved, inl, inr, is_fairy, is_man, is_of_colour, is_on_some, is_rider, is_square, king_square, king_there, leaps, list_any, list_any-append, man_on, men_on, ne_eqb, occupied_squares, off_left, off_right, on_first, on_left, on_right, or_cases, other, queen_steps, reached_over, reaches_as, refl, rides, same_colour, same_kind, side_of, squares, squares_for, squares_of, straight_steps, subst, sym, true, w64, word, word_has, ℕ, ◌&&◌, ◌+◌, ◌-◌, ◌<◌, ◌==◌, ◌^◌, ◌||◌, ◌∙◌, ◌≡◌, ◌≢◌, ◌⊎◌}
 use Rattle.chess_mates.specs.declared.field.Landings.{Landings}
-use Rattle.chess_mates.specs.declared.risk.Risk.{Risk}
-use Rattle.chess_mates.specs.declared.siege.Siege.{Siege}
 use Rattle.chess_mates.specs.declared.field.Springs.{Springs}
-use Rattle.chess_mates.specs.ties.Siege.{AreAdjacent, AreCastlingSquares, AreClosed, AreHurdles, AreReached, AreThreats, AreWeak, IsCastlingHarmless, IsField, IsHurdle, IsNear, IsRiskAt, IsShut, IsSiege, IsSiegeOf, IsWhole, is_rider, men_on, AreCaptureSquares, AreFree, AreSpringboards, AreSprings, IsReached, IsUnsprung, MayRide}
-use Rattle.chess_mates.specs.ties.Siege.{reached_over}
-use Rattle.chess_rules.proofs.Bits.{off_left, off_right, on_left, on_right, word_has}
-use Rattle.chess_rules.proofs.Tests.{find_no}
-use Rattle.chess_rules.proofs.attacks.StayingInCheck.{king_there}
-use Rattle.chess_rules.proofs.listing_moves.Targeting.{every_square_on, false_by}
 use Rattle.chess_mates.proofs.Hurdles.{on_one, reached_is, reached_left, reached_right}
 use Rattle.chess_mates.proofs.FarMen.{man_of_word}
 use Rattle.chess_mates.proofs.KindByKind.{man_is}
 use Rattle.chess_mates.proofs.Fleeing.{on_second}
 use Rattle.chess_mates.proofs.Springboards.{grasshopper_on, landing_anywhere, none_sprung, unsprung_right}
-use Rattle.chess_rules.proofs.listing_moves.Walks.{on_first}
 use Rattle.chess_mates.proofs.Risks.{denied_on, none_at, off_word, none_on, weak_never}
 use Rattle.chess_mates.proofs.LastingFlights.{on_both}
 

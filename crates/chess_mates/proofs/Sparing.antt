@@ -1,14 +1,5 @@
 -- No reply mates after a defender's move without risk.
-use Rattle.chess_rules.proofs.Basics.{Bool, List, None, Option, Some, [], and_from, and_left, and_parts, and_right, ap, arith, bit_at, cases_Bool, cases_eq, eqb-true, false, false_from_ne_true, false≢true, if◌then◌else◌, inl, inr, is_some, list_any, or_parts, refl, subst, sym, true, ℕ, ◌-◌, ◌<◌, ◌==◌, ◌∙◌, ◌≡◌, ◌≢◌, ◌⊎◌}
-use Rattle.chess_mates.proofs.Chess.{AreSifted, Colour, IsCastle, IsMade, IsReborn, IsWellFormed, Kind, King, Man, Move, Nightrider, Pawn, Position, RuleSet, after_well_formed, all_triples, allows_mate, arrival_needed, arrived, arrived_other, arriving_colour, arriving_king, arriving_man, capture_of_piece, capture_square, captured_enemy, captured_man, captures_are_reborn, captures_do_more, castle_of, corner, false_by, file_of, halfway, has_flight, has_unmoved, in_check, is_absent, is_arrival_free, is_attacked, is_attacked_at, is_attacker, is_castling, is_double_step, is_fairy, is_legal, is_man, is_of_colour, is_pseudo_legal, is_square, king-back, king_after, king_is, king_is_after, king_square, king_stands, king_there, leaps, made, maker, man_on, man_on_at, man_there, mates, mates_behind, may_check_from, may_go, may_go_aimed, moved_men, moved_plainly, on_board, other, other_twice, position_after, position_after_by, put_at, queen_steps, reaches_as, rebirth, reborn_is, reborn_square, same_colour, same_colour-refl, same_colour-true, same_kind, same_kind-true, side_of, simple_after, square_is, taken, there_now, triple_at, word, word_has}
-use Rattle.chess_core.specs.Steps.{gait_of, is_hopper}
-use Rattle.chess_mates.specs.ties.Attackers.{IsAttacker}
-use Rattle.chess_mates.specs.declared.field.Field.{Field}
-use Rattle.chess_mates.specs.declared.risk.Risk.{Risk}
-use Rattle.chess_mates.specs.declared.siege.Siege.{Siege}
-use Rattle.chess_mates.specs.ties.Siege.{AreFree, AreSpringboards, IsArrival, IsCaptured, IsCastlingHarmless, IsCheckWord, IsFlight, IsHome, IsNear, IsOff, IsQuiet, IsRiskAt, IsShut, IsShutAt, IsSiege, IsSiegeOf, IsSprung, IsUnguarded, IsUnsprung, IsWeakAt, MayRide, is_rider, men_on, reached_over}
-use Rattle.chess_mates.specs.ties.Threats.{AreRisky, IsMereMove, IsPlainMove}
-use Rattle.chess_rules.proofs.rays.Flips.{reaches_back}
+use Rattle.chess_mates.proofs.Chess.{AreFree, AreRisky, AreSifted, AreSpringboards, Bool, Colour, Field, IsArrival, IsAttacker, IsCaptured, IsCastle, IsCastlingHarmless, IsCheckWord, IsFlight, IsHome, IsMade, IsMereMove, IsNear, IsOff, IsPlainMove, IsQuiet, IsReborn, IsRiskAt, IsShut, IsShutAt, IsSiege, IsSiegeOf, IsSprung, IsUnguarded, IsUnsprung, IsWeakAt, IsWellFormed, Kind, King, List, Man, MayRide, Move, Nightrider, None, Option, Pawn, Position, Risk, RuleSet, Siege, Some, [], after_well_formed, all_triples, allows_mate, and_from, and_left, and_parts, and_right, ap, arith, arrival_needed, arrived, arrived_other, arriving_colour, arriving_king, arriving_man, bit_at, capture_of_piece, capture_square, captured_enemy, captured_man, captures_are_reborn, captures_do_more, cases_Bool, cases_eq, castle_of, corner, eqb-true, false, false_by, false_from_ne_true, false≢true, file_of, gait_of, halfway, has_flight, has_unmoved, if◌then◌else◌, in_check, inl, inr, is_absent, is_arrival_free, is_attacked, is_attacked_at, is_attacker, is_castling, is_double_step, is_fairy, is_hopper, is_legal, is_man, is_of_colour, is_pseudo_legal, is_rider, is_some, is_square, king-back, king_after, king_is, king_is_after, king_square, king_stands, king_there, leaps, list_any, made, maker, man_on, man_on_at, man_there, mates, mates_behind, may_check_from, may_go, may_go_aimed, men_on, moved_men, moved_plainly, on_board, or_parts, other, other_twice, position_after, position_after_by, put_at, queen_steps, reached_over, reaches_as, reaches_back, rebirth, reborn_is, reborn_square, refl, same_colour, same_colour-refl, same_colour-true, same_kind, same_kind-true, side_of, simple_after, square_is, subst, sym, taken, there_now, triple_at, true, word, word_has, ℕ, ◌-◌, ◌<◌, ◌==◌, ◌∙◌, ◌≡◌, ◌≢◌, ◌⊎◌}
 use Rattle.chess_mates.proofs.Rebirths.{after_is}
 use Rattle.chess_mates.proofs.Hurdles.{later, later_but}
 use Rattle.chess_mates.proofs.HomeSquares.{some_of}

@@ -1,18 +1,5 @@
 -- Springboards: the squares over which hoppers reach a square.
-use Rattle.chess_rules.proofs.Basics.{Bool, List, None, Option, Some, [], ◌∷◌, ap, arith, bit_and, bit_at, bit_not, bit_or, eq-eqb, eqb-true, false, false≢true, inl, inr, is_some, list_any, list_any-append, map, or_cases, or_left, or_right, refl, sym, true, w64, ℕ, ◌-◌, ◌<◌, ◌==◌, ◌^◌, ◌∙◌, ◌≡◌, ◌≢◌}
-use Rattle.chess_mates.proofs.Chess.{Bishop, Direction, East, Grasshopper, Kind, King, Man, North, NorthEast, NorthWest, Rook, South, SouthEast, SouthWest, Step, West, White, along, along-is, diagonal_steps, hops, is_on_some, is_square, is_vacant_at, leaps, man_on, queen_steps, reaches_as, rides, step_of, straight_steps, word}
-use Rattle.chess_core.specs.Steps.{gait_of, is_hopper}
-use Rattle.chess_rules.specs.Reaches.{is_occupied}
-use Rattle.chess_mates.specs.declared.attackers.Attackers.{Attackers}
-use Rattle.chess_mates.specs.declared.siege.Siege.{Siege}
-use Rattle.chess_mates.specs.ties.Attackers.{IsAttacker}
-use Rattle.chess_mates.specs.ties.Siege.{AreFree, AreSpringboards, IsNear, IsReached, IsSprung, IsUnsprung, men_on, reached_over}
-use Rattle.chess_rules.proofs.Bits.{off_left, off_right, on_left, on_right, word_has}
-use Rattle.chess_rules.proofs.Tests.{any_kept}
-use Rattle.chess_rules.proofs.listing_moves.Targeting.{false_by}
-use Rattle.chess_rules.proofs.rays.Ahead.{onward, ordered}
-use Rattle.chess_rules.proofs.rays.Flips.{diagonal-back, king-back, straight-back}
-use Rattle.chess_rules.proofs.rays.Ways.{Hop, hop-found, ride-made}
+use Rattle.chess_mates.proofs.Chess.{AreFree, AreSpringboards, Attackers, Bishop, Bool, Direction, East, Grasshopper, Hop, IsAttacker, IsNear, IsReached, IsSprung, IsUnsprung, Kind, King, List, Man, None, North, NorthEast, NorthWest, Option, Rook, Siege, Some, South, SouthEast, SouthWest, Step, West, White, [], along, along-is, any_kept, ap, arith, bit_and, bit_at, bit_not, bit_or, diagonal-back, diagonal_steps, eq-eqb, eqb-true, false, false_by, false≢true, gait_of, hop-found, hops, inl, inr, is_hopper, is_occupied, is_on_some, is_some, is_square, is_vacant_at, king-back, leaps, list_any, list_any-append, man_on, map, men_on, off_left, off_right, on_left, on_right, onward, or_cases, or_left, or_right, ordered, queen_steps, reached_over, reaches_as, refl, ride-made, rides, step_of, straight-back, straight_steps, sym, true, w64, word, word_has, ℕ, ◌-◌, ◌<◌, ◌==◌, ◌^◌, ◌∙◌, ◌∷◌, ◌≡◌, ◌≢◌}
 use Rattle.chess_mates.proofs.Hurdles.{empty_on, hop_openly}
 use Rattle.chess_mates.proofs.Landing.{no_reach_there, not_yet}
 use Rattle.chess_mates.proofs.LastingFlights.{on_both}

@@ -1,23 +1,9 @@
 -- Who stands where after a move.
-use Rattle.chess_rules.proofs.Basics.{List, None, Option, Some, and_left, and_parts, and_right, ap, arith, cases_Bool, cases_eq, cond-true, cond-false, eq-eqb, false, false≢true, inl, inr, is_some, length, not-true, or_cases, or_parts, refl, rules, sym, true, ℕ, ◌&&◌, ◌<◌, ◌||◌, ◌∙◌, ◌≡◌, ◌≢◌, ◌⊎◌}
-use Rattle.chess_mates.proofs.Chess.{Colour, Grasshopper, IsWellFormed, Kind, King, Man, Move, Pawn, Position, RuleSet, is_promoting, arriving_man, capture_square, corner, is_arrival_free, is_attacked, is_castling, captures_do_more, is_man, is_of_colour, is_square, man_on, may_castle, other, position_after}
-use Rattle.chess_mates.proofs.Chess.{position_after_by, can_castle, reaches, reaches_as, reaches_of, reborn_square, same_colour, same_colour-true, same_kind, some_square_false, is_attacker, triple_at}
+use Rattle.chess_mates.proofs.Chess.{Bool, Colour, Grasshopper, IsMade, IsWellFormed, Kind, King, List, Man, Move, None, Option, Pawn, Position, RuleSet, Some, and_from, and_left, and_parts, and_right, ap, arith, arrived, arrived_other, arriving_man, can_castle, capture_square, captures_do_more, cases_Bool, cases_eq, cond-false, cond-true, corner, eq-eqb, false, false_by, false≢true, gait_of, has_flight, has_unmoved, inl, inr, is_arrival_free, is_attacked, is_attacker, is_castling, is_flight, is_flight_at, is_hopper, is_man, is_of_colour, is_open, is_promoting, is_promotion_right, is_some, is_square, kept_now, king_is_no_pawn, king_no_step, king_square, leaps, left_now, length, list_any, made, man_on, man_on-with_cases, may_castle, not, not-true, or_cases, or_parts, other, other_differs, position_after, position_after_by, put_at, queen_steps, reaches, reaches_as, reaches_of, reborn_square, refl, rules, same_colour, same_colour-true, same_kind, some_square_false, some_square_true, sym, there_now, triple_at, true, without_unmoved, ℕ, ◌&&◌, ◌<◌, ◌||◌, ◌∙◌, ◌≡◌, ◌≢◌, ◌⊎◌}
 use Rattle.chess_core.proofs.Castlings.{has_unmoved-parts}
-use Rattle.chess_core.specs.Castling.{has_unmoved, without_unmoved}
-use Rattle.chess_core.specs.Steps.{gait_of, is_hopper}
-use Rattle.chess_rules.specs.Legal.{is_promotion_right}
 use Rattle.chess_rules.specs.Play.{unmoved_after}
 use Rattle.chess_rules.specs.Play.{unmoved_without_at}
-use Rattle.chess_rules.proofs.attacks.Seeing.{kept_now, left_now, there_now}
-use Rattle.chess_rules.proofs.attacks.Shielding.{other_differs}
-use Rattle.chess_rules.proofs.listing_moves.Targeting.{false_by}
-use Rattle.chess_rules.proofs.making_moves.Fits.{arrived, arrived_other, king_no_step}
-use Rattle.chess_rules.proofs.making_moves.Pseudo.{IsMade, king_is_no_pawn, made}
 use Rattle.chess_mates.proofs.Fleeing.{IsKingOn, IsKingStep, king_on, no_strike, step_is_legal, step_to}
-use Rattle.chess_mates.specs.ties.Flights.{has_flight, is_flight, is_flight_at, is_open}
-use Rattle.chess_mates.proofs.Chess.{king_square, leaps, put_at, queen_steps, some_square_true}
-use Rattle.chess_rules.proofs.Basics.{Bool, and_from, list_any, not, ◌<◌}
-use Rattle.chess_rules.proofs.making_moves.Stays.{man_on-with_cases}
 
 -- who stands on a square once a move is made: the man that came, or who stood there
 pub stood : (p : Position) (x : Man) (m : Move) (t : ℕ) (z : Man) → m.to < length p.men → man_on (arrived p x m) t ≡ Some z

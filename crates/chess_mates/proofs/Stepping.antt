@@ -1,9 +1,6 @@
 -- The men once a man has made a move and the enemy king a step, and what an attack then sees.
-use Rattle.chess_rules.proofs.Basics.{Bool, List, None, Option, Some, and_left, and_right, ap, arith, bit_or, cases_Bool, cases_eq, eq-eqb, eqb-true, false, false_from_ne_true, inl, inr, is_some, length, length-set, not, or_from, or_left, rules, sym, true, ℕ, ◌&&◌, ◌<◌, ◌==◌, ◌||◌, ◌∙◌, ◌≡◌, ◌≢◌}
-use Rattle.chess_mates.proofs.Chess.{sight_lifted, sight_with, AreSeen, Colour, Kind, Man, differs, is_man, is_of_colour, is_square, man_on, man_on-with_other, man_on-without_other, man_on-without_same, occupied_squares, same_colour, squares_both, squares_either, squares_not, squares_of, squares_same, without_man, word}
+use Rattle.chess_mates.proofs.Chess.{AreSeen, Bool, Colour, Kind, List, Man, None, Option, Some, and_left, and_right, ap, arith, bit_or, cases_Bool, cases_eq, differs, eq-eqb, eqb-true, false, false_from_ne_true, gone_to, inl, inr, is_man, is_occupied_after, is_of_colour, is_some, is_square, kept_now, left_now, length, length-set, length-without_at, man_on, man_on-with_other, man_on-without_other, man_on-without_same, no_man, not, occupied_now, occupied_squares, occupied_words, or_from, or_left, rules, same_colour, sight_lifted, sight_with, squares_both, squares_either, squares_not, squares_of, squares_same, sym, there_now, true, without_man, word, ℕ, ◌&&◌, ◌<◌, ◌==◌, ◌||◌, ◌∙◌, ◌≡◌, ◌≢◌}
 use Rattle.chess_mates.proofs.Landing.{StandAlike}
-use Rattle.chess_rules.proofs.making_moves.Plays.{length-without_at}
-use Rattle.chess_rules.proofs.attacks.Seeing.{gone_to, is_occupied_after, kept_now, left_now, no_man, occupied_now, occupied_words, there_now}
 
 -- the men once z has come from a to b and the man on o is gone, and then x from k to t and the man on u is gone
 abbrev pub stepped : List (Option Man) → ℕ → Option ℕ → ℕ → Man → ℕ → Option ℕ → ℕ → Man → List (Option Man)

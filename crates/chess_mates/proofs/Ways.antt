@@ -1,27 +1,9 @@
 -- The ways of a defender to a square that isn't risky: his king goes, or another man, who may leave a line.
-use Rattle.chess_rules.proofs.Basics.{Option, and_parts, cases_Bool, agree_below_at, list_any, refl, Some, [], and_from, ap, bit_and, bit_at, bit_not, bit_or, cases_lt, cond-true, cond-false, false, false≢true, inl, inr, sym, subst, true, w64, ℕ, ◌<◌, ◌==◌, ◌^◌, ◌∙◌, ◌≡◌, ◌≢◌}
-use Rattle.chess_mates.proofs.Chess.{Colour, along, is_castling, king_after, leaps, queen_steps, IsWellFormed, captures_do_more, King, Man, Move, Position, RuleSet, is_legal, is_man, is_pseudo_legal, man_on, mates_behind, may_go, other, position_after}
-use Rattle.chess_mates.proofs.Chess.{same_colour, same_kind}
-use Rattle.std.proofs.lemmas.Nat.Bits.{bit_at_above}
-use Rattle.chess_mates.specs.ties.Attackers.{AreAttackers}
-use Rattle.chess_mates.specs.declared.attackers.Attackers.{Attackers}
-use Rattle.chess_mates.specs.ties.Siege.{AreCastlingSquares, AreClosed, IsBarred, IsSafeMove, IsSafeStep, IsSettledStep, IsSparedStep, AreAdjacent, KeepsFlight, KeepsFlightBeside}
-use Rattle.chess_mates.specs.ties.LastingFlights.{KeepsOne}
-use Rattle.chess_mates.specs.ties.Threats.{AreMere, ArePlain, AreRisky, AreThreatsOf, IsMereMove, IsPlainMove, ToldThreats}
-use Rattle.chess_rules.proofs.Bits.{off_left, off_right}
-use Rattle.chess_rules.proofs.Tests.{some_is}
-use Rattle.chess_rules.proofs.attacks.Shielding.{king_is}
-use Rattle.chess_rules.proofs.listing_moves.Arrivals.{may_go_aimed}
-use Rattle.chess_rules.proofs.listing_moves.Calls.{is_pseudo_legal-from_legal}
-use Rattle.chess_rules.proofs.listing_moves.Targeting.{arrival_needed}
-use Rattle.chess_rules.proofs.listing_moves.Walks.{off_second}
-use Rattle.chess_rules.proofs.making_moves.Pseudo.{made}
+use Rattle.chess_mates.proofs.Chess.{AreAdjacent, AreAttackers, AreCastlingSquares, AreClosed, AreMere, ArePlain, AreRisky, AreThreatsOf, Attackers, Colour, IsBarred, IsMereMove, IsPlainMove, IsSafeMove, IsSafeStep, IsSettledStep, IsSparedStep, IsWellFormed, KeepsFlight, KeepsFlightBeside, KeepsOne, King, Man, Move, Option, Position, RuleSet, Some, ToldThreats, [], agree_below_at, along, and_from, and_parts, ap, arrival_needed, bit_and, bit_at, bit_at_above, bit_not, bit_or, captures_do_more, cases_Bool, cases_lt, cond-false, cond-true, false, false_by, false≢true, inl, inr, is_castling, is_legal, is_man, is_pseudo_legal, is_pseudo_legal-from_legal, king_after, king_is, leaps, list_any, made, man_on, mates_behind, may_go, may_go_aimed, off_left, off_right, off_second, other, position_after, queen_steps, refl, same_colour, same_colour-refl, same_kind, some_is, subst, sym, true, w64, ℕ, ◌<◌, ◌==◌, ◌^◌, ◌∙◌, ◌≡◌, ◌≢◌}
 use Rattle.chess_mates.proofs.Risks.{denied_on}
 use Rattle.chess_mates.proofs.LastingFlights.{no_mate_behind as flight_behind}
-use Rattle.chess_rules.proofs.listing_moves.Targeting.{false_by}
 use Rattle.chess_mates.proofs.Barring.{barred_is_illegal}
 use Rattle.chess_mates.proofs.Sparing.{no_mate_behind}
-use Rattle.chess_core.proofs.Kept.{same_colour-refl}
 
 -- no step stays where it begins
 no_step_back : (t : ℕ) → t < 64 → list_any (leaps t t) queen_steps ≡ false

@@ -1,5 +1,4 @@
-use Rattle.chess_rules.proofs.Basics.{rules}
-use Rattle.chess_mates.proofs.Chess.{may_check_from}
+use Rattle.chess_mates.proofs.Chess.{may_check_from, rules}
 use Rattle.chess_mates.proofs.Checking.{check_squares_of_all, check_squares_of_none, check_squares_of_some}
 use Rattle.chess_mates.proofs.checks.check_squares_of.Goals as goal
 

@@ -1,4 +1,4 @@
-use Rattle.chess_rules.proofs.Basics.{arith, rules}
+use Rattle.chess_mates.proofs.Chess.{arith, rules}
 use Rattle.chess_mates.proofs.CheckTargets.{check_targets_all}
 use Rattle.chess_mates.proofs.checks.check_targets.Goals as goal
 

@@ -1,4 +1,4 @@
-use Rattle.chess_rules.proofs.Basics.{arith}
+use Rattle.chess_mates.proofs.Chess.{arith}
 use Rattle.chess_mates.proofs.Checking.{absent_is}
 use Rattle.chess_mates.proofs.checks.is_absent.Goals as goal
 

@@ -1,6 +1,4 @@
-use Rattle.chess_rules.proofs.Basics.{Some, ap, arith, sym, ◌<◌, ◌∙◌, ◌≡◌}
-use Rattle.chess_mates.proofs.Chess.{Move, arriving_man, man_on}
-use Rattle.std.proofs.lemmas.Bool.{not-false}
+use Rattle.chess_mates.proofs.Chess.{Move, Some, ap, arith, arriving_man, man_on, not-false, sym, ◌<◌, ◌∙◌, ◌≡◌}
 use Rattle.chess_mates.proofs.Rebirths.{no_check_by_rebirth}
 use Rattle.chess_mates.proofs.KingsApart.{kings_apart}
 use Rattle.chess_mates.proofs.checks.may_check.Goals as goal

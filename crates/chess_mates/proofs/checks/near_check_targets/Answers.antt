@@ -1,4 +1,4 @@
-use Rattle.chess_rules.proofs.Basics.{sym, ◌∙◌}
+use Rattle.chess_mates.proofs.Chess.{sym, ◌∙◌}
 use Rattle.chess_mates.proofs.CheckTargets.{check_targets_nobody, check_targets_there}
 use Rattle.chess_mates.proofs.checks.near_check_targets.Goals as goal
 

@@ -1,5 +1,4 @@
-use Rattle.chess_rules.proofs.Basics.{rules}
-use Rattle.chess_rules.proofs.attacks.Shielding.{shield_squares_none}
+use Rattle.chess_mates.proofs.Chess.{rules, shield_squares_none}
 use Rattle.chess_mates.proofs.Checking.{bishop_squares, rook_squares}
 use Rattle.chess_mates.proofs.checks.shields_seen.Goals as goal
 

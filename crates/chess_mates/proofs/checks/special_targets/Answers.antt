@@ -1,4 +1,4 @@
-use Rattle.chess_rules.proofs.Basics.{rules}
+use Rattle.chess_mates.proofs.Chess.{rules}
 use Rattle.chess_mates.proofs.checks.special_targets.Goals as goal
 
 pub returns-in-Some-clause-castles : goal.returns-in-Some-clause-castles

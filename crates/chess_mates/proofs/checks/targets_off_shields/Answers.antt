@@ -1,5 +1,4 @@
-use Rattle.chess_rules.proofs.Basics.{rules, true, ◌≡◌}
-use Rattle.chess_mates.proofs.Chess.{AreCastlingTargets, King, same_kind}
+use Rattle.chess_mates.proofs.Chess.{AreCastlingTargets, King, rules, same_kind, true, ◌≡◌}
 use Rattle.chess_mates.proofs.CheckTargets.{check_targets_some}
 use Rattle.chess_mates.proofs.checks.targets_off_shields.Goals as goal
 

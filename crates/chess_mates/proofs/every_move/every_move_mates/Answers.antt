@@ -1,5 +1,4 @@
-use Rattle.chess_rules.proofs.Basics.{rules}
-use Rattle.chess_mates.proofs.Chess.{moves_behind-start}
+use Rattle.chess_mates.proofs.Chess.{moves_behind-start, rules}
 use Rattle.chess_mates.proofs.EveryMove.{none-all}
 use Rattle.chess_mates.proofs.every_move.every_move_mates.Goals as goal
 

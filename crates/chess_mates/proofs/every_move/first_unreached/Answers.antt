@@ -1,5 +1,4 @@
-use Rattle.chess_rules.proofs.Basics.{bit_at, rules, sym, ◌==◌, ◌∙◌}
-use Rattle.chess_mates.proofs.Chess.{find_first}
+use Rattle.chess_mates.proofs.Chess.{bit_at, find_first, rules, sym, ◌==◌, ◌∙◌}
 use Rattle.chess_mates.proofs.every_move.first_unreached.Goals as goal
 
 pub returns-then-is_unreached-clause-within : goal.returns-then-is_unreached-clause-within

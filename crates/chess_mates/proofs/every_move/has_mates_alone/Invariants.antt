@@ -1,5 +1,4 @@
-use Rattle.chess_rules.proofs.Basics.{length, list_all, not, ◌&&◌, ◌||◌, ◌≡◌}
-use Rattle.chess_mates.proofs.Chess.{IsPlaceIn, is_mating, is_nil, moves_behind}
+use Rattle.chess_mates.proofs.Chess.{IsPlaceIn, is_mating, is_nil, length, list_all, moves_behind, not, ◌&&◌, ◌||◌, ◌≡◌}
 use Rattle.chess_mates.proofs.every_move.has_mates_alone.Given as goal
 
 abbrev pub invariant-loop-m : goal.invariant-loop-m

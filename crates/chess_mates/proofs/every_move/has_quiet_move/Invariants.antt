@@ -1,5 +1,4 @@
-use Rattle.chess_rules.proofs.Basics.{false, length, list_all, ◌≡◌}
-use Rattle.chess_mates.proofs.Chess.{IsPlaceIn, is_mating, moves_behind}
+use Rattle.chess_mates.proofs.Chess.{IsPlaceIn, false, is_mating, length, list_all, moves_behind, ◌≡◌}
 use Rattle.chess_mates.proofs.every_move.has_quiet_move.Given as goal
 
 abbrev pub invariant-loop-m : goal.invariant-loop-m

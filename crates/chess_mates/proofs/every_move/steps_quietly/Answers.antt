@@ -1,4 +1,4 @@
-use Rattle.chess_rules.proofs.Basics.{rules}
+use Rattle.chess_mates.proofs.Chess.{rules}
 use Rattle.chess_mates.proofs.Fleeing.{step_to}
 use Rattle.chess_mates.proofs.QuietSteps.{one_fails, step_legal}
 use Rattle.chess_mates.proofs.every_move.steps_quietly.Goals as goal

@@ -1,4 +1,4 @@
-use Rattle.chess_rules.proofs.Basics.{arith}
+use Rattle.chess_mates.proofs.Chess.{arith}
 use Rattle.chess_mates.proofs.Sieges.{field_is}
 use Rattle.chess_mates.proofs.field.field_of.Goals as goal
 

@@ -1,4 +1,4 @@
-use Rattle.chess_rules.proofs.Basics.{inl, inr, refl}
+use Rattle.chess_mates.proofs.Chess.{inl, inr, refl}
 use Rattle.chess_mates.proofs.Hurdles.{on_one}
 use Rattle.chess_mates.proofs.Risks.{none_at}
 use Rattle.chess_mates.proofs.Springboards.{landing_anywhere, unsprung_left, unsprung_right}

@@ -1,6 +1,4 @@
-use Rattle.chess_rules.proofs.Basics.{true, ◌-◌, ◌<◌, ◌==◌, ◌≡◌, ℕ}
-use Rattle.std.specs.Int.{bit_at}
-use Rattle.chess_mates.specs.ties.Siege.{IsUnsprung}
+use Rattle.chess_mates.proofs.Chess.{IsUnsprung, bit_at, true, ℕ, ◌-◌, ◌<◌, ◌==◌, ◌≡◌}
 use Rattle.chess_mates.proofs.field.landings_among.Given as goal
 
 abbrev pub invariant-loop-to : goal.invariant-loop-to

@@ -1,5 +1,4 @@
-use Rattle.chess_rules.proofs.Basics.{false≢true, sym, ◌∙◌}
-use Rattle.chess_rules.proofs.listing_moves.Targeting.{every_square_on}
+use Rattle.chess_mates.proofs.Chess.{every_square_on, false≢true, sym, ◌∙◌}
 use Rattle.chess_mates.proofs.Sieges.{fewer_adjacent}
 use Rattle.chess_mates.proofs.field.needed_squares.Goals as goal
 

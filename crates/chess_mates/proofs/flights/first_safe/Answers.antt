@@ -1,5 +1,4 @@
-use Rattle.chess_rules.proofs.Basics.{arith, bit_at, rules, sym, ◌==◌, ◌∙◌}
-use Rattle.chess_mates.proofs.Chess.{find_first}
+use Rattle.chess_mates.proofs.Chess.{arith, bit_at, find_first, rules, sym, ◌==◌, ◌∙◌}
 use Rattle.chess_mates.proofs.HoldBelow.{hold_all, hold_next, hold_none}
 use Rattle.chess_mates.proofs.flights.first_safe.Goals as goal
 

@@ -1,4 +1,4 @@
-use Rattle.chess_rules.proofs.Basics.{rules}
+use Rattle.chess_mates.proofs.Chess.{rules}
 use Rattle.chess_mates.proofs.Fleeing.{has_flight_to}
 use Rattle.chess_mates.proofs.Flightless.{flightless}
 use Rattle.chess_mates.proofs.flights.flights_from.Goals as goal

@@ -1,4 +1,4 @@
-use Rattle.chess_rules.proofs.Basics.{rules}
+use Rattle.chess_mates.proofs.Chess.{rules}
 use Rattle.chess_mates.proofs.flights.sight_lifted.Goals as goal
 
 pub returns : goal.returns

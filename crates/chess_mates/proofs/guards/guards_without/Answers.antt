@@ -1,4 +1,4 @@
-use Rattle.chess_rules.proofs.Basics.{arith}
+use Rattle.chess_mates.proofs.Chess.{arith}
 use Rattle.chess_mates.proofs.Risks.{guards_are}
 use Rattle.chess_mates.proofs.guards.guards_without.Goals as goal
 

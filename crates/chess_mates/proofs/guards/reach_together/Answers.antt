@@ -1,8 +1,6 @@
-use Rattle.chess_rules.proofs.Basics.{false≢true, inl, inr, sym, ◌∙◌, ℕ}
+use Rattle.chess_mates.proofs.Chess.{IsNear, IsReached, false≢true, inl, inr, off_zero, sym, ℕ, ◌∙◌}
 use Rattle.chess_mates.proofs.HoldBelow.{hold_all, hold_map, hold_next, hold_none}
 use Rattle.chess_mates.proofs.Hurdles.{found_on, on_one, reached_left, reached_right}
-use Rattle.chess_mates.specs.ties.Siege.{IsNear, IsReached}
-use Rattle.chess_rules.proofs.listing_moves.Walks.{off_zero}
 use Rattle.chess_mates.proofs.guards.reach_together.Goals as goal
 
 pub loop-from-init : goal.loop-from-init

@@ -1,7 +1,5 @@
-use Rattle.chess_rules.proofs.Basics.{true, ◌-◌, ◌<◌, ◌==◌, ◌≡◌, ℕ}
-use Rattle.std.specs.Int.{bit_at}
+use Rattle.chess_mates.proofs.Chess.{IsNear, IsReached, IsReachedFrom, bit_at, true, ℕ, ◌-◌, ◌<◌, ◌==◌, ◌≡◌}
 use Rattle.chess_mates.proofs.HoldBelow.{HoldBelow}
-use Rattle.chess_mates.specs.ties.Siege.{IsNear, IsReached, IsReachedFrom}
 use Rattle.chess_mates.proofs.guards.reach_together.Given as goal
 
 abbrev pub invariant-loop-from : goal.invariant-loop-from

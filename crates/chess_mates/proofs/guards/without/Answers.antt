@@ -1,4 +1,4 @@
-use Rattle.chess_rules.proofs.Basics.{arith}
+use Rattle.chess_mates.proofs.Chess.{arith}
 use Rattle.chess_mates.proofs.Risks.{kept_without}
 use Rattle.chess_mates.proofs.guards.without.Goals as goal
 

@@ -1,5 +1,4 @@
-use Rattle.chess_rules.proofs.Basics.{refl}
-use Rattle.chess_mates.proofs.Chess.{rebirth}
+use Rattle.chess_mates.proofs.Chess.{rebirth, refl}
 use Rattle.chess_mates.proofs.HomeSquares.{pawn_home_on}
 use Rattle.chess_mates.proofs.homes.pawn_home.Goals as goal
 

@@ -1,5 +1,4 @@
-use Rattle.chess_rules.proofs.Basics.{rules, sym, ◌∙◌}
-use Rattle.chess_mates.proofs.Chess.{on_left, on_right}
+use Rattle.chess_mates.proofs.Chess.{on_left, on_right, rules, sym, ◌∙◌}
 use Rattle.chess_mates.proofs.HoldBelow.{hold_all, hold_map, hold_next, hold_none}
 use Rattle.chess_mates.proofs.homes.pawn_homes.Goals as goal
 

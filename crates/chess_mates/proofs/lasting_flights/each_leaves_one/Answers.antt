@@ -1,4 +1,4 @@
-use Rattle.chess_rules.proofs.Basics.{sym, ◌∙◌}
+use Rattle.chess_mates.proofs.Chess.{sym, ◌∙◌}
 use Rattle.chess_mates.proofs.HoldBelow.{hold_all, hold_next, hold_none}
 use Rattle.chess_mates.proofs.Risks.{none_at}
 use Rattle.chess_mates.specs.ties.LastingFlights.{LeavesOne}

@@ -1,6 +1,4 @@
-use Rattle.chess_rules.proofs.Basics.{Some, ap, arith, not-true, sym, ◌<◌, ◌∙◌, ◌≡◌}
-use Rattle.chess_rules.proofs.listing_moves.Calls.{is_pseudo_legal-from_legal}
-use Rattle.chess_mates.proofs.Chess.{Move, man_on, other}
+use Rattle.chess_mates.proofs.Chess.{Move, Some, ap, arith, is_pseudo_legal-from_legal, man_on, not-true, other, sym, ◌<◌, ◌∙◌, ◌≡◌}
 use Rattle.chess_mates.proofs.LastingFlights.{no_mate_behind}
 use Rattle.chess_mates.proofs.lasting_flights.keeps_flight.Goals as goal
 

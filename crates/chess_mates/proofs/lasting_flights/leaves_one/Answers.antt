@@ -1,4 +1,4 @@
-use Rattle.chess_rules.proofs.Basics.{bit_and, bit_at, bit_or, cases_Bool, inl, inr, sym, ◌==◌, ◌∙◌}
+use Rattle.chess_mates.proofs.Chess.{bit_and, bit_at, bit_or, cases_Bool, inl, inr, sym, ◌==◌, ◌∙◌}
 use Rattle.chess_mates.proofs.LastingFlights.{first_there}
 use Rattle.chess_mates.proofs.lasting_flights.leaves_one.Goals as goal
 

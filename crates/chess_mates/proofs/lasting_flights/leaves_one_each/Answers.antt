@@ -1,6 +1,5 @@
-use Rattle.chess_rules.proofs.Basics.{sym, ◌∙◌, ℕ}
+use Rattle.chess_mates.proofs.Chess.{IsLeft, sym, ℕ, ◌∙◌}
 use Rattle.chess_mates.proofs.HoldBelow.{hold_all, hold_next, hold_none}
-use Rattle.chess_mates.specs.ties.LastingFlights.{IsLeft}
 use Rattle.chess_mates.proofs.lasting_flights.leaves_one_each.Goals as goal
 
 pub loop-to-init : goal.loop-to-init

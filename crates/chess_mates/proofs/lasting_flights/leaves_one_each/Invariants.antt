@@ -1,6 +1,5 @@
-use Rattle.chess_rules.proofs.Basics.{◌-◌, ℕ}
+use Rattle.chess_mates.proofs.Chess.{IsLeft, ℕ, ◌-◌}
 use Rattle.chess_mates.proofs.HoldBelow.{HoldBelow}
-use Rattle.chess_mates.specs.ties.LastingFlights.{IsLeft}
 use Rattle.chess_mates.proofs.lasting_flights.leaves_one_each.Given as goal
 
 abbrev pub invariant-loop-to : goal.invariant-loop-to

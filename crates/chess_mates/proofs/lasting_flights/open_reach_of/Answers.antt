@@ -1,5 +1,4 @@
-use Rattle.chess_rules.proofs.Basics.{sym, ◌∙◌}
-use Rattle.chess_mates.proofs.Chess.{Man}
+use Rattle.chess_mates.proofs.Chess.{Man, sym, ◌∙◌}
 use Rattle.chess_mates.proofs.HoldBelow.{hold_all, hold_map, hold_next, hold_none}
 use Rattle.chess_mates.proofs.LastingFlights.{reached_left, reached_right}
 use Rattle.chess_mates.proofs.Risks.{none_at}

@@ -1,4 +1,4 @@
-use Rattle.chess_rules.proofs.Basics.{or_lt, rules}
+use Rattle.chess_mates.proofs.Chess.{or_lt, rules}
 use Rattle.chess_mates.proofs.FarMen.{check_origins_are, check_origins_own, far_either}
 use Rattle.chess_mates.proofs.origins.check_origins.Goals as goal
 

@@ -1,5 +1,4 @@
-use Rattle.chess_rules.proofs.Basics.{arith, bit_at, rules, sym, ◌<◌, ◌==◌, ◌∙◌}
-use Rattle.chess_mates.proofs.Chess.{find_first}
+use Rattle.chess_mates.proofs.Chess.{arith, bit_at, find_first, rules, sym, ◌<◌, ◌==◌, ◌∙◌}
 use Rattle.chess_mates.proofs.FarMen.{far_none, far_one}
 use Rattle.chess_mates.proofs.origins.far_king.Goals as goal
 

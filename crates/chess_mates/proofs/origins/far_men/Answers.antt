@@ -1,5 +1,4 @@
-use Rattle.chess_rules.proofs.Basics.{arith, bit_at, false≢true, refl, rules, sym, ◌+◌, ◌-◌, ◌<◌, ◌==◌, ◌∙◌, ◌≤◌}
-use Rattle.chess_mates.proofs.Chess.{find_first, own_man}
+use Rattle.chess_mates.proofs.Chess.{arith, bit_at, false≢true, find_first, own_man, refl, rules, sym, ◌+◌, ◌-◌, ◌<◌, ◌==◌, ◌∙◌, ◌≤◌}
 use Rattle.chess_mates.proofs.FarMen.{far_either, far_none, far_one}
 use Rattle.chess_mates.proofs.origins.far_men.Goals.{else-is_far, then-is_far}
 use Rattle.chess_mates.proofs.origins.far_men.Goals as goal

@@ -1,4 +1,4 @@
-use Rattle.chess_rules.proofs.Basics.{◌-◌, ◌≤◌}
+use Rattle.chess_mates.proofs.Chess.{◌-◌, ◌≤◌}
 use Rattle.chess_mates.proofs.FarMen.{AreFar}
 use Rattle.chess_mates.proofs.origins.far_men.Given as goal
 

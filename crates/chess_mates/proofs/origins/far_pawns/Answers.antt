@@ -1,5 +1,4 @@
-use Rattle.chess_rules.proofs.Basics.{arith, false≢true, refl}
-use Rattle.chess_mates.proofs.Chess.{Pawn, own_man}
+use Rattle.chess_mates.proofs.Chess.{Pawn, arith, false≢true, own_man, refl}
 use Rattle.chess_mates.proofs.FarMen.{far_apart}
 use Rattle.chess_mates.proofs.origins.far_pawns.Goals as goal
 

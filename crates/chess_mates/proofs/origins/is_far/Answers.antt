@@ -1,4 +1,4 @@
-use Rattle.chess_rules.proofs.Basics.{rules}
+use Rattle.chess_mates.proofs.Chess.{rules}
 use Rattle.chess_mates.proofs.FarMen.{far_by}
 use Rattle.chess_mates.proofs.origins.is_far.Goals as goal
 

@@ -1,5 +1,4 @@
-use Rattle.chess_rules.proofs.Basics.{rules}
-use Rattle.chess_mates.proofs.Chess.{on_first}
+use Rattle.chess_mates.proofs.Chess.{on_first, rules}
 use Rattle.chess_mates.proofs.FarMen.{man_of_word, off_denied}
 use Rattle.chess_mates.proofs.origins.men_off_shields.Goals as goal
 

@@ -1,4 +1,4 @@
-use Rattle.chess_rules.proofs.Basics.{◌-◌, ◌≤◌}
+use Rattle.chess_mates.proofs.Chess.{◌-◌, ◌≤◌}
 use Rattle.chess_mates.proofs.quiet_steps.steps_now.Given as goal
 
 abbrev pub invariant-loop-to : goal.invariant-loop-to

@@ -1,5 +1,4 @@
-use Rattle.chess_rules.proofs.Basics.{arith, refl, sym, ◌∙◌}
-use Rattle.chess_mates.proofs.Chess.{Bishop, Queen, Rook}
+use Rattle.chess_mates.proofs.Chess.{Bishop, Queen, Rook, arith, refl, sym, ◌∙◌}
 use Rattle.chess_mates.proofs.Risks.{check_hops, check_lines, check_word}
 use Rattle.chess_mates.proofs.Sieges.{queen_lines}
 use Rattle.chess_mates.proofs.risk.check_squares_over.Goals as goal

@@ -1,5 +1,4 @@
-use Rattle.chess_rules.proofs.Basics.{sym, ◌∙◌}
-use Rattle.chess_rules.proofs.listing_moves.Walks.{off_second}
+use Rattle.chess_mates.proofs.Chess.{off_second, sym, ◌∙◌}
 use Rattle.chess_mates.proofs.Risks.{king_targets, pawn_targets, piece_targets}
 use Rattle.chess_mates.proofs.risk.checking_targets.Goals as goal
 

@@ -1,7 +1,6 @@
-use Rattle.chess_rules.proofs.Basics.{sym, ◌∙◌, ℕ}
+use Rattle.chess_mates.proofs.Chess.{LeavesOne, sym, ℕ, ◌∙◌}
 use Rattle.chess_mates.proofs.HoldBelow.{hold_all, hold_map, hold_next, hold_none}
 use Rattle.chess_mates.proofs.Risks.{leaves_left, leaves_right}
-use Rattle.chess_mates.specs.ties.Siege.{LeavesOne}
 use Rattle.chess_mates.proofs.risk.critical_after.Goals as goal
 
 pub loop-to-init : goal.loop-to-init

@@ -1,6 +1,5 @@
-use Rattle.chess_rules.proofs.Basics.{◌-◌}
+use Rattle.chess_mates.proofs.Chess.{LeavesOne, ◌-◌}
 use Rattle.chess_mates.proofs.HoldBelow.{HoldBelow}
-use Rattle.chess_mates.specs.ties.Siege.{LeavesOne}
 use Rattle.chess_mates.proofs.risk.critical_after.Given as goal
 
 abbrev pub invariant-loop-to : goal.invariant-loop-to

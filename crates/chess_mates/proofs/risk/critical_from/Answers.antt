@@ -1,6 +1,4 @@
-use Rattle.chess_rules.proofs.Basics.{arith, false, false≢true, refl, sym, ◌<◌, ◌==◌, ◌∙◌, ◌≡◌}
-use Rattle.std.specs.Int.{bit_at}
-use Rattle.chess_rules.proofs.listing_moves.Targeting.{false_by}
+use Rattle.chess_mates.proofs.Chess.{arith, bit_at, false, false_by, false≢true, refl, sym, ◌<◌, ◌==◌, ◌∙◌, ◌≡◌}
 use Rattle.chess_mates.proofs.risk.critical_from.Goals as goal
 
 pub returns-then-squares-risk-eq0-clause-safe : goal.returns-then-squares-risk-eq0-clause-safe

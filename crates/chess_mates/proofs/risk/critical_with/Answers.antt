@@ -1,4 +1,4 @@
-use Rattle.chess_rules.proofs.Basics.{sym, ◌∙◌}
+use Rattle.chess_mates.proofs.Chess.{sym, ◌∙◌}
 use Rattle.chess_mates.proofs.Risks.{leaves_first, leaves_none, leaves_recapture, leaves_second}
 use Rattle.chess_mates.proofs.risk.critical_with.Goals as goal
 

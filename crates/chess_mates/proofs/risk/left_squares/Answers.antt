@@ -1,4 +1,4 @@
-use Rattle.chess_rules.proofs.Basics.{arith}
+use Rattle.chess_mates.proofs.Chess.{arith}
 use Rattle.chess_mates.proofs.LastingFlights.{left_on}
 use Rattle.chess_mates.proofs.risk.left_squares.Goals as goal
 

@@ -1,4 +1,4 @@
-use Rattle.chess_rules.proofs.Basics.{arith}
+use Rattle.chess_mates.proofs.Chess.{arith}
 use Rattle.chess_mates.proofs.Risks.{none_checks}
 use Rattle.chess_mates.proofs.Springboards.{no_other}
 use Rattle.chess_mates.proofs.risk.may_spring.Goals as goal

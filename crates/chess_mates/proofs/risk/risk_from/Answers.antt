@@ -1,4 +1,4 @@
-use Rattle.chess_rules.proofs.Basics.{sym, ◌∙◌}
+use Rattle.chess_mates.proofs.Chess.{sym, ◌∙◌}
 use Rattle.chess_mates.proofs.Risks.{harmless_going, harmless_quietly, open_arrivals}
 use Rattle.chess_mates.proofs.risk.risk_from.Goals as goal
 

@@ -1,5 +1,4 @@
-use Rattle.chess_rules.proofs.Basics.{cases_Bool, inl, inr, ◌==◌}
-use Rattle.std.specs.Int.{bit_at}
+use Rattle.chess_mates.proofs.Chess.{bit_at, cases_Bool, inl, inr, ◌==◌}
 use Rattle.chess_mates.proofs.LastingFlights.{on_both}
 use Rattle.chess_mates.proofs.Risks.{harmless_more, none_at, weak_is, weak_never}
 use Rattle.chess_mates.proofs.risk.risk_of.Goals as goal

@@ -1,5 +1,4 @@
-use Rattle.chess_rules.proofs.Basics.{ap, arith, ◌==◌, ◌∙◌, ℕ}
-use Rattle.std.specs.Int.{bit_at}
+use Rattle.chess_mates.proofs.Chess.{ap, arith, bit_at, ℕ, ◌==◌, ◌∙◌}
 use Rattle.chess_mates.proofs.Risks.{met_is, never_off}
 use Rattle.chess_mates.proofs.risk.risk_of_going.Goals as goal
 

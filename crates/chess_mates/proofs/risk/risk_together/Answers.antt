@@ -1,8 +1,6 @@
-use Rattle.chess_rules.proofs.Basics.{sym, ◌∙◌, ℕ}
+use Rattle.chess_mates.proofs.Chess.{IsHarmless, Risk, sym, ℕ, ◌∙◌}
 use Rattle.chess_mates.proofs.HoldBelow.{hold_all, hold_map, hold_next, hold_none}
 use Rattle.chess_mates.proofs.Risks.{harmless_left, harmless_right}
-use Rattle.chess_mates.specs.declared.risk.Risk.{Risk}
-use Rattle.chess_mates.specs.ties.Siege.{IsHarmless}
 use Rattle.chess_mates.proofs.risk.risk_together.Goals as goal
 
 pub loop-from-init : goal.loop-from-init

@@ -1,6 +1,5 @@
-use Rattle.chess_rules.proofs.Basics.{◌-◌}
+use Rattle.chess_mates.proofs.Chess.{IsHarmless, ◌-◌}
 use Rattle.chess_mates.proofs.HoldBelow.{HoldBelow}
-use Rattle.chess_mates.specs.ties.Siege.{IsHarmless}
 use Rattle.chess_mates.proofs.risk.risk_together.Given as goal
 
 abbrev pub invariant-loop-from : goal.invariant-loop-from

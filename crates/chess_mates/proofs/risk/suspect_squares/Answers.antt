@@ -1,7 +1,4 @@
-use Rattle.chess_rules.proofs.Basics.{bit_or, false≢true, refl, subst, sym, ◌∙◌}
-use Rattle.chess_mates.proofs.Chess.{AreApproaches, Man, Pawn, same_kind-true}
-use Rattle.chess_rules.proofs.Bits.{off_left, off_right}
-use Rattle.chess_rules.proofs.listing_moves.Targeting.{every_square_on, false_by}
+use Rattle.chess_mates.proofs.Chess.{AreApproaches, Man, Pawn, bit_or, every_square_on, false_by, false≢true, off_left, off_right, refl, same_kind-true, subst, sym, ◌∙◌}
 use Rattle.chess_mates.proofs.KindByKind.{man_is}
 use Rattle.chess_mates.proofs.Risks.{harmless_idly, king_targets, none_at, pawn_idly}
 use Rattle.chess_mates.proofs.risk.suspect_squares.Goals as goal

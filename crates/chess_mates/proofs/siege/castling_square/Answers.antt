@@ -1,7 +1,4 @@
-use Rattle.chess_rules.proofs.Basics.{arith, eq-eqb, inr, refl, ◌∙◌}
-use Rattle.chess_mates.proofs.Chess.{is_square}
-use Rattle.chess_rules.proofs.Bits.{word_has}
-use Rattle.std.specs.Prelude.{Some}
+use Rattle.chess_mates.proofs.Chess.{Some, arith, eq-eqb, inr, is_square, refl, word_has, ◌∙◌}
 use Rattle.chess_mates.proofs.siege.castling_square.Goals as goal
 
 pub returns : goal.returns

@@ -1,4 +1,4 @@
-use Rattle.chess_rules.proofs.Basics.{arith, rules, sym, ◌∙◌}
+use Rattle.chess_mates.proofs.Chess.{arith, rules, sym, ◌∙◌}
 use Rattle.chess_mates.proofs.Sieges.{king_castles_anywhere, king_castles_to, moved_king_castles, no_king_castles, shut_on}
 use Rattle.chess_mates.proofs.siege.castling_squares.Goals as goal
 

@@ -1,6 +1,4 @@
-use Rattle.chess_rules.proofs.Basics.{Option, ap, ℕ, ◌∙◌}
-use Rattle.chess_mates.proofs.Chess.{is_square, word}
-use Rattle.chess_rules.proofs.Basics.{arith}
+use Rattle.chess_mates.proofs.Chess.{Option, ap, arith, is_square, word, ℕ, ◌∙◌}
 use Rattle.chess_mates.proofs.Sieges.{hurdles_are, hurdles_whole, lifted_off}
 use Rattle.chess_mates.proofs.siege.hurdles_of.Goals as goal
 

@@ -1,5 +1,4 @@
-use Rattle.chess_rules.proofs.Basics.{and_parts, ap, eqb-true, rules, sym, ◌∙◌}
-use Rattle.chess_mates.proofs.Chess.{other, same_colour-true, side_of}
+use Rattle.chess_mates.proofs.Chess.{and_parts, ap, eqb-true, other, rules, same_colour-true, side_of, sym, ◌∙◌}
 use Rattle.chess_mates.proofs.Sieges.{attackers_are, siege_fits}
 use Rattle.chess_mates.proofs.siege.is_of.Goals as goal
 

@@ -1,4 +1,4 @@
-use Rattle.chess_rules.proofs.Basics.{arith, refl}
+use Rattle.chess_mates.proofs.Chess.{arith, refl}
 use Rattle.chess_mates.proofs.siege.lifted_from.Goals as goal
 
 pub returns : goal.returns

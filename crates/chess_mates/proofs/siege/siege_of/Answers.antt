@@ -1,5 +1,4 @@
-use Rattle.chess_rules.proofs.Basics.{ap, refl, sym, ◌∙◌}
-use Rattle.chess_mates.proofs.Chess.{other, side_of}
+use Rattle.chess_mates.proofs.Chess.{ap, other, refl, side_of, sym, ◌∙◌}
 use Rattle.chess_mates.proofs.Sieges.{siege_fits}
 use Rattle.chess_mates.proofs.siege.siege_of.Goals as goal
 

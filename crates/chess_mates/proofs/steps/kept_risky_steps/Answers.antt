@@ -1,5 +1,4 @@
-use Rattle.chess_rules.proofs.Basics.{arith, ◌≡◌}
-use Rattle.chess_rules.specs.RuleSet.{captures_do_more, faced_men_stand_still}
+use Rattle.chess_mates.proofs.Chess.{arith, captures_do_more, faced_men_stand_still, ◌≡◌}
 use Rattle.chess_mates.proofs.steps.kept_risky_steps.Goals as goal
 
 pub returns-then-kept-do_more-clause-risky : goal.returns-then-kept-do_more-clause-risky

@@ -1,8 +1,5 @@
-use Rattle.chess_rules.proofs.Basics.{false, sym, ◌==◌, ◌∙◌, ◌≡◌, ℕ}
-use Rattle.std.specs.Int.{bit_at}
-use Rattle.chess_rules.proofs.Bits.{off_left, off_right}
+use Rattle.chess_mates.proofs.Chess.{IsSparedStep, bit_at, false, off_left, off_right, sym, ℕ, ◌==◌, ◌∙◌, ◌≡◌}
 use Rattle.chess_mates.proofs.HoldBelow.{hold_all, hold_map, hold_next, hold_none}
-use Rattle.chess_mates.specs.ties.Siege.{IsSparedStep}
 use Rattle.chess_mates.proofs.steps.risky_among.Goals as goal
 
 pub loop-to-init : goal.loop-to-init

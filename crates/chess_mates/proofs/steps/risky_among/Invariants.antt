@@ -1,7 +1,5 @@
-use Rattle.chess_rules.proofs.Basics.{false, ◌-◌, ◌==◌, ◌≡◌}
-use Rattle.std.specs.Int.{bit_at}
+use Rattle.chess_mates.proofs.Chess.{IsSparedStep, bit_at, false, ◌-◌, ◌==◌, ◌≡◌}
 use Rattle.chess_mates.proofs.HoldBelow.{HoldBelow}
-use Rattle.chess_mates.specs.ties.Siege.{IsSparedStep}
 use Rattle.chess_mates.proofs.steps.risky_among.Given as goal
 
 abbrev pub invariant-loop-to : goal.invariant-loop-to

@@ -1,9 +1,4 @@
-use Rattle.chess_rules.proofs.Basics.{arith, eq-eqb, false≢true, inl, inr, refl, sym, true, ◌==◌, ◌∙◌, ◌≡◌}
-use Rattle.std.specs.Int.{bit_at}
-use Rattle.std.specs.Prelude.{Some}
-use Rattle.chess_mates.proofs.Chess.{is_square}
-use Rattle.chess_rules.proofs.Bits.{word_has}
-use Rattle.chess_rules.proofs.listing_moves.Walks.{off_second}
+use Rattle.chess_mates.proofs.Chess.{Some, arith, bit_at, eq-eqb, false≢true, inl, inr, is_square, off_second, refl, sym, true, word_has, ◌==◌, ◌∙◌, ◌≡◌}
 use Rattle.chess_mates.proofs.steps.risky_step.Goals as goal
 
 pub returns-then-keeps_flight_at : goal.returns-then-keeps_flight_at

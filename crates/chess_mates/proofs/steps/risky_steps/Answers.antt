@@ -1,5 +1,4 @@
-use Rattle.chess_rules.proofs.Basics.{cases_Bool, inl, inr, ◌==◌}
-use Rattle.std.specs.Int.{bit_at}
+use Rattle.chess_mates.proofs.Chess.{bit_at, cases_Bool, inl, inr, ◌==◌}
 use Rattle.chess_mates.proofs.steps.risky_steps.Goals as goal
 
 pub returns : goal.returns

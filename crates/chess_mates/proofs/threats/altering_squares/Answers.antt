@@ -1,4 +1,4 @@
-use Rattle.chess_rules.proofs.Basics.{arith, rules, sym, ◌∙◌}
+use Rattle.chess_mates.proofs.Chess.{arith, rules, sym, ◌∙◌}
 use Rattle.chess_mates.proofs.Passing.{pawn_mere, piece_mere}
 use Rattle.chess_mates.proofs.threats.altering_squares.Goals as goal
 

@@ -1,4 +1,4 @@
-use Rattle.chess_rules.proofs.Basics.{arith, ◌<◌}
+use Rattle.chess_mates.proofs.Chess.{arith, ◌<◌}
 use Rattle.chess_mates.proofs.Passing.{passes_freely, steps_freely}
 use Rattle.chess_mates.proofs.threats.contested_squares.Goals as goal
 

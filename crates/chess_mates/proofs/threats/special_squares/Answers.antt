@@ -1,5 +1,4 @@
-use Rattle.chess_rules.proofs.Basics.{arith, sym, ◌<◌, ◌∙◌}
-use Rattle.chess_mates.proofs.Chess.{off_left, off_right}
+use Rattle.chess_mates.proofs.Chess.{arith, off_left, off_right, sym, ◌<◌, ◌∙◌}
 use Rattle.chess_mates.proofs.Passing.{king_plain, man_plain, pawn_plain}
 use Rattle.chess_mates.proofs.threats.special_squares.Goals as goal
 

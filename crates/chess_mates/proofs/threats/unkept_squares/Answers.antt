@@ -1,5 +1,4 @@
-use Rattle.chess_rules.proofs.Basics.{rules}
-use Rattle.chess_mates.proofs.Chess.{off_second}
+use Rattle.chess_mates.proofs.Chess.{off_second, rules}
 use Rattle.chess_mates.proofs.threats.unkept_squares.Goals as goal
 
 pub returns : goal.returns

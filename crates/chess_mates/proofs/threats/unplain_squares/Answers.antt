@@ -1,5 +1,4 @@
-use Rattle.chess_rules.proofs.Basics.{rules}
-use Rattle.chess_mates.proofs.Chess.{off_left, off_right}
+use Rattle.chess_mates.proofs.Chess.{off_left, off_right, rules}
 use Rattle.chess_mates.proofs.threats.unplain_squares.Goals as goal
 
 pub returns-clause-plain : goal.returns-clause-plain

@@ -1,5 +1,4 @@
-use Rattle.chess_rules.proofs.Basics.{arith, rules}
-use Rattle.chess_mates.proofs.Chess.{place_of, place_of_triple}
+use Rattle.chess_mates.proofs.Chess.{arith, place_of, place_of_triple, rules}
 use Rattle.chess_mates.proofs.Mating.{legal_of_mate, mates_behind-none, mates_numbered}
 use Rattle.chess_mates.proofs.MatesBetween.{next_mate_numbered, next_mates}
 use Rattle.chess_mates.proofs.mating_moves.MatingMoves.next.Goals as goal

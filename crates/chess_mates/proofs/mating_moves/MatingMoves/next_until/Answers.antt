@@ -1,5 +1,4 @@
-use Rattle.chess_rules.proofs.Basics.{arith, rules}
-use Rattle.chess_mates.proofs.Chess.{place_of_triple}
+use Rattle.chess_mates.proofs.Chess.{arith, place_of_triple, rules}
 use Rattle.chess_mates.proofs.Mating.{legal_of_mate}
 use Rattle.chess_mates.proofs.MatesBetween.{until-mate, until_mates}
 use Rattle.chess_mates.proofs.mating_moves.MatingMoves.next_until.Goals as goal

@@ -1,4 +1,4 @@
-use Rattle.chess_rules.proofs.Basics.{rules}
+use Rattle.chess_mates.proofs.Chess.{rules}
 use Rattle.chess_mates.proofs.CalmSteps.{seen_from}
 use Rattle.chess_mates.proofs.quiet_steps.QuietSteps.follow.Goals as goal
 

@@ -1,4 +1,4 @@
-use Rattle.chess_rules.proofs.Basics.{rules}
+use Rattle.chess_mates.proofs.Chess.{rules}
 use Rattle.chess_mates.proofs.threats.Threats.of.Goals as goal
 
 pub invariant_of-result : goal.invariant_of-result

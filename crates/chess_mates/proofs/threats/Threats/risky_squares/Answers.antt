@@ -1,7 +1,5 @@
-use Rattle.chess_rules.proofs.Basics.{Some, ap, arith, sym, ◌<◌, ◌∙◌, ◌≡◌}
-use Rattle.chess_mates.proofs.Chess.{is_pseudo_legal-from_legal, maker, man_on}
+use Rattle.chess_mates.proofs.Chess.{Some, ToldThreats, ap, arith, is_pseudo_legal-from_legal, maker, man_on, sym, ◌<◌, ◌∙◌, ◌≡◌}
 use Rattle.chess_mates.proofs.Ways.{moves_are_risky, steps_are_risky, unkept_are_risky}
-use Rattle.chess_mates.specs.ties.Threats.{ToldThreats}
 use Rattle.chess_mates.proofs.threats.Threats.risky_squares.Goals as goal
 
 pub returns-in_default-clause-risky : goal.returns-in_default-clause-risky
