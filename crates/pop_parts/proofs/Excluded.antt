@@ -1,22 +1,9 @@
 -- What the clauses of a list and of parts exclude: text of parts that are refused, a failed sink told as another end or another end as a failed sink,
 -- words used behind the item that is asked for, parts that are numbered from 0, and solutions in a part with whose moves they don't begin.
-use Rattle.std.proofs.Common.{Bool, List, None, Option, Some, [], arith, codes, false, refl, true, ℕ, ◌≡◌, ◌≢◌, ◌≤◌}
-use Rattle.pop_text.specs.Bytes.{Appends}
-use Rattle.pop_text.specs.Words.{Input, Word}
-use Rattle.pop_input.specs.Blocks.{Entry, Faulty, Sound}
-use Rattle.std.specs.List.{list_any}
+use Rattle.pop_parts.proofs.Words.{Appends, Bool, Entry, Faulty, Input, List, Lists, Move, None, Option, Phase, Posed, ReadsItems, RuleSet, Shows, Some, Sound, Word, [], ap, arith, begins_path, begins_so, closings, codes, entries_in, entry_numbered, eqb, false, list_any, outcome_at, part_numbered, parts, refl, slice_get, status_of, tells_failure, text_at, text_in, true, ℕ, ◌∷◌, ◌≡◌, ◌≢◌, ◌≤◌}
 unfoldable use Rattle.pop_input.specs.Names.{command_of}
-use Rattle.pop_run.specs.Report.{entries_in, tells_failure}
-unfoldable use Rattle.pop_run.specs.Report.{status_of}
-use Rattle.pop_run.specs.Run.{closings}
 use Rattle.pop_run.specs.declared.status.Status.TheVariants.{OutputFailed as ListCut}
-use Rattle.pop_solve.proofs.Words.{Move, Posed, RuleSet, ap, eqb, slice_get, ◌∷◌}
-use Rattle.pop_events.specs.declared.event.Phase.{Phase}
 use Rattle.chess_core.specs.MoveOrder.{order_number}
-use Rattle.pop_parts.specs.PhaseParts.{begins_path, begins_so, part_numbered, parts}
-use Rattle.pop_parts.specs.Parts.{entry_numbered, outcome_at, text_at}
-unfoldable use Rattle.pop_parts.specs.Parts.{text_in}
-use Rattle.pop_parts.specs.Runs.{Lists, ReadsItems, Shows}
 use Rattle.pop_parts.specs.declared.asked.Asked.{Asked}
 use Rattle.pop_parts.specs.declared.asked.Outcome.{Outcome}
 use Rattle.pop_parts.specs.declared.asked.Outcome.TheVariants.{OutputFailed, Shown}

@@ -1,3 +1,4 @@
+pub mod Words
 pub mod Seeking
 pub mod PartNumbers
 pub mod PartEvents

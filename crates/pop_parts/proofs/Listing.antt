@@ -1,27 +1,10 @@
 -- The list of an input, line by line.
-use Rattle.std.proofs.Common.{IfSome, List, None, Option, Some, [], ap, append_assoc, arith, false, length, length-append, not, refl, sym, true, ℕ, ◌++◌, ◌+◌, ◌∙◌, ◌∷◌, ◌≡◌}
-use Rattle.std.proofs.lemmas.List.{append-nil}
-use Rattle.std.specs.Prelude.{is_some}
+use Rattle.pop_parts.proofs.Words.{Appends, Begins, Entry, IfSome, IsSeen, Item, List, Lists, NextItem, None, Open, Option, Reached, Reads, Some, Standing, Stopped, UsesItem, [], ap, append-nil, append_assoc, arith, entry_in, failures_after, false, first_standing, grew_broken, has_grown, input_met, is_faulty, is_item, is_some, item_reached, item_stops, length, length-append, lines_from, not, parts_line, parts_line_if, reached_start, reads_then, refl, status_after, status_more, status_of, stopped_last, sym, tells_failure, true, ℕ, ◌++◌, ◌+◌, ◌∙◌, ◌∷◌, ◌≡◌}
 use Rattle.pop_text.proofs.Appending.{appends_none, appends_then, begins_later, begins_longer}
-use Rattle.pop_text.specs.Bytes.{Appends, Begins}
-use Rattle.pop_text.specs.declared.scanner.End.TheVariants.{Open}
-use Rattle.pop_text.specs.ties.Reading.{IsSeen, failures_after}
-use Rattle.pop_input.specs.Blocks.{Entry}
-use Rattle.pop_input.specs.declared.item.Item.{Item}
-use Rattle.pop_input.specs.ties.Standing.{NextItem, Reads, Standing, first_standing, is_item}
-use Rattle.pop_input.specs.ties.Used.{UsesItem}
-use Rattle.pop_run.proofs.Reached.{Reached, Stopped, item_reached, item_stops, reached_start, stopped_last}
-use Rattle.pop_run.proofs.Running.{grew_broken, reads_then, status_more}
-use Rattle.pop_run.specs.Report.{is_faulty, tells_failure}
-unfoldable use Rattle.pop_run.specs.Report.{status_of}
-use Rattle.pop_run.specs.Run.{has_grown, input_met}
 use Rattle.pop_run.specs.declared.status.Status.{Status}
 use Rattle.pop_run.specs.declared.status.Status.TheVariants.{OutputFailed, Sound}
 use Rattle.pop_run.specs.ties.Sessions.{status_with}
 use Rattle.pop_parts.proofs.Reading.{all_met, failure_is_told, item_read, items_met, kept_is_told, last_read, took}
-use Rattle.pop_parts.specs.Parts.{parts_line, lines_from}
-use Rattle.pop_parts.specs.Runs.{Lists}
-use Rattle.pop_parts.specs.ties.Items.{entry_in, parts_line_if, status_after}
 
 -- From the beginning to now these items were read, and their lines were written.
 pub record Listed (depth : ℕ) (now : Standing) (number : ℕ) (so_far : Status) (had left before taken : Option (List ℕ)) : Type 0 where

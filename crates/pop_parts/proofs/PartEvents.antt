@@ -1,17 +1,11 @@
 -- What a search of one part gives at a call, and what it opens.
-use Rattle.pop_solve.proofs.Words.{BareEvent, Bool, Frame, Gives, IsEnded, IsSound, IsWalking, List, Move, Opens, Posed, Position, RuleSet, StandsOn, Walks, [], arith, beginning_count, begins_solution, cond, eqb, event_of, false, is_help, kept_paths, length, length-reverse, nat_tests, path, path_event, phase_half_moves, phase_paths, phase_start, plan_of, refl, reverse, rules, to_open, true, ℕ, ◌+◌, ◌-◌, ◌<◌, ◌||◌, ◌∷◌, ◌≡◌, ◌≤◌}
+use Rattle.pop_parts.proofs.Words.{BareEvent, Bool, Frame, Gives, IsEnded, IsPartOpened, IsSound, IsWalking, List, Move, Opens, Phase, Posed, Position, RuleSet, StandsInPart, StandsOn, Walks, [], arith, beginning_count, beginning_count-next, begins_solution, cond, eqb, event_of, events_left, false, help-play, in_range, is_help, keep-next, kept_paths, length, length-reverse, nat_tests, part_left, part_paths, path, path-length, path_end-path, path_event, phase_half_moves, phase_paths, phase_start, plan_of, refl, reverse, rules, to_open, true, ℕ, ◌+◌, ◌-◌, ◌<◌, ◌||◌, ◌∷◌, ◌≡◌, ◌≤◌}
 use Rattle.pop_events.specs.declared.event.Event.{Event}
 use Rattle.pop_events.specs.declared.event.Event.TheVariants.{Total}
-use Rattle.pop_events.specs.declared.event.Phase.{Phase}
 use Rattle.pop_parts.specs.declared.part_search.PartStage.{PartStage}
 use Rattle.pop_parts.specs.declared.part_search.PartStage.TheVariants.{Behind, First, Within}
-use Rattle.pop_parts.specs.ties.PartStages.{IsPartOpened, events_left}
-unfoldable use Rattle.pop_parts.specs.ties.PartStages.{StandsInPart, part_left, part_paths}
 use Rattle.pop_parts.specs.ties.PartsSeen.{is_part_stopped}
 use Rattle.pop_solve.proofs.Events.{room-length}
-use Rattle.pop_solve.proofs.Kept.{keep-next, beginning_count-next}
-use Rattle.pop_solve.proofs.Paths.{path-length, path_end-path}
-use Rattle.pop_solve.proofs.Sound.{help-play, in_range}
 
 module _ (rule : RuleSet) (problem : Posed) (phase : Phase) where
   abbrev help : Bool

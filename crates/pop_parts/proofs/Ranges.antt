@@ -1,16 +1,5 @@
 -- Parts one behind another.
-use Rattle.std.proofs.Common.{List, Option, Some, [], ap, arith, drop, length, refl, take, ℕ, ◌+◌, ◌-◌, ◌<◌, ◌∙◌, ◌∷◌, ◌≡◌, ◌≤◌}
-use Rattle.std.proofs.lemmas.List.{length-drop}
-use Rattle.std.specs.List.{flat_map}
-use Rattle.std.specs.Prelude.{slice_get, suc, zero}
-use Rattle.chess_rules.specs.RuleSet.{RuleSet}
-use Rattle.chess_core.specs.declared.man.Move.{Move}
-use Rattle.pop_text.specs.Bytes.{Appends, Begins}
-use Rattle.pop_input.specs.Posed.{Posed}
-use Rattle.pop_run.proofs.Findings.{IsPrinting, printing_breaks_off, printing_goes_on}
-use Rattle.pop_events.specs.declared.event.Phase.{Phase}
-use Rattle.pop_parts.specs.Parts.{part_text}
-use Rattle.pop_parts.specs.ties.Items.{text_if}
+use Rattle.pop_parts.proofs.Words.{Appends, Begins, IsPrinting, List, Move, Option, Phase, Posed, RuleSet, Some, [], ap, arith, drop, flat_map, length, length-drop, part_text, printing_breaks_off, printing_goes_on, refl, slice_get, suc, take, text_if, zero, ℕ, ◌+◌, ◌-◌, ◌<◌, ◌∙◌, ◌∷◌, ◌≡◌, ◌≤◌}
 
 -- what stands behind a place begins with what stands there
 first_behind : {A : Type 0} (xs : List A) (n : ℕ) → n < length xs → (x : A) × (slice_get xs n ≡ Some x) × (drop n xs ≡ x ∷ drop (n + 1) xs)

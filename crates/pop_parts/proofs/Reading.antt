@@ -1,25 +1,10 @@
 -- What was read of an input, item by item.
-use Rattle.std.proofs.Common.{IfSome, List, None, Option, Some, [], ap, arith, false, length, refl, sym, true, ℕ, ◌++◌, ◌+◌, ◌∙◌, ◌∷◌, ◌≡◌, ◌≤◌}
-use Rattle.std.proofs.lemmas.List.{append-nil}
-use Rattle.pop_text.specs.Words.{Input}
-unfoldable use Rattle.pop_text.specs.Words.{limit}
-use Rattle.pop_text.specs.declared.scanner.End.TheVariants.{Open}
-use Rattle.pop_text.specs.ties.Reading.{IsSeen, failures_after}
+use Rattle.pop_parts.proofs.Words.{Entry, FaultyEntry, IfSome, Input, IsSeen, Item, List, NextItem, None, Open, Option, Reads, ReadsItems, ReadsUpTo, Some, SoundEntry, Standing, Stopped, UsesEntry, UsesItem, [], all_to_come, ap, append-nil, arith, closings, entries_in, entries_left, entry_in, failures_after, false, first_standing, grew_broken, grew_more, grew_same, has_grown, input_met, length, limit, reads_then, refl, still_more, stopped_reads, stopped_reads_words, sym, taken_of, true, ℕ, ◌++◌, ◌+◌, ◌∙◌, ◌∷◌, ◌≡◌, ◌≤◌}
 use Rattle.pop_input.proofs.Taking.{some_rest}
-use Rattle.pop_input.specs.Blocks.{Entry, Sound as SoundEntry, Faulty as FaultyEntry}
-use Rattle.pop_input.specs.declared.item.Item.{Item}
 use Rattle.pop_input.specs.declared.item.Item.TheVariants.{Sound, Faulty, End as NoItem}
 use Rattle.pop_input.specs.declared.reader.Next.TheVariants.{Nothing}
-use Rattle.pop_input.specs.ties.Standing.{NextItem, Reads, Standing, entries_left, first_standing}
-use Rattle.pop_input.specs.ties.Used.{UsesEntry, UsesItem}
 use Rattle.pop_run.proofs.Meeting.{is_broken, met_after}
-use Rattle.pop_run.proofs.Reached.{Stopped, still_more, stopped_reads, stopped_reads_words}
-use Rattle.pop_run.proofs.Running.{all_to_come, grew_broken, grew_more, grew_same, reads_then}
-use Rattle.pop_run.specs.Report.{entries_in}
-use Rattle.pop_run.specs.Run.{ReadsUpTo, closings, has_grown, input_met, taken_of}
 use Rattle.pop_run.specs.ties.Sessions.{ends}
-use Rattle.pop_parts.specs.Runs.{ReadsItems}
-use Rattle.pop_parts.specs.ties.Items.{entry_in}
 
 -- an item that is one was read
 pub item_read : (old new : Standing) (had left : Option (List ℕ)) (item : Item) (entry : Entry) → NextItem old new had left item

@@ -1,28 +1,12 @@
 -- The parts that are asked for, in the input that was met.
-use Rattle.std.proofs.Common.{Bool, IfSome, List, None, Option, Some, [], ap, arith, false, length, length-append, refl, sym, ℕ, ◌++◌, ◌+◌, ◌-◌, ◌<◌, ◌||◌, ◌∙◌, ◌∷◌, ◌≡◌, ◌≢◌, ◌≤◌}
+use Rattle.pop_parts.proofs.Words.{Appends, Begins, Bool, Entry, Faulty, IfSome, IsSeen, Item, List, NextItem, None, Open, Option, Reached, Reads, ReadsItems, Shows, Some, Sound, Standing, UsesItem, [], any_more, ap, arith, closings, entries_in, entry_in, entry_numbered, failures_after, false, first_standing, grew_broken, has_grown, input_met, is_failure, item_reached, item_stops, last_few, length, length-append, list_any, outcome_at, reached_few, reached_start, reads_then, refl, slice_get, start_few, stopped_last, stops_few, sym, taken_of, tells_failure, text_at, ℕ, ◌++◌, ◌+◌, ◌-◌, ◌<◌, ◌||◌, ◌∙◌, ◌∷◌, ◌≡◌, ◌≢◌, ◌≤◌}
 use Rattle.std.proofs.lemmas.Option.{slice_get_past}
-use Rattle.std.specs.List.{list_any}
-use Rattle.std.specs.Prelude.{slice_get}
-use Rattle.pop_text.specs.Bytes.{Appends, Begins}
 use Rattle.pop_text.proofs.Appending.{appends_none}
-use Rattle.pop_text.specs.declared.scanner.End.TheVariants.{Open}
-use Rattle.pop_text.specs.ties.Reading.{IsSeen, failures_after}
-use Rattle.pop_input.specs.Blocks.{Entry, Sound, Faulty}
-use Rattle.pop_input.specs.declared.item.Item.{Item}
-use Rattle.pop_input.specs.ties.Standing.{NextItem, Reads, Standing, first_standing}
-use Rattle.pop_input.specs.ties.Used.{UsesItem}
 use Rattle.pop_run.proofs.Meeting.{is_broken}
-use Rattle.pop_run.proofs.Reached.{Reached, item_reached, item_stops, last_few, reached_few, reached_start, start_few, stopped_last, stops_few}
-use Rattle.pop_run.proofs.Running.{any_more, grew_broken, reads_then}
-use Rattle.pop_run.specs.Report.{entries_in, tells_failure}
-use Rattle.pop_run.specs.Run.{closings, has_grown, input_met, taken_of}
 use Rattle.pop_parts.proofs.Reading.{all_met, failure_is_told, item_read, items_met, kept_is_told, last_read, reads_items, took}
-use Rattle.pop_parts.specs.Parts.{entry_numbered, outcome_at, text_at}
-use Rattle.pop_parts.specs.Runs.{ReadsItems, Shows}
 use Rattle.pop_parts.specs.declared.asked.Asked.{Asked}
 use Rattle.pop_parts.specs.declared.asked.Outcome.{Outcome}
 use Rattle.pop_parts.specs.declared.asked.Outcome.TheVariants.{OutputFailed}
-use Rattle.pop_parts.specs.ties.Items.{entry_in, is_failure}
 
 -- From the beginning to now these items were read, none of which is the one with the number, and some of which tell of a failed device or not.
 pub record Passed (wanted : ℕ) (now : Standing) (number : ℕ) (failed : Bool) (had left : Option (List ℕ)) : Type 0 where

@@ -1,16 +1,11 @@
 -- The parts of a phase, by the moves with which its solutions begin: joined they are the phase, and no solution stands in two of them.
-use Rattle.pop_solve.proofs.Words.{AllPairs, Contains, IsSound, List, Move, Posed, Precedes, RuleSet, ap, arith, false, flat_map, is_barred, length, length-take, min, pairs_weaker, phase_count, phase_half_moves, phase_start, refl, solutions, sum_by, sym, take, ℕ, ◌↔◌, ◌∙◌, ◌≡◌, ◌≢◌, ◌≤◌}
-use Rattle.pop_events.specs.declared.event.Phase.{Phase}
+use Rattle.pop_parts.proofs.Words.{AllPairs, Contains, IsSound, List, Move, Phase, Posed, Precedes, RuleSet, StandsBefore, ap, arith, begins_so, count_by, false, flat_map, is_barred, length, length-take, min, never_before_itself, pairs_weaker, part_count, part_depth, part_solutions, parts, phase_count, phase_half_moves, phase_start, refl, solutions, start_sound, sum_by, sym, take, ℕ, ◌↔◌, ◌∙◌, ◌≡◌, ◌≢◌, ◌≤◌}
 use Rattle.std.proofs.lemmas.List.Concat.{length-flat_map}
 use Rattle.std.proofs.lemmas.List.Sums.{length-filter}
-use Rattle.std.specs.List.{count_by}
 use Rattle.pop_parts.proofs.PartLists.{first-of-firsts}
 use Rattle.pop_parts.proofs.PartsJoined.{joined, once, parts-are, parts-stand}
 use Rattle.pop_solve.proofs.PhasePaths.{never_itself}
-use Rattle.pop_solve.proofs.Sound.{start_sound}
 use Rattle.pop_solve.proofs.theorems.HelpLines.{IsLegalLine, playable_is_legal}
-use Rattle.pop_solve.proofs.theorems.Lists.{StandsBefore, never_before_itself}
-use Rattle.pop_parts.specs.PhaseParts.{begins_so, part_count, part_depth, part_solutions, parts}
 
 module _ (rule : RuleSet) (problem : Posed) (phase : Phase) (depth : ℕ) where
   -- The parts of a phase stand in lexicographic order of the moves.

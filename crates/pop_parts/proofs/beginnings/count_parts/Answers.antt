@@ -1,4 +1,4 @@
-use Rattle.pop_solve.proofs.Words.{arith, rules}
+use Rattle.pop_parts.proofs.Words.{arith, rules}
 use Rattle.pop_parts.proofs.PartNumbers as numbers
 use Rattle.pop_parts.proofs.beginnings.count_parts.Goals as goal
 

@@ -1,4 +1,4 @@
-use Rattle.pop_solve.proofs.Words.{nat_tests, nil_from_length, rules}
+use Rattle.pop_parts.proofs.Words.{nat_tests, nil_from_length, rules}
 use Rattle.pop_parts.specs.ties.Beginnings.{beginnings_to_come}
 use Rattle.pop_parts.proofs.beginnings.count_to_come.Goals as goal
 

@@ -1,4 +1,4 @@
-use Rattle.pop_solve.proofs.Words.{phase_half_moves, phase_start, reverse, walk_work}
+use Rattle.pop_parts.proofs.Words.{phase_half_moves, phase_start, reverse, walk_work}
 use Rattle.pop_parts.proofs.Seeking.{CountsOn}
 use Rattle.pop_parts.proofs.beginnings.count_to_come.Given as goal
 

@@ -1,4 +1,4 @@
-use Rattle.pop_solve.proofs.Words.{Frame, ap, is_pseudo_legal-from_legal, rules, ◌≡◌}
+use Rattle.pop_parts.proofs.Words.{Frame, ap, is_pseudo_legal-from_legal, rules, ◌≡◌}
 use Rattle.pop_parts.proofs.Seeking as seeking
 use Rattle.pop_parts.proofs.beginnings.seek.Goals as goal
 

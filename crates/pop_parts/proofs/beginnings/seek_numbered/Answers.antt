@@ -1,4 +1,4 @@
-use Rattle.pop_solve.proofs.Words.{arith, nat_tests, rules}
+use Rattle.pop_parts.proofs.Words.{arith, nat_tests, rules}
 use Rattle.pop_parts.proofs.Seeking as seeking
 use Rattle.pop_parts.proofs.beginnings.seek_numbered.Goals as goal
 

@@ -1,4 +1,4 @@
-use Rattle.pop_solve.proofs.Words.{phase_half_moves, phase_start, reverse, walk_work}
+use Rattle.pop_parts.proofs.Words.{phase_half_moves, phase_start, reverse, walk_work}
 use Rattle.pop_parts.proofs.Seeking.{SeeksNumbered}
 use Rattle.pop_parts.proofs.beginnings.seek_numbered.Given as goal
 

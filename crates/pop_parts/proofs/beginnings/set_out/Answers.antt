@@ -1,6 +1,5 @@
-use Rattle.pop_solve.proofs.Words.{phase_start, refl, rules, ◌≡◌}
+use Rattle.pop_parts.proofs.Words.{phase_start, refl, rules, start_sound, ◌≡◌}
 use Rattle.pop_parts.proofs.Seeking as seeking
-use Rattle.pop_solve.proofs.Sound.{start_sound}
 use Rattle.pop_solve.proofs.Walking as walking
 use Rattle.pop_parts.proofs.beginnings.set_out.Goals as goal
 

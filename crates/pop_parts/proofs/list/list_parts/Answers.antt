@@ -1,9 +1,7 @@
-use Rattle.std.proofs.Common.{None, arith, inl, refl, sym, ◌∙◌, ◌≡◌}
-unfoldable use Rattle.pop_text.specs.Words.{limit}
+use Rattle.pop_parts.proofs.Words.{None, arith, entry_in, inl, limit, refl, sym, ◌∙◌, ◌≡◌}
 use Rattle.pop_text.proofs.Using.{failures_then}
 use Rattle.pop_parts.proofs.Listing.{cut_stopped, ends_stopped, entry_there, item_there, list_cut, list_ends, listed_start, listed_step, none_there}
 use Rattle.pop_parts.proofs.Reading.{reads_as_a_run}
-use Rattle.pop_parts.specs.ties.Items.{entry_in}
 use Rattle.pop_parts.proofs.list.list_parts.Goals as goal
 
 pub items-init : goal.items-init

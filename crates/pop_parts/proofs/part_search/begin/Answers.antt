@@ -1,4 +1,4 @@
-use Rattle.pop_solve.proofs.Words.{false, refl, rules, true, ◌∙◌}
+use Rattle.pop_parts.proofs.Words.{false, refl, rules, true, ◌∙◌}
 use Rattle.pop_parts.proofs.PartBegins as part
 use Rattle.pop_parts.proofs.part_search.begin.Goals as goal
 

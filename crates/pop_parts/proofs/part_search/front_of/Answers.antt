@@ -1,4 +1,4 @@
-use Rattle.pop_solve.proofs.Words.{rules}
+use Rattle.pop_parts.proofs.Words.{rules}
 use Rattle.pop_parts.proofs.PartBegins as part
 use Rattle.pop_parts.proofs.part_search.front_of.Goals as goal
 

@@ -1,4 +1,4 @@
-use Rattle.pop_solve.proofs.Words.{array_vec_len, length, path, reverse, take, ◌+◌, ◌-◌, ◌≡◌, ◌≤◌}
+use Rattle.pop_parts.proofs.Words.{array_vec_len, length, path, reverse, take, ◌+◌, ◌-◌, ◌≡◌, ◌≤◌}
 use Rattle.pop_parts.proofs.part_search.front_of.Given as goal
 
 abbrev pub invariant-loop-k : goal.invariant-loop-k

@@ -1,4 +1,4 @@
-use Rattle.pop_solve.proofs.Words.{rules}
+use Rattle.pop_parts.proofs.Words.{rules}
 use Rattle.pop_parts.proofs.PartEvents as events
 use Rattle.pop_parts.proofs.part_search.give_first.Goals as goal
 

@@ -1,8 +1,6 @@
-use Rattle.pop_solve.proofs.Words.{refl, rules}
+use Rattle.pop_parts.proofs.Words.{StandsInPart, help-play, helps-form, refl, rules}
 use Rattle.pop_solve.proofs.Events.{half_moves-fit}
-use Rattle.pop_solve.proofs.Sound.{help-play, helps-form}
 use Rattle.pop_parts.proofs.PartEvents as events
-use Rattle.pop_parts.specs.ties.PartStages.{StandsInPart}
 use Rattle.pop_parts.proofs.part_search.go_on_in_part.Goals as goal
 
 pub walk_on-requires : goal.walk_on-requires

@@ -1,6 +1,4 @@
-use Rattle.pop_solve.proofs.Paths.{cut-at}
-use Rattle.pop_solve.proofs.Words.{arith, length, refl, sym, ◌+◌, ◌<◌, ◌∙◌}
-use Rattle.std.proofs.lemmas.List.{take_all}
+use Rattle.pop_parts.proofs.Words.{arith, cut-at, length, refl, sym, take_all, ◌+◌, ◌<◌, ◌∙◌}
 use Rattle.pop_parts.proofs.parts_left.copied.Goals as goal
 
 pub new-copy-requires : goal.new-copy-requires

@@ -1,4 +1,4 @@
-use Rattle.pop_solve.proofs.Words.{array_vec_len, length, take, ◌-◌, ◌≡◌, ◌≤◌}
+use Rattle.pop_parts.proofs.Words.{array_vec_len, length, take, ◌-◌, ◌≡◌, ◌≤◌}
 use Rattle.pop_parts.proofs.parts_left.copied.Given as goal
 
 abbrev pub invariant-loop-k : goal.invariant-loop-k

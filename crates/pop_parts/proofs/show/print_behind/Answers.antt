@@ -1,4 +1,4 @@
-use Rattle.std.proofs.Common.{arith, rules, ◌∙◌, ◌<◌}
+use Rattle.pop_parts.proofs.Words.{arith, rules, ◌<◌, ◌∙◌}
 use Rattle.std.proofs.lemmas.Result.{err_from_is_err_and}
 use Rattle.pop_parts.proofs.Ranges.{parts_behind, parts_break_off, parts_go_on}
 use Rattle.pop_parts.proofs.show.print_behind.Goals as goal

@@ -1,6 +1,4 @@
-use Rattle.std.proofs.Common.{drop, length, take, ◌+◌, ◌-◌, ◌≡◌, ◌≤◌}
-use Rattle.pop_run.proofs.Findings.{IsPrinting}
-use Rattle.pop_parts.specs.Parts.{part_text}
+use Rattle.pop_parts.proofs.Words.{IsPrinting, drop, length, part_text, take, ◌+◌, ◌-◌, ◌≡◌, ◌≤◌}
 use Rattle.pop_parts.proofs.show.print_behind.Given as goal
 
 -- the parts so far are printed, and the last ones are still to come

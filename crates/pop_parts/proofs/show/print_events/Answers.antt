@@ -1,8 +1,6 @@
-use Rattle.std.proofs.Common.{sym, ◌∙◌}
+use Rattle.pop_parts.proofs.Words.{event_of, first_shown, printing_breaks_off, printing_goes_on, sym, ◌∙◌}
 use Rattle.std.proofs.lemmas.Result.{err_from_is_err_and}
 use Rattle.pop_print.specs.Events.{event_text}
-use Rattle.pop_run.proofs.Findings.{first_shown, printing_breaks_off, printing_goes_on}
-use Rattle.pop_solve.specs.Events.{event_of}
 use Rattle.pop_parts.proofs.show.print_events.Goals as goal
 
 pub events-preserved : goal.events-preserved

@@ -1,7 +1,5 @@
-use Rattle.std.proofs.Common.{length, map, ◌≡◌}
+use Rattle.pop_parts.proofs.Words.{IsPrinting, event_of, length, map, ◌≡◌}
 use Rattle.pop_print.specs.Events.{event_text}
-use Rattle.pop_run.proofs.Findings.{IsPrinting}
-use Rattle.pop_solve.specs.Events.{event_of}
 use Rattle.pop_parts.proofs.show.print_events.Given as goal
 
 -- the events so far are printed, and the search has the others still to give

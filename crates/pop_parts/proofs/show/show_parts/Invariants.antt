@@ -1,7 +1,4 @@
-use Rattle.std.proofs.Common.{◌+◌, ◌^◌, ◌≡◌, ◌≤◌}
-use Rattle.pop_text.specs.declared.scanner.End.TheVariants.{Open}
-use Rattle.pop_text.specs.ties.Reading.{IsSeen, failures_after}
-use Rattle.pop_input.specs.ties.Standing.{work_left}
+use Rattle.pop_parts.proofs.Words.{IsSeen, Open, failures_after, work_left, ◌+◌, ◌^◌, ◌≡◌, ◌≤◌}
 use Rattle.pop_parts.proofs.Showing.{Passed}
 use Rattle.pop_parts.proofs.show.show_parts.Given as goal
 

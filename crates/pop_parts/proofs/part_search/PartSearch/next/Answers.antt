@@ -1,5 +1,4 @@
-use Rattle.pop_solve.proofs.Words.{rules}
-use Rattle.pop_parts.specs.ties.PartStages.{StandsInPart, part_left}
+use Rattle.pop_parts.proofs.Words.{StandsInPart, part_left, rules}
 use Rattle.pop_parts.proofs.part_search.PartSearch.next.Goals as goal
 
 pub invariant_of-self-in-Within : goal.invariant_of-self-in-Within

@@ -1,4 +1,4 @@
-use Rattle.pop_solve.proofs.Words.{arith, refl}
+use Rattle.pop_parts.proofs.Words.{arith, refl}
 use Rattle.pop_parts.proofs.PartNumbers as numbers
 use Rattle.pop_parts.proofs.parts_left.PartsLeft.of.Goals as goal
 

@@ -1,4 +1,4 @@
-use Rattle.pop_solve.proofs.Words.{arith}
+use Rattle.pop_parts.proofs.Words.{arith}
 use Rattle.pop_parts.proofs.PartNumbers as numbers
 use Rattle.pop_parts.proofs.parts_left.PartsLeft.search.Goals as goal
 
