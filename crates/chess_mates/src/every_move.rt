@@ -28,6 +28,7 @@ use chess_rules::words::{contains, next_bit};
 
 /// Whether the side to move has a legal move and each of its legal moves mates: one that can't give check
 /// says no without being played. The board is unchanged.
+#[tactic(auto, using(crate::proofs::EveryMove::quietly))]
 pub fn every_move_mates<R: Rules>(board: &mut Board) -> bool
     requires { IsWellFormed board.old }
     ensures answer { result ≡ (not (is_nil (moves R.rule board.old))
@@ -59,6 +60,7 @@ fn step_squares<R: Rules>(board: &Board, king: Square) -> Squares
 }
 
 // Whether no enemy reaches the king once he has stepped from `from` to `to`.
+#[tactic(auto, using(crate::proofs::EveryMove::quietly))]
 fn is_unreached(board: &Board, king: Man, from: Square, to: Square) -> bool
     ensures { result ≡ true → IsUnreached board.now king from to }
 {

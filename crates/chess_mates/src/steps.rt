@@ -76,6 +76,7 @@ fn risky_step<R: Rules>(siege: &Siege, guarded: Squares, to: Square) -> Squares
 }
 
 // Those of the squares to which he mustn't step.
+#[tactic(auto, using(crate::proofs::HoldBelow::hold_none, crate::proofs::HoldBelow::hold_all))]
 fn risky_among<R: Rules>(siege: &Siege, steps: Squares) -> Squares
     ensures { (t : ℕ) → t < 64 → (bit_at steps t == 1) ≡ true → (bit_at result t == 1) ≡ false
         → IsSparedStep R.rule siege.now t }

@@ -74,6 +74,7 @@ fn altering_squares(board: &Board, man: Man, from: Square) -> Squares
 }
 
 // The squares for which nothing is told of the man on `from`: in Circe captures and promotions too.
+#[tactic(auto, using(chess_rules::proofs::Bits::off_left, chess_rules::proofs::Bits::off_right))]
 fn unplain_squares<R: Rules>(board: &Board, man: Man, from: Square) -> Squares
     ensures plain { ArePlain board.now man from result }
     ensures mere { captures_do_more R.rule ≡ true → AreMere board.now man from result }
@@ -93,6 +94,7 @@ fn can_be_told<R: Rules>() -> bool
 }
 
 // Those of the squares that are needed; where captures do more all.
+#[tactic(auto, using(chess_rules::proofs::listing_moves::Walks::off_second))]
 fn unkept_squares<R: Rules>(needed: Squares, squares: Squares) -> Squares
     ensures { (t : ℕ) → t < 64 → (bit_at squares t == 1) ≡ true → (bit_at result t == 1) ≡ false
         → (captures_do_more R.rule ≡ false) × ((bit_at needed t == 1) ≡ false) }

@@ -1,25 +1,10 @@
-use Rattle.chess_rules.proofs.Basics.{arith, eq-eqb, false≢true, inl, inr, refl, sym, true, ◌==◌, ◌∙◌, ◌≡◌}
-use Rattle.std.specs.Int.{bit_at}
-use Rattle.std.specs.Prelude.{Some}
-use Rattle.chess_mates.proofs.Chess.{is_square}
+use Rattle.chess_rules.proofs.Basics.{arith, eq-eqb}
 use Rattle.chess_rules.proofs.Bits.{word_has}
 use Rattle.chess_rules.proofs.listing_moves.Walks.{off_second}
 use Rattle.chess_mates.proofs.steps.risky_step.Goals as goal
 
-pub returns-then-keeps_flight_at : goal.returns-then-keeps_flight_at
-returns-then-keeps_flight_at g c = λ off. inr (c.keeps_flight_at.ensures c.if-keeps_flight_at.true)
-
 pub returns-then-contains : goal.returns-then-contains
-returns-then-contains g c = λ off. absurd (false≢true (sym off ∙ word_has (λ t. is_square (Some c.args.to) t) c.only-step.result c.args.to c.only-step.ensures
-    (omega (arith, c.index-small.ensures.value, c.index-small.ensures.small)) ∙ eq-eqb c.args.to c.args.to refl))
+returns-then-contains g c = grind (arith, word_has, eq-eqb)
 
 pub returns : goal.returns
-returns g c = λ off.
-    let here : (bit_at c.only-step.result c.args.to == 1) ≡ true = word_has (λ t. is_square (Some c.args.to) t) c.only-step.result c.args.to c.only-step.ensures
-    (omega (arith, c.index-small.ensures.value, c.index-small.ensures.small)) ∙ eq-eqb c.args.to c.args.to refl in
-    inl (record {
-      free = sym c.contains.ensures ∙ c.if-contains.false;
-      risk = c.risk_at.result;
-      at = c.risk_at.ensures;
-      off = off_second c.only-step.result c.risk_at.result.critical c.args.to off here;
-    })
+returns g c = grind (arith, word_has, eq-eqb, off_second)
