@@ -1,7 +1,7 @@
 -- After a move a legal step of the enemy king that gives no check: not every reply mates.
 use Rattle.chess_rules.proofs.Basics.{Bool, List, Option, Some, and_left, and_right, ap, arith, bit_and, bit_not, cases_Bool, cases_eq, eq-eqb, false, inl, inr, is_some, length, list_all, not, not-true, or_parts, refl, rules, sym, true, w64, ℕ, ◌&&◌, ◌<◌, ◌==◌, ◌∙◌, ◌≡◌, ◌≢◌, ◌||◌}
 use Rattle.chess_mates.proofs.Chess.{AreOpen, AreSeen, Colour, IsWellFormed, Kind, King, Man, Move, Position, RuleSet, arriving_man, capture_square, differs, in_check, is_absent, is_attacked, is_attacked_at, is_legal, is_man, is_mating, is_of_colour, is_reached, is_square, king_square, man_on, man_on-with_other, may_check_from, may_check_from_at, moves, occupied_squares, other, position_after, reaches, reaches_as, same_colour, same_kind, same_kind-true, sight_lifted, squares_both, squares_not, squares_of, word}
-use Rattle.chess_mates.proofs.EveryMove.{quiet}
+use Rattle.chess_mates.proofs.Mating.{quiet}
 use Rattle.chess_mates.proofs.Fleeing.{IsKingOn, after_seen, is_made, king_is_other, king_on, king_seen, king_step, no_king_free, no_own_arrives, open_parts, reaches_alike_of, safe_step, simple_step, some_of_colour, is_step, step_taken, step_to, turn_is}
 use Rattle.chess_mates.proofs.KingsApart.{kings_apart}
 use Rattle.chess_mates.proofs.Landing.{StandAlike}

@@ -1,5 +1,5 @@
 -- Loops over the squares of a word.
-use Rattle.chess_rules.proofs.Basics.{None, Some, arith, bit_at, cases_eq, cases_lt, false≢true, find, inl, inr, range_with_len, subst, sym, true, ℕ, ◌+◌, ◌-◌, ◌<◌, ◌==◌, ◌∙◌, ◌≡◌}
+use Rattle.chess_rules.proofs.Basics.{None, Some, arith, bit_at, cases_eq, cases_lt, false≢true, find, inl, inr, range_with_len, sym, true, ℕ, ◌+◌, ◌-◌, ◌<◌, ◌==◌, ◌∙◌, ◌≡◌}
 use Rattle.chess_mates.proofs.Chess.{find_first}
 use Rattle.chess_rules.proofs.Tests.{find_no}
 
@@ -19,10 +19,7 @@ hold_next w P n k h found here =
     record {
       holds = λ s lt on. elim (cases_lt s n) [
         | inl below ↦ h.holds s below on
-        | inr ge ↦ elim (cases_eq s k) [
-          | inl e ↦ subst P (sym e) here
-          | inr ne ↦ absurd (false≢true (sym (first.before s ge (omega arith)) ∙ on))
-        ]
+        | inr ge ↦ let same : s ≡ k = grind (arith, cases_eq s k, first.before s ge) in rw same here
       ];
     }
 

@@ -5,7 +5,6 @@ pub mod Checking
 pub mod Rebirths
 pub mod Mating
 pub mod MatesBetween
-pub mod EveryMove
 pub mod Landing
 pub mod Stepping
 pub mod Fleeing

@@ -1,12 +1,12 @@
 -- No reply mates after a defender's move without risk.
-use Rattle.chess_rules.proofs.Basics.{Bool, List, ◌||◌, None, Option, Some, [], and_from, and_left, and_parts, and_right, ap, arith, bit_at, cases_Bool, cases_eq, eqb-true, false, false_from_ne_true, false≢true, if◌then◌else◌, inl, inr, is_some, list_any, or_parts, refl, subst, sym, true, ℕ, ◌-◌, ◌<◌, ◌==◌, ◌∙◌, ◌≡◌, ◌≢◌, ◌⊎◌}
-use Rattle.chess_mates.proofs.Chess.{AreSifted, Colour, IsCastle, IsMade, IsReborn, IsWellFormed, Kind, King, Man, Move, Nightrider, Pawn, Position, RuleSet, after_well_formed, all_triples, allows_mate, arrival_needed, arrived, arrived_other, arriving_colour, arriving_king, arriving_man, capture_of_piece, capture_square, captured_enemy, captured_man, captures_are_reborn, captures_do_more, castle_of, corner, false_by, file_of, halfway, has_flight, has_unmoved, in_check, is_absent, is_arrival_free, is_attacked, is_attacked_at, is_attacker, is_castling, is_double_step, is_fairy, is_legal, is_man, is_of_colour, is_pseudo_legal, is_square, king-back, king_after, king_is, king_is_after, king_square, king_stands, king_there, leaps, made, maker, man_on, man_on_at, man_there, mates, mates_behind, may_check_from, may_go, may_go_aimed, moved_men, moved_plainly, on_board, other, other_twice, position_after, position_after_by, put_at, queen_steps, reaches_as, rebirth, reborn_is, reborn_square, same_colour, same_colour-refl, same_colour-true, same_kind, same_kind-true, side_of, simple_after, square_is, taken, there_now, triple_at, word, word_has}
+use Rattle.chess_rules.proofs.Basics.{rules, List, ◌||◌, None, Option, Some, [], and_from, and_left, and_parts, and_right, ap, arith, bit_at, cases_Bool, cases_eq, eqb-true, false, false_from_ne_true, false≢true, inl, inr, is_some, list_any, or_parts, refl, subst, sym, true, ℕ, ◌-◌, ◌<◌, ◌==◌, ◌∙◌, ◌≡◌, ◌≢◌, ◌⊎◌}
+use Rattle.chess_mates.proofs.Chess.{is_square, AreSifted, Colour, IsMade, IsReborn, IsWellFormed, Kind, King, Man, Move, Nightrider, Pawn, Position, RuleSet, after_well_formed, all_triples, allows_mate, arrival_needed, arrived, arriving_colour, arriving_king, arriving_man, capture_of_piece, capture_square, captured_enemy, captured_man, captures_are_reborn, captures_do_more, castle_of, corner, false_by, file_of, halfway, has_flight, has_unmoved, in_check, is_absent, is_arrival_free, is_attacked, is_attacked_at, is_attacker, is_castling, is_double_step, is_fairy, is_legal, is_man, is_of_colour, is_pseudo_legal, is_square, king-back, king_after, king_is, king_is_after, king_square, king_stands, king_there, leaps, made, maker, man_on, man_there, mates, mates_behind, may_check_from, may_go, may_go_aimed, moved_men, moved_plainly, on_board, other, other_twice, position_after, position_after_by, queen_steps, reaches_as, rebirth, reborn_is, reborn_square, same_colour, same_colour-refl, same_colour-true, same_kind, same_kind-true, side_of, simple_after, square_is, taken, there_now, word, word_has}
 use Rattle.chess_core.specs.Steps.{gait_of, is_hopper}
 use Rattle.chess_mates.specs.ties.Attackers.{IsAttacker}
 use Rattle.chess_mates.specs.declared.field.Field.{Field}
 use Rattle.chess_mates.specs.declared.risk.Risk.{Risk}
 use Rattle.chess_mates.specs.declared.siege.Siege.{Siege}
-use Rattle.chess_mates.specs.ties.Siege.{AreFree, AreSpringboards, IsArrival, IsCaptured, IsCastlingHarmless, IsCheckWord, IsFlight, IsHome, IsNear, IsOff, IsQuiet, IsRiskAt, IsShut, IsShutAt, IsSiege, IsSiegeOf, IsSprung, IsUnguarded, IsUnsprung, IsWeakAt, MayRide, is_rider, men_on, reached_over}
+use Rattle.chess_mates.specs.ties.Siege.{AreFree, IsArrival, IsCaptured, IsCastlingHarmless, IsCheckWord, IsFlight, IsHome, IsNear, IsOff, IsQuiet, IsRiskAt, IsShut, IsShutAt, IsSiege, IsSiegeOf, IsUnguarded, IsUnsprung, IsWeakAt, MayRide, is_rider, men_on, reached_over}
 use Rattle.chess_mates.specs.ties.Threats.{AreRisky, IsMereMove, IsPlainMove}
 use Rattle.chess_rules.proofs.rays.Flips.{reaches_back}
 use Rattle.chess_mates.proofs.Rebirths.{after_is}
@@ -43,6 +43,13 @@ free_kept c o u kept side king = grind (arith, free_man c u side king)
 
 vacant_kept : (o u : Option Man) → ((z : Man) → o ≡ Some z → u ≡ Some z) → (is_some u ≡ true → ⊥) → o ≡ None
 vacant_kept o u kept none = grind arith
+
+-- the enemy king stays
+enemy_king : (rule : RuleSet) (p : Position) (x : Man) (m : Move) → IsWellFormed p → IsMade rule p x m → m.to < 64
+    → king_square (arrived p x m) (other p.turn) ≡ king_square p.men (other p.turn)
+enemy_king rule p x m well is to =
+    let caught = λ (s : ℕ) (at : is_square (capture_square p x m) s ≡ true). taken rule p x m s well is (square_is (capture_square p x m) s at) in
+    king_stands _ _ _ _ _ _ (search (rules, arith, no_king_free, caught, and_left, and_right, arriving_colour, not_mine_enemy))
 
 module _ (rule : RuleSet) (p : Position) (m : Move) (x : Man) (v : Siege) (k : ℕ) (risk : Risk) (well : IsWellFormed p)
     (may : is_pseudo_legal rule p m ≡ true) (here : man_on p.men m.from ≡ Some x) (small : m.to < 64) (from : m.from < 64)
@@ -273,16 +280,7 @@ module _ (rule : RuleSet) (p : Position) (m : Move) (x : Man) (v : Siege) (k : �
 
       king_landed : king_square landed p.turn ≡ Some k
       king_landed =
-          king_stands q.men n.from (capture_square q y n) n.to (arriving_man y n.promo) p.turn (record {
-            small = omega (arith, to, well_q.size);
-            here = rw here_y (and_left (same_colour y.colour p.turn) _ (not_mine y p.turn enemy_y));
-            comes = and_left (same_colour (arriving_man y n.promo).colour p.turn) _ (rw (arriving_colour y n.promo) (not_mine y p.turn enemy_y));
-            arrival = no_king_free q.turn p.turn (man_on q.men n.to) is_n.arrival;
-            captured = λ s at.
-                let t = taken rule q y n s well_q is_n (square_is (capture_square q y n) s at) in
-                rw t.there (and_right (same_colour t.man.colour p.turn) _ t.mortal);
-          })
-          ∙ king_q
+          subst (λ (c : Colour). king_square landed c ≡ king_square q.men c) (ap other turn_q ∙ other_twice p.turn) (enemy_king rule q y n well_q is_n to) ∙ king_q
 
       abbrev IsNew : ℕ → Man → Type 0
       IsNew s z = (z.colour ≡ p.turn) × ((bit_at v.closed s == 1) ≡ true)

@@ -28,7 +28,7 @@ use chess_rules::words::{contains, next_bit};
 
 /// Whether the side to move has a legal move and each of its legal moves mates: one that can't give check
 /// says no without being played. The board is unchanged.
-#[tactic(auto, using(crate::proofs::EveryMove::quietly))]
+#[tactic(auto, using(crate::proofs::Mating::quietly))]
 pub fn every_move_mates<R: Rules>(board: &mut Board) -> bool
     requires { IsWellFormed board.old }
     ensures answer { result ≡ (not (is_nil (moves R.rule board.old))
@@ -60,7 +60,7 @@ fn step_squares<R: Rules>(board: &Board, king: Square) -> Squares
 }
 
 // Whether no enemy reaches the king once he has stepped from `from` to `to`.
-#[tactic(auto, using(crate::proofs::EveryMove::quietly))]
+#[tactic(auto, using(crate::proofs::Mating::quietly))]
 fn is_unreached(board: &Board, king: Man, from: Square, to: Square) -> bool
     ensures { result ≡ true → IsUnreached board.now king from to }
 {
@@ -144,7 +144,7 @@ fn has_quiet_move<R: Rules>(
 }
 
 // Whether a legal move can't give check, so that it doesn't mate.
-#[tactic(auto, using(crate::proofs::EveryMove::quietly))]
+#[tactic(auto, using(crate::proofs::Mating::quietly))]
 fn is_quiet<R: Rules>(board: &Board, squares: &CheckSquares, m: &Move) -> bool
     requires well_formed { IsWellFormed board.now }
     requires legal { is_legal R.rule board.now m.now ≡ true }
