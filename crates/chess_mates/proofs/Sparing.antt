@@ -1,6 +1,6 @@
 -- No reply mates after a defender's move without risk.
-use Rattle.chess_rules.proofs.Basics.{rules, List, ◌||◌, None, Option, Some, [], and_from, and_left, and_parts, and_right, ap, arith, bit_at, cases_Bool, cases_eq, eqb-true, false, false_from_ne_true, false≢true, inl, inr, is_some, list_any, or_parts, refl, subst, sym, true, ℕ, ◌-◌, ◌<◌, ◌==◌, ◌∙◌, ◌≡◌, ◌≢◌, ◌⊎◌}
-use Rattle.chess_mates.proofs.Chess.{is_square, AreSifted, Colour, IsMade, IsReborn, IsWellFormed, Kind, King, Man, Move, Nightrider, Pawn, Position, RuleSet, after_well_formed, all_triples, allows_mate, arrival_needed, arrived, arriving_colour, arriving_king, arriving_man, capture_of_piece, capture_square, captured_enemy, captured_man, captures_are_reborn, captures_do_more, castle_of, corner, false_by, file_of, halfway, has_flight, has_unmoved, in_check, is_absent, is_arrival_free, is_attacked, is_attacked_at, is_attacker, is_castling, is_double_step, is_fairy, is_legal, is_man, is_of_colour, is_pseudo_legal, is_square, king-back, king_after, king_is, king_is_after, king_square, king_stands, king_there, leaps, made, maker, man_on, man_there, mates, mates_behind, may_check_from, may_go, may_go_aimed, moved_men, moved_plainly, on_board, other, other_twice, position_after, position_after_by, queen_steps, reaches_as, rebirth, reborn_is, reborn_square, same_colour, same_colour-refl, same_colour-true, same_kind, same_kind-true, side_of, simple_after, square_is, taken, there_now, word, word_has}
+use Rattle.chess_rules.proofs.Basics.{eq-eqb, rules, List, ◌||◌, None, Option, Some, [], and_from, and_left, and_parts, and_right, ap, arith, bit_at, cases_Bool, cases_eq, eqb-true, false, false_from_ne_true, false≢true, inl, inr, is_some, list_any, or_parts, refl, subst, sym, true, ℕ, ◌-◌, ◌<◌, ◌==◌, ◌∙◌, ◌≡◌, ◌≢◌, ◌⊎◌}
+use Rattle.chess_mates.proofs.Chess.{off_zero, off_second, is_square, AreSifted, Colour, IsMade, IsReborn, IsWellFormed, Kind, King, Man, Move, Nightrider, Pawn, Position, RuleSet, after_well_formed, all_triples, allows_mate, arrival_needed, arrived, arriving_colour, arriving_king, arriving_man, capture_of_piece, capture_square, captured_enemy, captured_man, captures_are_reborn, captures_do_more, castle_of, corner, false_by, file_of, halfway, has_flight, has_unmoved, in_check, is_absent, is_arrival_free, is_attacked, is_attacked_at, is_attacker, is_castling, is_double_step, is_fairy, is_legal, is_man, is_of_colour, is_pseudo_legal, is_square, king-back, king_after, king_is, king_is_after, king_square, king_stands, king_there, leaps, made, maker, man_on, man_there, mates, mates_behind, may_check_from, may_go, may_go_aimed, moved_men, moved_plainly, on_board, other, other_twice, position_after, position_after_by, queen_steps, reaches_as, rebirth, reborn_is, reborn_square, same_colour, same_colour-refl, same_colour-true, same_kind, same_kind-true, side_of, simple_after, square_is, taken, there_now, word, word_has}
 use Rattle.chess_core.specs.Steps.{gait_of, is_hopper}
 use Rattle.chess_mates.specs.ties.Attackers.{IsAttacker}
 use Rattle.chess_mates.specs.declared.field.Field.{Field}
@@ -86,8 +86,8 @@ module _ (rule : RuleSet) (p : Position) (m : Move) (x : Man) (v : Siege) (k : �
   enemy_stood : (s : ℕ) (z : Man) → man_on q.men s ≡ Some z → z.colour ≡ other p.turn → man_on p.men s ≡ Some z
   enemy_stood s z there enemy = grind (arith, stood_q s z there, not_mine, arriving_colour, is, same_colour-refl)
 
-  attacker : (s : ℕ) (z : Man) → s < 64 → man_on p.men s ≡ Some z → z.colour ≡ other p.turn → IsAttacker v.men z s
-  attacker s z inside there enemy = i.fits.men.stand s z inside there (enemy ∙ sym i.fits.colour)
+  attacker : (s : ℕ) (z : Man) → s < 64 → man_on q.men s ≡ Some z → z.colour ≡ other p.turn → IsAttacker v.men z s
+  attacker s z inside there enemy = i.fits.men.stand s z inside (enemy_stood s z there enemy) (enemy ∙ sym i.fits.colour)
 
   -- somebody stands where a side does
   somebody : (e : ℕ) → e < 64 → is_some (man_on p.men e) ≡ (bit_at v.own e == 1 || bit_at v.enemies e == 1)
@@ -152,7 +152,7 @@ module _ (rule : RuleSet) (p : Position) (m : Move) (x : Man) (v : Siege) (k : �
     stood_y = enemy_stood n.from y here_y enemy_y
 
     is_y : IsAttacker v.men y n.from
-    is_y = attacker n.from y from_small stood_y enemy_y
+    is_y = attacker n.from y from_small here_y enemy_y
 
     w : IsWeakAt v g y n.from m.from m.to
     w = weak_at n.from y is_y
@@ -206,13 +206,13 @@ module _ (rule : RuleSet) (p : Position) (m : Move) (x : Man) (v : Siege) (k : �
           let z = man_there (man_on q.men s) (other p.turn) j h in
           let both = and_parts (same_colour z.0.colour (other p.turn)) (same_kind z.0.kind j) (rw z.1 at h) in
           let enemy = same_colour-true _ _ both.0 in
-          false≢true (sym (harmless.fairies (halfway n) s z.0 half_on (attacker s z.0 inside (enemy_stood s z.0 z.1 enemy) enemy))
+          false≢true (sym (harmless.fairies (halfway n) s z.0 half_on (attacker s z.0 inside z.1 enemy))
           ∙ ap is_fairy (same_kind-true z.0.kind j both.1) ∙ fairy))
 
       -- no enemy reaches the king now
       calm : (s : ℕ) (z : Man) → s < 64 → man_on q.men s ≡ Some z → z.colour ≡ other p.turn → reaches_as q.men z.colour z.kind s k ≡ false
       calm s z inside there enemy =
-          let a = attacker s z inside (enemy_stood s z there enemy) enemy in
+          let a = attacker s z inside there enemy in
           let plain = no_fairy_hops z.kind (harmless.fairies (halfway n) s z half_on a) in
           let weak = weak_at s z a in
           off_word q.men s z weak.checks inside plain weak.word (weak.off plain) (later v.hurdles q.men (other z.colour) z.kind k s plain
@@ -280,7 +280,8 @@ module _ (rule : RuleSet) (p : Position) (m : Move) (x : Man) (v : Siege) (k : �
 
       king_landed : king_square landed p.turn ≡ Some k
       king_landed =
-          subst (λ (c : Colour). king_square landed c ≡ king_square q.men c) (ap other turn_q ∙ other_twice p.turn) (enemy_king rule q y n well_q is_n to) ∙ king_q
+          subst (λ (c : Colour). king_square landed c ≡ king_square q.men c) (ap other turn_q ∙ other_twice p.turn) (enemy_king rule q y n well_q is_n to)
+          ∙ king_q
 
       abbrev IsNew : ℕ → Man → Type 0
       IsNew s z = (z.colour ≡ p.turn) × ((bit_at v.closed s == 1) ≡ true)
@@ -357,8 +358,8 @@ module _ (rule : RuleSet) (p : Position) (m : Move) (x : Man) (v : Siege) (k : �
               let word = subst (λ (j : ℕ). IsCheckWord v.hurdles j y w.checks) i.at.king w.word in
               elim (cases_Bool (is_hopper (gait_of y.kind))) [
                 | inl hop ↦ false_from_ne_true _ (λ h. false≢true (sym quiet ∙ (word.hops hop).inside men n.to to h))
-                | inr plain ↦ off_word men n.to y w.checks to plain w.word quiet (later_but v.hurdles men m.from n.from (other y.colour) y.kind k n.to plain stays
-                    (λ rider. shut_off (other y.colour) y.kind (may_ride n.from y is_y rider))
+                | inr plain ↦ off_word men n.to y w.checks to plain w.word quiet (later_but v.hurdles men m.from n.from (other y.colour) y.kind k n.to plain
+                    stays (λ rider. shut_off (other y.colour) y.kind (may_ride n.from y is_y rider))
                     (λ rider on reach. false≢true (sym (w.off plain) ∙ word.inside plain n.from from_small reach)))
               ]
 
@@ -403,8 +404,7 @@ module _ (rule : RuleSet) (p : Position) (m : Move) (x : Man) (v : Siege) (k : �
                 | inl king ↦ king_comes lawful king
               ])
           | inr kept ↦
-              let before = enemy_stood s z kept.1.1 enemy in
-              let a = attacker s z inside before enemy in
+              let a = attacker s z inside kept.1.1 enemy in
               elim (cases_Bool (is_hopper (gait_of z.kind))) [
                 | inl hop ↦ unhopped k g.springboards (rw i.at.king at (i.at.unsprung m.to small i.off.critical)) i.at.is.springs.within
                     quiet.check.unsprung r.men (λ h y ne there. (ne, there)) s z a hop
@@ -441,7 +441,8 @@ module _ (rule : RuleSet) (p : Position) (m : Move) (x : Man) (v : Siege) (k : �
               (i.off_king e inside on) (stays_r e inside on left off)
 
           stood_then : (h : ℕ) (y : Man) → h ≢ f → man_on fled h ≡ Some y → (h ≢ k) × (man_on r.men h ≡ Some y)
-          stood_then h y ne there = elim (stood r z (step_to k f) h y (omega (arith, in_f, well_r.size)) there) [ inl came ↦ absurd (ne came.0) | inr kept ↦ kept.1 ]
+          stood_then h y ne there =
+              elim (stood r z (step_to k f) h y (omega (arith, in_f, well_r.size)) there) [ inl came ↦ absurd (ne came.0) | inr kept ↦ kept.1 ]
 
           unreached : (s : ℕ) (u : Man) → s < 64 → man_on fled s ≡ Some u → u.colour ≡ other p.turn → reaches_as fled u.colour u.kind s f ≡ false
           unreached s u inside there enemy = elim (stood r z (step_to k f) s u (omega (arith, in_f, well_r.size)) there) [
@@ -449,7 +450,7 @@ module _ (rule : RuleSet) (p : Position) (m : Move) (x : Man) (v : Siege) (k : �
             | inr kept ↦ elim (enemy_r s u kept.1.1 enemy) [
               | inl came ↦ rw (came.1, came.0) (comes_off (λ e. kept.0 (came.0 ∙ sym e)) fled)
               | inr stays ↦
-                  let a = attacker s u inside (enemy_stood s u stays.1.1 enemy) enemy in
+                  let a = attacker s u inside stays.1.1 enemy in
                   elim (cases_Bool (is_hopper (gait_of u.kind))) [
                     | inl hop ↦ unsprung fled stood_then s u a (λ e. stays.1.0 (sym e)) hop
                     | inr plain ↦ unguarded_off fled stays_then s f u in_f a stays.1.0 plain unguarded
@@ -476,13 +477,14 @@ module _ (rule : RuleSet) (p : Position) (m : Move) (x : Man) (v : Siege) (k : �
         left_flees : has_flight rule r ≡ true
         left_flees =
             let same : arriving_man y n.promo ≡ y = ap (arriving_man y) (unnamed q y n n.promo flight.plain is_n.promotion) in
-            flees f flight.left.small (ap (λ (c : ℕ). list_any (leaps c f) queen_steps) (sym i.at.king) ∙ i.at.is.springs.near.next f flight.left.small flight.left.on)
+            flees f flight.left.small
+            (subst (λ (j : ℕ). list_any (leaps j f) queen_steps ≡ true) i.at.king (i.at.is.springs.near.next f flight.left.small flight.left.on))
             (free_kept p.turn _ _ stood_f (false_by _ (λ own. false≢true (sym open_f ∙ i.fits.closed.own f flight.left.small own)))
             (false_by _ (λ king. false≢true (sym (i.at.is.springs.near.kings f flight.left.small flight.left.on) ∙ i.fits.kings f flight.left.small king))))
             (λ circe. vacant_kept _ _ stood_f (λ some. false≢true (sym open_f ∙ i.fits.closed.others circe f flight.left.small some)))
-            flight.unguarded
-            (λ men stand s z a ne hop. unhopped f g.hops (subst (λ (j : ℕ). IsUnsprung v j f g.hops) i.at.king (i.at.is.springs.unsprung f flight.left.small flight.left.on)) (λ h on. on)
-            (flight.unsprung s z a ne hop) men stand s z a hop)
+            flight.unguarded (λ men stand s z a ne hop. unhopped f g.hops
+            (subst (λ (j : ℕ). IsUnsprung v j f g.hops) i.at.king (i.at.is.springs.unsprung f flight.left.small flight.left.on))
+            (λ h on. on) (flight.unsprung s z a ne hop) men stand s z a hop)
             (λ ne men. rw same (flight.left.unreached men))
 
       -- he captures who has come
@@ -531,3 +533,6 @@ module _ (rule : RuleSet) (p : Position) (m : Move) (x : Man) (v : Siege) (k : �
 pub sifted_by_risk : (rule : RuleSet) (p : Position) (s squares risky : ℕ) → AreRisky rule p s squares risky
     → AreSifted rule p (allows_mate rule p) s squares risky
 sifted_by_risk rule p s squares risky r = grind (arith, r.settled)
+
+-- for one square and its word
+pub ruleset one_square = (eq-eqb, eqb-true, off_second, off_zero, word_has)

@@ -81,25 +81,16 @@ pub lifted_words : (men : List (Option Man)) (a : ℕ) (o : Option ℕ) (b k : �
 lifted_words men a o b k = search (rules, occupied_words, squares_both, squares_not)
 
 -- the men of the attack: the one that moved apart
-last_out : (i p q r : Bool) → r ≡ false → (i && ((p && q) && r)) ≡ false
-last_out i p q r h = grind arith
-
-gone_out : (i o e r : Bool) → (e || o) ≡ true → (i && ((not o && not e) && r)) ≡ false
-gone_out i o e r p = grind arith
-
-all_in : (i o e r : Bool) → (e || o) ≡ false → r ≡ true → (i && ((not o && not e) && r)) ≡ i
-all_in i o e r p q = grind arith
-
 attacker_stands : (men : List (Option Man)) (a : ℕ) (o : Option ℕ) (b k : ℕ) (u : Option ℕ) (t : ℕ) (x : Man) (c : Colour) (j : Kind) (q : ℕ)
     → IsStep men a o b k u t x c
     → (is_man (man_on men q) c j && ((not (is_square o q) && not (a == q)) && not (t == q))) ≡ is_man (man_on (stepped men a o b x k u t x) q) c j
 attacker_stands men a o b k u t x c j q i = elim (cases_eq q t) [
-  | inl e ↦ grind (arith, last_out, eq-eqb, on_flight, and_left)
+  | inl e ↦ rw (on_flight men a o b x k u t x q i.flight e) (grind (arith, and_right, eq-eqb, e, and_left, i.king))
   | inr ne ↦ elim (cases_Bool (k == q)) [
     | inl y ↦ grind (arith, eqb-true, no_man, and_left, on_left)
     | inr n ↦ rw (on_others men a o b x k u t x q i.taken ne n) (elim (cases_eq q b) [
       | inl e ↦ grind (arith, no_man, and_left, there_now)
-      | inr off ↦ grind (arith, cases_Bool, gone_out, left_now, all_in, differs, kept_now)
+      | inr off ↦ grind (arith, cases_Bool (a == q || is_square o q), left_now men a o b x q off, kept_now men a o b x q off, differs, ne)
     ])
   ]
 ]

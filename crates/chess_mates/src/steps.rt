@@ -59,6 +59,7 @@ fn keeps_flight_at<R: Rules>(siege: &Siege, guarded: Squares, to: Square) -> boo
 }
 
 // The square, if the king mustn't step there: a reply may mate him there, or a man stands on it, unless he keeps a flight.
+#[tactic(auto, using(crate::proofs::Sparing::one_square))]
 fn risky_step<R: Rules>(siege: &Siege, guarded: Squares, to: Square) -> Squares
     requires { AreGuarded siege.now.men guarded }
     ensures { (bit_at result to == 1) ≡ false → IsSparedStep R.rule siege.now to }

@@ -60,6 +60,7 @@ fn special_squares(board: &Board, man: Man, from: Square) -> Squares
 }
 
 // The squares to which the man can't go but by capturing or being promoted.
+#[tactic(auto, using(crate::proofs::Passing::piece_mere))]
 fn altering_squares(board: &Board, man: Man, from: Square) -> Squares
     ensures { AreMere board.now man from result }
 {
@@ -229,6 +230,7 @@ impl Threats {
     }
 
     /// Whether the move doesn't come to such a square, so that no reply mates. `false` says nothing.
+    #[tactic(auto, using(crate::proofs::Sparing::one_square))]
     pub fn rule_out_mate<R: Rules>(&mut self, board: &Board, m: &Move) -> bool
         requires well_formed { IsWellFormed board.now }
         requires legal { is_legal R.rule board.now m.now ≡ true }

@@ -1,4 +1,4 @@
-use Rattle.chess_rules.proofs.Basics.{Some, ap, arith, sym, ◌∙◌, ◌≡◌}
+use Rattle.chess_rules.proofs.Basics.{Some, ap, arith, rules, sym, ◌∙◌, ◌≡◌}
 use Rattle.chess_mates.proofs.Chess.{is_pseudo_legal-from_legal, maker, man_on}
 use Rattle.chess_mates.proofs.Ways.{moves_are_risky, steps_are_risky, unkept_are_risky}
 use Rattle.chess_mates.specs.ties.Threats.{ToldThreats}
@@ -6,17 +6,14 @@ use Rattle.chess_mates.proofs.threats.Threats.risky_squares.Goals as goal
 
 pub returns-in_default-clause-risky : goal.returns-in_default-clause-risky
 returns-in_default-clause-risky g c = record {
-  settled = λ m legal origin on off.
-      let x = maker g.R.Rules.rule c.args.board.now m (is_pseudo_legal-from_legal g.R.Rules.rule c.args.board.now m legal) in
-      grind (arith, x.1, c.man_at.ensures, c.in_default.is);
+  settled = λ m legal origin on off. grind (arith, (maker _ _ m (is_pseudo_legal-from_legal _ _ m legal)).1, c.man_at.ensures, c.in_default.is);
 }
 
 pub returns-then-is-clause-risky : goal.returns-then-is-clause-risky
 returns-then-is-clause-risky g c =
     let here : man_on c.args.board.now.men c.args.from ≡ Some c.in-Some.man = sym c.man_at.ensures ∙ c.in-Some.is in
-    steps_are_risky _ _ _ _ c.requires.well_formed c.requires.threats _ _ _ _ here
-    (omega (arith, c.index-small.ensures.value, c.index-small.ensures.small)) (omega arith) c.unplain_squares-unplain.ensures.plain
-    c.unplain_squares-unplain.ensures.mere (omega arith) (sym c.is.ensures ∙ c.if-is.true)
+    steps_are_risky _ _ _ _ c.requires.well_formed c.requires.threats _ _ _ _ here (omega arith) (omega arith)
+    c.unplain_squares-unplain.ensures.plain c.unplain_squares-unplain.ensures.mere (omega arith) (search rules)
     (rw (ap (λ (t : ToldThreats). t.siege) c.self.view_is) at c.kept_risky_steps-risky.ensures.risky)
 
 pub returns-clause-risky : goal.returns-clause-risky
@@ -26,6 +23,5 @@ returns-clause-risky g c =
     let mortal = sym c.is.ensures ∙ c.if-is.false in
     unkept_are_risky _ _ _ _ c.requires.well_formed c.requires.threats _ _ c.unkept_squares-left.result _ here (omega arith) mortal
     (λ t low on off. let unkept = c.unkept_squares-left.ensures t low on off in (unkept.0, (rw siege at c.self.invariant.2).keeps t low unkept.1))
-    (moves_are_risky _ _ _ _ c.requires.well_formed c.requires.threats _ _ _ _ here
-    (omega (arith, c.index-small.ensures.value, c.index-small.ensures.small)) (omega arith) c.unplain_squares-unplain.ensures.plain
-    c.unplain_squares-unplain.ensures.mere (omega arith) mortal (rw siege at c.critical_of-critical.ensures.safe))
+    (moves_are_risky _ _ _ _ c.requires.well_formed c.requires.threats _ _ _ _ here (omega arith) (omega arith)
+    c.unplain_squares-unplain.ensures.plain c.unplain_squares-unplain.ensures.mere (omega arith) mortal (rw siege at c.critical_of-critical.ensures.safe))
