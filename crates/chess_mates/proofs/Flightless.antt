@@ -18,13 +18,10 @@ own_step rule q n k y well at here king check kings legal circe =
     let triple = legal_moves_are_triples rule q n well legal in
     let origin : n.from ≡ k = some_is n.from k (sym (king_is q.men q.turn n.from well.kings triple.0 (grind (arith, kings))) ∙ at) in
     let is = made rule q n y (is_pseudo_legal-from_legal rule q n legal) (ap (man_on q.men) origin ∙ here) in
-    let promo : n.promo ≡ None = unnamed q y n n.promo (and_left _ _ (king_is_no_pawn y.kind king)) is.promotion in (
-      triple.1,
-      (
-        rw (origin, promo) refl,
-        grind (arith, is.can_go, king_is_no_pawn, and_left, and_right, is.mine, is.arrival, here, same_kind-true y.kind King king),
-      ),
-    )
+    let promo : n.promo ≡ None = unnamed q y n n.promo (and_left _ _ (king_is_no_pawn y.kind king)) is.promotion in
+    let way : is_open rule q.men q.turn k n.to ≡ true =
+    grind (arith, is.can_go, king_is_no_pawn, and_left, and_right, is.mine, is.arrival, here, same_kind-true y.kind King king) in
+    (triple.1, (rw (origin, promo) refl, way))
 
 module _ (rule : RuleSet) (p : Position) (m : Move) (x : Man) (k : ℕ) (i : IsSeenFrom rule p m x k) (small : m.to < 64) (n r : ℕ)
     (arrives : (l : List (Option Man)) → (sight_lifted p.men m.from (capture_square p x m) m.to k).occupied ≡ occupied_squares l

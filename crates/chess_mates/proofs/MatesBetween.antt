@@ -37,24 +37,8 @@ pub mates_between-none : (rule : RuleSet) (p : Position) (a b : ℕ) → min b a
 unfolding mates_between
 mates_between-none rule p a b le = grind (arith, between-none, between-past)
 
--- a move to no square that gives check doesn't mate
-pub checks_elsewhere : (rule : RuleSet) (p : Position) (s w : ℕ) → AreCheckTargets rule p s w → (m : Move) → m.from ≡ s → m.to < 64
-    → is_pseudo_legal rule p m ≡ true
-    → (bit_at w m.to == 1) ≡ false → mates rule p m ≡ false
-checks_elsewhere rule p s w h m at small may off = sym (no_mate_quietly rule p m (λ lawful. h.elsewhere m at small lawful off))
-
--- a move from no square from which one may give check doesn't mate
-pub mating_origins : (rule : RuleSet) (p : Position) (w : ℕ) → AreCheckOrigins rule p w → AreOrigins (mates rule p) w
-mating_origins rule p w h = grind (arith, no_mate_quietly)
-
 -- for the walk over mates up to an end
 pub ruleset until_mates = (legal_of_mate, mates_between-none, place_of_triple, until-mateless)
 
 -- for the next mate
 pub ruleset next_mates = (legal_of_mate, mates_behind-end, mates_behind-none, mates_numbered, next_mate_numbered, place_of_triple)
-
--- for a move that doesn't mate
-pub ruleset no_mates = (no_mate_quietly, not_mating)
-
--- for the candidates of one origin
-pub ruleset mating_candidates = (candidates, no_candidates, checks_elsewhere, not_mating)

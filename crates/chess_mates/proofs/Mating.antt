@@ -36,12 +36,6 @@ pub quiet : (rule : RuleSet) (p : Position) (m : Move) → is_legal rule p m ≡
 unfolding mates
 quiet rule p m lawful calm = grind (arith, no_mate_quietly rule p m (λ h. calm))
 
--- a move that may be made, tested in the position after it
-pub mates_after : (rule : RuleSet) (p : Position) (m : Move) → is_pseudo_legal rule p m ≡ true
-    → (not (in_check rule (position_after rule p m).men p.turn) && is_mate rule (position_after rule p m)) ≡ mates rule p m
-unfolding mates is_legal
-mates_after rule p m may = search rules
-
 -- the first move that mates from a place on, by its number
 pub mates_numbered : (rule : RuleSet) (p : Position) (start n : ℕ) → n < all_triples → mates_behind rule p n ≡ mates_behind rule p start
     → mates rule p (triple_at n) ≡ true → mates_behind rule p start ≡ (triple_at n ∷ mates_behind rule p (n + 1))

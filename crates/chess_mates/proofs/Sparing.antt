@@ -119,18 +119,16 @@ module _ (rule : RuleSet) (p : Position) (m : Move) (x : Man) (v : Siege) (k : �
   shut_off : (c : Colour) (j : Kind) → MayRide v j → (bit_at v.hurdles m.from == 1) ≡ true → reaches_as (men_on v.hurdles) c j k m.from ≡ true → ⊥
   shut_off c j may on reach = grind (arith, i.at.lines m.from m.to small i.off.critical, i.off.lines, lined c j m.from from)
 
-  -- a hurdle on a line from the king stays, once the defender has moved
-  stays_lined : (c : Colour) (j : Kind) → MayRide v j → (e : ℕ) → e < 64 → (bit_at v.hurdles e == 1) ≡ true → reaches_as (men_on v.hurdles) c j k e ≡ true
-      → is_some (man_on q.men e) ≡ true
-  stays_lined c j may e low on reach = grind (arith, cases_eq e m.from, shut_off c j may, stays_q e low on)
-
-  -- who is no hopper and stands off his check squares doesn't reach the king, where he would reach him over the hurdles too
-  off_word : (men : List (Option Man)) (s : ℕ) (z : Man) (c : ℕ) → s < 64 → is_hopper (gait_of z.kind) ≡ false → IsCheckWord v.hurdles g.king z c
-      → (bit_at c s == 1) ≡ false → (reaches_as men (other z.colour) z.kind k s ≡ true → reaches_as (men_on v.hurdles) (other z.colour) z.kind k s ≡ true)
-      → reaches_as men z.colour z.kind s k ≡ false
+  -- from off his check squares no attacker but a hopper reaches the king, where all hurdles stand but m.from and o, on none of his lines
+  off_word : (men : List (Option Man)) (o s t : ℕ) (z : Man) (a : IsAttacker v.men z s) → t < 64 → is_hopper (gait_of z.kind) ≡ false
+      → (bit_at (weak_at s z a).checks t == 1) ≡ false
+      → ((e : ℕ) → e < 64 → (bit_at v.hurdles e == 1) ≡ true → e ≢ m.from → e ≢ o → is_some (man_on men e) ≡ true)
+      → (is_rider z.kind ≡ true → (bit_at v.hurdles o == 1) ≡ true → reaches_as (men_on v.hurdles) (other z.colour) z.kind k o ≡ true → ⊥)
+      → reaches_as men z.colour z.kind t k ≡ false
   unfolding reached_over
-  off_word men s z c inside plain word off over =
-      grind (arith, reaches_back men z.colour z.kind s k plain inside at_k, word.inside plain s inside, i.at.king)
+  off_word men o s t z a inside plain off stays last =
+      let over = later_but v.hurdles men m.from o (other z.colour) z.kind k t plain stays (λ rider. shut_off (other z.colour) z.kind (may_ride s z a rider)) last in
+      grind (arith, reaches_back men z.colour z.kind t k plain inside at_k, (weak_at s z a).word.inside plain t inside, i.at.king, over)
 
   module _ (n : Move) (to : n.to < 64) (can : is_pseudo_legal rule q n ≡ true) where
     abbrev y : Man
@@ -154,7 +152,7 @@ module _ (rule : RuleSet) (p : Position) (m : Move) (x : Man) (v : Siege) (k : �
     is_y : IsAttacker v.men y n.from
     is_y = attacker n.from y from_small here_y enemy_y
 
-    w : IsWeakAt v g y n.from m.from m.to
+    abbrev w : IsWeakAt v g y n.from m.from m.to
     w = weak_at n.from y is_y
 
     shuts : (corner next : ℕ) → IsShut p (other p.turn) v.castled corner next → has_unmoved q.unmoved corner ≡ true → man_on q.men next ≡ None → next < 64
@@ -198,7 +196,7 @@ module _ (rule : RuleSet) (p : Position) (m : Move) (x : Man) (v : Siege) (k : �
           let may : MayRide v j = (rider, λ kind. absurd (false≢true (sym plain ∙ ap is_fairy (same_kind-true j Nightrider kind)))) in
           let off = harmless.kings (halfway n) n.from from_small half_on (grind (arith, same_kind-true y.kind King king_y, is_y.on)) in
           false≢true (sym off ∙ lined p.turn j n.from from_small may (later v.hurdles q.men p.turn j k n.from (no_fairy_hops j plain)
-          (λ r. stays_lined p.turn j may) h)))
+          (λ r e low on reach. grind (arith, cases_eq e m.from, shut_off p.turn j may, stays_q e low on)) h)))
 
       -- there is no fairy man
       no_fairy : (j : Kind) → is_fairy j ≡ true → (s : ℕ) → s < 64 → is_man (man_on q.men s) (other p.turn) j ≡ false
@@ -214,9 +212,8 @@ module _ (rule : RuleSet) (p : Position) (m : Move) (x : Man) (v : Siege) (k : �
       calm s z inside there enemy =
           let a = attacker s z inside there enemy in
           let plain = no_fairy_hops z.kind (harmless.fairies (halfway n) s z half_on a) in
-          let weak = weak_at s z a in
-          off_word q.men s z weak.checks inside plain weak.word (weak.off plain) (later v.hurdles q.men (other z.colour) z.kind k s plain
-          (λ rider. stays_lined (other z.colour) z.kind (may_ride s z a rider)))
+          off_word q.men m.from s s z a inside plain ((weak_at s z a).off plain) (λ e low on left off. stays_q e low on left)
+          (λ rider. shut_off (other z.colour) z.kind (may_ride s z a rider))
 
       castled : is_legal rule q n ≡ true → in_check rule (position_after rule q n).men p.turn ≡ false
       castled lawful =
@@ -232,10 +229,8 @@ module _ (rule : RuleSet) (p : Position) (m : Move) (x : Man) (v : Siege) (k : �
     unfolding position_after position_after_by
     uncrossed pawn = rw here (elim (cases_Bool (is_double_step x m)) [
       | inr single ↦ rw single refl
-      | inl double ↦ rw double (false_by _ (λ h.
-          let at : halfway m ≡ n.to = eqb-true (halfway m) n.to h in
-          false≢true (sym (i.plain.passing.freely double q n.from y from_small (omega (arith, at, to)) stood_y (enemy_y ∙ ap other (sym is.mine)) pawn)
-          ∙ ap (λ (t : ℕ). may_go q y n.from t) at ∙ goes_y)))
+      | inl double ↦ rw double (false_by _ (λ h. let at : halfway m ≡ n.to = eqb-true (halfway m) n.to h in
+          cc (i.plain.passing.freely double q n.from y from_small (omega (arith, at, to)) stood_y (enemy_y ∙ ap other (sym is.mine)) pawn, goes_y)))
     ])
 
     captures_q : (s : ℕ) → capture_square q y n ≡ Some s → s ≡ n.to
@@ -283,14 +278,12 @@ module _ (rule : RuleSet) (p : Position) (m : Move) (x : Man) (v : Siege) (k : �
           subst (λ (c : Colour). king_square landed c ≡ king_square q.men c) (ap other turn_q ∙ other_twice p.turn) (enemy_king rule q y n well_q is_n to)
           ∙ king_q
 
-      abbrev IsNew : ℕ → Man → Type 0
-      IsNew s z = (z.colour ≡ p.turn) × ((bit_at v.closed s == 1) ≡ true)
-
       abbrev Stood : ℕ → Man → Type 0
       Stood s z = ((s ≡ n.to) × (z ≡ arriving_man y n.promo)) ⊎ ((s ≢ n.to) × ((s ≢ n.from) × (man_on q.men s ≡ Some z)))
 
       -- on a square stands who stood there, or who is reborn there
-      same_or_new : (s : ℕ) → (man_on r.men s ≡ man_on landed s) ⊎ ((man_on landed s ≡ None) × ((z : Man) × ((man_on r.men s ≡ Some z) × IsNew s z)))
+      same_or_new : (s : ℕ) → (man_on r.men s ≡ man_on landed s)
+          ⊎ ((man_on landed s ≡ None) × ((z : Man) × ((man_on r.men s ≡ Some z) × ((z.colour ≡ p.turn) × ((bit_at v.closed s == 1) ≡ true)))))
       same_or_new s =
           rw (after_is rule q y n here_y, moved_plainly q y n plain_n) (elim (stood_reborn landed (reborn_square rule q y n) (captured_man q y n) s) [
             | inl same ↦ inl same
@@ -302,7 +295,7 @@ module _ (rule : RuleSet) (p : Position) (m : Move) (x : Man) (v : Siege) (k : �
       king_r : king_square r.men p.turn ≡ Some k
       king_r = king_is r.men p.turn k well_r.kings at_k (grind (arith, same_or_new k, (king_there landed p.turn k king_landed).1))
 
-      stood_r : (s : ℕ) (z : Man) → man_on r.men s ≡ Some z → Stood s z ⊎ IsNew s z
+      stood_r : (s : ℕ) (z : Man) → man_on r.men s ≡ Some z → Stood s z ⊎ ((z.colour ≡ p.turn) × ((bit_at v.closed s == 1) ≡ true))
       stood_r s z there = grind (arith, same_or_new s, stood q y n s z (omega (arith, to, well_q.size)), same_man)
 
       -- of the attackers nobody is new
@@ -358,9 +351,8 @@ module _ (rule : RuleSet) (p : Position) (m : Move) (x : Man) (v : Siege) (k : �
               let word = subst (λ (j : ℕ). IsCheckWord v.hurdles j y w.checks) i.at.king w.word in
               elim (cases_Bool (is_hopper (gait_of y.kind))) [
                 | inl hop ↦ false_from_ne_true _ (λ h. false≢true (sym quiet ∙ (word.hops hop).inside men n.to to h))
-                | inr plain ↦ off_word men n.to y w.checks to plain w.word quiet (later_but v.hurdles men m.from n.from (other y.colour) y.kind k n.to plain
-                    stays (λ rider. shut_off (other y.colour) y.kind (may_ride n.from y is_y rider))
-                    (λ rider on reach. false≢true (sym (w.off plain) ∙ word.inside plain n.from from_small reach)))
+                | inr plain ↦ off_word men n.from n.from n.to y is_y to plain quiet stays
+                    (λ rider on reach. false≢true (sym (w.off plain) ∙ word.inside plain n.from from_small reach))
               ]
 
       -- on a free square of springboards nobody stands but the man who came last or the one before, and the king on his own
@@ -409,12 +401,8 @@ module _ (rule : RuleSet) (p : Position) (m : Move) (x : Man) (v : Siege) (k : �
                 | inl hop ↦ unhopped k g.springboards (rw i.at.king at (i.at.unsprung m.to small i.off.critical)) i.at.is.springs.within
                     quiet.check.unsprung r.men (λ h y ne there. (ne, there)) s z a hop
                 | inr plain ↦ elim quiet.covered [
-                  | inl hidden ↦
-                      let weak = weak_at s z a in
-                      off_word r.men s z weak.checks inside plain weak.word (weak.off plain)
-                      (later_but v.hurdles r.men m.from n.from (other z.colour) z.kind k s plain stays_r
-                      (λ rider. shut_off (other z.colour) z.kind (may_ride s z a rider))
-                      (λ rider on reach. false≢true (sym hidden ∙ lined (other z.colour) z.kind n.from from_small (may_ride s z a rider) reach)))
+                  | inl hidden ↦ off_word r.men n.from s s z a inside plain ((weak_at s z a).off plain) stays_r
+                      (λ rider on reach. false≢true (sym hidden ∙ lined (other z.colour) z.kind n.from from_small (may_ride s z a rider) reach))
                   | inr u ↦ unguarded_off r.men stays_r s k z at_k a kept.1.0 plain (rw i.at.king at u)
                 ]
               ]
@@ -528,11 +516,6 @@ module _ (rule : RuleSet) (p : Position) (m : Move) (x : Man) (v : Siege) (k : �
         fails = λ j lo hi. grind (arith, cases_Bool, unmated, arrival_small, not_mating);
       })
       ∙ mates_behind-end rule q all_triples (omega arith)
-
--- squares that aren't risky sift moves by whether some reply mates
-pub sifted_by_risk : (rule : RuleSet) (p : Position) (s squares risky : ℕ) → AreRisky rule p s squares risky
-    → AreSifted rule p (allows_mate rule p) s squares risky
-sifted_by_risk rule p s squares risky r = grind (arith, r.settled)
 
 -- for one square and its word
 pub ruleset one_square = (eq-eqb, eqb-true, off_second, off_zero, word_has)

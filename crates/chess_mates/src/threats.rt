@@ -253,7 +253,6 @@ impl Sift for Threats {
 
     ghost fits = { λ t rule p. AreThreatsOf rule p t };
 
-    #[tactic(auto, using(crate::proofs::Sparing::sifted_by_risk))]
     fn sift<R: Rules>(&mut self, board: &Board, from: Square, squares: Squares) -> Squares {
         self.risky_squares::<R>(board, from, squares)
     }
