@@ -3,7 +3,7 @@ use Rattle.chess_rules.proofs.Basics.{[], append_cancel_right, arith, bit_at, ca
 use Rattle.std.specs.Prelude.{min}
 use Rattle.chess_mates.proofs.Chess.{AreCheckOrigins, AreCheckTargets, AreOrigins, HaveNone, IsNextMate, Move, Position, RuleSet, all_triples, candidates, first_of_and, is_mating, is_pseudo_legal, mates, mates_behind, mates_between, moves_behind, moves_behind-here, moves_between, no_candidates, place_of_triple, second_of_and, triple_at}
 use Rattle.chess_rules.proofs.listing_moves.Between.{behind_cut, between-none, between-past}
-use Rattle.chess_mates.proofs.Mating.{legal_of_mate, mates_behind-end, mates_behind-none, mates_numbered, no_mate_quietly, not_mating}
+use Rattle.chess_mates.proofs.Mating.{mates_behind-end, mates_behind-none, mates_numbered, no_mate_quietly, not_mating}
 
 -- the first move that mates behind a place, by its number
 pub next_mate_numbered : (rule : RuleSet) (p : Position) (start n : ℕ) → start ≤ n → n < all_triples → mates_behind rule p n ≡ mates_behind rule p start
@@ -38,7 +38,7 @@ unfolding mates_between
 mates_between-none rule p a b le = grind (arith, between-none, between-past)
 
 -- for the walk over mates up to an end
-pub ruleset until_mates = (legal_of_mate, mates_between-none, place_of_triple, until-mateless)
+pub ruleset until_mates = (first_of_and, mates_between-none, place_of_triple, until-mateless)
 
 -- for the next mate
-pub ruleset next_mates = (legal_of_mate, mates_behind-end, mates_behind-none, mates_numbered, next_mate_numbered, place_of_triple)
+pub ruleset next_mates = (first_of_and, mates_behind-end, mates_behind-none, mates_numbered, next_mate_numbered, place_of_triple)

@@ -42,10 +42,5 @@ pub mates_numbered : (rule : RuleSet) (p : Position) (start n : ℕ) → n < all
 unfolding mates_behind mates
 mates_numbered rule p start n lt same h = sym same ∙ search (rules, first_of_and, moves_behind-here, second_of_and)
 
--- a move that mates is legal
-pub legal_of_mate : (rule : RuleSet) (p : Position) (m : Move) → mates rule p m ≡ true → is_legal rule p m ≡ true
-unfolding mates
-legal_of_mate rule p m h = first_of_and _ _ h
-
 -- for positions in which each legal move mates
 pub ruleset quietly = (is_pseudo_legal-from_legal, moves_behind-start, not-true, quiet)

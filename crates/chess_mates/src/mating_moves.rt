@@ -100,7 +100,7 @@ impl<R: Rules> MatingMoves<R> {
     /// The first legal move behind the place that mates, on which the place then stands. Where there is
     /// none: `None`, and the place stands behind all triples. The board is unchanged.
     /// The place must be one in the board's position.
-    #[tactic(auto, using(crate::proofs::MatesBetween::next_mates), unfolding(chess_rules::specs::ties::Places::place_of))]
+    #[tactic(auto, using(crate::proofs::MatesBetween::next_mates), unfolding(crate::specs::ties::Mates::mates, chess_rules::specs::ties::Places::place_of))]
     pub fn next(&mut self, board: &mut Board) -> Option<Move>
         requires well_formed { IsWellFormed board.old }
         requires place { IsMatingPlaceIn R.rule board.old self.old }
@@ -131,7 +131,7 @@ impl<R: Rules> MatingMoves<R> {
     /// The first legal move behind the place that mates and doesn't lie behind `end`, on which the place
     /// then stands. Where there is none: `None`, and the place stays. The board is unchanged. The place
     /// must be one in the board's position.
-    #[tactic(auto, using(crate::proofs::MatesBetween::until_mates))]
+    #[tactic(auto, using(crate::proofs::MatesBetween::until_mates), unfolding(crate::specs::ties::Mates::mates))]
     pub fn next_until(&mut self, end: Moves<R>, board: &mut Board) -> Option<Move>
         requires well_formed { IsWellFormed board.old }
         requires place { IsMatingPlaceIn R.rule board.old self.old }

@@ -111,6 +111,7 @@ fn unbarred_steps<R: Rules>(siege: &Siege, steps: Squares) -> Squares
 }
 
 // Those of the squares to which he mustn't step, of legal steps.
+#[tactic(auto, using(chess_rules::proofs::Basics::cases_Bool))]
 fn risky_steps<R: Rules>(siege: &Siege, steps: Squares) -> Squares
     ensures { (t : ℕ) → t < 64 → (bit_at steps t == 1) ≡ true → (bit_at result t == 1) ≡ false
         → IsSettledStep R.rule siege.now t }
