@@ -1,9 +1,9 @@
 -- The mates between two places, and the walk that finds them.
-use Rattle.chess_rules.proofs.Basics.{[], append_cancel_right, arith, bit_at, cases_lt, false, filter, filter-append, sym, true, ℕ, ◌++◌, ◌+◌, ◌<◌, ◌==◌, ◌∷◌, ◌≡◌, ◌≤◌}
+use Rattle.chess_rules.proofs.Basics.{[], append_cancel_right, arith, cases_lt, filter, filter-append, true, ℕ, ◌++◌, ◌+◌, ◌<◌, ◌∷◌, ◌≡◌, ◌≤◌}
 use Rattle.std.specs.Prelude.{min}
-use Rattle.chess_mates.proofs.Chess.{AreCheckOrigins, AreCheckTargets, AreOrigins, HaveNone, IsNextMate, Move, Position, RuleSet, all_triples, candidates, first_of_and, is_mating, is_pseudo_legal, mates, mates_behind, mates_between, moves_behind, moves_behind-here, moves_between, no_candidates, place_of_triple, second_of_and, triple_at}
+use Rattle.chess_mates.proofs.Chess.{HaveNone, IsNextMate, Position, RuleSet, all_triples, first_of_and, is_mating, mates, mates_behind, mates_between, moves_behind, moves_behind-here, moves_between, place_of_triple, second_of_and, triple_at}
 use Rattle.chess_rules.proofs.listing_moves.Between.{behind_cut, between-none, between-past}
-use Rattle.chess_mates.proofs.Mating.{mates_behind-end, mates_behind-none, mates_numbered, no_mate_quietly, not_mating}
+use Rattle.chess_mates.proofs.Mating.{mates_behind-end, mates_behind-none, mates_numbered}
 
 -- the first move that mates behind a place, by its number
 pub next_mate_numbered : (rule : RuleSet) (p : Position) (start n : ℕ) → start ≤ n → n < all_triples → mates_behind rule p n ≡ mates_behind rule p start

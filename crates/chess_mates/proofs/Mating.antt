@@ -1,5 +1,5 @@
 -- The moves that mate, by their numbers.
-use Rattle.chess_rules.proofs.Basics.{[], and_left, and_right, arith, cases_Bool, false, not, not-true, refl, rules, sym, true, ℕ, ◌&&◌, ◌+◌, ◌<◌, ◌∙◌, ◌∷◌, ◌≡◌, ◌≤◌}
+use Rattle.chess_rules.proofs.Basics.{[], and_left, and_right, arith, cases_Bool, false, not-true, refl, rules, sym, true, ℕ, ◌+◌, ◌<◌, ◌∙◌, ◌∷◌, ◌≡◌, ◌≤◌}
 use Rattle.chess_mates.proofs.Chess.{HaveNone, Move, Position, RuleSet, all_triples, first_of_and, in_check, is_legal, is_legal-idle, is_mate, is_mating, is_pseudo_legal, is_pseudo_legal-from_legal, maker, mates, mates_behind, moves_behind-end, moves_behind-here, moves_behind-start, other, position_after, position_after_by, second_of_and, triple_at}
 use Rattle.chess_rules.proofs.listing_moves.Sifting.{wanted-none}
 

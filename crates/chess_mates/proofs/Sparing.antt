@@ -1,13 +1,13 @@
 -- No reply mates after a defender's move without risk.
 use Rattle.chess_rules.proofs.Basics.{eq-eqb, rules, List, ◌||◌, None, Option, Some, [], and_from, and_left, and_parts, and_right, ap, arith, bit_at, cases_Bool, cases_eq, eqb-true, false, false_from_ne_true, false≢true, inl, inr, is_some, list_any, or_parts, refl, subst, sym, true, ℕ, ◌-◌, ◌<◌, ◌==◌, ◌∙◌, ◌≡◌, ◌≢◌, ◌⊎◌}
-use Rattle.chess_mates.proofs.Chess.{off_zero, off_second, is_square, AreSifted, Colour, IsMade, IsReborn, IsWellFormed, Kind, King, Man, Move, Nightrider, Pawn, Position, RuleSet, after_well_formed, all_triples, allows_mate, arrival_needed, arrived, arriving_colour, arriving_king, arriving_man, capture_of_piece, capture_square, captured_enemy, captured_man, captures_are_reborn, captures_do_more, castle_of, corner, false_by, file_of, halfway, has_flight, has_unmoved, in_check, is_absent, is_arrival_free, is_attacked, is_attacked_at, is_attacker, is_castling, is_double_step, is_fairy, is_legal, is_man, is_of_colour, is_pseudo_legal, is_square, king-back, king_after, king_is, king_is_after, king_square, king_stands, king_there, leaps, made, maker, man_on, man_there, mates, mates_behind, may_check_from, may_go, may_go_aimed, moved_men, moved_plainly, on_board, other, other_twice, position_after, position_after_by, queen_steps, reaches_as, rebirth, reborn_is, reborn_square, same_colour, same_colour-refl, same_colour-true, same_kind, same_kind-true, side_of, simple_after, square_is, taken, there_now, word, word_has}
+use Rattle.chess_mates.proofs.Chess.{off_zero, off_second, is_square, Colour, IsMade, IsReborn, IsWellFormed, Kind, King, Man, Move, Nightrider, Pawn, Position, RuleSet, after_well_formed, all_triples, arrival_needed, arrived, arriving_colour, arriving_king, arriving_man, capture_of_piece, capture_square, captured_enemy, captured_man, captures_are_reborn, captures_do_more, castle_of, corner, false_by, file_of, halfway, has_flight, has_unmoved, in_check, is_absent, is_arrival_free, is_attacked, is_attacked_at, is_attacker, is_castling, is_double_step, is_fairy, is_legal, is_man, is_of_colour, is_pseudo_legal, is_square, king-back, king_after, king_is, king_is_after, king_square, king_stands, king_there, leaps, made, maker, man_on, man_there, mates, mates_behind, may_check_from, may_go, may_go_aimed, moved_men, moved_plainly, on_board, other, other_twice, position_after, position_after_by, queen_steps, reaches_as, rebirth, reborn_is, reborn_square, same_colour, same_colour-refl, same_colour-true, same_kind, same_kind-true, side_of, simple_after, square_is, taken, there_now, word, word_has}
 use Rattle.chess_core.specs.Steps.{gait_of, is_hopper}
 use Rattle.chess_mates.specs.ties.Attackers.{IsAttacker}
 use Rattle.chess_mates.specs.declared.field.Field.{Field}
 use Rattle.chess_mates.specs.declared.risk.Risk.{Risk}
 use Rattle.chess_mates.specs.declared.siege.Siege.{Siege}
 use Rattle.chess_mates.specs.ties.Siege.{AreFree, IsArrival, IsCaptured, IsCastlingHarmless, IsCheckWord, IsFlight, IsHome, IsNear, IsOff, IsQuiet, IsRiskAt, IsShut, IsShutAt, IsSiege, IsSiegeOf, IsUnguarded, IsUnsprung, IsWeakAt, MayRide, is_rider, men_on, reached_over}
-use Rattle.chess_mates.specs.ties.Threats.{AreRisky, IsMereMove, IsPlainMove}
+use Rattle.chess_mates.specs.ties.Threats.{IsMereMove, IsPlainMove}
 use Rattle.chess_rules.proofs.rays.Flips.{reaches_back}
 use Rattle.chess_mates.proofs.Rebirths.{after_is}
 use Rattle.chess_mates.proofs.Hurdles.{later, later_but}
@@ -157,8 +157,7 @@ module _ (rule : RuleSet) (p : Position) (m : Move) (x : Man) (v : Siege) (k : �
 
     shuts : (corner next : ℕ) → IsShut p (other p.turn) v.castled corner next → has_unmoved q.unmoved corner ≡ true → man_on q.men next ≡ None → next < 64
         → (bit_at v.castled next == 1) ≡ true
-    shuts corner next (inl moved) unmoved none low =
-        absurd (false≢true (sym (moved_stays rule p x m corner nobody i.plain.castling here moved) ∙ unmoved))
+    shuts corner next (inl moved) unmoved none low = cc (moved_stays rule p x m corner nobody i.plain.castling here moved)
     shuts corner next (inr (inl stands)) unmoved none low =
         let some = some_stays p x m next i.plain.captures (omega (arith, small, well.size)) (λ e. grind (arith, not_mine_enemy x p.turn is.mine, here))
         (some_side _ (other p.turn) stands) in
@@ -203,9 +202,8 @@ module _ (rule : RuleSet) (p : Position) (m : Move) (x : Man) (v : Siege) (k : �
       no_fairy j fairy s inside = false_by _ (λ h.
           let z = man_there (man_on q.men s) (other p.turn) j h in
           let both = and_parts (same_colour z.0.colour (other p.turn)) (same_kind z.0.kind j) (rw z.1 at h) in
-          let enemy = same_colour-true _ _ both.0 in
-          false≢true (sym (harmless.fairies (halfway n) s z.0 half_on (attacker s z.0 inside z.1 enemy))
-          ∙ ap is_fairy (same_kind-true z.0.kind j both.1) ∙ fairy))
+          let a = attacker s z.0 inside z.1 (same_colour-true _ _ both.0) in
+          false≢true (sym (harmless.fairies (halfway n) s z.0 half_on a) ∙ ap is_fairy (same_kind-true z.0.kind j both.1) ∙ fairy))
 
       -- no enemy reaches the king now
       calm : (s : ℕ) (z : Man) → s < 64 → man_on q.men s ≡ Some z → z.colour ≡ other p.turn → reaches_as q.men z.colour z.kind s k ≡ false
