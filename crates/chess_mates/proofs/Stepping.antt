@@ -63,40 +63,38 @@ module _ (men : List (Option Man)) (a : ℕ) (o : Option ℕ) (b : ℕ) (z : Man
         → StandAlike (stepped men a o b z k u t x) (without_man (gone_to men a o b z) k) t
     lifted_alike arrival flight h = record { alike = λ q ne. search (rules, is_occupied_after, lifted_one q, stands q) }
 
--- whichever man has arrived
-pub arrival_alike : (men : List (Option Man)) (a : ℕ) (o : Option ℕ) (b : ℕ) (z y : Man) (k : ℕ) (u : Option ℕ) (t : ℕ) (x : Man) → b < length men
-    → t < length men → ((s : ℕ) → is_square u s ≡ true → s ≡ t)
-    → StandAlike (stepped men a o b z k u t x) (stepped men a o b y k u t x) t
-arrival_alike men a o b z y k u t x arrival flight h = search (rules, stands)
+module _ (men : List (Option Man)) (a : ℕ) (o : Option ℕ) (b : ℕ) (z y : Man) (k : ℕ) (u : Option ℕ) (t : ℕ) (x : Man) where
+  -- whichever man has arrived
+  pub arrival_alike : b < length men → t < length men → ((s : ℕ) → is_square u s ≡ true → s ≡ t)
+      → StandAlike (stepped men a o b z k u t x) (stepped men a o b y k u t x) t
+  arrival_alike arrival flight h = search (rules, stands)
 
--- so they do for each kind of arriving man
-pub same_elsewhere : (men : List (Option Man)) (a : ℕ) (o : Option ℕ) (b : ℕ) (z y : Man) (k : ℕ) (u : Option ℕ) (t : ℕ) (x : Man) (q : ℕ) → t < length men
-    → ((s : ℕ) → is_square u s ≡ true → s ≡ t) → (q ≡ b → q ≡ t)
-    → man_on (stepped men a o b z k u t x) q ≡ man_on (stepped men a o b y k u t x) q
-same_elsewhere men a o b z y k u t x q flight h off = search (rules, man_on-with_other, on_flight, on_left, on_others)
+  -- so they do for each kind of arriving man
+  pub same_elsewhere : (q : ℕ) → t < length men → ((s : ℕ) → is_square u s ≡ true → s ≡ t) → (q ≡ b → q ≡ t)
+      → man_on (stepped men a o b z k u t x) q ≡ man_on (stepped men a o b y k u t x) q
+  same_elsewhere q flight h off = search (rules, man_on-with_other, on_flight, on_left, on_others)
 
 -- the words of men with the king lifted
 pub lifted_words : (men : List (Option Man)) (a : ℕ) (o : Option ℕ) (b k : ℕ)
     → (sight_lifted men a o b k).occupied ≡ word (λ s. is_occupied_after men a o b s && not (k == s))
 lifted_words men a o b k = search (rules, occupied_words, squares_both, squares_not)
 
--- the men of the attack: the one that moved apart
-attacker_stands : (men : List (Option Man)) (a : ℕ) (o : Option ℕ) (b k : ℕ) (u : Option ℕ) (t : ℕ) (x : Man) (c : Colour) (j : Kind) (q : ℕ)
-    → IsStep men a o b k u t x c
-    → (is_man (man_on men q) c j && ((not (is_square o q) && not (a == q)) && not (t == q))) ≡ is_man (man_on (stepped men a o b x k u t x) q) c j
-attacker_stands men a o b k u t x c j q i = elim (cases_eq q t) [
-  | inl e ↦ rw (on_flight men a o b x k u t x q i.flight e) (grind (arith, and_right, eq-eqb, e, and_left, i.king))
-  | inr ne ↦ elim (cases_Bool (k == q)) [
-    | inl y ↦ grind (arith, eqb-true, no_man, and_left, on_left)
-    | inr n ↦ rw (on_others men a o b x k u t x q i.taken ne n) (elim (cases_eq q b) [
-      | inl e ↦ grind (arith, no_man, and_left, there_now)
-      | inr off ↦ grind (arith, cases_Bool (a == q || is_square o q), left_now men a o b x q off, kept_now men a o b x q off, differs, ne)
-    ])
+module _ (men : List (Option Man)) (a : ℕ) (o : Option ℕ) (b k : ℕ) (u : Option ℕ) (t : ℕ) (x : Man) (c : Colour) (i : IsStep men a o b k u t x c) where
+  -- the men of the attack: the one that moved apart
+  attacker_stands : (j : Kind) (q : ℕ) → (is_man (man_on men q) c j && ((not (is_square o q) && not (a == q)) && not (t == q)))
+      ≡ is_man (man_on (stepped men a o b x k u t x) q) c j
+  attacker_stands j q = elim (cases_eq q t) [
+    | inl e ↦ rw (on_flight men a o b x k u t x q i.flight e) (grind (arith, and_right, eq-eqb, e, and_left, i.king))
+    | inr ne ↦ elim (cases_Bool (k == q)) [
+      | inl y ↦ grind (arith, eqb-true, no_man, and_left, on_left)
+      | inr n ↦ rw (on_others men a o b x k u t x q i.taken ne n) (elim (cases_eq q b) [
+        | inl e ↦ grind (arith, no_man, and_left, there_now)
+        | inr off ↦ grind (arith, cases_Bool (a == q || is_square o q), left_now men a o b x q off, kept_now men a o b x q off, differs, ne)
+      ])
+    ]
   ]
-]
 
--- the words are those of the men once a man of the other side has come to b too
-pub seen_stepped : (men : List (Option Man)) (a : ℕ) (o : Option ℕ) (b k : ℕ) (u : Option ℕ) (t : ℕ) (x : Man) (c : Colour) → IsStep men a o b k u t x c
-    → AreSeen men (stepped men a o b x k u t x) c (sight_with (sight_lifted men a o b k) t)
-unfolding squares_of
-seen_stepped men a o b k u t x c i = search (rules, attacker_stands, occupied_stepped, squares_both, squares_not, squares_same)
+  -- the words are those of the men once a man of the other side has come to b too
+  pub seen_stepped : AreSeen men (stepped men a o b x k u t x) c (sight_with (sight_lifted men a o b k) t)
+  unfolding squares_of
+  seen_stepped = search (rules, attacker_stands, occupied_stepped, squares_both, squares_not, squares_same)
