@@ -181,9 +181,8 @@ module _ (rule : RuleSet) (p : Position) (m : Move) (x : Man) (v : Siege) (k : �
             | inr sides ↦ elim castle.far [
               | inl f ↦ shuts (corner n) (halfway n) (rw (f.1.0, f.1.1) sides.0) unmoved.1 castle.between half
               | inr f ↦
-                  let at : corner n ≡ n.from - 4 = omega (arith, f.1.0) in
-                  let mid : halfway n ≡ n.from - 1 = omega (arith, f.1.1) in
-                  shuts (corner n) (halfway n) (rw (at, mid) sides.1) unmoved.1 castle.between half
+                  let at : (corner n ≡ n.from - 4) × (halfway n ≡ n.from - 1) = (omega (arith, f.1.0), omega (arith, f.1.1)) in
+                  shuts (corner n) (halfway n) (rw (at.0, at.1) sides.1) unmoved.1 castle.between half
             ]
           ]
 

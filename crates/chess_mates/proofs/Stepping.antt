@@ -1,6 +1,6 @@
 -- The men once a man has made a move and the enemy king a step, and what an attack then sees.
 use Rattle.chess_rules.proofs.Basics.{List, None, Option, Some, and_left, and_right, arith, cases_Bool, cases_eq, eq-eqb, eqb-true, false, false_from_ne_true, inl, inr, is_some, length, length-set, not, or_from, or_left, rules, true, ℕ, ◌&&◌, ◌<◌, ◌==◌, ◌||◌, ◌≡◌, ◌≢◌}
-use Rattle.chess_mates.proofs.Chess.{sight_lifted, sight_with, AreSeen, Colour, Kind, Man, differs, is_man, is_of_colour, is_square, man_on, man_on-with_other, man_on-without_other, man_on-without_same, occupied_squares, same_colour, squares_both, squares_either, squares_not, squares_of, squares_same, without_man, word}
+use Rattle.chess_mates.proofs.Chess.{sight_lifted, sight_with, AreSeen, Colour, Kind, Man, differs, is_man, is_of_colour, is_square, man_on, man_on-with_other, man_on-without_other, man_on-without_same, occupied_squares, same_colour, squares_both, squares_either, squares_not, squares_of, without_man, word}
 use Rattle.chess_mates.proofs.Landing.{StandAlike}
 use Rattle.chess_rules.proofs.making_moves.Plays.{length-without_at}
 use Rattle.chess_rules.proofs.attacks.Seeing.{gone_to, is_occupied_after, kept_now, left_now, no_man, occupied_now, occupied_words, there_now}
@@ -97,4 +97,4 @@ module _ (men : List (Option Man)) (a : ℕ) (o : Option ℕ) (b k : ℕ) (u : O
   -- the words are those of the men once a man of the other side has come to b too
   pub seen_stepped : AreSeen men (stepped men a o b x k u t x) c (sight_with (sight_lifted men a o b k) t)
   unfolding squares_of
-  seen_stepped = search (rules, attacker_stands, occupied_stepped, squares_both, squares_not, squares_same)
+  seen_stepped = search (rules, attacker_stands, occupied_stepped, squares_both, squares_not)

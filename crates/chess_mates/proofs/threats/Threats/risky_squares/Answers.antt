@@ -1,5 +1,5 @@
-use Rattle.chess_rules.proofs.Basics.{Some, ap, arith, rules, sym, ◌∙◌, ◌≡◌}
-use Rattle.chess_mates.proofs.Chess.{is_pseudo_legal-from_legal, maker, man_on}
+use Rattle.chess_rules.proofs.Basics.{ap, arith, rules, sym, ◌∙◌}
+use Rattle.chess_mates.proofs.Chess.{is_pseudo_legal-from_legal, maker}
 use Rattle.chess_mates.proofs.Ways.{moves_are_risky, steps_are_risky, unkept_are_risky}
 use Rattle.chess_mates.specs.ties.Threats.{ToldThreats}
 use Rattle.chess_mates.proofs.threats.Threats.risky_squares.Goals as goal
@@ -11,17 +11,16 @@ returns-in_default-clause-risky g c = record {
 
 pub returns-then-is-clause-risky : goal.returns-then-is-clause-risky
 returns-then-is-clause-risky g c =
-    let here : man_on c.args.board.now.men c.args.from ≡ Some c.in-Some.man = sym c.man_at.ensures ∙ c.in-Some.is in
-    steps_are_risky _ _ _ _ c.requires.well_formed c.requires.threats _ _ _ _ here (omega arith) (omega arith)
+    steps_are_risky _ _ _ _ c.requires.well_formed c.requires.threats _ _ _ _ (sym c.man_at.ensures ∙ c.in-Some.is) (omega arith) (omega arith)
     c.unplain_squares-unplain.ensures.plain c.unplain_squares-unplain.ensures.mere (omega arith) (search rules)
     (rw (ap (λ (t : ToldThreats). t.siege) c.self.view_is) at c.kept_risky_steps-risky.ensures.risky)
 
 pub returns-clause-risky : goal.returns-clause-risky
 returns-clause-risky g c =
     let siege = ap (λ (t : ToldThreats). t.siege) c.self.view_is in
-    let here : man_on c.args.board.now.men c.args.from ≡ Some c.in-Some.man = sym c.man_at.ensures ∙ c.in-Some.is in
     let mortal = sym c.is.ensures ∙ c.if-is.false in
-    unkept_are_risky _ _ _ _ c.requires.well_formed c.requires.threats _ _ c.unkept_squares-left.result _ here (omega arith) mortal
+    unkept_are_risky _ _ _ _ c.requires.well_formed c.requires.threats _ _ c.unkept_squares-left.result _
+    (sym c.man_at.ensures ∙ c.in-Some.is) (omega arith) mortal
     (λ t low on off. let unkept = c.unkept_squares-left.ensures t low on off in (unkept.0, (rw siege at c.self.invariant.2).keeps t low unkept.1))
-    (moves_are_risky _ _ _ _ c.requires.well_formed c.requires.threats _ _ _ _ here (omega arith) (omega arith)
+    (moves_are_risky _ _ _ _ c.requires.well_formed c.requires.threats _ _ _ _ (sym c.man_at.ensures ∙ c.in-Some.is) (omega arith) (omega arith)
     c.unplain_squares-unplain.ensures.plain c.unplain_squares-unplain.ensures.mere (omega arith) mortal (rw siege at c.critical_of-critical.ensures.safe))
