@@ -127,7 +127,8 @@ module _ (rule : RuleSet) (p : Position) (m : Move) (x : Man) (v : Siege) (k : �
       → reaches_as men z.colour z.kind t k ≡ false
   unfolding reached_over
   off_word men o s t z a inside plain off stays last =
-      let over = later_but v.hurdles men m.from o (other z.colour) z.kind k t plain stays (λ rider. shut_off (other z.colour) z.kind (may_ride s z a rider)) last in
+      let shut = λ (rider : is_rider z.kind ≡ true). shut_off (other z.colour) z.kind (may_ride s z a rider) in
+      let over = later_but v.hurdles men m.from o (other z.colour) z.kind k t plain stays shut last in
       grind (arith, reaches_back men z.colour z.kind t k plain inside at_k, (weak_at s z a).word.inside plain t inside, i.at.king, over)
 
   module _ (n : Move) (to : n.to < 64) (can : is_pseudo_legal rule q n ≡ true) where
