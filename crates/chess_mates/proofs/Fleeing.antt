@@ -1,9 +1,8 @@
 -- A flight after a move, told by the men that an attack on it sees.
-use Rattle.chess_rules.proofs.Basics.{Bool, List, None, Option, Some, and_from, and_left, and_parts, and_right, ap, arith, bit_and, bit_at, bit_at-lt, bit_at_and, bit_not, bit_or, cases_Bool, cases_eq, cond-false, cond-true, eq-eqb, eqb-true, false, false_from_ne_true, false≢true, inl, inr, is_some, length, list_any, not, not-true, or_cases, or_left, or_parts, or_right, refl, rules, suc, sym, true, w64, zero, ℕ, ◌&&◌, ◌*◌, ◌+◌, ◌<◌, ◌==◌, ◌||◌, ◌∙◌, ◌≡◌, ◌≢◌}
-use Rattle.chess_rules.specs.ties.Places.{all_triples, per_arrival, per_origin}
-use Rattle.chess_mates.proofs.Chess.{Colour, IsWellFormed, King, Man, Move, Pawn, Position, RuleSet, any_range_cases, any_range_false, arriving_man, capture_square, differs, first_of_and, is_arrival_free, is_attacked, captures_do_more, is_legal, is_man, is_mate, is_nil, is_of_colour, is_square, king_after, king_square, leaps, man_on, mates, moves, position_after}
-use Rattle.chess_mates.proofs.Chess.{is_paralysed, is_pseudo_legal, is_reached, moves_behind, occupied_squares, other, queen_steps, reaches, reaches_as, reaches_of, same_colour, same_colour-true, same_kind, side_of, sight_lifted, some_square, some_square_true, squares, squares_both, squares_either, squares_not}
-use Rattle.chess_mates.proofs.Chess.{squares_of, triple_at, without_man, word}
+use Rattle.chess_rules.proofs.Basics.{Bool, List, None, Option, Some, and_from, and_left, and_parts, and_right, ap, arith, bit_and, bit_at, bit_at-lt, bit_at_and, bit_not, bit_or, cases_Bool, cases_eq, cond-false, cond-true, eq-eqb, eqb-true, false, false_from_ne_true, false≢true, inl, inr, is_some, length, list_any, not, not-true, or_cases, or_left, or_parts, or_right, refl, rules, sym, true, w64, ℕ, ◌&&◌, ◌<◌, ◌==◌, ◌||◌, ◌∙◌, ◌≡◌, ◌≢◌}
+use Rattle.chess_mates.proofs.Chess.{Colour, IsWellFormed, King, Man, Move, Pawn, Position, RuleSet, any_range_cases, any_range_false, arriving_man, capture_square, differs, first_of_and, is_arrival_free, is_attacked, captures_do_more, is_legal, is_man, is_mate, is_nil, is_of_colour, is_square, king_square, leaps, man_on, mates, moves, position_after}
+use Rattle.chess_mates.proofs.Chess.{is_paralysed, is_pseudo_legal, is_reached, occupied_squares, other, queen_steps, reaches, reaches_as, reaches_of, same_colour, same_colour-true, same_kind, side_of, sight_lifted, some_square, some_square_true, squares, squares_both, squares_either, squares_not}
+use Rattle.chess_mates.proofs.Chess.{squares_of, without_man, word}
 use Rattle.std.proofs.Common.{ap₂}
 use Rattle.chess_mates.specs.ties.Flights.{AreOpen, AreSteps, IsSafe, IsSeenFrom, has_flight, is_flight, is_flight_at, is_open}
 use Rattle.chess_rules.proofs.Bits.{word_has}
@@ -12,47 +11,31 @@ use Rattle.chess_rules.proofs.attacks.Attacking.{some_square_same}
 use Rattle.chess_rules.proofs.attacks.Shielding.{not_attacked}
 use Rattle.chess_rules.proofs.attacks.Exposing.{IsSimple, captures_arrival, check_is}
 use Rattle.chess_rules.proofs.making_moves.Fits.{arrived, arriving_king, capture_of_piece, king_no_step, no_capture, taken}
+use Rattle.chess_rules.proofs.listing_moves.Triples.{nothing_in}
+use Rattle.chess_rules.proofs.theorems.Moves.{moves_are_the_legal_triples}
 use Rattle.chess_mates.proofs.Landing.{StandAlike, no_reach_there, reaches_alike}
 use Rattle.chess_mates.proofs.Mating.{turn_after}
-use Rattle.chess_rules.proofs.listing_moves.Places.{moves_behind-here, moves_behind-skip, moves_behind-start}
 use Rattle.chess_rules.proofs.making_moves.Plays.{none_from_is_some}
 use Rattle.chess_rules.proofs.making_moves.Pseudo.{IsMade, king_is_no_pawn, made}
-use Rattle.chess_rules.proofs.attacks.Seeing.{gone_to, is_occupied_after, kept_now, king_stands, left_now, occupied_now, there_now}
+use Rattle.chess_rules.proofs.attacks.Seeing.{gone_to, kept_now, king_stands, left_now, occupied_now, there_now}
 use Rattle.chess_rules.proofs.attacks.Shielding.{other_twice, arriving_colour, man_there, other_differs, simple_after}
 use Rattle.chess_rules.proofs.attacks.StayingInCheck.{king_there}
 use Rattle.chess_rules.proofs.making_moves.Stays.{after_well_formed}
 use Rattle.chess_mates.proofs.Stepping.{IsStep, arrival_alike, lifted_alike, lifted_words, occupied_lifted, same_elsewhere, seen_stepped, stands_arrived, stepped}
 use Rattle.chess_rules.proofs.listing_moves.Walks.{on_first}
 
--- a legal move is one of the moves
-some_left : (rule : RuleSet) (p : Position) (n : ℕ) → n < all_triples → is_legal rule p (triple_at n) ≡ true → (j a : ℕ) → a + j ≡ n
-    → is_nil (moves_behind rule p a) ≡ false
-some_left rule p n lt h zero a e = search (rules, moves_behind-here)
-some_left rule p n lt h (suc j) a e = grind (arith, cases_Bool, moves_behind-here, moves_behind-skip, some_left rule p n lt h j (a + 1) (omega (arith, e)))
-
-triple_there : (k t : ℕ) → t < 64 → triple_at (k * per_origin + t * per_arrival) ≡ record { from = k; to = t; promo = None }
-unfolding triple_at
-triple_there k t there = search rules
-
-some_legal : (rule : RuleSet) (p : Position) (k t : ℕ) → k < 64 → t < 64 → is_legal rule p (record { from = k; to = t; promo = None }) ≡ true
-    → is_nil (moves rule p) ≡ false
-some_legal rule p k t small there h =
-    ap is_nil (sym (moves_behind-start rule p))
-    ∙ some_left rule p (k * per_origin + t * per_arrival) (omega (arith, small, there)) (ap (is_legal rule p) (triple_there k t there) ∙ h)
-    (k * per_origin + t * per_arrival) 0 (omega arith)
-
 -- a side with a flight isn't mated
 flight_is_legal : (rule : RuleSet) (p : Position) (o : Option ℕ) (t : ℕ) → king_square p.men p.turn ≡ o → t < 64 → is_flight_at rule p o t ≡ true
     → is_nil (moves rule p) ≡ false
 flight_is_legal rule p None t at small h = absurd (false≢true h)
-flight_is_legal rule p (Some k) t at small h = some_legal rule p k t (king_there p.men p.turn k at).0 small h
+flight_is_legal rule p (Some k) t at small h = false_from_ne_true _ (λ none.
+    nothing_in (moves rule p) none _ ((moves_are_the_legal_triples rule p _).1 (((king_there p.men p.turn k at).0, small, search rules), h)))
 
 flight_there : (rule : RuleSet) (p : Position) → has_flight rule p ≡ true → is_nil (moves rule p) ≡ false
 unfolding has_flight is_flight some_square squares
-flight_there rule p h = elim (any_range_cases (λ t. is_flight_at rule p (king_square p.men p.turn) t) 0 64) [
-  | inl w ↦ flight_is_legal rule p (king_square p.men p.turn) w.0 refl (omega (arith, w.2)) w.3
-  | inr none ↦ absurd (false≢true (sym (any_range_false (λ t. is_flight_at rule p (king_square p.men p.turn) t) 0 64 none) ∙ h))
-]
+flight_there rule p h =
+    let flight = is_flight_at rule p (king_square p.men p.turn) in
+    grind (arith, any_range_cases flight 0 64, any_range_false flight 0 64, flight_is_legal rule p (king_square p.men p.turn), false≢true)
 
 -- for moves behind which a flight is left
 pub no_mate_with_flight : (rule : RuleSet) (p : Position) (m : Move) → has_flight rule (position_after rule p m) ≡ true → false ≡ mates rule p m
@@ -77,11 +60,10 @@ unseen_bit test n w t h small on = search (rules, on_second, squares_not, word_h
 -- the squares to which a king may step, attacks apart: the test by words says it of men that stay, are gone, or have come
 if_stays : (c : Colour) (o : Option Man) (h a : Bool) → (a || h) ≡ false
     → not ((is_of_colour o (other c) && (not h && not a)) || is_man o c King) ≡ is_arrival_free (other c) o
-if_stays c None h a off = refl
-if_stays c (Some y) h a off = grind (arith, cases_Bool (same_kind y.kind King), or_parts)
+if_stays c o h a off = grind (arith, or_parts)
 
 arrived_free : (c : Colour) (z : Man) → same_colour z.colour (other c) ≡ false → same_kind z.kind King ≡ false → is_arrival_free (other c) (Some z) ≡ true
-arrived_free c z side king = and_from (not (same_colour z.colour (other c))) _ (ap not side) (ap not king)
+arrived_free c z side king = grind arith
 
 if_gone : (i o a k : Bool) → (a || o) ≡ true → k ≡ false → not ((i && (not o && not a)) || k) ≡ true
 if_gone i o a k h n = grind arith
@@ -102,18 +84,15 @@ closed_words p a o c w n side kings l standing = search (rules, squares_both, sq
 pub reached_near : (men : List (Option Man)) (c : Colour) (k w t : ℕ) → w ≡ word (λ t. list_any (leaps k t) queen_steps) → t < 64 → (bit_at w t == 1) ≡ true
     → reaches_as men c King k t ≡ true
 unfolding reaches_as
-reached_near men c k w t h small on = sym (word_has (λ t. list_any (leaps k t) queen_steps) w t h small) ∙ on
+reached_near men c k w t h small on = search (rules, word_has)
 
 and_also : (a b : Bool) → b ≡ true → a ≡ (a && b)
 and_also a b h = grind arith
 
-both_bits : (a b i : ℕ) → (bit_at a i == 1) ≡ true → (bit_at b i == 1) ≡ true → (bit_at (bit_and a b) i == 1) ≡ true
-both_bits a b i x y = search (rules, bit_at_and, eq-eqb, eqb-true)
-
 -- and for one of the first that the test leaves out
 pub seen_bit : (test : ℕ → Bool) (n w t : ℕ) → w ≡ word test → t < 64 → (bit_at n t == 1) ≡ true → (bit_at w t == 1) ≡ false
     → (bit_at (bit_and n (bit_not w64 w)) t == 1) ≡ true
-seen_bit test n w t h small on off = search (rules, both_bits, squares_not, word_has)
+seen_bit test n w t h small on off = search (rules, bit_at_and, eq-eqb, eqb-true, squares_not, word_has)
 
 first_false : (a b : Bool) → (a && b) ≡ false → b ≡ true → a ≡ false
 first_false a b h e = grind arith
@@ -124,7 +103,7 @@ module _ (rule : RuleSet) (p : Position) (m : Move) (x : Man) (k : ℕ) (i : IsS
   is_made = made rule p m x i.pseudo i.here
 
   simply : IsSimple rule p x m
-  simply = let h = i.simple in grind (arith, and_parts, not-true)
+  simply = grind (arith, i.simple, and_parts, not-true)
 
   pub after_seen : (position_after rule p m).men ≡ arrived p x m
   after_seen = simple_after rule p x m i.here simply.castling simply.rebirth
@@ -133,34 +112,21 @@ module _ (rule : RuleSet) (p : Position) (m : Move) (x : Man) (k : ℕ) (i : IsS
   no_king_arrives mortal = search (rules, false_from_ne_true, false≢true, arriving_king, is_made)
 
   pub no_own_arrives : same_colour (arriving_man x m.promo).colour (other p.turn) ≡ false
-  no_own_arrives = ap (λ (c : Colour). same_colour c (other p.turn)) (arriving_colour x m.promo ∙ is_made.mine) ∙ other_differs p.turn
+  no_own_arrives = grind (arith, arriving_colour, is_made, other_differs)
 
   -- no king leaves his square, unless he goes
   no_king_left : (c : Colour) (t : ℕ) → is_man (Some x) c King ≡ false → (m.from == t || is_square (capture_square p x m) t) ≡ true
       → is_man (man_on p.men t) c King ≡ false
-  no_king_left c t stays gone = elim (or_cases (m.from == t) (is_square (capture_square p x m) t) gone) [
-    | inl from ↦
-        ap (λ (o : Option Man). is_man o c King) (ap (man_on p.men) (sym (eqb-true m.from t from)) ∙ i.here) ∙ stays
-    | inr there ↦
-        let w = taken rule p x m t i.well_formed is_made (square_is (capture_square p x m) t there) in
-        ap (λ (o : Option Man). is_man o c King) w.there ∙ and_right (same_colour w.man.colour c) _ w.mortal
-  ]
+  no_king_left c t stays gone =
+      grind (arith, or_cases (m.from == t), eqb-true m.from t, taken rule p x m t i.well_formed is_made, square_is (capture_square p x m) t, and_right, i.here)
 
   no_enemy_king : is_man (Some x) (other p.turn) King ≡ false
-  no_enemy_king = and_left _ _ (ap (λ (c : Colour). same_colour c (other p.turn)) is_made.mine ∙ other_differs p.turn)
+  no_enemy_king = grind (arith, is_made, other_differs, and_left)
 
   module _ (small : m.to < 64) where
     pub king_seen : king_square (position_after rule p m).men (other p.turn) ≡ Some k
     king_seen =
-        ap (λ (l : List (Option Man)). king_square l (other p.turn)) after_seen
-        ∙ king_stands p.men m.from (capture_square p x m) m.to (arriving_man x m.promo) (other p.turn) (record {
-          small = omega (arith, small, i.well_formed.size);
-          here = no_king_left (other p.turn) m.from no_enemy_king (or_left (m.from == m.from) _ (eq-eqb m.from m.from refl));
-          comes = and_left _ _ no_own_arrives;
-          arrival = no_king_free p.turn (other p.turn) (man_on p.men m.to) is_made.arrival;
-          captured = λ s at. no_king_left (other p.turn) s no_enemy_king (or_right (m.from == s) _ at);
-        })
-        ∙ i.king
+        search (rules, after_seen, king_stands, no_king_left, no_enemy_king, or_left, eq-eqb, and_left, no_own_arrives, no_king_free, is_made, or_right)
 
     abbrev is_free : ℕ → Bool
     is_free t =
@@ -191,21 +157,14 @@ module _ (rule : RuleSet) (p : Position) (m : Move) (x : Man) (k : ℕ) (i : IsS
 
     -- but where he has come
     free_elsewhere : (t : ℕ) → t ≢ m.to → is_free t ≡ true → is_arrival_free (other p.turn) (man_on (arrived p x m) t) ≡ true
-    free_elsewhere t ne free = elim (cases_Bool (m.from == t || is_square (capture_square p x m) t)) [
-      | inl gone ↦ ap (is_arrival_free (other p.turn)) (left_now p.men m.from (capture_square p x m) m.to (arriving_man x m.promo) t ne gone)
-      | inr stays ↦
-          ap (is_arrival_free (other p.turn)) (kept_now p.men m.from (capture_square p x m) m.to (arriving_man x m.promo) t ne stays)
-          ∙ sym (if_stays p.turn (man_on p.men t) (is_square (capture_square p x m) t) (m.from == t) stays)
-          ∙ free
-    ]
+    free_elsewhere t ne free = grind (arith, cases_Bool, left_now, kept_now, if_stays)
 
     -- where the king may step, attacks apart
     open_there : (t : ℕ) → t < 64 → (list_any (leaps k t) queen_steps && is_free t) ≡ true → is_arrival_free (other p.turn) (man_on (arrived p x m) t) ≡ true
     unfolding reaches_as
     open_there t lt h = elim (cases_Bool (same_kind x.kind King)) [
-      | inr mortal ↦ sym (free_there mortal t) ∙ (and_parts _ _ h).1
-      | inl king ↦ free_elsewhere t (λ e. false≢true (sym (i.apart king) ∙ ap (reaches_as p.men (other p.turn) King k) (sym e) ∙ (and_parts _ _ h).0))
-          (and_parts _ _ h).1
+      | inr mortal ↦ grind (arith, free_there mortal t, and_parts)
+      | inl king ↦ grind (arith, free_elsewhere t, cases_eq t m.to, i.apart king, and_parts, false≢true)
     ]
 
     -- for the word of squares open to the king: without Circe
@@ -238,11 +197,21 @@ module _ (rule : RuleSet) (p : Position) (m : Move) (x : Man) (k : ℕ) (i : IsS
     open_squares_in_circe w l circe near occupied =
         let held = occupied ∙ lifted_words p.men m.from (capture_square p x m) m.to k in
         record {
-          inside = λ t lt on.
-              let reached = reached_near (position_after rule p m).men (other p.turn) k w t near lt (on_first w _ t on) in
-              let off : (is_occupied_after p.men m.from (capture_square p x m) m.to t && not (k == t)) ≡ false = sym (word_has _ l t held lt)
-              ∙ unseen_bit _ w l t held lt on in
-              grind (arith, differs, false≢true, no_reach_there, none_from_is_some, occupied_now, first_false, after_seen, and_from, and_right);
+          inside = λ t lt on. grind (
+            arith,
+            reached_near (position_after rule p m).men (other p.turn) k w t near lt (on_first w _ t on),
+            word_has _ l t held lt,
+            unseen_bit _ w l t held lt on,
+            differs,
+            false≢true,
+            no_reach_there,
+            none_from_is_some,
+            occupied_now,
+            first_false,
+            after_seen,
+            and_from,
+            and_right,
+          );
           outside = λ _ none. absurd (false≢true (sym none ∙ circe));
         }
 
@@ -269,21 +238,12 @@ module _ (men : List (Option Man)) (a : ℕ) (o : Option ℕ) (b : ℕ) (z : Man
   then = stepped men a o b x k u t x
 
   arrival_seen : reaches_as now z.colour z.kind b t ≡ (bit_at r t == 1)
-  arrival_seen =
-      let lifted : List (Option Man) = without_man (gone_to men a o b z) k in
-      reaches_alike now lifted z.colour z.kind b t (lifted_alike men a o b z k u t x i.step.arrival i.step.flight i.step.taken)
-      ∙ sym (grind (arith, word_has, occupied_lifted))
-
-  elsewhere : (s : ℕ) → (s ≡ b → s ≡ t)
-      → (is_of_colour (man_on now s) c && reaches now s t) ≡ (is_of_colour (man_on then s) c && reaches then s t)
-  unfolding reaches
-  elsewhere s off =
-      ap (λ (y : Option Man). is_of_colour y c && reaches_of now y s t) (same_elsewhere men a o b z x k u t x s i.step.flight i.step.taken off)
-      ∙ ap (λ (y : Bool). is_of_colour (man_on then s) c && y) (grind (arith, reaches_alike_of, arrival_alike))
+  arrival_seen = search (rules, reaches_alike now (without_man (gone_to men a o b z) k), lifted_alike, word_has, occupied_lifted, i)
 
   same_strikes : (bit_at r t == 1) ≡ false → (s : ℕ) → (is_of_colour (man_on now s) c && reaches now s t) ≡ (is_of_colour (man_on then s) c && reaches then s t)
   unfolding reaches
-  same_strikes unseen s = grind (arith, cases_eq s b, cases_eq s t, elsewhere, stands_arrived, and_right, and_left, arrival_seen)
+  same_strikes unseen s =
+      grind (arith, cases_eq s b, cases_eq s t, same_elsewhere, reaches_alike_of, arrival_alike, stands_arrived, and_right, and_left, arrival_seen)
 
   -- whom the man that has arrived doesn't reach is reached by the others alone
   pub reached_alike : (bit_at r t == 1) ≡ false → is_reached now t c ≡ is_reached then t c
@@ -294,11 +254,8 @@ module _ (men : List (Option Man)) (a : ℕ) (o : Option ℕ) (b : ℕ) (z : Man
   pub arrived_strikes : same_colour z.colour c ≡ true → (bit_at r t == 1) ≡ true → is_reached now t c ≡ true
   unfolding is_reached reaches
   arrived_strikes mine on =
-      let small : b < 64 = omega (arith, i.step.arrival, i.size) in
-      let off : b ≢ t = λ e. false≢true (sym (no_reach_there now z.colour z.kind b small) ∙ ap (reaches_as now z.colour z.kind b) e ∙ arrival_seen ∙ on) in
-      let there : man_on now b ≡ Some z = stands_arrived men a o b z k u t x b i.step.arrival i.step.taken refl off i.step.apart in
-      some_square_true (λ s. is_of_colour (man_on now s) c && reaches now s t) b small
-      (ap (λ (y : Option Man). is_of_colour y c && reaches_of now y b t) there ∙ and_from _ _ mine (arrival_seen ∙ on))
+      some_square_true (λ s. is_of_colour (man_on now s) c && reaches now s t) b (omega (arith, i.step.arrival, i.size))
+      (grind (arith, arrival_seen, no_reach_there now z.colour z.kind b, cases_eq b t, stands_arrived men a o b z k u t x b, and_from, false≢true, i.step))
 
 -- the step itself
 other_side : (o : Option Man) (c : Colour) → is_man o (other c) King ≡ true → is_of_colour o c ≡ false
@@ -358,9 +315,12 @@ module _ (rule : RuleSet) (q : Position) (x : Man) (k t : ℕ) (i : IsKingStep r
   step_is : is_legal rule q (step_to k t) ≡ not (is_attacked rule (arrived q x (step_to k t)) t (other q.turn))
   unfolding is_legal
   step_is =
-      let king : king_after q x (step_to k t) ≡ Some t = cond-true (same_kind x.kind King) _ _ i.king in
-      ap₂ (λ a b. a && not b) may_step (check_is rule q x (step_to k t) (Some t) i.well_formed (made rule q (step_to k t) x may_step i.here) i.small
-      simple_step king)
+      search (
+        rules,
+        may_step,
+        check_is rule q x (step_to k t) (Some t) i.well_formed (made rule q (step_to k t) x may_step i.here) i.small
+            simple_step (cond-true (same_kind x.kind King) _ _ i.king),
+      )
 
   pub step_is_legal : is_attacked rule (arrived q x (step_to k t)) t (other q.turn) ≡ false → is_legal rule q (step_to k t) ≡ true
   step_is_legal safe = step_is ∙ ap not safe
@@ -401,24 +361,14 @@ module _ (rule : RuleSet) (p : Position) (m : Move) (x : Man) (k : ℕ) (i : IsS
 
   pub king_step : (y : Man) (t : ℕ) → t < 64 → IsKingOn (position_after rule p m).men (other p.turn) k y
       → is_open rule (position_after rule p m).men (other p.turn) k t ≡ true → IsKingStep rule (position_after rule p m) y k t
-  king_step y t there king way = record {
-    well_formed = after_well_formed rule p m i.well_formed i.pseudo;
-    here = king.here;
-    mine = ap (same_colour y.colour) turn_is ∙ king.mine;
-    king = king.king;
-    small = there;
-    near = ap (λ (c : Colour). is_open rule (position_after rule p m).men c k t) turn_is ∙ way;
-  }
+  king_step y t there king way = search (rules, after_well_formed, turn_is, i.pseudo)
 
   -- the king's step is legal where nobody attacks him then
   pub step_legal_is : (y : Man) (t : ℕ) → t < 64 → IsKingOn (position_after rule p m).men (other p.turn) k y
       → is_open rule (position_after rule p m).men (other p.turn) k t ≡ true
       → is_legal rule (position_after rule p m) (step_to k t) ≡ not (is_attacked rule (men_stepped y t) t p.turn)
   step_legal_is y t there king way =
-      step_is rule (position_after rule p m) y k t (king_step y t there king way)
-      ∙ ap not (ap (λ (l : List (Option Man)). is_attacked rule (gone_to l k (step_taken y t) t y) t (other (position_after rule p m).turn))
-      (after_seen rule p m x k i)
-      ∙ ap (is_attacked rule (men_stepped y t) t) (ap other turn_is ∙ other_twice p.turn))
+      search (rules, step_is rule (position_after rule p m) y k t (king_step y t there king way), after_seen, turn_is, other_twice)
 
   module _ (n r : ℕ)
       (arrives : (l : List (Option Man)) → (sight_lifted p.men m.from (capture_square p x m) m.to k).occupied ≡ occupied_squares l

@@ -1,10 +1,9 @@
 -- Flights that one move can't take.
 use Rattle.chess_core.proofs.Kept.{same_colour-refl}
 use Rattle.chess_rules.specs.ties.Places.{all_triples}
-use Rattle.chess_rules.proofs.Basics.{List, None, Option, Some, [], and_from, and_left, and_parts, and_right, ap, arith, bit_and, bit_at, bit_at_and, bit_not, bit_or, cases_Bool, eq-eqb, eqb-true, false, false_from_ne_true, false≢true, find, inl, inr, list_any, not, or_lt, range_with_len, refl, rules, sym, true, w64, ℕ, ◌&&◌, ◌<◌, ◌==◌, ◌^◌, ◌∙◌, ◌≡◌, ◌≢◌, ◌⊎◌}
-use Rattle.chess_mates.proofs.Chess.{Bishop, Colour, Grasshopper, IsWellFormed, King, Knight, Man, Move, Nightrider, Pawn, Position, Queen, Rook, RuleSet, is_promoting, arriving_man, capture_square, find_first, is_arrival_free, is_attacked, is_castling, captures_do_more, is_man, is_pseudo_legal, is_of_colour, is_square, king_after, king_square, leaps, man_on, mates, mates_behind, may_go, other, position_after, queen_steps}
-use Rattle.chess_mates.proofs.Chess.{reaches, reaches_as, reaches_of, same_colour, same_colour-true, same_kind, same_kind-true, side_of, some_square_false, some_square_true, squares_of, is_attacker, triple_at, word}
-use Rattle.chess_mates.specs.ties.Flights.{has_flight, is_flight, is_flight_at, is_open}
+use Rattle.chess_rules.proofs.Basics.{List, None, Option, Some, [], and_left, and_parts, and_right, ap, arith, bit_and, bit_at, bit_at_and, bit_not, bit_or, cases_Bool, cases_eq, eq-eqb, eqb-true, false, false_from_ne_true, false≢true, find, inl, inr, list_any, not, or_lt, range_with_len, refl, rules, sym, true, w64, ℕ, ◌<◌, ◌==◌, ◌^◌, ◌∙◌, ◌≡◌, ◌≢◌, ◌⊎◌}
+use Rattle.chess_mates.proofs.Chess.{Bishop, Colour, Grasshopper, IsWellFormed, King, Knight, Man, Move, Nightrider, Pawn, Position, Queen, Rook, RuleSet, is_promoting, arriving_man, capture_square, find_first, is_arrival_free, is_castling, captures_do_more, is_man, is_pseudo_legal, is_square, king_after, king_square, leaps, man_on, mates, mates_behind, may_go, other, position_after, queen_steps}
+use Rattle.chess_mates.proofs.Chess.{reaches_as, same_colour, same_kind, same_kind-true, side_of, squares_of, triple_at, word}
 use Rattle.std.proofs.Common.{IfSome}
 use Rattle.chess_mates.specs.declared.attackers.Attackers.{Attackers}
 use Rattle.chess_mates.specs.ties.Attackers.{AreAttackers, IsAttacker}
@@ -24,12 +23,12 @@ use Rattle.chess_rules.proofs.making_moves.Stays.{after_well_formed, maker}
 use Rattle.chess_mates.proofs.CheckTargets.{last_rank_on}
 use Rattle.chess_mates.proofs.FarMen.{off_denied}
 use Rattle.chess_rules.proofs.listing_moves.Walks.{off_second, off_zero, on_first}
-use Rattle.chess_mates.proofs.Fleeing.{IsKingOn, IsKingStep, king_on, no_king_free, no_mate_with_flight, no_strike, step_is_legal, step_to, unseen_bit}
+use Rattle.chess_mates.proofs.Fleeing.{IsKingOn, no_king_free, no_mate_with_flight, step_to, unseen_bit}
 use Rattle.chess_mates.proofs.Mating.{mates_behind-end, mates_behind-none, not_mating, turn_after}
 use Rattle.chess_mates.proofs.Hurdles.{hops_openly}
 use Rattle.chess_mates.specs.ties.Siege.{men_on}
 use Rattle.chess_mates.proofs.OpenBoard.{any_reach}
-use Rattle.chess_mates.proofs.Standing.{arrival_small, free_man, no_hopper, not_mine, stood, unnamed}
+use Rattle.chess_mates.proofs.Standing.{arrival_small, has_one, no_hopper, not_mine, stood, unnamed}
 
 -- for words that are joined: the first has what it reached
 pub reached_left : (x : Man) (s a b : ℕ) → AreReached x s a → AreReached x s (bit_or a b)
@@ -46,14 +45,10 @@ pub all_guard : (a : Attackers) (k q r b n p g y : ℕ) → HoldsOf a (λ x s. A
     → AreGuarded a (bit_or (bit_or (bit_or (bit_or (bit_or (bit_or (bit_or k q) r) b) n) p) g) y)
 all_guard a k q r b n p g y kings queens rooks bishops knights pawns grasshoppers nightriders = record {
   guards = of_all a (λ x s. AreReached x s (bit_or (bit_or (bit_or (bit_or (bit_or (bit_or (bit_or k q) r) b) n) p) g) y))
-      (λ s low on. search (rules, reached_left, reached_right, kings))
-      (λ s low on. search (rules, reached_left, reached_right, queens))
-      (λ s low on. search (rules, reached_left, reached_right, rooks))
-      (λ s low on. search (rules, reached_left, reached_right, bishops))
-      (λ s low on. search (rules, reached_left, reached_right, knights))
-      (λ s low on. search (rules, reached_left, reached_right, pawns))
-      (λ s low on. search (rules, reached_left, reached_right, grasshoppers))
-      (λ s low on. search (rules, reached_left, reached_right, nightriders));
+      (search (rules, reached_left, reached_right, kings)) (search (rules, reached_left, reached_right, queens))
+      (search (rules, reached_left, reached_right, rooks)) (search (rules, reached_left, reached_right, bishops))
+      (search (rules, reached_left, reached_right, knights)) (search (rules, reached_left, reached_right, pawns))
+      (search (rules, reached_left, reached_right, grasshoppers)) (search (rules, reached_left, reached_right, nightriders));
 }
 
 -- for `open_guards`: all squares
@@ -66,11 +61,8 @@ on_both a b t on too = grind (arith, eqb-true, bit_at_and, eq-eqb)
 
 -- for targets off the last ranks: no pawn promotes there
 pub no_last_rank : (x : Man) (w t : ℕ) → (bit_and w 18374686479671623935 == 0) ≡ true → t < 64 → (bit_at w t == 1) ≡ true → is_promoting x t ≡ false
-no_last_rank x w t none small on = false_by (is_promoting x t) (λ last.
-    let both = on_both w 18374686479671623935 t on (last_rank_on x.colour t small (and_parts _ _ last).1) in
-    let zero : bit_and w 18374686479671623935 ≡ 0 = eqb-true _ _ none in
-    let never = off_zero t in
-    false≢true (sym never ∙ ap (λ n. bit_at n t == 1) (sym zero) ∙ both))
+no_last_rank x w t none small on = false_by (is_promoting x t) (λ last. false≢true (sym (off_zero t) ∙ ap (λ n. bit_at n t == 1) (sym (eqb-true _ _ none))
+    ∙ on_both w 18374686479671623935 t on (last_rank_on x.colour t small (and_parts _ _ last).1)))
 
 -- for squares that aren't e1 or e8
 pub off_homes : (s : ℕ) → not (bit_at 1152921504606846992 s == 1) ≡ true → (s ≢ 4) × (s ≢ 60)
@@ -80,41 +72,30 @@ off_homes s off = ((λ e. false≢true (rw e at off)), (λ e. false≢true (rw e
 pub left_on : (squares r o t f : ℕ) (x : Man) → AreReached x t r → r < 2 ^ 64 → o < 2 ^ 64 → o ≡ word (λ q. is_square (Some t) q) → f < 64
     → (bit_at (bit_and squares (bit_not w64 (bit_or r o))) f == 1) ≡ true → IsLeft squares x t f
 left_on squares r o t f x are rfits ofits only small here =
-    let off = off_denied squares (bit_or r o) f (or_lt 64 r o rfits ofits) small here in
-    record {
-      small = small;
-      on = on_first squares _ f here;
-      off = λ e. false≢true (sym (off_right r o f off) ∙ word_has (λ q. is_square (Some t) q) o f only small ∙ eq-eqb t f (sym e));
-      unreached = λ men. false_from_ne_true _ (λ h. false≢true (sym (off_left r o f off) ∙ are.inside men f small h));
-    }
-
--- a square of the word that is left over is left
-left_there : (squares r o t f : ℕ) (x : Man) → AreReached x t r → r < 2 ^ 64 → o < 2 ^ 64 → o ≡ word (λ q. is_square (Some t) q)
-    → find (λ s. bit_at (bit_and squares (bit_not w64 (bit_or r o))) s == 1) (range_with_len 0 64) ≡ Some f → IsLeft squares x t f
-left_there squares r o t f x are rfits ofits only found =
-    let first = find_first (λ s. bit_at (bit_and squares (bit_not w64 (bit_or r o))) s == 1) 0 64 f found in
-    left_on squares r o t f x are rfits ofits only (omega (arith, first.high)) first.here
+    search (rules, off_denied, or_lt, on_first, false≢true, off_right, word_has, eq-eqb, false_from_ne_true, off_left)
 
 -- for `first_left`
 pub left_first : (squares r o t : ℕ) (x : Man) → AreReached x t r → r < 2 ^ 64 → o < 2 ^ 64 → o ≡ word (λ q. is_square (Some t) q)
     → (found : Option ℕ) → found ≡ find (λ s. bit_at (bit_and squares (bit_not w64 (bit_or r o))) s == 1) (range_with_len 0 64)
     → IfSome found (λ f. IsLeft squares x t f)
-left_first squares r o t x are rfits ofits only None e = search rules
-left_first squares r o t x are rfits ofits only (Some f) e = left_there squares r o t f x are rfits ofits only (sym e)
+left_first squares r o t x are rfits ofits only found e =
+    grind (arith, left_on, find_first (λ s. bit_at (bit_and squares (bit_not w64 (bit_or r o))) s == 1) 0 64)
 
 -- who reaches a square is reached from there by one of the other colour
 pub come_back : (x : Man) (t w : ℕ) → t < 64 → same_kind x.kind Grasshopper ≡ false → AreReached (record { colour = other x.colour; kind = x.kind }) t w
     → AreApproached x t w
-come_back x t w small other are = record {
-  inside = λ men s inside h. are.inside men s inside (sym (reaches_back men x.colour x.kind s t (no_hopper x.kind other) inside small) ∙ h);
-}
+come_back x t w small other are = search (rules, reaches_back, no_hopper)
 
 -- a grasshopper comes along a queen's lines
 pub hop_back : (x : Man) (t w : ℕ) → t < 64 → same_kind x.kind Grasshopper ≡ true → AreReached (record { colour = other x.colour; kind = Queen }) t w
     → AreApproached x t w
 hop_back x t w small kind are = record {
-  inside = λ men s inside h. are.inside (men_on 0) s inside (sym (reaches_back (men_on 0) x.colour Queen s t refl inside small)
-      ∙ hops_openly men x.colour x.colour s t (rw (same_kind-true x.kind Grasshopper kind) at h));
+  inside = λ men s inside h. search (
+    rules,
+    are.inside (men_on 0) s inside,
+    reaches_back (men_on 0) x.colour Queen s t refl inside small,
+    hops_openly men x.colour x.colour s t (rw (same_kind-true x.kind Grasshopper kind) at h),
+  );
 }
 
 -- where the man neither stands on the first square nor reaches it, that one is left
@@ -127,8 +108,8 @@ first_there squares targets a o first t x are only found small on off =
     record {
       small = omega (arith, is.high);
       on = is.here;
-      off = λ e. false≢true (sym (off_right a o t free) ∙ word_has (λ q. is_square (Some first) q) o t only small ∙ eq-eqb first t e);
-      unreached = λ men. false_from_ne_true _ (λ h. false≢true (sym (off_left a o t free) ∙ are.inside men t small h));
+      off = λ e. grind (arith, off_right a o t free, word_has _ o t only small, eq-eqb, false≢true);
+      unreached = λ men. false_from_ne_true _ (λ h. grind (arith, off_left a o t free, are.inside men t small h, false≢true));
     }
 
 -- the squares next to the king
@@ -137,24 +118,15 @@ pub near_are : (p : Position) (m : Move) (k n s y o : ℕ) → n ≡ word (λ t.
     → AreNear p m k (bit_and (bit_and (bit_and n (bit_not w64 s)) (bit_not w64 y)) (bit_not w64 o))
 unfolding side_of squares_of
 near_are p m k n s y o near own king only = record {
-  next = λ f small on. sym (word_has (λ t. list_any (leaps k t) queen_steps) n f near small) ∙ on_first n _ f (on_first _ _ f (on_first _ _ f on));
-  arrival = λ f small on e. false≢true (sym (unseen_bit (λ t. is_square (Some m.to) t) _ o f only small on)
-      ∙ word_has (λ t. is_square (Some m.to) t) o f only small ∙ eq-eqb m.to f (sym e));
-  own = λ f small on. sym (word_has (λ t. is_of_colour (man_on p.men t) p.turn) s f own small)
-      ∙ unseen_bit (λ t. is_of_colour (man_on p.men t) p.turn) n s f own small (on_first _ _ f (on_first _ _ f on));
-  king = λ f small on. sym (word_has (λ t. is_man (man_on p.men t) (other p.turn) King) y f king small)
-      ∙ unseen_bit (λ t. is_man (man_on p.men t) (other p.turn) King) _ y f king small (on_first _ _ f on);
+  next = λ f small on. search (rules, word_has _ n f near small, on_first n _ f (on_first _ _ f (on_first _ _ f on)));
+  arrival = λ f small on e. false≢true (sym (unseen_bit _ _ o f only small on) ∙ search (rules, word_has _ o f only small, eq-eqb));
+  own = λ f small on. search (rules, word_has _ s f own small, unseen_bit _ n s f own small (on_first _ _ f (on_first _ _ f on)));
+  king = λ f small on. search (rules, word_has _ y f king small, unseen_bit _ _ y f king small (on_first _ _ f on));
 }
 
 -- for `keeps_one`: the squares that nobody guards can't all be taken
 pub keeps_one : (a : Attackers) (w g : ℕ) → g < 2 ^ 64 → AreGuarded a g → LeaveOne a (bit_and w (bit_not w64 g)) → KeepsOne a w
-keeps_one a w g fits guards leave = record {
-  squares = bit_and w (bit_not w64 g);
-  guarded = g;
-  guards = guards;
-  leave = leave;
-  within = λ f small on. (on_first w _ f on, off_denied w g f fits small on);
-}
+keeps_one a w g fits guards leave = search (rules, on_first, off_denied)
 
 -- the king's move keeps a flight behind each move of the enemy
 module _ (rule : RuleSet) (p : Position) (m : Move) (x : Man) (k w : ℕ) (well : IsWellFormed p) (may : is_pseudo_legal rule p m ≡ true)
@@ -185,12 +157,8 @@ module _ (rule : RuleSet) (p : Position) (m : Move) (x : Man) (k w : ℕ) (well 
 
   -- an enemy stood there before
   enemy_stood : (s : ℕ) (v : Man) → man_on q.men s ≡ Some v → v.colour ≡ other p.turn → man_on p.men s ≡ Some v
-  enemy_stood s v there enemy = elim (stood_q s v there) [
-    | inl came ↦
-        absurd (false≢true (sym (not_mine v p.turn enemy) ∙ ap (λ (u : Man). same_colour u.colour p.turn) came.1
-        ∙ ap (λ (c : Colour). same_colour c p.turn) (arriving_colour x m.promo ∙ is.mine) ∙ same_colour-refl p.turn))
-    | inr kept ↦ kept.1.1
-  ]
+  enemy_stood s v there enemy =
+      grind (arith, stood_q s v there, not_mine v p.turn enemy, arriving_colour x m.promo, is.mine, same_colour-refl p.turn, false≢true)
 
   attacker : (s : ℕ) (v : Man) → s < 64 → man_on p.men s ≡ Some v → v.colour ≡ other p.turn → IsAttacker a v s
   attacker s v inside there enemy = men.stand s v inside there (enemy ∙ sym colour)
@@ -227,9 +195,7 @@ module _ (rule : RuleSet) (p : Position) (m : Move) (x : Man) (k w : ℕ) (well 
     unpromoted = unnamed q y n n.promo (leaves.unpromoted q n.to to goes) is_n.promotion
 
     plain_n : is_castling y n ≡ false
-    plain_n = false_by (is_castling y n) (λ castling.
-        let off = leaves.away (and_parts _ _ (and_parts _ _ castling).0).0 in
-        elim (castle_of rule q y n well_q is_n castling).1.from [ inl e ↦ off.0 e | inr e ↦ off.1 e ])
+    plain_n = false_by (is_castling y n) (λ castling. grind (arith, leaves.away, and_parts, castle_of rule q y n well_q is_n castling))
 
     abbrev r : Position
     r = position_after rule q n
@@ -266,87 +232,44 @@ module _ (rule : RuleSet) (p : Position) (m : Move) (x : Man) (k w : ℕ) (well 
     within = keeps.within f left.small left.on
 
     free_f : is_arrival_free p.turn (man_on r.men f) ≡ true
-    free_f = by (man_on r.men f) refl where
-      by : (o : Option Man) → man_on r.men f ≡ o → is_arrival_free p.turn o ≡ true
-      by None e = refl
-      by (Some v) e = elim (stood_r f v e) [
-        | inl came ↦ absurd (left.off came.0)
-        | inr kept ↦ elim (stood_q f v kept.1.1) [
-          | inl came ↦ absurd (near.arrival f left.small within.0 came.0)
-          | inr stays ↦
-              free_man p.turn (Some v) (ap (λ (o : Option Man). is_of_colour o p.turn) (sym stays.1.1) ∙ near.own f left.small within.0)
-              (ap (λ (o : Option Man). is_man o (other p.turn) King) (sym stays.1.1) ∙ near.king f left.small within.0)
-        ]
-      ]
+    free_f =
+        grind (
+          arith,
+          cases_eq,
+          stood_r f,
+          stood_q f,
+          left.off,
+          near.arrival f left.small within.0,
+          near.own f left.small within.0,
+          near.king f left.small within.0,
+          false≢true,
+        )
 
     -- nobody attacks the king who has gone there
-    module _ (z : Man) (stands : IsKingOn r.men p.turn k z) (own : z.colour ≡ p.turn) where
-      abbrev then : List (Option Man)
-      then = arrived r z (step_to k f)
-
-      unreached : (s : ℕ) (v : Man) → s < 64 → man_on then s ≡ Some v → v.colour ≡ other p.turn → reaches_as then v.colour v.kind s f ≡ false
-      unreached s v inside there enemy = elim (stood r z (step_to k f) s v (omega (arith, left.small, well_r.size)) there) [
-        | inl came ↦
-            absurd (false≢true (sym (not_mine v p.turn enemy) ∙ ap (λ (u : Man). same_colour u.colour p.turn) came.1 ∙ stands.mine))
-        | inr kept ↦ elim (stood_r s v kept.1.1) [
-          | inl came ↦
-              let same : v ≡ y = came.1 ∙ ap (arriving_man y) unpromoted in
-              rw (same, came.0) (left.unreached then)
-          | inr stays ↦
-              let before = enemy_stood s v stays.1.1 enemy in
-              false_from_ne_true _ (λ h.
-              false≢true (sym within.1 ∙ (keeps.guards.guards s v (attacker s v inside before enemy)).inside then f left.small h))
-        ]
+    unreached : (z : Man) → IsKingOn r.men p.turn k z → (s : ℕ) (v : Man) → s < 64 → man_on (arrived r z (step_to k f)) s ≡ Some v → v.colour ≡ other p.turn
+        → reaches_as (arrived r z (step_to k f)) v.colour v.kind s f ≡ false
+    unreached z stands s v inside there enemy = elim (stood r z (step_to k f) s v (omega (arith, left.small, well_r.size)) there) [
+      | inl came ↦ grind (arith, not_mine v p.turn enemy, came, stands.mine, false≢true)
+      | inr kept ↦ elim (stood_r s v kept.1.1) [
+        | inl came ↦ grind (arith, came, unpromoted, left.unreached)
+        | inr stays ↦ false_from_ne_true _ (λ h. grind (
+          arith,
+          within,
+          h,
+          left.small,
+          false≢true,
+          keeps.guards.guards s v (attacker s v inside (enemy_stood s v stays.1.1 enemy) enemy),
+        ))
       ]
-
-      nobody : (s : ℕ) → s < 64 → (is_of_colour (man_on then s) (other p.turn) && reaches then s f) ≡ false
-      unfolding reaches
-      nobody s inside = by (man_on then s) refl where
-        by : (o : Option Man) → man_on then s ≡ o → (is_of_colour o (other p.turn) && reaches_of then o s f) ≡ false
-        by None e = refl
-        by (Some v) e = elim (cases_Bool (same_colour v.colour (other p.turn))) [
-          | inl enemy ↦ and_right (same_colour v.colour (other p.turn)) _ (unreached s v inside e (same_colour-true _ _ enemy))
-          | inr off ↦ and_left _ (reaches_of then (Some v) s f) off
-        ]
-
-      not_attacked : is_attacked rule then f (other p.turn) ≡ false
-      unfolding is_attacked is_attacker
-      not_attacked = search (rules, no_strike, nobody, some_square_false)
-
-      king_step : IsKingStep rule r z k f
-      unfolding is_open reaches_as
-      king_step = record {
-        well_formed = well_r;
-        here = stands.here;
-        mine = ap (same_colour z.colour) turn_r ∙ stands.mine;
-        king = stands.king;
-        small = left.small;
-        near = and_from _ _ (and_from _ _ (near.next f left.small within.0) (ap (λ (c : Colour). is_arrival_free c (man_on r.men f)) turn_r ∙ free_f))
-            (ap not (and_left (captures_do_more rule) _ circe));
-      }
-
-      flees : has_flight rule r ≡ true
-      unfolding has_flight is_flight
-      flees =
-          some_square_true (is_flight rule r) f left.small (ap (λ (o : Option ℕ). is_flight_at rule r o f) (ap (king_square r.men) turn_r ∙ king_r)
-          ∙ step_is_legal rule r z k f king_step (ap (is_attacked rule then f) (ap other turn_r) ∙ not_attacked))
-
-    has_one : has_flight rule r ≡ true
-    has_one =
-        let z = king_on r.men p.turn k king_r in
-        flees z.0 z.1 (same_colour-true _ _ z.1.mine)
+    ]
 
     unmated : mates rule q n ≡ false
-    unmated = sym (no_mate_with_flight rule q n has_one)
+    unmated = sym (no_mate_with_flight rule q n (has_one rule r p.turn k f well_r turn_r king_r left.small (near.next f left.small within.0) free_f
+        (λ c. absurd (false≢true (sym circe ∙ c))) unreached))
 
   none_mates : (i : ℕ) → mates rule q (triple_at i) ≡ false
-  none_mates i = elim (cases_Bool (is_pseudo_legal rule q (triple_at i))) [
-    | inl can ↦ unmated (triple_at i) (arrival_small i) can
-    | inr not ↦ not_mating rule q (triple_at i) not
-  ]
+  none_mates i = search (rules, cases_Bool, unmated, arrival_small, not_mating)
 
   -- for `keeps_flight`
   pub no_mate_behind : mates_behind rule q 0 ≡ []
-  no_mate_behind =
-      mates_behind-none rule q 0 all_triples (λ lt. omega arith) (omega arith) (record { fails = λ i lo hi. none_mates i })
-      ∙ mates_behind-end rule q all_triples (omega arith)
+  no_mate_behind = search (rules, mates_behind-none rule q 0 all_triples, none_mates, mates_behind-end)
