@@ -1,9 +1,8 @@
 -- A flight after a move, told by the men that an attack on it sees.
-use Rattle.chess_rules.proofs.Basics.{Bool, List, None, Option, Some, and_from, and_left, and_parts, and_right, ap, arith, bit_and, bit_at, bit_at-lt, bit_at_and, bit_not, bit_or, cases_Bool, cases_eq, cond-false, cond-true, eq-eqb, eqb-true, false, false_from_ne_true, false≢true, inl, inr, is_some, length, list_any, not, not-true, or_cases, or_left, or_parts, or_right, refl, rules, sym, true, w64, ℕ, ◌&&◌, ◌<◌, ◌==◌, ◌||◌, ◌∙◌, ◌≡◌, ◌≢◌}
-use Rattle.chess_mates.proofs.Chess.{Colour, IsWellFormed, King, Man, Move, Pawn, Position, RuleSet, any_range_cases, any_range_false, arriving_man, capture_square, differs, first_of_and, is_arrival_free, is_attacked, captures_do_more, is_legal, is_man, is_mate, is_nil, is_of_colour, is_square, king_square, leaps, man_on, mates, moves, position_after}
+use Rattle.chess_rules.proofs.Basics.{Bool, List, None, Option, Some, and_from, and_left, and_parts, and_right, arith, bit_and, bit_at, bit_at-lt, bit_at_and, bit_not, bit_or, cases_Bool, cases_eq, cond-false, cond-true, eq-eqb, eqb-true, false, false_from_ne_true, false≢true, inl, inr, is_some, length, list_any, not, not-true, or_cases, or_left, or_parts, or_right, refl, rules, sym, true, w64, ℕ, ◌&&◌, ◌<◌, ◌==◌, ◌||◌, ◌∙◌, ◌≡◌, ◌≢◌}
+use Rattle.chess_mates.proofs.Chess.{Colour, IsWellFormed, King, Man, Move, Pawn, Position, RuleSet, any_range_cases, any_range_false, arriving_man, capture_square, first_of_and, is_arrival_free, is_attacked, captures_do_more, is_legal, is_man, is_mate, is_nil, is_of_colour, is_square, king_square, leaps, man_on, mates, moves, position_after}
 use Rattle.chess_mates.proofs.Chess.{is_paralysed, is_pseudo_legal, is_reached, occupied_squares, other, queen_steps, reaches, reaches_as, reaches_of, same_colour, same_colour-true, same_kind, side_of, sight_lifted, some_square, some_square_true, squares, squares_both, squares_either, squares_not}
 use Rattle.chess_mates.proofs.Chess.{squares_of, without_man, word}
-use Rattle.std.proofs.Common.{ap₂}
 use Rattle.chess_mates.specs.ties.Flights.{AreOpen, AreSteps, IsSafe, IsSeenFrom, has_flight, is_flight, is_flight_at, is_open}
 use Rattle.chess_rules.proofs.Bits.{word_has}
 use Rattle.chess_rules.proofs.rays.Ends.{square_is}
@@ -15,7 +14,6 @@ use Rattle.chess_rules.proofs.listing_moves.Triples.{nothing_in}
 use Rattle.chess_rules.proofs.theorems.Moves.{moves_are_the_legal_triples}
 use Rattle.chess_mates.proofs.Landing.{StandAlike, no_reach_there, reaches_alike}
 use Rattle.chess_mates.proofs.Mating.{turn_after}
-use Rattle.chess_rules.proofs.making_moves.Plays.{none_from_is_some}
 use Rattle.chess_rules.proofs.making_moves.Pseudo.{IsMade, king_is_no_pawn, made}
 use Rattle.chess_rules.proofs.attacks.Seeing.{gone_to, kept_now, king_stands, left_now, occupied_now, there_now}
 use Rattle.chess_rules.proofs.attacks.Shielding.{other_twice, arriving_colour, man_there, other_differs, simple_after}
@@ -57,20 +55,6 @@ on_second a b i h = search (rules, bit_at-lt, bit_at_and, eq-eqb, eqb-true)
 pub unseen_bit : (test : ℕ → Bool) (n w t : ℕ) → w ≡ word test → t < 64 → (bit_at (bit_and n (bit_not w64 w)) t == 1) ≡ true → (bit_at w t == 1) ≡ false
 unseen_bit test n w t h small on = search (rules, on_second, squares_not, word_has)
 
--- the squares to which a king may step, attacks apart: the test by words says it of men that stay, are gone, or have come
-if_stays : (c : Colour) (o : Option Man) (h a : Bool) → (a || h) ≡ false
-    → not ((is_of_colour o (other c) && (not h && not a)) || is_man o c King) ≡ is_arrival_free (other c) o
-if_stays c o h a off = grind (arith, or_parts)
-
-arrived_free : (c : Colour) (z : Man) → same_colour z.colour (other c) ≡ false → same_kind z.kind King ≡ false → is_arrival_free (other c) (Some z) ≡ true
-arrived_free c z side king = grind arith
-
-if_gone : (i o a k : Bool) → (a || o) ≡ true → k ≡ false → not ((i && (not o && not a)) || k) ≡ true
-if_gone i o a k h n = grind arith
-
-if_comes : (i o a k : Bool) → (i ≡ true → o ≡ true) → k ≡ false → not ((i && (not o && not a)) || k) ≡ true
-if_comes i o a k h n = grind arith
-
 pub some_of_colour : (o : Option Man) (c : Colour) → is_of_colour o c ≡ true → is_some o ≡ true
 some_of_colour o c h = grind arith
 
@@ -86,16 +70,10 @@ pub reached_near : (men : List (Option Man)) (c : Colour) (k w t : ℕ) → w �
 unfolding reaches_as
 reached_near men c k w t h small on = search (rules, word_has)
 
-and_also : (a b : Bool) → b ≡ true → a ≡ (a && b)
-and_also a b h = grind arith
-
 -- and for one of the first that the test leaves out
 pub seen_bit : (test : ℕ → Bool) (n w t : ℕ) → w ≡ word test → t < 64 → (bit_at n t == 1) ≡ true → (bit_at w t == 1) ≡ false
     → (bit_at (bit_and n (bit_not w64 w)) t == 1) ≡ true
 seen_bit test n w t h small on off = search (rules, bit_at_and, eq-eqb, eqb-true, squares_not, word_has)
-
-first_false : (a b : Bool) → (a && b) ≡ false → b ≡ true → a ≡ false
-first_false a b h e = grind arith
 
 -- the men after the move, and the king among them
 module _ (rule : RuleSet) (p : Position) (m : Move) (x : Man) (k : ℕ) (i : IsSeenFrom rule p m x k) where
@@ -134,30 +112,15 @@ module _ (rule : RuleSet) (p : Position) (m : Move) (x : Man) (k : ℕ) (i : IsS
         || is_man (man_on p.men t) p.turn King)
 
     free_there : same_kind x.kind King ≡ false → (t : ℕ) → is_free t ≡ is_arrival_free (other p.turn) (man_on (arrived p x m) t)
-    free_there mortal t =
-        grind (
-          arith,
-          cases_eq t m.to,
-          cases_Bool (m.from == t || is_square (capture_square p x m) t),
-          there_now,
-          arrived_free,
-          no_own_arrives,
-          no_king_arrives mortal,
-          left_now,
-          kept_now,
-          if_stays,
-          if_gone,
-          if_comes,
-          captures_arrival,
-          some_of_colour,
-          no_king_free,
-          is_made,
-          no_king_left p.turn t (and_right _ _ mortal),
-        )
+    free_there mortal t = elim (cases_eq t m.to) [
+      | inl e ↦ grind (arith, there_now, no_own_arrives, no_king_arrives mortal, captures_arrival, some_of_colour, no_king_free, is_made)
+      | inr ne ↦
+          grind (arith, cases_Bool (m.from == t || is_square (capture_square p x m) t), left_now, kept_now, or_parts, no_king_left, and_right)
+    ]
 
     -- but where he has come
     free_elsewhere : (t : ℕ) → t ≢ m.to → is_free t ≡ true → is_arrival_free (other p.turn) (man_on (arrived p x m) t) ≡ true
-    free_elsewhere t ne free = grind (arith, cases_Bool, left_now, kept_now, if_stays)
+    free_elsewhere t ne free = grind (arith, cases_Bool, left_now, kept_now, or_parts)
 
     -- where the king may step, attacks apart
     open_there : (t : ℕ) → t < 64 → (list_any (leaps k t) queen_steps && is_free t) ≡ true → is_arrival_free (other p.turn) (man_on (arrived p x m) t) ≡ true
@@ -174,19 +137,12 @@ module _ (rule : RuleSet) (p : Position) (m : Move) (x : Man) (k : ℕ) (i : IsS
         → AreSteps rule (position_after rule p m).men x (other p.turn) k (bit_and w (bit_not w64 h))
     unfolding is_open reaches_as
     open_squares w l h circe near standing held =
-        let told : (t : ℕ) → t < 64 → (bit_at (bit_and w (bit_not w64 h)) t == 1) ≡ (list_any (leaps k t) queen_steps && is_free t) = λ t lt.
-        word_has _ _ t (ap₂ bit_and near (ap (bit_not w64) (held ∙ closed_words p m.from (capture_square p x m) p.turn _ _ refl refl l standing)
-        ∙ squares_not _) ∙ squares_both _ _) lt in
-        let opened : (t : ℕ) → (list_any (leaps k t) queen_steps && is_arrival_free (other p.turn) (man_on (arrived p x m) t))
-        ≡ is_open rule (position_after rule p m).men (other p.turn) k t = λ t.
-        ap (λ (l : List (Option Man)). list_any (leaps k t) queen_steps && is_arrival_free (other p.turn) (man_on l t)) (sym after_seen)
-        ∙ and_also _ _ (ap not (and_left (captures_do_more rule) _ circe)) in
+        let words : bit_and w (bit_not w64 h) ≡ word (λ t. list_any (leaps k t) queen_steps && is_free t) =
+        search (rules, near, held, closed_words p m.from (capture_square p x m) p.turn _ _ refl refl l standing, squares_not, squares_both) in
+        let told = λ (t : ℕ). word_has (λ t. list_any (leaps k t) queen_steps && is_free t) (bit_and w (bit_not w64 h)) t words in
         record {
-          inside = λ t lt on.
-              let both = sym (told t lt) ∙ on in
-              sym (opened t) ∙ and_from _ _ (and_parts _ _ both).0 (open_there t lt both);
-          outside = λ mortal _ t lt off.
-              sym (opened t) ∙ ap (λ b. list_any (leaps k t) queen_steps && b) (sym (free_there mortal t)) ∙ sym (told t lt) ∙ off;
+          inside = λ t lt on. grind (arith, told t lt, open_there t lt, after_seen, and_parts, circe);
+          outside = λ mortal _ t lt off. grind (arith, told t lt, free_there mortal t, after_seen);
         }
 
     -- in Circe, where he mayn't capture
@@ -197,21 +153,9 @@ module _ (rule : RuleSet) (p : Position) (m : Move) (x : Man) (k : ℕ) (i : IsS
     open_squares_in_circe w l circe near occupied =
         let held = occupied ∙ lifted_words p.men m.from (capture_square p x m) m.to k in
         record {
-          inside = λ t lt on. grind (
-            arith,
-            reached_near (position_after rule p m).men (other p.turn) k w t near lt (on_first w _ t on),
-            word_has _ l t held lt,
-            unseen_bit _ w l t held lt on,
-            differs,
-            false≢true,
-            no_reach_there,
-            none_from_is_some,
-            occupied_now,
-            first_false,
-            after_seen,
-            and_from,
-            and_right,
-          );
+          inside = λ t lt on.
+              let there = reached_near (position_after rule p m).men (other p.turn) k w t near lt (on_first w _ t on) in
+              grind (arith, there, word_has _ l t held lt, unseen_bit _ w l t held lt on, no_reach_there, occupied_now, after_seen);
           outside = λ _ none. absurd (false≢true (sym none ∙ circe));
         }
 
@@ -312,18 +256,9 @@ module _ (rule : RuleSet) (q : Position) (x : Man) (k t : ℕ) (i : IsKingStep r
       }
 
   -- and it is legal exactly where nobody attacks the square then
-  step_is : is_legal rule q (step_to k t) ≡ not (is_attacked rule (arrived q x (step_to k t)) t (other q.turn))
+  pub step_is : is_legal rule q (step_to k t) ≡ not (is_attacked rule (arrived q x (step_to k t)) t (other q.turn))
   unfolding is_legal
-  step_is =
-      search (
-        rules,
-        may_step,
-        check_is rule q x (step_to k t) (Some t) i.well_formed (made rule q (step_to k t) x may_step i.here) i.small
-            simple_step (cond-true (same_kind x.kind King) _ _ i.king),
-      )
-
-  pub step_is_legal : is_attacked rule (arrived q x (step_to k t)) t (other q.turn) ≡ false → is_legal rule q (step_to k t) ≡ true
-  step_is_legal safe = step_is ∙ ap not safe
+  step_is = search (rules, may_step, check_is rule q x (step_to k t) (Some t), made, simple_step, cond-true)
 
 -- the king's square and the arrival
 pub record IsKingOn (men : List (Option Man)) (c : Colour) (k : ℕ) (x : Man) : Type 0 where
@@ -383,14 +318,15 @@ module _ (rule : RuleSet) (p : Position) (m : Move) (x : Man) (k : ℕ) (i : IsS
         → is_legal rule (position_after rule p m) (step_to k t) ≡ true
     safe_step t near safe =
         let king = king_on (position_after rule p m).men (other p.turn) k (king_seen rule p m x k i small) in
-        let lifted : List (Option Man) = without_man (gone_to p.men m.from (capture_square p x m) m.to (arriving_man x m.promo)) k in
-        let seen : r ≡ word (reaches_as lifted (arriving_man x m.promo).colour (arriving_man x m.promo).kind m.to) =
-        arrives lifted (occupied_lifted p.men m.from (capture_square p x m) m.to (arriving_man x m.promo) k (omega (arith, small, i.well_formed.size))) in
+        let z = arriving_man x m.promo in
+        let size : m.to < length p.men = omega (arith, small, i.well_formed.size) in
+        let lifted : List (Option Man) = without_man (gone_to p.men m.from (capture_square p x m) m.to z) k in
+        let seen = arrives lifted (occupied_lifted p.men m.from (capture_square p x m) m.to z k size) in
         let step = step_seen king.0 t safe.small king.1 in
-        step_legal_is king.0 t safe.small king.1 (near.inside t safe.small (on_first n (bit_not w64 r) t safe.here))
-        ∙ ap not (not_attacked rule (men_stepped king.0 t) p.turn t (reached_alike p.men m.from (capture_square p x m) m.to (arriving_man x m.promo) k
-        (step_taken king.0 t) t king.0 p.turn r step (unseen_bit _ n r t seen safe.small safe.here)
-        ∙ safe.unreached _ (seen_stepped p.men m.from (capture_square p x m) m.to k (step_taken king.0 t) t king.0 p.turn step.step)))
+        let alike = reached_alike p.men m.from (capture_square p x m) m.to z k (step_taken king.0 t) t king.0 p.turn r step in
+        let near = near.inside t safe.small (on_first n (bit_not w64 r) t safe.here) in
+        let off = alike (unseen_bit _ n r t seen safe.small safe.here) in
+        search (rules, step_legal_is king.0 t safe.small king.1 near, not_attacked, off, safe.unreached, seen_stepped)
 
     -- for `flights_from`: it is a flight
     pub has_flight_to : (t : ℕ) → AreSteps rule (position_after rule p m).men x (other p.turn) k n
@@ -398,7 +334,5 @@ module _ (rule : RuleSet) (p : Position) (m : Move) (x : Man) (k : ℕ) (i : IsS
         → has_flight rule (position_after rule p m) ≡ true
     unfolding has_flight is_flight
     has_flight_to t near safe =
-        some_square_true (is_flight rule (position_after rule p m)) t safe.small
-        (ap (λ (o : Option ℕ). is_flight_at rule (position_after rule p m) o t)
-        (ap (king_square (position_after rule p m).men) turn_is ∙ king_seen rule p m x k i small)
-        ∙ safe_step t (record { inside = near.inside }) safe)
+        let step = safe_step t (record { inside = near.inside }) safe in
+        search (rules, some_square_true (is_flight rule (position_after rule p m)) t safe.small, turn_is, king_seen rule p m x k i small, step)

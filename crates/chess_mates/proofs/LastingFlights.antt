@@ -1,7 +1,7 @@
 -- Flights that one move can't take.
 use Rattle.chess_core.proofs.Kept.{same_colour-refl}
 use Rattle.chess_rules.specs.ties.Places.{all_triples}
-use Rattle.chess_rules.proofs.Basics.{List, None, Option, Some, [], and_left, and_parts, and_right, ap, arith, bit_and, bit_at, bit_at_and, bit_not, bit_or, cases_Bool, cases_eq, eq-eqb, eqb-true, false, false_from_ne_true, false≢true, find, inl, inr, list_any, not, or_lt, range_with_len, refl, rules, sym, true, w64, ℕ, ◌<◌, ◌==◌, ◌^◌, ◌∙◌, ◌≡◌, ◌≢◌, ◌⊎◌}
+use Rattle.chess_rules.proofs.Basics.{List, None, Option, Some, [], and_left, and_parts, and_right, ap, arith, bit_and, bit_at, bit_at_and, bit_not, bit_or, cases_Bool, cases_eq, eq-eqb, eqb-true, false, false_from_ne_true, false≢true, find, list_any, not, or_lt, range_with_len, refl, rules, sym, true, w64, ℕ, ◌<◌, ◌==◌, ◌^◌, ◌∙◌, ◌≡◌, ◌≢◌, ◌⊎◌}
 use Rattle.chess_mates.proofs.Chess.{Bishop, Colour, Grasshopper, IsWellFormed, King, Knight, Man, Move, Nightrider, Pawn, Position, Queen, Rook, RuleSet, is_promoting, arriving_man, capture_square, find_first, is_arrival_free, is_castling, captures_do_more, is_man, is_pseudo_legal, is_square, king_after, king_square, leaps, man_on, mates, mates_behind, may_go, other, position_after, queen_steps}
 use Rattle.chess_mates.proofs.Chess.{reaches_as, same_colour, same_kind, same_kind-true, side_of, squares_of, triple_at, word}
 use Rattle.std.proofs.Common.{IfSome}
@@ -43,13 +43,9 @@ pub all_guard : (a : Attackers) (k q r b n p g y : ℕ) → HoldsOf a (λ x s. A
     → HoldsOf a (λ x s. AreReached x s r) Rook → HoldsOf a (λ x s. AreReached x s b) Bishop → HoldsOf a (λ x s. AreReached x s n) Knight
     → HoldsOf a (λ x s. AreReached x s p) Pawn → HoldsOf a (λ x s. AreReached x s g) Grasshopper → HoldsOf a (λ x s. AreReached x s y) Nightrider
     → AreGuarded a (bit_or (bit_or (bit_or (bit_or (bit_or (bit_or (bit_or k q) r) b) n) p) g) y)
-all_guard a k q r b n p g y kings queens rooks bishops knights pawns grasshoppers nightriders = record {
-  guards = of_all a (λ x s. AreReached x s (bit_or (bit_or (bit_or (bit_or (bit_or (bit_or (bit_or k q) r) b) n) p) g) y))
-      (search (rules, reached_left, reached_right, kings)) (search (rules, reached_left, reached_right, queens))
-      (search (rules, reached_left, reached_right, rooks)) (search (rules, reached_left, reached_right, bishops))
-      (search (rules, reached_left, reached_right, knights)) (search (rules, reached_left, reached_right, pawns))
-      (search (rules, reached_left, reached_right, grasshoppers)) (search (rules, reached_left, reached_right, nightriders));
-}
+all_guard a k q r b n p g y kings queens rooks bishops knights pawns grasshoppers nightriders =
+    let words = bit_or (bit_or (bit_or (bit_or (bit_or (bit_or (bit_or k q) r) b) n) p) g) y in
+    record { guards = search (rules, of_all a (λ x s. AreReached x s words), reached_left, reached_right) depth 12 }
 
 -- for `open_guards`: all squares
 pub all_guarded : (a : Attackers) → AreGuarded a (bit_not w64 0)
@@ -90,12 +86,9 @@ come_back x t w small other are = search (rules, reaches_back, no_hopper)
 pub hop_back : (x : Man) (t w : ℕ) → t < 64 → same_kind x.kind Grasshopper ≡ true → AreReached (record { colour = other x.colour; kind = Queen }) t w
     → AreApproached x t w
 hop_back x t w small kind are = record {
-  inside = λ men s inside h. search (
-    rules,
-    are.inside (men_on 0) s inside,
-    reaches_back (men_on 0) x.colour Queen s t refl inside small,
-    hops_openly men x.colour x.colour s t (rw (same_kind-true x.kind Grasshopper kind) at h),
-  );
+  inside = λ men s inside h.
+      let hop = hops_openly men x.colour x.colour s t (rw (same_kind-true x.kind Grasshopper kind) at h) in
+      are.inside (men_on 0) s inside (sym (reaches_back (men_on 0) x.colour Queen s t refl inside small) ∙ hop);
 }
 
 -- where the man neither stands on the first square nor reaches it, that one is left
@@ -118,10 +111,10 @@ pub near_are : (p : Position) (m : Move) (k n s y o : ℕ) → n ≡ word (λ t.
     → AreNear p m k (bit_and (bit_and (bit_and n (bit_not w64 s)) (bit_not w64 y)) (bit_not w64 o))
 unfolding side_of squares_of
 near_are p m k n s y o near own king only = record {
-  next = λ f small on. search (rules, word_has _ n f near small, on_first n _ f (on_first _ _ f (on_first _ _ f on)));
-  arrival = λ f small on e. false≢true (sym (unseen_bit _ _ o f only small on) ∙ search (rules, word_has _ o f only small, eq-eqb));
-  own = λ f small on. search (rules, word_has _ s f own small, unseen_bit _ n s f own small (on_first _ _ f (on_first _ _ f on)));
-  king = λ f small on. search (rules, word_has _ y f king small, unseen_bit _ _ y f king small (on_first _ _ f on));
+  next = λ f small on. search (rules, word_has _ n f near small, on_first);
+  arrival = λ f small on e. search (rules, false≢true, unseen_bit, word_has _ o f only small, eq-eqb);
+  own = λ f small on. search (rules, word_has _ s f own small, unseen_bit, on_first);
+  king = λ f small on. search (rules, word_has _ y f king small, unseen_bit, on_first);
 }
 
 -- for `keeps_one`: the squares that nobody guards can't all be taken
@@ -140,7 +133,7 @@ module _ (rule : RuleSet) (p : Position) (m : Move) (x : Man) (k w : ℕ) (well 
   q = position_after rule p m
 
   men_q : q.men ≡ arrived p x m
-  men_q = simple_after rule p x m here plain (λ c. absurd (false≢true (sym circe ∙ c)))
+  men_q = search (rules, simple_after, circe)
 
   turn_q : q.turn ≡ other p.turn
   turn_q = turn_after rule p m may
@@ -149,7 +142,7 @@ module _ (rule : RuleSet) (p : Position) (m : Move) (x : Man) (k w : ℕ) (well 
   well_q = after_well_formed rule p m well may
 
   king_q : king_square q.men p.turn ≡ Some k
-  king_q = ap (λ (l : List (Option Man)). king_square l p.turn) men_q ∙ king_is_after rule p x m well is small plain ∙ king
+  king_q = search (rules, men_q, king_is_after, is, king)
 
   stood_q : (s : ℕ) (v : Man) → man_on q.men s ≡ Some v
       → ((s ≡ m.to) × (v ≡ arriving_man x m.promo)) ⊎ ((s ≢ m.to) × ((s ≢ m.from) × (man_on p.men s ≡ Some v)))
@@ -158,7 +151,7 @@ module _ (rule : RuleSet) (p : Position) (m : Move) (x : Man) (k w : ℕ) (well 
   -- an enemy stood there before
   enemy_stood : (s : ℕ) (v : Man) → man_on q.men s ≡ Some v → v.colour ≡ other p.turn → man_on p.men s ≡ Some v
   enemy_stood s v there enemy =
-      grind (arith, stood_q s v there, not_mine v p.turn enemy, arriving_colour x m.promo, is.mine, same_colour-refl p.turn, false≢true)
+      grind (arith, stood p x m s v, men_q, small, well.size, not_mine v p.turn enemy, arriving_colour, is, same_colour-refl, false≢true)
 
   attacker : (s : ℕ) (v : Man) → s < 64 → man_on p.men s ≡ Some v → v.colour ≡ other p.turn → IsAttacker a v s
   attacker s v inside there enemy = men.stand s v inside there (enemy ∙ sym colour)
@@ -232,36 +225,29 @@ module _ (rule : RuleSet) (p : Position) (m : Move) (x : Man) (k w : ℕ) (well 
     within = keeps.within f left.small left.on
 
     free_f : is_arrival_free p.turn (man_on r.men f) ≡ true
-    free_f =
-        grind (
-          arith,
-          cases_eq,
-          stood_r f,
-          stood_q f,
-          left.off,
-          near.arrival f left.small within.0,
-          near.own f left.small within.0,
-          near.king f left.small within.0,
-          false≢true,
-        )
+    free_f = grind (arith, cases_eq, stood_r f, stood_q f, left, near, within, false≢true)
 
     -- nobody attacks the king who has gone there
     unreached : (z : Man) → IsKingOn r.men p.turn k z → (s : ℕ) (v : Man) → s < 64 → man_on (arrived r z (step_to k f)) s ≡ Some v → v.colour ≡ other p.turn
         → reaches_as (arrived r z (step_to k f)) v.colour v.kind s f ≡ false
-    unreached z stands s v inside there enemy = elim (stood r z (step_to k f) s v (omega (arith, left.small, well_r.size)) there) [
-      | inl came ↦ grind (arith, not_mine v p.turn enemy, came, stands.mine, false≢true)
-      | inr kept ↦ elim (stood_r s v kept.1.1) [
-        | inl came ↦ grind (arith, came, unpromoted, left.unreached)
-        | inr stays ↦ false_from_ne_true _ (λ h. grind (
+    unreached z stands s v inside there enemy =
+        let held = keeps.guards.guards s v in
+        grind (
           arith,
+          stood r z (step_to k f) s v,
+          stood_r s v,
+          not_mine v p.turn enemy,
+          unpromoted,
+          left,
+          well_r.size,
+          attacker,
+          enemy_stood s v,
+          held,
           within,
-          h,
-          left.small,
+          stands,
+          false_from_ne_true,
           false≢true,
-          keeps.guards.guards s v (attacker s v inside (enemy_stood s v stays.1.1 enemy) enemy),
-        ))
-      ]
-    ]
+        )
 
     unmated : mates rule q n ≡ false
     unmated = sym (no_mate_with_flight rule q n (has_one rule r p.turn k f well_r turn_r king_r left.small (near.next f left.small within.0) free_f

@@ -3,17 +3,16 @@ use Rattle.chess_rules.proofs.Basics.{List, None, Option, Some, and_left, and_pa
 use Rattle.chess_mates.proofs.Chess.{Colour, Grasshopper, IsWellFormed, Kind, King, Man, Move, Pawn, Position, RuleSet, is_promoting, arriving_man, capture_square, corner, is_arrival_free, is_attacked, is_castling, captures_do_more, is_man, is_of_colour, is_square, man_on, may_castle, other, position_after}
 use Rattle.chess_mates.proofs.Chess.{position_after_by, can_castle, reaches, reaches_as, reborn_square, same_colour, same_colour-true, same_kind, some_square_false, is_attacker, triple_at}
 use Rattle.chess_core.proofs.Castlings.{has_unmoved-parts}
-use Rattle.chess_core.specs.Castling.{has_unmoved, without_unmoved}
+use Rattle.chess_core.specs.Castling.{has_unmoved}
 use Rattle.chess_core.specs.Steps.{gait_of, is_hopper}
 use Rattle.chess_rules.specs.Legal.{is_promotion_right}
 use Rattle.chess_rules.specs.Play.{unmoved_after}
-use Rattle.chess_rules.specs.Play.{unmoved_without_at}
 use Rattle.chess_rules.proofs.attacks.Seeing.{kept_now, left_now, there_now}
 use Rattle.chess_rules.proofs.attacks.Shielding.{other_differs}
 use Rattle.chess_rules.proofs.listing_moves.Targeting.{false_by}
 use Rattle.chess_rules.proofs.making_moves.Fits.{arrived, arrived_other, king_no_step}
 use Rattle.chess_rules.proofs.making_moves.Pseudo.{IsMade, king_is_no_pawn, made}
-use Rattle.chess_mates.proofs.Fleeing.{IsKingOn, IsKingStep, king_on, no_strike, step_is_legal, step_to}
+use Rattle.chess_mates.proofs.Fleeing.{IsKingOn, IsKingStep, king_on, step_is, step_to}
 use Rattle.chess_mates.specs.ties.Flights.{has_flight, is_flight, is_open}
 use Rattle.chess_mates.proofs.Chess.{king_square, leaps, put_at, queen_steps, some_square_true}
 use Rattle.chess_rules.proofs.Basics.{and_from, list_any, ◌<◌}
@@ -73,17 +72,11 @@ pub no_rebirth : (rule : RuleSet) (p : Position) (x : Man) (m : Move) → (captu
 unfolding reborn_square
 no_rebirth rule p x m nobody = grind (arith, cases_Bool (captures_do_more rule))
 
--- who is unmoved after a capture was so before
-unmoved_before : (p : Position) (x : Man) (m : Move) (t : ℕ)
-    → has_unmoved (unmoved_without_at (without_unmoved (without_unmoved p.unmoved m.from) m.to) (capture_square p x m)) t ≡ true
-    → has_unmoved p.unmoved t ≡ true
-unmoved_before p x m t h = search (rules, has_unmoved-parts)
-
 -- who has moved stays so
 pub moved_stays : (rule : RuleSet) (p : Position) (x : Man) (m : Move) (s : ℕ) → (captures_do_more rule ≡ true → capture_square p x m ≡ None)
     → is_castling x m ≡ false → man_on p.men m.from ≡ Some x → has_unmoved p.unmoved s ≡ false → has_unmoved (position_after rule p m).unmoved s ≡ false
 unfolding position_after position_after_by unmoved_after
-moved_stays rule p x m s nobody plain here moved = search (rules, false_by, false≢true, unmoved_before, no_rebirth)
+moved_stays rule p x m s nobody plain here moved = search (rules, false_by, false≢true, has_unmoved-parts, no_rebirth)
 
 -- once a man is reborn, who stands on a square stood there, or is reborn there
 pub stood_reborn : (men : List (Option Man)) (o : Option ℕ) (w : Option Man) (s : ℕ)
@@ -138,7 +131,7 @@ pub nobody_strikes : (rule : RuleSet) (men : List (Option Man)) (t : ℕ) (c : C
     → ((s : ℕ) (z : Man) → s < 64 → man_on men s ≡ Some z → z.colour ≡ other c → reaches_as men z.colour z.kind s t ≡ false)
     → is_attacked rule men t (other c) ≡ false
 unfolding is_attacked is_attacker
-nobody_strikes rule men t c none = search (rules, no_strike, reach_none men t c none, some_square_false)
+nobody_strikes rule men t c none = grind (arith, reach_none men t c none, some_square_false)
 
 -- the king flees to a free square next to him that no enemy reaches once he stands there
 module _ (rule : RuleSet) (p : Position) (c : Colour) (k f : ℕ) (well : IsWellFormed p) (turn : p.turn ≡ c)
@@ -153,14 +146,8 @@ module _ (rule : RuleSet) (p : Position) (c : Colour) (k f : ℕ) (well : IsWell
   flees : (z : Man) → IsKingOn p.men c k z → has_flight rule p ≡ true
   unfolding has_flight is_flight
   flees z stands =
-      search (
-        rules,
-        some_square_true (is_flight rule p) f small,
-        turn,
-        king,
-        step_is_legal rule p z k f (king_step z stands),
-        nobody_strikes rule (arrived p z (step_to k f)) f c (unreached z stands),
-      )
+      let step = step_is rule p z k f (king_step z stands) in
+      search (rules, some_square_true (is_flight rule p) f small, turn, king, step, nobody_strikes rule _ f c (unreached z stands))
 
   -- for flights that are left
   pub has_one : has_flight rule p ≡ true
