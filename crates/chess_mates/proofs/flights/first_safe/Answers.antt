@@ -3,9 +3,6 @@ use Rattle.chess_mates.proofs.Chess.{find_first}
 use Rattle.chess_mates.proofs.HoldBelow.{hold_all, hold_next, hold_none}
 use Rattle.chess_mates.proofs.flights.first_safe.Goals as goal
 
-pub loop-square-init : goal.loop-square-init
-loop-square-init c = hold_none _ _
-
 pub loop-square-preserved : goal.loop-square-preserved
 loop-square-preserved c =
     rw c.index-number.ensures.value (hold_next c.args.squares _ c.loop-square.number c.in-Some.square c.loop-square.invariant
@@ -20,6 +17,3 @@ returns-then-not-is_attacker_seen-clause-safe c =
       here = first.here;
       unreached = λ men are. sym (c.is_attacker_seen.ensures men (rw c.sight_with.ensures are)) ∙ c.if-not-is_attacker_seen.true;
     }
-
-pub returns-clause-guarded : goal.returns-clause-guarded
-returns-clause-guarded c = search (rules, hold_all)
