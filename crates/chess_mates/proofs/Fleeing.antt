@@ -1,6 +1,6 @@
 -- A flight after a move, told by the men that an attack on it sees.
-use Rattle.chess_rules.proofs.Basics.{Bool, List, None, Option, Some, and_from, and_left, and_parts, and_right, arith, bit_and, bit_at, bit_at-lt, bit_at_and, bit_not, bit_or, cases_Bool, cases_eq, cond-false, cond-true, eq-eqb, eqb-true, false, false_from_ne_true, false≢true, inl, inr, is_some, length, list_any, not, not-true, or_cases, or_left, or_parts, or_right, refl, rules, sym, true, w64, ℕ, ◌&&◌, ◌<◌, ◌==◌, ◌||◌, ◌∙◌, ◌≡◌, ◌≢◌}
-use Rattle.chess_mates.proofs.Chess.{Colour, IsWellFormed, King, Man, Move, Pawn, Position, RuleSet, any_range_cases, any_range_false, arriving_man, capture_square, first_of_and, is_arrival_free, is_attacked, captures_do_more, is_legal, is_man, is_mate, is_nil, is_of_colour, is_square, king_square, leaps, man_on, mates, moves, position_after}
+use Rattle.chess_rules.proofs.Basics.{Bool, List, None, Option, Some, and_from, and_left, and_parts, and_right, arith, bit_and, bit_at, bit_at-lt, bit_at_and, bit_not, bit_or, cases_Bool, cases_eq, cond-false, cond-true, eq-eqb, eqb-true, false, false_from_ne_true, false≢true, inl, inr, is_some, length, list_any, not, not-true, or_cases, or_left, or_parts, refl, rules, sym, true, w64, ℕ, ◌&&◌, ◌<◌, ◌==◌, ◌||◌, ◌∙◌, ◌≡◌, ◌≢◌}
+use Rattle.chess_mates.proofs.Chess.{Colour, IsWellFormed, King, Man, Move, Position, RuleSet, any_range_cases, any_range_false, arriving_man, capture_square, first_of_and, is_arrival_free, is_attacked, captures_do_more, is_legal, is_man, is_mate, is_nil, is_of_colour, is_square, king_square, leaps, man_on, mates, moves, position_after}
 use Rattle.chess_mates.proofs.Chess.{is_paralysed, is_pseudo_legal, is_reached, occupied_squares, other, queen_steps, reaches, reaches_as, reaches_of, same_colour, same_colour-true, same_kind, side_of, sight_lifted, some_square, some_square_true, squares, squares_both, squares_either, squares_not}
 use Rattle.chess_mates.proofs.Chess.{squares_of, without_man, word}
 use Rattle.chess_mates.specs.ties.Flights.{AreOpen, AreSteps, IsSafe, IsSeenFrom, has_flight, is_flight, is_flight_at, is_open}
@@ -44,9 +44,6 @@ no_mate_with_flight rule p m h = search (rules, flight_there)
 pub no_king_free : (c d : Colour) (o : Option Man) → is_arrival_free c o ≡ true → is_man o d King ≡ false
 no_king_free c d o h = grind (arith, and_parts, and_right, not-true)
 
-no_own_free : (c : Colour) (o : Option Man) → is_arrival_free c o ≡ true → is_of_colour o c ≡ false
-no_own_free c o h = grind (arith, not-true, and_parts)
-
 -- squares of one word that aren't in another
 pub on_second : (a b i : ℕ) → (bit_at (bit_and a b) i == 1) ≡ true → (bit_at b i == 1) ≡ true
 on_second a b i h = search (rules, bit_at-lt, bit_at_and, eq-eqb, eqb-true)
@@ -57,12 +54,6 @@ unseen_bit test n w t h small on = search (rules, on_second, squares_not, word_h
 
 pub some_of_colour : (o : Option Man) (c : Colour) → is_of_colour o c ≡ true → is_some o ≡ true
 some_of_colour o c h = grind arith
-
-closed_words : (p : Position) (a : ℕ) (o : Option ℕ) (c : Colour) (w n : ℕ) → w ≡ side_of p.men (other c) → n ≡ squares_of p.men c King → (l : ℕ)
-    → l ≡ bit_and (bit_not w64 (word (is_square o))) (bit_not w64 (word (is_square (Some a))))
-    → bit_or (bit_and w l) n ≡ word (λ s. (is_of_colour (man_on p.men s) (other c) && (not (is_square o s) && not (a == s))) || is_man (man_on p.men s) c King)
-unfolding side_of squares_of
-closed_words p a o c w n side kings l standing = search (rules, squares_both, squares_either, squares_not)
 
 -- a king reaches the squares of his leaps
 pub reached_near : (men : List (Option Man)) (c : Colour) (k w t : ℕ) → w ≡ word (λ t. list_any (leaps k t) queen_steps) → t < 64 → (bit_at w t == 1) ≡ true
@@ -75,16 +66,24 @@ pub seen_bit : (test : ℕ → Bool) (n w t : ℕ) → w ≡ word test → t < 6
     → (bit_at (bit_and n (bit_not w64 w)) t == 1) ≡ true
 seen_bit test n w t h small on off = search (rules, bit_at_and, eq-eqb, eqb-true, squares_not, word_has)
 
+-- the king of the side that waits stays where he stood
+pub king_waits : (rule : RuleSet) (p : Position) (x : Man) (m : Move) (c : Colour) → IsWellFormed p → IsMade rule p x m → m.to < 64 → c ≡ other p.turn
+    → king_square (arrived p x m) c ≡ king_square p.men c
+king_waits rule p x m c well is small e = king_stands p.men m.from (capture_square p x m) m.to (arriving_man x m.promo) c (record {
+  small = omega (arith, small, well.size);
+  here = grind (arith, is, other_differs, and_left);
+  comes = grind (arith, is, arriving_colour x m.promo, other_differs, and_left);
+  arrival = no_king_free p.turn c (man_on p.men m.to) is.arrival;
+  captured = λ s at. grind (arith, taken rule p x m s well is (square_is (capture_square p x m) s at), and_right);
+})
+
 -- the men after the move, and the king among them
 module _ (rule : RuleSet) (p : Position) (m : Move) (x : Man) (k : ℕ) (i : IsSeenFrom rule p m x k) where
   pub is_made : IsMade rule p x m
   is_made = made rule p m x i.pseudo i.here
 
-  simply : IsSimple rule p x m
-  simply = grind (arith, i.simple, and_parts, not-true)
-
   pub after_seen : (position_after rule p m).men ≡ arrived p x m
-  after_seen = simple_after rule p x m i.here simply.castling simply.rebirth
+  after_seen = search (rules, simple_after, i.simple, and_parts, not-true)
 
   no_king_arrives : same_kind x.kind King ≡ false → same_kind (arriving_man x m.promo).kind King ≡ false
   no_king_arrives mortal = search (rules, false_from_ne_true, false≢true, arriving_king, is_made)
@@ -92,19 +91,9 @@ module _ (rule : RuleSet) (p : Position) (m : Move) (x : Man) (k : ℕ) (i : IsS
   pub no_own_arrives : same_colour (arriving_man x m.promo).colour (other p.turn) ≡ false
   no_own_arrives = grind (arith, arriving_colour, is_made, other_differs)
 
-  -- no king leaves his square, unless he goes
-  no_king_left : (c : Colour) (t : ℕ) → is_man (Some x) c King ≡ false → (m.from == t || is_square (capture_square p x m) t) ≡ true
-      → is_man (man_on p.men t) c King ≡ false
-  no_king_left c t stays gone =
-      grind (arith, or_cases (m.from == t), eqb-true m.from t, taken rule p x m t i.well_formed is_made, square_is (capture_square p x m) t, and_right, i.here)
-
-  no_enemy_king : is_man (Some x) (other p.turn) King ≡ false
-  no_enemy_king = grind (arith, is_made, other_differs, and_left)
-
   module _ (small : m.to < 64) where
     pub king_seen : king_square (position_after rule p m).men (other p.turn) ≡ Some k
-    king_seen =
-        search (rules, after_seen, king_stands, no_king_left, no_enemy_king, or_left, eq-eqb, and_left, no_own_arrives, no_king_free, is_made, or_right)
+    king_seen = search (rules, after_seen, king_waits rule p x m (other p.turn) i.well_formed is_made small refl, i.king)
 
     abbrev is_free : ℕ → Bool
     is_free t =
@@ -113,9 +102,11 @@ module _ (rule : RuleSet) (p : Position) (m : Move) (x : Man) (k : ℕ) (i : IsS
 
     free_there : same_kind x.kind King ≡ false → (t : ℕ) → is_free t ≡ is_arrival_free (other p.turn) (man_on (arrived p x m) t)
     free_there mortal t = elim (cases_eq t m.to) [
-      | inl e ↦ grind (arith, there_now, no_own_arrives, no_king_arrives mortal, captures_arrival, some_of_colour, no_king_free, is_made)
-      | inr ne ↦
-          grind (arith, cases_Bool (m.from == t || is_square (capture_square p x m) t), left_now, kept_now, or_parts, no_king_left, and_right)
+      | inl e ↦ grind (arith, there_now, no_own_arrives, no_king_arrives mortal, captures_arrival, no_king_free, is_made)
+      | inr ne ↦ elim (cases_Bool (m.from == t || is_square (capture_square p x m) t)) [
+        | inl gone ↦ grind (arith, left_now, or_cases (m.from == t), eqb-true m.from t, taken rule p x m t i.well_formed is_made, square_is, and_right, i.here)
+        | inr stays ↦ grind (arith, kept_now, or_parts)
+      ]
     ]
 
     -- but where he has come
@@ -135,10 +126,10 @@ module _ (rule : RuleSet) (p : Position) (m : Move) (x : Man) (k : ℕ) (i : IsS
         → l ≡ (sight_lifted p.men m.from (capture_square p x m) m.to k).standing
         → h ≡ bit_or (bit_and (side_of p.men (other p.turn)) l) (squares_of p.men p.turn King)
         → AreSteps rule (position_after rule p m).men x (other p.turn) k (bit_and w (bit_not w64 h))
-    unfolding is_open reaches_as
+    unfolding is_open reaches_as side_of squares_of
     open_squares w l h circe near standing held =
         let words : bit_and w (bit_not w64 h) ≡ word (λ t. list_any (leaps k t) queen_steps && is_free t) =
-        search (rules, near, held, closed_words p m.from (capture_square p x m) p.turn _ _ refl refl l standing, squares_not, squares_both) in
+        search (rules, near, held, standing, squares_both, squares_either, squares_not) in
         let told = λ (t : ℕ). word_has (λ t. list_any (leaps k t) queen_steps && is_free t) (bit_and w (bit_not w64 h)) t words in
         record {
           inside = λ t lt on. grind (arith, told t lt, open_there t lt, after_seen, and_parts, circe);
@@ -169,10 +160,6 @@ pub record IsStepSeen (men : List (Option Man)) (a : ℕ) (o : Option ℕ) (b : 
 pub reaches_alike_of : (men others : List (Option Man)) (o : Option Man) (s t : ℕ) → StandAlike men others t → reaches_of men o s t ≡ reaches_of others o s t
 reaches_alike_of men others o s t a = grind (arith, reaches_alike)
 
--- who doesn't reach a square doesn't attack it, paralysed or not
-pub no_strike : (a p r : Bool) → (a && r) ≡ false → ((a && p) && r) ≡ false
-no_strike a p r q = grind arith
-
 module _ (men : List (Option Man)) (a : ℕ) (o : Option ℕ) (b : ℕ) (z : Man) (k : ℕ) (u : Option ℕ) (t : ℕ) (x : Man) (c : Colour) (r : ℕ)
     (i : IsStepSeen men a o b z k u t x c r) where
   abbrev now : List (Option Man)
@@ -184,15 +171,11 @@ module _ (men : List (Option Man)) (a : ℕ) (o : Option ℕ) (b : ℕ) (z : Man
   arrival_seen : reaches_as now z.colour z.kind b t ≡ (bit_at r t == 1)
   arrival_seen = search (rules, reaches_alike now (without_man (gone_to men a o b z) k), lifted_alike, word_has, occupied_lifted, i)
 
-  same_strikes : (bit_at r t == 1) ≡ false → (s : ℕ) → (is_of_colour (man_on now s) c && reaches now s t) ≡ (is_of_colour (man_on then s) c && reaches then s t)
-  unfolding reaches
-  same_strikes unseen s =
-      grind (arith, cases_eq s b, cases_eq s t, same_elsewhere, reaches_alike_of, arrival_alike, stands_arrived, and_right, and_left, arrival_seen)
-
   -- whom the man that has arrived doesn't reach is reached by the others alone
   pub reached_alike : (bit_at r t == 1) ≡ false → is_reached now t c ≡ is_reached then t c
-  unfolding is_reached
-  reached_alike unseen = some_square_same _ _ (λ s lt. same_strikes unseen s)
+  unfolding is_reached reaches
+  reached_alike unseen = some_square_same _ _ (λ s lt.
+      grind (arith, cases_eq s b, cases_eq s t, same_elsewhere, reaches_alike_of, arrival_alike, stands_arrived, arrival_seen))
 
   -- whom the man that has arrived reaches
   pub arrived_strikes : same_colour z.colour c ≡ true → (bit_at r t == 1) ≡ true → is_reached now t c ≡ true
@@ -252,7 +235,7 @@ module _ (rule : RuleSet) (q : Position) (x : Man) (k t : ℕ) (i : IsKingStep r
       let way = open_parts rule q.men q.turn k t i.near in
       record {
         castling = false_from_ne_true _ (search (rules, king_no_step, steps_there));
-        rebirth = λ circe. no_capture q x (step_to k t) (way.nobody circe) (and_left (same_kind x.kind Pawn) _ (king_is_no_pawn x.kind i.king));
+        rebirth = search (rules, no_capture, way.nobody, and_left, king_is_no_pawn);
       }
 
   -- and it is legal exactly where nobody attacks the square then
@@ -283,7 +266,7 @@ module _ (rule : RuleSet) (p : Position) (m : Move) (x : Man) (k : ℕ) (i : IsS
       → IsStep p.men m.from (capture_square p x m) m.to k (capture_square (position_after rule p m) y (step_to k t)) t y p.turn
   is_step y t there king =
       let free = (is_made rule p m x k i).arrival in
-      grind (arith, taken, capture_of_piece, king_is_no_pawn, square_is, king_is_other, other_side, king_there, no_own_free, no_king_square)
+      grind (arith, taken, capture_of_piece, king_is_no_pawn, square_is, king_is_other, other_side, king_there, and_parts, not-true, no_king_square)
 
   abbrev pub step_taken : Man → ℕ → Option ℕ
   step_taken y t = capture_square (position_after rule p m) y (step_to k t)
@@ -319,14 +302,11 @@ module _ (rule : RuleSet) (p : Position) (m : Move) (x : Man) (k : ℕ) (i : IsS
     safe_step t near safe =
         let king = king_on (position_after rule p m).men (other p.turn) k (king_seen rule p m x k i small) in
         let z = arriving_man x m.promo in
-        let size : m.to < length p.men = omega (arith, small, i.well_formed.size) in
-        let lifted : List (Option Man) = without_man (gone_to p.men m.from (capture_square p x m) m.to z) k in
-        let seen = arrives lifted (occupied_lifted p.men m.from (capture_square p x m) m.to z k size) in
         let step = step_seen king.0 t safe.small king.1 in
         let alike = reached_alike p.men m.from (capture_square p x m) m.to z k (step_taken king.0 t) t king.0 p.turn r step in
-        let near = near.inside t safe.small (on_first n (bit_not w64 r) t safe.here) in
-        let off = alike (unseen_bit _ n r t seen safe.small safe.here) in
-        search (rules, step_legal_is king.0 t safe.small king.1 near, not_attacked, off, safe.unreached, seen_stepped)
+        let lifted = occupied_lifted p.men m.from (capture_square p x m) m.to z k step.step.arrival in
+        let legal = step_legal_is king.0 t safe.small king.1 (near.inside t safe.small (on_first n (bit_not w64 r) t safe.here)) in
+        search (rules, legal, not_attacked, alike (unseen_bit _ n r t (arrives _ lifted) safe.small safe.here), safe.unreached, seen_stepped)
 
     -- for `flights_from`: it is a flight
     pub has_flight_to : (t : ℕ) → AreSteps rule (position_after rule p m).men x (other p.turn) k n

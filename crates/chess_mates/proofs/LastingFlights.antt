@@ -1,31 +1,29 @@
 -- Flights that one move can't take.
 use Rattle.chess_core.proofs.Kept.{same_colour-refl}
 use Rattle.chess_rules.specs.ties.Places.{all_triples}
-use Rattle.chess_rules.proofs.Basics.{List, None, Option, Some, [], and_left, and_parts, and_right, ap, arith, bit_and, bit_at, bit_at_and, bit_not, bit_or, cases_Bool, cases_eq, eq-eqb, eqb-true, false, false_from_ne_true, false≢true, find, list_any, not, or_lt, range_with_len, refl, rules, sym, true, w64, ℕ, ◌<◌, ◌==◌, ◌^◌, ◌∙◌, ◌≡◌, ◌≢◌, ◌⊎◌}
-use Rattle.chess_mates.proofs.Chess.{Bishop, Colour, Grasshopper, IsWellFormed, King, Knight, Man, Move, Nightrider, Pawn, Position, Queen, Rook, RuleSet, is_promoting, arriving_man, capture_square, find_first, is_arrival_free, is_castling, captures_do_more, is_man, is_pseudo_legal, is_square, king_after, king_square, leaps, man_on, mates, mates_behind, may_go, other, position_after, queen_steps}
-use Rattle.chess_mates.proofs.Chess.{reaches_as, same_colour, same_kind, same_kind-true, side_of, squares_of, triple_at, word}
+use Rattle.chess_rules.proofs.Basics.{None, Option, Some, [], and_parts, arith, bit_and, bit_at, bit_at_and, bit_not, bit_or, cases_Bool, eq-eqb, eqb-true, false, false_from_ne_true, false≢true, find, list_any, not, or_lt, range_with_len, refl, rules, sym, true, w64, ℕ, ◌<◌, ◌==◌, ◌^◌, ◌∙◌, ◌≡◌, ◌≢◌, length}
+use Rattle.chess_mates.proofs.Chess.{Bishop, Grasshopper, IsWellFormed, King, Knight, Man, Move, Nightrider, Pawn, Position, Queen, Rook, RuleSet, is_promoting, find_first, is_arrival_free, is_castling, captures_do_more, is_pseudo_legal, is_square, king_after, king_square, leaps, man_on, mates, mates_behind, may_go, other, position_after, queen_steps}
+use Rattle.chess_mates.proofs.Chess.{reaches_as, same_kind, same_kind-true, side_of, squares_of, triple_at, word}
 use Rattle.std.proofs.Common.{IfSome}
 use Rattle.chess_mates.specs.declared.attackers.Attackers.{Attackers}
 use Rattle.chess_mates.specs.ties.Attackers.{AreAttackers, IsAttacker}
 use Rattle.chess_mates.proofs.KindByKind.{HoldsOf, of_all}
 use Rattle.chess_mates.specs.ties.LastingFlights.{AreApproached, AreGuarded, AreNear, AreReached, IsLeft, KeepsOne, LeaveOne, LeavesOne}
 use Rattle.chess_rules.proofs.Bits.{off_left, off_right, on_left, on_right, word_has}
-use Rattle.chess_rules.proofs.rays.Ends.{square_is}
 use Rattle.chess_rules.proofs.rays.Flips.{reaches_back}
 use Rattle.chess_rules.proofs.attacks.Exposing.{king_is_after}
-use Rattle.chess_rules.proofs.attacks.Seeing.{king_stands}
 use Rattle.chess_rules.proofs.attacks.Shielding.{arriving_colour, other_twice, simple_after}
 use Rattle.chess_rules.proofs.listing_moves.Arrivals.{may_go_aimed}
 use Rattle.chess_rules.proofs.listing_moves.Targeting.{arrival_needed, false_by}
-use Rattle.chess_rules.proofs.making_moves.Fits.{arrived, castle_of, taken}
+use Rattle.chess_rules.proofs.making_moves.Fits.{arrived, castle_of}
 use Rattle.chess_rules.proofs.making_moves.Pseudo.{IsMade, made, on_board}
 use Rattle.chess_rules.proofs.making_moves.Stays.{after_well_formed, maker}
 use Rattle.chess_mates.proofs.CheckTargets.{last_rank_on}
 use Rattle.chess_mates.proofs.FarMen.{off_denied}
 use Rattle.chess_rules.proofs.listing_moves.Walks.{off_second, off_zero, on_first}
-use Rattle.chess_mates.proofs.Fleeing.{IsKingOn, no_king_free, no_mate_with_flight, step_to, unseen_bit}
+use Rattle.chess_mates.proofs.Fleeing.{IsKingOn, king_waits, no_mate_with_flight, step_to, unseen_bit}
 use Rattle.chess_mates.proofs.Mating.{mates_behind-end, mates_behind-none, not_mating, turn_after}
-use Rattle.chess_mates.proofs.Hurdles.{hops_openly}
+use Rattle.chess_mates.proofs.Hurdles.{found_on, hops_openly}
 use Rattle.chess_mates.specs.ties.Siege.{men_on}
 use Rattle.chess_mates.proofs.OpenBoard.{any_reach}
 use Rattle.chess_mates.proofs.Standing.{arrival_small, has_one, no_hopper, not_mine, stood, unnamed}
@@ -57,8 +55,8 @@ on_both a b t on too = grind (arith, eqb-true, bit_at_and, eq-eqb)
 
 -- for targets off the last ranks: no pawn promotes there
 pub no_last_rank : (x : Man) (w t : ℕ) → (bit_and w 18374686479671623935 == 0) ≡ true → t < 64 → (bit_at w t == 1) ≡ true → is_promoting x t ≡ false
-no_last_rank x w t none small on = false_by (is_promoting x t) (λ last. false≢true (sym (off_zero t) ∙ ap (λ n. bit_at n t == 1) (sym (eqb-true _ _ none))
-    ∙ on_both w 18374686479671623935 t on (last_rank_on x.colour t small (and_parts _ _ last).1)))
+no_last_rank x w t none small on =
+    search (rules, false_by, false≢true, off_zero, eqb-true, on_both w 18374686479671623935 t, last_rank_on, and_parts)
 
 -- for squares that aren't e1 or e8
 pub off_homes : (s : ℕ) → not (bit_at 1152921504606846992 s == 1) ≡ true → (s ≢ 4) × (s ≢ 60)
@@ -96,13 +94,13 @@ pub first_there : (squares targets a o first t : ℕ) (x : Man) → AreApproache
     → find (λ s. bit_at squares s == 1) (range_with_len 0 64) ≡ Some first → t < 64 → (bit_at targets t == 1) ≡ true
     → (bit_at (bit_and targets (bit_or a o)) t == 1) ≡ false → IsLeft squares x t first
 first_there squares targets a o first t x are only found small on off =
-    let is = find_first (λ s. bit_at squares s == 1) 0 64 first found in
+    let is = found_on squares 0 first found in
     let free = off_second targets (bit_or a o) t off on in
     record {
-      small = omega (arith, is.high);
-      on = is.here;
-      off = λ e. grind (arith, off_right a o t free, word_has _ o t only small, eq-eqb, false≢true);
-      unreached = λ men. false_from_ne_true _ (λ h. grind (arith, off_left a o t free, are.inside men t small h, false≢true));
+      small = is.0;
+      on = is.1;
+      off = λ e. grind (arith, off_right a o t free, word_has _ o t only small, eq-eqb);
+      unreached = search (rules, are.inside, off_left a o t free, false_from_ne_true, false≢true);
     }
 
 -- the squares next to the king
@@ -144,117 +142,71 @@ module _ (rule : RuleSet) (p : Position) (m : Move) (x : Man) (k w : ℕ) (well 
   king_q : king_square q.men p.turn ≡ Some k
   king_q = search (rules, men_q, king_is_after, is, king)
 
-  stood_q : (s : ℕ) (v : Man) → man_on q.men s ≡ Some v
-      → ((s ≡ m.to) × (v ≡ arriving_man x m.promo)) ⊎ ((s ≢ m.to) × ((s ≢ m.from) × (man_on p.men s ≡ Some v)))
-  stood_q s v there = stood p x m s v (omega (arith, small, well.size)) (sym (ap (λ (l : List (Option Man)). man_on l s) men_q) ∙ there)
-
   -- an enemy stood there before
   enemy_stood : (s : ℕ) (v : Man) → man_on q.men s ≡ Some v → v.colour ≡ other p.turn → man_on p.men s ≡ Some v
   enemy_stood s v there enemy =
       grind (arith, stood p x m s v, men_q, small, well.size, not_mine v p.turn enemy, arriving_colour, is, same_colour-refl, false≢true)
 
-  attacker : (s : ℕ) (v : Man) → s < 64 → man_on p.men s ≡ Some v → v.colour ≡ other p.turn → IsAttacker a v s
-  attacker s v inside there enemy = men.stand s v inside there (enemy ∙ sym colour)
-
-  module _ (n : Move) (to : n.to < 64) (can : is_pseudo_legal rule q n ≡ true) where
-    abbrev y : Man
-    y = (maker rule q n can).0
-
-    here_y : man_on q.men n.from ≡ Some y
-    here_y = (maker rule q n can).1
-
+  module _ (n : Move) (to : n.to < 64) (can : is_pseudo_legal rule q n ≡ true) (y : Man) (here_y : man_on q.men n.from ≡ Some y) where
     is_n : IsMade rule q y n
     is_n = made rule q n y can here_y
 
     enemy_y : y.colour ≡ other p.turn
     enemy_y = is_n.mine ∙ turn_q
 
-    from_small : n.from < 64
-    from_small = on_board q.men n.from y well_q.size here_y
-
     leaves : LeavesOne keeps.squares y n.from
-    leaves = keeps.leave.leaves n.from y (attacker n.from y from_small (enemy_stood n.from y here_y enemy_y) enemy_y)
+    leaves = search (rules, keeps.leave.leaves, men.stand, on_board q.men, well_q.size, enemy_stood, enemy_y, colour)
 
     goes : may_go q y n.from n.to ≡ true
     goes = may_go_aimed rule q y n here_y (arrival_needed rule q n to can)
 
-    abbrev f : ℕ
-    f = (leaves.left q n.to to goes).0
-
-    left : IsLeft keeps.squares y n.to f
-    left = (leaves.left q n.to to goes).1
+    left : (f : ℕ) × IsLeft keeps.squares y n.to f
+    left = leaves.left q n.to to goes
 
     unpromoted : n.promo ≡ None
     unpromoted = unnamed q y n n.promo (leaves.unpromoted q n.to to goes) is_n.promotion
 
     plain_n : is_castling y n ≡ false
-    plain_n = false_by (is_castling y n) (λ castling. grind (arith, leaves.away, and_parts, castle_of rule q y n well_q is_n castling))
+    plain_n = grind (arith, leaves.away, and_parts, castle_of rule q y n well_q is_n)
 
     abbrev r : Position
     r = position_after rule q n
 
     men_r : r.men ≡ arrived q y n
-    men_r = simple_after rule q y n here_y plain_n (λ c. absurd (false≢true (sym circe ∙ c)))
+    men_r = search (rules, simple_after, circe, plain_n)
 
     turn_r : r.turn ≡ p.turn
-    turn_r = turn_after rule q n can ∙ ap other turn_q ∙ other_twice p.turn
+    turn_r = search (rules, turn_after, turn_q, other_twice)
 
     well_r : IsWellFormed r
     well_r = after_well_formed rule q n well_q can
 
     king_r : king_square r.men p.turn ≡ Some k
-    king_r =
-        ap (λ (l : List (Option Man)). king_square l p.turn) men_r
-        ∙ king_stands q.men n.from (capture_square q y n) n.to (arriving_man y n.promo) p.turn (record {
-          small = omega (arith, to, well_q.size);
-          here = ap (λ (o : Option Man). is_man o p.turn King) here_y ∙ and_left (same_colour y.colour p.turn) _ (not_mine y p.turn enemy_y);
-          comes = and_left (same_colour (arriving_man y n.promo).colour p.turn) _
-              (ap (λ (c : Colour). same_colour c p.turn) (arriving_colour y n.promo) ∙ not_mine y p.turn enemy_y);
-          arrival = no_king_free q.turn p.turn (man_on q.men n.to) is_n.arrival;
-          captured = λ s at.
-              let t = taken rule q y n s well_q is_n (square_is (capture_square q y n) s at) in
-              ap (λ (o : Option Man). is_man o p.turn King) t.there ∙ and_right (same_colour t.man.colour p.turn) _ t.mortal;
-        })
-        ∙ king_q
+    king_r = search (rules, men_r, king_waits rule q y n, is_n, well_q, king_q, turn_q, other_twice)
 
-    stood_r : (s : ℕ) (v : Man) → man_on r.men s ≡ Some v
-        → ((s ≡ n.to) × (v ≡ arriving_man y n.promo)) ⊎ ((s ≢ n.to) × ((s ≢ n.from) × (man_on q.men s ≡ Some v)))
-    stood_r s v there = stood q y n s v (omega (arith, to, well_q.size)) (sym (ap (λ (l : List (Option Man)). man_on l s) men_r) ∙ there)
+    within : ((bit_at w left.0 == 1) ≡ true) × ((bit_at keeps.guarded left.0 == 1) ≡ false)
+    within = keeps.within left.0 left.1.small left.1.on
 
-    within : ((bit_at w f == 1) ≡ true) × ((bit_at keeps.guarded f == 1) ≡ false)
-    within = keeps.within f left.small left.on
-
-    free_f : is_arrival_free p.turn (man_on r.men f) ≡ true
-    free_f = grind (arith, cases_eq, stood_r f, stood_q f, left, near, within, false≢true)
+    free : is_arrival_free p.turn (man_on r.men left.0) ≡ true
+    free =
+        grind (arith, stood q y n left.0, stood p x m left.0, men_q, men_r, left.1, near, within, small, to, well.size, well_q.size)
 
     -- nobody attacks the king who has gone there
-    unreached : (z : Man) → IsKingOn r.men p.turn k z → (s : ℕ) (v : Man) → s < 64 → man_on (arrived r z (step_to k f)) s ≡ Some v → v.colour ≡ other p.turn
-        → reaches_as (arrived r z (step_to k f)) v.colour v.kind s f ≡ false
+    unreached : (z : Man) → IsKingOn r.men p.turn k z → (s : ℕ) (v : Man) → s < 64 → man_on (arrived r z (step_to k left.0)) s ≡ Some v
+        → v.colour ≡ other p.turn → reaches_as (arrived r z (step_to k left.0)) v.colour v.kind s left.0 ≡ false
     unreached z stands s v inside there enemy =
-        let held = keeps.guards.guards s v in
-        grind (
-          arith,
-          stood r z (step_to k f) s v,
-          stood_r s v,
-          not_mine v p.turn enemy,
-          unpromoted,
-          left,
-          well_r.size,
-          attacker,
-          enemy_stood s v,
-          held,
-          within,
-          stands,
-          false_from_ne_true,
-          false≢true,
-        )
+        let now = stood r z (step_to k left.0) s v in
+        let before = stood q y n s v in
+        let held = λ (i : IsAttacker a v s). keeps.guards.guards s v i in
+        let sizes : (left.0 < length r.men) × (n.to < length q.men) = (omega (arith, left.1.small, well_r.size), omega (arith, to, well_q.size)) in
+        grind (arith, now, before, men_r, sizes, not_mine v p.turn enemy, unpromoted, left.1, men.stand s v, colour, enemy_stood s v, held, within, stands)
 
     unmated : mates rule q n ≡ false
-    unmated = sym (no_mate_with_flight rule q n (has_one rule r p.turn k f well_r turn_r king_r left.small (near.next f left.small within.0) free_f
-        (λ c. absurd (false≢true (sym circe ∙ c))) unreached))
+    unmated = sym (no_mate_with_flight rule q n (has_one rule r p.turn k left.0 well_r turn_r king_r left.1.small (near.next left.0 left.1.small within.0)
+        free (λ c. absurd (false≢true (sym circe ∙ c))) unreached))
 
   none_mates : (i : ℕ) → mates rule q (triple_at i) ≡ false
-  none_mates i = search (rules, cases_Bool, unmated, arrival_small, not_mating)
+  none_mates i = grind (arith, cases_Bool, unmated (triple_at i) (arrival_small i), maker rule q (triple_at i), not_mating)
 
   -- for `keeps_flight`
   pub no_mate_behind : mates_behind rule q 0 ≡ []

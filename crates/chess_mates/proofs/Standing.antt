@@ -12,6 +12,8 @@ use Rattle.chess_rules.proofs.attacks.Shielding.{other_differs}
 use Rattle.chess_rules.proofs.listing_moves.Targeting.{false_by}
 use Rattle.chess_rules.proofs.making_moves.Fits.{arrived, arrived_other, king_no_step}
 use Rattle.chess_rules.proofs.making_moves.Pseudo.{IsMade, king_is_no_pawn, made}
+-- where a side stands somebody stands
+pub use Rattle.chess_mates.proofs.Fleeing.{some_of_colour as some_side}
 use Rattle.chess_mates.proofs.Fleeing.{IsKingOn, IsKingStep, king_on, step_is, step_to}
 use Rattle.chess_mates.specs.ties.Flights.{has_flight, is_flight, is_open}
 use Rattle.chess_mates.proofs.Chess.{king_square, leaps, put_at, queen_steps, some_square_true}
@@ -61,10 +63,6 @@ stays_there p x m b here from to = arrived_other p x m b from (λ s cap e. to (e
 pub some_stays : (p : Position) (x : Man) (m : Move) (b : ℕ) → ((s : ℕ) → capture_square p x m ≡ Some s → s ≡ m.to) → m.to < length p.men → b ≢ m.from
     → is_some (man_on p.men b) ≡ true → is_some (man_on (arrived p x m) b) ≡ true
 some_stays p x m b here size from some = search (rules, cases_eq, there_now, stays_there)
-
--- where a side stands somebody stands
-pub some_side : (o : Option Man) (c : Colour) → is_of_colour o c ≡ true → is_some o ≡ true
-some_side o c h = grind (arith, false≢true)
 
 -- nobody is reborn where nobody is captured, or without Circe
 pub no_rebirth : (rule : RuleSet) (p : Position) (x : Man) (m : Move) → (captures_do_more rule ≡ true → capture_square p x m ≡ None)

@@ -1,4 +1,3 @@
-use Rattle.chess_rules.proofs.Basics.{rules}
 use Rattle.chess_mates.proofs.Chess.{Man}
 use Rattle.chess_mates.proofs.HoldBelow.{hold_map, hold_on}
 use Rattle.chess_mates.proofs.LastingFlights.{reached_left, reached_right}
