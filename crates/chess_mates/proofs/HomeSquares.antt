@@ -16,10 +16,8 @@ homes White Bishop = 36
 homes Black Bishop = 2594073385365405696
 homes White Knight = 66
 homes Black Knight = 4755801206503243776
-homes White Grasshopper = 18374686479671623680
-homes Black Grasshopper = 255
-homes White Nightrider = 18374686479671623680
-homes Black Nightrider = 255
+homes White _ = 18374686479671623680
+homes Black _ = 255
 
 -- a man who is no pawn is reborn on a square of his word
 pub home_on : (c : Colour) (k : Kind) (w : ℕ) → w ≡ homes c k → same_kind k Pawn ≡ false → (t r : ℕ) → rebirth c k t ≡ Some r → (bit_at w r == 1) ≡ true
@@ -34,12 +32,7 @@ pub pawn_home_on : (c : Colour) (s k w : ℕ) → ((t : ℕ) → rebirth c Pawn 
     → w ≡ word (λ q. is_square (square_at (file_of s) k) q) → (t r : ℕ) → file_of t ≡ file_of s → rebirth c Pawn t ≡ Some r → (bit_at w r == 1) ≡ true
 pawn_home_on c s k w home only t r file h = search (rules, word_has, rebirth_small, eq-eqb)
 
--- for `homes_on`: men of the kind, pawns apart
-pub homes_are : (men : List (Option Man)) (c : Colour) (k : Kind) (w : ℕ)
-    → ((t r : ℕ) → rebirth c k t ≡ Some r → (bit_at w r == 1) ≡ true) → AreHomesOf men c k w
-homes_are men c k w h = search rules
-
--- pawns
+-- for `homes_on`: pawns
 pub pawn_homes_are : (men : List (Option Man)) (c : Colour) (l w : ℕ) → l ≡ squares_of men c Pawn
     → ((s : ℕ) → s < 64 → (bit_at l s == 1) ≡ true → (t r : ℕ) → file_of t ≡ file_of s → rebirth c Pawn t ≡ Some r → (bit_at w r == 1) ≡ true)
     → (k : Kind) → k ≡ Pawn → AreHomesOf men c k w

@@ -1,18 +1,16 @@
 -- A king who goes next to the other king is in check there: no legal move does so.
-use Rattle.chess_rules.proofs.Basics.{List, None, Option, Some, and_from, and_parts, arith, cases_Bool, false, false≢true, inl, inr, not-true, refl, sym, true, ℕ, ◌<◌, ◌∙◌, ◌≡◌}
-use Rattle.chess_mates.proofs.Chess.{CanCastle, IsMade, IsWellFormed, King, Man, Move, Position, RuleSet, after_well_formed, arrived, arrived_other, can_move, corner, halfway, in_check, is_attacked, is_attacker, is_castling, is_legal, is_pseudo_legal, is_pseudo_legal-from_legal, king-back, king_is, king_square, king_stays_king, made, man_on, man_on-with_other, man_on-without_other, may_check_from, may_check_from_at, move_man_other, moved_men, moved_plainly, other, other_differs, position_after, put_at, reaches_as, reborn_is, same_colour-refl, same_kind, same_kind-true, some_square_true, taken}
+use Rattle.chess_rules.proofs.Basics.{None, Option, Some, and_from, and_parts, arith, cases_Bool, false, false≢true, inl, inr, not-true, refl, sym, true, ℕ, ◌<◌, ◌∙◌, ◌≡◌}
+use Rattle.chess_mates.proofs.Chess.{CanCastle, IsMade, IsWellFormed, King, Man, Move, Position, RuleSet, after_well_formed, arrived, arrived_other, can_move, capture_square, corner, halfway, in_check, is_attacked, is_attacker, is_castling, is_legal, is_pseudo_legal, is_pseudo_legal-from_legal, king-back, king_is, king_square, king_stays_king, made, man_on, man_on_at, man_on-without_other, may_check_from, may_check_from_at, move_man_other, moved_men, moved_plainly, other, other_differs, position_after, reaches_as, reborn_is, reborn_square, same_colour-refl, same_kind, same_kind-true, some_square_true, taken}
 use Rattle.chess_mates.proofs.Fleeing.{IsKingOn, king_is_able, king_on, no_king_square, steps_there}
+use Rattle.chess_mates.proofs.Standing.{stood_reborn}
 use Rattle.chess_mates.proofs.Rebirths.{after_is}
 use Rattle.chess_rules.proofs.making_moves.Returns.{moved_arrival}
 
--- who stands on a square stays there when somebody is put on an empty one
-stays_put : (men : List (Option Man)) (o : Option ℕ) (w : Option Man) (s : ℕ) (z : Man) → ((r : ℕ) → o ≡ Some r → man_on men r ≡ None)
-    → man_on men s ≡ Some z → man_on (put_at men o w) s ≡ Some z
-stays_put men o w s z free there = grind (arith, man_on-with_other)
-
 module _ (rule : RuleSet) (p : Position) (x : Man) (m : Move) (well : IsWellFormed p) (is : IsMade rule p x m) where
   stays_after : (s : ℕ) (z : Man) → man_on (moved_men p x m) s ≡ Some z → man_on (position_after rule p m).men s ≡ Some z
-  stays_after s z there = rw (after_is rule p x m is.here) (stays_put _ _ _ s z (λ r at. (reborn_is rule p x m r at).empty) there)
+  stays_after s z there =
+      let cases = stood_reborn (moved_men p x m) (reborn_square rule p x m) (man_on_at p.men (capture_square p x m)) s in
+      rw (after_is rule p x m is.here) (grind (arith, cases, reborn_is rule p x m s))
 
   -- the enemy's king stands where he stood
   module _ (k : ℕ) (at : king_square p.men (other p.turn) ≡ Some k) (y : Man) (stood : IsKingOn p.men (other p.turn) k y) where

@@ -25,7 +25,7 @@ use Rattle.chess_mates.proofs.Fleeing.{IsKingOn, king_waits, no_mate_with_flight
 use Rattle.chess_mates.proofs.Mating.{mates_behind-end, mates_behind-none, not_mating, turn_after}
 use Rattle.chess_mates.proofs.Hurdles.{found_on, hops_openly}
 use Rattle.chess_mates.specs.ties.Siege.{men_on}
-use Rattle.chess_mates.proofs.OpenBoard.{any_reach}
+use Rattle.chess_rules.proofs.listing_moves.Targeting.{every_square_on}
 use Rattle.chess_mates.proofs.Standing.{arrival_small, has_one, no_hopper, not_mine, stood, unnamed}
 
 -- for words that are joined: the first has what it reached
@@ -47,7 +47,7 @@ all_guard a k q r b n p g y kings queens rooks bishops knights pawns grasshopper
 
 -- for `open_guards`: all squares
 pub all_guarded : (a : Attackers) → AreGuarded a (bit_not w64 0)
-all_guarded a = record { guards = λ s x i. any_reach x s }
+all_guarded a = search (rules, every_square_on)
 
 -- neither on a last rank nor on a king's home
 pub on_both : (a b t : ℕ) → (bit_at a t == 1) ≡ true → (bit_at b t == 1) ≡ true → (bit_at (bit_and a b) t == 1) ≡ true
@@ -151,20 +151,14 @@ module _ (rule : RuleSet) (p : Position) (m : Move) (x : Man) (k w : ℕ) (well 
     is_n : IsMade rule q y n
     is_n = made rule q n y can here_y
 
-    enemy_y : y.colour ≡ other p.turn
-    enemy_y = is_n.mine ∙ turn_q
-
     leaves : LeavesOne keeps.squares y n.from
-    leaves = search (rules, keeps.leave.leaves, men.stand, on_board q.men, well_q.size, enemy_stood, enemy_y, colour)
+    leaves = search (rules, keeps.leave.leaves, men.stand, on_board q.men, well_q.size, enemy_stood, is_n.mine ∙ turn_q, colour)
 
     goes : may_go q y n.from n.to ≡ true
     goes = may_go_aimed rule q y n here_y (arrival_needed rule q n to can)
 
     left : (f : ℕ) × IsLeft keeps.squares y n.to f
     left = leaves.left q n.to to goes
-
-    unpromoted : n.promo ≡ None
-    unpromoted = unnamed q y n n.promo (leaves.unpromoted q n.to to goes) is_n.promotion
 
     plain_n : is_castling y n ≡ false
     plain_n = grind (arith, leaves.away, and_parts, castle_of rule q y n well_q is_n)
@@ -197,9 +191,10 @@ module _ (rule : RuleSet) (p : Position) (m : Move) (x : Man) (k w : ℕ) (well 
     unreached z stands s v inside there enemy =
         let now = stood r z (step_to k left.0) s v in
         let before = stood q y n s v in
+        let plain : n.promo ≡ None = unnamed q y n n.promo (leaves.unpromoted q n.to to goes) is_n.promotion in
         let held = λ (i : IsAttacker a v s). keeps.guards.guards s v i in
         let sizes : (left.0 < length r.men) × (n.to < length q.men) = (omega (arith, left.1.small, well_r.size), omega (arith, to, well_q.size)) in
-        grind (arith, now, before, men_r, sizes, not_mine v p.turn enemy, unpromoted, left.1, men.stand s v, colour, enemy_stood s v, held, within, stands)
+        grind (arith, now, before, men_r, sizes, not_mine v p.turn enemy, plain, left.1, men.stand s v, colour, enemy_stood s v, held, within, stands)
 
     unmated : mates rule q n ≡ false
     unmated = sym (no_mate_with_flight rule q n (has_one rule r p.turn k left.0 well_r turn_r king_r left.1.small (near.next left.0 left.1.small within.0)

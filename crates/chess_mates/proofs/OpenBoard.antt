@@ -1,6 +1,6 @@
 -- Where a man goes, he might go whoever else stood on the board.
 use Rattle.std.proofs.Common.{arith}
-use Rattle.chess_rules.proofs.Basics.{Bool, List, Option, and_parts, bit_at, bit_not, bit_or, cond-false, cond-true, false, false≢true, inl, inr, list_any, list_any-append, or_cases, rules, sym, true, w64, ℕ, ◌&&◌, ◌<◌, ◌==◌, ◌||◌, ◌∙◌, ◌≡◌}
+use Rattle.chess_rules.proofs.Basics.{Bool, List, Option, and_parts, bit_at, bit_or, cond-false, cond-true, false, false≢true, inl, inr, list_any, list_any-append, or_cases, rules, sym, true, ℕ, ◌&&◌, ◌<◌, ◌==◌, ◌||◌, ◌∙◌, ◌≡◌}
 use Rattle.chess_mates.proofs.Chess.{Grasshopper, King, Man, Nightrider, Pawn, Position, Queen, diagonal_steps, is_advance, is_on_some, leaps, may_go, occupied_squares, queen_steps, reaches_as, rides, same_kind, steps_to, straight_steps, word}
 use Rattle.chess_core.specs.Steps.{gait_of, kind_steps}
 use Rattle.chess_core.specs.declared.man.Gait.TheVariants.{Leaper, Rider}
@@ -8,16 +8,9 @@ use Rattle.chess_core.specs.declared.man.Kind.{Kind}
 use Rattle.chess_rules.proofs.listing_moves.Arrivals.{no_steps}
 use Rattle.chess_rules.proofs.Bits.{on_left, on_right, word_has}
 use Rattle.chess_rules.proofs.attacks.Attacking.{goes_on}
-use Rattle.chess_rules.proofs.listing_moves.Targeting.{every_square_on}
 use Rattle.chess_mates.proofs.Hurdles.{hops_openly, openly, reached_is}
 use Rattle.chess_mates.specs.ties.LastingFlights.{AreReached}
 use Rattle.chess_mates.specs.ties.Siege.{men_on, reached_over}
-
--- a piece that is no king reaches where it goes
-pub reached : (p : Position) (x : Man) (s t : ℕ) → same_kind x.kind Pawn ≡ false → same_kind x.kind King ≡ false → may_go p x s t ≡ true
-    → reaches_as p.men x.colour x.kind s t ≡ true
-unfolding may_go
-reached p x s t none piece h = search (rules, cond-false, no_steps)
 
 -- who rides to a square is on a line with it
 pub rides_on : (men : List (Option Man)) (s t : ℕ) (ds : List _) → list_any (rides men s t) ds ≡ true → is_on_some ds s t ≡ true
@@ -69,15 +62,12 @@ module _ (x : Man) (s : ℕ) where
       let over = reached_is 0 (record { colour = x.colour; kind = Nightrider }) s w (omega arith) h in
       search (rules, over.inside, openly)
 
-  -- all squares
-  pub any_reach : AreReached x s (bit_not w64 0)
-  any_reach = record { inside = λ men t small h. every_square_on t small }
-
 -- for `open_targets`: where a man might go whom the word shows what he reaches
 module _ (p : Position) (x : Man) (s t w : ℕ) (small : t < 64) (h : may_go p x s t ≡ true) (are : AreReached x s w) where
   -- a piece
   pub piece_targets : same_kind x.kind Pawn ≡ false → same_kind x.kind King ≡ false → (bit_at w t == 1) ≡ true
-  piece_targets none piece = are.inside p.men t small (reached p x s t none piece h)
+  unfolding may_go
+  piece_targets none piece = search (rules, cond-false, no_steps, are.inside p.men t small)
 
   -- a pawn, who steps too
   pub pawn_targets : (a : ℕ) → x.kind ≡ Pawn → a ≡ word (is_advance x.colour s) → (bit_at (bit_or w a) t == 1) ≡ true

@@ -141,12 +141,10 @@ module _ (rule : RuleSet) (p : Position) (c : Colour) (k f : ℕ) (well : IsWell
   unfolding is_open reaches_as
   king_step z stands = grind (arith, and_from, cases_Bool (captures_do_more rule))
 
-  flees : (z : Man) → IsKingOn p.men c k z → has_flight rule p ≡ true
-  unfolding has_flight is_flight
-  flees z stands =
-      let step = step_is rule p z k f (king_step z stands) in
-      search (rules, some_square_true (is_flight rule p) f small, turn, king, step, nobody_strikes rule _ f c (unreached z stands))
-
   -- for flights that are left
   pub has_one : has_flight rule p ≡ true
-  has_one = search (rules, king_on p.men c k king, flees)
+  unfolding has_flight is_flight
+  has_one =
+      let z = king_on p.men c k king in
+      let step = step_is rule p z.0 k f (king_step z.0 z.1) in
+      search (rules, some_square_true (is_flight rule p) f small, turn, king, step, nobody_strikes rule _ f c (unreached z.0 z.1))

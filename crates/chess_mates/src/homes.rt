@@ -64,7 +64,7 @@ fn pawn_homes(colour: Colour, pawns: Squares) -> Squares
 }
 
 // The squares on which men of the kind may be reborn, if the colour has any.
-#[tactic(auto, using(crate::proofs::HomeSquares::homes_are, crate::proofs::HomeSquares::no_homes_are, crate::proofs::HomeSquares::pawn_homes_are))]
+#[tactic(auto, using(crate::proofs::HomeSquares::no_homes_are, crate::proofs::HomeSquares::pawn_homes_are))]
 fn homes_on(board: &Board, colour: Colour, kind: Kind) -> Squares
     ensures { AreHomesOf board.now.men colour kind result }
 {
