@@ -1,5 +1,5 @@
 -- The squares on which captured men may be reborn, and those that are closed to a king.
-use Rattle.chess_rules.proofs.Basics.{List, Option, Some, agree_below_at, arith, bit_at, bit_or, cases_Bool, eq-eqb, false, false≢true, is_some, not, refl, rules, sym, true, ℕ, ◌<◌, ◌==◌, ◌||◌, ◌∙◌, ◌≡◌, ◌⊎◌}
+use Rattle.chess_rules.proofs.Basics.{List, Option, Some, agree_below_at, arith, bit_at, bit_or, cases_Bool, eq-eqb, false, false≢true, is_some, not, refl, rules, true, ℕ, ◌<◌, ◌==◌, ◌||◌, ◌≡◌, ◌⊎◌}
 use Rattle.chess_mates.proofs.Chess.{Bishop, Black, Colour, Grasshopper, Kind, King, Knight, Man, Nightrider, Pawn, Position, Queen, Rook, RuleSet, White, captures_do_more, file_of, is_man, is_of_colour, is_square, man_on, on_left, on_right, other, rank_of, rebirth, rebirth_small, same_kind, side_of, square_at, square_at-is, squares_of, word, word_has}
 use Rattle.chess_mates.specs.ties.Siege.{AreClosed, AreHomes, AreHomesOf}
 use Rattle.chess_mates.proofs.Risks.{none_on}
@@ -74,10 +74,10 @@ some_of o c h = grind (arith, cases_Bool (is_of_colour o c))
 pub all_closed : (rule : RuleSet) (p : Position) (c d : Colour) (a e h : ℕ) → c ≡ p.turn → d ≡ other c → a ≡ side_of p.men c → e ≡ side_of p.men d
     → AreHomes p.men c h → AreClosed rule p (bit_or (bit_or a e) h)
 unfolding side_of
-all_closed rule p c d a e h turn enemy own enemies homes = record {
-  own = λ s small mine. grind (arith, on_left, word_has (λ q. is_of_colour (man_on p.men q) c) a s own small);
-  others = λ more s small some.
-      let side = λ (c : Colour). word_has (λ q. is_of_colour (man_on p.men q) c) in
-      grind (arith, on_left, on_right, some_of (man_on p.men s) c some, side c a s own small, side d e s enemies small);
-  homes = λ more. record { homes = λ s r z small here mine home. on_right (bit_or a e) h r (homes.homes s r z small here (mine ∙ sym turn) home) };
-}
+all_closed rule p c d a e h turn enemy own enemies homes =
+    let side = λ (c : Colour). word_has (λ q. is_of_colour (man_on p.men q) c) in
+    record {
+      own = λ s small mine. grind (arith, on_left, side c a s own small);
+      others = λ more s small some. grind (arith, on_left, on_right, some_of (man_on p.men s) c some, side c a s own small, side d e s enemies small);
+      homes = λ more. record { homes = λ s r z small here mine home. search (rules, on_right, homes.homes s r z small here) };
+    }

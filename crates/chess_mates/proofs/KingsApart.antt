@@ -1,6 +1,6 @@
 -- A king who goes next to the other king is in check there: no legal move does so.
-use Rattle.chess_rules.proofs.Basics.{None, Option, Some, and_from, and_parts, arith, cases_Bool, false, false≢true, inl, inr, not-true, refl, sym, true, ℕ, ◌<◌, ◌∙◌, ◌≡◌}
-use Rattle.chess_mates.proofs.Chess.{CanCastle, IsMade, IsWellFormed, King, Man, Move, Position, RuleSet, after_well_formed, arrived, arrived_other, can_move, capture_square, corner, halfway, in_check, is_attacked, is_attacker, is_castling, is_legal, is_pseudo_legal, is_pseudo_legal-from_legal, king-back, king_is, king_square, king_stays_king, made, man_on, man_on_at, man_on-without_other, may_check_from, may_check_from_at, move_man_other, moved_men, moved_plainly, other, other_differs, position_after, reaches_as, reborn_is, reborn_square, same_colour-refl, same_kind, same_kind-true, some_square_true, taken}
+use Rattle.chess_rules.proofs.Basics.{Some, and_from, and_parts, arith, cases_Bool, false, false≢true, inl, inr, not-true, sym, true, ℕ, ◌<◌, ◌∙◌, ◌≡◌}
+use Rattle.chess_mates.proofs.Chess.{CanCastle, IsMade, IsWellFormed, King, Man, Move, Position, RuleSet, after_well_formed, arrived, arrived_other, can_move, capture_square, corner, halfway, in_check, is_attacked, is_attacker, is_castling, is_legal, is_pseudo_legal, is_pseudo_legal-from_legal, king-back, king_is, king_square, king_stays_king, made, man_on, man_on_at, man_on-without_other, may_check_from, move_man_other, moved_men, moved_plainly, other, other_differs, position_after, reaches_as, reborn_is, reborn_square, same_colour-refl, same_kind, same_kind-true, some_square_true, taken}
 use Rattle.chess_mates.proofs.Fleeing.{IsKingOn, king_is_able, king_on, no_king_square, steps_there}
 use Rattle.chess_mates.proofs.Standing.{stood_reborn}
 use Rattle.chess_mates.proofs.Rebirths.{after_is}
@@ -46,11 +46,7 @@ module _ (rule : RuleSet) (p : Position) (x : Man) (m : Move) (well : IsWellForm
 pub kings_apart : (rule : RuleSet) (p : Position) (x : Man) (m : Move) → IsWellFormed p → man_on p.men m.from ≡ Some x → m.to < 64 → is_legal rule p m ≡ true
     → same_kind x.kind King ≡ true → may_check_from p.men (other p.turn) x m.to ≡ false
 unfolding may_check_from is_legal
-kings_apart rule p x m well here small lawful king = by (king_square p.men (other p.turn)) refl where
-  by : (o : Option ℕ) → king_square p.men (other p.turn) ≡ o → may_check_from_at p.men o x m.to ≡ false
-  by None at = refl
-  by (Some k) at =
-      let may = is_pseudo_legal-from_legal rule p m lawful in
-      let stood = king_on p.men (other p.turn) k at in
-      let check = in_check_there rule p x m well (made rule p m x may here) k at stood.0 stood.1 small king in
-      grind (arith, check, may, same_kind-true x.kind King king, lawful, not-true _ (and_parts (is_pseudo_legal rule p m) _ lawful).1)
+kings_apart rule p x m well here small lawful king =
+    let may = is_pseudo_legal-from_legal rule p m lawful in
+    let check = in_check_there rule p x m well (made rule p m x may here) in
+    grind (arith, king_on p.men (other p.turn), check, may, same_kind-true x.kind King king, lawful, not-true, and_parts)

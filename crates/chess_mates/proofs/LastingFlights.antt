@@ -1,7 +1,7 @@
 -- Flights that one move can't take.
 use Rattle.chess_core.proofs.Kept.{same_colour-refl}
 use Rattle.chess_rules.specs.ties.Places.{all_triples}
-use Rattle.chess_rules.proofs.Basics.{None, Option, Some, [], and_parts, arith, bit_and, bit_at, bit_at_and, bit_not, bit_or, cases_Bool, eq-eqb, eqb-true, false, false_from_ne_true, false≢true, find, list_any, not, or_lt, range_with_len, refl, rules, sym, true, w64, ℕ, ◌<◌, ◌==◌, ◌^◌, ◌∙◌, ◌≡◌, ◌≢◌, length}
+use Rattle.chess_rules.proofs.Basics.{None, Option, Some, [], and_parts, arith, bit_and, bit_at, bit_at_and, bit_not, bit_or, cases_Bool, eq-eqb, eqb-true, false, false_from_ne_true, false≢true, find, list_any, not, or_lt, range_with_len, rules, sym, true, w64, ℕ, ◌<◌, ◌==◌, ◌^◌, ◌∙◌, ◌≡◌, ◌≢◌, length}
 use Rattle.chess_mates.proofs.Chess.{Bishop, Grasshopper, IsWellFormed, King, Knight, Man, Move, Nightrider, Pawn, Position, Queen, Rook, RuleSet, is_promoting, find_first, is_arrival_free, is_castling, captures_do_more, is_pseudo_legal, is_square, king_after, king_square, leaps, man_on, mates, mates_behind, may_go, other, position_after, queen_steps}
 use Rattle.chess_mates.proofs.Chess.{reaches_as, same_kind, same_kind-true, side_of, squares_of, triple_at, word}
 use Rattle.std.proofs.Common.{IfSome}
@@ -83,11 +83,7 @@ come_back x t w small other are = search (rules, reaches_back, no_hopper)
 -- a grasshopper comes along a queen's lines
 pub hop_back : (x : Man) (t w : ℕ) → t < 64 → same_kind x.kind Grasshopper ≡ true → AreReached (record { colour = other x.colour; kind = Queen }) t w
     → AreApproached x t w
-hop_back x t w small kind are = record {
-  inside = λ men s inside h.
-      let hop = hops_openly men x.colour x.colour s t (rw (same_kind-true x.kind Grasshopper kind) at h) in
-      are.inside (men_on 0) s inside (sym (reaches_back (men_on 0) x.colour Queen s t refl inside small) ∙ hop);
-}
+hop_back x t w small kind are = search (rules, are.inside (men_on 0), reaches_back (men_on 0) x.colour Queen, hops_openly, same_kind-true)
 
 -- where the man neither stands on the first square nor reaches it, that one is left
 pub first_there : (squares targets a o first t : ℕ) (x : Man) → AreApproached x first a → o ≡ word (λ q. is_square (Some first) q)
@@ -96,12 +92,8 @@ pub first_there : (squares targets a o first t : ℕ) (x : Man) → AreApproache
 first_there squares targets a o first t x are only found small on off =
     let is = found_on squares 0 first found in
     let free = off_second targets (bit_or a o) t off on in
-    record {
-      small = is.0;
-      on = is.1;
-      off = λ e. grind (arith, off_right a o t free, word_has _ o t only small, eq-eqb);
-      unreached = search (rules, are.inside, off_left a o t free, false_from_ne_true, false≢true);
-    }
+    let apart : first ≢ t = λ e. grind (arith, off_right a o t free, word_has _ o t only small, eq-eqb) in
+    search (rules, is, apart, are.inside, off_left a o t free, false_from_ne_true, false≢true)
 
 -- the squares next to the king
 pub near_are : (p : Position) (m : Move) (k n s y o : ℕ) → n ≡ word (λ t. list_any (leaps k t) queen_steps) → s ≡ side_of p.men p.turn
@@ -178,12 +170,9 @@ module _ (rule : RuleSet) (p : Position) (m : Move) (x : Man) (k w : ℕ) (well 
     king_r : king_square r.men p.turn ≡ Some k
     king_r = search (rules, men_r, king_waits rule q y n, is_n, well_q, king_q, turn_q, other_twice)
 
-    within : ((bit_at w left.0 == 1) ≡ true) × ((bit_at keeps.guarded left.0 == 1) ≡ false)
-    within = keeps.within left.0 left.1.small left.1.on
-
     free : is_arrival_free p.turn (man_on r.men left.0) ≡ true
     free =
-        grind (arith, stood q y n left.0, stood p x m left.0, men_q, men_r, left.1, near, within, small, to, well.size, well_q.size)
+        grind (arith, stood q y n left.0, stood p x m left.0, men_q, men_r, left.1, near, keeps.within left.0, small, to, well.size, well_q.size)
 
     -- nobody attacks the king who has gone there
     unreached : (z : Man) → IsKingOn r.men p.turn k z → (s : ℕ) (v : Man) → s < 64 → man_on (arrived r z (step_to k left.0)) s ≡ Some v
@@ -194,11 +183,11 @@ module _ (rule : RuleSet) (p : Position) (m : Move) (x : Man) (k w : ℕ) (well 
         let plain : n.promo ≡ None = unnamed q y n n.promo (leaves.unpromoted q n.to to goes) is_n.promotion in
         let held = λ (i : IsAttacker a v s). keeps.guards.guards s v i in
         let sizes : (left.0 < length r.men) × (n.to < length q.men) = (omega (arith, left.1.small, well_r.size), omega (arith, to, well_q.size)) in
-        grind (arith, now, before, men_r, sizes, not_mine v p.turn enemy, plain, left.1, men.stand s v, colour, enemy_stood s v, held, within, stands)
+        grind (arith, now, before, men_r, sizes, not_mine v p.turn enemy, plain, left.1, men.stand s v, colour, enemy_stood s v, held, keeps.within left.0, stands)
 
     unmated : mates rule q n ≡ false
-    unmated = sym (no_mate_with_flight rule q n (has_one rule r p.turn k left.0 well_r turn_r king_r left.1.small (near.next left.0 left.1.small within.0)
-        free (λ c. absurd (false≢true (sym circe ∙ c))) unreached))
+    unmated = sym (no_mate_with_flight rule q n (has_one rule r p.turn k left.0 well_r turn_r king_r left.1.small
+        (near.next left.0 left.1.small (keeps.within left.0 left.1.small left.1.on).0) free (λ c. absurd (false≢true (sym circe ∙ c))) unreached))
 
   none_mates : (i : ℕ) → mates rule q (triple_at i) ≡ false
   none_mates i = grind (arith, cases_Bool, unmated (triple_at i) (arrival_small i), maker rule q (triple_at i), not_mating)

@@ -1,7 +1,7 @@
 -- Where a man goes, he might go whoever else stood on the board.
 use Rattle.std.proofs.Common.{arith}
-use Rattle.chess_rules.proofs.Basics.{Bool, List, Option, and_parts, bit_at, bit_or, cond-false, cond-true, false, false≢true, inl, inr, list_any, list_any-append, or_cases, rules, sym, true, ℕ, ◌&&◌, ◌<◌, ◌==◌, ◌||◌, ◌∙◌, ◌≡◌}
-use Rattle.chess_mates.proofs.Chess.{Grasshopper, King, Man, Nightrider, Pawn, Position, Queen, diagonal_steps, is_advance, is_on_some, leaps, may_go, occupied_squares, queen_steps, reaches_as, rides, same_kind, steps_to, straight_steps, word}
+use Rattle.chess_rules.proofs.Basics.{Bool, List, Option, and_parts, bit_at, bit_or, cond-false, cond-true, false, false≢true, inl, inr, list_any, list_any-append, or_cases, refl, rules, sym, true, ℕ, ◌&&◌, ◌<◌, ◌==◌, ◌||◌, ◌∙◌, ◌≡◌}
+use Rattle.chess_mates.proofs.Chess.{Grasshopper, King, Man, Nightrider, Pawn, Position, Queen, diagonal_steps, is_advance, is_on_some, leaps, may_go, occupied_squares, reaches_as, rides, same_kind, steps_to, straight_steps, word}
 use Rattle.chess_core.specs.Steps.{gait_of, kind_steps}
 use Rattle.chess_core.specs.declared.man.Gait.TheVariants.{Leaper, Rider}
 use Rattle.chess_core.specs.declared.man.Kind.{Kind}
@@ -28,31 +28,21 @@ module _ (x : Man) (s : ℕ) where
   unfolding reaches_as
   ride_reach k l kind rider lines = search (rules, word_has, rides_on)
 
-  queen_on : (men : List (Option Man)) (t l d : ℕ) → l ≡ word (is_on_some straight_steps s) → d ≡ word (is_on_some diagonal_steps s) → t < 64
-      → list_any (rides men s t) queen_steps ≡ true → (bit_at (bit_or l d) t == 1) ≡ true
-  queen_on men t l d lines slants small h = elim (or_cases _ _ (sym (list_any-append (rides men s t) straight_steps diagonal_steps) ∙ h)) [
-    | inl y ↦ on_left l d t (word_has (is_on_some straight_steps s) l t lines small ∙ rides_on men s t straight_steps y)
-    | inr y ↦ on_right l d t (word_has (is_on_some diagonal_steps s) d t slants small ∙ rides_on men s t diagonal_steps y)
-  ]
-
   -- a queen's
   pub queen_reach : (l d : ℕ) → x.kind ≡ Queen → l ≡ word (is_on_some straight_steps s) → d ≡ word (is_on_some diagonal_steps s) → AreReached x s (bit_or l d)
   unfolding reaches_as
-  queen_reach l d kind lines slants = search (rules, queen_on)
+  queen_reach l d kind lines slants = record {
+    inside = λ men t small h. elim (or_cases _ _ (sym (list_any-append (rides men s t) straight_steps diagonal_steps) ∙ (rw kind at h))) [
+      | inl y ↦ on_left l d t (word_has (is_on_some straight_steps s) l t lines small ∙ rides_on men s t straight_steps y)
+      | inr y ↦ on_right l d t (word_has (is_on_some diagonal_steps s) d t slants small ∙ rides_on men s t diagonal_steps y)
+    ];
+  }
 
   -- a knight's leaps, a king's steps and a pawn's captures
   pub leap_reach : (k : Kind) (test : ℕ → Bool) (l : ℕ) → x.kind ≡ k → gait_of k ≡ Leaper → l ≡ word test
       → ((t : ℕ) → list_any (leaps s t) (kind_steps x.colour k) ≡ test t) → AreReached x s l
   unfolding reaches_as
   leap_reach k test l kind leaper squares same = search (rules, word_has)
-
-  -- a grasshopper's, a queen's
-  pub grasshopper_reach : (l d : ℕ) → x.kind ≡ Grasshopper → l ≡ word (is_on_some straight_steps s) → d ≡ word (is_on_some diagonal_steps s)
-      → AreReached x s (bit_or l d)
-  unfolding reaches_as
-  grasshopper_reach l d kind lines slants = record {
-    inside = λ men t small h. search (rules, queen_on (men_on 0) t l d lines slants small, hops_openly men x.colour x.colour s t);
-  }
 
   -- a nightrider's, over no hurdle
   pub nightrider_reach : (w : ℕ) → x.kind ≡ Nightrider
@@ -61,6 +51,12 @@ module _ (x : Man) (s : ℕ) where
   nightrider_reach w kind h =
       let over = reached_is 0 (record { colour = x.colour; kind = Nightrider }) s w (omega arith) h in
       search (rules, over.inside, openly)
+
+-- a grasshopper's, a queen's
+pub grasshopper_reach : (x : Man) (s l d : ℕ) → x.kind ≡ Grasshopper → l ≡ word (is_on_some straight_steps s) → d ≡ word (is_on_some diagonal_steps s)
+    → AreReached x s (bit_or l d)
+grasshopper_reach x s l d kind lines slants =
+    search (rules, (queen_reach (record { colour = x.colour; kind = Queen }) s l d refl lines slants).inside (men_on 0), hops_openly)
 
 -- for `open_targets`: where a man might go whom the word shows what he reaches
 module _ (p : Position) (x : Man) (s t w : ℕ) (small : t < 64) (h : may_go p x s t ≡ true) (are : AreReached x s w) where
