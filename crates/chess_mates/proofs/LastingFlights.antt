@@ -152,17 +152,11 @@ module _ (rule : RuleSet) (p : Position) (m : Move) (x : Man) (k w : ℕ) (well 
     left : (f : ℕ) × IsLeft keeps.squares y n.to f
     left = leaves.left q n.to to goes
 
-    plain_n : is_castling y n ≡ false
-    plain_n = grind (arith, leaves.away, and_parts, castle_of rule q y n well_q is_n)
-
     abbrev r : Position
     r = position_after rule q n
 
     men_r : r.men ≡ arrived q y n
-    men_r = search (rules, simple_after, circe, plain_n)
-
-    turn_r : r.turn ≡ p.turn
-    turn_r = search (rules, turn_after, turn_q, other_twice)
+    men_r = simple_after rule q y n here_y (grind (arith, leaves.away, and_parts, castle_of rule q y n well_q is_n)) (λ c. absurd (false≢true (sym circe ∙ c)))
 
     well_r : IsWellFormed r
     well_r = after_well_formed rule q n well_q can
@@ -186,8 +180,8 @@ module _ (rule : RuleSet) (p : Position) (m : Move) (x : Man) (k w : ℕ) (well 
         grind (arith, now, before, men_r, sizes, not_mine v p.turn enemy, plain, left.1, men.stand s v, colour, enemy_stood s v, held, keeps.within left.0, stands)
 
     unmated : mates rule q n ≡ false
-    unmated = sym (no_mate_with_flight rule q n (has_one rule r p.turn k left.0 well_r turn_r king_r left.1.small
-        (near.next left.0 left.1.small (keeps.within left.0 left.1.small left.1.on).0) free (λ c. absurd (false≢true (sym circe ∙ c))) unreached))
+    unmated = sym (no_mate_with_flight rule q n (has_one rule r p.turn k left.0 well_r (search (rules, turn_after, turn_q, other_twice)) king_r
+        left.1.small (near.next left.0 left.1.small (keeps.within left.0 left.1.small left.1.on).0) free (λ c. absurd (false≢true (sym circe ∙ c))) unreached))
 
   none_mates : (i : ℕ) → mates rule q (triple_at i) ≡ false
   none_mates i = grind (arith, cases_Bool, unmated (triple_at i) (arrival_small i), maker rule q (triple_at i), not_mating)
