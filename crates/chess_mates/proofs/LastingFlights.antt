@@ -2,7 +2,7 @@
 use Rattle.chess_core.proofs.Kept.{same_colour-refl}
 use Rattle.chess_rules.specs.ties.Places.{all_triples}
 use Rattle.chess_rules.proofs.Basics.{None, Option, Some, [], and_parts, arith, bit_and, bit_at, bit_at_and, bit_not, bit_or, cases_Bool, eq-eqb, eqb-true, false, false_from_ne_true, false≢true, find, list_any, not, or_lt, range_with_len, rules, sym, true, w64, ℕ, ◌<◌, ◌==◌, ◌^◌, ◌∙◌, ◌≡◌, ◌≢◌, length}
-use Rattle.chess_mates.proofs.Chess.{Bishop, Grasshopper, IsWellFormed, King, Knight, Man, Move, Nightrider, Pawn, Position, Queen, Rook, RuleSet, is_promoting, find_first, is_arrival_free, is_castling, captures_do_more, is_pseudo_legal, is_square, king_after, king_square, leaps, man_on, mates, mates_behind, may_go, other, position_after, queen_steps}
+use Rattle.chess_mates.proofs.Chess.{Bishop, Grasshopper, IsWellFormed, King, Knight, Man, Move, Nightrider, Pawn, Position, Queen, Rook, RuleSet, is_promoting, find_first, is_arrival_free, is_castling, captures_do_more, is_pseudo_legal, is_square, king_after, king_square, leaps, man_on, mates, mates_behind, other, position_after, queen_steps}
 use Rattle.chess_mates.proofs.Chess.{reaches_as, same_kind, same_kind-true, side_of, squares_of, triple_at, word}
 use Rattle.std.proofs.Common.{IfSome}
 use Rattle.chess_mates.specs.declared.attackers.Attackers.{Attackers}
@@ -146,11 +146,8 @@ module _ (rule : RuleSet) (p : Position) (m : Move) (x : Man) (k w : ℕ) (well 
     leaves : LeavesOne keeps.squares y n.from
     leaves = search (rules, keeps.leave.leaves, men.stand, on_board q.men, well_q.size, enemy_stood, is_n.mine ∙ turn_q, colour)
 
-    goes : may_go q y n.from n.to ≡ true
-    goes = may_go_aimed rule q y n here_y (arrival_needed rule q n to can)
-
     left : (f : ℕ) × IsLeft keeps.squares y n.to f
-    left = leaves.left q n.to to goes
+    left = leaves.left q n.to to (may_go_aimed rule q y n here_y (arrival_needed rule q n to can))
 
     abbrev r : Position
     r = position_after rule q n
@@ -174,6 +171,7 @@ module _ (rule : RuleSet) (p : Position) (m : Move) (x : Man) (k w : ℕ) (well 
     unreached z stands s v inside there enemy =
         let now = stood r z (step_to k left.0) s v in
         let before = stood q y n s v in
+        let goes = may_go_aimed rule q y n here_y (arrival_needed rule q n to can) in
         let plain : n.promo ≡ None = unnamed q y n n.promo (leaves.unpromoted q n.to to goes) is_n.promotion in
         let held = λ (i : IsAttacker a v s). keeps.guards.guards s v i in
         let sizes : (left.0 < length r.men) × (n.to < length q.men) = (omega (arith, left.1.small, well_r.size), omega (arith, to, well_q.size)) in

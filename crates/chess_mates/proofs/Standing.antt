@@ -137,14 +137,11 @@ module _ (rule : RuleSet) (p : Position) (c : Colour) (k f : ℕ) (well : IsWell
     (free : is_arrival_free c (man_on p.men f) ≡ true) (vacant : captures_do_more rule ≡ true → man_on p.men f ≡ None)
     (unreached : (z : Man) → IsKingOn p.men c k z → (s : ℕ) (u : Man) → s < 64 → man_on (arrived p z (step_to k f)) s ≡ Some u → u.colour ≡ other c
     → reaches_as (arrived p z (step_to k f)) u.colour u.kind s f ≡ false) where
-  king_step : (z : Man) → IsKingOn p.men c k z → IsKingStep rule p z k f
-  unfolding is_open reaches_as
-  king_step z stands = grind (arith, and_from, cases_Bool (captures_do_more rule))
-
   -- for flights that are left
   pub has_one : has_flight rule p ≡ true
-  unfolding has_flight is_flight
+  unfolding has_flight is_flight is_open reaches_as
   has_one =
       let z = king_on p.men c k king in
-      let step = step_is rule p z.0 k f (king_step z.0 z.1) in
+      let step : IsKingStep rule p z.0 k f = grind (arith, z.1, and_from, cases_Bool (captures_do_more rule)) in
+      let step = step_is rule p z.0 k f step in
       search (rules, some_square_true (is_flight rule p) f small, turn, king, step, nobody_strikes rule _ f c (unreached z.0 z.1))
