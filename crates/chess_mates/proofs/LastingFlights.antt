@@ -175,7 +175,7 @@ module _ (rule : RuleSet) (p : Position) (m : Move) (x : Man) (k w : ℕ) (well 
         let plain : n.promo ≡ None = unnamed q y n n.promo (leaves.unpromoted q n.to to goes) is_n.promotion in
         let held = λ (i : IsAttacker a v s). keeps.guards.guards s v i in
         let sizes : (left.0 < length r.men) × (n.to < length q.men) = (omega (arith, left.1.small, well_r.size), omega (arith, to, well_q.size)) in
-        grind (arith, now, before, men_r, sizes, not_mine v p.turn enemy, plain, left.1, men.stand s v, colour, enemy_stood s v, held, keeps.within left.0, stands)
+        grind (arith, now, before, men_r, sizes, not_mine v p.turn enemy, plain, left.1, men.stand s v, enemy_stood s v, held, keeps.within left.0)
 
     unmated : mates rule q n ≡ false
     unmated = sym (no_mate_with_flight rule q n (has_one rule r p.turn k left.0 well_r (search (rules, turn_after, turn_q, other_twice)) king_r
