@@ -44,7 +44,7 @@ no_mate_with_flight rule p m h = search (rules, flight_there)
 pub no_king_free : (c d : Colour) (o : Option Man) → is_arrival_free c o ≡ true → is_man o d King ≡ false
 no_king_free c d o h = grind (arith, and_parts, and_right, not-true)
 
--- squares of one word that aren't in another
+-- a square of two words is one of the second
 pub on_second : (a b i : ℕ) → (bit_at (bit_and a b) i == 1) ≡ true → (bit_at b i == 1) ≡ true
 on_second a b i h = search (rules, bit_at-lt, bit_at_and, eq-eqb, eqb-true)
 
@@ -52,6 +52,12 @@ on_second a b i h = search (rules, bit_at-lt, bit_at_and, eq-eqb, eqb-true)
 pub unseen_bit : (test : ℕ → Bool) (n w t : ℕ) → w ≡ word test → t < 64 → (bit_at (bit_and n (bit_not w64 w)) t == 1) ≡ true → (bit_at w t == 1) ≡ false
 unseen_bit test n w t h small on = search (rules, on_second, squares_not, word_has)
 
+-- and for one of the first that the test leaves out
+pub seen_bit : (test : ℕ → Bool) (n w t : ℕ) → w ≡ word test → t < 64 → (bit_at n t == 1) ≡ true → (bit_at w t == 1) ≡ false
+    → (bit_at (bit_and n (bit_not w64 w)) t == 1) ≡ true
+seen_bit test n w t h small on off = search (rules, bit_at_and, eq-eqb, eqb-true, squares_not, word_has)
+
+-- where a side stands somebody stands
 pub some_of_colour : (o : Option Man) (c : Colour) → is_of_colour o c ≡ true → is_some o ≡ true
 some_of_colour o c h = grind arith
 
@@ -60,11 +66,6 @@ pub reached_near : (men : List (Option Man)) (c : Colour) (k w t : ℕ) → w �
     → reaches_as men c King k t ≡ true
 unfolding reaches_as
 reached_near men c k w t h small on = search (rules, word_has)
-
--- and for one of the first that the test leaves out
-pub seen_bit : (test : ℕ → Bool) (n w t : ℕ) → w ≡ word test → t < 64 → (bit_at n t == 1) ≡ true → (bit_at w t == 1) ≡ false
-    → (bit_at (bit_and n (bit_not w64 w)) t == 1) ≡ true
-seen_bit test n w t h small on off = search (rules, bit_at_and, eq-eqb, eqb-true, squares_not, word_has)
 
 -- the king of the side that waits stays where he stood
 pub king_waits : (rule : RuleSet) (p : Position) (x : Man) (m : Move) (c : Colour) → IsWellFormed p → IsMade rule p x m → m.to < 64 → c ≡ other p.turn
@@ -95,6 +96,7 @@ module _ (rule : RuleSet) (p : Position) (m : Move) (x : Man) (k : ℕ) (i : IsS
     pub king_seen : king_square (position_after rule p m).men (other p.turn) ≡ Some k
     king_seen = search (rules, after_seen, king_waits rule p x m (other p.turn) i.well_formed is_made small refl, i.king)
 
+    -- the squares to which the king may step, attacks apart, by words
     abbrev is_free : ℕ → Bool
     is_free t =
         not ((is_of_colour (man_on p.men t) (other p.turn) && (not (is_square (capture_square p x m) t) && not (m.from == t)))

@@ -49,7 +49,7 @@ all_guard a k q r b n p g y kings queens rooks bishops knights pawns grasshopper
 pub all_guarded : (a : Attackers) → AreGuarded a (bit_not w64 0)
 all_guarded a = search (rules, every_square_on)
 
--- neither on a last rank nor on a king's home
+-- a square of both words
 pub on_both : (a b t : ℕ) → (bit_at a t == 1) ≡ true → (bit_at b t == 1) ≡ true → (bit_at (bit_and a b) t == 1) ≡ true
 on_both a b t on too = grind (arith, eqb-true, bit_at_and, eq-eqb)
 
