@@ -86,9 +86,6 @@ module _ (rule : RuleSet) (p : Position) (m : Move) (x : Man) (k : ℕ) (i : IsS
   pub after_seen : (position_after rule p m).men ≡ arrived p x m
   after_seen = search (rules, simple_after, i.simple, and_parts, not-true)
 
-  no_king_arrives : same_kind x.kind King ≡ false → same_kind (arriving_man x m.promo).kind King ≡ false
-  no_king_arrives mortal = search (rules, false_from_ne_true, false≢true, arriving_king, is_made)
-
   pub no_own_arrives : same_colour (arriving_man x m.promo).colour (other p.turn) ≡ false
   no_own_arrives = grind (arith, arriving_colour, is_made, other_differs)
 
@@ -104,7 +101,9 @@ module _ (rule : RuleSet) (p : Position) (m : Move) (x : Man) (k : ℕ) (i : IsS
 
     free_there : same_kind x.kind King ≡ false → (t : ℕ) → is_free t ≡ is_arrival_free (other p.turn) (man_on (arrived p x m) t)
     free_there mortal t = elim (cases_eq t m.to) [
-      | inl e ↦ grind (arith, there_now, no_own_arrives, no_king_arrives mortal, captures_arrival, no_king_free, is_made)
+      | inl e ↦
+          let king = arriving_king p x m m.promo is_made.promotion in
+          grind (arith, there_now, no_own_arrives, king, captures_arrival, no_king_free, is_made, cases_Bool (same_kind (arriving_man x m.promo).kind King))
       | inr ne ↦ elim (cases_Bool (m.from == t || is_square (capture_square p x m) t)) [
         | inl gone ↦ grind (arith, left_now, or_cases (m.from == t), eqb-true m.from t, taken rule p x m t i.well_formed is_made, square_is, and_right, i.here)
         | inr stays ↦ grind (arith, kept_now, or_parts)

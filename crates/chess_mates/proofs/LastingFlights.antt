@@ -116,9 +116,6 @@ module _ (rule : RuleSet) (p : Position) (m : Move) (x : Man) (k w : ℕ) (well 
     (here : man_on p.men m.from ≡ Some x) (circe : captures_do_more rule ≡ false) (plain : is_castling x m ≡ false) (small : m.to < 64)
     (king : king_after p x m ≡ Some k) (near : AreNear p m k w) (a : Attackers) (men : AreAttackers p.men a) (colour : a.colour ≡ other p.turn)
     (keeps : KeepsOne a w) where
-  is : IsMade rule p x m
-  is = made rule p m x may here
-
   abbrev q : Position
   q = position_after rule p m
 
@@ -131,13 +128,10 @@ module _ (rule : RuleSet) (p : Position) (m : Move) (x : Man) (k w : ℕ) (well 
   well_q : IsWellFormed q
   well_q = after_well_formed rule p m well may
 
-  king_q : king_square q.men p.turn ≡ Some k
-  king_q = search (rules, men_q, king_is_after, is, king)
-
   -- an enemy stood there before
   enemy_stood : (s : ℕ) (v : Man) → man_on q.men s ≡ Some v → v.colour ≡ other p.turn → man_on p.men s ≡ Some v
   enemy_stood s v there enemy =
-      grind (arith, stood p x m s v, men_q, small, well.size, not_mine v p.turn enemy, arriving_colour, is, same_colour-refl, false≢true)
+      grind (arith, stood p x m s v, men_q, small, well.size, not_mine v p.turn enemy, arriving_colour, made rule p m x may here, same_colour-refl)
 
   module _ (n : Move) (to : n.to < 64) (can : is_pseudo_legal rule q n ≡ true) (y : Man) (here_y : man_on q.men n.from ≡ Some y) where
     is_n : IsMade rule q y n
@@ -159,7 +153,9 @@ module _ (rule : RuleSet) (p : Position) (m : Move) (x : Man) (k w : ℕ) (well 
     well_r = after_well_formed rule q n well_q can
 
     king_r : king_square r.men p.turn ≡ Some k
-    king_r = search (rules, men_r, king_waits rule q y n, is_n, well_q, king_q, turn_q, other_twice)
+    king_r =
+        let before = king_is_after rule p x m well (made rule p m x may here) small plain in
+        search (rules, men_r, king_waits rule q y n p.turn well_q is_n to, men_q, before, king, turn_q, other_twice)
 
     free : is_arrival_free p.turn (man_on r.men left.0) ≡ true
     free =
