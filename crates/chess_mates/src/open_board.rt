@@ -16,7 +16,7 @@ use chess_rules::reach::reach_over;
 use chess_rules::targets::steps_to;
 
 // The squares that the man on `from` reaches, whoever else stands on the board: of a grasshopper a queen's lines.
-#[tactic(auto, using(crate::proofs::OpenBoard::bishop_reach, crate::proofs::OpenBoard::grasshopper_reach, crate::proofs::OpenBoard::king_reach, crate::proofs::OpenBoard::knight_reach, crate::proofs::OpenBoard::nightrider_reach, crate::proofs::OpenBoard::pawn_reach, crate::proofs::OpenBoard::queen_reach, crate::proofs::OpenBoard::rook_reach))]
+#[tactic(auto, using(crate::proofs::OpenBoard::grasshopper_reach, crate::proofs::OpenBoard::leap_reach, crate::proofs::OpenBoard::nightrider_reach, crate::proofs::OpenBoard::queen_reach, crate::proofs::OpenBoard::ride_reach))]
 pub(crate) fn open_reach(man: Man, from: Square) -> Squares
     ensures { AreReached man from result }
 {
