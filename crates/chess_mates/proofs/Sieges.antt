@@ -1,12 +1,11 @@
 -- The men of a siege, its castlings and the king's field.
-use Rattle.chess_rules.proofs.Basics.{List, None, Option, Some, and_parts, ap, arith, bit_and, bit_at, bit_not, bit_or, eq-eqb, eqb-true, false, false≢true, inl, inr, list_any, list_any-append, ne_eqb, or_cases, refl, subst, sym, true, w64, ℕ, ◌&&◌, ◌+◌, ◌-◌, ◌<◌, ◌==◌, ◌^◌, ◌||◌, ◌∙◌, ◌≡◌, ◌≢◌, ◌⊎◌}
+use Rattle.chess_rules.proofs.Basics.{List, None, Option, Some, and_parts, ap, arith, bit_and, bit_at, bit_not, bit_or, eq-eqb, eqb-true, false, false≢true, inl, inr, list_any, list_any-append, ne_eqb, or_cases, refl, rules, sym, true, w64, ℕ, ◌&&◌, ◌+◌, ◌-◌, ◌<◌, ◌==◌, ◌^◌, ◌||◌, ◌∙◌, ◌≡◌, ◌≢◌, ◌⊎◌}
 use Rattle.chess_mates.proofs.Chess.{Bishop, Colour, Grasshopper, IsWellFormed, Kind, King, Knight, Man, Nightrider, Pawn, Position, Queen, Rook, RuleSet, White, corner, is_fairy, is_man, is_on_some, is_of_colour, is_square, king_square, leaps, man_on, occupied_squares, other, queen_steps}
-use Rattle.chess_mates.proofs.Chess.{diagonal_steps, reaches_as, rides, same_colour, same_kind, side_of, squares, squares_of, straight_steps, word}
+use Rattle.chess_mates.proofs.Chess.{reaches_as, same_colour, same_kind, side_of, squares, squares_of, straight_steps, word}
 use Rattle.chess_core.specs.Castling.{has_unmoved}
-use Rattle.chess_mates.specs.ties.Attackers.{AreAttackers, IsAttacker, squares_for}
+use Rattle.chess_mates.specs.ties.Attackers.{AreAttackers, IsAttacker}
 use Rattle.chess_mates.specs.declared.attackers.Attackers.{Attackers}
 use Rattle.chess_mates.specs.declared.field.Field.{Field}
-use Rattle.chess_mates.specs.declared.field.Landings.{Landings}
 use Rattle.chess_mates.specs.declared.risk.Risk.{Risk}
 use Rattle.chess_mates.specs.declared.siege.Siege.{Siege}
 use Rattle.chess_mates.specs.declared.field.Springs.{Springs}
@@ -17,22 +16,18 @@ use Rattle.chess_rules.proofs.Tests.{find_no}
 use Rattle.chess_rules.proofs.attacks.StayingInCheck.{king_there}
 use Rattle.chess_rules.proofs.listing_moves.Targeting.{every_square_on, false_by}
 use Rattle.chess_mates.proofs.Hurdles.{on_one, reached_is, reached_left, reached_right}
-use Rattle.chess_mates.proofs.FarMen.{man_of_word}
+use Rattle.chess_mates.proofs.FarMen.{man_of_word, off_denied}
 use Rattle.chess_mates.proofs.KindByKind.{man_is}
 use Rattle.chess_mates.proofs.Fleeing.{on_second}
 use Rattle.chess_mates.proofs.Springboards.{grasshopper_on, landing_anywhere, none_sprung, unsprung_right}
 use Rattle.chess_rules.proofs.listing_moves.Walks.{on_first}
-use Rattle.chess_mates.proofs.Risks.{denied_on, none_at, off_word, none_on, weak_never}
+use Rattle.chess_mates.proofs.Risks.{denied_on, none_at, none_on, weak_never}
 use Rattle.chess_mates.proofs.LastingFlights.{on_both}
 
 -- for `adjacent_squares`
 pub adjacent_are : (v : Siege) (k n : ℕ) → n ≡ word (λ t. list_any (leaps k t) queen_steps) → v.closed < 2 ^ 64 → v.men.kings < 2 ^ 64
     → AreAdjacent v k (bit_and (bit_and n (bit_not w64 v.closed)) (bit_not w64 v.men.kings))
-adjacent_are v k n near closed kings = record {
-  next = λ f small on. sym (word_has (λ t. list_any (leaps k t) queen_steps) n f near small) ∙ on_first n _ f (on_first _ _ f on);
-  free = λ f small on. off_word n v.closed f closed small (on_first _ _ f on);
-  kings = λ f small on. off_word _ v.men.kings f kings small on;
-}
+adjacent_are v k n near closed kings = search (rules, off_denied, on_first, word_has)
 
 -- for `capture_squares`: where no attacker stands on a closed square, and none is a hopper
 pub captures_are : (v : Siege) (k n : ℕ) → n ≡ word (λ t. list_any (leaps k t) queen_steps) → bit_and v.closed v.enemies ≡ 0 → v.men.grasshoppers ≡ 0
@@ -45,55 +40,31 @@ captures_are v k n near none plain = record {
 
 -- elsewhere none
 pub no_captures : (v : Siege) (k : ℕ) → AreCaptureSquares v k 0
-no_captures v k = record {
-  next = λ f small on. absurd (none_at 0 f refl on);
-  off = λ f s on small enemy. absurd (none_at 0 f refl on);
-  plain = λ f s z on i. absurd (none_at 0 f refl on);
-}
+no_captures v k = search (rules, none_at)
 
 pub fewer_adjacent : (v : Siege) (k n w : ℕ) → AreAdjacent v k n → AreAdjacent v k (bit_and n w)
-fewer_adjacent v k n w are = record {
-  next = λ f small on. are.next f small (on_first n w f on);
-  free = λ f small on. are.free f small (on_first n w f on);
-  kings = λ f small on. are.kings f small (on_first n w f on);
-}
+fewer_adjacent v k n w are = search (rules, on_first)
 
 -- a queen's lines are a rook's and a bishop's
 pub queen_lines : (d k r b : ℕ) (c : Colour) → IsReached d (record { colour = c; kind = Rook }) k r → IsReached d (record { colour = c; kind = Bishop }) k b
     → IsReached d (record { colour = c; kind = Queen }) k (bit_or r b)
 unfolding reached_over reaches_as
-queen_lines d k r b c rook bishop = record {
-  inside = λ t small reached. elim (or_cases _ _ (sym (list_any-append (rides (men_on d) k t) straight_steps diagonal_steps) ∙ reached)) [
-    | inl y ↦ on_left r b t (rook.inside t small y)
-    | inr y ↦ on_right r b t (bishop.inside t small y)
-  ];
-}
+queen_lines d k r b c rook bishop = grind (arith, list_any-append, on_left, on_right, or_cases)
 
 -- for `nightrider_lines`
 pub nightrider_lines : (d k w : ℕ) → d < 2 ^ 64 → ((men : List (Option Man)) → d ≡ occupied_squares men → w ≡ word (reaches_as men White Nightrider k))
     → (c : Colour) → IsReached d (record { colour = c; kind = Nightrider }) k w
 unfolding reached_over reaches_as
-nightrider_lines d k w fits h c = record { inside = (reached_is d (record { colour = White; kind = Nightrider }) k w fits h).inside }
+nightrider_lines d k w fits h c = search (rules, reached_is)
 
 -- for `springs_of`
-pub springs_are : (v : Siege) (k n s : ℕ) (i : Landings) → AreAdjacent v k n → AreSpringboards v.men k s
-    → ((f : ℕ) → f < 64 → (bit_at i.squares f == 1) ≡ true → IsUnsprung v k f i.springboards)
-    → AreSprings v k (record { near = bit_and n i.squares; own = s; all = bit_or s i.springboards })
-springs_are v k n s i near own landings = record {
-  near = fewer_adjacent v k n i.squares near;
-  unsprung = λ f small on. unsprung_right v k f s i.springboards (landings f small (on_second n i.squares f on));
-  own = own;
-  within = λ h on. on_left s i.springboards h on;
-}
+pub springs_are : (v : Siege) (k n s j b : ℕ) → AreAdjacent v k n → AreSpringboards v.men k s
+    → ((f : ℕ) → f < 64 → (bit_at j f == 1) ≡ true → IsUnsprung v k f b) → AreSprings v k (record { near = bit_and n j; own = s; all = bit_or s b })
+springs_are v k n s j b near own landings = search (rules, fewer_adjacent, on_left, on_second, unsprung_right)
 
 -- for `no_springs`
 pub springless : (v : Siege) (k n : ℕ) → v.men.grasshoppers ≡ 0 → AreAdjacent v k n → AreSprings v k (record { near = n; own = 0; all = 0 })
-springless v k n none near = record {
-  near = near;
-  unsprung = λ f small on. landing_anywhere v k f none;
-  own = none_sprung v.men k none;
-  within = λ h on. on;
-}
+springless v k n none near = search (rules, landing_anywhere, none_sprung)
 
 -- the king's field
 pub field_is : (v : Siege) (k c r b l : ℕ) (i : Springs) → AreSprings v k i → v.hurdles < 2 ^ 64
@@ -169,18 +140,7 @@ harmless_castling v g l lines h = elim (or_cases _ _ h) [
 
 -- the risk of all
 pub risk_never : (v : Siege) (k : ℕ) (g : Field) → g.king ≡ k → IsField v g → IsRiskAt v k (record { critical = bit_not w64 0; lines = 0 })
-risk_never v k g king field = record {
-  field = g;
-  king = king;
-  is = field;
-  castling = λ b small off. absurd (nowhere b small off);
-  unsprung = λ b small off. absurd (nowhere b small off);
-  hops = λ b small off. absurd (nowhere b small off);
-  lines = λ a b small off on. absurd (nowhere b small off);
-  weak = λ s x i. weak_never v g 0 x s;
-} where
-  nowhere : (b : ℕ) → b < 64 → (bit_at (bit_not w64 0) b == 1) ≡ false → ⊥
-  nowhere b small off = false≢true (sym off ∙ every_square_on b small)
+risk_never v k g king field = search (rules, every_square_on, weak_never)
 
 -- for the risk told of all attackers
 pub risk_is : (v : Siege) (k : ℕ) (g : Field) (r : Risk) (o : ℕ) → g.king ≡ k → IsField v g → IsCastlingHarmless v g → AreWeak v g r
@@ -236,30 +196,17 @@ threats_are v r w siege whole risk ridden = record {
 -- the men of the siege
 pub hurdles_are : (own enemies k o w : ℕ) → o ≡ word (λ t. is_square (Some k) t) → o < 2 ^ 64
     → AreHurdles own enemies k (bit_and (bit_and (bit_or own enemies) (bit_not w64 o)) (bit_not w64 w))
-hurdles_are own enemies k o w only fits = record {
-  men = λ e small on.
-      let there = on_first (bit_and (bit_or own enemies) (bit_not w64 o)) (bit_not w64 w) e on in (
-        on_one own enemies e (on_first (bit_or own enemies) _ e there),
-        λ same. false≢true (sym (off_word (bit_or own enemies) o e fits small there) ∙ word_has (λ t. is_square (Some k) t) o e only small ∙ eq-eqb k e same),
-      );
-}
+hurdles_are own enemies k o w only fits = search (rules, off_denied, on_first, on_one, word_has)
 
 -- all of them, where none is lifted
 pub hurdles_whole : (own enemies k o w : ℕ) → o ≡ word (λ t. is_square (Some k) t) → o < 2 ^ 64 → w ≡ word (λ t. is_square None t) → w < 2 ^ 64
     → (e : ℕ) → e < 64 → IsHurdle own enemies k (bit_and (bit_and (bit_or own enemies) (bit_not w64 o)) (bit_not w64 w)) e
-hurdles_whole own enemies k o w only fits none low e small there ne =
-    denied_on (bit_and (bit_or own enemies) (bit_not w64 o)) w e low small
-    (denied_on (bit_or own enemies) o e fits small (elim there [
-      | inl mine ↦ on_left own enemies e mine
-      | inr enemy ↦ on_right own enemies e enemy
-    ]) (word_has (λ t. is_square (Some k) t) o e only small ∙ ne_eqb k e ne))
-    (word_has (λ t. is_square None t) w e none small)
+hurdles_whole own enemies k o w only fits none low e small there ne = grind (arith, denied_on, ne_eqb, on_left, on_right, word_has)
 
 -- for a man who is lifted: his square isn't a hurdle
 pub lifted_off : (a w s : ℕ) (o : Option ℕ) → w ≡ word (λ t. is_square o t) → w < 2 ^ 64 → s < 64 → o ≡ Some s
     → (bit_at (bit_and a (bit_not w64 w)) s == 1) ≡ false
-lifted_off a w s o only fits small e = false_by _ (λ on. false≢true (sym (off_word a w s fits small on) ∙ word_has (λ t. is_square o t) w s only small
-    ∙ ap (λ (u : Option ℕ). is_square u s) e ∙ eq-eqb s s refl))
+lifted_off a w s o only fits small e = search (rules, false_by, off_denied, word_has)
 
 -- who stands on a square is of his colour and kind
 self : (c : Colour) (k : Kind) → (same_colour c c && same_kind k k) ≡ true
@@ -274,16 +221,7 @@ pub attackers_are : (men : List (Option Man)) (a : Attackers) → a.kings ≡ sq
     → a.pawns ≡ squares_of men a.colour Pawn → a.grasshoppers ≡ squares_of men a.colour Grasshopper
     → a.nightriders ≡ squares_of men a.colour Nightrider → AreAttackers men a
 unfolding squares_of
-attackers_are men a kings queens rooks bishops knights pawns grasshoppers nightriders = record {
-  stand = λ s x small here mine. record {
-    small = small;
-    mine = mine;
-    on = word_has (λ q. is_man (man_on men q) a.colour x.kind) _ s (words x.kind) small ∙ there men s x a.colour here mine;
-  };
-  alone = λ s x i. man_of_word men a.colour x.kind _ s (words x.kind) i.small i.on ∙ ap (λ (y : Man). Some y) (man_is x a.colour x.kind i.mine refl);
-} where
-  words : (k : Kind) → squares_for a k ≡ squares_of men a.colour k
-  words k = grind arith
+attackers_are men a kings queens rooks bishops knights pawns grasshoppers nightriders = grind (arith, man_is, man_of_word, there, word_has)
 
 -- for `castling_square`: one side, by numbers
 pub shut_on : (p : Position) (c : Colour) (own w corner next a b : ℕ) → own ≡ side_of p.men c → next < 64
@@ -336,14 +274,4 @@ pub siege_fits : (rule : RuleSet) (p : Position) (v : Siege) → v.men.colour �
     → v.enemies ≡ side_of p.men v.men.colour → AreAttackers p.men v.men → v.men.kings ≡ squares_of p.men v.men.colour King
     → AreCastlingSquares p v.men.colour v.castled → AreClosed rule p v.closed → IsSiegeOf rule p v
 unfolding squares_of
-siege_fits rule p v colour king own enemies men kings castled closed = record {
-  colour = colour;
-  men = men;
-  own = own;
-  enemies = enemies ∙ ap (side_of p.men) colour;
-  king = sym king;
-  kings = λ s small is. word_has (λ q. is_man (man_on p.men q) v.men.colour King) v.men.kings s kings small
-      ∙ ap (λ (c : Colour). is_man (man_on p.men s) c King) colour ∙ is;
-  castled = subst (λ (c : Colour). AreCastlingSquares p c v.castled) colour castled;
-  closed = closed;
-}
+siege_fits rule p v colour king own enemies men kings castled closed = search (rules, word_has)

@@ -219,6 +219,7 @@ pub(crate) fn castling_is_harmless(siege: &Siege, field: &Field) -> bool
 
 // The squares to which no other man may come lest the king, who stays, keeps no flight whatever is played: those that no
 // attacker reaches, were all others gone, if they can't all be taken with one move. Where captures do more it isn't asked.
+#[tactic(auto, using(chess_rules::proofs::listing_moves::Targeting::every_square_on, crate::proofs::Sieges::fewer_adjacent))]
 pub(crate) fn needed_squares<R: Rules>(siege: &Siege) -> Squares
     ensures { AreNeeded siege.now result }
 {

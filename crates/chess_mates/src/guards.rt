@@ -82,6 +82,7 @@ pub(crate) fn reach_of(
 }
 
 // The squares that riders reach.
+#[tactic(auto, using(crate::proofs::Hurdles::riders_reach))]
 pub(crate) fn ridden_squares(hurdles: Squares, men: &Attackers, region: Squares) -> Squares
     ensures all { AreReached hurdles men.now region is_rider result }
     ensures alone { (t : ℕ) → t < 64 → (bit_at result t == 1) ≡ true
@@ -101,6 +102,7 @@ pub(crate) fn ridden_squares(hurdles: Squares, men: &Attackers, region: Squares)
 }
 
 // Those that knights, pawns and kings reach.
+#[tactic(auto, using(crate::proofs::Hurdles::leapers_reach))]
 pub(crate) fn leapt_squares(hurdles: Squares, men: &Attackers, region: Squares) -> Squares
     ensures all { AreReached hurdles men.now region is_leaper result }
     ensures alone { (t : ℕ) → t < 64 → (bit_at result t == 1) ≡ true

@@ -47,6 +47,7 @@ fn left_squares(near: Squares, man: Man, to: Square) -> Squares
 
 // The squares that a defender mustn't come to lest none is left then. To a square where another attacker stands the man
 // comes only if he recaptures there.
+#[tactic(auto, using(crate::proofs::Risks::leaves_none, crate::proofs::Risks::leaves_recapture))]
 fn critical_with(near: Squares, enemies: Squares, man: Man, to: Square) -> Squares
     ensures { LeavesOne near enemies result man to }
 {
@@ -83,7 +84,7 @@ fn critical_after(near: Squares, enemies: Squares, man: Man, targets: Squares) -
 pub(crate) const LAST_RANKS: Squares = 0xff00_0000_0000_00ff;
 
 // Whether the man may promote on one of the squares.
-#[tactic(auto, using(crate::proofs::Risks::no_last_rank_on, crate::proofs::Risks::no_pawn_arrives))]
+#[tactic(auto, using(crate::proofs::Risks::no_last_rank_on, chess_rules::proofs::listing_moves::Targeting::no_pawn_arrives))]
 fn may_promote_on(man: Man, targets: Squares) -> bool
     ensures { result ≡ false → (t : ℕ) → t < 64 → (bit_at targets t == 1) ≡ true
         → is_promoting man t ≡ false }
@@ -107,6 +108,7 @@ fn arrivals(hurdles: Squares, man: Man, from: Square) -> Squares
 }
 
 // Those of the squares from which he checks, or lets a hopper check, or on which he promotes. A king doesn't check.
+#[tactic(auto, using(chess_rules::proofs::listing_moves::Walks::off_second, crate::proofs::Risks::king_targets))]
 fn checking_targets(man: Man, reached: Squares, checks: Squares, springboards: Squares) -> Squares
     ensures { (t : ℕ) → t < 64 → (bit_at reached t == 1) ≡ true
         → (bit_at result t == 1) ≡ false → IsNoCheck checks springboards man t }
@@ -144,6 +146,7 @@ fn uncaptured_squares(field: &Field, guards: &Guards, squares: Squares) -> Squar
 }
 
 // Whether the man, who goes from `from`, may come to a springboard of another's on one of the squares.
+#[tactic(auto, using(crate::proofs::Risks::none_checks))]
 fn may_spring(siege: &Siege, field: &Field, from: Square, squares: Squares) -> bool
     ensures { result ≡ false → (t : ℕ) → t < 64 → (bit_at squares t == 1) ≡ true → (q : ℕ) (z : Man)
         → IsAttacker siege.now.men z q → from ≢ q → is_hopper (gait_of z.kind) ≡ true
@@ -187,6 +190,7 @@ fn risk_of_going(
 
 // The risk of the man on `from`, who checks from the squares of `checks`. Mostly he can't come there, were the others
 // gone.
+#[tactic(auto, using(crate::proofs::Risks::harmless_quietly, crate::proofs::Risks::open_arrivals))]
 #[inline(always)]
 fn risk_from(siege: &Siege, field: &Field, man: Man, from: Square, checks: Squares) -> Risk
     ensures { IsHarmless siege.now field.now checks result man from }
@@ -230,6 +234,7 @@ fn risk_together(siege: &Siege, field: &Field, man: Man, squares: Squares, check
 
 // The squares from which the man, once he has come there, checks the king of the field: a grasshopper whoever else stands on
 // the board, others over the hurdles.
+#[tactic(auto, using(crate::proofs::Risks::check_hops, crate::proofs::Risks::check_word))]
 fn check_squares_over(siege: &Siege, field: &Field, man: Man) -> Squares
     requires { IsField siege.now field.now }
     ensures { IsCheckWord siege.now.hurdles field.now.king man result }
@@ -251,6 +256,7 @@ fn check_squares_over(siege: &Siege, field: &Field, man: Man) -> Squares
 
 // The squares from which the man may check or promote with his next move, were the others gone, or uncover a check, and
 // perhaps more: of pawns and kings fewer than all, but where hoppers aim at the king.
+#[tactic(auto, using(chess_rules::proofs::listing_moves::Targeting::every_square_on, chess_rules::proofs::listing_moves::Targeting::false_by, crate::proofs::Risks::harmless_idly, crate::proofs::Risks::king_targets, crate::proofs::Risks::none_at))]
 fn suspect_squares(field: &Field, man: Man, checks: Squares) -> Squares
     ensures { (v : Siege) (s : ℕ) → s < 64 → (bit_at result s == 1) ≡ false
         → IsHarmless v field.now checks (record { critical = 0; lines = 0 }) man s }
@@ -280,6 +286,7 @@ fn check_now(man: Man, checks: Squares, squares: Squares) -> bool
 }
 
 // The risk of the men of this kind, who stand on the squares. Where one of them checks now, nothing is told.
+#[tactic(auto, using(crate::proofs::Risks::none_at, crate::proofs::Risks::weak_never))]
 #[inline(always)]
 fn risk_of(siege: &Siege, field: &Field, kind: Kind, squares: Squares) -> Risk
     requires { IsField siege.now field.now }

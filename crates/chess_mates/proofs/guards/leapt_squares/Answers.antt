@@ -1,11 +1,6 @@
 use Rattle.chess_mates.proofs.Chess.{King, Knight, Pawn}
-use Rattle.chess_mates.proofs.Hurdles.{attacked_by, attacked_either, leapers_reach}
+use Rattle.chess_mates.proofs.Hurdles.{attacked_by, attacked_either}
 use Rattle.chess_mates.proofs.guards.leapt_squares.Goals as goal
-
-pub returns-clause-all : goal.returns-clause-all
-returns-clause-all c =
-    leapers_reach c.args.hurdles c.args.men.now c.args.region c.reach_of-knights.result c.reach_of-pawns.result c.reach_of-kings.result
-    c.reach_of-knights.ensures.all c.reach_of-pawns.ensures.all c.reach_of-kings.ensures.all
 
 pub returns-clause-alone : goal.returns-clause-alone
 returns-clause-alone c =

@@ -1,12 +1,6 @@
 use Rattle.chess_mates.proofs.Chess.{Bishop, Nightrider, Queen, Rook}
-use Rattle.chess_mates.proofs.Hurdles.{attacked_by, attacked_either, riders_reach}
+use Rattle.chess_mates.proofs.Hurdles.{attacked_by, attacked_either}
 use Rattle.chess_mates.proofs.guards.ridden_squares.Goals as goal
-
-pub returns-clause-all : goal.returns-clause-all
-returns-clause-all c =
-    riders_reach c.args.hurdles c.args.men.now c.args.region c.reach_of-queens.result c.reach_of-rooks.result c.reach_of-bishops.result
-    c.reach_of-nightriders.result c.reach_of-queens.ensures.all c.reach_of-rooks.ensures.all c.reach_of-bishops.ensures.all
-    c.reach_of-nightriders.ensures.all
 
 pub returns-clause-alone : goal.returns-clause-alone
 returns-clause-alone c =

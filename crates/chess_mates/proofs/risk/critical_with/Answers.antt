@@ -1,13 +1,6 @@
 use Rattle.chess_rules.proofs.Basics.{sym, ◌∙◌}
-use Rattle.chess_mates.proofs.Risks.{leaves_first, leaves_none, leaves_recapture, leaves_second}
+use Rattle.chess_mates.proofs.Risks.{leaves_first, leaves_second}
 use Rattle.chess_mates.proofs.risk.critical_with.Goals as goal
-
-pub returns-then-contains : goal.returns-then-contains
-returns-then-contains c =
-    leaves_recapture c.args.near c.args.enemies c.only.result c.args.man c.args.to c.only.ensures (sym c.contains.ensures ∙ c.if-contains.true)
-
-pub returns-else-contains : goal.returns-else-contains
-returns-else-contains c = leaves_none c.args.near c.args.enemies c.args.man c.args.to
 
 pub returns-in_default-next_bit : goal.returns-in_default-next_bit
 returns-in_default-next_bit c =

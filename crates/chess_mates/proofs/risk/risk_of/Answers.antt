@@ -1,14 +1,8 @@
 use Rattle.chess_rules.proofs.Basics.{cases_Bool, inl, inr, ◌==◌}
 use Rattle.std.specs.Int.{bit_at}
 use Rattle.chess_mates.proofs.LastingFlights.{on_both}
-use Rattle.chess_mates.proofs.Risks.{harmless_more, none_at, weak_is, weak_never}
+use Rattle.chess_mates.proofs.Risks.{harmless_more, weak_is}
 use Rattle.chess_mates.proofs.risk.risk_of.Goals as goal
-
-pub returns-then-squares-eq0 : goal.returns-then-squares-eq0
-returns-then-squares-eq0 c = λ s small on. absurd (none_at c.args.squares s c.if-squares-eq0.true on)
-
-pub returns-then-check_now : goal.returns-then-check_now
-returns-then-check_now c = λ s small on. weak_never c.args.siege.now c.args.field.now 0 _ s
 
 pub returns : goal.returns
 returns c = λ s small on.
