@@ -129,6 +129,7 @@ fn landing_on(siege: &Siege, king: Square, to: Square) -> Landings
 }
 
 // Such squares of a word.
+#[tactic(auto, using(crate::proofs::Risks::none_at, crate::proofs::Springboards::landing_anywhere))]
 fn landings_among(siege: &Siege, king: Square, squares: Squares) -> Landings
     ensures { (f : ℕ) → f < 64 → (bit_at result.squares f == 1) ≡ true
         → IsUnsprung siege.now king f result.springboards }

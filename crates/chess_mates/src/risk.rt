@@ -66,6 +66,7 @@ fn critical_with(near: Squares, enemies: Squares, man: Man, to: Square) -> Squar
 }
 
 // The same wherever the man comes to a square of the word.
+#[tactic(auto, using(crate::proofs::HoldBelow::hold_none))]
 fn critical_after(near: Squares, enemies: Squares, man: Man, targets: Squares) -> Squares
     ensures { (t : ℕ) → t < 64 → (bit_at targets t == 1) ≡ true
         → LeavesOne near enemies result man t }
@@ -215,6 +216,7 @@ fn risk_from(siege: &Siege, field: &Field, man: Man, from: Square, checks: Squar
 }
 
 // The same of such men on the squares of a word.
+#[tactic(auto, using(crate::proofs::HoldBelow::hold_none))]
 #[inline(always)]
 fn risk_together(siege: &Siege, field: &Field, man: Man, squares: Squares, checks: Squares) -> Risk
     ensures { (s : ℕ) → s < 64 → (bit_at squares s == 1) ≡ true
