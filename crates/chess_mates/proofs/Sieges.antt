@@ -21,7 +21,7 @@ use Rattle.chess_mates.proofs.KindByKind.{man_is}
 use Rattle.chess_mates.proofs.Fleeing.{on_second}
 use Rattle.chess_mates.proofs.Springboards.{grasshopper_on, landing_anywhere, none_sprung, unsprung_right}
 use Rattle.chess_rules.proofs.listing_moves.Walks.{on_first}
-use Rattle.chess_mates.proofs.Risks.{denied_on, none_at, none_on, weak_never}
+use Rattle.chess_mates.proofs.Risks.{denied_on, none_at, none_on}
 use Rattle.chess_mates.proofs.LastingFlights.{on_both}
 
 -- for `adjacent_squares`
@@ -140,7 +140,7 @@ harmless_castling v g l lines h = elim (or_cases _ _ h) [
 
 -- the risk of all
 pub risk_never : (v : Siege) (k : ℕ) (g : Field) → g.king ≡ k → IsField v g → IsRiskAt v k (record { critical = bit_not w64 0; lines = 0 })
-risk_never v k g king field = search (rules, every_square_on, weak_never)
+risk_never v k g king field = search (rules, every_square_on)
 
 -- for the risk told of all attackers
 pub risk_is : (v : Siege) (k : ℕ) (g : Field) (r : Risk) (o : ℕ) → g.king ≡ k → IsField v g → IsCastlingHarmless v g → AreWeak v g r

@@ -47,7 +47,7 @@ fn left_squares(near: Squares, man: Man, to: Square) -> Squares
 
 // The squares that a defender mustn't come to lest none is left then. To a square where another attacker stands the man
 // comes only if he recaptures there.
-#[tactic(auto, using(crate::proofs::Risks::leaves_none, crate::proofs::Risks::leaves_recapture))]
+#[tactic(auto, using(chess_rules::proofs::listing_moves::Targeting::every_square_on))]
 fn critical_with(near: Squares, enemies: Squares, man: Man, to: Square) -> Squares
     ensures { LeavesOne near enemies result man to }
 {
@@ -85,7 +85,7 @@ fn critical_after(near: Squares, enemies: Squares, man: Man, targets: Squares) -
 pub(crate) const LAST_RANKS: Squares = 0xff00_0000_0000_00ff;
 
 // Whether the man may promote on one of the squares.
-#[tactic(auto, using(crate::proofs::Risks::no_last_rank_on, chess_rules::proofs::listing_moves::Targeting::no_pawn_arrives))]
+#[tactic(auto, using(crate::proofs::LastingFlights::no_last_rank, chess_rules::proofs::listing_moves::Targeting::no_pawn_arrives))]
 fn may_promote_on(man: Man, targets: Squares) -> bool
     ensures { result ≡ false → (t : ℕ) → t < 64 → (bit_at targets t == 1) ≡ true
         → is_promoting man t ≡ false }
@@ -98,7 +98,7 @@ fn may_promote_on(man: Man, targets: Squares) -> bool
 
 // The squares to which the man on `from` may go: a pawn or a grasshopper whoever else stands on the board, others over the
 // hurdles.
-#[tactic(auto, using(crate::proofs::Risks::open_arrivals, crate::proofs::Risks::piece_arrivals))]
+#[tactic(auto, using(crate::proofs::Standing::no_hopper))]
 fn arrivals(hurdles: Squares, man: Man, from: Square) -> Squares
     ensures { AreArrivals hurdles man from result }
 {
@@ -191,7 +191,7 @@ fn risk_of_going(
 
 // The risk of the man on `from`, who checks from the squares of `checks`. Mostly he can't come there, were the others
 // gone.
-#[tactic(auto, using(crate::proofs::Risks::harmless_quietly, crate::proofs::Risks::open_arrivals))]
+#[tactic(auto, using(chess_rules::proofs::listing_moves::Walks::off_zero, crate::proofs::Risks::harmless_quietly, crate::proofs::Risks::open_arrivals))]
 #[inline(always)]
 fn risk_from(siege: &Siege, field: &Field, man: Man, from: Square, checks: Squares) -> Risk
     ensures { IsHarmless siege.now field.now checks result man from }
@@ -258,7 +258,7 @@ fn check_squares_over(siege: &Siege, field: &Field, man: Man) -> Squares
 
 // The squares from which the man may check or promote with his next move, were the others gone, or uncover a check, and
 // perhaps more: of pawns and kings fewer than all, but where hoppers aim at the king.
-#[tactic(auto, using(chess_rules::proofs::listing_moves::Targeting::every_square_on, chess_rules::proofs::listing_moves::Targeting::false_by, crate::proofs::Risks::harmless_idly, crate::proofs::Risks::king_targets, crate::proofs::Risks::none_at))]
+#[tactic(auto, using(chess_rules::proofs::listing_moves::Targeting::every_square_on, chess_rules::proofs::listing_moves::Targeting::false_by, crate::proofs::Risks::king_targets, crate::proofs::Risks::none_at, crate::proofs::Risks::pawn_idly))]
 fn suspect_squares(field: &Field, man: Man, checks: Squares) -> Squares
     ensures { (v : Siege) (s : ℕ) → s < 64 → (bit_at result s == 1) ≡ false
         → IsHarmless v field.now checks (record { critical = 0; lines = 0 }) man s }
@@ -288,7 +288,7 @@ fn check_now(man: Man, checks: Squares, squares: Squares) -> bool
 }
 
 // The risk of the men of this kind, who stand on the squares. Where one of them checks now, nothing is told.
-#[tactic(auto, using(crate::proofs::Risks::none_at, crate::proofs::Risks::weak_never))]
+#[tactic(auto, using(chess_rules::proofs::listing_moves::Targeting::every_square_on, crate::proofs::Risks::none_at))]
 #[inline(always)]
 fn risk_of(siege: &Siege, field: &Field, kind: Kind, squares: Squares) -> Risk
     requires { IsField siege.now field.now }

@@ -1,12 +1,15 @@
 use Rattle.chess_rules.proofs.Basics.{sym, ◌∙◌}
+use Rattle.chess_mates.proofs.Chess.{off_left, off_right}
 use Rattle.chess_mates.proofs.HoldBelow.{hold_all, hold_map, hold_next}
-use Rattle.chess_mates.proofs.Risks.{leaves_left, leaves_right}
 use Rattle.chess_mates.proofs.risk.critical_after.Goals as goal
 
 pub loop-to-preserved : goal.loop-to-preserved
 loop-to-preserved c =
-    rw c.index-number.ensures.value (hold_next _ _ _ _ (hold_map _ _ _ _ (λ t h. leaves_left _ _ _ _ _ t h) c.loop-to.invariant)
-    (sym c.next_bit.ensures.value ∙ c.in-Some.is) (leaves_right _ _ _ _ _ _ c.critical_with-more.ensures))
+    rw c.index-number.ensures.value (hold_next _ _ _ _ (hold_map _ _ _ _ (λ t h. record {
+      left = λ b small off there. h.left b small (off_left _ _ b off) there;
+    }) c.loop-to.invariant) (sym c.next_bit.ensures.value ∙ c.in-Some.is) (record {
+      left = λ b small off there. c.critical_with-more.ensures.left b small (off_right _ _ b off) there;
+    }))
 
 pub returns : goal.returns
 returns c = hold_all _ _ _ c.loop-to.invariant (sym c.next_bit.ensures.value ∙ c.in_default.is)
