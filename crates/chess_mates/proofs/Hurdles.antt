@@ -1,5 +1,5 @@
 -- What men reach over hurdles, the squares of a word, and later on the board.
-use Rattle.chess_rules.proofs.Basics.{Bool, List, None, Option, Some, [], ◌∷◌, and_from, and_parts, ap, arith, bit_at, bit_at-lt, bit_at_or, bit_or, cases_lt, eq-eqb, eqb-true, false, false≢true, if◌then◌else◌, get_or-map-range_with_len, inl, inr, is_some, length, length-map-range_with_len, list_any, not, not-true, or_cases, or_left, or_right, refl, subst, suc, sym, true, zero, ℕ, ◌&&◌, ◌+◌, ◌-◌, ◌<◌, ◌≤◌, ◌==◌, ◌^◌, ◌||◌, ◌∙◌, ◌≡◌, ◌⊎◌}
+use Rattle.chess_rules.proofs.Basics.{Bool, List, None, Option, Some, [], ◌∷◌, and_from, and_parts, ap, arith, bit_at, bit_at-lt, bit_at_or, bit_or, cases_lt, eq-eqb, eqb-true, false, false≢true, if◌then◌else◌, get_or-map-range_with_len, inl, inr, is_some, length, length-map-range_with_len, list_any, not, not-true, or_cases, or_left, or_right, refl, rules, subst, suc, sym, true, zero, ℕ, ◌&&◌, ◌+◌, ◌-◌, ◌<◌, ◌≤◌, ◌==◌, ◌^◌, ◌||◌, ◌∙◌, ◌≡◌, ◌⊎◌}
 use Rattle.chess_rules.proofs.Basics.{cases_Bool, cases_eq, find, range_with_len, ◌≢◌}
 use Rattle.chess_mates.proofs.Chess.{find_first}
 use Rattle.chess_mates.proofs.Chess.{Bishop, Colour, Grasshopper, Kind, King, Knight, Man, Nightrider, Pawn, Queen, Rook, Step, White, all_at, along, any_range_cases, any_range_false, diagonal_steps, hops, is_clear, is_square, knight_steps, is_vacant_at, leaps, man_on, occupied_squares, other, queen_steps}
@@ -37,10 +37,7 @@ pub on_either : (a b i : ℕ) → (bit_at (bit_or a b) i == 1) ≡ true → (bit
 on_either a b i h off = grind (arith, eqb-true, bit_at_or, unset, bit_at-lt, eq-eqb)
 
 pub on_one : (a b i : ℕ) → (bit_at (bit_or a b) i == 1) ≡ true → ((bit_at a i == 1) ≡ true) ⊎ ((bit_at b i == 1) ≡ true)
-on_one a b i h = elim (cases_Bool (bit_at a i == 1)) [
-  | inl on ↦ inl on
-  | inr off ↦ inr (on_either a b i h off)
-]
+on_one a b i h = search (rules, cases_Bool, on_either)
 
 -- men on the squares of a word
 bit_small : (d s : ℕ) → bit_at d s ≡ bit_of (bit_at d s == 1)
@@ -74,20 +71,18 @@ size_on d = length-map-range_with_len (placed d) 0 64
 pub reached_is : (d : ℕ) (x : Man) (s r : ℕ) → d < 2 ^ 64 → ((men : List (Option Man)) → d ≡ occupied_squares men → r ≡ word (reaches_as men x.colour x.kind s))
     → IsReached d x s r
 unfolding reached_over
-reached_is d x s r fits h = record {
-  inside = λ t small reached. word_has (reaches_as (men_on d) x.colour x.kind s) r t (h (men_on d) (occupied_on d fits)) small ∙ reached;
-}
+reached_is d x s r fits h = search (rules, occupied_on, word_has)
 
 -- and nothing else
 pub reached_alone : (d : ℕ) (x : Man) (s r : ℕ) → d < 2 ^ 64
     → ((men : List (Option Man)) → d ≡ occupied_squares men → r ≡ word (reaches_as men x.colour x.kind s)) → (t : ℕ) → t < 64 → (bit_at r t == 1) ≡ true
     → reached_over d x s t ≡ true
 unfolding reached_over
-reached_alone d x s r fits h t small on = sym (word_has (reaches_as (men_on d) x.colour x.kind s) r t (h (men_on d) (occupied_on d fits)) small) ∙ on
+reached_alone d x s r fits h t small on = search (rules, occupied_on, word_has)
 
 -- for a loop over a word: each square found is one of it
 pub found_on : (w n k : ℕ) → find (λ s. bit_at w s == 1) (range_with_len n (64 - n)) ≡ Some k → (k < 64) × ((bit_at w k == 1) ≡ true)
-found_on w n k found = let first = find_first (λ s. bit_at w s == 1) n (64 - n) k found in (omega (arith, first.low, first.high), first.here)
+found_on w n k found = search (rules, find_first)
 
 -- those that the attackers reach, kind by kind
 module _ (d : ℕ) (a : Attackers) (region : ℕ) where
@@ -127,7 +122,7 @@ module _ (d : ℕ) (a : Attackers) (region : ℕ) where
   -- for both together: all but hoppers
   pub all_reach : (r l : ℕ) → AreReached d a region is_rider r → AreReached d a region is_leaper l
       → AreReached d a region (λ k. not (is_hopper (gait_of k))) (bit_or r l)
-  all_reach r l rides leaps = of_either is_rider is_leaper _ r l (λ i e. grind arith) rides leaps
+  all_reach r l rides leaps = search (rules, of_either)
 
 -- the converse: who is reached is attacked
 module _ (d : ℕ) (a : Attackers) where
@@ -143,17 +138,12 @@ module _ (d : ℕ) (a : Attackers) where
   pub attacked_either : (q r : ℕ) → ((t : ℕ) → t < 64 → (bit_at q t == 1) ≡ true → IsAttackedOver d a t)
       → ((t : ℕ) → t < 64 → (bit_at r t == 1) ≡ true → IsAttackedOver d a t) → (t : ℕ) → t < 64
       → (bit_at (bit_or q r) t == 1) ≡ true → IsAttackedOver d a t
-  attacked_either q r first second t small on = elim (on_one q r t on) [ inl y ↦ first t small y | inr y ↦ second t small y ]
+  attacked_either q r first second t small on = search (rules, on_one)
 
 -- on a board where each hurdle that a man reaches over the hurdles still stands, he reaches no more than over them
 module _ (d : ℕ) (men : List (Option Man)) where
   pub empty_on : (q : ℕ) → ((bit_at d q == 1) ≡ true → q < 64 → ⊥) → is_vacant_at (men_on d) (Some q) ≡ true
-  empty_on q none = by (man_on (men_on d) q) refl where
-    by : (o : Option Man) → man_on (men_on d) q ≡ o → not (is_some o) ≡ true
-    by None e = refl
-    by (Some z) e =
-        let small = on_board (men_on d) q z (size_on d) e in
-        absurd (none (sym (one_on d q small) ∙ ap (λ (o : Option Man). is_some o) e) small)
+  empty_on q none = search (rules, on_board, one_on, size_on)
 
   -- the hurdles that a step from s leads to still stand
   abbrev Stand : ℕ → Step → Type 0
@@ -223,13 +213,7 @@ module _ (d : ℕ) (men : List (Option Man)) where
       → (is_rider k ≡ true → (bit_at d a == 1) ≡ true → reaches_as (men_on d) c k s a ≡ true → ⊥)
       → (is_rider k ≡ true → (bit_at d o == 1) ≡ true → reaches_as (men_on d) c k s o ≡ true → ⊥)
       → reaches_as men c k s t ≡ true → reaches_as (men_on d) c k s t ≡ true
-  later_but a o c k s t plain stays one other h = later c k s t plain (λ rider e low on reach. elim (cases_eq e a) [
-    | inl same ↦ absurd (one rider (rw same at on) (rw same at reach))
-    | inr left ↦ elim (cases_eq e o) [
-      | inl same ↦ absurd (other rider (rw same at on) (rw same at reach))
-      | inr off ↦ stays e low on left off
-    ]
-  ]) h
+  later_but a o c k s t plain stays one other h = search (rules, cases_eq, later)
 
 -- on the empty board
 module _ (men : List (Option Man)) where
@@ -242,17 +226,7 @@ module _ (men : List (Option Man)) where
   on_line (Some q) h = empty_on 0 men q (λ on small. false≢true (sym (off_zero q) ∙ on))
 
   pub hop_openly : (s t : ℕ) (st : Step) → hops men s t st ≡ true → rides (men_on 0) s t st ≡ true
-  hop_openly s t st h =
-      let w = hop-found men s t st h in
-      ride-made (men_on 0) s t st w.0 (record {
-        low = omega (arith, w.1.low);
-        high = w.1.high;
-        at = w.1.at;
-        free = λ j lo hi. on_line (along s st j) (elim (cases_lt j (w.0 - 1)) [
-          | inl before ↦ or_left _ _ (w.1.free j lo before)
-          | inr last ↦ or_right _ _ (let same : w.0 - 1 ≡ j = omega (arith, last, hi) in rw same at w.1.hurdle)
-        ]);
-      })
+  hop_openly s t st h = search (rules, cases_lt, hop-found, on_line, or_left, or_right, ride-made)
 
   -- and a grasshopper what a queen does
   pub hops_openly : (b c : Colour) (s t : ℕ) → reaches_as men b Grasshopper s t ≡ true → reaches_as (men_on 0) c Queen s t ≡ true

@@ -151,27 +151,16 @@ module _ (v : Siege) (g : Field) where
   abbrev WeakAs : Kind → Risk → Type 0
   WeakAs j r = (s : ℕ) → s < 64 → (bit_at (squares_for v.men j) s == 1) ≡ true → IsWeak v g r (record { colour = v.men.colour; kind = j }) s
 
-  left : (q r : Risk) (s : ℕ) (x : Man) → IsWeak v g q x s → IsWeak v g (Both q r) x s
-  left q r s x h = search (rules, off_one)
+  -- risks that are joined
+  pub weak_left : (q r : Risk) (s : ℕ) (x : Man) → IsWeak v g q x s → IsWeak v g (Both q r) x s
+  weak_left q r s x h = search (rules, off_one)
 
-  right : (q r : Risk) (s : ℕ) (x : Man) → IsWeak v g r x s → IsWeak v g (Both q r) x s
-  right q r s x h = search (rules, off_other)
+  weak_right : (q r : Risk) (s : ℕ) (x : Man) → IsWeak v g r x s → IsWeak v g (Both q r) x s
+  weak_right q r s x h = search (rules, off_other)
 
   -- for `risk_of_all`
   pub all_weak : (K Q R B N P G Y : Risk) → WeakAs King K → WeakAs Queen Q → WeakAs Rook R → WeakAs Bishop B → WeakAs Knight N → WeakAs Pawn P
       → WeakAs Grasshopper G → WeakAs Nightrider Y → AreWeak v g (Both (Both (Both (Both (Both (Both (Both K Q) R) B) N) P) G) Y)
-  all_weak K Q R B N P G Y kings queens rooks bishops knights pawns grasshoppers nightriders = record {
-    weak = search (
-      of_all v.men (λ x s. IsWeak v g (Both (Both (Both (Both (Both (Both (Both K Q) R) B) N) P) G) Y) x s),
-      left,
-      right,
-      kings,
-      queens,
-      rooks,
-      bishops,
-      knights,
-      pawns,
-      grasshoppers,
-      nightriders,
-    ) depth 14;
-  }
+  all_weak K Q R B N P G Y kings queens rooks bishops knights pawns grasshoppers nightriders =
+      let W : Man → ℕ → Type 0 = λ x s. IsWeak v g (Both (Both (Both (Both (Both (Both (Both K Q) R) B) N) P) G) Y) x s in
+      record { weak = search (of_all v.men W, weak_left, weak_right, kings, queens, rooks, bishops, knights, pawns, grasshoppers, nightriders) depth 14 }

@@ -9,7 +9,7 @@ use Rattle.chess_mates.specs.declared.field.Field.{Field}
 use Rattle.chess_mates.specs.declared.risk.Risk.{Risk}
 use Rattle.chess_mates.specs.declared.siege.Siege.{Siege}
 use Rattle.chess_mates.specs.declared.field.Springs.{Springs}
-use Rattle.chess_mates.specs.ties.Siege.{AreAdjacent, AreCastlingSquares, AreClosed, AreHurdles, AreReached, AreThreats, AreWeak, IsCastlingHarmless, IsField, IsHurdle, IsNear, IsRiskAt, IsShut, IsSiege, IsSiegeOf, IsWhole, is_rider, men_on, AreCaptureSquares, AreFree, AreSpringboards, AreSprings, IsReached, IsUnsprung, MayRide}
+use Rattle.chess_mates.specs.ties.Siege.{AreAdjacent, AreCastlingSquares, AreClosed, AreHurdles, AreReached, AreThreats, AreWeak, IsCastlingHarmless, IsField, IsHurdle, IsRiskAt, IsShut, IsSiege, IsSiegeOf, IsWhole, is_rider, men_on, AreCaptureSquares, AreFree, AreSpringboards, AreSprings, IsReached, IsUnsprung, MayRide}
 use Rattle.chess_mates.specs.ties.Siege.{reached_over}
 use Rattle.chess_rules.proofs.Bits.{off_left, off_right, on_left, on_right, word_has}
 use Rattle.chess_rules.proofs.Tests.{find_no}
@@ -21,7 +21,7 @@ use Rattle.chess_mates.proofs.KindByKind.{man_is}
 use Rattle.chess_mates.proofs.Fleeing.{on_second}
 use Rattle.chess_mates.proofs.Springboards.{grasshopper_on, landing_anywhere, none_sprung, unsprung_right}
 use Rattle.chess_rules.proofs.listing_moves.Walks.{on_first}
-use Rattle.chess_mates.proofs.Risks.{denied_on, none_at, none_on}
+use Rattle.chess_mates.proofs.Risks.{denied_on, none_at, none_on, weak_left}
 use Rattle.chess_mates.proofs.LastingFlights.{on_both}
 
 -- for `adjacent_squares`
@@ -33,9 +33,9 @@ adjacent_are v k n near closed kings = search (rules, off_denied, on_first, word
 pub captures_are : (v : Siege) (k n : ℕ) → n ≡ word (λ t. list_any (leaps k t) queen_steps) → bit_and v.closed v.enemies ≡ 0 → v.men.grasshoppers ≡ 0
     → AreCaptureSquares v k n
 captures_are v k n near none plain = record {
-  next = λ f small on. sym (word_has (λ t. list_any (leaps k t) queen_steps) n f near small) ∙ on;
-  off = λ f s on small enemy. false_by _ (λ closed. none_at (bit_and v.closed v.enemies) s none (on_both v.closed v.enemies s closed enemy));
-  plain = λ f s z on i. false_by _ (λ hop. none_at v.men.grasshoppers s plain (grasshopper_on v.men s z i hop));
+  next = λ f small on. search (rules, word_has);
+  off = λ f s on small enemy. search (rules, false_by, none_at (bit_and v.closed v.enemies), on_both);
+  plain = λ f s z on i. search (rules, false_by, none_at v.men.grasshoppers, grasshopper_on);
 }
 
 -- elsewhere none
@@ -91,32 +91,24 @@ field_is v k c r b l i springs hurdles rook bishop riders captures = record {
   lines = by;
 } where
   straight : (c : Colour) → IsReached v.hurdles (record { colour = c; kind = Rook }) k r
-  straight c = record { inside = (reached_is v.hurdles (record { colour = White; kind = Rook }) k r hurdles rook).inside }
+  straight c = search (rules, reached_is)
 
   diagonal : (c : Colour) → IsReached v.hurdles (record { colour = c; kind = Bishop }) k b
-  diagonal c = record { inside = (reached_is v.hurdles (record { colour = White; kind = Bishop }) k b hurdles bishop).inside }
+  diagonal c = search (rules, reached_is)
 
   by : (c : Colour) (j : Kind) → MayRide v j → IsReached v.hurdles (record { colour = c; kind = j }) k (bit_or (bit_or r b) l)
   by c Queen may = reached_left v.hurdles _ k (bit_or r b) l (queen_lines v.hurdles k r b c (straight c) (diagonal c))
-  by c Rook may = reached_left v.hurdles _ k (bit_or r b) l (reached_left v.hurdles _ k r b (straight c))
-  by c Bishop may = reached_left v.hurdles _ k (bit_or r b) l (reached_right v.hurdles _ k r b (diagonal c))
+  by c Rook may = search (reached_left, straight)
+  by c Bishop may = search (reached_left, reached_right, diagonal)
   by c Nightrider may = reached_right v.hurdles _ k (bit_or r b) l (riders (may.1 refl) c)
-  by c King may = absurd (false≢true may.0)
-  by c Knight may = absurd (false≢true may.0)
-  by c Pawn may = absurd (false≢true may.0)
-  by c Grasshopper may = absurd (false≢true may.0)
+  by c _ may = absurd (false≢true may.0)
 
 plain_among : (a : Attackers) (s : ℕ) (x : Man) → IsAttacker a x s → (bit_or a.grasshoppers a.nightriders == 0) ≡ true → is_fairy x.kind ≡ false
 plain_among a s x i none = by x.kind refl where
   by : (k : Kind) → x.kind ≡ k → is_fairy k ≡ false
   by Grasshopper e = absurd (none_on _ s none (on_left a.grasshoppers a.nightriders s (rw e at i.on)))
   by Nightrider e = absurd (none_on _ s none (on_right a.grasshoppers a.nightriders s (rw e at i.on)))
-  by King e = refl
-  by Queen e = refl
-  by Rook e = refl
-  by Bishop e = refl
-  by Knight e = refl
-  by Pawn e = refl
+  by _ e = refl
 
 -- for `castling_is_harmless`, by the words of rooks and kings
 pub harmless_castling : (v : Siege) (g : Field) (l : ℕ) → l ≡ word (is_on_some straight_steps g.king)
@@ -152,18 +144,9 @@ risk_is v k g r o king field castling all free only fits = record {
   is = field;
   castling = λ b small off. castling;
   lines = λ a b small critical off. off_right r.lines g.lines a off;
-  unsprung = λ b small off. record {
-    springboards = g.springboards;
-    are = field.springs.own;
-    free = rw king free;
-    within = λ h on. on;
-  };
-  hops = λ b small off ne. false_by _ (λ on. false≢true (sym (off_right r.critical _ b off) ∙ denied_on g.hops o b fits small on
-      (false_by _ (λ at. ne (sym (eqb-true k b (sym (word_has (λ s. is_square (Some k) s) o b only small) ∙ at)) ∙ sym king)))));
-  weak = λ s x i. record {
-    weak = λ a b small inside off. (all.weak s x i).weak a b small inside
-        (record { lines = λ on. off_left r.lines g.lines a (off.lines on); critical = off_left r.critical _ b off.critical });
-  };
+  unsprung = λ b small off. record { springboards = _; are = field.springs.own; free = rw king free; within = λ h on. on };
+  hops = λ b small off ne. search (rules, denied_on, eqb-true, false_by, off_right, king, word_has);
+  weak = λ s x i. weak_left v g r (record { critical = bit_and g.hops (bit_not w64 o); lines = g.lines }) s x (all.weak s x i);
 }
 
 -- with the lines of all riders
@@ -187,11 +170,10 @@ threats_are v r w siege whole risk ridden = record {
     };
   };
   rides = λ s x i rider. record {
-    inside = λ t small reached. on_right r.lines w t ((ridden.reach s x i rider (near s x t small reached)).inside t small reached);
+    inside = λ t small reached. on_right r.lines w t ((ridden.reach s x i rider
+        (record { square = t; small = small; on = every_square_on t small; men = men_on v.hurdles; reaches = reached })).inside t small reached);
   };
-} where
-  near : (s : ℕ) (x : Man) (t : ℕ) → t < 64 → reached_over v.hurdles x s t ≡ true → IsNear x s (bit_not w64 0)
-  near s x t small reached = record { square = t; small = small; on = every_square_on t small; men = men_on v.hurdles; reaches = reached }
+}
 
 -- the men of the siege
 pub hurdles_are : (own enemies k o w : ℕ) → o ≡ word (λ t. is_square (Some k) t) → o < 2 ^ 64
@@ -263,10 +245,8 @@ king_castles_anywhere p c k king well =
 -- on both sides
 pub king_castles_to : (p : Position) (c : Colour) (k long short : ℕ) → king_square p.men c ≡ Some k → IsShut p c long (k - 4) (k - 1)
     → IsShut p c short (k + 3) (k + 1) → IsWellFormed p → AreCastlingSquares p c (bit_or long short)
-king_castles_to p c k long short king far near well = king_castles p c (bit_or long short) k well king (inr (
-  shut_in p c short (bit_or long short) (k + 3) (k + 1) (λ q on. on_right long short q on) near,
-  shut_in p c long (bit_or long short) (k - 4) (k - 1) (λ q on. on_left long short q on) far,
-))
+king_castles_to p c k long short king far near well =
+    king_castles p c (bit_or long short) k well king (inr (search (shut_in, on_left, on_right, far, near)))
 
 -- for a siege by the board's men
 pub siege_fits : (rule : RuleSet) (p : Position) (v : Siege) → v.men.colour ≡ other p.turn → king_square p.men p.turn ≡ Some v.king

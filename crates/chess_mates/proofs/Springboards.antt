@@ -1,5 +1,5 @@
 -- Springboards: the squares over which hoppers reach a square.
-use Rattle.chess_rules.proofs.Basics.{Bool, List, None, Option, Some, [], ◌∷◌, ap, arith, bit_and, bit_at, bit_not, bit_or, eq-eqb, eqb-true, false, false≢true, inl, inr, is_some, list_any, list_any-append, map, or_cases, or_left, or_right, refl, sym, true, w64, ℕ, ◌-◌, ◌<◌, ◌==◌, ◌^◌, ◌∙◌, ◌≡◌, ◌≢◌}
+use Rattle.chess_rules.proofs.Basics.{Bool, List, None, Option, Some, [], ◌∷◌, ap, arith, bit_and, bit_at, bit_not, bit_or, eq-eqb, eqb-true, false, false≢true, inl, inr, is_some, list_any, list_any-append, map, or_cases, or_left, or_right, refl, rules, sym, true, w64, ℕ, ◌-◌, ◌<◌, ◌==◌, ◌^◌, ◌∙◌, ◌≡◌, ◌≢◌}
 use Rattle.chess_mates.proofs.Chess.{Bishop, Direction, East, Grasshopper, Kind, King, Man, North, NorthEast, NorthWest, Rook, South, SouthEast, SouthWest, Step, West, White, along, along-is, diagonal_steps, hops, is_on_some, is_square, is_vacant_at, leaps, man_on, queen_steps, reaches_as, rides, step_of, straight_steps, word}
 use Rattle.chess_core.specs.Steps.{gait_of, is_hopper}
 use Rattle.chess_rules.specs.Reaches.{is_occupied}
@@ -81,10 +81,7 @@ module _ (men : List (Option Man)) (q t o : ℕ) (inside : t < 64) (only : o ≡
       }
 
   hop_board : (xs : List Direction) → list_any (hops men q t) (map step_of xs) ≡ true → IsBoard men q t o (map step_of xs)
-  hop_board xs h =
-      let w = some_direction (hops men q t) xs h in
-      let hop = hop-found men q t (step_of w.0) w.1.0 in
-      hop_at w.0 hop.0 (map step_of xs) hop.1 w.1.1 _ refl hop.1.hurdle
+  hop_board xs h = search (rules, hop-found, hop_at, some_direction)
 
 -- for `springboards_of`
 module _ (a : Attackers) (t o l d n r b : ℕ) (inside : t < 64) (only : o ≡ word (λ s. is_square (Some t) s)) (lines : l ≡ word (is_on_some straight_steps t))
@@ -155,11 +152,7 @@ module _ (a : Attackers) (t o l d n r b : ℕ) (inside : t < 64) (only : o ≡ w
 -- for `are_free`
 pub free_are : (v : Siege) (k w o : ℕ) → o ≡ word (λ s. is_square (Some k) s) → o < 2 ^ 64
     → (bit_and (bit_and w (bit_or (bit_or v.own v.enemies) v.closed)) (bit_not w64 o) == 0) ≡ true → AreFree v k w
-free_are v k w o only fits none = record {
-  own = λ h on small ne. off_left v.own v.enemies h (off_left _ v.closed h (free h on small ne));
-  enemies = λ h on small ne. off_right v.own v.enemies h (off_left _ v.closed h (free h on small ne));
-  closed = λ h on small ne. off_right (bit_or v.own v.enemies) v.closed h (free h on small ne);
-} where
+free_are v k w o only fits none = search (rules, off_left, off_right, free) where
   free : (h : ℕ) → (bit_at w h == 1) ≡ true → h < 64 → h ≢ k → (bit_at (bit_or (bit_or v.own v.enemies) v.closed) h == 1) ≡ false
   free h on small ne = false_by _ (λ stands. none_on _ h none (denied_on _ o h fits small (on_both w _ h on stands)
       (false_by _ (λ at. ne (sym (eqb-true k h (sym (word_has (λ s. is_square (Some k) s) o h only small) ∙ at)))))))
@@ -174,25 +167,14 @@ unsprung_right v k t a b h = record { springboards = h.springboards; are = h.are
 -- for a square whose springboards are free
 pub landing_is : (v : Siege) (k t w o f : ℕ) → o ≡ word (λ s. is_square (Some t) s) → AreSpringboards v.men t w → AreFree v k w → f < 64
     → (bit_at o f == 1) ≡ true → IsUnsprung v k f w
-landing_is v k t w o f only are free small on =
-    let same : t ≡ f = eqb-true t f (sym (word_has (λ s. is_square (Some t) s) o f only small) ∙ on) in
-    rw (← same) (record { springboards = w; are = are; free = free; within = λ s on. on })
+landing_is v k t w o f only are free small on = search (rules, eqb-true, word_has)
 
 -- for attackers without a grasshopper
 pub landing_anywhere : (v : Siege) (k t : ℕ) → v.men.grasshoppers ≡ 0 → IsUnsprung v k t 0
-landing_anywhere v k t none = record {
-  springboards = 0;
-  are = none_sprung v.men t none;
-  free = record {
-    own = λ h on small ne. absurd (none_at 0 h refl on);
-    enemies = λ h on small ne. absurd (none_at 0 h refl on);
-    closed = λ h on small ne. absurd (none_at 0 h refl on);
-  };
-  within = λ s on. on;
-}
+landing_anywhere v k t none = search (rules, none_at, none_sprung)
 
 -- for `may_spring`, where no other man is a hopper
 pub no_other : (a : Attackers) (s o : ℕ) → o ≡ word (λ q. is_square (Some s) q) → o < 2 ^ 64 → bit_and a.grasshoppers (bit_not w64 o) ≡ 0
     → (q : ℕ) (z : Man) → IsAttacker a z q → s ≢ q → is_hopper (gait_of z.kind) ≡ true → ⊥
 no_other a s o only fits none q z i ne hop = none_at _ q none (denied_on a.grasshoppers o q fits i.small (grasshopper_on a q z i hop)
-    (false_by _ (λ at. ne (eqb-true s q (sym (word_has (λ q. is_square (Some s) q) o q only i.small) ∙ at)))))
+    (search (rules, false_by, eqb-true, word_has)))
