@@ -1,5 +1,5 @@
 -- A king's step to an empty square that an attacker reaches over the hurdles is illegal.
-use Rattle.chess_rules.proofs.Basics.{cases_lt, or_lt, ◌&&◌, Bool, List, None, Option, Some, and_from, and_left, ap, arith, bit_and, bit_at, bit_not, bit_or, cases_Bool, cases_eq, cond-true, false, false≢true, inl, inr, is_some, length, not, refl, sym, true, w64, ℕ, ◌<◌, ◌==◌, ◌^◌, ◌∙◌, ◌≡◌, ◌≢◌}
+use Rattle.chess_rules.proofs.Basics.{cases_lt, or_lt, ◌&&◌, Bool, List, None, Option, Some, and_from, and_left, ap, arith, bit_and, bit_at, bit_not, bit_or, cases_Bool, cases_eq, cond-true, false, false≢true, inl, inr, is_some, length, not, refl, rules, sym, true, w64, ℕ, ◌<◌, ◌==◌, ◌^◌, ◌∙◌, ◌≡◌, ◌≢◌}
 use Rattle.chess_mates.proofs.Chess.{Colour, IsWellFormed, King, Man, Move, Position, RuleSet, captures_do_more, in_check, is_attacked, is_attacked_at, is_attacker, is_legal, is_of_colour, is_paralysed, is_pseudo_legal, king_square, man_on, other, position_after, reaches, reaches_as, same_colour, same_kind, side_of, some_square_true}
 use Rattle.chess_mates.specs.declared.siege.Siege.{Siege}
 use Rattle.chess_mates.specs.ties.Siege.{IsAttackedOver, IsBarred, IsSiege, IsSiegeOf, IsWhole, men_on}
@@ -84,10 +84,7 @@ module _ (rule : RuleSet) (p : Position) (m : Move) (x : Man) (v : Siege) (well 
       ])
 
   beyond : (men : List (Option Man)) (e : ℕ) → length men ≡ 64 → (e < 64 → ⊥) → is_some (man_on men e) ≡ false
-  beyond men e size high = by (man_on men e) refl where
-    by : (o : Option Man) → man_on men e ≡ o → is_some o ≡ false
-    by None h = refl
-    by (Some z) h = absurd (high (on_board men e z size h))
+  beyond men e size high = search (rules, on_board)
 
   left : is_some (man_on q.men m.from) ≡ false
   left = by (man_on q.men m.from) refl where

@@ -43,21 +43,12 @@ on_one a b i h = search (rules, cases_Bool, on_either)
 bit_small : (d s : ℕ) → bit_at d s ≡ bit_of (bit_at d s == 1)
 bit_small d s = grind (arith, bit_at-lt d s)
 
-abbrev one_if : Bool → Option Man
-one_if b = if b then Some (record { colour = White; kind = Pawn }) else None
-
 abbrev placed : ℕ → ℕ → Option Man
-placed d s = one_if (bit_at d s == 1)
-
-on_word : (d s : ℕ) → s < 64 → man_on (men_on d) s ≡ placed d s
-unfolding squares
-on_word d s small = get_or-map-range_with_len (placed d) 0 64 s s None small (omega arith)
-
-is_one : (b : Bool) → is_some (one_if b) ≡ b
-is_one b = grind arith
+placed d s = if bit_at d s == 1 then Some (record { colour = White; kind = Pawn }) else None
 
 pub one_on : (d s : ℕ) → s < 64 → is_some (man_on (men_on d) s) ≡ (bit_at d s == 1)
-one_on d s small = ap (λ (o : Option Man). is_some o) (on_word d s small) ∙ is_one (bit_at d s == 1)
+unfolding squares
+one_on d s small = grind (arith, get_or-map-range_with_len (placed d) 0 64 s s None small (omega arith))
 
 -- the squares of men on the squares of a word are that word
 occupied_on : (d : ℕ) → d < 2 ^ 64 → d ≡ occupied_squares (men_on d)

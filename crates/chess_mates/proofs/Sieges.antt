@@ -1,9 +1,9 @@
 -- The men of a siege, its castlings and the king's field.
-use Rattle.chess_rules.proofs.Basics.{List, None, Option, Some, and_parts, ap, arith, bit_and, bit_at, bit_not, bit_or, eq-eqb, eqb-true, false, false≢true, inl, inr, list_any, list_any-append, ne_eqb, or_cases, refl, rules, sym, true, w64, ℕ, ◌&&◌, ◌+◌, ◌-◌, ◌<◌, ◌==◌, ◌^◌, ◌||◌, ◌∙◌, ◌≡◌, ◌≢◌, ◌⊎◌}
-use Rattle.chess_mates.proofs.Chess.{Bishop, Colour, Grasshopper, IsWellFormed, Kind, King, Knight, Man, Nightrider, Pawn, Position, Queen, Rook, RuleSet, White, corner, is_fairy, is_man, is_on_some, is_of_colour, is_square, king_square, leaps, man_on, occupied_squares, other, queen_steps}
-use Rattle.chess_mates.proofs.Chess.{reaches_as, same_colour, same_kind, side_of, squares, squares_of, straight_steps, word}
+use Rattle.chess_rules.proofs.Basics.{List, None, Option, Some, and_parts, arith, bit_and, bit_at, bit_not, bit_or, eq-eqb, eqb-true, false, false≢true, inl, inr, list_any, list_any-append, ne_eqb, or_cases, refl, rules, true, w64, ℕ, ◌&&◌, ◌+◌, ◌-◌, ◌<◌, ◌==◌, ◌^◌, ◌||◌, ◌∙◌, ◌≡◌, ◌≢◌, ◌⊎◌}
+use Rattle.chess_mates.proofs.Chess.{Bishop, Colour, Grasshopper, IsWellFormed, Kind, King, Knight, Man, Nightrider, Pawn, Position, Queen, Rook, RuleSet, White, corner, is_fairy, is_man, is_on_some, is_square, king_square, leaps, man_on, occupied_squares, other, queen_steps}
+use Rattle.chess_mates.proofs.Chess.{reaches_as, side_of, squares, squares_of, straight_steps, word}
 use Rattle.chess_core.specs.Castling.{has_unmoved}
-use Rattle.chess_mates.specs.ties.Attackers.{AreAttackers, IsAttacker}
+use Rattle.chess_mates.specs.ties.Attackers.{AreAttackers, IsAttacker, squares_for}
 use Rattle.chess_mates.specs.declared.attackers.Attackers.{Attackers}
 use Rattle.chess_mates.specs.declared.field.Field.{Field}
 use Rattle.chess_mates.specs.declared.risk.Risk.{Risk}
@@ -104,11 +104,11 @@ field_is v k c r b l i springs hurdles rook bishop riders captures = record {
   by c _ may = absurd (false≢true may.0)
 
 plain_among : (a : Attackers) (s : ℕ) (x : Man) → IsAttacker a x s → (bit_or a.grasshoppers a.nightriders == 0) ≡ true → is_fairy x.kind ≡ false
-plain_among a s x i none = by x.kind refl where
-  by : (k : Kind) → x.kind ≡ k → is_fairy k ≡ false
-  by Grasshopper e = absurd (none_on _ s none (on_left a.grasshoppers a.nightriders s (rw e at i.on)))
-  by Nightrider e = absurd (none_on _ s none (on_right a.grasshoppers a.nightriders s (rw e at i.on)))
-  by _ e = refl
+plain_among a s x i none = by x.kind i.on where
+  by : (k : Kind) → (bit_at (squares_for a k) s == 1) ≡ true → is_fairy k ≡ false
+  by Grasshopper on = absurd (none_on _ s none (on_left a.grasshoppers a.nightriders s on))
+  by Nightrider on = absurd (none_on _ s none (on_right a.grasshoppers a.nightriders s on))
+  by _ on = refl
 
 -- for `castling_is_harmless`, by the words of rooks and kings
 pub harmless_castling : (v : Siege) (g : Field) (l : ℕ) → l ≡ word (is_on_some straight_steps g.king)
@@ -191,11 +191,8 @@ pub lifted_off : (a w s : ℕ) (o : Option ℕ) → w ≡ word (λ t. is_square 
 lifted_off a w s o only fits small e = search (rules, false_by, off_denied, word_has)
 
 -- who stands on a square is of his colour and kind
-self : (c : Colour) (k : Kind) → (same_colour c c && same_kind k k) ≡ true
-self c k = grind (arith, eq-eqb)
-
 there : (men : List (Option Man)) (s : ℕ) (x : Man) (c : Colour) → man_on men s ≡ Some x → x.colour ≡ c → is_man (man_on men s) c x.kind ≡ true
-there men s x c here mine = ap (λ (o : Option Man). is_man o c x.kind) here ∙ rw mine (self c x.kind)
+there men s x c here mine = grind (arith, eq-eqb)
 
 -- the men of the board
 pub attackers_are : (men : List (Option Man)) (a : Attackers) → a.kings ≡ squares_of men a.colour King → a.queens ≡ squares_of men a.colour Queen
@@ -209,28 +206,19 @@ attackers_are men a kings queens rooks bishops knights pawns grasshoppers nightr
 pub shut_on : (p : Position) (c : Colour) (own w corner next a b : ℕ) → own ≡ side_of p.men c → next < 64
     → (has_unmoved p.unmoved corner ≡ false) ⊎ ((bit_at own next == 1) ≡ true) ⊎ ((bit_at w next == 1) ≡ true) → corner ≡ a → next ≡ b → IsShut p c w a b
 unfolding side_of
-shut_on p c own w corner next a b side small (inl moved) e f = inl (rw (← e) moved)
-shut_on p c own w corner next a b side small (inr (inl on)) e f =
-    inr (inl (rw (← f) (sym (word_has (λ q. is_of_colour (man_on p.men q) c) own next side small) ∙ on)))
-shut_on p c own w corner next a b side small (inr (inr on)) e f = inr (inr (λ low. rw (← f) on))
+shut_on p c own w corner next a b side small h e f = search (rules, word_has)
 
 shut_in : (p : Position) (c : Colour) (v w a b : ℕ) → ((q : ℕ) → (bit_at v q == 1) ≡ true → (bit_at w q == 1) ≡ true) → IsShut p c v a b → IsShut p c w a b
-shut_in p c v w a b more (inl moved) = inl moved
-shut_in p c v w a b more (inr (inl on)) = inr (inl on)
-shut_in p c v w a b more (inr (inr on)) = inr (inr (λ low. more b (on low)))
+shut_in p c v w a b more h = search (rules, more)
 
 -- for `castling_squares`: without a king
 pub no_king_castles : (p : Position) (c : Colour) (w : ℕ) → king_square p.men c ≡ None → AreCastlingSquares p c w
 unfolding king_square squares
-no_king_castles p c w none = record {
-  sides = λ s small is. absurd (false≢true (sym (find_no (λ q. is_man (man_on p.men q) c King) 0 64 s none (omega arith) (omega arith)) ∙ is));
-}
+no_king_castles p c w none = record { sides = λ s small is. search (rules, find_no (λ q. is_man (man_on p.men q) c King) 0 64 s none (omega arith) (omega arith)) }
 
 king_castles : (p : Position) (c : Colour) (w k : ℕ) → IsWellFormed p → king_square p.men c ≡ Some k
     → (has_unmoved p.unmoved k ≡ false) ⊎ (IsShut p c w (k + 3) (k + 1) × IsShut p c w (k - 4) (k - 1)) → AreCastlingSquares p c w
-king_castles p c w k well king sides = record {
-  sides = λ s small is. rw (well.kings.same c s k is (king_there p.men c k king).1) sides;
-}
+king_castles p c w k well king sides = record { sides = λ s small is. rw (well.kings.same c s k is (king_there p.men c k king).1) sides }
 
 -- with one who has moved
 pub moved_king_castles : (p : Position) (c : Colour) (w k : ℕ) → king_square p.men c ≡ Some k → has_unmoved p.unmoved k ≡ false → IsWellFormed p

@@ -453,6 +453,7 @@ fn kept_risk_behind(siege: &Siege, kept: &mut Option<RiskBehind>, from: Square) 
 
 // Those of the squares that the man on `from`, who isn't the king, mustn't come to, and perhaps more: told by the siege's
 // own risk, unless he leaves a line on which he is a hurdle. Nothing gets better by that.
+#[tactic(auto, using(chess_rules::proofs::listing_moves::Targeting::false_by))]
 pub(crate) fn critical_from(
     siege: &Siege,
     risk: &Risk,
