@@ -1,10 +1,9 @@
 -- What men reach over hurdles, the squares of a word, and later on the board.
-use Rattle.chess_rules.proofs.Basics.{Bool, List, None, Option, Some, [], ◌∷◌, and_from, and_parts, ap, arith, bit_at, bit_at-lt, bit_at_or, bit_or, cases_lt, eq-eqb, eqb-true, false, false≢true, if◌then◌else◌, get_or-map-range_with_len, inl, inr, is_some, length, length-map-range_with_len, list_any, not, not-true, or_cases, or_left, or_right, refl, rules, subst, suc, sym, true, zero, ℕ, ◌&&◌, ◌+◌, ◌-◌, ◌<◌, ◌≤◌, ◌==◌, ◌^◌, ◌||◌, ◌∙◌, ◌≡◌, ◌⊎◌}
+use Rattle.chess_rules.proofs.Basics.{Bool, List, None, Option, Some, [], ◌∷◌, ap, arith, bit_at, bit_at-lt, bit_at_or, bit_or, cases_lt, eq-eqb, eqb-true, false, false≢true, if◌then◌else◌, get_or-map-range_with_len, inl, inr, is_some, length, length-map-range_with_len, list_any, not, not-true, or_cases, or_left, or_right, refl, rules, suc, sym, true, zero, ℕ, ◌-◌, ◌<◌, ◌≤◌, ◌==◌, ◌^◌, ◌||◌, ◌∙◌, ◌≡◌, ◌⊎◌}
 use Rattle.chess_rules.proofs.Basics.{cases_Bool, cases_eq, find, range_with_len, ◌≢◌}
 use Rattle.chess_mates.proofs.Chess.{find_first}
-use Rattle.chess_mates.proofs.Chess.{Bishop, Colour, Grasshopper, Kind, King, Knight, Man, Nightrider, Pawn, Queen, Rook, Step, White, all_at, along, any_range_cases, any_range_false, diagonal_steps, hops, is_clear, is_square, knight_steps, is_vacant_at, leaps, man_on, occupied_squares, other, queen_steps}
+use Rattle.chess_mates.proofs.Chess.{Bishop, Colour, Grasshopper, Kind, King, Knight, Man, Nightrider, Pawn, Queen, Rook, Step, White, along, diagonal_steps, hops, knight_steps, is_vacant_at, leaps, man_on, occupied_squares, other, queen_steps}
 use Rattle.chess_mates.proofs.Chess.{reaches_as, rides, same_kind, same_kind-true, squares, straight_steps, word}
-use Rattle.chess_core.proofs.Ranges.{all_range_true, any_range_true}
 use Rattle.chess_core.proofs.Words.{square_word}
 use Rattle.chess_core.specs.ties.Words.{bit_of}
 use Rattle.chess_mates.specs.ties.Attackers.{squares_for}
@@ -14,7 +13,7 @@ use Rattle.chess_mates.specs.ties.Siege.{reached_over}
 use Rattle.chess_mates.proofs.KindByKind.{of_kind}
 use Rattle.chess_rules.proofs.Bits.{on_left, on_right, word_has}
 use Rattle.chess_rules.proofs.Tests.{any_kept}
-use Rattle.chess_rules.proofs.rays.Ways.{hop-found, ride-made}
+use Rattle.chess_rules.proofs.rays.Ways.{hop-found, ride-found, ride-made}
 use Rattle.chess_core.specs.Steps.{gait_of, is_hopper}
 use Rattle.chess_rules.specs.Reaches.{is_occupied}
 use Rattle.chess_rules.proofs.making_moves.Pseudo.{on_board}
@@ -125,12 +124,6 @@ module _ (d : ℕ) (a : Attackers) where
     reaches = r.reaches;
   }
 
-  -- for `ridden_squares` and `leapt_squares`
-  pub attacked_either : (q r : ℕ) → ((t : ℕ) → t < 64 → (bit_at q t == 1) ≡ true → IsAttackedOver d a t)
-      → ((t : ℕ) → t < 64 → (bit_at r t == 1) ≡ true → IsAttackedOver d a t) → (t : ℕ) → t < 64
-      → (bit_at (bit_or q r) t == 1) ≡ true → IsAttackedOver d a t
-  attacked_either q r first second t small on = search (rules, on_one)
-
 -- on a board where each hurdle that a man reaches over the hurdles still stands, he reaches no more than over them
 module _ (d : ℕ) (men : List (Option Man)) where
   pub empty_on : (q : ℕ) → ((bit_at d q == 1) ≡ true → q < 64 → ⊥) → is_vacant_at (men_on d) (Some q) ≡ true
@@ -140,47 +133,31 @@ module _ (d : ℕ) (men : List (Option Man)) where
   abbrev Stand : ℕ → Step → Type 0
   Stand s st = (b : ℕ) → b < 64 → (bit_at d b == 1) ≡ true → rides (men_on d) s b st ≡ true → is_some (man_on men b) ≡ true
 
-  vacant_over : (st : Step) (s n : ℕ) (o : Option ℕ) → along s st (n + 1) ≡ o → n ≤ 6 → Stand s st
-      → is_clear (men_on d) s st n ≡ true → is_vacant_at men o ≡ true → is_vacant_at (men_on d) o ≡ true
-  unfolding rides
-  vacant_over st s n None at le stand clear vacant = absurd (false≢true vacant)
-  vacant_over st s n (Some q) at le stand clear vacant = empty_on q (λ on small. false≢true (sym (not-true _ vacant) ∙ stand q small on
-      (any_range_true (λ k. is_square (along s st k) q && is_clear (men_on d) s st (k - 1)) 1 7 (n + 1)
-      (omega arith) (omega arith) (and_from _ _ (ap (λ (o : Option ℕ). is_square o q) at ∙ eq-eqb q q refl)
-      (let same : n ≡ n + 1 - 1 = omega arith in subst (λ (j : ℕ). is_clear (men_on d) s st j ≡ true) same clear)))))
+  -- square by square what is empty on the board is so over the hurdles
+  vacant_at : (st : Step) (s m : ℕ) (o : Option ℕ) → Stand s st → 1 ≤ m → m < 8 → along s st m ≡ o
+      → ((j : ℕ) → 1 ≤ j → j < m → is_vacant_at (men_on d) (along s st j) ≡ true) → is_vacant_at men o ≡ true → is_vacant_at (men_on d) o ≡ true
+  vacant_at st s m None stand low high at before vacant = absurd (false≢true vacant)
+  vacant_at st s m (Some q) stand low high at before vacant = empty_on q (λ on small. false≢true (sym (not-true _ vacant)
+      ∙ stand q small on (ride-made (men_on d) s q st m (record { low = low; high = high; at = at; free = before }))))
 
-  clear_over : (st : Step) (s n : ℕ) → n ≤ 6 → Stand s st → is_clear men s st n ≡ true → is_clear (men_on d) s st n ≡ true
-  unfolding is_clear
-  clear_over st s zero le stand clear = refl
-  clear_over st s (suc n) le stand clear =
-      let at = all_at (λ i. is_vacant_at men (along s st i)) 1 (suc n) in
-      let before : is_clear (men_on d) s st n ≡ true = clear_over st s n (omega (arith, le)) stand
-      (all_range_true (λ i. is_vacant_at men (along s st i)) 1 n (λ i lo hi. at i clear lo (omega (arith, hi)))) in
-      all_range_true (λ i. is_vacant_at (men_on d) (along s st i)) 1 (suc n) (λ i lo hi. elim (cases_lt i (n + 1)) [
-        | inl lt ↦ all_at (λ i. is_vacant_at (men_on d) (along s st i)) 1 n i before lo (omega (arith, lt))
-        | inr ge ↦
-            let last : i ≡ n + 1 = omega (arith, ge, hi) in
-            rw last (vacant_over st s n (along s st (n + 1)) refl (omega (arith, le)) stand before (at (n + 1) clear (omega arith) (omega arith)))
-      ])
+  vacant_over : (st : Step) (s n : ℕ) → Stand s st → n ≤ 8 → ((j : ℕ) → 1 ≤ j → j < n → is_vacant_at men (along s st j) ≡ true) → (j : ℕ) → 1 ≤ j → j < n
+      → is_vacant_at (men_on d) (along s st j) ≡ true
+  vacant_over st s zero stand high free j low lt = absurd (omega (arith, lt))
+  vacant_over st s (suc m) stand high free j low lt = vacant_at st s j (along s st j) stand low (omega (arith, lt, high)) refl
+      (λ i lo before. vacant_over st s m stand (omega (arith, high)) (λ e l b. free e l (omega (arith, b))) i lo (omega (arith, before, lt))) (free j low lt)
 
   rides_over : (st : Step) (s t : ℕ) → Stand s st → rides men s t st ≡ true → rides (men_on d) s t st ≡ true
-  unfolding rides
-  rides_over st s t stand h = elim (any_range_cases (λ k. is_square (along s st k) t && is_clear men s st (k - 1)) 1 7) [
-    | inl w ↦
-        let both = and_parts _ _ w.3 in
-        any_range_true (λ k. is_square (along s st k) t && is_clear (men_on d) s st (k - 1)) 1 7 w.0 w.1 w.2
-        (and_from _ _ both.0 (clear_over st s (w.0 - 1) (omega (arith, w.2)) stand both.1))
-    | inr none ↦ absurd (false≢true (sym (any_range_false (λ k. is_square (along s st k) t && is_clear men s st (k - 1)) 1 7 none) ∙ h))
-  ]
+  rides_over st s t stand h =
+      let w = ride-found men s t st h in
+      let free = vacant_over st s w.0 stand (omega (arith, w.1.high)) w.1.free in
+      ride-made (men_on d) s t st w.0 (record { low = w.1.low; high = w.1.high; at = w.1.at; free = free })
 
   some_over : (s t : ℕ) (ds : List Step)
       → ((b : ℕ) → b < 64 → (bit_at d b == 1) ≡ true → list_any (rides (men_on d) s b) ds ≡ true → is_some (man_on men b) ≡ true)
       → list_any (rides men s t) ds ≡ true → list_any (rides (men_on d) s t) ds ≡ true
   some_over s t [] stand h = h
   some_over s t (st ∷ ds) stand h = elim (or_cases _ _ h) [
-    | inl y ↦
-        ap (λ (b : Bool). b || list_any (rides (men_on d) s t) ds)
-        (rides_over st s t (λ b small on r. stand b small on (ap (λ (a : Bool). a || list_any (rides (men_on d) s b) ds) r)) y)
+    | inl y ↦ or_left _ _ (rides_over st s t (λ b small on r. stand b small on (or_left _ _ r)) y)
     | inr y ↦ or_right _ _ (some_over s t ds (λ b small on r. stand b small on (or_right _ _ r)) y)
   ]
 
