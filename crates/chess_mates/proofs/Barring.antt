@@ -1,5 +1,5 @@
 -- A king's step to an empty square that an attacker reaches over the hurdles is illegal.
-use Rattle.chess_rules.proofs.Basics.{cases_lt, or_lt, ◌&&◌, Bool, List, None, Option, Some, and_from, and_left, ap, arith, bit_and, bit_at, bit_not, bit_or, cases_Bool, cases_eq, cond-true, false, false≢true, inl, inr, is_some, length, not, refl, rules, sym, true, w64, ℕ, ◌<◌, ◌==◌, ◌^◌, ◌∙◌, ◌≡◌, ◌≢◌}
+use Rattle.chess_rules.proofs.Basics.{cases_lt, or_lt, List, None, Option, Some, and_from, and_left, ap, arith, bit_and, bit_at, bit_not, bit_or, cases_eq, cond-true, false, false≢true, inl, inr, is_some, length, not, refl, rules, sym, true, w64, ℕ, ◌<◌, ◌==◌, ◌^◌, ◌∙◌, ◌≡◌, ◌≢◌}
 use Rattle.chess_mates.proofs.Chess.{Colour, IsWellFormed, King, Man, Move, Position, RuleSet, captures_do_more, in_check, is_attacked, is_attacked_at, is_attacker, is_legal, is_of_colour, is_paralysed, is_pseudo_legal, king_square, man_on, other, position_after, reaches, reaches_as, same_colour, same_kind, side_of, some_square_true}
 use Rattle.chess_mates.specs.declared.siege.Siege.{Siege}
 use Rattle.chess_mates.specs.ties.Siege.{IsAttackedOver, IsBarred, IsSiege, IsSiegeOf, IsWhole, men_on}
@@ -10,6 +10,7 @@ use Rattle.chess_core.proofs.Kept.{same_colour-refl}
 use Rattle.chess_rules.proofs.Bits.{off_left, off_right, word_has}
 use Rattle.chess_rules.proofs.attacks.Exposing.{king_is_after}
 use Rattle.chess_rules.proofs.attacks.Shielding.{simple_after}
+use Rattle.chess_rules.proofs.Tests.{same_Bool}
 use Rattle.chess_rules.proofs.listing_moves.Targeting.{false_by}
 use Rattle.chess_rules.proofs.listing_moves.Walks.{off_second}
 use Rattle.chess_rules.proofs.making_moves.Fits.{arrived}
@@ -36,12 +37,6 @@ barred_is rule v w r l t able fits_r fits_l ridden leapt small on off =
         | inr y ↦ leapt t small y
       ];
     }
-
-same_test : (a b : Bool) → (a ≡ true → b ≡ true) → (b ≡ true → a ≡ true) → a ≡ b
-same_test a b f g = grind (arith, cases_Bool a, cases_Bool b)
-
-not_both : (a b : Bool) → (a && not b) ≡ true → b ≡ true → ⊥
-not_both a b h e = grind arith
 
 able_strikes : (s : ℕ) (men : List (Option Man)) (t : ℕ) (z : Man) → man_on men s ≡ Some z → reaches_as men z.colour z.kind s t ≡ true → reaches men s t ≡ true
 unfolding reaches
@@ -73,7 +68,7 @@ module _ (rule : RuleSet) (p : Position) (m : Move) (x : Man) (v : Siege) (well 
   -- the hurdles are all men but the king
   hurdle_is : (e : ℕ) → e < 64 → e ≢ m.from → is_some (man_on p.men e) ≡ (bit_at v.hurdles e == 1)
   unfolding side_of
-  hurdle_is e low off = same_test _ _
+  hurdle_is e low off = same_Bool _ _
       (λ some. whole.hurdles e low (elim (some_of (man_on p.men e) p.turn some) [
         | inl mine ↦ inl (word_has (λ s. is_of_colour (man_on p.men s) p.turn) v.own e fits.own low ∙ mine)
         | inr enemy ↦ inr (word_has (λ s. is_of_colour (man_on p.men s) (other p.turn)) v.enemies e fits.enemies low ∙ enemy)
@@ -146,4 +141,4 @@ module _ (rule : RuleSet) (p : Position) (m : Move) (x : Man) (v : Siege) (well 
 
   pub barred_is_illegal : is_legal rule p m ≡ true → ⊥
   unfolding is_legal
-  barred_is_illegal legal = not_both (is_pseudo_legal rule p m) (in_check rule q.men p.turn) legal checked
+  barred_is_illegal legal = grind (arith, checked, legal)

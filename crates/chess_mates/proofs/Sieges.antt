@@ -150,10 +150,10 @@ risk_is v k g r o king field castling all free only fits = record {
 }
 
 -- with the lines of all riders
-pub threats_are : (v : Siege) (r : Risk) (w : ℕ) → IsSiege v → IsWhole v → IsRiskAt v v.king r → AreReached v.hurdles v.men (bit_not w64 0) is_rider w
-    → AreThreats v (record { critical = r.critical; lines = bit_or r.lines w })
+pub threats_are : (v : Siege) (critical lines w : ℕ) → IsSiege v → IsWhole v → IsRiskAt v v.king (record { critical = critical; lines = lines })
+    → AreReached v.hurdles v.men (bit_not w64 0) is_rider w → AreThreats v (record { critical = critical; lines = bit_or lines w })
 unfolding reached_over
-threats_are v r w siege whole risk ridden = record {
+threats_are v critical lines w siege whole risk ridden = record {
   siege = siege;
   whole = whole;
   risk = record {
@@ -161,16 +161,16 @@ threats_are v r w siege whole risk ridden = record {
     king = risk.king;
     is = risk.is;
     castling = risk.castling;
-    lines = λ a b small critical off. risk.lines a b small critical (off_left r.lines w a off);
+    lines = λ a b small far off. risk.lines a b small far (off_left lines w a off);
     unsprung = risk.unsprung;
     hops = risk.hops;
     weak = λ s x i. record {
       weak = λ a b small inside off. (risk.weak s x i).weak a b small inside
-          (record { lines = λ on. off_left r.lines w a (off.lines on); critical = off.critical });
+          (record { lines = λ on. off_left lines w a (off.lines on); critical = off.critical });
     };
   };
   rides = λ s x i rider. record {
-    inside = λ t small reached. on_right r.lines w t ((ridden.reach s x i rider
+    inside = λ t small reached. on_right lines w t ((ridden.reach s x i rider
         (record { square = t; small = small; on = every_square_on t small; men = men_on v.hurdles; reaches = reached })).inside t small reached);
   };
 }
@@ -181,9 +181,9 @@ pub hurdles_are : (own enemies k o w : ℕ) → o ≡ word (λ t. is_square (Som
 hurdles_are own enemies k o w only fits = search (rules, off_denied, on_first, on_one, word_has)
 
 -- all of them, where none is lifted
-pub hurdles_whole : (own enemies k o w : ℕ) → o ≡ word (λ t. is_square (Some k) t) → o < 2 ^ 64 → w ≡ word (λ t. is_square None t) → w < 2 ^ 64
-    → (e : ℕ) → e < 64 → IsHurdle own enemies k (bit_and (bit_and (bit_or own enemies) (bit_not w64 o)) (bit_not w64 w)) e
-hurdles_whole own enemies k o w only fits none low e small there ne = grind (arith, denied_on, ne_eqb, on_left, on_right, word_has)
+pub hurdles_whole : (own enemies k o w : ℕ) (lifted : Option ℕ) → o ≡ word (λ t. is_square (Some k) t) → o < 2 ^ 64 → w ≡ word (λ t. is_square lifted t)
+    → w < 2 ^ 64 → lifted ≡ None → (e : ℕ) → e < 64 → IsHurdle own enemies k (bit_and (bit_and (bit_or own enemies) (bit_not w64 o)) (bit_not w64 w)) e
+hurdles_whole own enemies k o w lifted only fits at low none e small there ne = grind (arith, denied_on, ne_eqb, on_left, on_right, word_has)
 
 -- for a man who is lifted: his square isn't a hurdle
 pub lifted_off : (a w s : ℕ) (o : Option ℕ) → w ≡ word (λ t. is_square o t) → w < 2 ^ 64 → s < 64 → o ≡ Some s
