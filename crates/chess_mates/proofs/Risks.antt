@@ -14,7 +14,6 @@ use Rattle.chess_rules.proofs.listing_moves.Targeting.{false_by, no_pawn_arrives
 use Rattle.chess_rules.proofs.making_moves.Pseudo.{king_is_no_pawn}
 use Rattle.chess_mates.proofs.Hurdles.{on_one, reached_is}
 use Rattle.chess_mates.proofs.KindByKind.{man_is, of_all}
-use Rattle.chess_rules.proofs.listing_moves.Walks.{off_second}
 use Rattle.std.proofs.lemmas.Nat.Bits.{bit_at_not}
 use Rattle.chess_mates.proofs.CheckTargets.{last_rank_on}
 use Rattle.chess_rules.proofs.listing_moves.Walks.{off_zero}
@@ -43,11 +42,6 @@ denied_on a b i fits small on off = on_both a (bit_not w64 b) i on (bit_denied b
 pub open_arrivals : (d : ℕ) (x : Man) (s w : ℕ) → ((p : Position) (t : ℕ) → t < 64 → may_go p x s t ≡ true → (bit_at w t == 1) ≡ true) → AreArrivals d x s w
 open_arrivals d x s w ways = record { inside = λ t i. ways i.position t i.small i.goes }
 
--- or over the hurdles
-pub piece_arrivals : (d : ℕ) (x : Man) (s w : ℕ) → IsReached d x s w → same_kind x.kind Pawn ≡ false → same_kind x.kind Grasshopper ≡ false
-    → AreArrivals d x s w
-piece_arrivals d x s w reached piece kind = record { inside = λ t i. reached.inside t i.small (i.reaches piece (no_hopper x.kind kind)) }
-
 -- where he doesn't check
 pub king_targets : (x : Man) (checks boards t : ℕ) → same_kind x.kind King ≡ true → (bit_at boards t == 1) ≡ false → IsNoCheck checks boards x t
 king_targets x checks boards t king unsprung = search (rules, king_is_no_pawn, no_pawn_arrives)
@@ -61,11 +55,6 @@ pawn_targets x checks boards t small off = grind (arith, and_parts, false_by, la
 pub piece_targets : (x : Man) (checks boards t : ℕ) → same_kind x.kind Pawn ≡ false → (bit_at (bit_or checks boards) t == 1) ≡ false
     → IsNoCheck checks boards x t
 piece_targets x checks boards t piece off = search (rules, no_pawn_arrives, off_left, off_right)
-
--- for `uncaptured_squares`
-pub captured_on : (w c g t : ℕ) → c < 2 ^ 64 → t < 64 → (bit_at w t == 1) ≡ true → (bit_at (bit_and w (bit_or (bit_not w64 c) g)) t == 1) ≡ false
-    → ((bit_at c t == 1) ≡ true) × ((bit_at g t == 1) ≡ false)
-captured_on w c g t fits small on off = search (rules, bit_denied, off_left, off_right, off_second, true_from_ne_false)
 
 -- for `risk_of_going`: one attacker goes, and a square next to the king or his own isn't guarded
 pub unguarded_at : (v : Siege) (g : Field) (s o : ℕ) (gs : Guards) (a : ℕ) → AreGuardsWithout v s (bit_or (bit_or g.near g.captures) o) gs

@@ -19,15 +19,10 @@ use Rattle.chess_mates.proofs.Hurdles.{on_one, reached_is, reached_left, reached
 use Rattle.chess_mates.proofs.FarMen.{man_of_word, off_denied}
 use Rattle.chess_mates.proofs.KindByKind.{man_is}
 use Rattle.chess_mates.proofs.Fleeing.{on_second}
-use Rattle.chess_mates.proofs.Springboards.{grasshopper_on, landing_anywhere, none_sprung, unsprung_right}
+use Rattle.chess_mates.proofs.Springboards.{grasshopper_on, unsprung_right}
 use Rattle.chess_rules.proofs.listing_moves.Walks.{on_first}
 use Rattle.chess_mates.proofs.Risks.{denied_on, none_at, none_on, weak_left}
 use Rattle.chess_mates.proofs.LastingFlights.{on_both}
-
--- for `adjacent_squares`
-pub adjacent_are : (v : Siege) (k n : ℕ) → n ≡ word (λ t. list_any (leaps k t) queen_steps) → v.closed < 2 ^ 64 → v.men.kings < 2 ^ 64
-    → AreAdjacent v k (bit_and (bit_and n (bit_not w64 v.closed)) (bit_not w64 v.men.kings))
-adjacent_are v k n near closed kings = search (rules, off_denied, on_first, word_has)
 
 -- for `capture_squares`: where no attacker stands on a closed square, and none is a hopper
 pub captures_are : (v : Siege) (k n : ℕ) → n ≡ word (λ t. list_any (leaps k t) queen_steps) → bit_and v.closed v.enemies ≡ 0 → v.men.grasshoppers ≡ 0
@@ -38,10 +33,7 @@ captures_are v k n near none plain = record {
   plain = λ f s z on i. search (rules, false_by, none_at v.men.grasshoppers, grasshopper_on);
 }
 
--- elsewhere none
-pub no_captures : (v : Siege) (k : ℕ) → AreCaptureSquares v k 0
-no_captures v k = search (rules, none_at)
-
+-- for fewer squares next to the king
 pub fewer_adjacent : (v : Siege) (k n w : ℕ) → AreAdjacent v k n → AreAdjacent v k (bit_and n w)
 fewer_adjacent v k n w are = search (rules, on_first)
 
@@ -61,10 +53,6 @@ nightrider_lines d k w fits h c = search (rules, reached_is)
 pub springs_are : (v : Siege) (k n s j b : ℕ) → AreAdjacent v k n → AreSpringboards v.men k s
     → ((f : ℕ) → f < 64 → (bit_at j f == 1) ≡ true → IsUnsprung v k f b) → AreSprings v k (record { near = bit_and n j; own = s; all = bit_or s b })
 springs_are v k n s j b near own landings = search (rules, fewer_adjacent, on_left, on_second, unsprung_right)
-
--- for `no_springs`
-pub springless : (v : Siege) (k n : ℕ) → v.men.grasshoppers ≡ 0 → AreAdjacent v k n → AreSprings v k (record { near = n; own = 0; all = 0 })
-springless v k n none near = search (rules, landing_anywhere, none_sprung)
 
 -- the king's field
 pub field_is : (v : Siege) (k c r b l : ℕ) (i : Springs) → AreSprings v k i → v.hurdles < 2 ^ 64
@@ -129,10 +117,6 @@ harmless_castling v g l lines h = elim (or_cases _ _ h) [
         fairies = λ q s x on i. plain_among v.men s x i (and_parts _ _ all).1;
       }
 ]
-
--- the risk of all
-pub risk_never : (v : Siege) (k : ℕ) (g : Field) → g.king ≡ k → IsField v g → IsRiskAt v k (record { critical = bit_not w64 0; lines = 0 })
-risk_never v k g king field = search (rules, every_square_on)
 
 -- for the risk told of all attackers
 pub risk_is : (v : Siege) (k : ℕ) (g : Field) (r : Risk) (o : ℕ) → g.king ≡ k → IsField v g → IsCastlingHarmless v g → AreWeak v g r

@@ -49,7 +49,7 @@ pub(crate) struct Springs {
 }
 
 // The squares next to a king of the defender on this square to which he might go, attacks apart.
-#[tactic(auto, using(crate::proofs::Sieges::adjacent_are))]
+#[tactic(auto, using(crate::proofs::FarMen::off_denied, chess_rules::proofs::listing_moves::Walks::on_first, chess_rules::proofs::Bits::word_has))]
 pub(crate) fn adjacent_squares(siege: &Siege, king: Square) -> Squares
     ensures { AreAdjacent siege.now king result }
 {
@@ -58,7 +58,7 @@ pub(crate) fn adjacent_squares(siege: &Siege, king: Square) -> Squares
 
 // The squares next to the king on which he may capture, attacks apart: in Circe, where attackers stand on closed squares,
 // and beside hoppers none.
-#[tactic(auto, using(crate::proofs::Sieges::captures_are, crate::proofs::Sieges::no_captures))]
+#[tactic(auto, using(crate::proofs::Sieges::captures_are, crate::proofs::Risks::none_at))]
 fn capture_squares(siege: &Siege, king: Square) -> Squares
     ensures { AreCaptureSquares siege.now king result }
 {
@@ -170,7 +170,7 @@ pub(crate) fn springs_of(siege: &Siege, king: Square) -> Springs
 }
 
 // The same against attackers without a grasshopper.
-#[tactic(auto, using(crate::proofs::Sieges::springless))]
+#[tactic(auto, using(crate::proofs::Springboards::landing_anywhere, crate::proofs::Springboards::none_sprung))]
 pub(crate) fn no_springs(siege: &Siege, king: Square) -> Springs
     requires { siege.now.men.grasshoppers ≡ 0 }
     ensures { AreSprings siege.now king result }

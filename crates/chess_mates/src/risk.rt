@@ -137,7 +137,7 @@ fn watched_squares(guards: &Guards, king: Square, reached: Squares, targets: Squ
 }
 
 // Those of the squares on which the king can't capture who comes there.
-#[tactic(auto, using(crate::proofs::Risks::captured_on))]
+#[tactic(auto, using(crate::proofs::Risks::bit_denied, chess_rules::proofs::Bits::off_left, chess_rules::proofs::Bits::off_right, chess_rules::proofs::listing_moves::Walks::off_second))]
 fn uncaptured_squares(field: &Field, guards: &Guards, squares: Squares) -> Squares
     ensures { (t : ℕ) → t < 64 → (bit_at squares t == 1) ≡ true
         → (bit_at result t == 1) ≡ false → ((bit_at field.now.captures t == 1) ≡ true)
@@ -355,7 +355,7 @@ fn risk_of_all(siege: &Siege, field: &Field) -> Risk
 
 // The risk of a defender whose king is on the square, with his field's lines of nightriders and springboards. Where a hopper
 // checks him, or a castling may, nothing is told.
-#[tactic(auto, using(crate::proofs::Sieges::risk_is, crate::proofs::Sieges::risk_never))]
+#[tactic(auto, using(crate::proofs::Sieges::risk_is, chess_rules::proofs::listing_moves::Targeting::every_square_on))]
 #[inline(always)]
 fn risk_with(siege: &Siege, king: Square, riders: Squares, springs: &Springs) -> Risk
     requires riders { siege.now.men.nightriders ≢ 0 → (c : Colour)
