@@ -50,7 +50,7 @@ unfolding squares
 one_on d s small = grind (arith, get_or-map-range_with_len (placed d) 0 64 s s None small (omega arith))
 
 -- the squares of men on the squares of a word are that word
-occupied_on : (d : ℕ) → d < 2 ^ 64 → d ≡ occupied_squares (men_on d)
+pub occupied_on : (d : ℕ) → d < 2 ^ 64 → d ≡ occupied_squares (men_on d)
 occupied_on d fits = square_word (λ s. is_some (man_on (men_on d) s)) d fits (λ s small. bit_small d s ∙ ap bit_of (sym (one_on d s small)))
 
 pub size_on : (d : ℕ) → length (men_on d) ≡ 64
@@ -62,13 +62,6 @@ pub reached_is : (d : ℕ) (x : Man) (s r : ℕ) → d < 2 ^ 64 → ((men : List
     → IsReached d x s r
 unfolding reached_over
 reached_is d x s r fits h = search (rules, occupied_on, word_has)
-
--- and nothing else
-pub reached_alone : (d : ℕ) (x : Man) (s r : ℕ) → d < 2 ^ 64
-    → ((men : List (Option Man)) → d ≡ occupied_squares men → r ≡ word (reaches_as men x.colour x.kind s)) → (t : ℕ) → t < 64 → (bit_at r t == 1) ≡ true
-    → reached_over d x s t ≡ true
-unfolding reached_over
-reached_alone d x s r fits h t small on = search (rules, occupied_on, word_has)
 
 -- for a loop over a word: each square found is one of it
 pub found_on : (w n k : ℕ) → find (λ s. bit_at w s == 1) (range_with_len n (64 - n)) ≡ Some k → (k < 64) × ((bit_at w k == 1) ≡ true)

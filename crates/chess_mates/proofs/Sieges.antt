@@ -43,12 +43,6 @@ pub queen_lines : (d k r b : ℕ) (c : Colour) → IsReached d (record { colour 
 unfolding reached_over reaches_as
 queen_lines d k r b c rook bishop = grind (arith, list_any-append, on_left, on_right, or_cases)
 
--- for `nightrider_lines`
-pub nightrider_lines : (d k w : ℕ) → d < 2 ^ 64 → ((men : List (Option Man)) → d ≡ occupied_squares men → w ≡ word (reaches_as men White Nightrider k))
-    → (c : Colour) → IsReached d (record { colour = c; kind = Nightrider }) k w
-unfolding reached_over reaches_as
-nightrider_lines d k w fits h c = search (rules, reached_is)
-
 -- for `springs_of`
 pub springs_are : (v : Siege) (k n s j b : ℕ) → AreAdjacent v k n → AreSpringboards v.men k s
     → ((f : ℕ) → f < 64 → (bit_at j f == 1) ≡ true → IsUnsprung v k f b) → AreSprings v k (record { near = bit_and n j; own = s; all = bit_or s b })

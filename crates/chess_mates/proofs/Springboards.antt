@@ -72,12 +72,8 @@ module _ (men : List (Option Man)) (q t o : ℕ) (inside : t < 64) (only : o ≡
           free = λ j lo hi. vacant_off (along q d j) (not_yet q t d k j (ordered x) hop.at (omega (arith, hi))) (hop.free j lo hi);
         }));
         step = has (leaps b t) (rw there (eq-eqb t t refl));
-        last = has (rides (men_on 0) b t) (ride-made (men_on 0) b t d 1 (record {
-          low = omega arith;
-          high = omega arith;
-          at = there;
-          free = λ j lo hi. absurd (omega (arith, lo, hi));
-        }));
+        last = has (rides (men_on 0) b t) (ride-made (men_on 0) b t d 1
+            (record { low = omega arith; high = omega arith; at = there; free = λ j lo hi. absurd (omega (arith, lo, hi)) }));
       }
 
   hop_board : (xs : List Direction) → list_any (hops men q t) (map step_of xs) ≡ true → IsBoard men q t o (map step_of xs)
@@ -93,59 +89,47 @@ module _ (a : Attackers) (t o l d n r b : ℕ) (inside : t < 64) (only : o ≡ w
   abbrev Boards : ℕ
   Boards = bit_and (bit_or (bit_and r l) (bit_and b d)) n
 
-  near_on : (h : ℕ) → h < 64 → list_any (leaps h t) queen_steps ≡ true → (bit_at n h == 1) ≡ true
-  near_on h small step = word_has (λ q. list_any (leaps t q) queen_steps) n h near small ∙ sym (king-back h t small inside) ∙ step
-
-  sprung_by : (men : List (Option Man)) (h : ℕ) → h < 64 → is_some (man_on men h) ≡ true → list_any (leaps h t) queen_steps ≡ true
-      → (bit_at (bit_or (bit_and r l) (bit_and b d)) h == 1) ≡ true → IsSprung men t Boards
-  unfolding reaches_as
-  sprung_by men h small stands step on = record {
-    square = h;
-    small = small;
-    on = on_both _ n h on (near_on h small step);
-    apart = λ e. false≢true (sym (no_reach_there men White King t inside) ∙ (rw e at step));
-    stands = stands;
-  }
-
-  straight : (men : List (Option Man)) (q : ℕ) → q < 64 → (bit_at a.grasshoppers q == 1) ≡ true → list_any (hops men q t) straight_steps ≡ true
-      → IsSprung men t Boards
+  -- a hop along straight lines, or along diagonals: w are the squares of these lines, and u those that the hoppers reach there
+  hopped : (men : List (Option Man)) (q : ℕ) (k : Kind) (xs : List Direction) (w u : ℕ) → q < 64 → (bit_at a.grasshoppers q == 1) ≡ true
+      → w ≡ word (is_on_some (map step_of xs) t)
+      → ((s : ℕ) → s < 64 → list_any (rides (men_on 0) s t) (map step_of xs) ≡ true → list_any (rides (men_on 0) t s) (map step_of xs) ≡ true)
+      → ((f : ℕ) → list_any (rides (men_on o) q f) (map step_of xs) ≡ true → reached_over o (record { colour = a.colour; kind = k }) q f ≡ true)
+      → ((s : ℕ) → s < 64 → (bit_at (bit_and a.grasshoppers w) s == 1) ≡ true → IsNear (record { colour = a.colour; kind = k }) s n
+      → IsReached o (record { colour = a.colour; kind = k }) s u)
+      → ((f : ℕ) → list_any (leaps f t) (map step_of xs) ≡ true → list_any (leaps f t) queen_steps ≡ true)
+      → ((f : ℕ) → (bit_at (bit_and u w) f == 1) ≡ true → (bit_at (bit_or (bit_and r l) (bit_and b d)) f == 1) ≡ true)
+      → list_any (hops men q t) (map step_of xs) ≡ true → IsSprung men t Boards
   unfolding reaches_as reached_over
-  straight men q low on h =
-      let i = hop_board men q t o inside only (East ∷ West ∷ North ∷ South ∷ []) h in
+  hopped men q k xs w u low on along back over reach one join h =
+      let i = hop_board men q t o inside only xs h in
       let f = i.square in
-      let step : list_any (leaps f t) queen_steps ≡ true = list_any-append (leaps f t) straight_steps diagonal_steps ∙ or_left _ _ i.step in
-      let lined : (s : ℕ) → s < 64 → list_any (rides (men_on 0) s t) straight_steps ≡ true → (bit_at l s == 1) ≡ true = λ s small ride.
-      word_has (is_on_some straight_steps t) l s lines small
-      ∙ rides_on (men_on 0) t s straight_steps (sym (straight-back (men_on 0) s t small inside) ∙ ride) in
-      sprung_by men f i.small i.stands step (on_left _ _ f (on_both r l f
-      ((rooks q low (on_both a.grasshoppers l q on (lined q low (any_kept (hops men q t) (rides (men_on 0) q t) straight_steps (hop_openly men q t) h)))
-      (record { square = f; small = i.small; on = near_on f i.small step; men = men_on o; reaches = i.ride })).inside f i.small i.ride)
-      (lined f i.small i.last)))
-
-  aslant : (men : List (Option Man)) (q : ℕ) → q < 64 → (bit_at a.grasshoppers q == 1) ≡ true → list_any (hops men q t) diagonal_steps ≡ true
-      → IsSprung men t Boards
-  unfolding reaches_as reached_over
-  aslant men q low on h =
-      let i = hop_board men q t o inside only (NorthEast ∷ SouthEast ∷ NorthWest ∷ SouthWest ∷ []) h in
-      let f = i.square in
-      let step : list_any (leaps f t) queen_steps ≡ true = list_any-append (leaps f t) straight_steps diagonal_steps ∙ or_right _ _ i.step in
-      let lined : (s : ℕ) → s < 64 → list_any (rides (men_on 0) s t) diagonal_steps ≡ true → (bit_at d s == 1) ≡ true = λ s small ride.
-      word_has (is_on_some diagonal_steps t) d s slants small
-      ∙ rides_on (men_on 0) t s diagonal_steps (sym (diagonal-back (men_on 0) s t small inside) ∙ ride) in
-      sprung_by men f i.small i.stands step (on_right _ _ f (on_both b d f
-      ((bishops q low (on_both a.grasshoppers d q on (lined q low (any_kept (hops men q t) (rides (men_on 0) q t) diagonal_steps (hop_openly men q t) h)))
-      (record { square = f; small = i.small; on = near_on f i.small step; men = men_on o; reaches = i.ride })).inside f i.small i.ride)
-      (lined f i.small i.last)))
+      let step = one f i.step in
+      let next = word_has (λ q. list_any (leaps t q) queen_steps) n f near i.small ∙ sym (king-back f t i.small inside) ∙ step in
+      let lined : (s : ℕ) → s < 64 → list_any (rides (men_on 0) s t) (map step_of xs) ≡ true → (bit_at w s == 1) ≡ true = λ s small ride.
+      word_has (is_on_some (map step_of xs) t) w s along small ∙ rides_on (men_on 0) t s (map step_of xs) (back s small ride) in
+      let from = on_both a.grasshoppers w q on (lined q low (any_kept (hops men q t) (rides (men_on 0) q t) (map step_of xs) (hop_openly men q t) h)) in
+      let reached = reach q low from (record { square = f; small = i.small; on = next; men = men_on o; reaches = over f i.ride }) in
+      record {
+        square = f;
+        small = i.small;
+        on = on_both _ n f (join f (on_both u w f (reached.inside f i.small (over f i.ride)) (lined f i.small i.last))) next;
+        apart = λ e. false≢true (sym (no_reach_there men White King t inside) ∙ (rw e at step));
+        stands = i.stands;
+      }
 
   pub springboards_are : AreSpringboards a t Boards
-  unfolding reaches_as
+  unfolding reaches_as reached_over
   springboards_are = record {
     sprung = λ men q z i hop reach.
         let on = grasshopper_on a q z i hop in
         let h : list_any (hops men q t) queen_steps ≡ true = rw (hopper_is z.kind hop) at reach in
         elim (or_cases _ _ (sym (list_any-append (hops men q t) straight_steps diagonal_steps) ∙ h)) [
-          | inl y ↦ straight men q i.small on y
-          | inr y ↦ aslant men q i.small on y
+          | inl y ↦ hopped men q Rook (East ∷ West ∷ North ∷ South ∷ []) l r i.small on lines
+              (λ s small ride. sym (straight-back (men_on 0) s t small inside) ∙ ride) (λ f e. e) rooks
+              (λ f e. list_any-append (leaps f t) straight_steps diagonal_steps ∙ or_left _ _ e) (λ f e. on_left _ _ f e) y
+          | inr y ↦ hopped men q Bishop (NorthEast ∷ SouthEast ∷ NorthWest ∷ SouthWest ∷ []) d b i.small on slants
+              (λ s small ride. sym (diagonal-back (men_on 0) s t small inside) ∙ ride) (λ f e. e) bishops
+              (λ f e. list_any-append (leaps f t) straight_steps diagonal_steps ∙ or_right _ _ e) (λ f e. on_right _ _ f e) y
         ];
   }
 

@@ -69,7 +69,7 @@ fn capture_squares(siege: &Siege, king: Square) -> Squares
 }
 
 // The squares of a nightrider's lines from a king on this square, if the attackers have one.
-#[tactic(auto, using(crate::proofs::Sieges::nightrider_lines))]
+#[tactic(auto, using(crate::proofs::Hurdles::reached_is), unfolding(crate::specs::ties::Siege::reached_over, chess_rules::specs::Reaches::reaches_as))]
 pub(crate) fn nightrider_lines(siege: &Siege, king: Square) -> Squares
     ensures { siege.now.men.nightriders ≢ 0 → (c : Colour)
         → IsReached siege.now.hurdles (record { colour = c; kind = Nightrider }) king result }

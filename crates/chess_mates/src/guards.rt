@@ -21,7 +21,7 @@ pub(crate) struct Guards {
 }
 
 // The squares that the man on `from` reaches over the hurdles.
-#[tactic(auto, using(crate::proofs::Hurdles::reached_alone, crate::proofs::Hurdles::reached_is))]
+#[tactic(auto, using(crate::proofs::Hurdles::occupied_on, crate::proofs::Hurdles::reached_is, chess_rules::proofs::Bits::word_has), unfolding(crate::specs::ties::Siege::reached_over))]
 pub(crate) fn reach_from(hurdles: Squares, man: Man, from: Square) -> Squares
     ensures all { IsReached hurdles man from result }
     ensures alone { (t : ℕ) → t < 64 → (bit_at result t == 1) ≡ true
