@@ -110,12 +110,7 @@ module _ (d : ℕ) (a : Attackers) (region : ℕ) where
 -- the converse: who is reached is attacked
 module _ (d : ℕ) (a : Attackers) where
   pub attacked_by : (k : Kind) (t : ℕ) → IsReachedFrom d (record { colour = a.colour; kind = k }) (squares_for a k) t → IsAttackedOver d a t
-  attacked_by k t r = record {
-    from = r.from;
-    man = record { colour = a.colour; kind = k };
-    stands = record { small = r.small; mine = refl; on = r.on };
-    reaches = r.reaches;
-  }
+  attacked_by k t r = search rules
 
 -- on a board where each hurdle that a man reaches over the hurdles still stands, he reaches no more than over them
 module _ (d : ℕ) (men : List (Option Man)) where
@@ -149,24 +144,19 @@ module _ (d : ℕ) (men : List (Option Man)) where
       → ((b : ℕ) → b < 64 → (bit_at d b == 1) ≡ true → list_any (rides (men_on d) s b) ds ≡ true → is_some (man_on men b) ≡ true)
       → list_any (rides men s t) ds ≡ true → list_any (rides (men_on d) s t) ds ≡ true
   some_over s t [] stand h = h
-  some_over s t (st ∷ ds) stand h = elim (or_cases _ _ h) [
-    | inl y ↦ or_left _ _ (rides_over st s t (λ b small on r. stand b small on (or_left _ _ r)) y)
-    | inr y ↦ or_right _ _ (some_over s t ds (λ b small on r. stand b small on (or_right _ _ r)) y)
-  ]
+  some_over s t (st ∷ ds) stand h = search (rules, or_cases, or_left, or_right, rides_over, some_over s t ds)
 
   -- a man who is no hopper
   pub later : (c : Colour) (k : Kind) (s t : ℕ) → is_hopper (gait_of k) ≡ false
       → (is_rider k ≡ true → (b : ℕ) → b < 64 → (bit_at d b == 1) ≡ true → reaches_as (men_on d) c k s b ≡ true → is_some (man_on men b) ≡ true)
       → reaches_as men c k s t ≡ true → reaches_as (men_on d) c k s t ≡ true
   unfolding reaches_as
-  later c King s t plain stand h = h
   later c Queen s t plain stand h = some_over s t queen_steps (stand refl) h
   later c Rook s t plain stand h = some_over s t straight_steps (stand refl) h
   later c Bishop s t plain stand h = some_over s t diagonal_steps (stand refl) h
   later c Nightrider s t plain stand h = some_over s t knight_steps (stand refl) h
-  later c Knight s t plain stand h = h
-  later c Pawn s t plain stand h = h
   later c Grasshopper s t plain stand h = absurd (false≢true (sym plain))
+  later c _ s t plain stand h = h
 
   -- the same where two hurdles may be gone, on none of his lines
   pub later_but : (a o : ℕ) (c : Colour) (k : Kind) (s t : ℕ) → is_hopper (gait_of k) ≡ false
@@ -183,8 +173,7 @@ module _ (men : List (Option Man)) where
   openly c k s t plain h = later 0 men c k s t plain (λ rider b small on reach. absurd (false≢true (sym (off_zero b) ∙ on))) h
 
   on_line : (o : Option ℕ) → (is_vacant_at men o || is_occupied men o) ≡ true → is_vacant_at (men_on 0) o ≡ true
-  on_line None h = absurd (false≢true h)
-  on_line (Some q) h = empty_on 0 men q (λ on small. false≢true (sym (off_zero q) ∙ on))
+  on_line o h = grind (arith, empty_on 0 men, off_zero)
 
   pub hop_openly : (s t : ℕ) (st : Step) → hops men s t st ≡ true → rides (men_on 0) s t st ≡ true
   hop_openly s t st h = search (rules, cases_lt, hop-found, on_line, or_left, or_right, ride-made)

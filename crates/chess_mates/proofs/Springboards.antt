@@ -51,8 +51,7 @@ record IsBoard (men : List (Option Man)) (q t o : ℕ) (ds : List Step) : Type 0
 module _ (men : List (Option Man)) (q t o : ℕ) (inside : t < 64) (only : o ≡ word (λ s. is_square (Some t) s)) where
   vacant_off : (b : Option ℕ) → b ≢ Some t → is_vacant_at men b ≡ true → is_vacant_at (men_on o) b ≡ true
   vacant_off None ne h = absurd (false≢true h)
-  vacant_off (Some b) ne h =
-      empty_on o men b (λ on small. ne (ap (λ (n : ℕ). Some n) (sym (eqb-true t b (sym (word_has (λ s. is_square (Some t) s) o b only small) ∙ on)))))
+  vacant_off (Some b) ne h = search (rules, empty_on o men b, eqb-true, word_has)
 
   hop_at : (x : Direction) (k : ℕ) (ds : List Step) → Hop men q t (step_of x) k → ((f : Step → Bool) → f (step_of x) ≡ true → list_any f ds ≡ true)
       → (b : Option ℕ) → along q (step_of x) (k - 1) ≡ b → is_occupied men b ≡ true → IsBoard men q t o ds
