@@ -4,7 +4,7 @@ use Rattle.chess_mates.proofs.Chess.{along, is_castling, king_after, leaps, quee
 use Rattle.chess_mates.proofs.Chess.{same_kind}
 use Rattle.std.proofs.lemmas.Nat.Bits.{bit_at_above}
 use Rattle.chess_mates.specs.declared.siege.Siege.{Siege}
-use Rattle.chess_mates.specs.ties.Siege.{IsLike, IsSiegeOf, IsBarred, IsSafeMove, IsSafeStep, IsSettledStep, IsSparedStep, AreAdjacent, KeepsFlight, KeepsFlightBeside}
+use Rattle.chess_mates.specs.ties.Siege.{IsLike, IsSiegeOf, IsSafeMove, IsSafeStep, IsSettledStep, IsSparedStep, AreAdjacent, KeepsFlight, KeepsFlightBeside}
 use Rattle.chess_mates.specs.ties.LastingFlights.{KeepsOne}
 use Rattle.chess_mates.specs.ties.Threats.{AreMere, ArePlain, AreRisky, AreThreatsOf, IsMereMove, IsPlainMove, ToldThreats}
 use Rattle.chess_rules.proofs.Bits.{off_left, off_right}
@@ -86,21 +86,15 @@ module _ (rule : RuleSet) (p : Position) (x : Man) (v : ToldThreats) (well : IsW
     king_spared : same_kind x.kind King ≡ true → IsSparedStep rule v.siege m.to → mates_behind rule (position_after rule p m) 0 ≡ []
     king_spared king spared = elim spared [ inl safe ↦ king_safe king safe | inr kept ↦ king_keeps king kept ]
 
-    -- a step to a square that an attacker reaches isn't legal
-    king_barred : same_kind x.kind King ≡ true → IsBarred rule v.siege m.to → is_legal rule p m ≡ true → ⊥
-    king_barred king barred =
-        barred_is_illegal rule p m x v.siege well may here small plain mere king (at_king king) threats.siege threats.whole threats.fits barred
-
     man_spared : same_kind x.kind King ≡ false → IsSafeMove v.siege m.from m.to → mates_behind rule (position_after rule p m) 0 ≡ []
     man_spared mortal safe =
         let l = safe.like in
-        let fits = threats.fits in
         no_mate_behind rule p m x safe.siege v.siege.king safe.risk well may here small from
-        (cond-false (same_kind x.kind King) _ _ mortal ∙ sym fits.king) (record {
+        (cond-false (same_kind x.kind King) _ _ mortal ∙ sym threats.fits.king) (record {
           plain = plain;
           mere = mere;
           siege = l.siege;
-          fits = like_fits rule p v.siege safe.siege l fits;
+          fits = like_fits rule p v.siege safe.siege l threats.fits;
           at = safe.at;
           off = safe.off;
           shut = safe.shut;
@@ -150,7 +144,8 @@ module _ (rule : RuleSet) (p : Position) (x : Man) (v : ToldThreats) (well : IsW
           let there = ap (man_on p.men) origin ∙ here in
           elim (safe m.to small (denied_on w u m.to fits_u small on off) none) [
             | inl calm ↦ king_spared m may there small (rw origin from) plain mere king calm
-            | inr barred ↦ absurd (king_barred m may there small (rw origin from) plain mere king barred legal)
+            | inr barred ↦ absurd (barred_is_illegal rule p m x v.siege well may there small plain mere king
+                (at_king m may there small (rw origin from) plain mere king) threats.siege threats.whole threats.fits barred legal)
           ])
 
       -- for another man's moves
