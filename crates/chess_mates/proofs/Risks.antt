@@ -8,7 +8,7 @@ use Rattle.chess_mates.specs.declared.field.Field.{Field}
 use Rattle.chess_mates.specs.declared.guards.Guards.{Guards}
 use Rattle.chess_mates.specs.declared.risk.Risk.{Risk}
 use Rattle.chess_mates.specs.declared.siege.Siege.{Siege}
-use Rattle.chess_mates.specs.ties.Siege.{AreArrivals, AreGuardsWithout, AreWeak, IsCheckWord, IsHarmless, IsNear, IsNoCheck, IsOff, IsReached, IsWeak, IsUnguarded}
+use Rattle.chess_mates.specs.ties.Siege.{AreArrivals, AreGuardsWithout, AreWeak, IsCheckWord, IsHarmless, IsNear, IsNoCheck, IsReached, IsWeak, IsUnguarded}
 use Rattle.chess_rules.proofs.Bits.{off_left, off_right}
 use Rattle.chess_rules.proofs.listing_moves.Targeting.{false_by, no_pawn_arrives}
 use Rattle.chess_rules.proofs.making_moves.Pseudo.{king_is_no_pawn}
@@ -74,17 +74,13 @@ pub pawn_idly : (v : Siege) (g : Field) (checks : ℕ) (x : Man) (s w : ℕ) →
     → g.springboards ≡ 0 → IsHarmless v g checks (record { critical = 0; lines = 0 }) x s
 pawn_idly v g checks x s w pawn before small off none =
     let come = rw (man_is x x.colour Pawn refl (same_kind-true x.kind Pawn pawn)) at before in
+    let idle = off_right g.lines w s off in
+    let joined = on_one (bit_or checks 18374686479671623935) g.springboards in
     record {
       mild = λ a b low inside far. record {
         each = λ t i there. inl (record {
-          check = pawn_targets x checks g.springboards t i.small (grind (
-            arith,
-            false_by,
-            on_one (bit_or checks 18374686479671623935) g.springboards t,
-            none_at,
-            off_right g.lines w s off,
-            come.approach i.position s t small i.small i.goes,
-          ));
+          check = pawn_targets x checks g.springboards t i.small
+              (grind (arith, false_by, joined t, none_at, idle, come.approach i.position s t small i.small i.goes));
           covered = inl (off_left g.lines w s off);
         });
       };
@@ -93,12 +89,6 @@ pawn_idly v g checks x s w pawn before small off none =
 -- risks together
 abbrev Both : Risk → Risk → Risk
 Both q r = record { critical = bit_or q.critical r.critical; lines = bit_or q.lines r.lines }
-
-off_one : (d : ℕ) (q r : Risk) (a b : ℕ) → IsOff d (Both q r) a b → IsOff d q a b
-off_one d q r a b off = search (rules, off_left)
-
-off_other : (d : ℕ) (q r : Risk) (a b : ℕ) → IsOff d (Both q r) a b → IsOff d r a b
-off_other d q r a b off = search (rules, off_right)
 
 -- a man who doesn't reach the region on the empty board
 pub not_near : (x : Man) (s o region : ℕ) → Flights.AreReached x s o → bit_and o region ≡ 0 → IsNear x s region → ⊥
@@ -142,10 +132,10 @@ module _ (v : Siege) (g : Field) where
 
   -- risks that are joined
   pub weak_left : (q r : Risk) (s : ℕ) (x : Man) → IsWeak v g q x s → IsWeak v g (Both q r) x s
-  weak_left q r s x h = search (rules, off_one)
+  weak_left q r s x h = search (rules, off_left)
 
   weak_right : (q r : Risk) (s : ℕ) (x : Man) → IsWeak v g r x s → IsWeak v g (Both q r) x s
-  weak_right q r s x h = search (rules, off_other)
+  weak_right q r s x h = search (rules, off_right)
 
   -- for `risk_of_all`
   pub all_weak : (K Q R B N P G Y : Risk) → WeakAs King K → WeakAs Queen Q → WeakAs Rook R → WeakAs Bishop B → WeakAs Knight N → WeakAs Pawn P

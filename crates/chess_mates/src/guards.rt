@@ -44,6 +44,7 @@ fn reach_towards(hurdles: Squares, man: Man, from: Square, region: Squares) -> S
 }
 
 // Those that such men on the squares of a word reach.
+#[tactic(auto, using(crate::proofs::HoldBelow::hold_none, chess_rules::proofs::listing_moves::Walks::off_zero))]
 fn reach_together(hurdles: Squares, man: Man, squares: Squares, region: Squares) -> Squares
     ensures all { (s : ℕ) → s < 64 → (bit_at squares s == 1) ≡ true
         → IsNear man s region → IsReached hurdles man s result }

@@ -1,11 +1,7 @@
-use Rattle.chess_rules.proofs.Basics.{inl, inr, rules, sym, ◌∙◌}
-use Rattle.chess_mates.proofs.HoldBelow.{hold_all, hold_map, hold_next, hold_none}
+use Rattle.chess_rules.proofs.Basics.{inl, inr, sym, ◌∙◌}
+use Rattle.chess_mates.proofs.HoldBelow.{hold_all, hold_map, hold_next}
 use Rattle.chess_mates.proofs.Hurdles.{found_on, on_one, reached_left, reached_right}
-use Rattle.chess_rules.proofs.listing_moves.Walks.{off_zero}
 use Rattle.chess_mates.proofs.guards.reach_together.Goals as goal
-
-pub loop-from-init : goal.loop-from-init
-loop-from-init c = (hold_none _ _, search (rules, off_zero))
 
 pub loop-from-preserved : goal.loop-from-preserved
 loop-from-preserved c =
