@@ -30,7 +30,7 @@ none_at w s empty on = false≢true (sym (off_zero s) ∙ ap (λ (n : ℕ). bit_
 pub none_on : (w s : ℕ) → (w == 0) ≡ true → (bit_at w s == 1) ≡ true → ⊥
 none_on w s empty on = none_at w s (eqb-true w 0 empty) on
 
--- a square that isn't one of a word, or one of the first of two words alone
+-- a square that isn't one of a word
 pub bit_denied : (b i : ℕ) → b < 2 ^ 64 → i < 64 → (bit_at b i == 1) ≡ false → (bit_at (bit_not w64 b) i == 1) ≡ true
 bit_denied b i fits small off = grind (arith, bit_at_not w64 b i fits small, bit_at-lt b i, eq-eqb, false≢true)
 

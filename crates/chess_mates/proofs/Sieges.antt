@@ -192,7 +192,7 @@ shut_in p c v w a b more h = search (rules, more)
 -- for `castling_squares`: without a king
 pub no_king_castles : (p : Position) (c : Colour) (w : ℕ) → king_square p.men c ≡ None → AreCastlingSquares p c w
 unfolding king_square squares
-no_king_castles p c w none = record { sides = λ s small is. search (rules, find_no (λ q. is_man (man_on p.men q) c King) 0 64 s none (omega arith) (omega arith)) }
+no_king_castles p c w none = record { sides = λ s lo is. search (rules, find_no (λ q. is_man (man_on p.men q) c King) 0 64 s none (omega arith) (omega arith)) }
 
 king_castles : (p : Position) (c : Colour) (w k : ℕ) → IsWellFormed p → king_square p.men c ≡ Some k
     → (has_unmoved p.unmoved k ≡ false) ⊎ (IsShut p c w (k + 3) (k + 1) × IsShut p c w (k - 4) (k - 1)) → AreCastlingSquares p c w

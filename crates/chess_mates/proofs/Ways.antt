@@ -59,8 +59,8 @@ module _ (rule : RuleSet) (p : Position) (x : Man) (v : ToldThreats) (well : IsW
       (plain : IsPlainMove p x m) (mere : captures_do_more rule ≡ true → IsMereMove p x m) where
     at_king : same_kind x.kind King ≡ true → v.siege.king ≡ m.from
     at_king king =
-        let stands : is_man (man_on p.men m.from) p.turn King ≡ true = rw (here, (made rule p m x may here).mine) (and_from _ _ (same_colour-refl p.turn) king) in
-        some_is v.siege.king m.from (threats.fits.king ∙ king_is p.men p.turn m.from well.kings from stands)
+        let is : is_man (man_on p.men m.from) p.turn King ≡ true = rw (here, (made rule p m x may here).mine) (and_from _ _ (same_colour-refl p.turn) king) in
+        some_is v.siege.king m.from (threats.fits.king ∙ king_is p.men p.turn m.from well.kings from is)
 
     king_safe : same_kind x.kind King ≡ true → IsSafeStep v.siege m.to → mates_behind rule (position_after rule p m) 0 ≡ []
     king_safe king safe =

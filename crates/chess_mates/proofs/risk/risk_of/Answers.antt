@@ -11,6 +11,6 @@ returns c = λ s small on.
     (elim (cases_Bool (bit_at c.suspect_squares.result s == 1)) [
       | inl suspect ↦ c.risk_together.ensures s small (on_both c.args.squares c.suspect_squares.result s on suspect)
       | inr idle ↦ record {
-        mild = λ a b low inside off. (c.suspect_squares.ensures v s small idle).mild a b low inside (record { lines = λ on. off_zero a; critical = off_zero b });
+        mild = λ a b lo hi off. (c.suspect_squares.ensures v s small idle).mild a b lo hi (record { lines = λ on. off_zero a; critical = off_zero b });
       }
     ])
