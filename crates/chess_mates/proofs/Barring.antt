@@ -1,5 +1,5 @@
 -- A king's step to an empty square that an attacker reaches over the hurdles is illegal.
-use Rattle.chess_rules.proofs.Basics.{cases_lt, or_lt, ◌&&◌, Bool, List, None, Option, Some, and_from, and_left, ap, arith, bit_and, bit_at, bit_not, bit_or, cases_Bool, cases_eq, cond-true, false, false≢true, inl, inr, is_some, length, not, refl, sym, true, w64, ℕ, ◌<◌, ◌==◌, ◌^◌, ◌∙◌, ◌≡◌, ◌≢◌}
+use Rattle.chess_rules.proofs.Basics.{cases_lt, or_lt, List, None, Option, Some, and_from, and_left, ap, arith, bit_and, bit_at, bit_not, bit_or, cases_eq, cond-true, false, false≢true, inl, inr, is_some, length, not, refl, rules, sym, true, w64, ℕ, ◌<◌, ◌==◌, ◌^◌, ◌∙◌, ◌≡◌, ◌≢◌}
 use Rattle.chess_mates.proofs.Chess.{Colour, IsWellFormed, King, Man, Move, Position, RuleSet, captures_do_more, in_check, is_attacked, is_attacked_at, is_attacker, is_legal, is_of_colour, is_paralysed, is_pseudo_legal, king_square, man_on, other, position_after, reaches, reaches_as, same_colour, same_kind, side_of, some_square_true}
 use Rattle.chess_mates.specs.declared.siege.Siege.{Siege}
 use Rattle.chess_mates.specs.ties.Siege.{IsAttackedOver, IsBarred, IsSiege, IsSiegeOf, IsWhole, men_on}
@@ -10,6 +10,7 @@ use Rattle.chess_core.proofs.Kept.{same_colour-refl}
 use Rattle.chess_rules.proofs.Bits.{off_left, off_right, word_has}
 use Rattle.chess_rules.proofs.attacks.Exposing.{king_is_after}
 use Rattle.chess_rules.proofs.attacks.Shielding.{simple_after}
+use Rattle.chess_rules.proofs.Tests.{same_Bool}
 use Rattle.chess_rules.proofs.listing_moves.Targeting.{false_by}
 use Rattle.chess_rules.proofs.listing_moves.Walks.{off_second}
 use Rattle.chess_rules.proofs.making_moves.Fits.{arrived}
@@ -31,17 +32,14 @@ barred_is rule v w r l t able fits_r fits_l ridden leapt small on off =
     record {
       able = able;
       free = off_left v.hurdles (bit_not w64 (bit_or r l)) t none;
-      attacked = elim (on_one r l t (on_denied (bit_or r l) t (or_lt 64 r l fits_r fits_l) small (off_right v.hurdles (bit_not w64 (bit_or r l)) t none))) [
-        | inl y ↦ ridden t small y
-        | inr y ↦ leapt t small y
-      ];
+      attacked = search (
+        rules,
+        ridden,
+        leapt,
+        on_one r l t
+            (on_denied (bit_or r l) t (or_lt 64 r l fits_r fits_l) small (off_right v.hurdles (bit_not w64 (bit_or r l)) t none)),
+      );
     }
-
-same_test : (a b : Bool) → (a ≡ true → b ≡ true) → (b ≡ true → a ≡ true) → a ≡ b
-same_test a b f g = grind (arith, cases_Bool a, cases_Bool b)
-
-not_both : (a b : Bool) → (a && not b) ≡ true → b ≡ true → ⊥
-not_both a b h e = grind arith
 
 able_strikes : (s : ℕ) (men : List (Option Man)) (t : ℕ) (z : Man) → man_on men s ≡ Some z → reaches_as men z.colour z.kind s t ≡ true → reaches men s t ≡ true
 unfolding reaches
@@ -73,21 +71,12 @@ module _ (rule : RuleSet) (p : Position) (m : Move) (x : Man) (v : Siege) (well 
   -- the hurdles are all men but the king
   hurdle_is : (e : ℕ) → e < 64 → e ≢ m.from → is_some (man_on p.men e) ≡ (bit_at v.hurdles e == 1)
   unfolding side_of
-  hurdle_is e low off = same_test _ _
-      (λ some. whole.hurdles e low (elim (some_of (man_on p.men e) p.turn some) [
-        | inl mine ↦ inl (word_has (λ s. is_of_colour (man_on p.men s) p.turn) v.own e fits.own low ∙ mine)
-        | inr enemy ↦ inr (word_has (λ s. is_of_colour (man_on p.men s) (other p.turn)) v.enemies e fits.enemies low ∙ enemy)
-      ]) (λ same. off (sym same ∙ at_king)))
-      (λ on. elim (siege.hurdles.men e low on).0 [
-        | inl mine ↦ some_side _ p.turn (sym (word_has (λ s. is_of_colour (man_on p.men s) p.turn) v.own e fits.own low) ∙ mine)
-        | inr enemy ↦ some_side _ (other p.turn) (sym (word_has (λ s. is_of_colour (man_on p.men s) (other p.turn)) v.enemies e fits.enemies low) ∙ enemy)
-      ])
+  hurdle_is e low off = same_Bool _ _
+      (λ some. whole.hurdles e low (search (rules, some_of (man_on p.men e) p.turn some, word_has, fits.own, fits.enemies)) (λ same. off (sym same ∙ at_king)))
+      (λ on. search (rules, (siege.hurdles.men e low on).0, some_side, word_has, fits.own, fits.enemies))
 
   beyond : (men : List (Option Man)) (e : ℕ) → length men ≡ 64 → (e < 64 → ⊥) → is_some (man_on men e) ≡ false
-  beyond men e size high = by (man_on men e) refl where
-    by : (o : Option Man) → man_on men e ≡ o → is_some o ≡ false
-    by None h = refl
-    by (Some z) h = absurd (high (on_board men e z size h))
+  beyond men e size high = search (rules, on_board)
 
   left : is_some (man_on q.men m.from) ≡ false
   left = by (man_on q.men m.from) refl where
@@ -120,14 +109,13 @@ module _ (rule : RuleSet) (p : Position) (m : Move) (x : Man) (v : Siege) (well 
   stood_a : man_on p.men a.from ≡ Some a.man
   stood_a = fits.men.alone a.from a.man a.stands
 
-  enemy_a : a.man.colour ≡ other p.turn
-  enemy_a = a.stands.mine ∙ fits.colour
+  enemy_a : is_of_colour (Some a.man) (other p.turn) ≡ true
+  enemy_a = rw (a.stands.mine, fits.colour) (same_colour-refl (other p.turn))
 
   -- he doesn't stand where the king does or arrives
   not_from : a.from ≢ m.from
   not_from e = false≢true (sym (not_mine_enemy x p.turn is.mine)
-      ∙ ap (λ (o : Option Man). is_of_colour o (other p.turn)) (sym here ∙ ap (man_on p.men) (sym e) ∙ stood_a)
-      ∙ ap (λ (c : Colour). same_colour c (other p.turn)) enemy_a ∙ same_colour-refl (other p.turn))
+      ∙ ap (λ (o : Option Man). is_of_colour o (other p.turn)) (sym here ∙ ap (man_on p.men) (sym e) ∙ stood_a) ∙ enemy_a)
 
   not_to : a.from ≢ m.to
   not_to e = false≢true (sym barred.free ∙ rw (← e) (sym (hurdle_is a.from a.stands.small not_from) ∙ ap (λ (o : Option Man). is_some o) stood_a))
@@ -137,8 +125,7 @@ module _ (rule : RuleSet) (p : Position) (m : Move) (x : Man) (v : Siege) (well 
 
   strikes : is_attacker rule q.men m.to (other p.turn) a.from ≡ true
   unfolding is_attacker is_paralysed reached_over
-  strikes = and_from _ _ (and_from _ _ (ap (λ (o : Option Man). is_of_colour o (other p.turn)) there
-      ∙ ap (λ (c : Colour). same_colour c (other p.turn)) enemy_a ∙ same_colour-refl (other p.turn))
+  strikes = and_from _ _ (and_from _ _ (ap (λ (o : Option Man). is_of_colour o (other p.turn)) there ∙ enemy_a)
       (ap not (and_left (faced_men_stand_still rule) _ barred.able)))
       (able_strikes a.from q.men m.to a.man there (sym (reaches_alike (men_on v.hurdles) q.men a.man.colour a.man.kind a.from m.to alike) ∙ a.reaches))
 
@@ -149,4 +136,4 @@ module _ (rule : RuleSet) (p : Position) (m : Move) (x : Man) (v : Siege) (well 
 
   pub barred_is_illegal : is_legal rule p m ≡ true → ⊥
   unfolding is_legal
-  barred_is_illegal legal = not_both (is_pseudo_legal rule p m) (in_check rule q.men p.turn) legal checked
+  barred_is_illegal legal = grind (arith, checked, legal)

@@ -7,7 +7,8 @@ use Rattle.chess_mates.proofs.Approaches.{far_is_vacant, goes_over_next, no_far_
 use Rattle.chess_mates.proofs.KindByKind.{man_is}
 use Rattle.chess_mates.proofs.LastingFlights.{on_both}
 use Rattle.chess_mates.proofs.CheckTargets.{last_rank_on}
-use Rattle.chess_mates.proofs.Risks.{bit_denied, no_pawn_arrives, none_at}
+use Rattle.chess_mates.proofs.Risks.{bit_denied, none_at}
+use Rattle.chess_rules.proofs.listing_moves.Targeting.{no_pawn_arrives}
 use Rattle.chess_mates.proofs.Standing.{captured_there}
 
 -- a square that isn't one of the others is one of the word
