@@ -1,6 +1,6 @@
 -- The squares from which a move may give check, by kinds.
-use Rattle.chess_rules.proofs.Basics.{List, None, Option, Some, ap, arith, bit_at, bit_not, bit_or, cases_Bool, false, false≢true, inl, list_any-append, or_left, or_parts, rules, true, w64, ℕ, ◌&&◌, ◌<◌, ◌==◌, ◌||◌, ◌∙◌, ◌≡◌}
-use Rattle.chess_mates.proofs.Chess.{AreCheckSquares, AreRides, Bishop, CheckSquares, Colour, IsWellFormed, Kind, King, Man, Move, Position, Queen, Rook, RuleSet, arriving_colour, arriving_man, cannot_expose, cannot_expose_parts, check_squares_for, diagonal-back, diagonal_steps, enemy, every_square, in_check, is_absent, is_fairy, is_pseudo_legal, king_square, king_there, made, man_on, may_check_from, may_check_from_at, not_zero, on_board, other, other_twice, plain_safe, position_after, reaches_as, same_kind, squares_either, squares_of, squares_same, straight-back, straight_steps, word, word_empty, word_has}
+use Rattle.chess_rules.proofs.Basics.{List, None, Option, Some, arith, bit_at, bit_not, bit_or, cases_Bool, false, false≢true, inl, list_any-append, or_left, or_parts, rules, true, w64, ℕ, ◌<◌, ◌==◌, ◌||◌, ◌∙◌, ◌≡◌}
+use Rattle.chess_mates.proofs.Chess.{AreCheckSquares, AreRides, Bishop, CheckSquares, Colour, IsWellFormed, Kind, King, Man, Move, Position, Queen, Rook, RuleSet, arriving_colour, arriving_man, cannot_expose, cannot_expose_parts, check_squares_for, diagonal-back, diagonal_steps, enemy, every_square, in_check, is_absent, is_fairy, is_pseudo_legal, king_square, king_there, made, man_on, may_check_from, may_check_from_at, not_zero, on_board, other, other_twice, plain_safe, position_after, reaches_as, same_kind, squares_either, squares_of, squares_same, straight-back, straight_steps, word, word_has}
 
 -- a move that can't expose the enemy's king, and whose man doesn't strike him where he arrives, gives no check
 gives_no_check : (rule : RuleSet) (p : Position) (x : Man) (m : Move) → IsWellFormed p → is_pseudo_legal rule p m ≡ true → m.to < 64
@@ -12,12 +12,7 @@ gives_no_check rule p x m well may small here unpromoted h off =
     let parts = cannot_expose_parts rule p x (other p.turn) m here h in
     plain_safe rule p x m (other p.turn) well (made rule p m x may here) small parts.plain parts.origin parts.aside (grind (arith, or_parts, on_board))
 
--- for `check_squares_of`: without a king nobody checks
-pub check_squares_of_none : (men : List (Option Man)) (c : Colour) (j : Kind) → king_square men c ≡ None → 0 ≡ word (may_check_from men c (enemy c j))
-unfolding may_check_from
-check_squares_of_none men c j h = word_empty (may_check_from men c (enemy c j)) (λ s b. ap (λ (o : Option ℕ). may_check_from_at men o (enemy c j) s) h)
-
--- a fairy man of whom none stands there may check from everywhere
+-- for `check_squares_of`: a fairy man of whom none stands there may check from everywhere
 pub check_squares_of_all : (men : List (Option Man)) (c : Colour) (j : Kind) (k : ℕ) → king_square men c ≡ Some k → is_absent men (enemy c j) ≡ true
     → bit_not w64 0 ≡ word (may_check_from men c (enemy c j))
 unfolding may_check_from
@@ -42,10 +37,10 @@ unfolding may_check_from reaches_as
 bishop_squares men c k w at h = inl (h ∙ squares_same _ _ (λ t small. rw at (diagonal-back men t k small (king_there men c k at).0)))
 
 -- whether no such fairy man stands on the board, told by the word of his kind
-pub absent_is : (men : List (Option Man)) (c : Colour) (j : Kind) (w : ℕ) → w ≡ squares_of men c j
-    → (is_fairy j && (w == 0)) ≡ is_absent men (record { colour = c; kind = j })
+pub absent_is : (men : List (Option Man)) (c : Colour) (j : Kind) (w : ℕ) → is_fairy j ≡ true → w ≡ squares_of men c j
+    → (w == 0) ≡ is_absent men (record { colour = c; kind = j })
 unfolding squares_of
-absent_is men c j w h = grind (arith, not_zero)
+absent_is men c j w fairy h = grind (arith, not_zero)
 
 -- a queen's squares are a rook's and a bishop's
 queen_on : (men : List (Option Man)) (c : Colour) (o : Option ℕ) (s : ℕ)

@@ -1,8 +1,8 @@
 -- Men who couldn't come to a check square give no check.
-use Rattle.chess_rules.proofs.Basics.{Some, arith, bit_and, bit_at, bit_at-lt, bit_at_and, bit_not, bit_or, cases_Bool, eq-eqb, eqb-true, false, refl, rules, true, w64, ℕ, ◌<◌, ◌==◌, ◌^◌, ◌≡◌}
-use Rattle.chess_mates.proofs.Chess.{AreApproaches, AreCheckOrigins, AreCheckTargets, Colour, Kind, Man, Move, Position, RuleSet, arrival_needed, false_by, is_pseudo_legal, is_pseudo_legal-from_legal, is_square, man_on, may_go, may_go_aimed, off_zero, on_first, own_moves, same_colour-true, same_kind-true, side_of, squares_of, word, word_has}
+use Rattle.chess_rules.proofs.Basics.{List, None, Option, Some, arith, bit_and, bit_at, bit_at-lt, bit_at_and, bit_not, bit_or, cases_Bool, eq-eqb, eqb-true, false, find, range_with_len, refl, rules, true, w64, ℕ, ◌<◌, ◌==◌, ◌^◌, ◌≡◌, ◌-◌}
+use Rattle.chess_mates.proofs.Chess.{AreApproaches, AreCheckOrigins, AreCheckTargets, Colour, Kind, King, Man, Move, Position, RuleSet, arrival_needed, false_by, is_pseudo_legal, is_pseudo_legal-from_legal, is_square, man_on, may_go, may_go_aimed, off_zero, on_first, own_man, own_moves, same_kind, same_colour-true, same_kind-true, side_of, squares_of, word, word_has}
 use Rattle.std.proofs.lemmas.Nat.Bits.{bit_at_not}
-use Rattle.chess_mates.proofs.Hurdles.{on_either, unset}
+use Rattle.chess_mates.proofs.Hurdles.{found_on, on_either, unset}
 use Rattle.chess_mates.proofs.CheckTargets.{check_targets_there}
 
 -- for men who are told by the word of their kind
@@ -44,13 +44,36 @@ far_unreached rule p x s w here are off = record {
       let may = is_pseudo_legal-from_legal rule p m lawful in grind (arith, arrival_needed rule p m small may, may, may_go_aimed);
 }
 
--- men off the squares from which they could come to a target
-pub far_apart : (rule : RuleSet) (p : Position) (x : Man) (m w n : ℕ) → n < 2 ^ 64
-    → ((s : ℕ) → s < 64 → (bit_at m s == 1) ≡ true → man_on p.men s ≡ Some x)
-    → ((s : ℕ) → s < 64 → (bit_at m s == 1) ≡ true → AreCheckTargets rule p s w) → AreApproaches x w n
-    → (s : ℕ) → s < 64 → (bit_at (bit_and m (bit_not w64 n)) s == 1) ≡ true → AreCheckTargets rule p s 0
-far_apart rule p x m w n fits stands are come s small on =
-    grind (arith, far_unreached rule p x s w, stands s small, are s small, on_first m, off_denied m n s fits small on, come.approach p s, false_by)
+-- words of men who are far, joined
+pub far_five : (rule : RuleSet) (p : Position) (a b c d e : ℕ) → AreFar rule p a → AreFar rule p b → AreFar rule p c → AreFar rule p d → AreFar rule p e
+    → AreFar rule p (bit_or (bit_or (bit_or (bit_or a b) c) d) e)
+far_five rule p a b c d e u v w x y = grind (arith, far_either)
+
+-- targets of the men of this kind who are on no square of the word h; of a king on his own square
+abbrev pub AreTargetsOff : RuleSet → Position → Kind → Option ℕ → ℕ → ℕ → Type 0
+AreTargetsOff rule p j king h w = (s : ℕ) (x : Man) → s < 64 → man_on p.men s ≡ Some x → x.kind ≡ j → (same_kind j King ≡ true → king ≡ Some s)
+    → (bit_at h s == 1) ≡ false → AreCheckTargets rule p s w
+
+-- men m of the mover, of this kind, on no square of the word h
+module _ (rule : RuleSet) (p : Position) (j : Kind) (m h w : ℕ)
+    (stands : (s : ℕ) → s < 64 → (bit_at m s == 1) ≡ true → man_on p.men s ≡ Some (own_man p j))
+    (off : (s : ℕ) → s < 64 → (bit_at m s == 1) ≡ true → (bit_at h s == 1) ≡ false) where
+  -- those off the squares from which they could come to a target
+  pub far_apart : (n : ℕ) (c : Colour) → n < 2 ^ 64 → same_kind j King ≡ false → AreTargetsOff rule p j None h w → c ≡ p.turn
+      → AreApproaches (record { colour = c; kind = j }) w n
+      → (s : ℕ) → s < 64 → (bit_at (bit_and m (bit_not w64 n)) s == 1) ≡ true → AreCheckTargets rule p s 0
+  far_apart n c fits mortal targets turn come s small on =
+      grind (arith, far_unreached rule p (own_man p j) s w, stands s small, off s small, targets s (own_man p j) small, on_first m, off_denied m n s fits small on, come.approach p s, false_by)
+
+  -- the first of them has these targets
+  pub found_targets : (n s : ℕ) (o king : Option ℕ) → o ≡ find (λ s. bit_at m s == 1) (range_with_len n (64 - n)) → o ≡ Some s
+      → (same_kind j King ≡ true → king ≡ Some s) → AreTargetsOff rule p j king h w → AreCheckTargets rule p s w
+  found_targets n s o king found is same targets = grind (arith, found_on m n s, stands s, off s, targets s (own_man p j))
+
+-- the first of them stands there
+pub found_here : (men : List (Option Man)) (y x : Man) (m n s : ℕ) (o : Option ℕ) → ((s : ℕ) → s < 64 → (bit_at m s == 1) ≡ true → man_on men s ≡ Some y)
+    → o ≡ find (λ s. bit_at m s == 1) (range_with_len n (64 - n)) → o ≡ Some s → y ≡ x → man_on men s ≡ Some x
+found_here men y x m n s o stands found is e = grind (arith, found_on m n s, stands s)
 
 -- off the first word, or on the second
 off_without : (o f i : ℕ) → f < 2 ^ 64 → i < 64 → (bit_at (bit_and o (bit_not w64 f)) i == 1) ≡ false → (bit_at o i == 1) ≡ true → (bit_at f i == 1) ≡ true
