@@ -78,8 +78,7 @@ module _ (rule : RuleSet) (p : Position) (x : Man) (s : CheckSquares) (f : ℕ) 
     no_check_elsewhere = elim (cases_Bool (is_castling x m)) [
       | inl y ↦ castled y
       | inr n ↦
-          no_check_by_rebirth rule p x m s x a m.to well may is.here checks (rw unpromoted refl) checked_from refl small (off_left a b m.to off-ab) apart
-          unpromoted (covering n)
+          no_check_by_rebirth rule p x m s a well may is.here checks checked_from small (off_left a b m.to off-ab) apart unpromoted (covering n)
     ]
 
   -- for a man who may check, uncover a check, castle, capture en passant or be followed by a rebirth: each by its own word

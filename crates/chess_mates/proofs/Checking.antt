@@ -1,16 +1,6 @@
 -- The squares from which a move may give check, by kinds.
 use Rattle.chess_rules.proofs.Basics.{List, None, Option, Some, arith, bit_at, bit_not, bit_or, cases_Bool, false, false≢true, inl, list_any-append, or_left, or_parts, rules, true, w64, ℕ, ◌<◌, ◌==◌, ◌||◌, ◌∙◌, ◌≡◌}
-use Rattle.chess_mates.proofs.Chess.{AreCheckSquares, AreRides, Bishop, CheckSquares, Colour, IsWellFormed, Kind, King, Man, Move, Position, Queen, Rook, RuleSet, arriving_colour, arriving_man, cannot_expose, cannot_expose_parts, check_squares_for, diagonal-back, diagonal_steps, enemy, every_square, in_check, is_absent, is_fairy, is_pseudo_legal, king_square, king_there, made, man_on, may_check_from, may_check_from_at, not_zero, on_board, other, other_twice, plain_safe, position_after, reaches_as, same_kind, squares_either, squares_of, squares_same, straight-back, straight_steps, word, word_has}
-
--- a move that can't expose the enemy's king, and whose man doesn't strike him where he arrives, gives no check
-gives_no_check : (rule : RuleSet) (p : Position) (x : Man) (m : Move) → IsWellFormed p → is_pseudo_legal rule p m ≡ true → m.to < 64
-    → man_on p.men m.from ≡ Some x
-    → m.promo ≡ None → cannot_expose rule p (other p.turn) m ≡ true → may_check_from p.men (other p.turn) (arriving_man x m.promo) m.to ≡ false
-    → in_check rule (position_after rule p m).men (other p.turn) ≡ false
-unfolding may_check_from
-gives_no_check rule p x m well may small here unpromoted h off =
-    let parts = cannot_expose_parts rule p x (other p.turn) m here h in
-    plain_safe rule p x m (other p.turn) well (made rule p m x may here) small parts.plain parts.origin parts.aside (grind (arith, or_parts, on_board))
+use Rattle.chess_mates.proofs.Chess.{AreCheckSquares, AreRides, Bishop, CheckSquares, Colour, IsWellFormed, Kind, King, Man, Move, Position, Queen, Rook, RuleSet, cannot_expose, cannot_expose_parts, check_squares_for, diagonal-back, diagonal_steps, enemy, every_square, in_check, is_absent, is_fairy, is_pseudo_legal, king_square, king_there, made, man_on, may_check_from, may_check_from_at, not_zero, on_board, other, other_twice, plain_safe, position_after, reaches_as, same_kind, squares_either, squares_of, squares_same, straight-back, straight_steps, word, word_has}
 
 -- for `check_squares_of`: a fairy man of whom none stands there may check from everywhere
 pub check_squares_of_all : (men : List (Option Man)) (c : Colour) (j : Kind) (k : ℕ) → king_square men c ≡ Some k → is_absent men (enemy c j) ≡ true
@@ -66,9 +56,13 @@ off_check_squares men e s y w t a colour h small off apart =
     grind (arith, cases_Bool (same_kind y.kind King), squares_by_kind men (other e) s y.kind a, other_twice e, word_has (may_check_from men (other e) y) w t)
 
 -- for moves that may uncover nothing, to a square off the words of check squares
-pub no_check : (rule : RuleSet) (p : Position) (x : Man) (m : Move) (s : CheckSquares) (y : Man) (w t : ℕ) → IsWellFormed p → is_pseudo_legal rule p m ≡ true
-    → man_on p.men m.from ≡ Some x → AreCheckSquares p.men (other p.turn) s → y ≡ arriving_man x m.promo → w ≡ check_squares_for s y.kind → t ≡ m.to → t < 64
-    → (bit_at w t == 1) ≡ false → (same_kind y.kind King ≡ true → may_check_from p.men (other p.turn) y t ≡ false) → m.promo ≡ None
-    → cannot_expose rule p (other p.turn) m ≡ true → in_check rule (position_after rule p m).men (other p.turn) ≡ false
-no_check rule p x m s y w t well may here a is h same small off apart unpromoted cover =
-    grind (arith, off_check_squares, gives_no_check, arriving_colour x m.promo, made rule p m x may here)
+pub no_check : (rule : RuleSet) (p : Position) (x : Man) (m : Move) (s : CheckSquares) (w : ℕ) → IsWellFormed p → is_pseudo_legal rule p m ≡ true
+    → man_on p.men m.from ≡ Some x → AreCheckSquares p.men (other p.turn) s → w ≡ check_squares_for s x.kind → m.to < 64 → (bit_at w m.to == 1) ≡ false
+    → (same_kind x.kind King ≡ true → may_check_from p.men (other p.turn) x m.to ≡ false) → m.promo ≡ None → cannot_expose rule p (other p.turn) m ≡ true
+    → in_check rule (position_after rule p m).men (other p.turn) ≡ false
+unfolding may_check_from
+no_check rule p x m s w well may here a h small off apart unpromoted cover =
+    let parts = cannot_expose_parts rule p x (other p.turn) m here cover in
+    let is = made rule p m x may here in
+    let calm = off_check_squares p.men p.turn s x w m.to a is.mine h small off apart in
+    plain_safe rule p x m (other p.turn) well is small parts.plain parts.origin parts.aside (grind (arith, calm, or_parts, on_board))

@@ -1,8 +1,8 @@
 -- Men who couldn't come to a check square give no check.
-use Rattle.chess_rules.proofs.Basics.{List, None, Option, Some, arith, bit_and, bit_at, bit_at-lt, bit_at_and, bit_not, bit_or, cases_Bool, eq-eqb, eqb-true, false, find, range_with_len, refl, rules, true, w64, ℕ, ◌<◌, ◌==◌, ◌^◌, ◌≡◌, ◌-◌}
-use Rattle.chess_mates.proofs.Chess.{AreApproaches, AreCheckOrigins, AreCheckTargets, Colour, Kind, King, Man, Move, Position, RuleSet, arrival_needed, false_by, is_pseudo_legal, is_pseudo_legal-from_legal, is_square, man_on, may_go, may_go_aimed, off_zero, on_first, own_man, own_moves, same_kind, same_colour-true, same_kind-true, side_of, squares_of, word, word_has}
+use Rattle.chess_rules.proofs.Basics.{List, None, Option, Some, arith, bit_and, bit_at, bit_at-lt, bit_at_and, bit_not, bit_or, cases_Bool, eq-eqb, eqb-true, false, false≢true, find, range_with_len, refl, rules, sym, true, w64, ℕ, ◌<◌, ◌==◌, ◌^◌, ◌≡◌, ◌-◌, ◌∙◌}
+use Rattle.chess_mates.proofs.Chess.{AreApproaches, AreCheckOrigins, AreCheckTargets, Colour, Kind, King, Man, Move, Position, RuleSet, arrival_needed, false_by, is_legal, is_pseudo_legal-from_legal, is_square, man_on, may_go, may_go_aimed, off_second, off_zero, on_first, own_man, own_moves, same_kind, same_colour-true, same_kind-true, side_of, squares_of, word, word_has}
 use Rattle.std.proofs.lemmas.Nat.Bits.{bit_at_not}
-use Rattle.chess_mates.proofs.Hurdles.{found_on, on_either, unset}
+use Rattle.chess_mates.proofs.Hurdles.{found_on, on_either}
 use Rattle.chess_mates.proofs.CheckTargets.{check_targets_there}
 
 -- for men who are told by the word of their kind
@@ -17,7 +17,7 @@ pub record AreFar (rule : RuleSet) (p : Position) (w : ℕ) : Type 0 where
 
 -- to begin with: no man is far
 pub far_none : (rule : RuleSet) (p : Position) → AreFar rule p 0
-far_none rule p = record { far = λ s small on. absurd (let never = off_zero s in cc) }
+far_none rule p = grind (arith, off_zero)
 
 -- a square of the first of two words, and not of the second
 pub off_denied : (a b i : ℕ) → b < 2 ^ 64 → i < 64 → (bit_at (bit_and a (bit_not w64 b)) i == 1) ≡ true → (bit_at b i == 1) ≡ false
@@ -63,7 +63,17 @@ module _ (rule : RuleSet) (p : Position) (j : Kind) (m h w : ℕ)
       → AreApproaches (record { colour = c; kind = j }) w n
       → (s : ℕ) → s < 64 → (bit_at (bit_and m (bit_not w64 n)) s == 1) ≡ true → AreCheckTargets rule p s 0
   far_apart n c fits mortal targets turn come s small on =
-      grind (arith, far_unreached rule p (own_man p j) s w, stands s small, off s small, targets s (own_man p j) small, on_first m, off_denied m n s fits small on, come.approach p s, false_by)
+      grind (
+        arith,
+        far_unreached rule p (own_man p j) s w,
+        stands s small,
+        off s small,
+        targets s (own_man p j) small,
+        on_first m,
+        off_denied m n s fits small on,
+        come.approach p s,
+        false_by,
+      )
 
   -- the first of them has these targets
   pub found_targets : (n s : ℕ) (o king : Option ℕ) → o ≡ find (λ s. bit_at m s == 1) (range_with_len n (64 - n)) → o ≡ Some s
@@ -75,29 +85,24 @@ pub found_here : (men : List (Option Man)) (y x : Man) (m n s : ℕ) (o : Option
     → o ≡ find (λ s. bit_at m s == 1) (range_with_len n (64 - n)) → o ≡ Some s → y ≡ x → man_on men s ≡ Some x
 found_here men y x m n s o stands found is e = grind (arith, found_on m n s, stands s)
 
--- off the first word, or on the second
-off_without : (o f i : ℕ) → f < 2 ^ 64 → i < 64 → (bit_at (bit_and o (bit_not w64 f)) i == 1) ≡ false → (bit_at o i == 1) ≡ true → (bit_at f i == 1) ≡ true
-off_without o f i fits small off on =
-    let word = bit_and o (bit_not w64 f) in
-    grind (arith, eqb-true _ _ on, bit_at_not w64 f i fits small, bit_at_and o (bit_not w64 f) i, eq-eqb, bit_at-lt f i, unset, bit_at-lt word i, off)
+-- a square that isn't one of the others is one of the word
+pub on_denied : (w i : ℕ) → w < 2 ^ 64 → i < 64 → (bit_at (bit_not w64 w) i == 1) ≡ false → (bit_at w i == 1) ≡ true
+on_denied w i fits small off = grind (arith, bit_at_not w64 w i fits small, bit_at-lt w i, eq-eqb)
 
--- a move that may be made goes from a square of its side
-from_own : (rule : RuleSet) (p : Position) (o : ℕ) (m : Move) → o ≡ side_of p.men p.turn → m.from < 64 → is_pseudo_legal rule p m ≡ true
-    → (bit_at o m.from == 1) ≡ true
+-- a legal move goes from a square of its side
+from_own : (rule : RuleSet) (p : Position) (o : ℕ) (m : Move) → o ≡ side_of p.men p.turn → m.from < 64 → is_legal rule p m ≡ true → (bit_at o m.from == 1) ≡ true
 unfolding side_of
-from_own rule p o m own inside may = grind (arith, cases_Bool, own_moves, word_has)
+from_own rule p o m own inside lawful = grind (arith, is_pseudo_legal-from_legal rule p m lawful, cases_Bool, own_moves, word_has)
 
 -- for `check_origins`: each man of the mover, where nothing more is known
 pub check_origins_own : (rule : RuleSet) (p : Position) (o : ℕ) → o ≡ side_of p.men p.turn → AreCheckOrigins rule p o
-check_origins_own rule p o own = record {
-  elsewhere = λ m inside small lawful off. absurd (let mine = from_own rule p o m own inside (is_pseudo_legal-from_legal rule p m lawful) in cc);
-}
+check_origins_own rule p o own = record { elsewhere = λ m inside small lawful off. absurd (false≢true (sym off ∙ from_own rule p o m own inside lawful)) }
 
 -- or those who are not far
 pub check_origins_are : (rule : RuleSet) (p : Position) (o f : ℕ) → o ≡ side_of p.men p.turn → f < 2 ^ 64 → AreFar rule p f
     → AreCheckOrigins rule p (bit_and o (bit_not w64 f))
 check_origins_are rule p o f own fits are = record {
   elsewhere = λ m inside small lawful off.
-      let may = is_pseudo_legal-from_legal rule p m lawful in
-      (are.far m.from inside (off_without o f m.from fits inside off (from_own rule p o m own inside may))).elsewhere m refl small lawful (off_zero m.to);
+      let on = on_denied f m.from fits inside (off_second o (bit_not w64 f) m.from off (from_own rule p o m own inside lawful)) in
+      (are.far m.from inside on).elsewhere m refl small lawful (off_zero m.to);
 }

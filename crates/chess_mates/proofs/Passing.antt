@@ -1,18 +1,15 @@
 -- Moves that are plain: who castles, captures en passant or might be captured so.
-use Rattle.chess_rules.proofs.Basics.{None, Some, and_from, and_left, and_parts, and_right, arith, bit_and, bit_at, bit_not, bit_or, cond-false, cond-true, false, false≢true, inl, inr, list_any, or_cases, refl, rules, sym, true, true_from_ne_false, w64, ℕ, ◌<◌, ◌==◌, ◌^◌, ◌∙◌, ◌≡◌}
+use Rattle.chess_rules.proofs.Basics.{None, Some, and_from, and_left, and_parts, and_right, arith, bit_and, bit_at, bit_not, bit_or, cond-false, cond-true, false, false≢true, inl, inr, list_any, or_cases, refl, rules, sym, true, w64, ℕ, ◌<◌, ◌==◌, ◌^◌, ◌∙◌, ◌≡◌}
 use Rattle.chess_mates.proofs.Chess.{Black, Colour, King, Man, Move, Pawn, Position, White, capture_of_piece, capture_square, false_by, halfway, is_advance, is_castling, is_man, is_of_colour, is_square, king_is_no_pawn, leaps, man_on, may_go, no_capture, off_left, off_right, other, pawn_goes, pawn_is_no_king, queen_steps, same_colour-refl, same_kind, same_kind-true, side_of, squares_of, word, word_has}
 use Rattle.chess_mates.specs.ties.Threats.{AreCapturers, IsMereMove, IsPassing, IsPlainMove}
 use Rattle.chess_rules.proofs.rays.Tables.{king_step_is_no_castling}
 use Rattle.chess_mates.proofs.Approaches.{far_is_vacant, goes_over_next, no_far_step, steps_from_there, takes_or_steps}
+pub use Rattle.chess_mates.proofs.FarMen.{on_denied}
 use Rattle.chess_mates.proofs.KindByKind.{man_is}
 use Rattle.chess_mates.proofs.LastingFlights.{on_both}
 use Rattle.chess_mates.proofs.CheckTargets.{last_rank_on}
-use Rattle.chess_mates.proofs.Risks.{bit_denied, no_pawn_arrives, none_at}
+use Rattle.chess_mates.proofs.Risks.{no_pawn_arrives, none_at}
 use Rattle.chess_mates.proofs.Standing.{captured_there}
-
--- a square that isn't one of the others is one of the word
-pub on_denied : (w i : ℕ) → w < 2 ^ 64 → i < 64 → (bit_at (bit_not w64 w) i == 1) ≡ false → (bit_at w i == 1) ≡ true
-on_denied w i fits small off = true_from_ne_false _ (λ none. false≢true (sym off ∙ bit_denied w i fits small none))
 
 module _ (p : Position) (x : Man) (m : Move) (from : m.from < 64) (to : m.to < 64) where
   -- a pawn, by the words of the squares ahead of him and of those a step away

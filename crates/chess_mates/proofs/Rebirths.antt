@@ -1,5 +1,5 @@
 -- A man who is reborn gives his own king no check, but as a grasshopper's hurdle.
-use Rattle.chess_rules.proofs.Basics.{List, None, Option, Some, and_from, and_parts, arith, bit_at, cases_Bool, cond-false, cond-true, false, false_from_ne_true, false≢true, length, list_all, list_any, not-true, range_with_len, refl, rules, sym, true, ℕ, ◌&&◌, ◌-◌, ◌<◌, ◌==◌, ◌∙◌, ◌≡◌}
+use Rattle.chess_rules.proofs.Basics.{List, None, Option, Some, and_from, and_parts, arith, bit_at, cases_Bool, cond-false, cond-true, false, false_from_ne_true, false≢true, length, list_all, not-true, range_with_len, refl, rules, sym, true, ℕ, ◌&&◌, ◌-◌, ◌<◌, ◌==◌, ◌∙◌, ◌≡◌}
 use Rattle.chess_mates.proofs.Chess.{AreCheckSquares, AtMostOneKing, CheckSquares, Colour, Grasshopper, IsMade, IsWellFormed, Kind, King, Man, Move, Position, RuleSet, Step, all_kept, along, any_kept, are_rebirths_quiet, arrived, arriving_man, can_castle, cannot_expose, capture_square, captured_enemy, captured_mortal, check_squares_for, circe, corner, find_first, halfway, in_check, is_absent, is_attacked, is_attacked_at, is_attacker, is_castling, is_clear, is_man, is_man-without, is_of_colour, is_paralysed, is_pseudo_legal, is_square, is_vacant_at, king_is, king_square, made, man_on, man_on-with_cases, man_on_at, man_there, may_castle, may_check_from, move_man, moved_men, moved_sound, on_board, orthodox, other, other_twice, position_after, position_after_by, put_at, reaches, reaches_as, reaches_of, reborn_square, rides, rule_of_checks, same_colour, same_kind, some_square_false, some_square_true, squares, unreborn_after, with_man, without_at, without_man}
 use Rattle.chess_mates.proofs.Checking.{no_check}
 
@@ -17,9 +17,6 @@ module _ (men : List (Option Man)) (r : ℕ) (y : Man) where
   rode s t d h =
       any_kept (λ k. is_square (along s d k) t && list_all (λ i. is_vacant_at (with_man men r y) (along s d i)) (range_with_len 1 (k - 1)))
       (λ k. is_square (along s d k) t && is_clear men s d (k - 1)) (range_with_len 1 7) (grind (arith, and_parts, and_from, all_kept, was_vacant)) h
-
-  rode_so : (ds : List Step) (s t : ℕ) → list_any (rides (with_man men r y) s t) ds ≡ true → list_any (rides men s t) ds ≡ true
-  rode_so ds s t h = any_kept (rides (with_man men r y) s t) (rides men s t) ds (λ d. rode s t d) h
 
   reached : (e : Colour) (j : Kind) (s t : ℕ) → same_kind j Grasshopper ≡ false → reaches_as (with_man men r y) e j s t ≡ true → reaches_as men e j s t ≡ true
   unfolding reaches_as
@@ -129,10 +126,9 @@ unfolding are_rebirths_quiet
 quiet_parts rule men e h = grind (arith, false≢true)
 
 -- a move that gives no check by the rules of checks gives none
-pub no_check_by_rebirth : (rule : RuleSet) (p : Position) (x : Man) (m : Move) (s : CheckSquares) (y : Man) (w t : ℕ) → IsWellFormed p
-    → is_pseudo_legal rule p m ≡ true
-    → man_on p.men m.from ≡ Some x → AreCheckSquares p.men (other p.turn) s → y ≡ arriving_man x m.promo → w ≡ check_squares_for s y.kind → t ≡ m.to → t < 64
-    → (bit_at w t == 1) ≡ false → (same_kind y.kind King ≡ true → may_check_from p.men (other p.turn) y t ≡ false) → m.promo ≡ None
+pub no_check_by_rebirth : (rule : RuleSet) (p : Position) (x : Man) (m : Move) (s : CheckSquares) (w : ℕ) → IsWellFormed p → is_pseudo_legal rule p m ≡ true
+    → man_on p.men m.from ≡ Some x → AreCheckSquares p.men (other p.turn) s → w ≡ check_squares_for s x.kind → m.to < 64 → (bit_at w m.to == 1) ≡ false
+    → (same_kind x.kind King ≡ true → may_check_from p.men (other p.turn) x m.to ≡ false) → m.promo ≡ None
     → cannot_expose (rule_of_checks rule p.men p.turn) p (other p.turn) m ≡ true → in_check rule (position_after rule p m).men (other p.turn) ≡ false
-no_check_by_rebirth rule p x m s y w t well may here a is h same small off apart unpromoted cover =
+no_check_by_rebirth rule p x m s w well may here a h small off apart unpromoted cover =
     grind (arith, cases_Bool (are_rebirths_quiet rule p.men p.turn), quiet_parts, cond-true, cond-false, rebirth_gives_no_check, no_check, pseudo_so)
