@@ -63,17 +63,8 @@ module _ (rule : RuleSet) (p : Position) (j : Kind) (m h w : ℕ)
       → AreApproaches (record { colour = c; kind = j }) w n
       → (s : ℕ) → s < 64 → (bit_at (bit_and m (bit_not w64 n)) s == 1) ≡ true → AreCheckTargets rule p s 0
   far_apart n c fits mortal targets turn come s small on =
-      grind (
-        arith,
-        far_unreached rule p (own_man p j) s w,
-        stands s small,
-        off s small,
-        targets s (own_man p j) small,
-        on_first m,
-        off_denied m n s fits small on,
-        come.approach p s,
-        false_by,
-      )
+      let far = far_unreached rule p (own_man p j) s w in
+      grind (arith, far, stands s small, off s small, targets s (own_man p j) small, on_first m, off_denied m n s fits small on, come.approach p s, false_by)
 
   -- the first of them has these targets
   pub found_targets : (n s : ℕ) (o king : Option ℕ) → o ≡ find (λ s. bit_at m s == 1) (range_with_len n (64 - n)) → o ≡ Some s

@@ -9,5 +9,4 @@ pub returns-else-contains : goal.returns-else-contains
 returns-else-contains g c = λ h lawful.
     let to : c.m.inside.to ≡ c.args.m.now.to = ap (λ (v : Move). v.to) c.m.view_is in
     let small : c.args.m.now.to < 64 = omega (arith, to, c.index-small.ensures.value, c.index-small.ensures.small) in
-    let from = ap (λ (v : Move). v.from) c.m.view_is in
     search (rules, no_check_by_rebirth, kings_apart, not-false)
