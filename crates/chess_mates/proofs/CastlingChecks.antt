@@ -1,6 +1,6 @@
 -- Castling that uncovers no king gives check by its rook alone.
 use Rattle.chess_rules.proofs.Basics.{Bool, List, None, Option, Some, [], agree_below, agree_below_at, and_from, and_left, and_parts, ap, arith, bit_and, bit_or, cases_eq, cond-true, eq-eqb, eqb-true, false, false_from_ne_true, false≢true, inl, inr, is_some, length, length-set, list_all, list_any, not, or_cases, or_left, or_parts, range_with_len, refl, rules, sym, true, ℕ, ◌%◌, ◌&&◌, ◌*◌, ◌+◌, ◌-◌, ◌/◌, ◌<◌, ◌==◌, ◌^◌, ◌||◌, ◌∙◌, ◌∷◌, ◌≡◌, ◌≢◌, ◌≤◌, ◌⊎◌}
-use Rattle.chess_mates.proofs.Chess.{AreCastlingTargets, Bishop, CheckSquares, Colour, Direction, East, Grasshopper, IsCastle, IsMade, IsWellFormed, Kind, King, Man, Move, Nightrider, North, NorthEast, NorthWest, Pawn, Position, Queen, Rook, RuleSet, South, SouthEast, SouthWest, Step, Straight, West, all_at, along, along-is, any_kept, arrived, can_castle, capture_square, castle_of, castling_steps, corner, corner_stays, enemy, find_first, halfway, hops, implied, in_check, is_ahead, is_attacked_at, is_castling, is_clear, is_diagonal, is_man, is_of_colour, is_on_some, is_reached, is_square, is_two_files_aside, is_vacant, king_is, king_no_step, king_square, king_stays_king, man_on, man_on-with_same, man_there, may_castle, may_check_from, may_expose, may_expose_at, may_stand_between, moved_men, no_capture, not_attacked, off_left, off_right, off_second, other, position_after, queen_steps, reaches, reaches_as, rides, same_colour, same_kind, same_kind-true, some_square_false, some_square_true, square_is, squares, squares_between, step_of, steps_to, straight_steps, unreborn_after, with_man, without_man, word, word_has}
+use Rattle.chess_mates.proofs.Chess.{AreCastlingTargets, Bishop, CheckSquares, Colour, Direction, East, Grasshopper, IsCastle, IsMade, IsWellFormed, Kind, King, Man, Move, Nightrider, North, NorthEast, NorthWest, Pawn, Position, Queen, Rook, RuleSet, South, SouthEast, SouthWest, Step, Straight, West, all_at, along, along-is, any_kept, arrived, can_castle, capture_square, castle_of, castling_steps, corner, corner_stays, enemy, halfway, hops, implied, in_check, is_ahead, is_castling, is_clear, is_diagonal, is_man, is_of_colour, is_on_some, is_reached, is_square, is_two_files_aside, is_vacant, king_is, king_no_step, king_square, king_stays_king, man_on, man_on-with_same, man_there, may_castle, may_check_from, may_expose, may_expose_at, may_stand_between, moved_men, no_capture, not_attacked, off_left, off_right, off_second, other, position_after, queen_steps, reaches, reaches_as, rides, same_colour, same_kind, same_kind-true, some_square_false, some_square_true, square_is, squares_between, step_of, steps_to, straight_steps, unreborn_after, with_man, without_man, word, word_has}
 use Rattle.chess_rules.proofs.rays.Ahead.{onward, passes}
 use Rattle.chess_rules.proofs.making_moves.Castles.{no_man}
 use Rattle.chess_rules.proofs.rays.Ends.{back, return_square}
@@ -10,6 +10,7 @@ use Rattle.chess_rules.proofs.making_moves.Pseudo.{ways}
 use Rattle.chess_rules.proofs.attacks.Shielding.{IsCovered, IsShift, covered_parts, frees, gone_shift, line_before, not_parted, stood, unreached}
 use Rattle.chess_mates.proofs.Approaches.{bit_down, bit_up}
 use Rattle.chess_rules.proofs.attacks.Attacking.{goes_on}
+use Rattle.chess_mates.proofs.Checking.{unchecked}
 
 -- the corners of the board: no line goes through one
 abbrev is_corner : ℕ → Bool
@@ -93,49 +94,32 @@ abbrev CastlingSquares : ℕ → ℕ → ℕ → ℕ → Type 0
 CastlingSquares a t c h =
     ((a ≡ 4) ⊎ (a ≡ 60)) × (((t ≡ a + 2) × ((c ≡ a + 3) × (h ≡ a + 1))) ⊎ ((t + 2 ≡ a) × ((c + 4 ≡ a) × (h + 1 ≡ a))))
 
--- what lies between them is empty, and what stands on a straight line with both of the king's squares stands on one with the rook's
-record IsWay (men : List (Option Man)) (a t c h : ℕ) : Type 0 where
-  pub empty : man_on men t ≡ None
-  pub ride : list_any (rides men c a) straight_steps ≡ true
-  pub edge : is_corner c ≡ true
-  pub half : is_half h ≡ true
-  pub beside : (k : ℕ) → k ≢ a → k ≢ t → (k ≢ h + 1) × (k ≢ h - 1)
-  pub lined : (k : ℕ) → k < 64 → k ≢ c → is_on_some straight_steps k h ≡ true → is_on_some straight_steps k a ≡ true → is_on_some straight_steps k c ≡ true
-
+-- what stands on a straight line with both of the king's squares stands on one with the rook's
 abbrev is_lined_up : ℕ → ℕ → ℕ → ℕ → Bool
 is_lined_up a c h k = not (is_on_some straight_steps k h && is_on_some straight_steps k a) || (k == c || is_on_some straight_steps k c)
 
 -- what hangs on the squares alone
-abbrev is_place : ℕ → ℕ → ℕ → Bool
-is_place a c h = (is_corner c && is_half h) && agree_below (is_lined_up a c h) (λ k. true) 64
+abbrev IsPlace : ℕ → ℕ → ℕ → Type 0
+IsPlace a c h = (is_corner c ≡ true) × (is_half h ≡ true) × (agree_below (is_lined_up a c h) (λ k. true) 64 ≡ true)
 
-at_squares : (men : List (Option Man)) (a t c h i u d j : ℕ) → a ≡ i → t ≡ u → c ≡ d → h ≡ j → is_place i d j ≡ true
-    → ((k : ℕ) → k ≢ i → k ≢ u → (k ≢ j + 1) × (k ≢ j - 1))
-    → (list_all (is_vacant men) (squares_between i d) ≡ true → (man_on men u ≡ None) × (list_any (rides men d i) straight_steps ≡ true))
-    → list_all (is_vacant men) (squares_between a c) ≡ true → IsWay men a t c h
-at_squares men a t c h i u d j from to rook half place beside free v =
-    let parts = and_parts (is_corner d && is_half j) (agree_below (is_lined_up i d j) (λ k. true) 64) place in
-    let ends = and_parts (is_corner d) (is_half j) parts.0 in
-    let way = free (rw (from, rook) at v) in
-    rw (from, to, rook, half) (record {
-      empty = way.0;
-      ride = way.1;
-      edge = ends.0;
-      half = ends.1;
-      beside = beside;
-      lined = λ k lt ne p q. grind (arith, agree_below_at (is_lined_up i d j) (λ k. true) 64 k parts.1 lt, or_cases, and_from, eqb-true);
-    })
+-- what lies between them is empty
+abbrev IsWay : List (Option Man) → ℕ → ℕ → ℕ → Type 0
+IsWay men a t c = list_all (is_vacant men) (squares_between a c) ≡ true → (man_on men t ≡ None) × (list_any (rides men c a) straight_steps ≡ true)
 
-way : (men : List (Option Man)) (a t c h : ℕ) → CastlingSquares a t c h → list_all (is_vacant men) (squares_between a c) ≡ true → IsWay men a t c h
+at_squares : (men : List (Option Man)) (a t c h i u d j : ℕ) → a ≡ i → t ≡ u → c ≡ d → h ≡ j → IsPlace i d j → IsWay men i u d
+    → IsPlace a c h × IsWay men a t c
+at_squares men a t c h i u d j from to rook half place free = rw (from, to, rook, half) (place, free)
+
+way : (men : List (Option Man)) (a t c h : ℕ) → CastlingSquares a t c h → IsPlace a c h × IsWay men a t c
 unfolding rides is_clear along is_on_some is_ahead
-way men a t c h s v = elim s.0 [
+way men a t c h s = elim s.0 [
   | inl e ↦ elim s.1 [
-    | inl f ↦ at_squares men a t c h 4 6 7 5 e (omega arith) (omega arith) (omega arith) refl (λ k p q. (q, p)) (search (rules, no_man, and_parts)) v
-    | inr f ↦ at_squares men a t c h 4 2 0 3 e (omega arith) (omega arith) (omega arith) refl (λ k p q. (p, q)) (search (rules, no_man, and_parts)) v
+    | inl f ↦ at_squares men a t c h 4 6 7 5 e (omega arith) (omega arith) (omega arith) (refl, refl, refl) (λ v. search (rules, no_man, and_parts))
+    | inr f ↦ at_squares men a t c h 4 2 0 3 e (omega arith) (omega arith) (omega arith) (refl, refl, refl) (λ v. search (rules, no_man, and_parts))
   ]
   | inr e ↦ elim s.1 [
-    | inl f ↦ at_squares men a t c h 60 62 63 61 e (omega arith) (omega arith) (omega arith) refl (λ k p q. (q, p)) (search (rules, no_man, and_parts)) v
-    | inr f ↦ at_squares men a t c h 60 58 56 59 e (omega arith) (omega arith) (omega arith) refl (λ k p q. (p, q)) (search (rules, no_man, and_parts)) v
+    | inl f ↦ at_squares men a t c h 60 62 63 61 e (omega arith) (omega arith) (omega arith) (refl, refl, refl) (λ v. search (rules, no_man, and_parts))
+    | inr f ↦ at_squares men a t c h 60 58 56 59 e (omega arith) (omega arith) (omega arith) (refl, refl, refl) (λ v. search (rules, no_man, and_parts))
   ]
 ]
 
@@ -150,15 +134,18 @@ module _ (rule : RuleSet) (p : Position) (x : Man) (m : Move) (well : IsWellForm
   on : CastlingSquares m.from m.to (corner m) (halfway m)
   on = (castle.1.from, castle.1.far)
 
-  the_way : IsWay p.men m.from m.to (corner m) (halfway m)
+  the_way : (man_on p.men m.to ≡ None) × (list_any (rides p.men (corner m) m.from) straight_steps ≡ true)
   unfolding can_castle may_castle
-  the_way = way p.men m.from m.to (corner m) (halfway m) on (search (rules, and_parts, ways, false≢true, castle, king_no_step, king))
+  the_way = (way p.men m.from m.to (corner m) (halfway m) on).1 (search (rules, and_parts, ways, false≢true, castle, king_no_step, king))
+
+  place : IsPlace m.from (corner m) (halfway m)
+  place = (way p.men m.from m.to (corner m) (halfway m) on).0
 
   small : (m.from < 64) × (m.to < 64) × (halfway m < 64) × (corner m < 64)
   small = search (rules, on)
 
   nobody : capture_square p x m ≡ None
-  nobody = no_capture p x m the_way.empty (and_left (same_kind x.kind Pawn) (is_diagonal m) castle.0)
+  nobody = no_capture p x m the_way.0 (and_left (same_kind x.kind Pawn) (is_diagonal m) castle.0)
 
   abbrev stepped : List (Option Man)
   stepped = with_man (without_man p.men m.from) m.to x
@@ -187,6 +174,9 @@ module _ (rule : RuleSet) (p : Position) (x : Man) (m : Move) (well : IsWellForm
   rook_shift : IsShift stepped castled (corner m) (halfway m) rook.0
   rook_shift = gone_shift stepped (corner m) None (halfway m) rook.0 (omega (arith, small.2, stepped_size)) (λ s at. absurd (false≢true at))
 
+  frees_corner : Frees castled stepped (corner m)
+  frees_corner = frees stepped castled (corner m) (halfway m) rook.0 rook_shift
+
   rook_there : man_on castled (halfway m) ≡ Some rook.0
   rook_there = search (rules, man_on-with_same, rook, small, stepped_size, length-set)
 
@@ -209,38 +199,39 @@ module _ (rule : RuleSet) (p : Position) (x : Man) (m : Move) (well : IsWellForm
       king_steps = search (rules, unreached, king_shift, parts, from_there, stood, small, at, aside)
 
       apart : (k ≢ halfway m + 1) × (k ≢ halfway m - 1)
-      apart = the_way.beside k (λ e. grind (arith, parts.apart, eq-eqb k m.from e)) (λ e. grind (arith, the_way.empty, stands))
+      apart = grind (arith, parts.apart, eq-eqb k m.from, the_way.0, stands, on)
+
+      lined_up : k ≢ corner m → is_on_some straight_steps k (halfway m) ≡ true → is_on_some straight_steps k m.from ≡ true
+          → is_on_some straight_steps k (corner m) ≡ true
+      lined_up ne p q =
+          grind (arith, agree_below_at (is_lined_up m.from (corner m) (halfway m)) (λ k. true) 64 k place.2 inside, or_cases, and_from, eqb-true)
 
       -- nor does the rook from halfway
       rook_strikes : is_of_colour (man_on castled (halfway m)) (other c) ≡ true → reaches castled (halfway m) k ≡ true → ⊥
       unfolding reaches reaches_as is_on_some
       rook_strikes side hit =
-          let is_rook : rook.0.kind ≡ Rook = same_kind-true rook.0.kind Rook rook_kind in
-          let before : reaches_as stepped rook.0.colour rook.0.kind (halfway m) k ≡ true =
-          reached stepped castled (corner m) (halfway m) k (frees stepped castled (corner m) (halfway m) rook.0 rook_shift) the_way.edge small.3 small.2
-          rook.0.colour rook.0.kind (λ hopper. absurd (false≢true (rw is_rook at hopper))) (rw rook_there at hit) in
-          let rode : list_any (rides p.men (halfway m) k) straight_steps ≡ true =
+          let before = rode stepped castled (corner m) (halfway m) k frees_corner place.0 small.3 small.2 (East ∷ West ∷ North ∷ South ∷ [])
+          (rw (rook_there, same_kind-true rook.0.kind Rook rook_kind) at hit) in
+          let line : list_any (rides p.men (halfway m) k) straight_steps ≡ true =
           line_before p.men stepped m.from m.to x king_shift Straight k (halfway m) small.2 inside
           (λ line both. not_parted p.men m.from k (corner m) (other c) Rook straight_steps parts.straight
           (rw rook.1 (or_left _ _ (and_from _ _ (rw rook_there at side) rook_kind))) small.3
-          (the_way.lined k inside (λ e. search (rules, rook, same_kind-true, rook_kind, false≢true, and_parts)) line
-          (goes_on p.men k m.from straight_steps both.0)) (both.0, the_way.ride))
-          (rw is_rook at before) in
-          false≢true (sym (from_there (enemy c Rook) (halfway m) rook_off) ∙ rode)
+          (lined_up (λ e. search (rules, rook, same_kind-true, rook_kind, false≢true, and_parts)) line
+          (goes_on p.men k m.from straight_steps both.0)) (both.0, the_way.1)) before in
+          false≢true (sym (from_there (enemy c Rook) (halfway m) rook_off) ∙ line)
 
       -- nor another man, who would have reached him before the rook went
       others_strike : (s : ℕ) (o : Option Man) → man_on castled s ≡ o → s < 64 → s ≢ halfway m → is_of_colour o (other c) ≡ true → reaches castled s k ≡ true
           → ⊥
       unfolding reaches is_reached
-      others_strike s None there lt ne side hit = false≢true side
+      others_strike s None there lt ne side hit = cc
       others_strike s (Some y) there lt ne side hit =
           let stood_so : man_on stepped s ≡ Some y = rook_shift.others s y there ne in
-          let frees_corner = frees stepped castled (corner m) (halfway m) rook.0 rook_shift in
+          let holds = stood stepped castled (corner m) (halfway m) rook.0 rook_shift in
           let before : reaches_as stepped y.colour y.kind s k ≡ true =
-          reached stepped castled (corner m) s k frees_corner the_way.edge small.3 lt y.colour y.kind
-          (λ hopper hop. hopped stepped castled (corner m) s k frees_corner the_way.edge small.3 lt (halfway m)
-          (stood stepped castled (corner m) (halfway m) rook.0 rook_shift)
-          (λ w. half_no_hurdle w (halfway m) s k the_way.half small.2 lt apart.0 apart.1) hop) (rw there at hit) in
+          reached stepped castled (corner m) s k frees_corner place.0 small.3 lt y.colour y.kind
+          (λ hopper hop. hopped stepped castled (corner m) s k frees_corner place.0 small.3 lt (halfway m) holds
+          (λ w. half_no_hurdle w (halfway m) s k place.1 small.2 lt apart.0 apart.1) hop) (rw there at hit) in
           false≢true (grind (arith, king_steps, some_square_true (λ s. is_of_colour (man_on stepped s) (other c) && reaches stepped s k) s lt))
 
       castled_unreached : is_reached castled k (other c) ≡ false
@@ -251,24 +242,14 @@ module _ (rule : RuleSet) (p : Position) (x : Man) (m : Move) (well : IsWellForm
     king_stood : (k : ℕ) → is_man (man_on castled k) c King ≡ true → is_man (man_on p.men k) c King ≡ true
     king_stood k h =
         let y = man_there (man_on castled k) c King h in
-        let off_half : k ≢ halfway m = λ e.
-        let same : y.0 ≡ rook.0 = rook_shift.arrived y.0 (ap (man_on castled) (sym e) ∙ y.1) in
-        grind (arith, same_kind-true, rook_kind, false≢true, and_parts) in
-        let one : man_on stepped k ≡ Some y.0 = rook_shift.others k y.0 y.1 off_half in
-        let off_to : k ≢ m.to = λ e.
-        let same : y.0 ≡ x = king_shift.arrived y.0 (ap (man_on stepped) (sym e) ∙ one) in
-        grind (arith, enemy_of, and_parts) in
-        grind (arith, king_shift.others k y.0 one off_to)
+        let off_half : k ≢ halfway m = λ e. grind (arith, rook_shift.arrived y.0, same_kind-true, rook_kind, false≢true, and_parts) in
+        let off_to : k ≢ m.to = λ e. grind (arith, rook_shift.others k y.0 y.1 off_half, king_shift.arrived y.0, enemy_of, and_parts) in
+        grind (arith, king_shift.others k y.0 (rook_shift.others k y.0 y.1 off_half) off_to)
 
     -- for castlings told by words: neither king nor rook gives check, nor is one uncovered
     pub castling_gives_no_check : in_check rule (position_after rule p m).men c ≡ false
-    unfolding in_check king_square squares
-    castling_gives_no_check = ap (λ (men : List (Option Man)). in_check rule men c) after_is ∙ by (king_square castled c) refl where
-      by : (o : Option ℕ) → king_square castled c ≡ o → is_attacked_at rule castled o (other c) ≡ false
-      by None e = refl
-      by (Some k) e =
-          let f = find_first (λ s. is_man (man_on castled s) c King) 0 64 k e in
-          search (rules, king_stood, king_is, not_attacked, castled_unreached)
+    castling_gives_no_check = rw after_is (unchecked rule castled c (λ k small here.
+        not_attacked rule castled (other c) k (castled_unreached k (king_is p.men c k well.kings small (king_stood k here)) (king_stood k here) small)))
 
 -- the words of the squares over which a king castles
 pub castling_aside : (x : Man) (m : Move) → m.to < 64 → is_castling x m ≡ true → is_two_files_aside m.from m.to ≡ true

@@ -1,6 +1,12 @@
 -- The squares from which a move may give check, by kinds.
 use Rattle.chess_rules.proofs.Basics.{List, None, Option, Some, arith, bit_at, bit_not, bit_or, cases_Bool, false, false≢true, inl, list_any-append, or_left, or_parts, rules, true, w64, ℕ, ◌<◌, ◌==◌, ◌||◌, ◌∙◌, ◌≡◌}
-use Rattle.chess_mates.proofs.Chess.{AreCheckSquares, AreRides, Bishop, CheckSquares, Colour, IsWellFormed, Kind, King, Man, Move, Position, Queen, Rook, RuleSet, cannot_expose, cannot_expose_parts, check_squares_for, diagonal-back, diagonal_steps, enemy, every_square, in_check, is_absent, is_fairy, is_pseudo_legal, king_square, king_there, made, man_on, may_check_from, may_check_from_at, not_zero, on_board, other, other_twice, plain_safe, position_after, reaches_as, same_kind, squares_either, squares_of, squares_same, straight-back, straight_steps, word, word_has}
+use Rattle.chess_mates.proofs.Chess.{AreCheckSquares, AreRides, Bishop, CheckSquares, Colour, IsWellFormed, Kind, King, Man, Move, Position, Queen, Rook, RuleSet, cannot_expose, cannot_expose_parts, check_squares_for, diagonal-back, diagonal_steps, enemy, every_square, in_check, is_absent, is_fairy, is_man, is_attacked, is_pseudo_legal, king_square, king_there, made, man_on, may_check_from, may_check_from_at, not_zero, on_board, other, other_twice, plain_safe, position_after, reaches_as, same_kind, squares_either, squares_of, squares_same, straight-back, straight_steps, word, word_has}
+
+-- a king whom nobody attacks where he stands isn't in check
+pub unchecked : (rule : RuleSet) (men : List (Option Man)) (c : Colour)
+    → ((k : ℕ) → k < 64 → is_man (man_on men k) c King ≡ true → is_attacked rule men k (other c) ≡ false) → in_check rule men c ≡ false
+unfolding in_check
+unchecked rule men c none = grind (arith, king_there)
 
 -- for `check_squares_of`: a fairy man of whom none stands there may check from everywhere
 pub check_squares_of_all : (men : List (Option Man)) (c : Colour) (j : Kind) (k : ℕ) → king_square men c ≡ Some k → is_absent men (enemy c j) ≡ true

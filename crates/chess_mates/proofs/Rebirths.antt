@@ -1,7 +1,7 @@
 -- A man who is reborn gives his own king no check, but as a grasshopper's hurdle.
 use Rattle.chess_rules.proofs.Basics.{List, None, Option, Some, and_from, and_parts, arith, bit_at, cases_Bool, cond-false, cond-true, false, false_from_ne_true, false≢true, length, list_all, not-true, range_with_len, refl, rules, sym, true, ℕ, ◌&&◌, ◌-◌, ◌<◌, ◌==◌, ◌∙◌, ◌≡◌}
-use Rattle.chess_mates.proofs.Chess.{AreCheckSquares, AtMostOneKing, CheckSquares, Colour, Grasshopper, IsMade, IsWellFormed, Kind, King, Man, Move, Position, RuleSet, Step, all_kept, along, any_kept, are_rebirths_quiet, arrived, arriving_man, can_castle, cannot_expose, capture_square, captured_enemy, captured_mortal, check_squares_for, circe, corner, find_first, halfway, in_check, is_absent, is_attacked, is_attacked_at, is_attacker, is_castling, is_clear, is_man, is_man-without, is_of_colour, is_paralysed, is_pseudo_legal, is_square, is_vacant_at, king_is, king_square, made, man_on, man_on-with_cases, man_on_at, man_there, may_castle, may_check_from, move_man, moved_men, moved_sound, on_board, orthodox, other, other_twice, position_after, position_after_by, put_at, reaches, reaches_as, reaches_of, reborn_square, rides, rule_of_checks, same_colour, same_kind, some_square_false, some_square_true, squares, unreborn_after, with_man, without_at, without_man}
-use Rattle.chess_mates.proofs.Checking.{no_check}
+use Rattle.chess_mates.proofs.Chess.{AreCheckSquares, AtMostOneKing, CheckSquares, Colour, Grasshopper, IsMade, IsWellFormed, Kind, King, Man, Move, Position, RuleSet, Step, all_kept, along, any_kept, are_rebirths_quiet, arrived, arriving_man, can_castle, cannot_expose, capture_square, captured_enemy, captured_mortal, check_squares_for, circe, corner, halfway, in_check, is_absent, is_attacked, is_attacker, is_castling, is_clear, is_man, is_man-without, is_of_colour, is_paralysed, is_pseudo_legal, is_square, is_vacant_at, king_is, made, man_on, man_on-with_cases, man_on_at, man_there, may_castle, may_check_from, move_man, moved_men, moved_sound, on_board, orthodox, other, other_twice, position_after, position_after_by, put_at, reaches, reaches_as, reaches_of, reborn_square, rides, rule_of_checks, same_colour, same_kind, some_square_false, some_square_true, unreborn_after, with_man, without_at, without_man}
+use Rattle.chess_mates.proofs.Checking.{no_check, unchecked}
 
 -- no grasshopper of this colour stands there
 abbrev LacksGrasshopper : List (Option Man) → Colour → Type 0
@@ -38,17 +38,12 @@ module _ (men : List (Option Man)) (r : ℕ) (y : Man) where
     king_stood k h = grind (arith, man_on-with_cases, false≢true, and_parts)
 
     reborn_quietly : in_check orthodox men c ≡ false → in_check circe (with_man men r y) c ≡ false
-    unfolding in_check king_square squares is_attacked
-    reborn_quietly safe = by (king_square (with_man men r y) c) refl where
-      by : (o : Option ℕ) → king_square (with_man men r y) c ≡ o → is_attacked_at circe (with_man men r y) o (other c) ≡ false
-      by None e = refl
-      by (Some k) e =
-          let f = find_first (λ s. is_man (man_on (with_man men r y) s) c King) 0 64 k e in
-          let at : king_square men c ≡ Some k = king_is men c k one (omega (arith, f.high)) (king_stood k f.here) in
-          some_square_false (is_attacker circe (with_man men r y) k (other c)) 64 (omega arith) (record {
-            fails = λ s lt. false_from_ne_true _ (λ h.
-                false≢true (sym (rw at at safe) ∙ some_square_true (is_attacker orthodox men k (other c)) s lt (struck k s h)));
-          })
+    unfolding in_check is_attacked
+    reborn_quietly safe = unchecked circe (with_man men r y) c (λ k small here.
+        let calm = rw (king_is men c k one small (king_stood k here)) at safe in
+        some_square_false (is_attacker circe (with_man men r y) k (other c)) 64 (omega arith) (record {
+          fails = λ s lt. false_from_ne_true _ (λ h. false≢true (sym calm ∙ some_square_true (is_attacker orthodox men k (other c)) s lt (struck k s h)));
+        }))
 
 -- rebirths apart, Circe is as orthodox chess
 same_check : (men : List (Option Man)) (c : Colour) → in_check circe men c ≡ in_check orthodox men c
