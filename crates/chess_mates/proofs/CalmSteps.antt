@@ -1,6 +1,6 @@
 -- After a move a legal step of the enemy king that gives no check: not every reply mates.
-use Rattle.chess_rules.proofs.Basics.{Bool, List, Option, Some, and_left, and_right, ap, arith, bit_and, bit_not, cases_Bool, cases_eq, eq-eqb, false, inl, inr, is_some, length, list_all, not, not-true, or_parts, refl, rules, sym, true, w64, ℕ, ◌&&◌, ◌<◌, ◌==◌, ◌∙◌, ◌≡◌, ◌≢◌, ◌||◌}
-use Rattle.chess_mates.proofs.Chess.{AreOpen, AreSeen, Colour, IsWellFormed, Kind, King, Man, Move, Position, RuleSet, arriving_man, capture_square, differs, in_check, is_absent, is_attacked, is_attacked_at, is_legal, is_man, is_mating, is_of_colour, is_reached, is_square, king_square, man_on, man_on-with_other, may_check_from, may_check_from_at, moves, occupied_squares, other, position_after, reaches, reaches_as, same_colour, same_kind, same_kind-true, sight_lifted, squares_both, squares_not, squares_of, word}
+use Rattle.chess_rules.proofs.Basics.{List, Option, Some, and_left, and_right, ap, arith, bit_and, bit_not, cases_Bool, cases_eq, eq-eqb, false, inl, inr, is_some, length, list_all, not, not-true, or_parts, refl, rules, sym, true, w64, ℕ, ◌&&◌, ◌<◌, ◌==◌, ◌∙◌, ◌≡◌, ◌≢◌, ◌||◌}
+use Rattle.chess_mates.proofs.Chess.{AreOpen, AreSeen, Colour, IsWellFormed, Kind, King, Man, Move, Position, RuleSet, arriving_man, capture_square, differs, in_check, is_legal, is_man, is_mating, is_of_colour, is_reached, is_square, king_square, man_on, man_on-with_other, may_check_from, moves, occupied_squares, other, position_after, reaches, reaches_as, same_colour, same_kind, same_kind-true, sight_lifted, squares_both, squares_not, squares_of, word}
 use Rattle.chess_mates.proofs.EveryMove.{quiet}
 use Rattle.chess_mates.proofs.Fleeing.{IsKingOn, after_seen, is_made, king_is_other, king_on, king_seen, king_step, no_king_free, no_own_arrives, open_parts, reaches_alike_of, safe_step, simple_step, some_of_colour, is_step, step_taken, step_to, turn_is}
 use Rattle.chess_mates.proofs.KingsApart.{kings_apart}
@@ -27,21 +27,14 @@ record IsLeft (men : List (Option Man)) (a : ℕ) (o : Option ℕ) (b : ℕ) (z 
   pub other_side : same_colour z.colour c ≡ false
   pub entered : is_of_colour (man_on men b) c ≡ true → is_square o b ≡ true
 
-third_out : (i b e d : Bool) → e ≡ true → (i && ((b && not e) && d)) ≡ false
-third_out i b e d h = grind arith
-
-fourth_out : (i b d : Bool) → d ≡ true → (i && (b && not d)) ≡ false
-fourth_out i b d h = grind arith
-
 module _ (men : List (Option Man)) (a : ℕ) (o : Option ℕ) (b : ℕ) (z : Man) (k : ℕ) (u : Option ℕ) (t : ℕ) (c : Colour) (i : IsLeft men a o b z u t c) where
   -- a man of the other side stands for him
   stands_left : (j : Kind) (q : ℕ) → (is_man (man_on men q) c j && (((not (is_square o q) && not (a == q)) && not (t == q)) && not (k == q)))
       ≡ is_man (man_on (stepped men a o b z k u t z) q) c j
   stands_left j q = elim (cases_eq q t) [
-    | inl e ↦ third_out _ _ _ _ (eq-eqb t q (sym e))
-        ∙ sym (ap (λ (y : Option Man). is_man y c j) (on_flight men a o b z k u t z q i.flight e) ∙ and_left _ _ i.other_side)
+    | inl e ↦ search (rules, eq-eqb t q (sym e), on_flight, and_left, and_right, i.flight, i.other_side)
     | inr ne ↦ elim (cases_Bool (k == q)) [
-      | inl y ↦ fourth_out _ _ _ y ∙ sym (ap (λ (y : Option Man). is_man y c j) (on_left men a o b z k u t z q ne y))
+      | inl y ↦ grind (arith, y, on_left men a o b z k u t z q ne y)
       | inr n ↦ ours ne n ∙ sym (ap (λ (y : Option Man). is_man y c j) (on_others men a o b z k u t z q i.taken ne n))
     ]
   ] where
@@ -65,17 +58,14 @@ module _ (men : List (Option Man)) (a : ℕ) (o : Option ℕ) (b : ℕ) (z : Man
     then = stepped men a o b z k u t z
 
     alike : (e : ℕ) → StandAlike now then e
-    alike e = record { alike = λ q ne. sym (stands men a o b z k u t y q i.arrival i.flight i.taken) ∙ stands men a o b z k u t z q i.arrival i.flight i.taken }
-
-    elsewhere : (s : ℕ) → s ≢ t → man_on now s ≡ man_on then s
-    elsewhere s ne = search (rules, man_on-with_other)
+    alike e = search (rules, stands, i.arrival, i.flight, i.taken)
 
     strikes : (e s : ℕ) → reaches now t e ≡ false → (is_of_colour (man_on now s) c && reaches now s e) ≡ (is_of_colour (man_on then s) c && reaches then s e)
     unfolding reaches
     strikes e s apart = elim (cases_eq s t) [
       | inl same ↦
           grind (arith, on_flight men a o b z k u t z s i.flight same, i.other_side, and_right)
-      | inr ne ↦ rw (elsewhere s ne) (ap (λ (r : Bool). is_of_colour (man_on then s) c && r) (reaches_alike_of now then (man_on then s) s e (alike e)))
+      | inr ne ↦ grind (arith, man_on-with_other, reaches_alike_of now then (man_on then s) s e (alike e))
     ]
 
     -- whom neither he nor any other man of his side reaches
@@ -103,9 +93,7 @@ module _ (rule : RuleSet) (p : Position) (m : Move) (x : Man) (k : ℕ) (i : IsS
 
   own_king : king_square after.men p.turn ≡ Some s
   own_king =
-      ap (λ (l : List (Option Man)). king_square l p.turn) (after_seen rule p m x k i)
-      ∙ king_is_after rule p x m i.well_formed (is_made rule p m x k i) small (grind (arith, i.simple, not-true, and_left))
-      ∙ at
+      rw (after_seen rule p m x k i) (king_is_after rule p x m i.well_formed (is_made rule p m x k i) small (grind (arith, i.simple, not-true, and_left)) ∙ at)
 
   turned : other after.turn ≡ p.turn
   turned = ap other (turn_is rule p m x k i small) ∙ other_twice p.turn
@@ -134,15 +122,14 @@ module _ (rule : RuleSet) (p : Position) (m : Move) (x : Man) (k : ℕ) (i : IsS
   -- the mover's king stands where he stood
   king_after_step : king_square (position_after rule after step).men p.turn ≡ Some s
   king_after_step =
-      ap (λ (l : List (Option Man)). king_square l p.turn) men_made
-      ∙ king_stands after.men k taken t y p.turn (record {
-        small = omega (arith, there, (after_well_formed rule p m i.well_formed i.pseudo).size);
-        here = ap (λ (w : Option Man). is_man w p.turn King) king.here ∙ and_left _ _ (king_is_other y p.turn king.mine);
-        comes = and_left _ _ (king_is_other y p.turn king.mine);
+      let size = (after_well_formed rule p m i.well_formed i.pseudo).size in
+      rw men_made (king_stands after.men k taken t y p.turn (record {
+        small = omega (arith, there, size);
+        here = grind (arith, king.here, king_is_other y p.turn king.mine);
+        comes = grind (arith, king_is_other y p.turn king.mine);
         arrival = free;
-        captured = λ q on. ap (λ (w : ℕ). is_man (man_on after.men w) p.turn King) (is_left.taken q on) ∙ free;
-      })
-      ∙ own_king
+        captured = grind (arith, is_left.taken, free);
+      }) ∙ own_king)
 
   -- the king who steps doesn't come next to him
   apart_there : reaches_as after.men y.colour y.kind t s ≡ false
@@ -162,11 +149,9 @@ module _ (rule : RuleSet) (p : Position) (m : Move) (x : Man) (k : ℕ) (i : IsS
       → in_check rule (position_after rule after step).men (other after.turn) ≡ false
   unfolding in_check
   calm quiet =
-      ap (in_check rule (position_after rule after step).men) turned
-      ∙ ap (λ (o : Option ℕ). is_attacked_at rule (position_after rule after step).men o (other p.turn)) king_after_step
-      ∙ ap (λ (l : List (Option Man)). is_attacked rule l s (other p.turn)) men_are
-      ∙ not_attacked rule now_men (other p.turn) s (unreached p.men m.from (capture_square p x m) m.to z k taken t (other p.turn) is_left y s apart_now
-      (quiet.unreached _ (seen_left p.men m.from (capture_square p x m) m.to z k taken t (other p.turn) is_left)))
+      rw (turned, king_after_step, men_are) (not_attacked rule now_men (other p.turn) s
+      (unreached p.men m.from (capture_square p x m) m.to z k taken t (other p.turn) is_left y s apart_now
+      (quiet.unreached _ (seen_left p.men m.from (capture_square p x m) m.to z k taken t (other p.turn) is_left))))
 
   pub one_left : IsQuietTo p.men p.turn (sight_lifted p.men m.from (capture_square p x m) m.to k) k t s
       → list_all (is_mating rule after) (moves rule after) ≡ false
@@ -193,10 +178,8 @@ no_king_next : (rule : RuleSet) (p : Position) (x : Man) (m : Move) (k : ℕ) �
     → is_legal rule p m ≡ true → same_kind x.kind King ≡ true → king_square p.men (other p.turn) ≡ Some k → reaches_as p.men (other p.turn) King k m.to ≡ false
 unfolding may_check_from reaches_as
 no_king_next rule p x m k well here small lawful king at =
-    let apart : (is_absent p.men x || reaches_as p.men x.colour x.kind m.to k) ≡ false = ap (λ (o : Option ℕ). may_check_from_at p.men o x m.to) (sym at)
-    ∙ kings_apart rule p x m well here small lawful king in
-    king-back k m.to (king_on p.men (other p.turn) k at).1.small small
-    ∙ ap (λ (j : Kind). reaches_as p.men x.colour j m.to k) (sym (same_kind-true x.kind King king)) ∙ (or_parts _ _ apart).1
+    let small_k = (king_on p.men (other p.turn) k at).1.small in
+    grind (arith, kings_apart rule p x m well here small lawful king, king-back k m.to small_k small, same_kind-true x.kind King king, or_parts)
 
 -- for legal moves
 pub seen_from : (rule : RuleSet) (p : Position) (x : Man) (m : Move) (k : ℕ) → IsWellFormed p → is_legal rule p m ≡ true → man_on p.men m.from ≡ Some x

@@ -1,6 +1,6 @@
 -- Castling that uncovers no king gives check by its rook alone.
 use Rattle.chess_rules.proofs.Basics.{Bool, List, None, Option, Some, [], agree_below, agree_below_at, and_from, and_left, and_parts, ap, arith, bit_and, bit_or, cases_eq, cond-true, eq-eqb, eqb-true, false, false_from_ne_true, false≢true, inl, inr, is_some, length, length-set, list_all, list_any, not, or_cases, or_left, or_parts, range_with_len, refl, rules, sym, true, ℕ, ◌%◌, ◌&&◌, ◌*◌, ◌+◌, ◌-◌, ◌/◌, ◌<◌, ◌==◌, ◌^◌, ◌||◌, ◌∙◌, ◌∷◌, ◌≡◌, ◌≢◌, ◌≤◌, ◌⊎◌}
-use Rattle.chess_mates.proofs.Chess.{AreCastlingTargets, Bishop, CheckSquares, Colour, Direction, East, Grasshopper, IsCastle, IsMade, IsWellFormed, Kind, King, Man, Move, Nightrider, North, NorthEast, NorthWest, Pawn, Position, Queen, Rook, RuleSet, South, SouthEast, SouthWest, Step, Straight, West, all_at, along, along-is, any_kept, arrived, can_castle, capture_square, castle_of, castling_steps, corner, corner_stays, enemy, halfway, hops, implied, in_check, is_ahead, is_castling, is_clear, is_diagonal, is_man, is_of_colour, is_on_some, is_reached, is_square, is_two_files_aside, is_vacant, king_is, king_no_step, king_square, king_stays_king, man_on, man_on-with_same, man_there, may_castle, may_check_from, may_expose, may_expose_at, may_stand_between, moved_men, no_capture, not_attacked, off_left, off_right, off_second, other, position_after, queen_steps, reaches, reaches_as, rides, same_colour, same_kind, same_kind-true, some_square_false, some_square_true, square_is, squares_between, step_of, steps_to, straight_steps, unreborn_after, with_man, without_man, word, word_has}
+use Rattle.chess_mates.proofs.Chess.{AreCastlingTargets, Bishop, CheckSquares, Colour, Direction, East, Grasshopper, IsCastle, IsMade, IsWellFormed, Kind, King, Man, Move, Nightrider, North, NorthEast, NorthWest, Pawn, Position, Queen, Rook, RuleSet, South, SouthEast, SouthWest, Step, Straight, West, all_at, along, along-is, any_kept, arrived, can_castle, capture_square, castle_of, castling_steps, corner, corner_stays, enemy, halfway, hops, implied, in_check, is_ahead, is_castling, is_clear, is_diagonal, is_man, is_of_colour, is_on_some, is_reached, is_square, is_two_files_aside, is_vacant, king_is, king_no_step, king_square, king_stays_king, man_on, man_on-with_same, man_there, may_castle, may_check_from, may_expose, may_expose_at, may_stand_between, moved_men, no_capture, not_attacked, off_left, off_right, off_second, other, position_after, reaches, reaches_as, rides, same_colour, same_kind, same_kind-true, some_square_false, some_square_true, square_is, squares_between, step_of, steps_to, straight_steps, unreborn_after, with_man, without_man, word, word_has}
 use Rattle.chess_rules.proofs.rays.Ahead.{onward, passes}
 use Rattle.chess_rules.proofs.making_moves.Castles.{no_man}
 use Rattle.chess_rules.proofs.rays.Ends.{back, return_square}
@@ -71,23 +71,18 @@ module _ (men after : List (Option Man)) (b s k : ℕ) (free : Frees after men b
     rode : (xs : List Direction) → list_any (λ x. rides after s k (step_of x)) xs ≡ true → list_any (λ x. rides men s k (step_of x)) xs ≡ true
     rode xs h = grind (arith, any_kept, ride_kept, corner_beside)
 
-    reached : (e : Colour) (j : Kind)
-        → (same_kind j Grasshopper ≡ true → list_any (hops after s k) queen_steps ≡ true → list_any (hops men s k) queen_steps ≡ true)
-        → reaches_as after e j s k ≡ true → reaches_as men e j s k ≡ true
+    -- grasshoppers too, if the man went to no square right before k
+    reached : (t : ℕ) → Holds after men t → ((x : Direction) → IsNoHurdle t s k (step_of x)) → (e : Colour) (j : Kind) → reaches_as after e j s k ≡ true
+        → reaches_as men e j s k ≡ true
     unfolding reaches_as
-    reached e Queen hop h = rode queen_directions h
-    reached e Rook hop h = rode (East ∷ West ∷ North ∷ South ∷ []) h
-    reached e Bishop hop h = rode (NorthEast ∷ SouthEast ∷ NorthWest ∷ SouthWest ∷ []) h
-    reached e Grasshopper hop h = hop refl h
-    reached e Nightrider hop h = rode knight_directions h
-    reached e j hop h = h
-
-    -- and grasshoppers too, if the man went to no square right before k
-    hopped : (t : ℕ) → Holds after men t → ((x : Direction) → IsNoHurdle t s k (step_of x))
-        → list_any (hops after s k) queen_steps ≡ true → list_any (hops men s k) queen_steps ≡ true
-    hopped t holds none h =
+    reached t holds none e Queen h = rode queen_directions h
+    reached t holds none e Rook h = rode (East ∷ West ∷ North ∷ South ∷ []) h
+    reached t holds none e Bishop h = rode (NorthEast ∷ SouthEast ∷ NorthWest ∷ SouthWest ∷ []) h
+    reached t holds none e Grasshopper h =
         any_kept (λ x. hops after s k (step_of x)) _ queen_directions
         (λ x. hop_kept men after b t s k (step_of x) free holds (corner_beside x b s k edge inside small) (none x)) h
+    reached t holds none e Nightrider h = rode knight_directions h
+    reached t holds none e j h = h
 
 -- king and rook castle: a king on a goes to t, the rook from c to h
 abbrev CastlingSquares : ℕ → ℕ → ℕ → ℕ → Type 0
@@ -228,10 +223,8 @@ module _ (rule : RuleSet) (p : Position) (x : Man) (m : Move) (well : IsWellForm
       others_strike s (Some y) there lt ne side hit =
           let stood_so : man_on stepped s ≡ Some y = rook_shift.others s y there ne in
           let holds = stood stepped castled (corner m) (halfway m) rook.0 rook_shift in
-          let before : reaches_as stepped y.colour y.kind s k ≡ true =
-          reached stepped castled (corner m) s k frees_corner place.0 small.3 lt y.colour y.kind
-          (λ hopper hop. hopped stepped castled (corner m) s k frees_corner place.0 small.3 lt (halfway m) holds
-          (λ w. half_no_hurdle w (halfway m) s k place.1 small.2 lt apart.0 apart.1) hop) (rw there at hit) in
+          let before = reached stepped castled (corner m) s k frees_corner place.0 small.3 lt (halfway m) holds
+          (λ w. half_no_hurdle w (halfway m) s k place.1 small.2 lt apart.0 apart.1) y.colour y.kind (rw there at hit) in
           false≢true (grind (arith, king_steps, some_square_true (λ s. is_of_colour (man_on stepped s) (other c) && reaches stepped s k) s lt))
 
       castled_unreached : is_reached castled k (other c) ≡ false
@@ -256,9 +249,6 @@ pub castling_aside : (x : Man) (m : Move) → m.to < 64 → is_castling x m ≡ 
 unfolding steps_to
 castling_aside x m small h = grind (arith, castling_steps x m small h)
 
-two_aside : (s t : ℕ) → is_two_files_aside s t ≡ true → (t ≡ s + 2) ⊎ (s ≡ t + 2)
-two_aside s t h = search (rules, along-is, or_cases)
-
 -- for the word of castlings that may give check
 pub castling_targets_are : (v : CheckSquares) (s a : ℕ) → s < 64 → a ≡ word (is_two_files_aside s)
     → AreCastlingTargets v s (bit_and a (bit_or (v.straight * 2 ^ 1 % 2 ^ 64) (v.straight / 2 ^ 1)))
@@ -267,5 +257,6 @@ castling_targets_are v s a small are = record {
       let up : ℕ = v.straight * 2 ^ 1 % 2 ^ 64 in
       let down : ℕ = v.straight / 2 ^ 1 in
       let both = off_second a (bit_or up down) t off (word_has (is_two_files_aside s) a t are lt ∙ aside) in
-      grind (arith, two_aside s t aside, bit_up v.straight 1 t, bit_down v.straight 1 t, off_left up down t both, off_right up down t both);
+      let far : (t ≡ s + 2) ⊎ (s ≡ t + 2) = search (rules, along-is, or_cases) in
+      grind (arith, far, bit_up v.straight 1 t, bit_down v.straight 1 t, off_left up down t both, off_right up down t both);
 }
