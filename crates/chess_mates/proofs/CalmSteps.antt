@@ -1,5 +1,5 @@
 -- After a move a legal step of the enemy king that gives no check: not every reply mates.
-use Rattle.chess_rules.proofs.Basics.{List, Option, Some, and_left, and_right, ap, arith, bit_and, bit_not, cases_Bool, cases_eq, eq-eqb, false, inl, inr, is_some, length, list_all, not, not-true, or_parts, refl, rules, sym, true, w64, ℕ, ◌&&◌, ◌<◌, ◌==◌, ◌∙◌, ◌≡◌, ◌≢◌, ◌||◌}
+use Rattle.chess_rules.proofs.Basics.{List, Option, Some, and_left, and_right, ap, arith, bit_and, bit_not, cases_Bool, cases_eq, eq-eqb, false, inl, inr, is_some, length, list_all, not, not-true, or_parts, refl, rules, sym, true, w64, ℕ, ◌&&◌, ◌<◌, ◌==◌, ◌∙◌, ◌≡◌, ◌||◌}
 use Rattle.chess_mates.proofs.Chess.{AreOpen, AreSeen, Colour, IsWellFormed, Kind, King, Man, Move, Position, RuleSet, arriving_man, capture_square, differs, in_check, is_legal, is_man, is_mating, is_of_colour, is_reached, is_square, king_square, man_on, man_on-with_other, may_check_from, moves, occupied_squares, other, position_after, reaches, reaches_as, same_colour, same_kind, same_kind-true, sight_lifted, squares_both, squares_not, squares_of, word}
 use Rattle.chess_mates.proofs.EveryMove.{quiet}
 use Rattle.chess_mates.proofs.Fleeing.{IsKingOn, after_seen, is_made, king_is_other, king_on, king_seen, king_step, no_king_free, no_own_arrives, open_parts, reaches_alike_of, safe_step, simple_step, some_of_colour, is_step, step_taken, step_to, turn_is}
@@ -35,16 +35,12 @@ module _ (men : List (Option Man)) (a : ℕ) (o : Option ℕ) (b : ℕ) (z : Man
     | inl e ↦ search (rules, eq-eqb t q (sym e), on_flight, and_left, and_right, i.flight, i.other_side)
     | inr ne ↦ elim (cases_Bool (k == q)) [
       | inl y ↦ grind (arith, y, on_left men a o b z k u t z q ne y)
-      | inr n ↦ ours ne n ∙ sym (ap (λ (y : Option Man). is_man y c j) (on_others men a o b z k u t z q i.taken ne n))
+      | inr n ↦ rw (on_others men a o b z k u t z q i.taken ne n) (elim (cases_eq q b) [
+        | inl e ↦ grind (arith, there_now, no_man, cases_Bool (is_of_colour (man_on men q) c), i.entered, i.other_side)
+        | inr off ↦ grind (arith, cases_Bool (a == q || is_square o q), left_now, kept_now, differs)
+      ])
     ]
-  ] where
-    ours : q ≢ t → (k == q) ≡ false → (is_man (man_on men q) c j && (((not (is_square o q) && not (a == q)) && not (t == q)) && not (k == q)))
-        ≡ is_man (man_on (gone_to men a o b z) q) c j
-    ours ne n = elim (cases_eq q b) [
-      | inl e ↦
-          grind (arith, there_now, no_man, cases_Bool (is_of_colour (man_on men q) c), i.entered, i.other_side)
-      | inr off ↦ grind (arith, cases_Bool (a == q || is_square o q), left_now, kept_now, differs)
-    ]
+  ]
 
   seen_left : AreSeen men (stepped men a o b z k u t z) c (sight_stepped (sight_lifted men a o b k) k t)
   unfolding squares_of
@@ -132,16 +128,12 @@ module _ (rule : RuleSet) (p : Position) (m : Move) (x : Man) (k : ℕ) (i : IsS
       }) ∙ own_king)
 
   -- the king who steps doesn't come next to him
-  apart_there : reaches_as after.men y.colour y.kind t s ≡ false
-  unfolding may_check_from
-  apart_there =
-      let apart = kings_apart rule after y step (after_well_formed rule p m i.well_formed i.pseudo) king.here there lawful king.king in
-      (or_parts _ _ (rw (turned, own_king) at apart)).1
-
-  apart_now : reaches now_men t s ≡ false
-  unfolding reaches reaches_as
-  apart_now =
+  apart : reaches now_men t s ≡ false
+  unfolding may_check_from reaches reaches_as
+  apart =
       let kind : y.kind ≡ King = same_kind-true y.kind King king.king in
+      let none = kings_apart rule after y step (after_well_formed rule p m i.well_formed i.pseudo) king.here there lawful king.king in
+      let apart_there : reaches_as after.men y.colour y.kind t s ≡ false = (or_parts _ _ (rw (turned, own_king) at none)).1 in
       rw (on_flight p.men m.from (capture_square p x m) m.to z k taken t y t is_left.flight refl, kind) (rw kind at apart_there)
 
   -- and no other man of his side attacks him
@@ -150,7 +142,7 @@ module _ (rule : RuleSet) (p : Position) (m : Move) (x : Man) (k : ℕ) (i : IsS
   unfolding in_check
   calm quiet =
       rw (turned, king_after_step, men_are) (not_attacked rule now_men (other p.turn) s
-      (unreached p.men m.from (capture_square p x m) m.to z k taken t (other p.turn) is_left y s apart_now
+      (unreached p.men m.from (capture_square p x m) m.to z k taken t (other p.turn) is_left y s apart
       (quiet.unreached _ (seen_left p.men m.from (capture_square p x m) m.to z k taken t (other p.turn) is_left))))
 
   pub one_left : IsQuietTo p.men p.turn (sight_lifted p.men m.from (capture_square p x m) m.to k) k t s
@@ -184,11 +176,4 @@ no_king_next rule p x m k well here small lawful king at =
 -- for legal moves
 pub seen_from : (rule : RuleSet) (p : Position) (x : Man) (m : Move) (k : ℕ) → IsWellFormed p → is_legal rule p m ≡ true → man_on p.men m.from ≡ Some x
     → is_simple rule x m (is_some (capture_square p x m)) ≡ true → king_square p.men (other p.turn) ≡ Some k → IsSeenFrom rule p m x k
-seen_from rule p x m k well lawful here simple king = record {
-  well_formed = well;
-  pseudo = is_pseudo_legal-from_legal rule p m lawful;
-  here = here;
-  apart = λ goes. no_king_next rule p x m k well here (legal_moves_are_triples rule p m well lawful).1 lawful goes king;
-  simple = simple;
-  king = king;
-}
+seen_from rule p x m k well lawful here simple king = search (rules, is_pseudo_legal-from_legal, no_king_next, legal_moves_are_triples)

@@ -9,10 +9,8 @@ use Rattle.chess_mates.proofs.Standing.{not_mine_enemy, unnamed}
 
 -- a pawn's last rank is in the word of both
 pub last_rank_on : (c : Colour) (t : ℕ) → t < 64 → (rank_of t == last_rank c) ≡ true → (bit_at 18374686479671623935 t == 1) ≡ true
-last_rank_on c t lt = implied (rank_of t == last_rank c) _ (agreed c) where
-  agreed : (c : Colour) → (not (rank_of t == last_rank c) || bit_at 18374686479671623935 t == 1) ≡ true
-  agreed White = agree_below_at (λ n. not (rank_of n == 8) || bit_at 18374686479671623935 n == 1) (λ _. true) 64 t refl lt
-  agreed Black = agree_below_at (λ n. not (rank_of n == 1) || bit_at 18374686479671623935 n == 1) (λ _. true) 64 t refl lt
+last_rank_on White t lt = implied _ _ (agree_below_at (λ n. not (rank_of n == 8) || bit_at 18374686479671623935 n == 1) (λ _. true) 64 t refl lt)
+last_rank_on Black t lt = implied _ _ (agree_below_at (λ n. not (rank_of n == 1) || bit_at 18374686479671623935 n == 1) (λ _. true) 64 t refl lt)
 
 -- nobody moves from an empty square
 pub check_targets_nobody : (rule : RuleSet) (p : Position) (f w : ℕ) → man_on p.men f ≡ None → AreCheckTargets rule p f w
@@ -33,28 +31,19 @@ module _ (rule : RuleSet) (p : Position) (x : Man) (s : CheckSquares) (f : ℕ) 
   module _ (m : Move) (at : m.from ≡ f) (small : m.to < 64) (may : is_pseudo_legal rule p m ≡ true)
       (apart : same_kind x.kind King ≡ true → may_check_from p.men (other p.turn) x m.to ≡ false)
       (off-lines : (bit_at (bit_or (bit_or (bit_or (bit_or a b) c) d) s.fairy_lines) m.to == 1) ≡ false) where
-    off : (bit_at (bit_or (bit_or (bit_or a b) c) d) m.to == 1) ≡ false
-    off = off_left (bit_or (bit_or (bit_or a b) c) d) s.fairy_lines m.to off-lines
+    -- off each of the words
+    off : ((bit_at a m.to == 1) ≡ false) × ((bit_at b m.to == 1) ≡ false) × ((bit_at c m.to == 1) ≡ false) × ((bit_at d m.to == 1) ≡ false)
+        × ((bit_at s.fairy_lines m.to == 1) ≡ false)
+    off = search (rules, off_left, off_right)
 
     aside : may_stand_between p.men (other p.turn) m.to ≡ false
-    aside =
-        sym (word_has (may_stand_between p.men (other p.turn)) s.fairy_lines m.to checks.fairy_lines small)
-        ∙ off_right (bit_or (bit_or (bit_or a b) c) d) s.fairy_lines m.to off-lines
+    aside = sym (word_has (may_stand_between p.men (other p.turn)) s.fairy_lines m.to checks.fairy_lines small) ∙ off.4
 
     is : IsMade rule p x m
     is = made rule p m x may (ap (man_on p.men) at ∙ here)
 
-    off-abc : (bit_at (bit_or (bit_or a b) c) m.to == 1) ≡ false
-    off-abc = off_left (bit_or (bit_or a b) c) d m.to off
-
-    off-c : (bit_at c m.to == 1) ≡ false
-    off-c = off_right (bit_or a b) c m.to off-abc
-
-    off-ab : (bit_at (bit_or a b) m.to == 1) ≡ false
-    off-ab = off_left (bit_or a b) c m.to off-abc
-
     unpromoted : m.promo ≡ None
-    unpromoted = unnamed p x m m.promo (search (rules, and_parts, false_by, last_rank_on, off-c)) is.promotion
+    unpromoted = unnamed p x m m.promo (search (rules, and_parts, false_by, last_rank_on, off)) is.promotion
 
     origin_stays : may_expose p.men (other p.turn) m.from ≡ false
     origin_stays = rw at (sym (word_has (may_expose p.men (other p.turn)) s.shield_squares f checks.shield_squares inside) ∙ covered)
@@ -67,18 +56,18 @@ module _ (rule : RuleSet) (p : Position) (x : Man) (s : CheckSquares) (f : ℕ) 
         let beside : is_two_files_aside f m.to ≡ true = ap (λ n. is_two_files_aside n m.to) (sym at) ∙ castling_aside x m small y in
         castling_gives_no_check rule p x m well is y (other p.turn) (not_mine_enemy x p.turn is.mine) origin_stays aside (apart king)
         (sym (word_has (may_check_from p.men (other p.turn) (enemy (other p.turn) Rook)) s.straight (halfway m) checks.straight half)
-        ∙ ap (λ n. bit_at s.straight ((n + m.to) / 2) == 1) at ∙ (castles king).elsewhere m.to small beside off-c)
+        ∙ ap (λ n. bit_at s.straight ((n + m.to) / 2) == 1) at ∙ (castles king).elsewhere m.to small beside off.2)
 
     covering : is_castling x m ≡ false → cannot_expose (rule_of_checks rule p.men p.turn) p (other p.turn) m ≡ true
     unfolding cannot_expose
     covering no_castling =
-        grind (arith, plain_elsewhere, off_right, off-ab, off, is.here, origin_stays, aside, cases_Bool (are_rebirths_quiet rule p.men p.turn), reborn)
+        grind (arith, plain_elsewhere, off, is.here, origin_stays, aside, cases_Bool (are_rebirths_quiet rule p.men p.turn), reborn)
 
     no_check_elsewhere : in_check rule (position_after rule p m).men (other p.turn) ≡ false
     no_check_elsewhere = elim (cases_Bool (is_castling x m)) [
       | inl y ↦ castled y
       | inr n ↦
-          no_check_by_rebirth rule p x m s a well may is.here checks checked_from small (off_left a b m.to off-ab) apart unpromoted (covering n)
+          no_check_by_rebirth rule p x m s a well may is.here checks checked_from small off.0 apart unpromoted (covering n)
     ]
 
   -- for a man who may check, uncover a check, castle, capture en passant or be followed by a rebirth: each by its own word

@@ -1,5 +1,5 @@
 -- What a man reaches doesn't depend on who stands on the square that it reaches.
-use Rattle.chess_rules.proofs.Basics.{Bool, List, Option, Some, [], and_left, arith, cases_Bool, false, false_from_ne_true, inl, inr, is_some, list_all, list_any, range_with_len, refl, rules, suc, zero, ℕ, ◌&&◌, ◌+◌, ◌-◌, ◌<◌, ◌||◌, ◌∙◌, ◌∷◌, ◌≡◌, ◌≢◌, ◌≤◌}
+use Rattle.chess_rules.proofs.Basics.{Bool, List, Option, Some, [], and_left, arith, cases_Bool, false, false_from_ne_true, inl, inr, is_some, list_all, list_any, or_from, range_with_len, refl, rules, suc, zero, ℕ, ◌&&◌, ◌+◌, ◌-◌, ◌<◌, ◌||◌, ◌∙◌, ◌∷◌, ◌≡◌, ◌≢◌, ◌≤◌}
 use Rattle.chess_mates.proofs.Chess.{Bishop, Black, Colour, Direction, East, Gait, Hopper, Kind, Knight, Leaper, Man, Nightrider, North, NorthEast, NorthWest, Pawn, Rider, Rook, South, SouthEast, SouthWest, Step, West, White, along, any_range_false, any_range_same, gait_of, goes_by, hops, is_clear, is_occupied, is_square, kind_steps, leaps, man_on, place, reaches_as, rides, square_is, step_of}
 use Rattle.chess_rules.proofs.attacks.FairyLines.{knight_directions, queen_directions}
 use Rattle.chess_rules.proofs.rays.Ahead.{Ordered, ordered}
@@ -66,6 +66,11 @@ unfolding reaches_as
 reaches_alike men others c j s t a =
     same_steps (goes_by (gait_of j) men s t) (goes_by (gait_of j) others s t) (λ x. ways_alike (gait_of j) men others s t (step_of x) (ordered x) a) c j
 
+-- where no step of the list passes the test
+pub any_false : (f : Step → Bool) (ds : List Step) → ((d : Step) → f d ≡ false) → list_any f ds ≡ false
+any_false f [] none = refl
+any_false f (d ∷ ds) none = or_from _ _ (none d) (any_false f ds none)
+
 -- no way leads back to where it began
 no_return : (s k : ℕ) (d : Step) → Ordered d → s < 64 → 1 ≤ k → is_square (along s d k) s ≡ false
 no_return s k d o small lo = false_from_ne_true _ (λ y. let less : place d s < place d s =
@@ -79,7 +84,5 @@ no_way_back g men s d o small = search (rules, no_return, any_range_false, and_l
 pub no_reach_there : (men : List (Option Man)) (c : Colour) (j : Kind) (s : ℕ) → s < 64 → reaches_as men c j s s ≡ false
 unfolding reaches_as
 no_reach_there men c j s small =
-    same_steps (goes_by (gait_of j) men s s) (λ d. false) (λ x. no_way_back (gait_of j) men s (step_of x) (ordered x) small) c j ∙ none (kind_steps c j) where
-      none : (ds : List Step) → list_any (λ d. false) ds ≡ false
-      none [] = refl
-      none (d ∷ ds) = none ds
+    same_steps (goes_by (gait_of j) men s s) (λ d. false) (λ x. no_way_back (gait_of j) men s (step_of x) (ordered x) small) c j
+    ∙ any_false (λ d. false) (kind_steps c j) (λ d. refl)

@@ -1,15 +1,11 @@
 -- Castling gives no check where the rook doesn't see the enemy king from his new square, and the king leaves no line to him.
-use Rattle.chess_rules.proofs.Basics.{Bool, List, Option, Some, [], and_left, and_right, ap, arith, eqb-true, false, list_any, or_from, refl, rules, true, ℕ, ◌<◌, ◌==◌, ◌∙◌, ◌∷◌, ◌≡◌}
+use Rattle.chess_rules.proofs.Basics.{Option, Some, and_left, and_right, ap, arith, eqb-true, false, or_from, refl, rules, true, ℕ, ◌<◌, ◌==◌, ◌∙◌, ◌≡◌}
 use Rattle.chess_mates.proofs.Chess.{Bishop, Colour, Grasshopper, IsMade, IsWellFormed, Kind, Man, Move, Nightrider, Position, Rook, RuleSet, Step, false_by, halfway, in_check, is_castling, is_fairy, is_lined, is_man, is_on_fairy_line, is_on_fairy_line_at, is_on_some, is_reached, is_shut, king_square, king_there, knight_steps, man_on, may_check_from, may_expose, may_stand_between, other, position_after, queen_steps, reaches_as, some_square_false, straight-back, straight_steps}
 use Rattle.chess_mates.specs.ties.Siege.{is_rider}
+use Rattle.chess_mates.proofs.Landing.{any_false}
 use Rattle.chess_mates.proofs.OpenBoard.{rides_on}
 use Rattle.chess_mates.proofs.CastlingChecks.{castling_gives_no_check}
 use Rattle.chess_mates.proofs.Standing.{not_mine, reach_none}
-
--- where no step of the list passes the test
-any_false : (f : Step → Bool) (ds : List Step) → ((d : Step) → f d ≡ false) → list_any f ds ≡ false
-any_false f [] none = refl
-any_false f (d ∷ ds) none = or_from _ _ (none d) (any_false f ds none)
 
 -- x castles in p; the enemy's king, of colour c, stands on k
 module _ (rule : RuleSet) (p : Position) (x : Man) (m : Move) (c : Colour) (k : ℕ) (well : IsWellFormed p) (is : IsMade rule p x m)

@@ -1,6 +1,6 @@
 -- Steps of the king that give no check, told without playing them.
 use Rattle.chess_rules.proofs.Basics.{[], Bool, List, Option, Some, and_from, and_left, and_parts, ap, arith, bit_and, bit_at, cond-true, false, inl, inr, list_all, list_any, not, subst, sym, true, ℕ, ◌<◌, ◌==◌, ◌∙◌, ◌∷◌, ◌≡◌}
-use Rattle.chess_mates.proofs.Chess.{AreOpen, AreSeen, Colour, IsWellFormed, King, Man, Move, Position, RuleSet, capture_square, captures_do_more, is_legal, is_mating, king_after, king_square, leaps, man_on, moves, off_zero, other, queen_steps, reaches_as, same_colour, same_colour-true, same_kind, word}
+use Rattle.chess_mates.proofs.Chess.{AreOpen, AreSeen, Colour, IsWellFormed, King, Man, Move, Position, RuleSet, capture_square, captures_do_more, is_legal, is_mating, king_after, king_square, leaps, man_on, moves, off_zero, other, queen_steps, same_colour, same_colour-true, same_kind, word}
 use Rattle.chess_mates.proofs.Fleeing.{IsKingStep, king_on, may_step, on_second, reached_near, simple_step, step_to}
 use Rattle.chess_mates.specs.ties.Flights.{IsUnreached, is_open}
 use Rattle.chess_rules.proofs.Bits.{word_has}
@@ -13,20 +13,14 @@ use Rattle.chess_rules.specs.ties.Sight.{sight_after}
 use Rattle.chess_rules.specs.ties.Targets.{is_arrival}
 use Rattle.std.specs.List.{Contains}
 
--- where the king may step
-open_at : (rule : RuleSet) (p : Position) (x : Man) (k t : ℕ) → captures_do_more rule ≡ false → man_on p.men k ≡ Some x
-    → reaches_as p.men p.turn King k t ≡ true
-    → is_arrival rule p k t ≡ true → is_open rule p.men p.turn k t ≡ true
-unfolding is_open is_arrival
-open_at rule p x k t circe here near at = grind (arith, and_parts, and_from)
-
 -- for the word of a king's steps
 pub open_steps : (rule : RuleSet) (p : Position) (k n w : ℕ) → captures_do_more rule ≡ false → n ≡ word (λ t. list_any (leaps k t) queen_steps)
     → w ≡ word (is_arrival rule p k) → (x : Man) → man_on p.men k ≡ Some x → same_kind x.kind King ≡ true → AreOpen rule p.men p.turn k (bit_and n w)
+unfolding is_open is_arrival
 open_steps rule p k n w circe near at x here king = record {
   inside = λ t lt on.
-      open_at rule p x k t circe here (reached_near p.men p.turn k n t near lt (on_first n w t on))
-      (sym (word_has (is_arrival rule p k) w t at lt) ∙ on_second n w t on);
+      let reached = reached_near p.men p.turn k n t near lt (on_first n w t on) in
+      let arrives = sym (word_has (is_arrival rule p k) w t at lt) ∙ on_second n w t on in grind (arith, reached, arrives, here, and_parts, and_from);
 }
 
 -- for kings without one, in Circe too

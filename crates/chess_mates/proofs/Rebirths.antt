@@ -1,6 +1,6 @@
 -- A man who is reborn gives his own king no check, but as a grasshopper's hurdle.
 use Rattle.chess_rules.proofs.Basics.{List, None, Option, Some, and_from, and_parts, arith, bit_at, cases_Bool, cond-false, cond-true, false, false_from_ne_true, false≢true, length, list_all, not-true, range_with_len, refl, rules, sym, true, ℕ, ◌&&◌, ◌-◌, ◌<◌, ◌==◌, ◌∙◌, ◌≡◌}
-use Rattle.chess_mates.proofs.Chess.{AreCheckSquares, AtMostOneKing, CheckSquares, Colour, Grasshopper, IsMade, IsWellFormed, Kind, King, Man, Move, Position, RuleSet, Step, all_kept, along, any_kept, are_rebirths_quiet, arrived, arriving_man, can_castle, cannot_expose, capture_square, captured_enemy, captured_mortal, check_squares_for, circe, corner, halfway, in_check, is_absent, is_attacked, is_attacker, is_castling, is_clear, is_man, is_man-without, is_of_colour, is_paralysed, is_pseudo_legal, is_square, is_vacant_at, king_is, made, man_on, man_on-with_cases, man_on_at, man_there, may_castle, may_check_from, move_man, moved_men, moved_sound, on_board, orthodox, other, other_twice, position_after, position_after_by, put_at, reaches, reaches_as, reaches_of, reborn_square, rides, rule_of_checks, same_colour, same_kind, some_square_false, some_square_true, unreborn_after, with_man, without_at, without_man}
+use Rattle.chess_mates.proofs.Chess.{AreCheckSquares, AtMostOneKing, CheckSquares, Colour, Grasshopper, IsMade, IsWellFormed, Kind, King, Man, Move, Position, RuleSet, Step, all_kept, along, any_kept, are_rebirths_quiet, arrived, arriving_man, can_castle, cannot_expose, capture_square, captured_enemy, captured_mortal, check_squares_for, circe, in_check, is_absent, is_attacked, is_attacker, is_castling, is_clear, is_man, is_man-without, is_of_colour, is_paralysed, is_pseudo_legal, is_square, is_vacant_at, king_is, made, man_on, man_on-with_cases, man_on_at, man_there, may_castle, may_check_from, moved_men, moved_sound, on_board, orthodox, other, other_twice, position_after, position_after_by, put_at, reaches, reaches_as, reaches_of, reborn_square, rides, rule_of_checks, same_colour, same_kind, some_square_false, some_square_true, unreborn_after, with_man, without_at, without_man}
 use Rattle.chess_mates.proofs.Checking.{no_check, unchecked}
 
 -- no grasshopper of this colour stands there
@@ -50,37 +50,27 @@ same_check : (men : List (Option Man)) (c : Colour) → in_check circe men c ≡
 unfolding in_check is_attacked is_attacker is_paralysed
 same_check men c = grind arith
 
-same_castles : (p : Position) (x : Man) (m : Move) → can_castle circe p x m ≡ can_castle orthodox p x m
-unfolding can_castle may_castle is_paralysed
-same_castles p x m = grind (arith, same_check)
-
 -- what may be played in Circe may be played in orthodox chess
 pseudo_so : (p : Position) (m : Move) → is_pseudo_legal circe p m ≡ true → is_pseudo_legal orthodox p m ≡ true
-unfolding is_pseudo_legal is_paralysed
-pseudo_so p m h = grind (arith, same_castles)
+unfolding is_pseudo_legal is_paralysed can_castle may_castle
+pseudo_so p m h = grind (arith, same_check)
 
 -- nobody becomes a grasshopper but by promotion
 lacks_without : (men : List (Option Man)) (a : ℕ) (e : Colour) → LacksGrasshopper men e → LacksGrasshopper (without_man men a) e
 lacks_without men a e none = λ s. false_from_ne_true _ (λ h. false≢true (sym (none s) ∙ is_man-without men a s e Grasshopper h))
 
-lacks_without_at : (men : List (Option Man)) (o : Option ℕ) (e : Colour) → LacksGrasshopper men e → LacksGrasshopper (without_at men o) e
-lacks_without_at men o e none = grind (arith, lacks_without)
-
 lacks_with : (men : List (Option Man)) (b : ℕ) (z : Man) (e : Colour) → LacksGrasshopper men e → is_man (Some z) e Grasshopper ≡ false
     → LacksGrasshopper (with_man men b z) e
 lacks_with men b z e none other_man = grind (arith, man_on-with_cases)
-
-lacks_moved : (men : List (Option Man)) (a b : ℕ) (o : Option Man) (e : Colour) → man_on men a ≡ o → LacksGrasshopper men e
-    → LacksGrasshopper (move_man men a b o) e
-lacks_moved men a b o e here none = grind (arith, lacks_with, lacks_without)
 
 moved_lacks : (p : Position) (x : Man) (m : Move) (e : Colour) → man_on p.men m.from ≡ Some x → m.promo ≡ None → LacksGrasshopper p.men e
     → LacksGrasshopper (moved_men p x m) e
 unfolding moved_men
 moved_lacks p x m e here unpromoted none =
     let comes : is_man (Some (arriving_man x m.promo)) e Grasshopper ≡ false = search rules in
-    let arrived_lacks : LacksGrasshopper (arrived p x m) e = search (rules, lacks_with, lacks_without_at, lacks_without) in
-    grind (arith, cases_Bool (is_castling x m), lacks_moved (arrived p x m) (corner m) (halfway m) (man_on (arrived p x m) (corner m)) e refl arrived_lacks)
+    let gone : LacksGrasshopper (without_at (without_man p.men m.from) (capture_square p x m)) e = grind (arith, lacks_without) in
+    let arrived_lacks : LacksGrasshopper (arrived p x m) e = lacks_with _ m.to _ e gone comes in
+    grind (arith, cases_Bool (is_castling x m), lacks_with, lacks_without, arrived_lacks)
 
 absent_lacks : (men : List (Option Man)) (e : Colour) → length men ≡ 64 → is_absent men (record { colour = e; kind = Grasshopper }) ≡ true
     → LacksGrasshopper men e
