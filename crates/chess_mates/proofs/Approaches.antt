@@ -61,14 +61,11 @@ unfolding along leaps
 no_far_step s t p q far = not-true _ (implied _ _ (pairs (λ s t. not (is_far s t) || not (list_any (leaps s t) queen_steps)) refl s t p q) far)
 
 -- a pawn goes two ranks only by stepping, to a square where nobody stands
-takes_near : (c : Colour) (s t : ℕ) → s < 64 → t < 64 → is_far s t ≡ true → list_any (leaps s t) (pawn_capture_steps c) ≡ false
-takes_near c s t low high far = grind (arith, no_far_step s t low high far)
-
 pub far_is_vacant : (p : Position) (c : Colour) (s t : ℕ) → s < 64 → t < 64 → may_go p (record { colour = c; kind = Pawn }) s t ≡ true → is_far s t ≡ true
     → man_on p.men t ≡ None
 unfolding may_go reaches_as
 far_is_vacant p c s t low high goes far =
-    grind (arith, takes_near c s t low high far, pawn_goes p (record { colour = c; kind = Pawn }) (record { from = s; to = t; promo = None }), goes, false≢true)
+    grind (arith, no_far_step s t low high far, pawn_goes p (record { colour = c; kind = Pawn }) (record { from = s; to = t; promo = None }), goes, false≢true)
 
 -- how a pawn goes: he captures, or steps once, or twice from his second rank
 abbrev pawn_steps : Colour → ℕ → ℕ → Bool
@@ -97,7 +94,7 @@ steps_back c s h p q =
 pub steps_from_there : (p : Position) (c : Colour) (s t u : ℕ) → s < 64 → t < 64 → u < 64 → (s + t) / 2 < 64
     → may_go p (record { colour = c; kind = Pawn }) s t ≡ true → is_far s t ≡ true → pawn_steps (other c) u ((s + t) / 2) ≡ true → u ≡ t
 steps_from_there p c s t u low high inside mid goes far steps =
-    grind (arith, takes_or_steps p c s t goes, takes_near c s t low high far, over_is c s t low high, steps_back c u ((s + t) / 2), and_parts, eqb-true)
+    grind (arith, takes_or_steps p c s t goes, no_far_step s t low high far, over_is c s t low high, steps_back c u ((s + t) / 2), and_parts, eqb-true)
 
 -- for double steps: a pawn that goes so far goes over the next square ahead
 pub goes_over_next : (p : Position) (c : Colour) (s t : ℕ) → s < 64 → t < 64 → may_go p (record { colour = c; kind = Pawn }) s t ≡ true → is_far s t ≡ true

@@ -103,9 +103,6 @@ module _ (rule : RuleSet) (p : Position) (m : Move) (x : Man) (k : ℕ) (i : IsS
   men_are : (position_after rule after step).men ≡ now_men
   men_are = men_made ∙ ap (λ (l : List (Option Man)). gone_to l k taken t y) (after_seen rule p m x k i)
 
-  free : is_man (man_on after.men t) p.turn King ≡ false
-  free = no_king_free (other p.turn) p.turn (man_on after.men t) (open_parts rule after.men (other p.turn) k t way).free
-
   is_left : IsLeft p.men m.from (capture_square p x m) m.to z taken t (other p.turn)
   is_left = record {
     arrival = omega (arith, small, i.well_formed.size);
@@ -119,6 +116,7 @@ module _ (rule : RuleSet) (p : Position) (m : Move) (x : Man) (k : ℕ) (i : IsS
   king_after_step : king_square (position_after rule after step).men p.turn ≡ Some s
   king_after_step =
       let size = (after_well_formed rule p m i.well_formed i.pseudo).size in
+      let free = no_king_free (other p.turn) p.turn (man_on after.men t) (open_parts rule after.men (other p.turn) k t way).free in
       rw men_made (king_stands after.men k taken t y p.turn (record {
         small = omega (arith, there, size);
         here = grind (arith, king.here, king_is_other y p.turn king.mine);

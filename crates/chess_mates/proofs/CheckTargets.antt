@@ -1,6 +1,6 @@
 -- A move that goes to no square from which its man may give check gives none.
-use Rattle.chess_rules.proofs.Basics.{None, Some, agree_below_at, and_parts, ap, arith, bit_and, bit_at, bit_not, bit_or, cases_Bool, false, inl, inr, is_some, not, refl, rules, sym, true, w64, ℕ, ◌+◌, ◌/◌, ◌<◌, ◌==◌, ◌||◌, ◌∙◌, ◌≡◌}
-use Rattle.chess_mates.proofs.Chess.{AreCastlingTargets, AreCheckSquares, AreCheckTargets, Black, CheckSquares, Colour, IsMade, IsWellFormed, King, Man, Move, Pawn, Position, Rook, RuleSet, White, are_rebirths_quiet, arrival_needed, cannot_expose, captures_do_more, check_squares_for, enemy, every_square_on, false_by, halfway, implied, in_check, is_castling, is_legal, is_pseudo_legal, is_pseudo_legal-from_legal, is_square, is_two_files_aside, last_rank, made, man_on, may_check_from, may_expose, may_go, may_go_aimed, may_stand_between, nobody_moves, off_left, off_right, off_second, other, position_after, rank_of, rule_of_checks, same_kind, word, word_has}
+use Rattle.chess_rules.proofs.Basics.{None, Some, agree_below_at, and_parts, ap, arith, bit_and, bit_at, bit_or, cases_Bool, false, inl, inr, is_some, not, refl, rules, sym, true, ℕ, ◌+◌, ◌/◌, ◌<◌, ◌==◌, ◌||◌, ◌∙◌, ◌≡◌}
+use Rattle.chess_mates.proofs.Chess.{AreCastlingTargets, AreCheckSquares, AreCheckTargets, Black, CheckSquares, Colour, IsMade, IsWellFormed, King, Man, Move, Pawn, Position, Rook, RuleSet, White, are_rebirths_quiet, arrival_needed, cannot_expose, captures_do_more, check_squares_for, enemy, false_by, halfway, implied, in_check, is_castling, is_pseudo_legal, is_pseudo_legal-from_legal, is_square, is_two_files_aside, last_rank, made, man_on, may_check_from, may_expose, may_go, may_go_aimed, may_stand_between, off_left, off_right, off_second, other, position_after, rank_of, rule_of_checks, same_kind, word, word_has}
 use Rattle.chess_rules.proofs.attacks.EvasionTargets.{plain_elsewhere}
 use Rattle.chess_mates.proofs.CastlingChecks.{castling_aside, castling_gives_no_check}
 use Rattle.chess_mates.proofs.KingsApart.{kings_apart}
@@ -11,15 +11,6 @@ use Rattle.chess_mates.proofs.Standing.{not_mine_enemy, unnamed}
 pub last_rank_on : (c : Colour) (t : ℕ) → t < 64 → (rank_of t == last_rank c) ≡ true → (bit_at 18374686479671623935 t == 1) ≡ true
 last_rank_on White t lt = implied _ _ (agree_below_at (λ n. not (rank_of n == 8) || bit_at 18374686479671623935 n == 1) (λ _. true) 64 t refl lt)
 last_rank_on Black t lt = implied _ _ (agree_below_at (λ n. not (rank_of n == 1) || bit_at 18374686479671623935 n == 1) (λ _. true) 64 t refl lt)
-
--- nobody moves from an empty square
-pub check_targets_nobody : (rule : RuleSet) (p : Position) (f w : ℕ) → man_on p.men f ≡ None → AreCheckTargets rule p f w
-unfolding is_legal
-check_targets_nobody rule p f w none = search (rules, nobody_moves)
-
--- every square is in the word
-pub check_targets_all : (rule : RuleSet) (p : Position) (f : ℕ) → AreCheckTargets rule p f (bit_not w64 0)
-check_targets_all rule p f = search (rules, every_square_on)
 
 -- off the words of the check squares, of the crossed square, of last ranks or castlings, and of the men where a rebirth may give check
 module _ (rule : RuleSet) (p : Position) (x : Man) (s : CheckSquares) (f : ℕ) (well : IsWellFormed p) (here : man_on p.men f ≡ Some x)

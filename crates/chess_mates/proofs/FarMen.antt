@@ -15,10 +15,6 @@ man_of_word men c k w s h small on = search (rules, same_colour-true, same_kind-
 pub record AreFar (rule : RuleSet) (p : Position) (w : ℕ) : Type 0 where
   pub far : (s : ℕ) → s < 64 → (bit_at w s == 1) ≡ true → AreCheckTargets rule p s 0
 
--- to begin with: no man is far
-pub far_none : (rule : RuleSet) (p : Position) → AreFar rule p 0
-far_none rule p = grind (arith, off_zero)
-
 -- a square of the first of two words, and not of the second
 pub off_denied : (a b i : ℕ) → b < 2 ^ 64 → i < 64 → (bit_at (bit_and a (bit_not w64 b)) i == 1) ≡ true → (bit_at b i == 1) ≡ false
 off_denied a b i fits small on = grind (arith, false_by, eqb-true _ _ on, eqb-true, bit_at_not w64 b i fits small, bit_at_and a (bit_not w64 b) i)
@@ -43,11 +39,6 @@ far_unreached rule p x s w here are off = record {
   elsewhere = λ m at small lawful none.
       let may = is_pseudo_legal-from_legal rule p m lawful in grind (arith, arrival_needed rule p m small may, may, may_go_aimed);
 }
-
--- words of men who are far, joined
-pub far_five : (rule : RuleSet) (p : Position) (a b c d e : ℕ) → AreFar rule p a → AreFar rule p b → AreFar rule p c → AreFar rule p d → AreFar rule p e
-    → AreFar rule p (bit_or (bit_or (bit_or (bit_or a b) c) d) e)
-far_five rule p a b c d e u v w x y = grind (arith, far_either)
 
 -- targets of the men of this kind who are on no square of the word h; of a king on his own square
 abbrev pub AreTargetsOff : RuleSet → Position → Kind → Option ℕ → ℕ → ℕ → Type 0

@@ -1,6 +1,6 @@
 use Rattle.chess_rules.proofs.Basics.{or_lt, rules}
-use Rattle.chess_mates.proofs.FarMen.{check_origins_are, far_five}
+use Rattle.chess_mates.proofs.FarMen.{check_origins_are, far_either}
 use Rattle.chess_mates.proofs.origins.check_origins.Goals as goal
 
 pub returns : goal.returns
-returns g c = search (rules, far_five, check_origins_are, or_lt)
+returns g c = search (rules, far_either, check_origins_are, or_lt) depth 8
