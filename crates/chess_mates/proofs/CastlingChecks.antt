@@ -20,14 +20,23 @@ is_corner s = s == 0 || s == 7 || s == 56 || s == 63
 abbrev is_end : ℕ → Step → Bool
 is_end s d = list_all (λ n. not (is_some (along s d n))) (range_with_len 1 7)
 
--- from a corner no line goes both ways
-abbrev is_end_of : Step → ℕ → Bool
-is_end_of d b = not (is_corner b) || is_end b d || is_end b (back d)
+-- the squares halfway of castlings
+abbrev is_half : ℕ → Bool
+is_half h = h == 3 || h == 5 || h == 59 || h == 61
 
-corner_ends : (x : Direction) (b : ℕ) → b < 64 → is_end_of (step_of x) b ≡ true
+-- no square is right behind h on a line from elsewhere, the two beside h on its rank apart
+abbrev is_beside_alone : ℕ → Step → Bool
+is_beside_alone h d = not (is_some (along h (back d) 1)) || not (is_some (along h d 1)) || is_square (along h d 1) (h + 1)
+    || is_square (along h d 1) (h - 1)
+
+-- from a corner no line goes both ways, and from a square halfway none but along its rank
+abbrev is_bare : Step → ℕ → Bool
+is_bare d b = (not (is_corner b) || is_end b d || is_end b (back d)) && (not (is_half b) || is_beside_alone b d)
+
+bare : (x : Direction) (b : ℕ) → b < 64 → is_bare (step_of x) b ≡ true
 unfolding along
-corner_ends East b lt = agree_below_at (is_end_of (step_of East)) (λ b. true) 64 b refl lt
-corner_ends x b lt = agree_below_at (is_end_of (step_of x)) (λ b. true) 64 b refl lt
+bare East b lt = agree_below_at (is_bare (step_of East)) (λ b. true) 64 b refl lt
+bare x b lt = agree_below_at (is_bare (step_of x)) (λ b. true) 64 b refl lt
 
 end_none : (s : ℕ) (d : Step) (n t : ℕ) → is_end s d ≡ true → 1 ≤ n → n ≤ 7 → along s d n ≡ Some t → ⊥
 end_none s d n t h low le at = search (rules, all_at, false≢true)
@@ -39,21 +48,7 @@ corner_beside x b s k h inside small =
     let here : along s (step_of x) i ≡ Some b = square_is _ b y in
     let on = onward s b (step_of x) i (n - i) here in
     let came : along b (back (step_of x)) i ≡ Some s = square_is _ s (return_square s b (step_of x) i small y) in
-    grind (arith, on, came, or_cases, corner_ends x b inside, end_none b (step_of x) (n - i) k, end_none b (back (step_of x)) i s))
-
--- the squares halfway of castlings: lines through one go along its rank alone
-abbrev is_half : ℕ → Bool
-is_half h = h == 3 || h == 5 || h == 59 || h == 61
-
--- no square is right behind h on a line from elsewhere, the two beside h on its rank apart
-abbrev is_beside_alone : ℕ → Step → Bool
-is_beside_alone h d = not (is_some (along h (back d) 1)) || not (is_some (along h d 1)) || is_square (along h d 1) (h + 1)
-    || is_square (along h d 1) (h - 1)
-
-half_alone : (x : Direction) (h : ℕ) → h < 64 → (not (is_half h) || is_beside_alone h (step_of x)) ≡ true
-unfolding along
-half_alone East h lt = agree_below_at (λ h. not (is_half h) || is_beside_alone h (step_of East)) (λ h. true) 64 h refl lt
-half_alone x h lt = agree_below_at (λ h. not (is_half h) || is_beside_alone h (step_of x)) (λ h. true) 64 h refl lt
+    grind (arith, on, came, or_cases, and_parts, bare x b inside, end_none b (step_of x) (n - i) k, end_none b (back (step_of x)) i s))
 
 -- who stands halfway is a hurdle before none but the squares beside him
 half_no_hurdle : (x : Direction) (h s k : ℕ) → is_half h ≡ true → h < 64 → s < 64 → k ≢ h + 1 → k ≢ h - 1 → IsNoHurdle h s k (step_of x)
@@ -63,7 +58,7 @@ half_no_hurdle x h s k half inside small ne1 ne2 = λ n at low le. false_from_ne
     let on : along h (step_of x) 1 ≡ Some k = onward s h (step_of x) (n - 1) 1 here ∙ ap (along s (step_of x)) rest ∙ at in
     let came : along h (back (step_of x)) (n - 1) ≡ Some s = square_is _ s (return_square s h (step_of x) (n - 1) small y) in
     let before = passes h s (back (step_of x)) (n - 1) 1 inside (omega arith) came in
-    grind (arith, implied (is_half h) (is_beside_alone h (step_of x)) (half_alone x h inside) half, half_alone x h inside, or_cases, false≢true, eqb-true))
+    grind (arith, implied (is_half h) (is_beside_alone h (step_of x)), and_parts, bare x h inside, or_cases, false≢true, eqb-true))
 
 -- when a man has left a corner, riders get where they got
 module _ (men after : List (Option Man)) (b s k : ℕ) (free : Frees after men b) (edge : is_corner b ≡ true) (inside : b < 64) (small : s < 64)

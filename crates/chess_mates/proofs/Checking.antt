@@ -1,6 +1,6 @@
 -- The squares from which a move may give check, by kinds.
 use Rattle.chess_rules.proofs.Basics.{List, None, Option, Some, arith, bit_at, bit_or, cases_Bool, false, false≢true, inl, list_any-append, or_parts, rules, true, ℕ, ◌<◌, ◌==◌, ◌∙◌, ◌≡◌}
-use Rattle.chess_mates.proofs.Chess.{AreCheckSquares, AreRides, Bishop, CheckSquares, Colour, IsWellFormed, Kind, King, Man, Move, Position, Queen, Rook, RuleSet, cannot_expose, cannot_expose_parts, check_squares_for, diagonal-back, diagonal_steps, enemy, in_check, is_absent, is_man, is_attacked, is_pseudo_legal, king_square, king_there, made, man_on, may_check_from, on_board, other, other_twice, plain_safe, position_after, reaches_as, same_kind, squares_either, squares_same, straight-back, straight_steps, word, word_has}
+use Rattle.chess_mates.proofs.Chess.{AreCheckSquares, AreRides, Bishop, CheckSquares, Colour, IsWellFormed, Kind, King, Man, Move, Position, Queen, Rook, RuleSet, cannot_expose, cannot_expose_parts, check_squares_for, diagonal-back, diagonal_steps, enemy, in_check, is_man, is_attacked, is_pseudo_legal, king_square, king_there, made, man_on, may_check_from, on_board, other, other_twice, plain_safe, position_after, reaches_as, same_kind, squares_either, squares_same, straight-back, straight_steps, word, word_has}
 
 -- a king whom nobody attacks where he stands isn't in check
 pub unchecked : (rule : RuleSet) (men : List (Option Man)) (c : Colour)
@@ -8,19 +8,12 @@ pub unchecked : (rule : RuleSet) (men : List (Option Man)) (c : Colour)
 unfolding in_check
 unchecked rule men c none = grind (arith, king_there)
 
--- for `check_squares_of`: who stands there checks from where he would be reached from the king
-pub check_squares_of_some : (men : List (Option Man)) (c : Colour) (j : Kind) (k w : ℕ) → king_square men c ≡ Some k → is_absent men (enemy c j) ≡ false
-    → w ≡ word (λ s. reaches_as men (other c) j s k) → w ≡ word (may_check_from men c (enemy c j))
-unfolding may_check_from
-check_squares_of_some men c j k w at present h = grind (arith, squares_same)
-
--- a rook checks from where he would get from the king
+-- a rook checks from where he would get from the king, and a bishop
 pub rook_squares : (men : List (Option Man)) (c : Colour) (k w : ℕ) → king_square men c ≡ Some k → w ≡ word (may_check_from men c (enemy c Rook))
     → AreRides men (other c) Rook straight_steps k w
 unfolding may_check_from reaches_as
 rook_squares men c k w at h = inl (h ∙ squares_same _ _ (λ t small. rw at (straight-back men t k small (king_there men c k at).0)))
 
--- and a bishop
 pub bishop_squares : (men : List (Option Man)) (c : Colour) (k w : ℕ) → king_square men c ≡ Some k → w ≡ word (may_check_from men c (enemy c Bishop))
     → AreRides men (other c) Bishop diagonal_steps k w
 unfolding may_check_from reaches_as
@@ -47,5 +40,6 @@ no_check rule p x m s w well may here a h small off apart unpromoted cover =
     let parts = cannot_expose_parts rule p x (other p.turn) m here cover in
     let is = made rule p m x may here in
     let check = may_check_from p.men (other p.turn) x in
-    let calm : check m.to ≡ false = grind (arith, cases_Bool (same_kind x.kind King), squares_by_kind p.men (other p.turn) s x.kind a, is.mine, other_twice p.turn, word_has check w m.to) in
+    let kinds = squares_by_kind p.men (other p.turn) s x.kind a in
+    let calm : check m.to ≡ false = grind (arith, cases_Bool (same_kind x.kind King), kinds, is.mine, other_twice p.turn, word_has check w m.to) in
     plain_safe rule p x m (other p.turn) well is small parts.plain parts.origin parts.aside (grind (arith, calm, or_parts, on_board))

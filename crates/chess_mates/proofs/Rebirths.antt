@@ -1,6 +1,6 @@
 -- A man who is reborn gives his own king no check, but as a grasshopper's hurdle.
 use Rattle.chess_rules.proofs.Basics.{List, None, Option, Some, and_from, and_parts, arith, bit_at, cases_Bool, cond-false, cond-true, false, false_from_ne_true, false≢true, length, list_all, not-true, range_with_len, refl, rules, sym, true, ℕ, ◌&&◌, ◌-◌, ◌<◌, ◌==◌, ◌∙◌, ◌≡◌}
-use Rattle.chess_mates.proofs.Chess.{AreCheckSquares, AtMostOneKing, CheckSquares, Colour, Grasshopper, IsMade, IsWellFormed, Kind, King, Man, Move, Position, RuleSet, Step, all_kept, along, any_kept, are_rebirths_quiet, arrived, arriving_man, can_castle, cannot_expose, capture_square, captured_enemy, captured_mortal, check_squares_for, circe, in_check, is_absent, is_attacked, is_attacker, is_castling, is_clear, is_man, is_man-without, is_of_colour, is_paralysed, is_pseudo_legal, is_square, is_vacant_at, king_is, made, man_on, man_on-with_cases, man_on_at, man_there, may_castle, may_check_from, moved_men, moved_sound, on_board, orthodox, other, other_twice, position_after, position_after_by, put_at, reaches, reaches_as, reaches_of, reborn_square, rides, rule_of_checks, same_colour, same_kind, some_square_false, some_square_true, unreborn_after, with_man, without_at, without_man}
+use Rattle.chess_mates.proofs.Chess.{AreCheckSquares, AtMostOneKing, CheckSquares, Colour, Grasshopper, IsMade, IsWellFormed, Kind, King, Man, Move, Position, RuleSet, Step, all_kept, along, any_kept, are_rebirths_quiet, arrived, arriving_man, can_castle, cannot_expose, capture_square, captured_enemy, captured_mortal, check_squares_for, circe, in_check, is_absent, is_attacked, is_attacker, is_castling, is_clear, is_man, is_man-without, is_paralysed, is_pseudo_legal, is_square, is_vacant_at, king_is, made, man_on, man_on-with_cases, man_on_at, man_there, may_castle, may_check_from, moved_men, moved_sound, on_board, orthodox, other, other_twice, position_after, position_after_by, put_at, reaches, reaches_as, reborn_square, rides, rule_of_checks, same_colour, same_kind, some_square_false, some_square_true, unreborn_after, with_man, without_at, without_man}
 use Rattle.chess_mates.proofs.Checking.{no_check, unchecked}
 
 -- no grasshopper of this colour stands there
@@ -25,22 +25,15 @@ module _ (men : List (Option Man)) (r : ℕ) (y : Man) where
   -- so y gives the king of his colour no check
   module _ (c : Colour) (own : same_colour y.colour (other c) ≡ false) (mortal : same_kind y.kind King ≡ false) (lacks : LacksGrasshopper men (other c))
       (one : AtMostOneKing men) where
-    struck_by : (k s : ℕ) (o : Option Man) → man_on men s ≡ o → is_of_colour o (other c) ≡ true → reaches_of (with_man men r y) o s k ≡ true
-        → is_attacker orthodox men k (other c) s ≡ true
-    unfolding is_attacker reaches is_paralysed
-    struck_by k s o here side h = grind (arith, false≢true, false_from_ne_true, and_from, reached)
-
     struck : (k s : ℕ) → is_attacker circe (with_man men r y) k (other c) s ≡ true → is_attacker orthodox men k (other c) s ≡ true
-    unfolding is_attacker reaches
-    struck k s h = grind (arith, and_parts, man_on-with_cases, false≢true, struck_by)
-
-    king_stood : (k : ℕ) → is_man (man_on (with_man men r y) k) c King ≡ true → is_man (man_on men k) c King ≡ true
-    king_stood k h = grind (arith, man_on-with_cases, false≢true, and_parts)
+    unfolding is_attacker reaches is_paralysed
+    struck k s h = grind (arith, and_parts, man_on-with_cases, false≢true, false_from_ne_true, and_from, reached)
 
     reborn_quietly : in_check orthodox men c ≡ false → in_check circe (with_man men r y) c ≡ false
     unfolding in_check is_attacked
     reborn_quietly safe = unchecked circe (with_man men r y) c (λ k small here.
-        let calm = rw (king_is men c k one small (king_stood k here)) at safe in
+        let stood : is_man (man_on men k) c King ≡ true = grind (arith, man_on-with_cases, false≢true, and_parts) in
+        let calm = rw (king_is men c k one small stood) at safe in
         some_square_false (is_attacker circe (with_man men r y) k (other c)) 64 (omega arith) (record {
           fails = λ s lt. false_from_ne_true _ (λ h. false≢true (sym calm ∙ some_square_true (is_attacker orthodox men k (other c)) s lt (struck k s h)));
         }))
@@ -104,16 +97,11 @@ rebirth_gives_no_check p x m well may here unpromoted absent safe =
           (moved_sound circe p x m well is).kings before
       by o w who = same_check (moved_men p x m) (other p.turn) ∙ before
 
--- what quiet rebirths ask: Circe, and no grasshopper
-quiet_parts : (rule : RuleSet) (men : List (Option Man)) (e : Colour) → are_rebirths_quiet rule men e ≡ true
-    → (rule ≡ circe) × (is_absent men (record { colour = e; kind = Grasshopper }) ≡ true)
-unfolding are_rebirths_quiet
-quiet_parts rule men e h = grind (arith, false≢true)
-
 -- a move that gives no check by the rules of checks gives none
 pub no_check_by_rebirth : (rule : RuleSet) (p : Position) (x : Man) (m : Move) (s : CheckSquares) (w : ℕ) → IsWellFormed p → is_pseudo_legal rule p m ≡ true
     → man_on p.men m.from ≡ Some x → AreCheckSquares p.men (other p.turn) s → w ≡ check_squares_for s x.kind → m.to < 64 → (bit_at w m.to == 1) ≡ false
     → (same_kind x.kind King ≡ true → may_check_from p.men (other p.turn) x m.to ≡ false) → m.promo ≡ None
     → cannot_expose (rule_of_checks rule p.men p.turn) p (other p.turn) m ≡ true → in_check rule (position_after rule p m).men (other p.turn) ≡ false
+unfolding are_rebirths_quiet
 no_check_by_rebirth rule p x m s w well may here a h small off apart unpromoted cover =
-    grind (arith, cases_Bool (are_rebirths_quiet rule p.men p.turn), quiet_parts, cond-true, cond-false, rebirth_gives_no_check, no_check, pseudo_so)
+    grind (arith, cases_Bool (are_rebirths_quiet rule p.men p.turn), and_parts, cond-true, cond-false, rebirth_gives_no_check, no_check, pseudo_so)

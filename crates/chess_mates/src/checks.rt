@@ -49,7 +49,7 @@ fn is_absent(board: &Board, colour: Colour, kind: Kind) -> bool
 
 // The squares from which an enemy of this kind may give check to the colour's king: all of them for fairy men
 // of whom none stands on the board.
-#[tactic(auto, using(chess_rules::proofs::Bits::word_empty, chess_rules::proofs::Bits::every_square, std::proofs::lemmas::Bool::or_left, crate::proofs::Checking::check_squares_of_some), unfolding(crate::specs::ties::CheckSquares::may_check_from))]
+#[tactic(auto, using(chess_rules::proofs::Bits::word_empty, chess_rules::proofs::Bits::every_square, std::proofs::lemmas::Bool::or_left, chess_core::proofs::Words::squares_same), unfolding(crate::specs::ties::CheckSquares::may_check_from))]
 pub(crate) fn check_squares_of(board: &Board, colour: Colour, kind: Kind) -> Squares
     ensures { result ≡ word (may_check_from board.now.men colour (enemy colour kind)) }
 {
