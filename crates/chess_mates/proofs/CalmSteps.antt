@@ -104,26 +104,17 @@ module _ (rule : RuleSet) (p : Position) (m : Move) (x : Man) (k : ℕ) (i : IsS
   men_are = men_made ∙ ap (λ (l : List (Option Man)). gone_to l k taken t y) (after_seen rule p m x k i)
 
   is_left : IsLeft p.men m.from (capture_square p x m) m.to z taken t (other p.turn)
-  is_left = record {
-    arrival = omega (arith, small, i.well_formed.size);
-    flight = omega (arith, there, i.well_formed.size);
-    taken = (is_step rule p m x k i small y t there king).taken;
-    other_side = no_own_arrives rule p m x k i;
-    entered = λ side. captures_arrival p x m (some_of_colour (man_on p.men m.to) (other p.turn) side);
-  }
+  is_left =
+      let step = is_step rule p m x k i small y t there king in
+      search (rules, step.taken, no_own_arrives rule p m x k i, captures_arrival, some_of_colour)
 
   -- the mover's king stands where he stood
   king_after_step : king_square (position_after rule after step).men p.turn ≡ Some s
   king_after_step =
       let size = (after_well_formed rule p m i.well_formed i.pseudo).size in
       let free = no_king_free (other p.turn) p.turn (man_on after.men t) (open_parts rule after.men (other p.turn) k t way).free in
-      rw men_made (king_stands after.men k taken t y p.turn (record {
-        small = omega (arith, there, size);
-        here = grind (arith, king.here, king_is_other y p.turn king.mine);
-        comes = grind (arith, king_is_other y p.turn king.mine);
-        arrival = free;
-        captured = grind (arith, is_left.taken, free);
-      }) ∙ own_king)
+      rw men_made (king_stands after.men k taken t y p.turn
+      (search (rules, size, free, king_is_other y p.turn king.mine, king.here, is_left.taken, and_left)) ∙ own_king)
 
   -- the king who steps doesn't come next to him
   apart : reaches now_men t s ≡ false

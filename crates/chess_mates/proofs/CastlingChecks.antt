@@ -79,11 +79,6 @@ module _ (men after : List (Option Man)) (b s k : ℕ) (free : Frees after men b
     reached t holds none e Nightrider h = rode knight_directions h
     reached t holds none e j h = h
 
--- king and rook castle: a king on a goes to t, the rook from c to h
-abbrev CastlingSquares : ℕ → ℕ → ℕ → ℕ → Type 0
-CastlingSquares a t c h =
-    ((a ≡ 4) ⊎ (a ≡ 60)) × (((t ≡ a + 2) × ((c ≡ a + 3) × (h ≡ a + 1))) ⊎ ((t + 2 ≡ a) × ((c + 4 ≡ a) × (h + 1 ≡ a))))
-
 -- what stands on a straight line with both of the king's squares stands on one with the rook's
 abbrev is_lined_up : ℕ → ℕ → ℕ → ℕ → Bool
 is_lined_up a c h k = not (is_on_some straight_steps k h && is_on_some straight_steps k a) || (k == c || is_on_some straight_steps k c)
@@ -100,18 +95,14 @@ at_squares : (men : List (Option Man)) (a t c h i u d j : ℕ) → a ≡ i → t
     → IsPlace a c h × IsWay men a t c
 at_squares men a t c h i u d j from to rook half place free = rw (from, to, rook, half) (place, free)
 
-way : (men : List (Option Man)) (a t c h : ℕ) → CastlingSquares a t c h → IsPlace a c h × IsWay men a t c
+-- king and rook castle: a king on a goes to t, the rook from c to h
+way : (men : List (Option Man)) (a t c h : ℕ) → (a ≡ 4) ⊎ (a ≡ 60)
+    → ((t ≡ a + 2) × ((c ≡ a + 3) × (h ≡ a + 1))) ⊎ ((t + 2 ≡ a) × ((c + 4 ≡ a) × (h + 1 ≡ a))) → IsPlace a c h × IsWay men a t c
 unfolding rides is_clear along is_on_some is_ahead
-way men a t c h s = elim s.0 [
-  | inl e ↦ elim s.1 [
-    | inl f ↦ at_squares men a t c h 4 6 7 5 e (omega arith) (omega arith) (omega arith) (refl, refl, refl) (λ v. search (rules, no_man, and_parts))
-    | inr f ↦ at_squares men a t c h 4 2 0 3 e (omega arith) (omega arith) (omega arith) (refl, refl, refl) (λ v. search (rules, no_man, and_parts))
-  ]
-  | inr e ↦ elim s.1 [
-    | inl f ↦ at_squares men a t c h 60 62 63 61 e (omega arith) (omega arith) (omega arith) (refl, refl, refl) (λ v. search (rules, no_man, and_parts))
-    | inr f ↦ at_squares men a t c h 60 58 56 59 e (omega arith) (omega arith) (omega arith) (refl, refl, refl) (λ v. search (rules, no_man, and_parts))
-  ]
-]
+way men a t c h (inl e) (inl f) = at_squares men a t c h 4 6 7 5 e (omega arith) (omega arith) (omega arith) (refl, refl, refl) (λ v. search (rules, no_man, and_parts))
+way men a t c h (inl e) (inr f) = at_squares men a t c h 4 2 0 3 e (omega arith) (omega arith) (omega arith) (refl, refl, refl) (λ v. search (rules, no_man, and_parts))
+way men a t c h (inr e) (inl f) = at_squares men a t c h 60 62 63 61 e (omega arith) (omega arith) (omega arith) (refl, refl, refl) (λ v. search (rules, no_man, and_parts))
+way men a t c h (inr e) (inr f) = at_squares men a t c h 60 58 56 59 e (omega arith) (omega arith) (omega arith) (refl, refl, refl) (λ v. search (rules, no_man, and_parts))
 
 -- what castling changes: the king steps, and then the rook
 module _ (rule : RuleSet) (p : Position) (x : Man) (m : Move) (well : IsWellFormed p) (is : IsMade rule p x m) (castling : is_castling x m ≡ true) where
@@ -121,18 +112,15 @@ module _ (rule : RuleSet) (p : Position) (x : Man) (m : Move) (well : IsWellForm
   castle : (same_kind x.kind Pawn ≡ false) × IsCastle p m
   castle = castle_of rule p x m well is castling
 
-  on : CastlingSquares m.from m.to (corner m) (halfway m)
-  on = (castle.1.from, castle.1.far)
-
   the_way : (man_on p.men m.to ≡ None) × (list_any (rides p.men (corner m) m.from) straight_steps ≡ true)
   unfolding can_castle may_castle
-  the_way = (way p.men m.from m.to (corner m) (halfway m) on).1 (search (rules, and_parts, ways, false≢true, castle, king_no_step, king))
+  the_way = (way p.men m.from m.to (corner m) (halfway m) castle.1.from castle.1.far).1 (search (rules, and_parts, ways, false≢true, castle, king_no_step, king))
 
   place : IsPlace m.from (corner m) (halfway m)
-  place = (way p.men m.from m.to (corner m) (halfway m) on).0
+  place = (way p.men m.from m.to (corner m) (halfway m) castle.1.from castle.1.far).0
 
   small : (m.from < 64) × (m.to < 64) × (halfway m < 64) × (corner m < 64)
-  small = search (rules, on)
+  small = search (rules, castle.1.from, castle.1.far)
 
   nobody : capture_square p x m ≡ None
   nobody = no_capture p x m the_way.0 (and_left (same_kind x.kind Pawn) (is_diagonal m) castle.0)
@@ -189,7 +177,7 @@ module _ (rule : RuleSet) (p : Position) (x : Man) (m : Move) (well : IsWellForm
       king_steps = search (rules, unreached, king_shift, parts, from_there, stood, small, at, aside)
 
       apart : (k ≢ halfway m + 1) × (k ≢ halfway m - 1)
-      apart = grind (arith, parts.apart, eq-eqb k m.from, the_way.0, stands, on)
+      apart = grind (arith, parts.apart, eq-eqb k m.from, the_way.0, stands, castle.1.from, castle.1.far)
 
       lined_up : k ≢ corner m → is_on_some straight_steps k (halfway m) ≡ true → is_on_some straight_steps k m.from ≡ true
           → is_on_some straight_steps k (corner m) ≡ true

@@ -1,6 +1,6 @@
 -- A move that goes to no square from which its man may give check gives none.
 use Rattle.chess_rules.proofs.Basics.{None, Some, agree_below_at, and_parts, ap, arith, bit_and, bit_at, bit_or, cases_Bool, false, inl, inr, is_some, not, refl, rules, sym, true, ℕ, ◌+◌, ◌/◌, ◌<◌, ◌==◌, ◌||◌, ◌∙◌, ◌≡◌}
-use Rattle.chess_mates.proofs.Chess.{AreCastlingTargets, AreCheckSquares, AreCheckTargets, Black, CheckSquares, Colour, IsMade, IsWellFormed, King, Man, Move, Pawn, Position, Rook, RuleSet, White, are_rebirths_quiet, arrival_needed, cannot_expose, captures_do_more, check_squares_for, enemy, false_by, halfway, implied, in_check, is_castling, is_pseudo_legal, is_pseudo_legal-from_legal, is_square, is_two_files_aside, last_rank, made, man_on, may_check_from, may_expose, may_go, may_go_aimed, may_stand_between, off_left, off_right, off_second, other, position_after, rank_of, rule_of_checks, same_kind, word, word_has}
+use Rattle.chess_mates.proofs.Chess.{AreCastlingTargets, AreCheckSquares, AreCheckTargets, Black, CheckSquares, Colour, IsMade, IsWellFormed, King, Man, Move, Pawn, Position, Rook, RuleSet, White, are_rebirths_quiet, arrival_needed, cannot_expose, captures_do_more, check_squares_for, enemy, false_by, halfway, implied, in_check, is_castling, is_pseudo_legal, is_pseudo_legal-from_legal, is_square, is_two_files_aside, last_rank, made, man_on, may_check_from, may_expose, may_go, may_go_aimed, may_stand_between, off_left, off_right, off_second, other, position_after, rank_of, same_kind, word, word_has}
 use Rattle.chess_rules.proofs.attacks.EvasionTargets.{plain_elsewhere}
 use Rattle.chess_mates.proofs.CastlingChecks.{castling_aside, castling_gives_no_check}
 use Rattle.chess_mates.proofs.KingsApart.{kings_apart}
@@ -49,26 +49,27 @@ module _ (rule : RuleSet) (p : Position) (x : Man) (s : CheckSquares) (f : ℕ) 
         (sym (word_has (may_check_from p.men (other p.turn) (enemy (other p.turn) Rook)) s.straight (halfway m) checks.straight half)
         ∙ ap (λ n. bit_at s.straight ((n + m.to) / 2) == 1) at ∙ (castles king).elsewhere m.to small beside off.2)
 
-    covering : is_castling x m ≡ false → cannot_expose (rule_of_checks rule p.men p.turn) p (other p.turn) m ≡ true
-    unfolding cannot_expose
-    covering no_castling =
-        grind (arith, plain_elsewhere, off, is.here, origin_stays, aside, cases_Bool (are_rebirths_quiet rule p.men p.turn), reborn)
-
     no_check_elsewhere : in_check rule (position_after rule p m).men (other p.turn) ≡ false
+    unfolding cannot_expose
     no_check_elsewhere = elim (cases_Bool (is_castling x m)) [
       | inl y ↦ castled y
-      | inr n ↦
-          no_check_by_rebirth rule p x m s a well may is.here checks checked_from small off.0 apart unpromoted (covering n)
+      | inr n ↦ no_check_by_rebirth rule p x m s a well may is.here checks checked_from small off.0 apart unpromoted
+          (grind (arith, plain_elsewhere, off, is.here, origin_stays, aside, cases_Bool (are_rebirths_quiet rule p.men p.turn), reborn))
     ]
 
   -- for a man who may check, uncover a check, castle, capture en passant or be followed by a rebirth: each by its own word
   pub check_targets_some : AreCheckTargets rule p f (bit_or (bit_or (bit_or (bit_or a b) c) d) s.fairy_lines)
   check_targets_some = grind (arith, no_check_elsewhere, is_pseudo_legal-from_legal, kings_apart)
 
+-- a word that lacks only targets to which the man can't go
+pub targets_lack : (rule : RuleSet) (p : Position) (x : Man) (f w v : ℕ) → man_on p.men f ≡ Some x → AreCheckTargets rule p f w
+    → ((t : ℕ) → t < 64 → may_go p x f t ≡ true → (bit_at v t == 1) ≡ false → (bit_at w t == 1) ≡ false) → AreCheckTargets rule p f v
+targets_lack rule p x f w v here are off = record {
+  elsewhere = λ m at small lawful none.
+      let may = is_pseudo_legal-from_legal rule p m lawful in grind (arith, arrival_needed rule p m small may, may, may_go_aimed);
+}
+
 -- the targets among the squares to which the man might go
 pub check_targets_there : (rule : RuleSet) (p : Position) (x : Man) (f o w : ℕ) → man_on p.men f ≡ Some x
     → ((t : ℕ) → t < 64 → may_go p x f t ≡ true → (bit_at o t == 1) ≡ true) → AreCheckTargets rule p f w → AreCheckTargets rule p f (bit_and o w)
-check_targets_there rule p x f o w here there are = record {
-  elsewhere = λ m at small lawful off.
-      let may = is_pseudo_legal-from_legal rule p m lawful in grind (arith, arrival_needed rule p m small may, may, may_go_aimed, off_second, off);
-}
+check_targets_there rule p x f o w here there are = targets_lack rule p x f w (bit_and o w) here are (λ t lt goes off. off_second o w t off (there t lt goes))

@@ -1,9 +1,9 @@
 -- Men who couldn't come to a check square give no check.
 use Rattle.chess_rules.proofs.Basics.{List, None, Option, Some, arith, bit_and, bit_at, bit_at-lt, bit_at_and, bit_not, bit_or, cases_Bool, eq-eqb, eqb-true, false, false≢true, find, range_with_len, refl, rules, sym, true, w64, ℕ, ◌<◌, ◌==◌, ◌^◌, ◌≡◌, ◌-◌, ◌∙◌}
-use Rattle.chess_mates.proofs.Chess.{AreApproaches, AreCheckOrigins, AreCheckTargets, Colour, Kind, King, Man, Move, Position, RuleSet, arrival_needed, false_by, is_legal, is_pseudo_legal-from_legal, is_square, man_on, may_go, may_go_aimed, off_second, off_zero, on_first, own_man, own_moves, same_kind, same_colour-true, same_kind-true, side_of, squares_of, word, word_has}
+use Rattle.chess_mates.proofs.Chess.{AreApproaches, AreCheckOrigins, AreCheckTargets, Colour, Kind, King, Man, Move, Position, RuleSet, false_by, is_legal, is_pseudo_legal-from_legal, is_square, man_on, may_go, off_second, off_zero, on_first, own_man, own_moves, same_kind, same_colour-true, same_kind-true, side_of, squares_of, word, word_has}
 use Rattle.std.proofs.lemmas.Nat.Bits.{bit_at_not}
 use Rattle.chess_mates.proofs.Hurdles.{found_on, on_either}
-use Rattle.chess_mates.proofs.CheckTargets.{check_targets_there}
+use Rattle.chess_mates.proofs.CheckTargets.{check_targets_there, targets_lack}
 
 -- for men who are told by the word of their kind
 pub man_of_word : (men : _) (c : Colour) (k : Kind) (w s : ℕ) → w ≡ squares_of men c k → s < 64 → (bit_at w s == 1) ≡ true
@@ -32,14 +32,6 @@ far_by rule p x s o w here are goes none = grind (arith, eqb-true, check_targets
 pub far_one : (rule : RuleSet) (p : Position) (s o : ℕ) → o ≡ word (λ t. is_square (Some s) t) → AreCheckTargets rule p s 0 → AreFar rule p o
 far_one rule p s o h are = grind (arith, eqb-true, word_has)
 
--- a man who could come to no target from here gives no check
-far_unreached : (rule : RuleSet) (p : Position) (x : Man) (s w : ℕ) → man_on p.men s ≡ Some x → AreCheckTargets rule p s w
-    → ((t : ℕ) → t < 64 → may_go p x s t ≡ true → (bit_at w t == 1) ≡ false) → AreCheckTargets rule p s 0
-far_unreached rule p x s w here are off = record {
-  elsewhere = λ m at small lawful none.
-      let may = is_pseudo_legal-from_legal rule p m lawful in grind (arith, arrival_needed rule p m small may, may, may_go_aimed);
-}
-
 -- targets of the men of this kind who are on no square of the word h; of a king on his own square
 abbrev pub AreTargetsOff : RuleSet → Position → Kind → Option ℕ → ℕ → ℕ → Type 0
 AreTargetsOff rule p j king h w = (s : ℕ) (x : Man) → s < 64 → man_on p.men s ≡ Some x → x.kind ≡ j → (same_kind j King ≡ true → king ≡ Some s)
@@ -54,7 +46,7 @@ module _ (rule : RuleSet) (p : Position) (j : Kind) (m h w : ℕ)
       → AreApproaches (record { colour = c; kind = j }) w n
       → (s : ℕ) → s < 64 → (bit_at (bit_and m (bit_not w64 n)) s == 1) ≡ true → AreCheckTargets rule p s 0
   far_apart n c fits mortal targets turn come s small on =
-      let far = far_unreached rule p (own_man p j) s w in
+      let far = targets_lack rule p (own_man p j) s w 0 in
       grind (arith, far, stands s small, off s small, targets s (own_man p j) small, on_first m, off_denied m n s fits small on, come.approach p s, false_by)
 
   -- the first of them has these targets

@@ -1,5 +1,5 @@
 -- Moves that are plain: who castles, captures en passant or might be captured so.
-use Rattle.chess_rules.proofs.Basics.{None, Some, and_from, and_left, and_parts, and_right, arith, bit_and, bit_at, bit_not, bit_or, cond-false, cond-true, false, false≢true, inl, inr, list_any, or_cases, refl, rules, sym, true, w64, ℕ, ◌<◌, ◌==◌, ◌^◌, ◌∙◌, ◌≡◌}
+use Rattle.chess_rules.proofs.Basics.{None, and_left, and_parts, and_right, arith, bit_and, bit_at, bit_not, bit_or, cond-false, cond-true, false, false≢true, inl, inr, list_any, or_cases, refl, rules, sym, true, w64, ℕ, ◌<◌, ◌==◌, ◌^◌, ◌∙◌, ◌≡◌}
 use Rattle.chess_mates.proofs.Chess.{Black, Colour, King, Man, Move, Pawn, Position, White, capture_of_piece, capture_square, false_by, halfway, is_advance, is_castling, is_man, is_of_colour, is_square, king_is_no_pawn, leaps, man_on, may_go, no_capture, off_left, off_right, other, pawn_goes, pawn_is_no_king, queen_steps, same_colour-refl, same_kind, same_kind-true, side_of, squares_of, word, word_has}
 use Rattle.chess_mates.specs.ties.Threats.{AreCapturers, IsMereMove, IsPassing, IsPlainMove}
 use Rattle.chess_rules.proofs.rays.Tables.{king_step_is_no_castling}
@@ -16,10 +16,9 @@ module _ (p : Position) (x : Man) (m : Move) (from : m.from < 64) (to : m.to < 6
   module _ (a n : ℕ) (ahead : a ≡ word (is_advance x.colour m.from)) (near : n ≡ word (λ t. list_any (leaps m.from t) queen_steps)) where
     -- for a pawn that goes a step
     pub steps_freely : n < 2 ^ 64 → (bit_at (bit_not w64 n) m.to == 1) ≡ false → IsPassing p x m
-    steps_freely fits off = record {
-      freely = λ double.
-          grind (arith, no_far_step m.from m.to from to, word_has (λ t. list_any (leaps m.from t) queen_steps) n m.to near to, on_denied n m.to fits to off);
-    }
+    steps_freely fits off =
+        let step = word_has (λ t. list_any (leaps m.from t) queen_steps) n m.to near to in
+        record { freely = λ double. grind (arith, no_far_step m.from m.to from to, step, on_denied n m.to fits to off) }
 
     -- for a pawn beside whom none will stand
     pub passes_freely : (w l : ℕ) → may_go p x m.from m.to ≡ true → AreCapturers (other x.colour) (bit_and a n) w
@@ -35,12 +34,12 @@ module _ (p : Position) (x : Man) (m : Move) (from : m.from < 64) (to : m.to < 6
           let kind : z.kind ≡ Pawn = same_kind-true z.kind Pawn pawn in
           elim (or_cases _ _ (takes_or_steps q (other x.colour) s (halfway m) (rw (← man_is z (other x.colour) Pawn enemy kind) at comes))) [
             | inl takes ↦
-                let stands = word_has (λ t. is_man (man_on p.men t) (other x.colour) Pawn) l s pawns small
-                ∙ rw (here, enemy, kind) (and_from _ _ (same_colour-refl (other x.colour)) refl) in
-                none_at (bit_and w l) s none (on_both w l s (before.capture s (halfway m) small low takes there) stands)
+                let stands = word_has (λ t. is_man (man_on p.men t) (other x.colour) Pawn) l s pawns small in
+                let on = before.capture s (halfway m) small low takes there in
+                grind (arith, stands, same_colour-refl (other x.colour), none_at (bit_and w l) s none, on_both w l s on, here, enemy, kind)
             | inr steps ↦
                 let at = steps_from_there p x.colour m.from m.to s from to small low pawn_x both.1 steps in
-                let stood : None ≡ Some z = sym (far_is_vacant p x.colour m.from m.to from to pawn_x both.1) ∙ rw at at here in cc
+                grind (arith, at, far_is_vacant p x.colour m.from m.to from to pawn_x both.1)
           ]);
     }
 

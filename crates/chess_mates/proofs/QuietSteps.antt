@@ -1,5 +1,5 @@
 -- Steps of the king that give no check, told without playing them.
-use Rattle.chess_rules.proofs.Basics.{[], Bool, List, Option, Some, and_from, and_left, and_parts, ap, arith, bit_and, bit_at, cond-true, false, inl, inr, list_all, list_any, not, subst, sym, true, ℕ, ◌<◌, ◌==◌, ◌∙◌, ◌∷◌, ◌≡◌}
+use Rattle.chess_rules.proofs.Basics.{rules, [], Bool, List, Option, Some, and_from, and_parts, ap, arith, bit_and, bit_at, cond-true, false, list_all, list_any, not, subst, sym, true, ℕ, ◌<◌, ◌==◌, ◌∙◌, ◌∷◌, ◌≡◌}
 use Rattle.chess_mates.proofs.Chess.{AreOpen, AreSeen, Colour, IsWellFormed, King, Man, Move, Position, RuleSet, capture_square, captures_do_more, is_legal, is_mating, king_after, king_square, leaps, man_on, moves, off_zero, other, queen_steps, same_colour, same_colour-true, same_kind, word}
 use Rattle.chess_mates.proofs.Fleeing.{IsKingStep, king_on, may_step, on_second, reached_near, simple_step, step_to}
 use Rattle.chess_mates.specs.ties.Flights.{IsUnreached, is_open}
@@ -47,22 +47,12 @@ pub step_legal : (rule : RuleSet) (p : Position) (x : Man) (k t w : ℕ) → IsW
     → (t < 64) × ((bit_at w t == 1) ≡ true) → IsUnreached p x k t → is_legal rule p (step_to k t) ≡ true
 step_legal rule p x k t w well at here ways on u =
     let king : (same_colour x.colour p.turn ≡ true) × (same_kind x.kind King ≡ true) = grind (arith, king_on p.men p.turn k at) in
-    unreached_is_legal rule p x k t (record {
-      well_formed = well;
-      here = here;
-      mine = king.0;
-      king = king.1;
-      small = on.0;
-      near = (ways x here king.1).inside t on.0 on.1;
-    }) u
+    let near = (ways x here king.1).inside t on.0 on.1 in unreached_is_legal rule p x k t (search rules) u
 
 -- where one move doesn't mate not all do
 fails_in : (test : Move → Bool) (ms : List Move) (m : Move) → Contains ms m → test m ≡ false → list_all test ms ≡ false
 fails_in test [] m c e = absurd (none_in_nil m c)
-fails_in test (x ∷ ms) m c e = elim (in_cases x ms m c) [
-  | inl same ↦ and_left _ _ (ap test same ∙ e)
-  | inr r ↦ grind (arith, fails_in test ms m r e)
-]
+fails_in test (x ∷ ms) m c e = grind (arith, in_cases x ms m c, fails_in test ms m)
 
 -- for one quiet step: not every move mates
 pub one_fails : (rule : RuleSet) (p : Position) (m : Move) → IsWellFormed p → is_legal rule p m ≡ true → is_mating rule p m ≡ false
