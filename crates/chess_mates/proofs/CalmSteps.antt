@@ -4,7 +4,6 @@ use Rattle.chess_mates.proofs.Chess.{AreOpen, AreSeen, Colour, IsWellFormed, Kin
 use Rattle.chess_mates.proofs.EveryMove.{quiet}
 use Rattle.chess_mates.proofs.Fleeing.{IsKingOn, after_seen, is_made, king_is_other, king_on, king_seen, king_step, no_king_free, no_own_arrives, open_parts, reaches_alike_of, safe_step, simple_step, some_of_colour, is_step, step_taken, step_to, turn_is}
 use Rattle.chess_mates.proofs.KingsApart.{kings_apart}
-use Rattle.chess_mates.proofs.Landing.{StandAlike}
 use Rattle.chess_mates.proofs.QuietSteps.{one_fails}
 use Rattle.chess_mates.proofs.Stepping.{occupied_stepped, on_flight, on_left, on_others, stands, stepped}
 use Rattle.chess_mates.specs.ties.Flights.{AreSteps, IsQuietTo, IsSafe, IsSeenFrom, is_open, sight_stepped}
@@ -53,15 +52,11 @@ module _ (men : List (Option Man)) (a : ℕ) (o : Option ℕ) (b : ℕ) (z : Man
     abbrev then : List (Option Man)
     then = stepped men a o b z k u t z
 
-    alike : (e : ℕ) → StandAlike now then e
-    alike e = search (rules, stands, i.arrival, i.flight, i.taken)
-
     strikes : (e s : ℕ) → reaches now t e ≡ false → (is_of_colour (man_on now s) c && reaches now s e) ≡ (is_of_colour (man_on then s) c && reaches then s e)
     unfolding reaches
     strikes e s apart = elim (cases_eq s t) [
-      | inl same ↦
-          grind (arith, on_flight men a o b z k u t z s i.flight same, i.other_side, and_right)
-      | inr ne ↦ grind (arith, man_on-with_other, reaches_alike_of now then (man_on then s) s e (alike e))
+      | inl same ↦ grind (arith, on_flight men a o b z k u t z s i.flight same, i.other_side, and_right)
+      | inr ne ↦ grind (arith, man_on-with_other, reaches_alike_of now then (man_on then s) s e (search (rules, stands, i.arrival, i.flight, i.taken)))
     ]
 
     -- whom neither he nor any other man of his side reaches

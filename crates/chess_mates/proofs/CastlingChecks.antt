@@ -1,6 +1,6 @@
 -- Castling that uncovers no king gives check by its rook alone.
 use Rattle.chess_rules.proofs.Basics.{Bool, List, None, Option, Some, [], agree_below, agree_below_at, and_from, and_left, and_parts, ap, arith, bit_and, bit_or, cases_eq, cond-true, eq-eqb, eqb-true, false, false_from_ne_true, false≢true, inl, inr, is_some, length, length-set, list_all, list_any, not, or_cases, or_left, or_parts, range_with_len, refl, rules, sym, true, ℕ, ◌%◌, ◌&&◌, ◌*◌, ◌+◌, ◌-◌, ◌/◌, ◌<◌, ◌==◌, ◌^◌, ◌||◌, ◌∙◌, ◌∷◌, ◌≡◌, ◌≢◌, ◌≤◌, ◌⊎◌}
-use Rattle.chess_mates.proofs.Chess.{AreCastlingTargets, Bishop, CheckSquares, Colour, Direction, East, Grasshopper, IsCastle, IsMade, IsWellFormed, Kind, King, Man, Move, Nightrider, North, NorthEast, NorthWest, Pawn, Position, Queen, Rook, RuleSet, South, SouthEast, SouthWest, Step, Straight, West, all_at, along, along-is, any_kept, arrived, can_castle, capture_square, castle_of, castling_steps, corner, corner_stays, enemy, halfway, hops, implied, in_check, is_ahead, is_castling, is_clear, is_diagonal, is_man, is_of_colour, is_on_some, is_reached, is_square, is_two_files_aside, is_vacant, king_is, king_no_step, king_square, king_stays_king, man_on, man_on-with_same, man_there, may_castle, may_check_from, may_expose, may_expose_at, may_stand_between, moved_men, no_capture, not_attacked, off_left, off_right, off_second, other, position_after, reaches, reaches_as, rides, same_colour, same_kind, same_kind-true, some_square_false, some_square_true, square_is, squares_between, step_of, steps_to, straight_steps, unreborn_after, with_man, without_man, word, word_has}
+use Rattle.chess_mates.proofs.Chess.{AreCastlingTargets, Bishop, CheckSquares, Colour, Direction, East, Grasshopper, IsCastle, IsMade, IsWellFormed, Kind, King, Man, Move, Nightrider, North, NorthEast, NorthWest, Pawn, Position, Queen, Rook, RuleSet, South, SouthEast, SouthWest, Step, Straight, West, all_at, along, along-is, any_kept, arrived, can_castle, castle_of, castling_steps, corner, corner_stays, enemy, halfway, hops, implied, in_check, is_ahead, is_castling, is_clear, is_diagonal, is_man, is_of_colour, is_on_some, is_reached, is_square, is_two_files_aside, is_vacant, king_is, king_no_step, king_square, king_stays_king, man_on, man_on-with_same, man_there, may_castle, may_check_from, may_expose, may_expose_at, may_stand_between, moved_men, no_capture, not_attacked, off_left, off_right, off_second, other, position_after, reaches, reaches_as, rides, same_colour, same_kind, same_kind-true, some_square_false, some_square_true, square_is, squares_between, step_of, steps_to, straight_steps, unreborn_after, with_man, without_man, word, word_has}
 use Rattle.chess_rules.proofs.rays.Ahead.{onward, passes}
 use Rattle.chess_rules.proofs.making_moves.Castles.{no_man}
 use Rattle.chess_rules.proofs.rays.Ends.{back, return_square}
@@ -91,18 +91,17 @@ IsPlace a c h = (is_corner c ≡ true) × (is_half h ≡ true) × (agree_below (
 abbrev IsWay : List (Option Man) → ℕ → ℕ → ℕ → Type 0
 IsWay men a t c = list_all (is_vacant men) (squares_between a c) ≡ true → (man_on men t ≡ None) × (list_any (rides men c a) straight_steps ≡ true)
 
-at_squares : (men : List (Option Man)) (a t c h i u d j : ℕ) → a ≡ i → t ≡ u → c ≡ d → h ≡ j → IsPlace i d j → IsWay men i u d
-    → IsPlace a c h × IsWay men a t c
-at_squares men a t c h i u d j from to rook half place free = rw (from, to, rook, half) (place, free)
-
 -- king and rook castle: a king on a goes to t, the rook from c to h
-way : (men : List (Option Man)) (a t c h : ℕ) → (a ≡ 4) ⊎ (a ≡ 60)
-    → ((t ≡ a + 2) × ((c ≡ a + 3) × (h ≡ a + 1))) ⊎ ((t + 2 ≡ a) × ((c + 4 ≡ a) × (h + 1 ≡ a))) → IsPlace a c h × IsWay men a t c
-unfolding rides is_clear along is_on_some is_ahead
-way men a t c h (inl e) (inl f) = at_squares men a t c h 4 6 7 5 e (omega arith) (omega arith) (omega arith) (refl, refl, refl) (λ v. search (rules, no_man, and_parts))
-way men a t c h (inl e) (inr f) = at_squares men a t c h 4 2 0 3 e (omega arith) (omega arith) (omega arith) (refl, refl, refl) (λ v. search (rules, no_man, and_parts))
-way men a t c h (inr e) (inl f) = at_squares men a t c h 60 62 63 61 e (omega arith) (omega arith) (omega arith) (refl, refl, refl) (λ v. search (rules, no_man, and_parts))
-way men a t c h (inr e) (inr f) = at_squares men a t c h 60 58 56 59 e (omega arith) (omega arith) (omega arith) (refl, refl, refl) (λ v. search (rules, no_man, and_parts))
+module _ (men : List (Option Man)) (a t c h : ℕ) where
+  at_squares : (i u d j : ℕ) → a ≡ i → t ≡ u → c ≡ d → h ≡ j → IsPlace i d j → IsWay men i u d → IsPlace a c h × IsWay men a t c
+  at_squares i u d j from to rook half place free = rw (from, to, rook, half) (place, free)
+
+  way : (a ≡ 4) ⊎ (a ≡ 60) → ((t ≡ a + 2) × ((c ≡ a + 3) × (h ≡ a + 1))) ⊎ ((t + 2 ≡ a) × ((c + 4 ≡ a) × (h + 1 ≡ a))) → IsPlace a c h × IsWay men a t c
+  unfolding rides is_clear along is_on_some is_ahead
+  way (inl e) (inl f) = at_squares 4 6 7 5 e (omega arith) (omega arith) (omega arith) (refl, refl, refl) (λ v. search (rules, no_man, and_parts))
+  way (inl e) (inr f) = at_squares 4 2 0 3 e (omega arith) (omega arith) (omega arith) (refl, refl, refl) (λ v. search (rules, no_man, and_parts))
+  way (inr e) (inl f) = at_squares 60 62 63 61 e (omega arith) (omega arith) (omega arith) (refl, refl, refl) (λ v. search (rules, no_man, and_parts))
+  way (inr e) (inr f) = at_squares 60 58 56 59 e (omega arith) (omega arith) (omega arith) (refl, refl, refl) (λ v. search (rules, no_man, and_parts))
 
 -- what castling changes: the king steps, and then the rook
 module _ (rule : RuleSet) (p : Position) (x : Man) (m : Move) (well : IsWellFormed p) (is : IsMade rule p x m) (castling : is_castling x m ≡ true) where
@@ -114,16 +113,14 @@ module _ (rule : RuleSet) (p : Position) (x : Man) (m : Move) (well : IsWellForm
 
   the_way : (man_on p.men m.to ≡ None) × (list_any (rides p.men (corner m) m.from) straight_steps ≡ true)
   unfolding can_castle may_castle
-  the_way = (way p.men m.from m.to (corner m) (halfway m) castle.1.from castle.1.far).1 (search (rules, and_parts, ways, false≢true, castle, king_no_step, king))
+  the_way =
+      (way p.men m.from m.to (corner m) (halfway m) castle.1.from castle.1.far).1 (search (rules, and_parts, ways, false≢true, castle, king_no_step, king))
 
   place : IsPlace m.from (corner m) (halfway m)
   place = (way p.men m.from m.to (corner m) (halfway m) castle.1.from castle.1.far).0
 
   small : (m.from < 64) × (m.to < 64) × (halfway m < 64) × (corner m < 64)
   small = search (rules, castle.1.from, castle.1.far)
-
-  nobody : capture_square p x m ≡ None
-  nobody = no_capture p x m the_way.0 (and_left (same_kind x.kind Pawn) (is_diagonal m) castle.0)
 
   abbrev stepped : List (Option Man)
   stepped = with_man (without_man p.men m.from) m.to x
@@ -140,6 +137,7 @@ module _ (rule : RuleSet) (p : Position) (x : Man) (m : Move) (well : IsWellForm
   after_is : (position_after rule p m).men ≡ castled
   unfolding moved_men
   after_is =
+      let nobody = no_capture p x m the_way.0 (and_left (same_kind x.kind Pawn) (is_diagonal m) castle.0) in
       unreborn_after rule p x m is.here (λ circe. nobody)
       ∙ search (rules, arrived, rook, corner_stays, castle, cond-true, king_stays_king, king, nobody)
 
@@ -154,9 +152,6 @@ module _ (rule : RuleSet) (p : Position) (x : Man) (m : Move) (well : IsWellForm
 
   frees_corner : Frees castled stepped (corner m)
   frees_corner = frees stepped castled (corner m) (halfway m) rook.0 rook_shift
-
-  rook_there : man_on castled (halfway m) ≡ Some rook.0
-  rook_there = search (rules, man_on-with_same, rook, small, stepped_size, length-set)
 
   -- what is asked, so that castling gives no check to the king of colour c
   module _ (c : Colour) (enemy_of : same_colour x.colour c ≡ false) (covered : may_expose p.men c m.from ≡ false)
@@ -176,27 +171,21 @@ module _ (rule : RuleSet) (p : Position) (x : Man) (m : Move) (well : IsWellForm
       unfolding may_stand_between
       king_steps = search (rules, unreached, king_shift, parts, from_there, stood, small, at, aside)
 
-      apart : (k ≢ halfway m + 1) × (k ≢ halfway m - 1)
-      apart = grind (arith, parts.apart, eq-eqb k m.from, the_way.0, stands, castle.1.from, castle.1.far)
-
-      lined_up : k ≢ corner m → is_on_some straight_steps k (halfway m) ≡ true → is_on_some straight_steps k m.from ≡ true
-          → is_on_some straight_steps k (corner m) ≡ true
-      lined_up ne p q =
-          grind (arith, agree_below_at (is_lined_up m.from (corner m) (halfway m)) (λ k. true) 64 k place.2 inside, or_cases, and_from, eqb-true)
-
       -- nor does the rook from halfway
       rook_strikes : is_of_colour (man_on castled (halfway m)) (other c) ≡ true → reaches castled (halfway m) k ≡ true → ⊥
       unfolding reaches reaches_as is_on_some
       rook_strikes side hit =
+          let there : man_on castled (halfway m) ≡ Some rook.0 = search (rules, man_on-with_same, rook, small, stepped_size, length-set) in
           let before = rode stepped castled (corner m) (halfway m) k frees_corner place.0 small.3 small.2 (East ∷ West ∷ North ∷ South ∷ [])
-          (rw (rook_there, same_kind-true rook.0.kind Rook rook_kind) at hit) in
-          let line : list_any (rides p.men (halfway m) k) straight_steps ≡ true =
+          (rw (there, same_kind-true rook.0.kind Rook rook_kind) at hit) in
+          let apart : k ≢ corner m = λ e. search (rules, rook, same_kind-true, rook_kind, false≢true, and_parts) in
+          let lined = agree_below_at (is_lined_up m.from (corner m) (halfway m)) (λ k. true) 64 k place.2 inside in
+          let rode : list_any (rides p.men (halfway m) k) straight_steps ≡ true =
           line_before p.men stepped m.from m.to x king_shift Straight k (halfway m) small.2 inside
           (λ line both. not_parted p.men m.from k (corner m) (other c) Rook straight_steps parts.straight
-          (rw rook.1 (or_left _ _ (and_from _ _ (rw rook_there at side) rook_kind))) small.3
-          (lined_up (λ e. search (rules, rook, same_kind-true, rook_kind, false≢true, and_parts)) line
-          (goes_on p.men k m.from straight_steps both.0)) (both.0, the_way.1)) before in
-          false≢true (sym (from_there (enemy c Rook) (halfway m) rook_off) ∙ line)
+          (rw rook.1 (or_left _ _ (and_from _ _ (rw there at side) rook_kind))) small.3
+          (grind (arith, lined, goes_on p.men k m.from straight_steps both.0, or_cases, and_from, eqb-true)) (both.0, the_way.1)) before in
+          false≢true (sym (from_there (enemy c Rook) (halfway m) rook_off) ∙ rode)
 
       -- nor another man, who would have reached him before the rook went
       others_strike : (s : ℕ) (o : Option Man) → man_on castled s ≡ o → s < 64 → s ≢ halfway m → is_of_colour o (other c) ≡ true → reaches castled s k ≡ true
@@ -205,6 +194,8 @@ module _ (rule : RuleSet) (p : Position) (x : Man) (m : Move) (well : IsWellForm
       others_strike s None there lt ne side hit = cc
       others_strike s (Some y) there lt ne side hit =
           let stood_so : man_on stepped s ≡ Some y = rook_shift.others s y there ne in
+          let apart : (k ≢ halfway m + 1) × (k ≢ halfway m - 1) =
+          grind (arith, parts.apart, eq-eqb k m.from, the_way.0, stands, castle.1.from, castle.1.far) in
           let holds = stood stepped castled (corner m) (halfway m) rook.0 rook_shift in
           let before = reached stepped castled (corner m) s k frees_corner place.0 small.3 lt (halfway m) holds
           (λ w. half_no_hurdle w (halfway m) s k place.1 small.2 lt apart.0 apart.1) y.colour y.kind (rw there at hit) in

@@ -64,7 +64,7 @@ pub on_denied : (w i : ℕ) → w < 2 ^ 64 → i < 64 → (bit_at (bit_not w64 w
 on_denied w i fits small off = grind (arith, bit_at_not w64 w i fits small, bit_at-lt w i, eq-eqb)
 
 -- a legal move goes from a square of its side
-from_own : (rule : RuleSet) (p : Position) (o : ℕ) (m : Move) → o ≡ side_of p.men p.turn → m.from < 64 → is_legal rule p m ≡ true → (bit_at o m.from == 1) ≡ true
+from_own : (rule : _) (p : Position) (o : ℕ) (m : Move) → o ≡ side_of p.men p.turn → m.from < 64 → is_legal rule p m ≡ true → (bit_at o m.from == 1) ≡ true
 unfolding side_of
 from_own rule p o m own inside lawful = grind (arith, is_pseudo_legal-from_legal rule p m lawful, cases_Bool, own_moves, word_has)
 

@@ -1,5 +1,5 @@
 -- What a man reaches doesn't depend on who stands on the square that it reaches.
-use Rattle.chess_rules.proofs.Basics.{Bool, List, Option, Some, [], and_left, arith, cases_Bool, false, false_from_ne_true, inl, inr, is_some, list_all, list_any, or_from, range_with_len, refl, rules, suc, zero, ℕ, ◌&&◌, ◌+◌, ◌-◌, ◌<◌, ◌||◌, ◌∙◌, ◌∷◌, ◌≡◌, ◌≢◌, ◌≤◌}
+use Rattle.chess_rules.proofs.Basics.{Bool, List, Option, Some, [], and_left, arith, cases_Bool, false, false_from_ne_true, is_some, list_all, list_any, or_from, range_with_len, refl, rules, suc, zero, ℕ, ◌&&◌, ◌+◌, ◌-◌, ◌<◌, ◌||◌, ◌∙◌, ◌∷◌, ◌≡◌, ◌≢◌, ◌≤◌}
 use Rattle.chess_mates.proofs.Chess.{Bishop, Black, Colour, Direction, East, Gait, Hopper, Kind, Knight, Leaper, Man, Nightrider, North, NorthEast, NorthWest, Pawn, Rider, Rook, South, SouthEast, SouthWest, Step, West, White, along, any_range_false, any_range_same, gait_of, goes_by, hops, is_clear, is_occupied, is_square, kind_steps, leaps, man_on, place, reaches_as, rides, square_is, step_of}
 use Rattle.chess_rules.proofs.attacks.FairyLines.{knight_directions, queen_directions}
 use Rattle.chess_rules.proofs.rays.Ahead.{Ordered, ordered}
@@ -19,9 +19,7 @@ not_yet s t d k i o at lt here = let less : place d t < place d t = o.in_order s
 all_range_same : (p q : ℕ → Bool) (a n : ℕ) → ((k : ℕ) → a ≤ k → k < a + n → p k ≡ q k) → list_all p (range_with_len a n) ≡ list_all q (range_with_len a n)
 all_range_same p q a zero h = refl
 all_range_same p q a (suc n) h =
-    let r : list_all p (range_with_len (a + 1) n) ≡ list_all q (range_with_len (a + 1) n) =
-    all_range_same p q (a + 1) n (λ k lo hi. h k (omega arith) (omega arith)) in
-    (λ j. h a (omega arith) (omega arith) j && r j)
+    (λ j. h a (omega arith) (omega arith) j && all_range_same p q (a + 1) n (λ k lo hi. h k (omega arith) (omega arith)) j)
 
 clear_alike : (men others : List (Option Man)) (s t : ℕ) (d : Step) (k n : ℕ) → Ordered d → StandAlike men others t → along s d k ≡ Some t → n < k
     → is_clear men s d n ≡ is_clear others s d n
@@ -54,10 +52,8 @@ ways_alike Rider men others s t d o a =
 ways_alike Hopper men others s t d o a =
     any_range_same (λ k. is_square (along s d k) t && is_occupied men (along s d (k - 1)) && is_clear men s d (k - 2))
     (λ k. is_square (along s d k) t && is_occupied others (along s d (k - 1)) && is_clear others s d (k - 2)) 2 6
-    (λ k lo hi. elim (cases_Bool (is_square (along s d k) t)) [
-      | inl y ↦ grind (arith, square_is _ t y, occupied_alike, not_yet s t d k (k - 1) o, clear_alike men others s t d k (k - 2) o a)
-      | inr n ↦ rw n refl
-    ])
+    (λ k lo hi. let end = square_is (along s d k) t in
+    grind (arith, cases_Bool, end, occupied_alike men others t, not_yet s t d k (k - 1) o, clear_alike men others s t d k (k - 2) o a, and_left))
 
 -- for two boards that differ in who stands on the target
 pub reaches_alike : (men others : List (Option Man)) (c : Colour) (j : Kind) (s t : ℕ) → StandAlike men others t

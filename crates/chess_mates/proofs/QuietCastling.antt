@@ -28,8 +28,8 @@ module _ (rule : RuleSet) (p : Position) (x : Man) (m : Move) (c : Colour) (k : 
   covered : may_expose p.men c m.from ≡ false
   unfolding may_expose is_shut is_reached reaches_as
   covered =
-      let elsewhere : (k == m.from) ≡ false = false_by _ (λ e. grind (arith, eqb-true k m.from e, (king_there p.men c k king).1, is.here, not_mine x c enemy)) in
-      grind (arith, king, some_square_false, reach_none p.men k c calm, elsewhere, unseen Rook refl refl, unseen Bishop refl refl, unlined m.from)
+      let apart : (k == m.from) ≡ false = false_by _ (λ e. grind (arith, eqb-true k m.from e, (king_there p.men c k king).1, is.here, not_mine x c enemy)) in
+      grind (arith, king, some_square_false, reach_none p.men k c calm, apart, unseen Rook refl refl, unseen Bishop refl refl, unlined m.from)
 
   -- for castlings told by squares
   pub castles_quietly : in_check rule (position_after rule p m).men c ≡ false
