@@ -120,10 +120,9 @@ comes_from c w = record {
 captures_from : (c : Colour) (w : ℕ) → AreCapturers c w (bit_or (before c w 7) (before c w 9))
 unfolding along leaps
 captures_from c w = record {
-  capture = λ s t small inside takes on.
-      let by = λ (c : Colour) (s t : ℕ). is_after c 7 s t || is_after c 9 s t in
+  capture = λ s t small lt takes on.
       on_either _ _ _ _ s (before_has c w s t 7 small on) (before_has c w s t 9 small on)
-      (implied _ _ (every (λ c s t. not (list_any (leaps s t) (pawn_capture_steps c)) || by c s t) refl c s t small inside) takes);
+      (implied _ _ (every (λ c s t. not (list_any (leaps s t) (pawn_capture_steps c)) || (is_after c 7 s t || is_after c 9 s t)) refl c s t small lt) takes);
 }
 
 -- for `pawns_before`, by the word moved down, and up

@@ -8,7 +8,7 @@ use Rattle.chess_mates.proofs.QuietSteps.{one_fails}
 use Rattle.chess_mates.proofs.Stepping.{occupied_stepped, on_flight, on_left, on_others, stands, stepped}
 use Rattle.chess_mates.specs.ties.Flights.{AreSteps, IsQuietTo, IsSafe, IsSeenFrom, is_open, sight_stepped}
 use Rattle.chess_rules.proofs.attacks.Attacking.{some_square_same}
-use Rattle.chess_rules.proofs.attacks.Exposing.{IsSimple, captures_arrival, king_is_after}
+use Rattle.chess_rules.proofs.attacks.Exposing.{captures_arrival, king_is_after}
 use Rattle.chess_rules.proofs.attacks.Seeing.{gone_to, kept_now, king_stands, left_now, no_man, there_now}
 use Rattle.chess_rules.proofs.attacks.Shielding.{not_attacked, other_twice, simple_after}
 use Rattle.chess_rules.proofs.listing_moves.Walks.{on_first}
@@ -70,17 +70,11 @@ module _ (rule : RuleSet) (p : Position) (m : Move) (x : Man) (k : ℕ) (i : IsS
   abbrev after : Position
   after = position_after rule p m
 
-  abbrev step : Move
-  step = step_to k t
-
   abbrev taken : Option ℕ
   taken = step_taken rule p m x k i small y t
 
-  abbrev z : Man
-  z = arriving_man x m.promo
-
   abbrev now_men : List (Option Man)
-  now_men = stepped p.men m.from (capture_square p x m) m.to z k taken t y
+  now_men = stepped p.men m.from (capture_square p x m) m.to (arriving_man x m.promo) k taken t y
 
   own_king : king_square after.men p.turn ≡ Some s
   own_king =
@@ -89,22 +83,18 @@ module _ (rule : RuleSet) (p : Position) (m : Move) (x : Man) (k : ℕ) (i : IsS
   turned : other after.turn ≡ p.turn
   turned = ap other (turn_is rule p m x k i small) ∙ other_twice p.turn
 
-  simple_now : IsSimple rule after y step
-  simple_now = simple_step rule after y k t (king_step rule p m x k i small y t there king way)
+  men_made : (position_after rule after (step_to k t)).men ≡ gone_to after.men k taken t y
+  men_made =
+      let now = simple_step rule after y k t (king_step rule p m x k i small y t there king way) in
+      simple_after rule after y (step_to k t) king.here now.castling now.rebirth
 
-  men_made : (position_after rule after step).men ≡ gone_to after.men k taken t y
-  men_made = simple_after rule after y step king.here simple_now.castling simple_now.rebirth
-
-  men_are : (position_after rule after step).men ≡ now_men
-  men_are = men_made ∙ ap (λ (l : List (Option Man)). gone_to l k taken t y) (after_seen rule p m x k i)
-
-  is_left : IsLeft p.men m.from (capture_square p x m) m.to z taken t (other p.turn)
+  is_left : IsLeft p.men m.from (capture_square p x m) m.to (arriving_man x m.promo) taken t (other p.turn)
   is_left =
-      let step = is_step rule p m x k i small y t there king in
-      search (rules, step.taken, no_own_arrives rule p m x k i, captures_arrival, some_of_colour)
+      let made = is_step rule p m x k i small y t there king in
+      search (rules, made.taken, no_own_arrives rule p m x k i, captures_arrival, some_of_colour)
 
   -- the mover's king stands where he stood
-  king_after_step : king_square (position_after rule after step).men p.turn ≡ Some s
+  king_after_step : king_square (position_after rule after (step_to k t)).men p.turn ≡ Some s
   king_after_step =
       let size = (after_well_formed rule p m i.well_formed i.pseudo).size in
       let free = no_king_free (other p.turn) p.turn (man_on after.men t) (open_parts rule after.men (other p.turn) k t way).free in
@@ -116,22 +106,23 @@ module _ (rule : RuleSet) (p : Position) (m : Move) (x : Man) (k : ℕ) (i : IsS
   unfolding may_check_from reaches reaches_as
   apart =
       let kind : y.kind ≡ King = same_kind-true y.kind King king.king in
-      let none = kings_apart rule after y step (after_well_formed rule p m i.well_formed i.pseudo) king.here there lawful king.king in
+      let none = kings_apart rule after y (step_to k t) (after_well_formed rule p m i.well_formed i.pseudo) king.here there lawful king.king in
       let apart_there : reaches_as after.men y.colour y.kind t s ≡ false = (or_parts _ _ (rw (turned, own_king) at none)).1 in
-      rw (on_flight p.men m.from (capture_square p x m) m.to z k taken t y t is_left.flight refl, kind) (rw kind at apart_there)
+      rw (on_flight p.men m.from (capture_square p x m) m.to (arriving_man x m.promo) k taken t y t is_left.flight refl, kind) (rw kind at apart_there)
 
   -- and no other man of his side attacks him
   calm : IsQuietTo p.men p.turn (sight_lifted p.men m.from (capture_square p x m) m.to k) k t s
-      → in_check rule (position_after rule after step).men (other after.turn) ≡ false
-  unfolding in_check
+      → in_check rule (position_after rule after (step_to k t)).men (other after.turn) ≡ false
+  unfolding in_check position_after
   calm quiet =
-      rw (turned, king_after_step, men_are) (not_attacked rule now_men (other p.turn) s
-      (unreached p.men m.from (capture_square p x m) m.to z k taken t (other p.turn) is_left y s apart
-      (quiet.unreached _ (seen_left p.men m.from (capture_square p x m) m.to z k taken t (other p.turn) is_left))))
+      rw (turned, king_after_step, men_made, after_seen rule p m x k i) (not_attacked rule now_men (other p.turn) s
+      (unreached p.men m.from (capture_square p x m) m.to (arriving_man x m.promo) k taken t (other p.turn) is_left y s apart
+      (quiet.unreached _ (seen_left p.men m.from (capture_square p x m) m.to (arriving_man x m.promo) k taken t (other p.turn) is_left))))
 
   pub one_left : IsQuietTo p.men p.turn (sight_lifted p.men m.from (capture_square p x m) m.to k) k t s
       → list_all (is_mating rule after) (moves rule after) ≡ false
-  one_left quietly = one_fails rule after step (after_well_formed rule p m i.well_formed i.pseudo) lawful (quiet rule after step lawful (calm quietly))
+  one_left quietly =
+      one_fails rule after (step_to k t) (after_well_formed rule p m i.well_formed i.pseudo) lawful (quiet rule after (step_to k t) lawful (calm quietly))
 
 -- for a safe step
 pub not_all_mate : (rule : RuleSet) (p : Position) (m : Move) (x : Man) (k : ℕ) (i : IsSeenFrom rule p m x k) → m.to < 64 → (n w r t s : ℕ)

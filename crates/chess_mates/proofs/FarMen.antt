@@ -29,8 +29,9 @@ pub far_by : (rule : RuleSet) (p : Position) (x : Man) (s o w : ℕ) → man_on 
 far_by rule p x s o w here are goes none = grind (arith, eqb-true, check_targets_there)
 
 -- for one man who is far
-pub far_one : (rule : RuleSet) (p : Position) (s o : ℕ) → o ≡ word (λ t. is_square (Some s) t) → AreCheckTargets rule p s 0 → AreFar rule p o
-far_one rule p s o h are = grind (arith, eqb-true, word_has)
+pub far_one : (rule : RuleSet) (p : Position) (s o : ℕ) → o ≡ word (λ t. is_square (Some s) t) → AreCheckTargets rule p s 0
+    → (t : ℕ) → t < 64 → (bit_at o t == 1) ≡ true → AreCheckTargets rule p t 0
+far_one rule p s o h are t lt on = grind (arith, eqb-true, word_has)
 
 -- targets of the men of this kind who are on no square of the word h; of a king on his own square
 abbrev pub AreTargetsOff : RuleSet → Position → Kind → Option ℕ → ℕ → ℕ → Type 0

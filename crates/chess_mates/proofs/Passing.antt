@@ -1,6 +1,6 @@
 -- Moves that are plain: who castles, captures en passant or might be captured so.
 use Rattle.chess_rules.proofs.Basics.{None, and_left, and_parts, and_right, arith, bit_and, bit_at, bit_not, bit_or, cond-false, cond-true, false, false≢true, list_any, or_cases, refl, rules, sym, true, w64, ℕ, ◌<◌, ◌==◌, ◌^◌, ◌∙◌, ◌≡◌}
-use Rattle.chess_mates.proofs.Chess.{Black, Colour, King, Man, Move, Pawn, Position, White, capture_of_piece, capture_square, false_by, halfway, is_advance, is_castling, is_man, is_of_colour, is_square, king_is_no_pawn, leaps, man_on, may_go, no_capture, off_left, off_right, other, pawn_goes, pawn_is_no_king, queen_steps, same_colour-refl, same_kind, same_kind-true, side_of, squares_of, word, word_has, pawn_capture_steps}
+use Rattle.chess_mates.proofs.Chess.{Black, Colour, King, Man, Move, Pawn, Position, White, capture_of_piece, capture_square, false_by, halfway, is_advance, is_castling, is_man, is_of_colour, is_square, king_is_no_pawn, leaps, man_on, may_go, no_capture, off_left, off_right, other, pawn_goes, pawn_is_no_king, queen_steps, same_colour-refl, same_kind, same_kind-true, side_of, squares_of, word, word_has}
 use Rattle.chess_mates.specs.ties.Threats.{AreCapturers, IsMereMove, IsPassing, IsPlainMove}
 use Rattle.chess_rules.proofs.rays.Tables.{king_step_is_no_castling}
 use Rattle.chess_mates.proofs.Approaches.{far_is_vacant, goes_over_next, no_far_step, steps_from_there, takes_or_steps}
@@ -32,12 +32,13 @@ module _ (p : Position) (x : Man) (m : Move) (from : m.from < 64) (to : m.to < 6
           let there = on_both a n (halfway m) (word_has (is_advance x.colour m.from) a (halfway m) ahead low ∙ over.0)
           (word_has (λ t. list_any (leaps m.from t) queen_steps) n (halfway m) near low ∙ over.1) in
           let kind : z.kind ≡ Pawn = same_kind-true z.kind Pawn pawn in
-          let takes = λ (h : list_any (leaps s (halfway m)) (pawn_capture_steps (other x.colour)) ≡ true). before.capture s (halfway m) small low h there in
           let stands = word_has (λ t. is_man (man_on p.men t) (other x.colour) Pawn) l s pawns small in
           let at = steps_from_there p x.colour m.from m.to s from to small low pawn_x both.1 in
           let vacant = far_is_vacant p x.colour m.from m.to from to pawn_x both.1 in
           let goes = takes_or_steps q (other x.colour) s (halfway m) (rw (← man_is z (other x.colour) Pawn enemy kind) at comes) in
-          grind (arith, takes, stands, same_colour-refl (other x.colour), none_at (bit_and w l) s none, on_both w l s, at, vacant, here, or_cases, goes, enemy, kind));
+          let takes = before.capture s (halfway m) small low in
+          let denied = none_at (bit_and w l) s none in
+          grind (arith, takes, there, stands, same_colour-refl (other x.colour), denied, on_both w l s, at, vacant, here, or_cases, goes, enemy, kind));
     }
 
   -- where the man captures nobody, and isn't promoted

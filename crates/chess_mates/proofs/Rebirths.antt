@@ -1,6 +1,6 @@
 -- A man who is reborn gives his own king no check, but as a grasshopper's hurdle.
 use Rattle.chess_rules.proofs.Basics.{List, None, Option, Some, and_from, and_parts, arith, bit_at, cases_Bool, cond-false, cond-true, false, false_from_ne_true, false≢true, length, list_all, not-true, range_with_len, refl, rules, sym, true, ℕ, ◌&&◌, ◌-◌, ◌<◌, ◌==◌, ◌∙◌, ◌≡◌}
-use Rattle.chess_mates.proofs.Chess.{AreCheckSquares, AtMostOneKing, CheckSquares, Colour, Grasshopper, IsMade, IsWellFormed, Kind, King, Man, Move, Position, RuleSet, Step, all_kept, along, any_kept, are_rebirths_quiet, arrived, arriving_man, can_castle, cannot_expose, capture_square, captured_enemy, captured_mortal, check_squares_for, circe, in_check, is_absent, is_attacked, is_attacker, is_castling, is_clear, is_man, is_man-without, is_paralysed, is_pseudo_legal, is_square, is_vacant_at, king_is, made, man_on, man_on-with_cases, man_on_at, man_there, may_castle, may_check_from, moved_men, moved_sound, on_board, orthodox, other, other_twice, position_after, position_after_by, put_at, reaches, reaches_as, reborn_square, rides, rule_of_checks, same_colour, same_kind, some_square_false, some_square_true, unreborn_after, with_man, without_at, without_man}
+use Rattle.chess_mates.proofs.Chess.{AreCheckSquares, AtMostOneKing, CheckSquares, Colour, Grasshopper, IsMade, IsWellFormed, Kind, King, Man, Move, Position, RuleSet, Step, all_kept, along, any_kept, are_rebirths_quiet, arrived, arriving_man, can_castle, cannot_expose, capture_square, captured_enemy, captured_mortal, check_squares_for, circe, in_check, is_absent, is_attacked, is_attacker, is_castling, is_clear, is_man, is_man-without, is_paralysed, is_pseudo_legal, is_square, is_vacant_at, king_is, made, man_on, man_on-with_cases, man_on_at, man_there, may_castle, may_check_from, moved_men, moved_sound, on_board, orthodox, other, other_twice, position_after, position_after_by, put_at, reaches, reaches_as, reborn_square, rides, rule_of_checks, same_colour, same_kind, some_square_false, some_square_true, unreborn_after, with_man, without_man}
 use Rattle.chess_mates.proofs.Checking.{no_check, unchecked}
 
 -- no grasshopper of this colour stands there
@@ -61,8 +61,7 @@ moved_lacks : (p : Position) (x : Man) (m : Move) (e : Colour) → man_on p.men 
 unfolding moved_men
 moved_lacks p x m e here unpromoted none =
     let comes : is_man (Some (arriving_man x m.promo)) e Grasshopper ≡ false = search rules in
-    let gone : LacksGrasshopper (without_at (without_man p.men m.from) (capture_square p x m)) e = grind (arith, lacks_without) in
-    let arrived_lacks : LacksGrasshopper (arrived p x m) e = lacks_with _ m.to _ e gone comes in
+    let arrived_lacks : LacksGrasshopper (arrived p x m) e = lacks_with _ m.to _ e (grind (arith, lacks_without)) comes in
     grind (arith, cases_Bool (is_castling x m), lacks_with, lacks_without, arrived_lacks)
 
 absent_lacks : (men : List (Option Man)) (e : Colour) → length men ≡ 64 → is_absent men (record { colour = e; kind = Grasshopper }) ≡ true
@@ -77,9 +76,9 @@ unfolding position_after position_after_by
 after_is rule p x m here = rw here refl
 
 -- where the mover has no grasshopper, a move that gives no check in orthodox chess gives none in Circe, promotions apart
-pub rebirth_gives_no_check : (p : Position) (x : Man) (m : Move) → IsWellFormed p → is_pseudo_legal circe p m ≡ true → man_on p.men m.from ≡ Some x
-    → m.promo ≡ None
-    → is_absent p.men (record { colour = p.turn; kind = Grasshopper }) ≡ true → in_check orthodox (position_after orthodox p m).men (other p.turn) ≡ false
+rebirth_gives_no_check : (p : Position) (x : Man) (m : Move) → IsWellFormed p → is_pseudo_legal circe p m ≡ true → man_on p.men m.from ≡ Some x
+    → m.promo ≡ None → is_absent p.men (record { colour = p.turn; kind = Grasshopper }) ≡ true
+    → in_check orthodox (position_after orthodox p m).men (other p.turn) ≡ false
     → in_check circe (position_after circe p m).men (other p.turn) ≡ false
 rebirth_gives_no_check p x m well may here unpromoted absent safe =
     rw (after_is circe p x m here) (by (reborn_square circe p x m) (man_on_at p.men (capture_square p x m)) refl) where

@@ -84,7 +84,7 @@ fn far_men<R: Rules>(board: &Board, squares: &CheckSquares, kind: Kind) -> Squar
 // The square of the mover's king, if he couldn't come to a check square on an empty board, castling among
 // his moves.
 #[inline(always)]
-#[tactic(auto, using(chess_rules::proofs::listing_moves::Walks::off_zero))]
+#[tactic(auto, using(chess_rules::proofs::listing_moves::Walks::off_zero, crate::proofs::FarMen::far_one))]
 fn far_king<R: Rules>(board: &Board, squares: &CheckSquares) -> Squares
     requires well_formed { IsWellFormed board.now }
     requires squares { AreCheckSquares board.now.men (other board.now.turn) squares.now }

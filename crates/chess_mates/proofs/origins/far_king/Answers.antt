@@ -1,5 +1,5 @@
 use Rattle.chess_rules.proofs.Basics.{rules}
-use Rattle.chess_mates.proofs.FarMen.{far_one, found_here, found_targets}
+use Rattle.chess_mates.proofs.FarMen.{found_here, found_targets}
 use Rattle.chess_mates.proofs.origins.far_king.Goals as goal
 
 pub is_far-requires-clause-targets : goal.is_far-requires-clause-targets
@@ -9,6 +9,3 @@ is_far-requires-clause-targets g c =
 
 pub is_far-requires-clause-here : goal.is_far-requires-clause-here
 is_far-requires-clause-here g c = found_here _ _ _ _ 0 _ _ c.men_off_shields.ensures.stands c.next_bit.ensures.value c.in-Some.is (search rules)
-
-pub returns : goal.returns
-returns g c = (far_one _ _ _ _ c.only.ensures (search rules)).far
