@@ -60,13 +60,6 @@ pub no_far_step : (s t : ℕ) → s < 64 → t < 64 → is_far s t ≡ true → 
 unfolding along leaps
 no_far_step s t p q far = not-true _ (implied _ _ (pairs (λ s t. not (is_far s t) || not (list_any (leaps s t) queen_steps)) refl s t p q) far)
 
--- a pawn goes two ranks only by stepping, to a square where nobody stands
-pub far_is_vacant : (p : Position) (c : Colour) (s t : ℕ) → s < 64 → t < 64 → may_go p (record { colour = c; kind = Pawn }) s t ≡ true → is_far s t ≡ true
-    → man_on p.men t ≡ None
-unfolding may_go reaches_as
-far_is_vacant p c s t low high goes far =
-    grind (arith, no_far_step s t low high far, pawn_goes p (record { colour = c; kind = Pawn }) (record { from = s; to = t; promo = None }), goes, false≢true)
-
 -- how a pawn goes: he captures, or steps once, or twice from his second rank
 abbrev pawn_steps : Colour → ℕ → ℕ → Bool
 pawn_steps c s t = is_square (along s (forward c) 1) t || (rank_of s == second_rank c && is_square (along s (forward c) 2) t)
@@ -90,20 +83,28 @@ unfolding along
 steps_back c s h p q =
     implied _ _ (every (λ c s h. not (pawn_steps (other c) s h && rank_of h == (if same_colour c White then 3 else 6)) || is_after c 8 h s) refl c s h p q)
 
--- who steps to that square stands where the pawn arrives
-pub steps_from_there : (p : Position) (c : Colour) (s t u : ℕ) → s < 64 → t < 64 → u < 64 → (s + t) / 2 < 64
-    → may_go p (record { colour = c; kind = Pawn }) s t ≡ true → is_far s t ≡ true → pawn_steps (other c) u ((s + t) / 2) ≡ true → u ≡ t
-steps_from_there p c s t u low high inside mid goes far steps =
-    grind (arith, takes_or_steps p c s t goes, no_far_step s t low high far, over_is c s t low high, steps_back c u ((s + t) / 2), and_parts, eqb-true)
+-- a pawn goes two ranks only by stepping
+module _ (p : Position) (c : Colour) (s t : ℕ) (low : s < 64) (high : t < 64) (goes : may_go p (record { colour = c; kind = Pawn }) s t ≡ true)
+    (far : is_far s t ≡ true) where
+  -- to a square where nobody stands
+  pub far_is_vacant : man_on p.men t ≡ None
+  unfolding may_go reaches_as
+  far_is_vacant =
+      let pawn = pawn_goes p (record { colour = c; kind = Pawn }) (record { from = s; to = t; promo = None }) in
+      grind (arith, no_far_step s t low high far, pawn, goes, false≢true)
 
--- for double steps: a pawn that goes so far goes over the next square ahead
-pub goes_over_next : (p : Position) (c : Colour) (s t : ℕ) → s < 64 → t < 64 → may_go p (record { colour = c; kind = Pawn }) s t ≡ true → is_far s t ≡ true
-    → (is_advance c s ((s + t) / 2) ≡ true) × (list_any (leaps s ((s + t) / 2)) queen_steps ≡ true)
-unfolding along leaps
-goes_over_next p c s t low high goes far =
-    let over = λ (c : Colour) (s h : ℕ). is_advance c s h && list_any (leaps s h) queen_steps in
-    let all = every (λ c s t. not (pawn_way c s t && is_far s t) || over c s ((s + t) / 2)) refl c s t low high in
-    and_parts _ _ (implied _ _ all (and_from _ _ (pawn_goes_so p c s t goes) far))
+  -- who steps to the square between stands where the pawn arrives
+  pub steps_from_there : (u : ℕ) → u < 64 → (s + t) / 2 < 64 → pawn_steps (other c) u ((s + t) / 2) ≡ true → u ≡ t
+  steps_from_there u inside mid steps =
+      grind (arith, takes_or_steps p c s t goes, no_far_step s t low high far, over_is c s t low high, steps_back c u ((s + t) / 2), and_parts, eqb-true)
+
+  -- which is the next one ahead
+  pub goes_over_next : (is_advance c s ((s + t) / 2) ≡ true) × (list_any (leaps s ((s + t) / 2)) queen_steps ≡ true)
+  unfolding along leaps
+  goes_over_next =
+      let over = λ (c : Colour) (s h : ℕ). is_advance c s h && list_any (leaps s h) queen_steps in
+      let all = every (λ c s t. not (pawn_way c s t && is_far s t) || over c s ((s + t) / 2)) refl c s t low high in
+      and_parts _ _ (implied _ _ all (and_from _ _ (pawn_goes_so p c s t goes) far))
 
 -- from where pawns come to a square of the word, and from where they capture there
 comes_from : (c : Colour) (w : ℕ)

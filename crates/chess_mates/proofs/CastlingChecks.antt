@@ -228,9 +228,7 @@ pub castling_targets_are : (v : CheckSquares) (s a : ℕ) → s < 64 → a ≡ w
     → AreCastlingTargets v s (bit_and a (bit_or (v.straight * 2 ^ 1 % 2 ^ 64) (v.straight / 2 ^ 1)))
 castling_targets_are v s a small are = record {
   elsewhere = λ t lt aside off.
-      let up : ℕ = v.straight * 2 ^ 1 % 2 ^ 64 in
-      let down : ℕ = v.straight / 2 ^ 1 in
-      let both = off_second a (bit_or up down) t off (word_has (is_two_files_aside s) a t are lt ∙ aside) in
+      let both = off_second a _ t off (word_has (is_two_files_aside s) a t are lt ∙ aside) in
       let far : (t ≡ s + 2) ⊎ (s ≡ t + 2) = search (rules, along-is, or_cases) in
-      grind (arith, far, bit_up v.straight 1 t, bit_down v.straight 1 t, off_left up down t both, off_right up down t both);
+      grind (arith, far, bit_up v.straight 1 t, bit_down v.straight 1 t, off_left, off_right, both);
 }

@@ -1,5 +1,5 @@
 -- A move that goes to no square from which its man may give check gives none.
-use Rattle.chess_rules.proofs.Basics.{None, Some, agree_below_at, and_parts, ap, arith, bit_and, bit_at, bit_or, cases_Bool, false, inl, inr, is_some, not, refl, rules, sym, true, ℕ, ◌+◌, ◌/◌, ◌<◌, ◌==◌, ◌||◌, ◌∙◌, ◌≡◌}
+use Rattle.chess_rules.proofs.Basics.{Some, agree_below_at, and_parts, ap, arith, bit_and, bit_at, bit_or, cases_Bool, false, inl, inr, is_some, not, refl, rules, sym, true, ℕ, ◌+◌, ◌/◌, ◌<◌, ◌==◌, ◌||◌, ◌∙◌, ◌≡◌}
 use Rattle.chess_mates.proofs.Chess.{AreCastlingTargets, AreCheckSquares, AreCheckTargets, Black, CheckSquares, Colour, IsMade, IsWellFormed, King, Man, Move, Pawn, Position, Rook, RuleSet, White, are_rebirths_quiet, arrival_needed, cannot_expose, captures_do_more, check_squares_for, enemy, false_by, halfway, implied, in_check, is_castling, is_pseudo_legal, is_pseudo_legal-from_legal, is_square, is_two_files_aside, last_rank, made, man_on, may_check_from, may_expose, may_go, may_go_aimed, may_stand_between, off_left, off_right, off_second, other, position_after, rank_of, same_kind, word, word_has}
 use Rattle.chess_rules.proofs.attacks.EvasionTargets.{plain_elsewhere}
 use Rattle.chess_mates.proofs.CastlingChecks.{castling_aside, castling_gives_no_check}
@@ -33,9 +33,6 @@ module _ (rule : RuleSet) (p : Position) (x : Man) (s : CheckSquares) (f : ℕ) 
     is : IsMade rule p x m
     is = made rule p m x may (ap (man_on p.men) at ∙ here)
 
-    unpromoted : m.promo ≡ None
-    unpromoted = unnamed p x m m.promo (search (rules, and_parts, false_by, last_rank_on, off)) is.promotion
-
     origin_stays : may_expose p.men (other p.turn) m.from ≡ false
     origin_stays = rw at (sym (word_has (may_expose p.men (other p.turn)) s.shield_squares f checks.shield_squares inside) ∙ covered)
 
@@ -53,7 +50,8 @@ module _ (rule : RuleSet) (p : Position) (x : Man) (s : CheckSquares) (f : ℕ) 
     unfolding cannot_expose
     no_check_elsewhere = elim (cases_Bool (is_castling x m)) [
       | inl y ↦ castled y
-      | inr n ↦ no_check_by_rebirth rule p x m s a well may is.here checks checked_from small off.0 apart unpromoted
+      | inr n ↦ no_check_by_rebirth rule p x m s a well may is.here checks checked_from small off.0 apart
+          (unnamed p x m m.promo (search (rules, and_parts, false_by, last_rank_on, off)) is.promotion)
           (grind (arith, plain_elsewhere, off, is.here, origin_stays, aside, cases_Bool (are_rebirths_quiet rule p.men p.turn), reborn))
     ]
 

@@ -33,7 +33,7 @@ module _ (p : Position) (x : Man) (m : Move) (from : m.from < 64) (to : m.to < 6
           (word_has (λ t. list_any (leaps m.from t) queen_steps) n (halfway m) near low ∙ over.1) in
           let kind : z.kind ≡ Pawn = same_kind-true z.kind Pawn pawn in
           let stands = word_has (λ t. is_man (man_on p.men t) (other x.colour) Pawn) l s pawns small in
-          let at = steps_from_there p x.colour m.from m.to s from to small low pawn_x both.1 in
+          let at = steps_from_there p x.colour m.from m.to from to pawn_x both.1 s small low in
           let vacant = far_is_vacant p x.colour m.from m.to from to pawn_x both.1 in
           let goes = takes_or_steps q (other x.colour) s (halfway m) (rw (← man_is z (other x.colour) Pawn enemy kind) at comes) in
           let takes = before.capture s (halfway m) small low in
