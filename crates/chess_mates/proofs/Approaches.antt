@@ -106,38 +106,23 @@ module _ (p : Position) (c : Colour) (s t : ℕ) (low : s < 64) (high : t < 64) 
       let all = every (λ c s t. not (pawn_way c s t && is_far s t) || over c s ((s + t) / 2)) refl c s t low high in
       and_parts _ _ (implied _ _ all (and_from _ _ (pawn_goes_so p c s t goes) far))
 
--- from where pawns come to a square of the word, and from where they capture there
-comes_from : (c : Colour) (w : ℕ)
-    → AreApproaches (record { colour = c; kind = Pawn }) w (bit_or (bit_or (bit_or (before c w 7) (before c w 8)) (before c w 9)) (before c w 16))
+-- for `pawns_before`
+pub pawns_come_from : (c d : Colour) (w v : ℕ) → d ≡ c → v ≡ bit_or (bit_or (bit_or (before c w 7) (before c w 8)) (before c w 9)) (before c w 16)
+    → AreApproaches (record { colour = d; kind = Pawn }) w v
 unfolding along leaps
-comes_from c w = record {
+pawns_come_from c d w v same is = rw (same, is) (record {
   approach = λ p s t small inside goes on.
       let has = λ (k : ℕ). before_has c w s t k small on in
       let by = λ (c : Colour) (s t : ℕ). ((is_after c 7 s t || is_after c 8 s t) || is_after c 9 s t) || is_after c 16 s t in
       on_either _ _ _ _ s (on_either _ _ _ _ s (on_either _ _ _ _ s (has 7) (has 8)) (has 9)) (has 16)
       (implied _ _ (every (λ c s t. not (pawn_way c s t) || by c s t) refl c s t small inside) (pawn_goes_so p c s t goes));
-}
+})
 
-captures_from : (c : Colour) (w : ℕ) → AreCapturers c w (bit_or (before c w 7) (before c w 9))
+-- for `capturers_before`
+pub pawns_capture_from : (c d : Colour) (w v : ℕ) → d ≡ c → v ≡ bit_or (before c w 7) (before c w 9) → AreCapturers d w v
 unfolding along leaps
-captures_from c w = record {
+pawns_capture_from c d w v same is = rw (same, is) (record {
   capture = λ s t small lt takes on.
       on_either _ _ _ _ s (before_has c w s t 7 small on) (before_has c w s t 9 small on)
       (implied _ _ (every (λ c s t. not (list_any (leaps s t) (pawn_capture_steps c)) || (is_after c 7 s t || is_after c 9 s t)) refl c s t small lt) takes);
-}
-
--- for `pawns_before`, by the word moved down, and up
-pub white_pawns_before : (w : ℕ)
-    → AreApproaches (record { colour = White; kind = Pawn }) w (bit_or (bit_or (bit_or (w / 2 ^ 7) (w / 2 ^ 8)) (w / 2 ^ 9)) (w / 2 ^ 16))
-white_pawns_before = comes_from White
-
-pub black_pawns_before : (w : ℕ) → AreApproaches (record { colour = Black; kind = Pawn }) w
-    (bit_or (bit_or (bit_or (w * 2 ^ 7 % 2 ^ 64) (w * 2 ^ 8 % 2 ^ 64)) (w * 2 ^ 9 % 2 ^ 64)) (w * 2 ^ 16 % 2 ^ 64))
-black_pawns_before = comes_from Black
-
--- for `capturers_before`
-pub white_capturers : (w : ℕ) → AreCapturers White w (bit_or (w / 2 ^ 7) (w / 2 ^ 9))
-white_capturers = captures_from White
-
-pub black_capturers : (w : ℕ) → AreCapturers Black w (bit_or (w * 2 ^ 7 % 2 ^ 64) (w * 2 ^ 9 % 2 ^ 64))
-black_capturers = captures_from Black
+})

@@ -1,5 +1,5 @@
 -- Men who couldn't come to a check square give no check.
-use Rattle.chess_rules.proofs.Basics.{List, None, Option, Some, arith, bit_and, bit_at, bit_at-lt, bit_at_and, bit_not, bit_or, cases_Bool, eq-eqb, eqb-true, false, false≢true, find, range_with_len, refl, rules, sym, true, w64, ℕ, ◌<◌, ◌==◌, ◌^◌, ◌≡◌, ◌-◌, ◌∙◌}
+use Rattle.chess_rules.proofs.Basics.{None, Option, Some, arith, bit_and, bit_at, bit_at-lt, bit_at_and, bit_not, bit_or, cases_Bool, eq-eqb, eqb-true, false, false≢true, find, range_with_len, refl, rules, sym, true, w64, ℕ, ◌<◌, ◌==◌, ◌^◌, ◌≡◌, ◌-◌, ◌∙◌}
 use Rattle.chess_mates.proofs.Chess.{AreApproaches, AreCheckOrigins, AreCheckTargets, Colour, Kind, King, Man, Move, Position, RuleSet, false_by, is_legal, is_pseudo_legal-from_legal, is_square, man_on, may_go, off_second, off_zero, on_first, own_man, own_moves, same_kind, same_colour-true, same_kind-true, side_of, squares_of, word, word_has}
 use Rattle.std.proofs.lemmas.Nat.Bits.{bit_at_not}
 use Rattle.chess_mates.proofs.Hurdles.{found_on, on_either}
@@ -50,15 +50,11 @@ module _ (rule : RuleSet) (p : Position) (j : Kind) (m h w : ℕ)
       let far = targets_lack rule p (own_man p j) s w 0 in
       grind (arith, far, stands s small, off s small, targets s (own_man p j) small, on_first m, off_denied m n s fits small on, come.approach p s, false_by)
 
-  -- the first of them has these targets
-  pub found_targets : (n s : ℕ) (o king : Option ℕ) → o ≡ find (λ s. bit_at m s == 1) (range_with_len n (64 - n)) → o ≡ Some s
-      → (same_kind j King ≡ true → king ≡ Some s) → AreTargetsOff rule p j king h w → AreCheckTargets rule p s w
-  found_targets n s o king found is same targets = grind (arith, found_on m n s, stands s, off s, targets s (own_man p j))
-
--- the first of them stands there
-pub found_here : (men : List (Option Man)) (y x : Man) (m n s : ℕ) (o : Option ℕ) → ((s : ℕ) → s < 64 → (bit_at m s == 1) ≡ true → man_on men s ≡ Some y)
-    → o ≡ find (λ s. bit_at m s == 1) (range_with_len n (64 - n)) → o ≡ Some s → y ≡ x → man_on men s ≡ Some x
-found_here men y x m n s o stands found is e = grind (arith, found_on m n s, stands s)
+  -- the first of them, and his targets
+  pub found : (n s : ℕ) (o king : Option ℕ) (c : Colour) → c ≡ p.turn → o ≡ find (λ s. bit_at m s == 1) (range_with_len n (64 - n)) → o ≡ Some s
+      → (same_kind j King ≡ true → king ≡ Some s) → AreTargetsOff rule p j king h w
+      → (man_on p.men s ≡ Some (record { colour = c; kind = j })) × AreCheckTargets rule p s w
+  found n s o king c turn first is same targets = grind (arith, found_on m n s, stands s, off s, targets s (own_man p j))
 
 -- a square that isn't one of the others is one of the word
 pub on_denied : (w i : ℕ) → w < 2 ^ 64 → i < 64 → (bit_at (bit_not w64 w) i == 1) ≡ false → (bit_at w i == 1) ≡ true

@@ -1,6 +1,6 @@
 -- A man who is reborn gives his own king no check, but as a grasshopper's hurdle.
 use Rattle.chess_rules.proofs.Basics.{List, None, Option, Some, and_from, and_parts, arith, bit_at, cases_Bool, cond-false, cond-true, false, false_from_ne_true, false≢true, length, list_all, not-true, range_with_len, refl, rules, sym, true, ℕ, ◌&&◌, ◌-◌, ◌<◌, ◌==◌, ◌∙◌, ◌≡◌}
-use Rattle.chess_mates.proofs.Chess.{AreCheckSquares, AtMostOneKing, CheckSquares, Colour, Grasshopper, IsMade, IsWellFormed, Kind, King, Man, Move, Position, RuleSet, Step, all_kept, along, any_kept, are_rebirths_quiet, arrived, arriving_man, can_castle, cannot_expose, capture_square, captured_enemy, captured_mortal, check_squares_for, circe, in_check, is_absent, is_attacked, is_attacker, is_castling, is_clear, is_man, is_man-without, is_paralysed, is_pseudo_legal, is_square, is_vacant_at, king_is, made, man_on, man_on-with_cases, man_on_at, man_there, may_castle, may_check_from, moved_men, moved_sound, on_board, orthodox, other, other_twice, position_after, position_after_by, put_at, reaches, reaches_as, reborn_square, rides, rule_of_checks, same_colour, same_kind, some_square_false, some_square_true, unreborn_after, with_man, without_man}
+use Rattle.chess_mates.proofs.Chess.{AreCheckSquares, AtMostOneKing, CheckSquares, Colour, Grasshopper, IsWellFormed, Kind, King, Man, Move, Position, RuleSet, Step, all_kept, along, any_kept, are_rebirths_quiet, arrived, arriving_man, can_castle, cannot_expose, capture_square, captured_enemy, captured_mortal, check_squares_for, circe, in_check, is_absent, is_attacked, is_attacker, is_castling, is_clear, is_man, is_man-without, is_paralysed, is_pseudo_legal, is_square, is_vacant_at, king_is, made, man_on, man_on-with_cases, man_on_at, man_there, may_castle, may_check_from, moved_men, moved_sound, on_board, orthodox, other, other_twice, position_after, position_after_by, put_at, reaches, reaches_as, reborn_square, rides, rule_of_checks, same_colour, same_kind, some_square_false, some_square_true, unreborn_after, with_man, without_man}
 use Rattle.chess_mates.proofs.Checking.{no_check, unchecked}
 
 -- no grasshopper of this colour stands there
@@ -78,18 +78,15 @@ after_is rule p x m here = rw here refl
 -- where the mover has no grasshopper, a move that gives no check in orthodox chess gives none in Circe, promotions apart
 rebirth_gives_no_check : (p : Position) (x : Man) (m : Move) → IsWellFormed p → is_pseudo_legal circe p m ≡ true → man_on p.men m.from ≡ Some x
     → m.promo ≡ None → is_absent p.men (record { colour = p.turn; kind = Grasshopper }) ≡ true
-    → in_check orthodox (position_after orthodox p m).men (other p.turn) ≡ false
-    → in_check circe (position_after circe p m).men (other p.turn) ≡ false
+    → in_check orthodox (position_after orthodox p m).men (other p.turn) ≡ false → in_check circe (position_after circe p m).men (other p.turn) ≡ false
 rebirth_gives_no_check p x m well may here unpromoted absent safe =
     rw (after_is circe p x m here) (by (reborn_square circe p x m) (man_on_at p.men (capture_square p x m)) refl) where
-      is : IsMade circe p x m
-      is = made circe p m x may here
-
       before : in_check orthodox (moved_men p x m) (other p.turn) ≡ false
       before = rw (unreborn_after orthodox p x m here (λ e. absurd (false≢true e))) at safe
 
       by : (o : Option ℕ) (w : Option Man) → man_on_at p.men (capture_square p x m) ≡ w → in_check circe (put_at (moved_men p x m) o w) (other p.turn) ≡ false
       by (Some r) (Some y) who =
+          let is = made circe p m x may here in
           reborn_quietly (moved_men p x m) r y (other p.turn) (rw (other_twice p.turn) (captured_enemy circe p x m y well is who))
           (captured_mortal circe p x m y well is who)
           (rw (other_twice p.turn) (moved_lacks p x m p.turn here unpromoted (absent_lacks p.men p.turn well.size absent)))

@@ -1,11 +1,9 @@
-use Rattle.chess_rules.proofs.Basics.{rules}
-use Rattle.chess_mates.proofs.FarMen.{found_here, found_targets}
+use Rattle.chess_mates.proofs.FarMen.{found}
 use Rattle.chess_mates.proofs.origins.far_men.Goals as goal
 
-pub is_far-requires-clause-targets : goal.is_far-requires-clause-targets
-is_far-requires-clause-targets g c =
+pub is_far-requires : goal.is_far-requires
+is_far-requires g c =
     let men = c.men_off_shields-men.ensures in
-    found_targets _ _ _ _ _ _ men.stands men.unshielding _ _ _ _ c.next_bit.ensures.value c.in-Some.is (λ king. cc) c.targets_off_shields-targets.ensures
-
-pub is_far-requires-clause-here : goal.is_far-requires-clause-here
-is_far-requires-clause-here g c = found_here _ _ _ _ _ _ _ c.men_off_shields-men.ensures.stands c.next_bit.ensures.value c.in-Some.is (search rules)
+    let targets = c.targets_off_shields-targets.ensures in
+    let first = found _ _ _ _ _ _ men.stands men.unshielding _ _ _ _ _ c.turn.ensures c.next_bit.ensures.value c.in-Some.is (λ king. cc) targets in
+    record { here = first.0; targets = first.1 }
