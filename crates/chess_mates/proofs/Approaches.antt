@@ -5,7 +5,6 @@ use Rattle.chess_mates.specs.ties.Threats.{AreCapturers}
 use Rattle.std.proofs.Math.Nat.{div-add-mod}
 use Rattle.std.proofs.lemmas.Nat.{pow_pos, shr-shr}
 use Rattle.std.proofs.lemmas.Nat.Bits.{bit_at_cat_high, bit_at_cat_low}
-use Rattle.chess_mates.proofs.OpenBoard.{advances}
 
 -- a word moved down or up by k squares
 pub bit_down : (w k s : ℕ) → bit_at (w / 2 ^ k) s ≡ bit_at w (k + s)
@@ -43,14 +42,6 @@ every : (f : Colour → ℕ → ℕ → Bool) → agree_below (λ n. f White (n 
 every f all White s t p q = (and_parts _ _ (pairs (λ s t. f White s t && f Black s t) all s t p q)).0
 every f all Black s t p q = (and_parts _ _ (pairs (λ s t. f White s t && f Black s t) all s t p q)).1
 
--- where a pawn might go on an empty board
-abbrev pawn_way : Colour → ℕ → ℕ → Bool
-pawn_way c s t = list_any (leaps s t) (pawn_capture_steps c) || is_advance c s t
-
-pawn_goes_so : (p : Position) (c : Colour) (s t : ℕ) → may_go p (record { colour = c; kind = Pawn }) s t ≡ true → pawn_way c s t ≡ true
-unfolding may_go reaches_as
-pawn_goes_so p c s t h = search (rules, advances, and_parts, or_cases, or_left, or_right)
-
 -- two ranks away
 abbrev is_far : ℕ → ℕ → Bool
 is_far s t = rank_of s + 2 == rank_of t || rank_of t + 2 == rank_of s
@@ -64,8 +55,10 @@ no_far_step s t p q far = not-true _ (implied _ _ (pairs (λ s t. not (is_far s 
 abbrev pawn_steps : Colour → ℕ → ℕ → Bool
 pawn_steps c s t = is_square (along s (forward c) 1) t || (rank_of s == second_rank c && is_square (along s (forward c) 2) t)
 
-pub takes_or_steps : (p : Position) (c : Colour) (s t : ℕ) → may_go p (record { colour = c; kind = Pawn }) s t ≡ true
-    → (list_any (leaps s t) (pawn_capture_steps c) || pawn_steps c s t) ≡ true
+abbrev pub pawn_way : Colour → ℕ → ℕ → Bool
+pawn_way c s t = list_any (leaps s t) (pawn_capture_steps c) || pawn_steps c s t
+
+pub takes_or_steps : (p : Position) (c : Colour) (s t : ℕ) → may_go p (record { colour = c; kind = Pawn }) s t ≡ true → pawn_way c s t ≡ true
 unfolding may_go reaches_as
 takes_or_steps p c s t goes = search (rules, and_parts, or_cases, or_left, or_right)
 
@@ -104,7 +97,7 @@ module _ (p : Position) (c : Colour) (s t : ℕ) (low : s < 64) (high : t < 64) 
   goes_over_next =
       let over = λ (c : Colour) (s h : ℕ). is_advance c s h && list_any (leaps s h) queen_steps in
       let all = every (λ c s t. not (pawn_way c s t && is_far s t) || over c s ((s + t) / 2)) refl c s t low high in
-      and_parts _ _ (implied _ _ all (and_from _ _ (pawn_goes_so p c s t goes) far))
+      and_parts _ _ (implied _ _ all (and_from _ _ (takes_or_steps p c s t goes) far))
 
 -- for `pawns_before`
 pub pawns_come_from : (c d : Colour) (w v : ℕ) → d ≡ c → v ≡ bit_or (bit_or (bit_or (before c w 7) (before c w 8)) (before c w 9)) (before c w 16)
@@ -115,7 +108,7 @@ pawns_come_from c d w v same is = rw (same, is) (record {
       let has = λ (k : ℕ). before_has c w s t k small on in
       let by = λ (c : Colour) (s t : ℕ). ((is_after c 7 s t || is_after c 8 s t) || is_after c 9 s t) || is_after c 16 s t in
       on_either _ _ _ _ s (on_either _ _ _ _ s (on_either _ _ _ _ s (has 7) (has 8)) (has 9)) (has 16)
-      (implied _ _ (every (λ c s t. not (pawn_way c s t) || by c s t) refl c s t small inside) (pawn_goes_so p c s t goes));
+      (implied _ _ (every (λ c s t. not (pawn_way c s t) || by c s t) refl c s t small inside) (takes_or_steps p c s t goes));
 })
 
 -- for `capturers_before`

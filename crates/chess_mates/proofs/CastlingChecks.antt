@@ -1,6 +1,6 @@
 -- Castling that uncovers no king gives check by its rook alone.
 use Rattle.chess_rules.proofs.Basics.{Bool, List, None, Option, Some, [], agree_below, agree_below_at, and_from, and_left, and_parts, ap, arith, bit_and, bit_or, cases_eq, cond-true, eq-eqb, eqb-true, false, false_from_ne_true, false≢true, inl, inr, is_some, length, length-set, list_all, list_any, not, or_cases, or_left, or_parts, range_with_len, refl, rules, sym, true, ℕ, ◌%◌, ◌&&◌, ◌*◌, ◌+◌, ◌-◌, ◌/◌, ◌<◌, ◌==◌, ◌^◌, ◌||◌, ◌∙◌, ◌∷◌, ◌≡◌, ◌≢◌, ◌≤◌, ◌⊎◌}
-use Rattle.chess_mates.proofs.Chess.{AreCastlingTargets, Bishop, CheckSquares, Colour, Direction, East, Grasshopper, IsCastle, IsMade, IsWellFormed, Kind, King, Man, Move, Nightrider, North, NorthEast, NorthWest, Pawn, Position, Queen, Rook, RuleSet, South, SouthEast, SouthWest, Step, Straight, West, all_at, along, along-is, any_kept, arrived, can_castle, castle_of, castling_steps, corner, corner_stays, enemy, halfway, hops, implied, in_check, is_ahead, is_castling, is_clear, is_diagonal, is_man, is_of_colour, is_on_some, is_reached, is_square, is_two_files_aside, is_vacant, king_is, king_no_step, king_square, king_stays_king, man_on, man_on-with_same, man_there, may_castle, may_check_from, may_expose, may_expose_at, may_stand_between, moved_men, no_capture, not_attacked, off_left, off_right, off_second, other, position_after, reaches, reaches_as, rides, same_colour, same_kind, same_kind-true, some_square_false, some_square_true, square_is, squares_between, step_of, steps_to, straight_steps, unreborn_after, with_man, without_man, word, word_has}
+use Rattle.chess_mates.proofs.Chess.{AreCastlingTargets, Bishop, CheckSquares, Colour, Direction, East, Grasshopper, IsCastle, IsMade, IsWellFormed, Kind, King, Man, Move, Nightrider, North, NorthEast, NorthWest, Pawn, Position, Queen, Rook, RuleSet, South, SouthEast, SouthWest, Step, Straight, West, all_at, along, along-is, any_kept, arrived, can_castle, castle_of, corner, corner_stays, enemy, halfway, hops, implied, in_check, is_ahead, is_castling, is_clear, is_diagonal, is_man, is_of_colour, is_on_some, is_reached, is_square, is_two_files_aside, is_vacant, king_is, king_no_step, king_square, king_stays_king, man_on, man_on-with_same, man_there, may_castle, may_check_from, may_expose, may_expose_at, may_stand_between, moved_men, no_capture, not_attacked, off_left, off_right, off_second, other, position_after, reaches, reaches_as, rides, same_colour, same_kind, same_kind-true, some_square_false, some_square_true, square_is, squares_between, step_of, straight_steps, unreborn_after, with_man, without_man, word, word_has}
 use Rattle.chess_rules.proofs.rays.Ahead.{onward, passes}
 use Rattle.chess_rules.proofs.making_moves.Castles.{no_man}
 use Rattle.chess_rules.proofs.rays.Ends.{back, return_square}
@@ -87,37 +87,30 @@ is_lined_up a c h k = not (is_on_some straight_steps k h && is_on_some straight_
 abbrev IsPlace : ℕ → ℕ → ℕ → Type 0
 IsPlace a c h = (is_corner c ≡ true) × (is_half h ≡ true) × (agree_below (is_lined_up a c h) (λ k. true) 64 ≡ true)
 
--- what lies between them is empty
-abbrev IsWay : List (Option Man) → ℕ → ℕ → ℕ → Type 0
-IsWay men a t c = list_all (is_vacant men) (squares_between a c) ≡ true → (man_on men t ≡ None) × (list_any (rides men c a) straight_steps ≡ true)
-
--- king and rook castle: a king on a goes to t, the rook from c to h
+-- king and rook castle: a king on a goes to t, the rook from c to h; what lies between them is empty
 module _ (men : List (Option Man)) (a t c h : ℕ) where
-  at_squares : (i u d j : ℕ) → a ≡ i → t ≡ u → c ≡ d → h ≡ j → IsPlace i d j → IsWay men i u d → IsPlace a c h × IsWay men a t c
-  at_squares i u d j from to rook half place free = rw (from, to, rook, half) (place, free)
+  abbrev IsWay : ℕ → ℕ → ℕ → ℕ → Type 0
+  IsWay i u d j = list_all (is_vacant men) (squares_between i d) ≡ true
+      → IsPlace i d j × (man_on men u ≡ None) × (list_any (rides men d i) straight_steps ≡ true)
 
-  way : (a ≡ 4) ⊎ (a ≡ 60) → ((t ≡ a + 2) × ((c ≡ a + 3) × (h ≡ a + 1))) ⊎ ((t + 2 ≡ a) × ((c + 4 ≡ a) × (h + 1 ≡ a))) → IsPlace a c h × IsWay men a t c
+  at_squares : (i u d j : ℕ) → a ≡ i → t ≡ u → c ≡ d → h ≡ j → IsWay i u d j → IsWay a t c h
+  at_squares i u d j from to rook half free = rw (from, to, rook, half) free
+
+  way : (a ≡ 4) ⊎ (a ≡ 60) → ((t ≡ a + 2) × ((c ≡ a + 3) × (h ≡ a + 1))) ⊎ ((t + 2 ≡ a) × ((c + 4 ≡ a) × (h + 1 ≡ a))) → IsWay a t c h
   unfolding rides is_clear along is_on_some is_ahead
-  way (inl e) (inl f) = at_squares 4 6 7 5 e (omega arith) (omega arith) (omega arith) (refl, refl, refl) (λ v. search (rules, no_man, and_parts))
-  way (inl e) (inr f) = at_squares 4 2 0 3 e (omega arith) (omega arith) (omega arith) (refl, refl, refl) (λ v. search (rules, no_man, and_parts))
-  way (inr e) (inl f) = at_squares 60 62 63 61 e (omega arith) (omega arith) (omega arith) (refl, refl, refl) (λ v. search (rules, no_man, and_parts))
-  way (inr e) (inr f) = at_squares 60 58 56 59 e (omega arith) (omega arith) (omega arith) (refl, refl, refl) (λ v. search (rules, no_man, and_parts))
+  way (inl e) (inl f) = at_squares 4 6 7 5 e (omega arith) (omega arith) (omega arith) (λ v. search (rules, no_man, and_parts))
+  way (inl e) (inr f) = at_squares 4 2 0 3 e (omega arith) (omega arith) (omega arith) (λ v. search (rules, no_man, and_parts))
+  way (inr e) (inl f) = at_squares 60 62 63 61 e (omega arith) (omega arith) (omega arith) (λ v. search (rules, no_man, and_parts))
+  way (inr e) (inr f) = at_squares 60 58 56 59 e (omega arith) (omega arith) (omega arith) (λ v. search (rules, no_man, and_parts))
 
 -- what castling changes: the king steps, and then the rook
 module _ (rule : RuleSet) (p : Position) (x : Man) (m : Move) (well : IsWellFormed p) (is : IsMade rule p x m) (castling : is_castling x m ≡ true) where
-  king : same_kind x.kind King ≡ true
-  king = (and_parts _ _ (and_parts _ _ castling).0).0
-
   castle : (same_kind x.kind Pawn ≡ false) × IsCastle p m
   castle = castle_of rule p x m well is castling
 
-  the_way : (man_on p.men m.to ≡ None) × (list_any (rides p.men (corner m) m.from) straight_steps ≡ true)
+  the_way : IsPlace m.from (corner m) (halfway m) × (man_on p.men m.to ≡ None) × (list_any (rides p.men (corner m) m.from) straight_steps ≡ true)
   unfolding can_castle may_castle
-  the_way =
-      (way p.men m.from m.to (corner m) (halfway m) castle.1.from castle.1.far).1 (search (rules, and_parts, ways, false≢true, castle, king_no_step, king))
-
-  place : IsPlace m.from (corner m) (halfway m)
-  place = (way p.men m.from m.to (corner m) (halfway m) castle.1.from castle.1.far).0
+  the_way = way p.men m.from m.to (corner m) (halfway m) castle.1.from castle.1.far (search (rules, and_parts, ways, false≢true, castle, king_no_step))
 
   small : (m.from < 64) × (m.to < 64) × (halfway m < 64) × (corner m < 64)
   small = search (rules, castle.1.from, castle.1.far)
@@ -125,11 +118,8 @@ module _ (rule : RuleSet) (p : Position) (x : Man) (m : Move) (well : IsWellForm
   abbrev stepped : List (Option Man)
   stepped = with_man (without_man p.men m.from) m.to x
 
-  rook : (z : Man) × (man_on p.men (corner m) ≡ Some z)
+  rook : (z : Man) × (man_on p.men (corner m) ≡ Some z) × (same_kind z.kind Rook ≡ true)
   rook = grind (arith, castle)
-
-  rook_kind : same_kind rook.0.kind Rook ≡ true
-  rook_kind = castle.1.rook rook.0 rook.1
 
   abbrev castled : List (Option Man)
   castled = with_man (without_man stepped (corner m)) (halfway m) rook.0
@@ -137,9 +127,9 @@ module _ (rule : RuleSet) (p : Position) (x : Man) (m : Move) (well : IsWellForm
   after_is : (position_after rule p m).men ≡ castled
   unfolding moved_men
   after_is =
-      let nobody = no_capture p x m the_way.0 (and_left (same_kind x.kind Pawn) (is_diagonal m) castle.0) in
+      let nobody = no_capture p x m the_way.1 (and_left (same_kind x.kind Pawn) (is_diagonal m) castle.0) in
       unreborn_after rule p x m is.here (λ circe. nobody)
-      ∙ search (rules, arrived, rook, corner_stays, castle, cond-true, king_stays_king, king, nobody)
+      ∙ search (rules, arrived, rook, corner_stays, castle, cond-true, king_stays_king, and_parts, nobody)
 
   stepped_size : length stepped ≡ 64
   stepped_size = length-set (without_man p.men m.from) m.to (Some x) ∙ length-set p.men m.from None ∙ well.size
@@ -176,15 +166,15 @@ module _ (rule : RuleSet) (p : Position) (x : Man) (m : Move) (well : IsWellForm
       unfolding reaches reaches_as is_on_some
       rook_strikes side hit =
           let there : man_on castled (halfway m) ≡ Some rook.0 = search (rules, man_on-with_same, rook, small, stepped_size, length-set) in
-          let before = rode stepped castled (corner m) (halfway m) k frees_corner place.0 small.3 small.2 (East ∷ West ∷ North ∷ South ∷ [])
-          (rw (there, same_kind-true rook.0.kind Rook rook_kind) at hit) in
-          let apart : k ≢ corner m = λ e. search (rules, rook, same_kind-true, rook_kind, false≢true, and_parts) in
-          let lined = agree_below_at (is_lined_up m.from (corner m) (halfway m)) (λ k. true) 64 k place.2 inside in
+          let before = rode stepped castled (corner m) (halfway m) k frees_corner the_way.0.0 small.3 small.2 (East ∷ West ∷ North ∷ South ∷ [])
+          (rw (there, same_kind-true rook.0.kind Rook rook.2) at hit) in
+          let apart : k ≢ corner m = λ e. search (rules, rook, same_kind-true, rook.2, false≢true, and_parts) in
+          let lined = agree_below_at (is_lined_up m.from (corner m) (halfway m)) (λ k. true) 64 k the_way.0.2 inside in
           let rode : list_any (rides p.men (halfway m) k) straight_steps ≡ true =
           line_before p.men stepped m.from m.to x king_shift Straight k (halfway m) small.2 inside
           (λ line both. not_parted p.men m.from k (corner m) (other c) Rook straight_steps parts.straight
-          (rw rook.1 (or_left _ _ (and_from _ _ (rw there at side) rook_kind))) small.3
-          (grind (arith, lined, goes_on p.men k m.from straight_steps both.0, or_cases, and_from, eqb-true)) (both.0, the_way.1)) before in
+          (rw rook.1 (or_left _ _ (and_from _ _ (rw there at side) rook.2))) small.3
+          (grind (arith, lined, goes_on p.men k m.from straight_steps both.0, or_cases, and_from, eqb-true)) (both.0, the_way.2)) before in
           false≢true (sym (from_there (enemy c Rook) (halfway m) rook_off) ∙ rode)
 
       -- nor another man, who would have reached him before the rook went
@@ -195,10 +185,10 @@ module _ (rule : RuleSet) (p : Position) (x : Man) (m : Move) (well : IsWellForm
       others_strike s (Some y) there lt ne side hit =
           let stood_so : man_on stepped s ≡ Some y = rook_shift.others s y there ne in
           let apart : (k ≢ halfway m + 1) × (k ≢ halfway m - 1) =
-          grind (arith, parts.apart, eq-eqb k m.from, the_way.0, stands, castle.1.from, castle.1.far) in
+          grind (arith, parts.apart, eq-eqb k m.from, the_way.1, stands, castle.1.from, castle.1.far) in
           let holds = stood stepped castled (corner m) (halfway m) rook.0 rook_shift in
-          let before = reached stepped castled (corner m) s k frees_corner place.0 small.3 lt (halfway m) holds
-          (λ w. half_no_hurdle w (halfway m) s k place.1 small.2 lt apart.0 apart.1) y.colour y.kind (rw there at hit) in
+          let before = reached stepped castled (corner m) s k frees_corner the_way.0.0 small.3 lt (halfway m) holds
+          (λ w. half_no_hurdle w (halfway m) s k the_way.0.1 small.2 lt apart.0 apart.1) y.colour y.kind (rw there at hit) in
           false≢true (grind (arith, king_steps, some_square_true (λ s. is_of_colour (man_on stepped s) (other c) && reaches stepped s k) s lt))
 
       castled_unreached : is_reached castled k (other c) ≡ false
@@ -209,7 +199,7 @@ module _ (rule : RuleSet) (p : Position) (x : Man) (m : Move) (well : IsWellForm
     king_stood : (k : ℕ) → is_man (man_on castled k) c King ≡ true → is_man (man_on p.men k) c King ≡ true
     king_stood k h =
         let y = man_there (man_on castled k) c King h in
-        let off_half : k ≢ halfway m = λ e. grind (arith, rook_shift.arrived y.0, same_kind-true, rook_kind, false≢true, and_parts) in
+        let off_half : k ≢ halfway m = λ e. grind (arith, rook_shift.arrived y.0, same_kind-true, rook.2, false≢true, and_parts) in
         let off_to : k ≢ m.to = λ e. grind (arith, rook_shift.others k y.0 y.1 off_half, king_shift.arrived y.0, enemy_of, and_parts) in
         grind (arith, king_shift.others k y.0 (rook_shift.others k y.0 y.1 off_half) off_to)
 
@@ -217,11 +207,6 @@ module _ (rule : RuleSet) (p : Position) (x : Man) (m : Move) (well : IsWellForm
     pub castling_gives_no_check : in_check rule (position_after rule p m).men c ≡ false
     castling_gives_no_check = rw after_is (unchecked rule castled c (λ k small here.
         not_attacked rule castled (other c) k (castled_unreached k (king_is p.men c k well.kings small (king_stood k here)) (king_stood k here) small)))
-
--- the words of the squares over which a king castles
-pub castling_aside : (x : Man) (m : Move) → m.to < 64 → is_castling x m ≡ true → is_two_files_aside m.from m.to ≡ true
-unfolding steps_to
-castling_aside x m small h = grind (arith, castling_steps x m small h)
 
 -- for the word of castlings that may give check
 pub castling_targets_are : (v : CheckSquares) (s a : ℕ) → s < 64 → a ≡ word (is_two_files_aside s)

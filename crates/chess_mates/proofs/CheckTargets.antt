@@ -1,8 +1,8 @@
 -- A move that goes to no square from which its man may give check gives none.
 use Rattle.chess_rules.proofs.Basics.{Some, agree_below_at, and_parts, ap, arith, bit_and, bit_at, bit_or, cases_Bool, false, inl, inr, is_some, not, refl, rules, sym, true, ℕ, ◌+◌, ◌/◌, ◌<◌, ◌==◌, ◌||◌, ◌∙◌, ◌≡◌}
-use Rattle.chess_mates.proofs.Chess.{AreCastlingTargets, AreCheckSquares, AreCheckTargets, Black, CheckSquares, Colour, IsMade, IsWellFormed, King, Man, Move, Pawn, Position, Rook, RuleSet, White, are_rebirths_quiet, arrival_needed, cannot_expose, captures_do_more, check_squares_for, enemy, false_by, halfway, implied, in_check, is_castling, is_pseudo_legal, is_pseudo_legal-from_legal, is_square, is_two_files_aside, last_rank, made, man_on, may_check_from, may_expose, may_go, may_go_aimed, may_stand_between, off_left, off_right, off_second, other, position_after, rank_of, same_kind, word, word_has}
+use Rattle.chess_mates.proofs.Chess.{castling_steps, steps_to, AreCastlingTargets, AreCheckSquares, AreCheckTargets, Black, CheckSquares, Colour, IsMade, IsWellFormed, King, Man, Move, Pawn, Position, Rook, RuleSet, White, are_rebirths_quiet, arrival_needed, cannot_expose, captures_do_more, check_squares_for, enemy, false_by, halfway, implied, in_check, is_castling, is_pseudo_legal, is_pseudo_legal-from_legal, is_square, is_two_files_aside, last_rank, made, man_on, may_check_from, may_expose, may_go, may_go_aimed, may_stand_between, off_left, off_right, off_second, other, position_after, rank_of, same_kind, word, word_has}
 use Rattle.chess_rules.proofs.attacks.EvasionTargets.{plain_elsewhere}
-use Rattle.chess_mates.proofs.CastlingChecks.{castling_aside, castling_gives_no_check}
+use Rattle.chess_mates.proofs.CastlingChecks.{castling_gives_no_check}
 use Rattle.chess_mates.proofs.KingsApart.{kings_apart}
 use Rattle.chess_mates.proofs.Rebirths.{no_check_by_rebirth}
 use Rattle.chess_mates.proofs.Standing.{not_mine_enemy, unnamed}
@@ -38,10 +38,11 @@ module _ (rule : RuleSet) (p : Position) (x : Man) (s : CheckSquares) (f : ℕ) 
 
     -- a king that castles: the square halfway is none from which a rook gives check
     castled : is_castling x m ≡ true → in_check rule (position_after rule p m).men (other p.turn) ≡ false
+    unfolding steps_to
     castled y =
         let king : same_kind x.kind King ≡ true = (and_parts _ _ (and_parts _ _ y).0).0 in
         let half : (m.from + m.to) / 2 < 64 = omega (arith, small, inside, at) in
-        let beside : is_two_files_aside f m.to ≡ true = ap (λ n. is_two_files_aside n m.to) (sym at) ∙ castling_aside x m small y in
+        let beside : is_two_files_aside f m.to ≡ true = grind (arith, castling_steps x m small y, at) in
         castling_gives_no_check rule p x m well is y (other p.turn) (not_mine_enemy x p.turn is.mine) origin_stays aside (apart king)
         (sym (word_has (may_check_from p.men (other p.turn) (enemy (other p.turn) Rook)) s.straight (halfway m) checks.straight half)
         ∙ ap (λ n. bit_at s.straight ((n + m.to) / 2) == 1) at ∙ (castles king).elsewhere m.to small beside off.2)

@@ -9,9 +9,6 @@ use Rattle.chess_rules.proofs.rays.Ends.{stays}
 pub record StandAlike (men others : List (Option Man)) (t : ℕ) : Type 0 where
   pub alike : (q : ℕ) → q ≢ t → is_some (man_on men q) ≡ is_some (man_on others q)
 
-occupied_alike : (men others : List (Option Man)) (t : ℕ) (o : Option ℕ) → StandAlike men others t → o ≢ Some t → is_occupied men o ≡ is_occupied others o
-occupied_alike men others t o a ne = grind arith
-
 -- a line doesn't come to its end before
 pub not_yet : (s t : ℕ) (d : Step) (k i : ℕ) → Ordered d → along s d k ≡ Some t → i < k → along s d i ≢ Some t
 not_yet s t d k i o at lt here = let less : place d t < place d t = o.in_order s i k t t here at lt in absurd (omega arith)
@@ -53,7 +50,7 @@ ways_alike Hopper men others s t d o a =
     any_range_same (λ k. is_square (along s d k) t && is_occupied men (along s d (k - 1)) && is_clear men s d (k - 2))
     (λ k. is_square (along s d k) t && is_occupied others (along s d (k - 1)) && is_clear others s d (k - 2)) 2 6
     (λ k lo hi. let end = square_is (along s d k) t in
-    grind (arith, cases_Bool, end, occupied_alike men others t, not_yet s t d k (k - 1) o, clear_alike men others s t d k (k - 2) o a, and_left))
+    grind (arith, cases_Bool, end, a.alike, not_yet s t d k (k - 1) o, clear_alike men others s t d k (k - 2) o a, and_left))
 
 -- for two boards that differ in who stands on the target
 pub reaches_alike : (men others : List (Option Man)) (c : Colour) (j : Kind) (s t : ℕ) → StandAlike men others t

@@ -1,4 +1,4 @@
-use Rattle.chess_rules.proofs.Basics.{arith, ap, rules, ◌≡◌, ◌<◌}
+use Rattle.chess_rules.proofs.Basics.{arith, ap, rules, ◌<◌}
 use Rattle.chess_mates.proofs.Chess.{Move}
 use Rattle.std.proofs.lemmas.Bool.{not-false}
 use Rattle.chess_mates.proofs.Rebirths.{no_check_by_rebirth}
@@ -6,7 +6,6 @@ use Rattle.chess_mates.proofs.KingsApart.{kings_apart}
 use Rattle.chess_mates.proofs.checks.may_check.Goals as goal
 
 pub returns-else-contains : goal.returns-else-contains
-returns-else-contains g c = λ h lawful.
-    let to : c.m.inside.to ≡ c.args.m.now.to = ap (λ (v : Move). v.to) c.m.view_is in
-    let small : c.args.m.now.to < 64 = omega (arith, to, c.index-small.ensures.value, c.index-small.ensures.small) in
+returns-else-contains g c =
+    let small : c.args.m.now.to < 64 = omega (arith, ap (λ (v : Move). v.to) c.m.view_is, c.index-small.ensures.value, c.index-small.ensures.small) in
     search (rules, no_check_by_rebirth, kings_apart, not-false)
