@@ -111,18 +111,13 @@ module _ (rule : RuleSet) (p : Position) (m : Move) (x : Man) (k : ℕ) (i : IsS
       rw (on_flight p.men m.from (capture_square p x m) m.to (arriving_man x m.promo) k taken t y t is_left.flight refl, kind) (rw kind at apart_there)
 
   -- and no other man of his side attacks him
-  calm : IsQuietTo p.men p.turn (sight_lifted p.men m.from (capture_square p x m) m.to k) k t s
+  no_check_then : IsQuietTo p.men p.turn (sight_lifted p.men m.from (capture_square p x m) m.to k) k t s
       → in_check rule (position_after rule after (step_to k t)).men (other after.turn) ≡ false
   unfolding in_check position_after
-  calm quiet =
+  no_check_then quiet =
       rw (turned, king_after_step, men_made, after_seen rule p m x k i) (not_attacked rule now_men (other p.turn) s
       (unreached p.men m.from (capture_square p x m) m.to (arriving_man x m.promo) k taken t (other p.turn) is_left y s apart
       (quiet.unreached _ (seen_left p.men m.from (capture_square p x m) m.to (arriving_man x m.promo) k taken t (other p.turn) is_left))))
-
-  pub one_left : IsQuietTo p.men p.turn (sight_lifted p.men m.from (capture_square p x m) m.to k) k t s
-      → list_all (is_mating rule after) (moves rule after) ≡ false
-  one_left quietly =
-      one_fails rule after (step_to k t) (after_well_formed rule p m i.well_formed i.pseudo) lawful (quiet rule after (step_to k t) lawful (calm quietly))
 
 -- for a safe step
 pub not_all_mate : (rule : RuleSet) (p : Position) (m : Move) (x : Man) (k : ℕ) (i : IsSeenFrom rule p m x k) → m.to < 64 → (n w r t s : ℕ)
@@ -137,8 +132,11 @@ not_all_mate rule p m x k i small n w r t s arrives steps safe at quietly =
     let near : AreOpen rule (position_after rule p m).men (other p.turn) k (bit_and n w) =
     record { inside = λ q lt on. steps.inside q lt (on_first n w q on) } in
     let king = king_on (position_after rule p m).men (other p.turn) k (king_seen rule p m x k i small) in
-    one_left rule p m x k i small king.0 t s safe.small king.1 (near.inside t safe.small (on_first (bit_and n w) (bit_not w64 r) t safe.here))
-    (safe_step rule p m x k i small (bit_and n w) r arrives t near safe) at quietly
+    let way = near.inside t safe.small (on_first (bit_and n w) (bit_not w64 r) t safe.here) in
+    let lawful = safe_step rule p m x k i small (bit_and n w) r arrives t near safe in
+    let well = after_well_formed rule p m i.well_formed i.pseudo in
+    let calm = no_check_then rule p m x k i small king.0 t s safe.small king.1 way lawful at quietly in
+    one_fails rule (position_after rule p m) (step_to k t) well lawful (quiet rule (position_after rule p m) (step_to k t) lawful calm)
 
 -- a king doesn't come next to the other
 no_king_next : (rule : RuleSet) (p : Position) (x : Man) (m : Move) (k : ℕ) → IsWellFormed p → man_on p.men m.from ≡ Some x → m.to < 64

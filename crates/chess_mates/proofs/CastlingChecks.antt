@@ -1,5 +1,5 @@
 -- Castling that uncovers no king gives check by its rook alone.
-use Rattle.chess_rules.proofs.Basics.{Bool, List, None, Option, Some, [], agree_below, agree_below_at, and_from, and_left, and_parts, ap, arith, bit_and, bit_or, cases_eq, cond-true, eq-eqb, eqb-true, false, false_from_ne_true, false≢true, inl, inr, is_some, length, length-set, list_all, list_any, not, or_cases, or_left, or_parts, range_with_len, refl, rules, sym, true, ℕ, ◌%◌, ◌&&◌, ◌*◌, ◌+◌, ◌-◌, ◌/◌, ◌<◌, ◌==◌, ◌^◌, ◌||◌, ◌∙◌, ◌∷◌, ◌≡◌, ◌≢◌, ◌≤◌, ◌⊎◌}
+use Rattle.chess_rules.proofs.Basics.{Bool, List, None, Option, Some, [], agree_below, agree_below_at, and_from, and_left, and_parts, ap, arith, bit_and, bit_or, cases_eq, cond-true, eq-eqb, eqb-true, false, false_from_ne_true, false≢true, inl, inr, is_some, length-set, list_all, list_any, not, or_cases, or_left, or_parts, range_with_len, refl, rules, sym, true, ℕ, ◌%◌, ◌&&◌, ◌*◌, ◌+◌, ◌-◌, ◌/◌, ◌<◌, ◌==◌, ◌^◌, ◌||◌, ◌∙◌, ◌∷◌, ◌≡◌, ◌≢◌, ◌≤◌, ◌⊎◌}
 use Rattle.chess_mates.proofs.Chess.{AreCastlingTargets, Bishop, CheckSquares, Colour, Direction, East, Grasshopper, IsCastle, IsMade, IsWellFormed, Kind, King, Man, Move, Nightrider, North, NorthEast, NorthWest, Pawn, Position, Queen, Rook, RuleSet, South, SouthEast, SouthWest, Step, Straight, West, all_at, along, along-is, any_kept, arrived, can_castle, castle_of, corner, corner_stays, enemy, halfway, hops, implied, in_check, is_ahead, is_castling, is_clear, is_diagonal, is_man, is_of_colour, is_on_some, is_reached, is_square, is_two_files_aside, is_vacant, king_is, king_no_step, king_square, king_stays_king, man_on, man_on-with_same, man_there, may_castle, may_check_from, may_expose, may_expose_at, may_stand_between, moved_men, no_capture, not_attacked, off_left, off_right, off_second, other, position_after, reaches, reaches_as, rides, same_colour, same_kind, same_kind-true, some_square_false, some_square_true, square_is, squares_between, step_of, straight_steps, unreborn_after, with_man, without_man, word, word_has}
 use Rattle.chess_rules.proofs.rays.Ahead.{onward, passes}
 use Rattle.chess_rules.proofs.making_moves.Castles.{no_man}
@@ -131,14 +131,11 @@ module _ (rule : RuleSet) (p : Position) (x : Man) (m : Move) (well : IsWellForm
       unreborn_after rule p x m is.here (λ circe. nobody)
       ∙ search (rules, arrived, rook, corner_stays, castle, cond-true, king_stays_king, and_parts, nobody)
 
-  stepped_size : length stepped ≡ 64
-  stepped_size = length-set (without_man p.men m.from) m.to (Some x) ∙ length-set p.men m.from None ∙ well.size
-
   king_shift : IsShift p.men stepped m.from m.to x
   king_shift = gone_shift p.men m.from None m.to x (omega (arith, small.1, well.size)) (λ s at. absurd (false≢true at))
 
   rook_shift : IsShift stepped castled (corner m) (halfway m) rook.0
-  rook_shift = gone_shift stepped (corner m) None (halfway m) rook.0 (omega (arith, small.2, stepped_size)) (λ s at. absurd (false≢true at))
+  rook_shift = gone_shift stepped (corner m) None (halfway m) rook.0 (search (rules, small, length-set, well.size)) (λ s at. absurd (false≢true at))
 
   frees_corner : Frees castled stepped (corner m)
   frees_corner = frees stepped castled (corner m) (halfway m) rook.0 rook_shift
@@ -152,20 +149,16 @@ module _ (rule : RuleSet) (p : Position) (x : Man) (m : Move) (well : IsWellForm
       unfolding may_expose
       parts = covered_parts p.men c m.from k (ap (λ (o : Option ℕ). may_expose_at p.men o c m.from) (sym at) ∙ covered)
 
-      from_there : (y : Man) (t : ℕ) → may_check_from p.men c y t ≡ false → reaches_as p.men y.colour y.kind t k ≡ false
-      unfolding may_check_from
-      from_there y t h = search (rules, or_parts)
-
       -- once the king has stepped, no man reaches the other king
       king_steps : is_reached stepped k (other c) ≡ false
-      unfolding may_stand_between
-      king_steps = search (rules, unreached, king_shift, parts, from_there, stood, small, at, aside)
+      unfolding may_stand_between may_check_from
+      king_steps = search (rules, unreached, king_shift, parts, or_parts, stood, small, at, aside, king_off)
 
       -- nor does the rook from halfway
       rook_strikes : is_of_colour (man_on castled (halfway m)) (other c) ≡ true → reaches castled (halfway m) k ≡ true → ⊥
-      unfolding reaches reaches_as is_on_some
+      unfolding reaches reaches_as is_on_some may_check_from
       rook_strikes side hit =
-          let there : man_on castled (halfway m) ≡ Some rook.0 = search (rules, man_on-with_same, rook, small, stepped_size, length-set) in
+          let there : man_on castled (halfway m) ≡ Some rook.0 = search (rules, man_on-with_same, rook, small, well.size, length-set) in
           let before = rode stepped castled (corner m) (halfway m) k frees_corner the_way.0.0 small.3 small.2 (East ∷ West ∷ North ∷ South ∷ [])
           (rw (there, same_kind-true rook.0.kind Rook rook.2) at hit) in
           let apart : k ≢ corner m = λ e. search (rules, rook, same_kind-true, rook.2, false≢true, and_parts) in
@@ -175,7 +168,7 @@ module _ (rule : RuleSet) (p : Position) (x : Man) (m : Move) (well : IsWellForm
           (λ line both. not_parted p.men m.from k (corner m) (other c) Rook straight_steps parts.straight
           (rw rook.1 (or_left _ _ (and_from _ _ (rw there at side) rook.2))) small.3
           (grind (arith, lined, goes_on p.men k m.from straight_steps both.0, or_cases, and_from, eqb-true)) (both.0, the_way.2)) before in
-          false≢true (sym (from_there (enemy c Rook) (halfway m) rook_off) ∙ rode)
+          grind (arith, rook_off, at, rode, or_parts)
 
       -- nor another man, who would have reached him before the rook went
       others_strike : (s : ℕ) (o : Option Man) → man_on castled s ≡ o → s < 64 → s ≢ halfway m → is_of_colour o (other c) ≡ true → reaches castled s k ≡ true

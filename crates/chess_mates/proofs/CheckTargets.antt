@@ -1,6 +1,6 @@
 -- A move that goes to no square from which its man may give check gives none.
-use Rattle.chess_rules.proofs.Basics.{Some, agree_below_at, and_parts, ap, arith, bit_and, bit_at, bit_or, cases_Bool, false, inl, inr, is_some, not, refl, rules, sym, true, ℕ, ◌+◌, ◌/◌, ◌<◌, ◌==◌, ◌||◌, ◌∙◌, ◌≡◌}
-use Rattle.chess_mates.proofs.Chess.{castling_steps, steps_to, AreCastlingTargets, AreCheckSquares, AreCheckTargets, Black, CheckSquares, Colour, IsMade, IsWellFormed, King, Man, Move, Pawn, Position, Rook, RuleSet, White, are_rebirths_quiet, arrival_needed, cannot_expose, captures_do_more, check_squares_for, enemy, false_by, halfway, implied, in_check, is_castling, is_pseudo_legal, is_pseudo_legal-from_legal, is_square, is_two_files_aside, last_rank, made, man_on, may_check_from, may_expose, may_go, may_go_aimed, may_stand_between, off_left, off_right, off_second, other, position_after, rank_of, same_kind, word, word_has}
+use Rattle.chess_rules.proofs.Basics.{Some, agree_below_at, and_parts, ap, arith, bit_at, bit_or, cases_Bool, false, inl, inr, is_some, not, refl, rules, sym, true, ℕ, ◌+◌, ◌/◌, ◌<◌, ◌==◌, ◌||◌, ◌∙◌, ◌≡◌}
+use Rattle.chess_mates.proofs.Chess.{castling_steps, steps_to, AreCastlingTargets, AreCheckSquares, AreCheckTargets, Black, CheckSquares, Colour, IsMade, IsWellFormed, King, Man, Move, Pawn, Position, Rook, RuleSet, White, are_rebirths_quiet, arrival_needed, cannot_expose, captures_do_more, check_squares_for, enemy, false_by, halfway, implied, in_check, is_castling, is_pseudo_legal, is_pseudo_legal-from_legal, is_square, is_two_files_aside, last_rank, made, man_on, may_check_from, may_expose, may_go, may_go_aimed, may_stand_between, off_left, off_right, other, position_after, rank_of, same_kind, word, word_has}
 use Rattle.chess_rules.proofs.attacks.EvasionTargets.{plain_elsewhere}
 use Rattle.chess_mates.proofs.CastlingChecks.{castling_gives_no_check}
 use Rattle.chess_mates.proofs.KingsApart.{kings_apart}
@@ -67,8 +67,3 @@ targets_lack rule p x f w v here are off = record {
   elsewhere = λ m at small lawful none.
       let may = is_pseudo_legal-from_legal rule p m lawful in grind (arith, arrival_needed rule p m small may, may, may_go_aimed);
 }
-
--- the targets among the squares to which the man might go
-pub check_targets_there : (rule : RuleSet) (p : Position) (x : Man) (f o w : ℕ) → man_on p.men f ≡ Some x
-    → ((t : ℕ) → t < 64 → may_go p x f t ≡ true → (bit_at o t == 1) ≡ true) → AreCheckTargets rule p f w → AreCheckTargets rule p f (bit_and o w)
-check_targets_there rule p x f o w here there are = targets_lack rule p x f w (bit_and o w) here are (λ t lt goes off. off_second o w t off (there t lt goes))

@@ -3,7 +3,7 @@ use Rattle.chess_rules.proofs.Basics.{None, Option, Some, arith, bit_and, bit_at
 use Rattle.chess_mates.proofs.Chess.{AreApproaches, AreCheckOrigins, AreCheckTargets, Colour, Kind, King, Man, Move, Position, RuleSet, false_by, is_legal, is_pseudo_legal-from_legal, is_square, man_on, may_go, off_second, off_zero, on_first, own_man, own_moves, same_kind, same_colour-true, same_kind-true, side_of, squares_of, word, word_has}
 use Rattle.std.proofs.lemmas.Nat.Bits.{bit_at_not}
 use Rattle.chess_mates.proofs.Hurdles.{found_on, on_either}
-use Rattle.chess_mates.proofs.CheckTargets.{check_targets_there, targets_lack}
+use Rattle.chess_mates.proofs.CheckTargets.{targets_lack}
 
 -- for men who are told by the word of their kind
 pub man_of_word : (men : _) (c : Colour) (k : Kind) (w s : ℕ) → w ≡ squares_of men c k → s < 64 → (bit_at w s == 1) ≡ true
@@ -26,7 +26,7 @@ far_either rule p a b x y = grind (arith, cases_Bool, on_either)
 -- a man who could go to no target on an empty board
 pub far_by : (rule : RuleSet) (p : Position) (x : Man) (s o w : ℕ) → man_on p.men s ≡ Some x → AreCheckTargets rule p s w
     → ((q : Position) (t : ℕ) → t < 64 → may_go q x s t ≡ true → (bit_at o t == 1) ≡ true) → (bit_and o w == 0) ≡ true → AreCheckTargets rule p s 0
-far_by rule p x s o w here are goes none = grind (arith, eqb-true, check_targets_there)
+far_by rule p x s o w here are goes none = grind (arith, eqb-true, off_second o w, off_zero, targets_lack rule p x s w 0, goes p)
 
 -- for one man who is far
 pub far_one : (rule : RuleSet) (p : Position) (s o : ℕ) → o ≡ word (λ t. is_square (Some s) t) → AreCheckTargets rule p s 0

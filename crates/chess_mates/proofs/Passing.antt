@@ -71,17 +71,14 @@ module _ (p : Position) (x : Man) (m : Move) (from : m.from < 64) (to : m.to < 6
   pub pawn_plain : (o : ℕ) → o ≡ word (is_square p.crossed) → same_kind x.kind Pawn ≡ true → (bit_at o m.to == 1) ≡ false → IsPassing p x m → IsPlainMove p x m
   pawn_plain o crossed pawn off passing = search (rules, and_left, pawn_is_no_king, captured_there, word_has)
 
-  -- a piece that doesn't castle
-  piece_plain : same_kind x.kind Pawn ≡ false → is_castling x m ≡ false → IsPlainMove p x m
-  piece_plain piece still = search (rules, capture_of_piece, and_parts, false≢true)
-
   -- for a man who is neither pawn nor king
   pub man_plain : same_kind x.kind Pawn ≡ false → same_kind x.kind King ≡ false → IsPlainMove p x m
-  man_plain piece mortal = piece_plain piece (and_left _ _ (and_left _ _ mortal))
+  man_plain piece mortal = search (rules, capture_of_piece, and_parts, and_left, false≢true)
 
   -- for a king who goes a step
   pub king_plain : (n : ℕ) → n ≡ word (λ t. list_any (leaps m.from t) queen_steps) → n < 2 ^ 64 → same_kind x.kind King ≡ true
       → (bit_at (bit_not w64 n) m.to == 1) ≡ false → IsPlainMove p x m
   king_plain n near fits king off =
       let steps = word_has (λ t. list_any (leaps m.from t) queen_steps) n m.to near to in
-      piece_plain (king_is_no_pawn x.kind king) (grind (arith, steps, on_denied n m.to fits to off, king_step_is_no_castling m.from m.to from to))
+      let still : is_castling x m ≡ false = grind (arith, steps, on_denied n m.to fits to off, king_step_is_no_castling m.from m.to from to) in
+      search (rules, capture_of_piece, and_parts, king_is_no_pawn, false≢true)

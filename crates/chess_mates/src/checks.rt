@@ -220,7 +220,7 @@ fn check_targets<R: Rules>(board: &Board, squares: &CheckSquares, man: Man, from
 }
 
 // Those of them to which the man on the square, if one stands there, might go, were the others gone.
-#[tactic(auto, using(chess_rules::proofs::listing_moves::Targeting::nobody_moves, crate::proofs::CheckTargets::check_targets_there), unfolding(chess_rules::specs::Legal::is_legal))]
+#[tactic(auto, using(chess_rules::proofs::listing_moves::Targeting::nobody_moves, crate::proofs::CheckTargets::targets_lack, chess_rules::proofs::listing_moves::Walks::off_second), unfolding(chess_rules::specs::Legal::is_legal))]
 pub(crate) fn near_check_targets<R: Rules>(
     board: &Board,
     squares: &CheckSquares,
