@@ -89,9 +89,7 @@ module _ (rule : RuleSet) (p : Position) (m : Move) (x : Man) (k : ℕ) (i : IsS
       simple_after rule after y (step_to k t) king.here now.castling now.rebirth
 
   is_left : IsLeft p.men m.from (capture_square p x m) m.to (arriving_man x m.promo) taken t (other p.turn)
-  is_left =
-      let made = is_step rule p m x k i small y t there king in
-      search (rules, made.taken, no_own_arrives rule p m x k i, captures_arrival, some_of_colour)
+  is_left = search (rules, (is_step rule p m x k i small y t there king).taken, no_own_arrives rule p m x k i, captures_arrival, some_of_colour)
 
   -- the mover's king stands where he stood
   king_after_step : king_square (position_after rule after (step_to k t)).men p.turn ≡ Some s
@@ -124,8 +122,7 @@ pub not_all_mate : (rule : RuleSet) (p : Position) (m : Move) (x : Man) (k : ℕ
     → ((l : List (Option Man)) → (sight_lifted p.men m.from (capture_square p x m) m.to k).occupied ≡ occupied_squares l
     → r ≡ word (reaches_as l (arriving_man x m.promo).colour (arriving_man x m.promo).kind m.to))
     → AreSteps rule (position_after rule p m).men x (other p.turn) k n
-    → IsSafe p.men p.turn (sight_lifted p.men m.from (capture_square p x m) m.to k) (bit_and (bit_and n w) (bit_not w64 r)) t
-    → king_after p x m ≡ Some s
+    → IsSafe p.men p.turn (sight_lifted p.men m.from (capture_square p x m) m.to k) (bit_and (bit_and n w) (bit_not w64 r)) t → king_after p x m ≡ Some s
     → IsQuietTo p.men p.turn (sight_lifted p.men m.from (capture_square p x m) m.to k) k t s
     → list_all (is_mating rule (position_after rule p m)) (moves rule (position_after rule p m)) ≡ false
 not_all_mate rule p m x k i small n w r t s arrives steps safe at quietly =

@@ -61,23 +61,22 @@ half_no_hurdle x h s k half inside small ne1 ne2 = λ n at low le. false_from_ne
     grind (arith, implied (is_half h) (is_beside_alone h (step_of x)), and_parts, bare x h inside, or_cases, false≢true, eqb-true))
 
 -- when a man has left a corner, riders get where they got
-module _ (men after : List (Option Man)) (b s k : ℕ) (free : Frees after men b) (edge : is_corner b ≡ true) (inside : b < 64) (small : s < 64)
-  where
-    rode : (xs : List Direction) → list_any (λ x. rides after s k (step_of x)) xs ≡ true → list_any (λ x. rides men s k (step_of x)) xs ≡ true
-    rode xs h = grind (arith, any_kept, ride_kept, corner_beside)
+module _ (men after : List (Option Man)) (b s k : ℕ) (free : Frees after men b) (edge : is_corner b ≡ true) (inside : b < 64) (small : s < 64) where
+  rode : (xs : List Direction) → list_any (λ x. rides after s k (step_of x)) xs ≡ true → list_any (λ x. rides men s k (step_of x)) xs ≡ true
+  rode xs h = grind (arith, any_kept, ride_kept, corner_beside)
 
-    -- grasshoppers too, if the man went to no square right before k
-    reached : (t : ℕ) → Holds after men t → ((x : Direction) → IsNoHurdle t s k (step_of x)) → (e : Colour) (j : Kind) → reaches_as after e j s k ≡ true
-        → reaches_as men e j s k ≡ true
-    unfolding reaches_as
-    reached t holds none e Queen h = rode queen_directions h
-    reached t holds none e Rook h = rode (East ∷ West ∷ North ∷ South ∷ []) h
-    reached t holds none e Bishop h = rode (NorthEast ∷ SouthEast ∷ NorthWest ∷ SouthWest ∷ []) h
-    reached t holds none e Grasshopper h =
-        any_kept (λ x. hops after s k (step_of x)) _ queen_directions
-        (λ x. hop_kept men after b t s k (step_of x) free holds (corner_beside x b s k edge inside small) (none x)) h
-    reached t holds none e Nightrider h = rode knight_directions h
-    reached t holds none e j h = h
+  -- grasshoppers too, if the man went to no square right before k
+  reached : (t : ℕ) → Holds after men t → ((x : Direction) → IsNoHurdle t s k (step_of x)) → (e : Colour) (j : Kind) → reaches_as after e j s k ≡ true
+      → reaches_as men e j s k ≡ true
+  unfolding reaches_as
+  reached t holds none e Queen h = rode queen_directions h
+  reached t holds none e Rook h = rode (East ∷ West ∷ North ∷ South ∷ []) h
+  reached t holds none e Bishop h = rode (NorthEast ∷ SouthEast ∷ NorthWest ∷ SouthWest ∷ []) h
+  reached t holds none e Grasshopper h =
+      any_kept (λ x. hops after s k (step_of x)) _ queen_directions
+      (λ x. hop_kept men after b t s k (step_of x) free holds (corner_beside x b s k edge inside small) (none x)) h
+  reached t holds none e Nightrider h = rode knight_directions h
+  reached t holds none e j h = h
 
 -- what stands on a straight line with both of the king's squares stands on one with the rook's
 abbrev is_lined_up : ℕ → ℕ → ℕ → ℕ → Bool
@@ -171,11 +170,10 @@ module _ (rule : RuleSet) (p : Position) (x : Man) (m : Move) (well : IsWellForm
           grind (arith, rook_off, at, rode, or_parts)
 
       -- nor another man, who would have reached him before the rook went
-      others_strike : (s : ℕ) (o : Option Man) → man_on castled s ≡ o → s < 64 → s ≢ halfway m → is_of_colour o (other c) ≡ true → reaches castled s k ≡ true
-          → ⊥
+      man_strikes : (s : ℕ) (o : Option Man) → man_on castled s ≡ o → s < 64 → s ≢ halfway m → is_of_colour o (other c) ≡ true → reaches castled s k ≡ true → ⊥
       unfolding reaches is_reached
-      others_strike s None there lt ne side hit = cc
-      others_strike s (Some y) there lt ne side hit =
+      man_strikes s None there lt ne side hit = cc
+      man_strikes s (Some y) there lt ne side hit =
           let stood_so : man_on stepped s ≡ Some y = rook_shift.others s y there ne in
           let apart : (k ≢ halfway m + 1) × (k ≢ halfway m - 1) =
           grind (arith, parts.apart, eq-eqb k m.from, the_way.1, stands, castle.1.from, castle.1.far) in
@@ -186,7 +184,7 @@ module _ (rule : RuleSet) (p : Position) (x : Man) (m : Move) (well : IsWellForm
 
       castled_unreached : is_reached castled k (other c) ≡ false
       unfolding is_reached
-      castled_unreached = grind (arith, some_square_false, false_from_ne_true, and_parts, cases_eq, rook_strikes, others_strike)
+      castled_unreached = grind (arith, some_square_false, false_from_ne_true, and_parts, cases_eq, rook_strikes, man_strikes)
 
     -- the king of colour c stands where he stood
     king_stood : (k : ℕ) → is_man (man_on castled k) c King ≡ true → is_man (man_on p.men k) c King ≡ true

@@ -16,8 +16,7 @@ last_rank_on Black t lt = implied _ _ (agree_below_at (λ n. not (rank_of n == 1
 module _ (rule : RuleSet) (p : Position) (x : Man) (s : CheckSquares) (f : ℕ) (well : IsWellFormed p) (here : man_on p.men f ≡ Some x)
     (checks : AreCheckSquares p.men (other p.turn) s) (inside : f < 64) (covered : (bit_at s.shield_squares f == 1) ≡ false) (a b c d : ℕ)
     (checked_from : a ≡ check_squares_for s x.kind) (crossed : b ≡ word (λ t. is_square p.crossed t))
-    (promotes : same_kind x.kind Pawn ≡ true → c ≡ 18374686479671623935)
-    (castles : same_kind x.kind King ≡ true → AreCastlingTargets s f c)
+    (promotes : same_kind x.kind Pawn ≡ true → c ≡ 18374686479671623935) (castles : same_kind x.kind King ≡ true → AreCastlingTargets s f c)
     (reborn : are_rebirths_quiet rule p.men p.turn ≡ false → captures_do_more rule ≡ true → d ≡ word (λ t. is_some (man_on p.men t))) where
   module _ (m : Move) (at : m.from ≡ f) (small : m.to < 64) (may : is_pseudo_legal rule p m ≡ true)
       (apart : same_kind x.kind King ≡ true → may_check_from p.men (other p.turn) x m.to ≡ false)
@@ -64,6 +63,5 @@ module _ (rule : RuleSet) (p : Position) (x : Man) (s : CheckSquares) (f : ℕ) 
 pub targets_lack : (rule : RuleSet) (p : Position) (x : Man) (f w v : ℕ) → man_on p.men f ≡ Some x → AreCheckTargets rule p f w
     → ((t : ℕ) → t < 64 → may_go p x f t ≡ true → (bit_at v t == 1) ≡ false → (bit_at w t == 1) ≡ false) → AreCheckTargets rule p f v
 targets_lack rule p x f w v here are off = record {
-  elsewhere = λ m at small lawful none.
-      let may = is_pseudo_legal-from_legal rule p m lawful in grind (arith, arrival_needed rule p m small may, may, may_go_aimed);
+  elsewhere = λ m at lt legal none. let may = is_pseudo_legal-from_legal rule p m legal in grind (arith, arrival_needed rule p m lt may, may, may_go_aimed);
 }

@@ -39,13 +39,11 @@ AreTargetsOff rule p j king h w = (s : ℕ) (x : Man) → s < 64 → man_on p.me
     → (bit_at h s == 1) ≡ false → AreCheckTargets rule p s w
 
 -- men m of the mover, of this kind, on no square of the word h
-module _ (rule : RuleSet) (p : Position) (j : Kind) (m h w : ℕ)
-    (stands : (s : ℕ) → s < 64 → (bit_at m s == 1) ≡ true → man_on p.men s ≡ Some (own_man p j))
+module _ (rule : RuleSet) (p : Position) (j : Kind) (m h w : ℕ) (stands : (s : ℕ) → s < 64 → (bit_at m s == 1) ≡ true → man_on p.men s ≡ Some (own_man p j))
     (off : (s : ℕ) → s < 64 → (bit_at m s == 1) ≡ true → (bit_at h s == 1) ≡ false) where
   -- those off the squares from which they could come to a target
   pub far_apart : (n : ℕ) (c : Colour) → n < 2 ^ 64 → same_kind j King ≡ false → AreTargetsOff rule p j None h w → c ≡ p.turn
-      → AreApproaches (record { colour = c; kind = j }) w n
-      → (s : ℕ) → s < 64 → (bit_at (bit_and m (bit_not w64 n)) s == 1) ≡ true → AreCheckTargets rule p s 0
+      → AreApproaches (record { colour = c; kind = j }) w n → (s : ℕ) → s < 64 → (bit_at (bit_and m (bit_not w64 n)) s == 1) ≡ true → AreCheckTargets rule p s 0
   far_apart n c fits mortal targets turn come s small on =
       let far = targets_lack rule p (own_man p j) s w 0 in
       grind (arith, far, stands s small, off s small, targets s (own_man p j) small, on_first m, off_denied m n s fits small on, come.approach p s, false_by)

@@ -15,8 +15,7 @@ not_yet s t d k i o at lt here = let less : place d t < place d t = o.in_order s
 
 all_range_same : (p q : ℕ → Bool) (a n : ℕ) → ((k : ℕ) → a ≤ k → k < a + n → p k ≡ q k) → list_all p (range_with_len a n) ≡ list_all q (range_with_len a n)
 all_range_same p q a zero h = refl
-all_range_same p q a (suc n) h =
-    (λ j. h a (omega arith) (omega arith) j && all_range_same p q (a + 1) n (λ k lo hi. h k (omega arith) (omega arith)) j)
+all_range_same p q a (suc n) h = (λ j. h a (omega arith) (omega arith) j && all_range_same p q (a + 1) n (λ k lo hi. h k (omega arith) (omega arith)) j)
 
 clear_alike : (men others : List (Option Man)) (s t : ℕ) (d : Step) (k n : ℕ) → Ordered d → StandAlike men others t → along s d k ≡ Some t → n < k
     → is_clear men s d n ≡ is_clear others s d n
@@ -39,8 +38,7 @@ same_steps f g h White Pawn = same_along (NorthWest ∷ NorthEast ∷ []) f g h
 same_steps f g h Black Pawn = same_along (SouthWest ∷ SouthEast ∷ []) f g h
 same_steps f g h c k = same_along queen_directions f g h
 
-ways_alike : (g : Gait) (men others : List (Option Man)) (s t : ℕ) (d : Step) → Ordered d → StandAlike men others t
-    → goes_by g men s t d ≡ goes_by g others s t d
+ways_alike : (g : Gait) (men others : _) (s t : ℕ) (d : Step) → Ordered d → StandAlike men others t → goes_by g men s t d ≡ goes_by g others s t d
 unfolding rides hops
 ways_alike Leaper men others s t d o a = refl
 ways_alike Rider men others s t d o a =
@@ -53,8 +51,7 @@ ways_alike Hopper men others s t d o a =
     grind (arith, cases_Bool, end, a.alike, not_yet s t d k (k - 1) o, clear_alike men others s t d k (k - 2) o a, and_left))
 
 -- for two boards that differ in who stands on the target
-pub reaches_alike : (men others : List (Option Man)) (c : Colour) (j : Kind) (s t : ℕ) → StandAlike men others t
-    → reaches_as men c j s t ≡ reaches_as others c j s t
+pub reaches_alike : (men others : _) (c : Colour) (j : Kind) (s t : ℕ) → StandAlike men others t → reaches_as men c j s t ≡ reaches_as others c j s t
 unfolding reaches_as
 reaches_alike men others c j s t a =
     same_steps (goes_by (gait_of j) men s t) (goes_by (gait_of j) others s t) (λ x. ways_alike (gait_of j) men others s t (step_of x) (ordered x) a) c j
@@ -76,6 +73,5 @@ no_way_back g men s d o small = search (rules, no_return, any_range_false, and_l
 -- nor does a man reach where he stands
 pub no_reach_there : (men : List (Option Man)) (c : Colour) (j : Kind) (s : ℕ) → s < 64 → reaches_as men c j s s ≡ false
 unfolding reaches_as
-no_reach_there men c j s small =
-    same_steps (goes_by (gait_of j) men s s) (λ d. false) (λ x. no_way_back (gait_of j) men s (step_of x) (ordered x) small) c j
+no_reach_there men c j s small = same_steps (goes_by (gait_of j) men s s) (λ d. false) (λ x. no_way_back (gait_of j) men s (step_of x) (ordered x) small) c j
     ∙ any_false (λ d. false) (kind_steps c j) (λ d. refl)

@@ -63,8 +63,7 @@ moved_lacks p x m e here unpromoted none =
     let arrived_lacks : LacksGrasshopper (arrived p x m) e = lacks_with _ m.to _ e (grind (arith, lacks_without)) (search rules) in
     grind (arith, cases_Bool (is_castling x m), lacks_with, lacks_without, arrived_lacks)
 
-absent_lacks : (men : List (Option Man)) (e : Colour) → length men ≡ 64 → is_absent men (record { colour = e; kind = Grasshopper }) ≡ true
-    → LacksGrasshopper men e
+absent_lacks : (men : _) (e : Colour) → length men ≡ 64 → is_absent men (record { colour = e; kind = Grasshopper }) ≡ true → LacksGrasshopper men e
 absent_lacks men e size absent = λ s. false_from_ne_true _ (λ h.
     search (rules, man_there (man_on men s) e Grasshopper h, false≢true, not-true _ absent, some_square_true, on_board))
 
@@ -80,17 +79,14 @@ rebirth_gives_no_check : (p : Position) (x : Man) (m : Move) → IsWellFormed p 
     → in_check orthodox (position_after orthodox p m).men (other p.turn) ≡ false → in_check circe (position_after circe p m).men (other p.turn) ≡ false
 rebirth_gives_no_check p x m well may here unpromoted absent safe =
     rw (after_is circe p x m here) (by (reborn_square circe p x m) (man_on_at p.men (capture_square p x m)) refl) where
-      before : in_check orthodox (moved_men p x m) (other p.turn) ≡ false
-      before = rw (unreborn_after orthodox p x m here (λ e. absurd (false≢true e))) at safe
-
       by : (o : Option ℕ) (w : Option Man) → man_on_at p.men (capture_square p x m) ≡ w → in_check circe (put_at (moved_men p x m) o w) (other p.turn) ≡ false
       by (Some r) (Some y) who =
           let is = made circe p m x may here in
           reborn_quietly (moved_men p x m) r y (other p.turn) (rw (other_twice p.turn) (captured_enemy circe p x m y well is who))
           (captured_mortal circe p x m y well is who)
           (rw (other_twice p.turn) (moved_lacks p x m p.turn here unpromoted (absent_lacks p.men p.turn well.size absent)))
-          (moved_sound circe p x m well is).kings before
-      by o w who = same_check (moved_men p x m) (other p.turn) ∙ before
+          (moved_sound circe p x m well is).kings (rw (unreborn_after orthodox p x m here (λ e. absurd (false≢true e))) at safe)
+      by o w who = same_check (moved_men p x m) (other p.turn) ∙ rw (unreborn_after orthodox p x m here (λ e. absurd (false≢true e))) at safe
 
 -- a move that gives no check by the rules of checks gives none
 pub no_check_by_rebirth : (rule : RuleSet) (p : Position) (x : Man) (m : Move) (s : CheckSquares) (w : ℕ) → IsWellFormed p → is_pseudo_legal rule p m ≡ true
