@@ -115,7 +115,6 @@ pawns_come_from c d w v same is = rw (same, is) (record {
 pub pawns_capture_from : (c d : Colour) (w v : ℕ) → d ≡ c → v ≡ bit_or (before c w 7) (before c w 9) → AreCapturers d w v
 unfolding along leaps
 pawns_capture_from c d w v same is = rw (same, is) (record {
-  capture = λ s t small lt takes on.
-      on_either _ _ _ _ s (before_has c w s t 7 small on) (before_has c w s t 9 small on)
+  capture = λ s t small lt takes on. on_either _ _ _ _ s (before_has c w s t 7 small on) (before_has c w s t 9 small on)
       (implied _ _ (every (λ c s t. not (list_any (leaps s t) (pawn_capture_steps c)) || (is_after c 7 s t || is_after c 9 s t)) refl c s t small lt) takes);
 })

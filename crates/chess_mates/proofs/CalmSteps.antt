@@ -112,8 +112,7 @@ module _ (rule : RuleSet) (p : Position) (m : Move) (x : Man) (k : ℕ) (i : IsS
   no_check_then : IsQuietTo p.men p.turn (sight_lifted p.men m.from (capture_square p x m) m.to k) k t s
       → in_check rule (position_after rule after (step_to k t)).men (other after.turn) ≡ false
   unfolding in_check position_after
-  no_check_then quiet =
-      rw (turned, king_after_step, men_made, after_seen rule p m x k i) (not_attacked rule now_men (other p.turn) s
+  no_check_then quiet = rw (turned, king_after_step, men_made, after_seen rule p m x k i) (not_attacked rule now_men (other p.turn) s
       (unreached p.men m.from (capture_square p x m) m.to (arriving_man x m.promo) k taken t (other p.turn) is_left y s apart
       (quiet.unreached _ (seen_left p.men m.from (capture_square p x m) m.to (arriving_man x m.promo) k taken t (other p.turn) is_left))))
 
@@ -126,8 +125,7 @@ pub not_all_mate : (rule : RuleSet) (p : Position) (m : Move) (x : Man) (k : ℕ
     → IsQuietTo p.men p.turn (sight_lifted p.men m.from (capture_square p x m) m.to k) k t s
     → list_all (is_mating rule (position_after rule p m)) (moves rule (position_after rule p m)) ≡ false
 not_all_mate rule p m x k i small n w r t s arrives steps safe at quietly =
-    let near : AreOpen rule (position_after rule p m).men (other p.turn) k (bit_and n w) =
-    record { inside = λ q lt on. steps.inside q lt (on_first n w q on) } in
+    let near : AreOpen rule (position_after rule p m).men (other p.turn) k (bit_and n w) = record { inside = λ q l on. steps.inside q l (on_first n w q on) } in
     let king = king_on (position_after rule p m).men (other p.turn) k (king_seen rule p m x k i small) in
     let way = near.inside t safe.small (on_first (bit_and n w) (bit_not w64 r) t safe.here) in
     let lawful = safe_step rule p m x k i small (bit_and n w) r arrives t near safe in

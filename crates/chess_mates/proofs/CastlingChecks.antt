@@ -43,8 +43,7 @@ end_none s d n t h low le at = search (rules, all_at, false≢true)
 
 -- so a man in a corner stands between no two squares
 corner_beside : (x : Direction) (b s k : ℕ) → is_corner b ≡ true → b < 64 → s < 64 → IsBeside b s k (step_of x)
-corner_beside x b s k h inside small =
-    λ n i at low lt le. false_from_ne_true _ (λ y.
+corner_beside x b s k h inside small = λ n i at low lt le. false_from_ne_true _ (λ y.
     let here : along s (step_of x) i ≡ Some b = square_is _ b y in
     let on = onward s b (step_of x) i (n - i) here in
     let came : along b (back (step_of x)) i ≡ Some s = square_is _ s (return_square s b (step_of x) i small y) in
@@ -72,8 +71,7 @@ module _ (men after : List (Option Man)) (b s k : ℕ) (free : Frees after men b
   reached t holds none e Queen h = rode queen_directions h
   reached t holds none e Rook h = rode (East ∷ West ∷ North ∷ South ∷ []) h
   reached t holds none e Bishop h = rode (NorthEast ∷ SouthEast ∷ NorthWest ∷ SouthWest ∷ []) h
-  reached t holds none e Grasshopper h =
-      any_kept (λ x. hops after s k (step_of x)) _ queen_directions
+  reached t holds none e Grasshopper h = any_kept (λ x. hops after s k (step_of x)) _ queen_directions
       (λ x. hop_kept men after b t s k (step_of x) free holds (corner_beside x b s k edge inside small) (none x)) h
   reached t holds none e Nightrider h = rode knight_directions h
   reached t holds none e j h = h
@@ -88,14 +86,13 @@ IsPlace a c h = (is_corner c ≡ true) × (is_half h ≡ true) × (agree_below (
 
 -- king and rook castle: a king on a goes to t, the rook from c to h; what lies between them is empty
 module _ (men : List (Option Man)) (a t c h : ℕ) where
-  abbrev IsWay : ℕ → ℕ → ℕ → ℕ → Type 0
-  IsWay i u d j = list_all (is_vacant men) (squares_between i d) ≡ true
-      → IsPlace i d j × (man_on men u ≡ None) × (list_any (rides men d i) straight_steps ≡ true)
+  abbrev Way : ℕ → ℕ → ℕ → ℕ → Type 0
+  Way i u d j = list_all (is_vacant men) (squares_between i d) ≡ true → IsPlace i d j × (man_on men u ≡ None) × (list_any (rides men d i) straight_steps ≡ true)
 
-  at_squares : (i u d j : ℕ) → a ≡ i → t ≡ u → c ≡ d → h ≡ j → IsWay i u d j → IsWay a t c h
+  at_squares : (i u d j : ℕ) → a ≡ i → t ≡ u → c ≡ d → h ≡ j → Way i u d j → Way a t c h
   at_squares i u d j from to rook half free = rw (from, to, rook, half) free
 
-  way : (a ≡ 4) ⊎ (a ≡ 60) → ((t ≡ a + 2) × ((c ≡ a + 3) × (h ≡ a + 1))) ⊎ ((t + 2 ≡ a) × ((c + 4 ≡ a) × (h + 1 ≡ a))) → IsWay a t c h
+  way : (a ≡ 4) ⊎ (a ≡ 60) → ((t ≡ a + 2) × ((c ≡ a + 3) × (h ≡ a + 1))) ⊎ ((t + 2 ≡ a) × ((c + 4 ≡ a) × (h + 1 ≡ a))) → Way a t c h
   unfolding rides is_clear along is_on_some is_ahead
   way (inl e) (inl f) = at_squares 4 6 7 5 e (omega arith) (omega arith) (omega arith) (λ v. search (rules, no_man, and_parts))
   way (inl e) (inr f) = at_squares 4 2 0 3 e (omega arith) (omega arith) (omega arith) (λ v. search (rules, no_man, and_parts))
@@ -175,8 +172,7 @@ module _ (rule : RuleSet) (p : Position) (x : Man) (m : Move) (well : IsWellForm
       man_strikes s None there lt ne side hit = cc
       man_strikes s (Some y) there lt ne side hit =
           let stood_so : man_on stepped s ≡ Some y = rook_shift.others s y there ne in
-          let apart : (k ≢ halfway m + 1) × (k ≢ halfway m - 1) =
-          grind (arith, parts.apart, eq-eqb k m.from, the_way.1, stands, castle.1.from, castle.1.far) in
+          let apart : (k ≢ halfway m + 1) × (k ≢ halfway m - 1) = grind (arith, parts.apart, eq-eqb k m.from, the_way.1, stands, castle.1.from, castle.1.far) in
           let holds = stood stepped castled (corner m) (halfway m) rook.0 rook_shift in
           let before = reached stepped castled (corner m) s k frees_corner the_way.0.0 small.3 lt (halfway m) holds
           (λ w. half_no_hurdle w (halfway m) s k the_way.0.1 small.2 lt apart.0 apart.1) y.colour y.kind (rw there at hit) in

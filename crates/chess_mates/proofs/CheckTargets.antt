@@ -40,10 +40,9 @@ module _ (rule : RuleSet) (p : Position) (x : Man) (s : CheckSquares) (f : ℕ) 
     unfolding steps_to
     castled y =
         let king : same_kind x.kind King ≡ true = (and_parts _ _ (and_parts _ _ y).0).0 in
-        let half : (m.from + m.to) / 2 < 64 = omega (arith, small, inside, at) in
         let beside : is_two_files_aside f m.to ≡ true = grind (arith, castling_steps x m small y, at) in
         castling_gives_no_check rule p x m well is y (other p.turn) (not_mine_enemy x p.turn is.mine) origin_stays aside (apart king)
-        (sym (word_has (may_check_from p.men (other p.turn) (enemy (other p.turn) Rook)) s.straight (halfway m) checks.straight half)
+        (sym (word_has (may_check_from p.men (other p.turn) (enemy (other p.turn) Rook)) s.straight (halfway m) checks.straight (omega arith))
         ∙ ap (λ n. bit_at s.straight ((n + m.to) / 2) == 1) at ∙ (castles king).elsewhere m.to small beside off.2)
 
     no_check_elsewhere : in_check rule (position_after rule p m).men (other p.turn) ≡ false

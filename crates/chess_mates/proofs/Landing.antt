@@ -44,8 +44,7 @@ ways_alike Leaper men others s t d o a = refl
 ways_alike Rider men others s t d o a =
     any_range_same (λ k. is_square (along s d k) t && is_clear men s d (k - 1)) (λ k. is_square (along s d k) t && is_clear others s d (k - 1)) 1 7
     (grind (arith, cases_Bool, clear_alike, square_is, and_left))
-ways_alike Hopper men others s t d o a =
-    any_range_same (λ k. is_square (along s d k) t && is_occupied men (along s d (k - 1)) && is_clear men s d (k - 2))
+ways_alike Hopper men others s t d o a = any_range_same (λ k. is_square (along s d k) t && is_occupied men (along s d (k - 1)) && is_clear men s d (k - 2))
     (λ k. is_square (along s d k) t && is_occupied others (along s d (k - 1)) && is_clear others s d (k - 2)) 2 6
     (λ k lo hi. let end = square_is (along s d k) t in
     grind (arith, cases_Bool, end, a.alike, not_yet s t d k (k - 1) o, clear_alike men others s t d k (k - 2) o a, and_left))

@@ -36,9 +36,7 @@ module _ (p : Position) (x : Man) (m : Move) (from : m.from < 64) (to : m.to < 6
           let at = steps_from_there p x.colour m.from m.to from to pawn_x both.1 s small low in
           let vacant = far_is_vacant p x.colour m.from m.to from to pawn_x both.1 in
           let goes = takes_or_steps q (other x.colour) s (halfway m) (rw (← man_is z (other x.colour) Pawn enemy kind) at comes) in
-          let takes = before.capture s (halfway m) small low in
-          let denied = none_at (bit_and w l) s none in
-          grind (arith, takes, there, stands, same_colour-refl (other x.colour), denied, on_both w l s, at, vacant, here, or_cases, goes, enemy, kind));
+          grind (arith, before.capture s (halfway m) small low, same_colour-refl (other x.colour), none_at (bit_and w l) s none, on_both w l s, at, or_cases));
     }
 
   -- where the man captures nobody, and isn't promoted

@@ -21,10 +21,6 @@ module _ (rule : RuleSet) (p : Position) (x : Man) (m : Move) (c : Colour) (k : 
   unfolding is_on_fairy_line
   unlined t = or_from _ _ (any_false _ queen_steps (λ d. no_lined Grasshopper refl t d)) (any_false _ knight_steps (λ d. no_lined Nightrider refl t d))
 
-  rook_off : may_check_from p.men c (record { colour = other c; kind = Rook }) (halfway m) ≡ false
-  unfolding may_check_from reaches_as
-  rook_off = grind (arith, king, rides_on p.men k (halfway m) straight_steps, straight-back p.men (halfway m) k half small)
-
   covered : may_expose p.men c m.from ≡ false
   unfolding may_expose is_shut is_reached reaches_as
   covered =
@@ -33,5 +29,7 @@ module _ (rule : RuleSet) (p : Position) (x : Man) (m : Move) (c : Colour) (k : 
 
   -- for castlings told by squares
   pub castles_quietly : in_check rule (position_after rule p m).men c ≡ false
-  unfolding may_stand_between
-  castles_quietly = castling_gives_no_check rule p x m well is castling c (not_mine x c enemy) covered (rw king (unlined m.to)) untouched rook_off
+  unfolding may_stand_between may_check_from reaches_as
+  castles_quietly =
+      castling_gives_no_check rule p x m well is castling c (not_mine x c enemy) covered (rw king (unlined m.to)) untouched
+      (grind (arith, king, rides_on p.men k (halfway m) straight_steps, straight-back p.men (halfway m) k half small))

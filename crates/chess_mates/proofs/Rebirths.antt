@@ -14,8 +14,7 @@ module _ (men : List (Option Man)) (r : ℕ) (y : Man) where
 
   rode : (s t : ℕ) (d : Step) → rides (with_man men r y) s t d ≡ true → rides men s t d ≡ true
   unfolding rides is_clear
-  rode s t d h =
-      any_kept (λ k. is_square (along s d k) t && list_all (λ i. is_vacant_at (with_man men r y) (along s d i)) (range_with_len 1 (k - 1)))
+  rode s t d h = any_kept (λ k. is_square (along s d k) t && list_all (λ i. is_vacant_at (with_man men r y) (along s d i)) (range_with_len 1 (k - 1)))
       (λ k. is_square (along s d k) t && is_clear men s d (k - 1)) (range_with_len 1 7) (grind (arith, and_parts, and_from, all_kept, was_vacant)) h
 
   reached : (e : Colour) (j : Kind) (s t : ℕ) → same_kind j Grasshopper ≡ false → reaches_as (with_man men r y) e j s t ≡ true → reaches_as men e j s t ≡ true
@@ -52,8 +51,7 @@ pseudo_so p m h = grind (arith, same_check)
 lacks_without : (men : List (Option Man)) (a : ℕ) (e : Colour) → LacksGrasshopper men e → LacksGrasshopper (without_man men a) e
 lacks_without men a e none = λ s. false_from_ne_true _ (λ h. false≢true (sym (none s) ∙ is_man-without men a s e Grasshopper h))
 
-lacks_with : (men : List (Option Man)) (b : ℕ) (z : Man) (e : Colour) → LacksGrasshopper men e → is_man (Some z) e Grasshopper ≡ false
-    → LacksGrasshopper (with_man men b z) e
+lacks_with : (men : _) (b : ℕ) (z : Man) (e : Colour) → LacksGrasshopper men e → is_man (Some z) e Grasshopper ≡ false → LacksGrasshopper (with_man men b z) e
 lacks_with men b z e none other_man = grind (arith, man_on-with_cases)
 
 moved_lacks : (p : Position) (x : Man) (m : Move) (e : Colour) → man_on p.men m.from ≡ Some x → m.promo ≡ None → LacksGrasshopper p.men e
