@@ -77,8 +77,7 @@ module _ (rule : RuleSet) (p : Position) (m : Move) (x : Man) (k : ℕ) (i : IsS
   now_men = stepped p.men m.from (capture_square p x m) m.to (arriving_man x m.promo) k taken t y
 
   own_king : king_square after.men p.turn ≡ Some s
-  own_king =
-      rw (after_seen rule p m x k i) (king_is_after rule p x m i.well_formed (is_made rule p m x k i) small (grind (arith, i.simple, not-true, and_left)) ∙ at)
+  own_king = rw (after_seen rule p m x k i) (king_is_after rule p x m i.well_formed (is_made rule p m x k i) small (grind (arith, not-true, and_left)) ∙ at)
 
   turned : other after.turn ≡ p.turn
   turned = ap other (turn_is rule p m x k i small) ∙ other_twice p.turn

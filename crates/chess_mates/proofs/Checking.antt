@@ -40,5 +40,5 @@ no_check rule p x m s w well may here a h small off apart unpromoted cover =
     let parts = cannot_expose_parts rule p x (other p.turn) m here cover in
     let is = made rule p m x may here in
     let check = may_check_from p.men (other p.turn) x in
-    let calm : check m.to ≡ false = grind (arith, cases_Bool, squares_by_kind p.men (other p.turn) s x.kind a, is.mine, other_twice p.turn, word_has check w m.to) in
+    let calm : check m.to ≡ false = grind (arith, cases_Bool, squares_by_kind p.men (other p.turn) s x.kind a, other_twice p.turn, word_has check w m.to) in
     plain_safe rule p x m (other p.turn) well is small parts.plain parts.origin parts.aside (grind (arith, calm, or_parts, on_board))
