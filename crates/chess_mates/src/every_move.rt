@@ -48,7 +48,7 @@ pub fn every_move_mates<R: Rules>(board: &mut Board) -> bool
 
 // The squares to which the king on `king` may step, attacks apart: in Circe none are told.
 #[inline(always)]
-#[tactic(auto, using(crate::proofs::QuietSteps::open_steps, crate::proofs::QuietSteps::no_steps))]
+#[tactic(auto, using(crate::proofs::QuietSteps::open_steps, chess_rules::proofs::listing_moves::Walks::off_zero))]
 fn step_squares<R: Rules>(board: &Board, king: Square) -> Squares
     ensures { (x : Man) → man_on board.now.men king ≡ Some x → same_kind x.kind King ≡ true
         → AreOpen R.rule board.now.men board.now.turn king result }

@@ -48,7 +48,7 @@ pub(crate) fn open_targets(man: Man, from: Square) -> Squares
 // The squares from which a pawn of this colour might come to one of the targets, and perhaps more: what lies
 // over the edge of a file counts.
 #[inline(always)]
-#[tactic(auto, using(crate::proofs::Approaches::black_pawns_before, crate::proofs::Approaches::white_pawns_before))]
+#[tactic(auto, using(crate::proofs::Approaches::pawns_come_from))]
 pub(crate) fn pawns_before(colour: Colour, targets: Squares) -> Squares
     ensures { AreApproaches (record { colour = colour; kind = Pawn }) targets result }
 {
@@ -59,7 +59,7 @@ pub(crate) fn pawns_before(colour: Colour, targets: Squares) -> Squares
 }
 
 // The squares from which a pawn of this colour might capture on one of the targets, and perhaps more, as above.
-#[tactic(auto, using(crate::proofs::Approaches::black_capturers, crate::proofs::Approaches::white_capturers))]
+#[tactic(auto, using(crate::proofs::Approaches::pawns_capture_from))]
 pub(crate) fn capturers_before(colour: Colour, targets: Squares) -> Squares
     ensures { AreCapturers colour targets result }
 {
