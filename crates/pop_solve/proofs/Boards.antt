@@ -2,7 +2,7 @@
 use Rattle.chess_mates.specs.ties.Mates.{mates}
 use Rattle.chess_rules.specs.ties.Places.{place_of, place_onto}
 use Rattle.pop_solve.specs.ties.Calls.{IsOnMate}
-use Rattle.pop_solve.proofs.Words.{Battle, Bool, Goal, IfSome, List, MatchOption, Mate, Move, None, Option, Position, RuleSet, Some, [], arith, can_move, chess, cut_mates, cut_moves, eqb, false, filter, is_for_mate, is_goal_reached, is_legal, is_mate, is_mating, is_nil, is_some, is_stalemate, length, list_any, mates_behind, mates_between, moves, moves_behind, moves_between, nat_tests, not, refl, rules, sym, true, value, walk_count, ℕ, ◌++◌, ◌-◌, ◌<◌, ◌∙◌, ◌∷◌, ◌≡◌, ◌≤◌}
+use Rattle.pop_solve.proofs.Words.{Battle, Bool, Goal, IfSome, List, MatchOption, Mate, Move, None, Option, Position, RuleSet, Some, [], arith, can_move, chess, cut_mates, cut_moves, eqb, false, filter, is_for_mate, is_goal_reached, is_legal, is_mate, is_mating, is_nil, is_some, is_stalemate, length, list_any, mates_behind, mates_between, moves, moves_behind, moves_between, nat_tests, not, refl, rules, sum_by, sum_by-cons, sym, true, value, walk_count, ℕ, ◌++◌, ◌-◌, ◌<◌, ◌∙◌, ◌∷◌, ◌≡◌, ◌≤◌}
 use Rattle.pop_solve.specs.Game.{some_move as some_good}
 
 -- there is a legal move exactly where the list of moves isn't empty
@@ -68,6 +68,18 @@ module _ (rule : RuleSet) (p : Position) where
   pub on_mate_before : (old place : ℕ) (o : Option Move) → true ≡ is_some o → place ≡ place_onto o old → IfSome o (λ m. mates rule p m ≡ true)
       → IsOnMate rule p place
   on_mate_before old place o some at found = search rules
+
+-- with no half-move left nothing is walked, with one left each move counts one
+module _ {P M : Type 0} (moves : P → List M) (after : P → M → P) (p : P) where
+  pub none_of : (ms : List M) → sum_by (λ m. walk_count moves after 0 (after p m)) ms ≡ 0
+  unfolding walk_count
+  none_of [] = refl
+  none_of (m ∷ ms) = search (rules, none_of ms)
+
+pub each_one : {P M : Type 0} (moves : P → List M) (after : P → M → P) (p : P) (ms : List M) → sum_by (λ m. walk_count moves after 1 (after p m)) ms ≡ length ms
+unfolding walk_count
+each_one moves after p [] = refl
+each_one moves after p (m ∷ ms) = rw sum_by-cons (omega (arith, each_one moves after p ms, none_of moves after (after p m) (moves (after p m))))
 
 -- with a half-move left there is something to walk
 pub walk_count-some : {P M : Type 0} (moves : P → List M) (after : P → M → P) (left : ℕ) (p : P) → 0 < left → 1 ≤ walk_count moves after left p

@@ -1,6 +1,6 @@
 -- What the moves still to come say of paths, turns and counts: the next move, and those passed over.
 use Rattle.pop_solve.proofs.Words.{Battle, BattlePlay, Bool, Frame, GoesTo, HelpPlay, are_whites, List, Mate, Move, Plan, Position, RuleSet, Steps, Undo, [], ap, append_assoc, append-nil, allows_mate, arith, chess, cond, eqb, false, fewest_for, fewest_left, fewest_walked, filter, is_followed, is_given, walk_length, inl, inr, is_mating, length, length-append, map, map-append, mates_behind, moves_behind, opened_frame, path, position, refl, rules, seeks_last, shown_paths, smallest_tree, work_from, work_behind, suc, sum_by, sum_by-append, sum_by-cons, to_come, to_open, true, walk_work, value, has_variations, walk_behind, walk_count, zero, ℕ, ◌++◌, ◌+◌, ◌-◌, ◌<◌, ◌∙◌, ◌∷◌, ◌≡◌, ◌≤◌, ◌⊎◌, position_after, legal_moves}
-use Rattle.pop_solve.proofs.Boards.{behind_start}
+use Rattle.pop_solve.proofs.Boards.{behind_start, each_one, none_of}
 use Rattle.pop_solve.proofs.Tests.{moved}
 use Rattle.pop_solve.proofs.GoingOn.{cases, no_zero, ways, walk_length-help, follows-help}
 
@@ -149,14 +149,9 @@ module _ (rule : RuleSet) (plan : Plan) where
     unfolding fewest_walked smallest_tree is_followed value
     fewest-skipped low fuel last for battle fought m ms misses = search (rules, sum_by-cons)
 
-    none_of : (ms : List Move) → sum_by (λ m. walk_count (legal_moves rule) (position_after rule) 0 (position_after rule P m)) ms ≡ 0
-    unfolding walk_count
-    none_of [] = refl
-    none_of (m ∷ ms) = search (rules, none_of ms)
-
     nothing : (k place : ℕ) → k ≡ 1 → walk_behind rule k P place ≡ 0
     unfolding walk_behind
-    nothing k place e = rw e (none_of (moves_behind rule P place))
+    nothing k place e = rw e (none_of (legal_moves rule) (position_after rule) P (moves_behind rule P place))
 
   -- the last but one of help play, settled
   module _ (help : plan.play ≡ HelpPlay) (for : plan.goal ≡ Mate) where
@@ -171,13 +166,6 @@ module _ (rule : RuleSet) (plan : Plan) where
         → shown_paths plan (chess plan.goal rule) low fuel 2 P (m ∷ ms) ≡ shown_paths plan (chess plan.goal rule) low fuel 2 P ms
     unfolding shown_paths is_given
     settled P low fuel m ms none = search (rules, follows-help, walk_length-help, mateless)
-
-  -- each move counts one, with a half-move left behind it
-  each_one : (P : Position) (ms : List Move) → sum_by (λ m. walk_count (legal_moves rule) (position_after rule) 1 (position_after rule P m)) ms ≡ length ms
-  unfolding walk_count
-  each_one P [] = refl
-  each_one P (m ∷ ms) =
-      rw sum_by-cons (omega (arith, each_one P ms, none_of (position_after rule P m) (legal_moves rule (position_after rule P m))))
 
   -- moves are passed over that have no paths
   module _ (h : ℕ) (p : Position) (f : Frame) (below : List Frame) (rest : List Move) (before between : ℕ)
@@ -214,7 +202,7 @@ module _ (rule : RuleSet) (plan : Plan) where
     -- in play with two half-moves left each opens one frame
     each : (k : ℕ) → k ≡ 2 → walk_behind rule k P f.place ≡ length g.over + walk_behind rule k P g.mid
     unfolding walk_behind
-    each k e = rw (e, each_one P, each_one P) (simp (g.passed, length-append))
+    each k e = rw (e, each_one (legal_moves rule) (position_after rule) P, each_one (legal_moves rule) (position_after rule) P) (simp (g.passed, length-append))
 
     tries-skip : (battle : Battle) → plan.play ≡ BattlePlay battle → fewest_left rule plan h p (f ∷ below) ≡ fewest_left rule plan h p later
     unfolding fewest_left position
