@@ -11,10 +11,7 @@ module _ {P M : Type 0} (game : Game P M) where
   pub value-is_lost : (j : ℕ) (q : P) → value Direct game (2 * j) q ≡ is_lost game j q
   unfolding is_lost value
   value-is_lost zero q = refl
-  value-is_lost (suc j) q =
-      let white : (r : P) → value Direct game (suc (2 * j)) r ≡ some_move game (is_lost game j) r = search (rules, value-is_lost j) in
-      let two : 2 * suc j ≡ suc (suc (2 * j)) = omega arith in
-      rw two (search (rules, white))
+  value-is_lost (suc j) q = let two : 2 * suc j ≡ suc (suc (2 * j)) = omega arith in rw two (search (rules, value-is_lost j))
 
   -- with an odd number: White wins
   pub value-wins : (k : ℕ) (p : P) → value Direct game (suc (2 * k)) p ≡ wins game (suc k) p

@@ -12,33 +12,27 @@ module _ {X : Type 0} (f g : X → Bool) (weaker : (x : X) → f x ≡ true → 
   all_weaker (x ∷ xs) h = search (rules, all_weaker xs, weaker)
 
 module _ {P M : Type 0} (game : Game P M) where
-  some_weaker : (f g : P → Bool) → ((q : P) → f q ≡ true → g q ≡ true) → (p : P) → some_move game f p ≡ true → some_move game g p ≡ true
-  some_weaker f g w p h = search (rules, any_weaker)
-
-  every_weaker : (f g : P → Bool) → ((q : P) → f q ≡ true → g q ≡ true) → (p : P) → every_move game f p ≡ true → every_move game g p ≡ true
-  every_weaker f g w p h = search (rules, all_weaker)
-
   -- who is lost within some moves is lost within more
   pub is_lost-more : (j : ℕ) (q : P) → is_lost game j q ≡ true → is_lost game (suc j) q ≡ true
   unfolding is_lost
   is_lost-more zero q h = search rules
-  is_lost-more (suc j) q h = search (rules, every_weaker, some_weaker, is_lost-more j)
+  is_lost-more (suc j) q h = search (rules, all_weaker, any_weaker, is_lost-more j)
 
   -- who wins within some moves wins within more
   pub wins-more : (k : ℕ) (p : P) → wins game k p ≡ true → wins game (suc k) p ≡ true
   unfolding wins
-  wins-more k p h = search (rules, some_weaker, is_lost-more)
+  wins-more k p h = search (rules, any_weaker, is_lost-more)
 
   -- after Black's move White wins, or Black has reached the goal
   won-more : (f g : P → Bool) → ((r : P) → f r ≡ true → g r ≡ true) → (q : P)
       → (can_move game q && every_move game (λ r. game.goal r || f r) q) ≡ true → (can_move game q && every_move game (λ r. game.goal r || g r) q) ≡ true
-  won-more f g w q h = search (rules, every_weaker)
+  won-more f g w q h = search (rules, all_weaker)
 
   -- the same of a selfmate
   pub self_wins-more : (k : ℕ) (p : P) → self_wins game k p ≡ true → self_wins game (suc k) p ≡ true
   unfolding self_wins
   self_wins-more zero p h = absurd cc
-  self_wins-more (suc k) p h = search (rules, some_weaker, won-more, self_wins-more k)
+  self_wins-more (suc k) p h = search (rules, any_weaker, all_weaker, self_wins-more k)
 
   -- and after a move of White's
   pub is_self_lost-more : (j : ℕ) (q : P) → is_self_lost game j q ≡ true → is_self_lost game (suc j) q ≡ true

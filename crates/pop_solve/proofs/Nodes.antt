@@ -1,5 +1,6 @@
 -- The paths of trees.
 use Rattle.pop_solve.proofs.Words.{AllPairs, AllPairs-filter, Battle, Bool, Contains, Game, List, [], continuations, arith, best_moves, cond, false, false≢true, filter, first_in, flat_map, flat_map_single, from_filter, from_flat_map, from_map, in_cases, in_filter, in_flat_map, in_map, inr, keeps_win, later_in, list_any, map, node, nodes_below, none_in_nil, or_cases, pairs_flat_map, pairs_map, pairs_nil, pairs_of, refl, rules, is_in_set_play, set_tree, subst, suc, take, take-map, tree, true, zero, ℕ, ◌++◌, ◌-◌, ◌↔◌, ◌∷◌, ◌≡◌, ◌≢◌, ◌⊎◌, flat_map-map}
+use Rattle.std.proofs.Math.Seq.{take-nil}
 use Rattle.pop_solve.proofs.theorems.Lists.{HasBeginnings, StandsBefore}
 
 -- some element passes a test
@@ -122,11 +123,6 @@ module _ {P M : Type 0} (battle : Battle) (game : Game P M) (n : ℕ) where
     unfolding set_tree below_set
     set_tree_paths h p = flat_map-map (λ s. s) (λ d. node d (below_set h p d)) (set_moves p)
 
-    -- set play without half-moves has no first solutions
-    pub first_set_tree_none : (k : ℕ) (p : P) → flat_map (λ s. s) (take k (set_tree battle game variation n zero p)) ≡ []
-    unfolding set_tree
-    first_set_tree_none k p = grind arith
-
   -- so what holds of trees holds of all of them
   module _ {Ok : List M → Type 0} {Q : List (List M) → Type 0} (holds : HoldsOfTrees game Ok Q) where
     unless : (g : Bool) (paths : List (List M)) → Q paths → Q (cond g [] paths)
@@ -176,7 +172,7 @@ module _ {P M : Type 0} (battle : Battle) (game : Game P M) (n : ℕ) where
       -- of set play
       pub first_set_play_holds : (h : ℕ) (p : P) → Q (flat_map (λ s. s) (take k (set_tree battle game variation n h p)))
       unfolding set_tree below_set
-      first_set_play_holds zero p = rw (first_set_tree_none variation k p) holds.none
+      first_set_play_holds zero p = rw (take-nil k) holds.none
       first_set_play_holds (suc h) p =
           rw (joined_first (λ d. node d (below_set variation h p d)) k (set_moves p))
           (holds.nodes _ (take k (set_moves p)) (ok _) (below_set_holds variation h p))

@@ -22,17 +22,7 @@ module _ (rule : RuleSet) (p : Position) where
       → IfSome o (λ m. place < next) → after ≡ min (before + n) (2 ^ 64 - 1) → IsNextUnsettled rule p place next before after o
   sifted place next n before after None sound at lawful none onward counted = grind (arith, moves_behind-end rule p all_triples, append-nil)
   sifted place next n before after (Some m) sound at lawful passed onward counted =
-      let back = behind_back m sound lawful in
-      let cut = behind_cut rule p place next (omega (arith, onward)) in (
-        record {
-          mid = next - 1;
-          over = passed.over;
-          passed = cut ∙ (rw (passed.passed, at, back) (append_assoc passed.over (m ∷ []) (moves_behind rule p (place_of (Some m)))));
-          here = rw at back;
-          fits = record { none = passed.none; counts = rw passed.counted at counted };
-        },
-        lawful,
-      )
+      grind (arith, behind_back m sound lawful, behind_cut rule p place next (omega (arith, onward)), append_assoc)
 
   -- where no threats are told no move is passed over
   pub none_passed : (place next before : ℕ) (o : Option Move) → before < 2 ^ 64

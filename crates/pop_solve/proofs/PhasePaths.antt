@@ -18,17 +18,3 @@ module _ (rule : RuleSet) (problem : Posed) where
       → flat_map (λ s. s) (solutions rule problem phase) ≡ help_lines (game_of rule problem) (phase_half_moves problem phase) (phase_start problem phase)
   unfolding solutions
   help_paths phase help = rw help (flat_map-map (λ s. s) (λ x. x ∷ []) _ ∙ flat_map_single (λ x. x) _ ∙ map-id _)
-
-  -- those of a battle's play are its tree
-  pub play_paths : (battle : Battle) → play_of problem.stipulation.form ≡ BattlePlay battle
-      → solutions rule problem Play
-      ≡ tree battle (game_of rule problem) problem.variation problem.stipulation.n (phase_half_moves problem Play) (phase_start problem Play)
-  unfolding solutions
-  play_paths battle fought = rw fought refl
-
-  -- those of its set play are that tree
-  pub set_paths : (battle : Battle) → play_of problem.stipulation.form ≡ BattlePlay battle
-      → solutions rule problem Set
-      ≡ set_tree battle (game_of rule problem) problem.variation problem.stipulation.n (phase_half_moves problem Set) (phase_start problem Set)
-  unfolding solutions
-  set_paths battle fought = rw fought refl

@@ -112,18 +112,7 @@ module _ (rule : RuleSet) (plan : Plan) where
   unfolding to_come shown_paths
   come-close h p f below e = search rules
 
-  -- nor does it try anything
-  pub tries-close : (h : ℕ) (p : Position) (f : Frame) (below : List Frame) → (f.left ≡ 0) ⊎ (moves_behind rule (position rule p (f ∷ below)) f.place ≡ [])
-      → fewest_left rule plan h p (f ∷ below) ≡ fewest_left rule plan h p below
-  unfolding fewest_left fewest_walked
-  tries-close h p f below e = search rules
-
-  -- closing it takes a turn
-  pub turns-close : (h : ℕ) (p : Position) (f : Frame) (below : List Frame) → walk_work rule h p below < walk_work rule h p (f ∷ below)
-  unfolding walk_work
-  turns-close h p f below = omega arith
-
-  -- it opens nothing
+  -- nor does it open anything
   pub open-close : (p : Position) (f : Frame) (below : List Frame) → (f.left ≡ 0) ⊎ (moves_behind rule (position rule p (f ∷ below)) f.place ≡ [])
       → to_open rule p (f ∷ below) ≡ to_open rule p below
   unfolding to_open walk_behind
