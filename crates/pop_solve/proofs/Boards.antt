@@ -1,6 +1,7 @@
 -- What the calls of the rules say in the words of the search.
-use Rattle.pop_solve.proofs.Words.{Battle, Bool, Goal, IfSome, List, MatchOption, Mate, Move, None, Option, Position, RuleSet, Some, [], arith, can_move, chess, cut_mates, cut_moves, eqb, false, filter, is_for_mate, is_goal_reached, is_legal, is_mate, is_mating, is_nil, is_some, is_stalemate, length, length-append, list_any, mates_behind, mates_between, moves, moves_behind, moves_between, nat_tests, not, refl, rules, sum_by, sum_by-cons, sym, true, value, walk_count, ℕ, ◌++◌, ◌&&◌, ◌-◌, ◌<◌, ◌∙◌, ◌∷◌, ◌≡◌, ◌≤◌}
+use Rattle.pop_solve.proofs.Words.{Battle, Bool, Goal, IfSome, LegalPlace, List, MatchOption, Mate, Move, None, Option, Position, RuleSet, Some, [], arith, can_move, chess, cut_mates, cut_moves, eqb, false, filter, is_for_mate, is_goal_reached, is_legal, is_mate, is_mating, is_nil, is_some, is_stalemate, length, length-append, list_any, mates_behind, mates_between, moves, moves_behind, moves_between, nat_tests, not, refl, rules, sum_by, sum_by-cons, sym, true, value, walk_count, ℕ, ◌++◌, ◌&&◌, ◌-◌, ◌<◌, ◌∙◌, ◌∷◌, ◌≡◌, ◌≤◌}
 use Rattle.pop_solve.specs.Game.{some_move as some_good}
+use Rattle.pop_solve.specs.ties.Calls.{Finds}
 
 -- there is a legal move exactly where the list of moves isn't empty
 pub can_move-is : (goal : Goal) (rule : RuleSet) (p : Position) → not (is_nil (moves rule p)) ≡ can_move (chess goal rule) p
@@ -74,16 +75,14 @@ walk_count-some moves after left p some = search rules
 -- a move that is found says that there is one, wherever it was looked for
 module _ (goal : Goal) (rule : RuleSet) (p : Position) where
   -- a killer that was found is a legal move
-  pub has_killer : (killer place next : ℕ) (o : Option Move) → place ≡ killer - 1 → is_some o ≡ true
-      → MatchOption o (moves_between rule p place killer ≡ []) (λ m. (moves_between rule p place killer ≡ m ∷ moves_between rule p next killer)
-      × (is_legal rule p m ≡ true)) → true ≡ can_move (chess goal rule) p
-  has_killer killer place next o at e found = grind (arith, cut_moves rule p place killer (omega (arith, at)), length-append, nat_tests)
+  pub has_killer : (killer place next : ℕ) (o : Option Move) (board : Position) (known : LegalPlace) → place ≡ killer - 1 → is_some o ≡ true
+      → Finds rule p board known o (moves_between rule p place killer) (moves_between rule p next killer) → true ≡ can_move (chess goal rule) p
+  has_killer killer place next o board known at e f = grind (arith, cut_moves rule p place killer (omega (arith, at)), length-append, nat_tests)
 
   -- the first move is found exactly where there is one
-  pub has_first : (place next : ℕ) (o : Option Move) → place ≡ 0
-      → MatchOption o (moves_behind rule p place ≡ []) (λ m. (moves_behind rule p place ≡ m ∷ moves_behind rule p next) × (is_legal rule p m ≡ true))
-      → is_some o ≡ can_move (chess goal rule) p
-  has_first place next o at found = grind (arith, behind_start, nat_tests)
+  pub has_first : (place next : ℕ) (o : Option Move) (board : Position) (known : LegalPlace) → place ≡ 0
+      → Finds rule p board known o (moves_behind rule p place) (moves_behind rule p next) → is_some o ≡ can_move (chess goal rule) p
+  has_first place next o board known at f = grind (arith, behind_start, nat_tests)
 
   -- where there is a move the goal isn't reached
   pub unreached : can_move (chess goal rule) p ≡ true → is_goal_reached goal rule p ≡ false

@@ -55,8 +55,7 @@ module _ (test : ℕ → Bool) (n : ℕ) where
 
   -- no lower number passes
   pub first_is_first : (k : ℕ) → k < position_or_len test (range_with_len 0 n) → test k ≡ false
-  first_is_first k less =
-      search (rules, get_or-range_with_len, length-range_with_len, fails_before_first test (range_with_len 0 n) k 0, first_at_most)
+  first_is_first k less = search (rules, get_or-range_with_len, length-range_with_len, fails_before_first test (range_with_len 0 n) k 0, first_at_most)
 
   -- it passes itself, if the count does
   pub first_passes : test n ≡ true → test (position_or_len test (range_with_len 0 n)) ≡ true

@@ -24,8 +24,7 @@ HasNoEmpty {M} paths = (path : List M) → Contains paths path → path ≢ []
 module _ {M : Type 0} where
   -- a path of a node begins with its move
   starts : (m : M) (below : List (List M)) (path : List M) → Contains (node m below) path → (rest : List M) × (m ∷ rest ≡ path)
-  starts m below path c =
-      search (rules, in_cases (m ∷ []) (map (λ path. m ∷ path) below) path, from_map (λ path. m ∷ path) below path)
+  starts m below path c = search (rules, in_cases (m ∷ []) (map (λ path. m ∷ path) below) path, from_map (λ path. m ∷ path) below path)
 
   module _ (f : M → List (List M)) where
     -- a path of nodes: its first move is one of theirs, and the others are none or a path below it
@@ -47,8 +46,7 @@ module _ {M : Type 0} where
     -- nodes over lists that have their beginnings have theirs
     pub nodes_have_beginnings : ((m : M) → HasBeginnings (f m)) → (ms : List M) → HasBeginnings (flat_map (λ m. node m (f m)) ms)
     nodes_have_beginnings closed ms x [] ys c = root_in_nodes ms x (from_nodes ms x ys c).0
-    nodes_have_beginnings closed ms x (y ∷ xs) ys c =
-        grind (arith, from_nodes ms x ((y ∷ xs) ++ ys) c, path_in_nodes ms x (y ∷ xs), closed x y xs ys)
+    nodes_have_beginnings closed ms x (y ∷ xs) ys c = grind (arith, from_nodes ms x ((y ∷ xs) ++ ys) c, path_in_nodes ms x (y ∷ xs), closed x y xs ys)
 
     module _ (before : M → M → Type 0) where
       -- nodes in order, with paths in order below each
@@ -151,8 +149,7 @@ module _ {P M : Type 0} (battle : Battle) (game : Game P M) (n : ℕ) where
 
     -- of a play
     pub play_holds : (variation : Bool) (h : ℕ) (p : P) → Q (flat_map (λ s. s) (tree battle game variation n h p))
-    play_holds variation h p =
-        rw (tree_paths variation h p) (holds.nodes _ (kept p) (holds.some _ _ (holds.moves p)) (below_key_holds variation h p))
+    play_holds variation h p = rw (tree_paths variation h p) (holds.nodes _ (kept p) (holds.some _ _ (holds.moves p)) (below_key_holds variation h p))
 
     -- of set play
     pub set_play_holds : (variation : Bool) (h : ℕ) (p : P) → Q (flat_map (λ s. s) (set_tree battle game variation n h p))

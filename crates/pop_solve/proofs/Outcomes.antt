@@ -102,8 +102,7 @@ pub skips-close : (rule : RuleSet) (plan : Plan) (h : ℕ) (p : Position) (f : F
     → IsWalking rule h p (f ∷ below) board → (after : Position) (before count : ℕ)
     → ((f.left ≡ 0) × (count ≡ before)) ⊎ GoesTo rule plan f.left (position rule p (f ∷ below)) f.place [] before count → (length below ≡ 0 → after ≡ board)
     → ((q : Position) → 0 < length below → CameFromAt rule f board q → after ≡ q) → Steps rule plan h p (f ∷ below) below after before count false
-skips-close rule plan h p f below board r after before count (inl e) lowest back =
-    search (rules, steps-close rule plan h p f below board r after before)
+skips-close rule plan h p f below board r after before count (inl e) lowest back = search (rules, steps-close rule plan h p f below board r after before)
 skips-close rule plan h p f below board r after before count (inr g) lowest back = steps-skip rule plan h p f below [] before count g below after count false
     (steps-close rule plan h p (moved f g.mid) below board (walking-moved rule h p f g.mid below board board r refl) after count
     (inr (rw r.board_at g.here)) lowest back)

@@ -12,9 +12,8 @@ first_joined R n xss pairs = pairs_front R (flat_map (λ s. s) (take n xss)) (fl
 pub never_itself : (m : Move) → order_number m < order_number m → ⊥
 never_itself m less = omega (arith, less)
 
-module _ (rule : RuleSet) (problem : Posed) where
-  -- the paths of help play are its lines
-  pub help_paths : (phase : Phase) → play_of problem.stipulation.form ≡ HelpPlay
-      → flat_map (λ s. s) (solutions rule problem phase) ≡ help_lines (game_of rule problem) (phase_half_moves problem phase) (phase_start problem phase)
-  unfolding solutions
-  help_paths phase help = rw help (flat_map-map (λ s. s) (λ x. x ∷ []) _ ∙ flat_map_single (λ x. x) _ ∙ map-id _)
+-- the paths of help play are its lines
+pub help_paths : (rule : RuleSet) (problem : Posed) (phase : Phase) → play_of problem.stipulation.form ≡ HelpPlay
+    → flat_map (λ s. s) (solutions rule problem phase) ≡ help_lines (game_of rule problem) (phase_half_moves problem phase) (phase_start problem phase)
+unfolding solutions
+help_paths rule problem phase help = rw help (flat_map-map (λ s. s) (λ x. x ∷ []) _ ∙ flat_map_single (λ x. x) _ ∙ map-id _)

@@ -89,14 +89,14 @@ module _ (rule : RuleSet) (plan : Plan) (h : ℕ) (top : Frame) (old new : List 
               (steps-skip rule plan h p f (reverse new) _ opened between g _ after opened2 _ s))
         ]
 
--- what the next move or the next mate says of the moves passed over
-module _ (rule : RuleSet) (plan : Plan) (left : ℕ) (p : Position) (place next before after : ℕ) where
-  -- the next mate is the next move where play ends with it
-  pub next_mating : (o : Option Move) → plan.goal ≡ Mate → seeks_last plan.play ≡ true → left ≡ 1 → after ≡ before
-      → MatchOption o (mates_behind rule p place ≡ []) (λ m. IsNextMate rule p place next m × (is_legal rule p m ≡ true))
-      → IsNextOf rule plan left p place next before after o
-  unfolding mates_behind
-  next_mating o for last single e same = grind (arith, moves_behind-end rule p all_triples (omega arith), append-nil)
+-- the next mate is the next move where play ends with it
+pub next_mating : (rule : RuleSet) (plan : Plan) (left : ℕ) (p : Position) (place next before after : ℕ) (o : Option Move) → plan.goal ≡ Mate
+    → seeks_last plan.play ≡ true → left ≡ 1 → after ≡ before
+    → MatchOption o (mates_behind rule p place ≡ []) (λ m. IsNextMate rule p place next m × (is_legal rule p m ≡ true))
+    → IsNextOf rule plan left p place next before after o
+unfolding mates_behind
+next_mating rule plan left p place next before after o for last single e same =
+    grind (arith, moves_behind-end rule p all_triples (omega arith), append-nil)
 
 -- a frame is closed, whatever is walked
 module _ (rule : RuleSet) (h : ℕ) (top : Frame) (old new : List Frame) (taken : old ≡ new ++ top ∷ []) where

@@ -28,9 +28,8 @@ module _ (rule : RuleSet) (problem : Posed) where
       (pairs_of IsOtherThan end [] (λ y c. absurd (none_in_nil y c)) (pairs_nil IsOtherThan))
       (λ x y c d gives same. across x y (from_map (path_event problem phase) all x c) (in_cases end [] y d) same)
     where
-      across : (x y : BareEvent)
-          → ((path : List Move) × Contains (paths (take problem.max_solutions (solutions rule problem phase))) path × (path_event problem phase path ≡ x))
-          → (end ≡ y) ⊎ Contains [] y → x ≡ y → ⊥
+      across : (x y : BareEvent) → ((path : List Move) × Contains (paths (take problem.max_solutions (solutions rule problem phase))) path
+          × (path_event problem phase path ≡ x)) → (end ≡ y) ⊎ Contains [] y → x ≡ y → ⊥
       across x y w (inl e) same = apart w.0 (w.2 ∙ same ∙ sym e)
       across x y w (inr none) same = none_in_nil y none
 

@@ -26,11 +26,10 @@ module _ {P M : Type 0} (game : Game P M) where
       (help_lines_in_order (λ m n. m ≢ n) differ h p)
 
 -- Chess, under a set of rules.
-module _ (rule : RuleSet) where
-  -- Each move of the line is legal in the position in which it is made.
-  abbrev pub IsLegalLine : Position → List Move → Type 0
-  IsLegalLine p [] = Unit {0}
-  IsLegalLine p (m ∷ line) = (is_legal rule p m ≡ true) × IsLegalLine (position_after rule p m) line
+-- Each move of the line is legal in the position in which it is made.
+abbrev pub IsLegalLine : RuleSet → Position → List Move → Type 0
+IsLegalLine rule p [] = Unit {0}
+IsLegalLine rule p (m ∷ line) = (is_legal rule p m ≡ true) × IsLegalLine rule (position_after rule p m) line
 
 -- And for a goal.
 module _ (goal : Goal) (rule : RuleSet) where
@@ -43,9 +42,8 @@ module _ (goal : Goal) (rule : RuleSet) where
 
   -- From a well-formed position a list stands among the lines of help play in h half-moves, one or more, exactly where it has h moves, each
   -- legal where it is made, and the goal is reached in its last position.
-  pub help_lines_of_chess_are : (h : ℕ) (p : Position) (line : List Move) → IsWellFormed p
-      → Contains (help_lines (chess goal rule) h p) line
-      ↔ ((1 ≤ h) × (length line ≡ h) × IsLegalLine rule p line × (is_goal_reached goal rule (path_end (position_after rule) p line) ≡ true))
+  pub help_lines_of_chess_are : (h : ℕ) (p : Position) (line : List Move) → IsWellFormed p → Contains (help_lines (chess goal rule) h p) line ↔ ((1 ≤ h)
+      × (length line ≡ h) × IsLegalLine rule p line × (is_goal_reached goal rule (path_end (position_after rule) p line) ≡ true))
   help_lines_of_chess_are h p line well = grind (arith, help_lines_are (chess goal rule) h p line, playable_is_legal p line well)
 
   -- They stand in lexicographic order of the moves.

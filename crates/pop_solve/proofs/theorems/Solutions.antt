@@ -17,8 +17,7 @@ module _ (rule : RuleSet) (problem : Posed) where
 
   -- Battle play: a move is a key of a sound problem exactly where it is legal and keeps the win within the problem's number of moves.
   pub keys_of_a_problem_are : (m : Move) (battle : Battle) → IsSound problem → play_of problem.stipulation.form ≡ BattlePlay battle
-      → Contains (paths (solutions rule problem Play)) (m ∷ [])
-      ↔ ((is_legal rule (play_start problem) m ≡ true)
+      → Contains (paths (solutions rule problem Play)) (m ∷ []) ↔ ((is_legal rule (play_start problem) m ≡ true)
       × (keeps_win battle (game_of rule problem) problem.stipulation.n (position_after rule (play_start problem) m) ≡ true))
   unfolding solutions
   keys_of_a_problem_are m battle sound fought =
@@ -30,8 +29,7 @@ module _ (rule : RuleSet) (problem : Posed) where
   -- Set play: a move of Black stands among the first moves exactly where set play has half-moves, the move is legal in its first position,
   -- and after it the goal is reached, if that is for Black to do, or White wins with a move less.
   pub set_moves_of_a_problem_are : (d : Move) (battle : Battle) → IsSound problem → play_of problem.stipulation.form ≡ BattlePlay battle
-      → Contains (paths (solutions rule problem Set)) (d ∷ [])
-      ↔ ((1 ≤ phase_half_moves problem Set) × (is_legal rule (phase_start problem Set) d ≡ true)
+      → Contains (paths (solutions rule problem Set)) (d ∷ []) ↔ ((1 ≤ phase_half_moves problem Set) × (is_legal rule (phase_start problem Set) d ≡ true)
       × (is_in_set_play battle (game_of rule problem) problem.stipulation.n (position_after rule (phase_start problem Set) d) ≡ true))
   unfolding solutions
   set_moves_of_a_problem_are d battle sound fought =
