@@ -4,15 +4,13 @@ use Rattle.pop_solve.specs.Game.{some_move as some_good}
 use Rattle.pop_solve.specs.ties.Calls.{Finds}
 
 -- there is a legal move exactly where the list of moves isn't empty
-pub can_move-is : (goal : Goal) (rule : RuleSet) (p : Position) → not (is_nil (moves rule p)) ≡ can_move (chess goal rule) p
-can_move-is goal rule p = grind arith
+pub some_move : (goal : Goal) (rule : RuleSet) (p : Position) → not (is_nil (moves rule p)) ≡ can_move (chess goal rule) p
+some_move goal rule p = grind arith
 
 -- before all triples all moves are to come
 pub behind_start : (rule : RuleSet) (p : Position) → moves_behind rule p 0 ≡ moves rule p
 unfolding moves_behind moves
 behind_start rule p = refl
-
-pub ruleset some_move = (can_move-is)
 
 -- a goal told to be mate is mate
 pub for_mate : (goal : Goal) → is_for_mate goal ≡ true → goal ≡ Mate

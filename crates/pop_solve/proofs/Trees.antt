@@ -150,7 +150,6 @@ module _ {P M : Type 0} (game : Game P M) where
           → suc t ≤ suc k → suc t ≤ 2 * n → game.goal q ≡ false → seeks battle (suc t) ≡ false → Tie n (suc k) (suc t) q
       unfolding nodes_below shown_length
       tie-black n k t q ih v room most g s =
-          let z : eqb (suc t) 0 ≡ false = grind arith in
           let s1 : seeks battle (t + 1) ≡ false = grind arith in
           let w : seeks battle t ≡ true = grind (arith, seeks-step) in
           grind (arith, as_nodes, game.moves q, flat-all, value-black battle t q g s v, by_none, beneath-is)

@@ -16,9 +16,9 @@ module _ {P M : Type 0} (battle : Battle) (game : Game P M) where
   value-forced p is = rw is refl
 
   -- White with a half-move that nothing ends before
-  pub value-free : (t : ℕ) (p : P) → 0 < t → (t % 2 == 1 && seeks battle t) ≡ true → value battle game t p ≡ joined_value battle game t p (game.moves p)
+  pub free_moves : (t : ℕ) (p : P) → 0 < t → (t % 2 == 1 && seeks battle t) ≡ true → value battle game t p ≡ joined_value battle game t p (game.moves p)
   unfolding value joined_value
-  value-free t p some e = grind (arith, and_parts)
+  free_moves t p some e = grind (arith, and_parts)
 
   -- with a move, and the goal not reached
   pub value-open : (t : ℕ) (p : P) → 0 < t → can_move game p ≡ true → game.goal p ≡ false → value battle game t p ≡ joined_value battle game t p (game.moves p)
@@ -31,5 +31,3 @@ module _ {P M : Type 0} (battle : Battle) (game : Game P M) where
   value-stuck t p some k = grind (arith, nat_tests, nil_from_length (game.moves p))
 
 pub ruleset last_half_move = (value-mates, value-forced)
-
-pub ruleset free_moves = (value-free)

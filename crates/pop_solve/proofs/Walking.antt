@@ -31,8 +31,8 @@ module _ (rule : RuleSet) (plan : Plan) (h : ℕ) (top : Frame) (old new : List 
       → ((q : Position) → 0 < depth → CameFromAt rule top now q → after ≡ q) → Steps rule plan h p (reverse old) (reverse new) after opened count false
   close_steps p board now after depth opened count r e d none lowest before =
       let r2 = walking_top p board now r e in
-      let none2 = rw (← e, r2.board_at) at none in
-      rw (popped old new top taken) (search (rules, skips-close rule plan h p top (reverse new) now r2 after opened count none2, depth_is))
+      rw (popped old new top taken)
+      (search (rules, skips-close rule plan h p top (reverse new) now r2 after opened count (rw (← e, r2.board_at) at none), depth_is))
 
   -- there is room for its half-moves
   pub room_left : (p board : Position) → IsWalking rule h p (reverse old) board → top.left + length new ≤ h
