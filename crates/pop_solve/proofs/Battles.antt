@@ -1,5 +1,5 @@
 -- The value by half-moves is what the battle definitions say.
-use Rattle.pop_solve.proofs.Words.{Battle, Game, Selfmate, arith, can_move, every_move, is_lost, is_self_lost, refl, rules, self_wins, some_move, suc, value, wins, zero, ℕ, ◌&&◌, ◌*◌, ◌||◌, ◌≡◌, Direct}
+use Rattle.pop_solve.proofs.Words.{Battle, Game, Selfmate, arith, can_move, every_move, is_lost, is_self_lost, refl, rules, self_wins, suc, value, wins, zero, ℕ, ◌&&◌, ◌*◌, ◌||◌, ◌≡◌, Direct}
 
 module _ {P M : Type 0} (game : Game P M) where
   -- with no half-move left the goal decides

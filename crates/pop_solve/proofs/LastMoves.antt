@@ -1,5 +1,5 @@
 -- The last two half-moves where mate is the goal, tried without frames: their value, and how many positions they take.
-use Rattle.pop_solve.proofs.Words.{Battle, Bool, Direct, HasCounted, IfSome, Killer, LegalPlace, List, Mate, Move, None, Option, Order, Position, RuleSet, Selfmate, Some, [], ap, arith, can_move, chess, cond, eqb, false, filter, is_goal_reached, is_legal, is_mating, is_some, joined_value, legal_moves, length, list_all, list_any, mates_behind, min, moves, moves_ahead, moves_behind, nat_tests, not, position_after, refl, rules, seeks, smallest_below, smallest_tree, sym, true, value, walk_count, ℕ, ◌&&◌, ◌+◌, ◌-◌, ◌<◌, ◌^◌, ◌∙◌, ◌∷◌, ◌≡◌, ◌≤◌}
+use Rattle.pop_solve.proofs.Words.{Battle, Bool, Direct, HasCounted, IfSome, Killer, LegalPlace, List, Mate, Move, None, Option, Order, Position, RuleSet, Selfmate, Some, [], ap, arith, can_move, chess, cond, eqb, false, filter, is_goal_reached, is_legal, is_mating, is_some, joined_value, length, list_all, list_any, mates_behind, min, moves, moves_ahead, moves_behind, nat_tests, not, position_after, refl, rules, seeks, smallest_below, smallest_tree, true, value, walk_count, ℕ, ◌&&◌, ◌+◌, ◌-◌, ◌<◌, ◌^◌, ◌∷◌, ◌≡◌, ◌≤◌}
 use Rattle.pop_solve.proofs.Boards.{behind_start, each_one, unreached}
 use Rattle.pop_solve.proofs.SmallestTrees.{tree-one, trees-end, trees-next, trees-start}
 use Rattle.pop_solve.proofs.Tests.{any-start, fewest-start, first, length-start, rest-start}

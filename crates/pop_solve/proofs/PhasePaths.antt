@@ -1,5 +1,5 @@
 -- The paths of a phase's solutions.
-use Rattle.pop_solve.proofs.Words.{AllPairs, Battle, BattlePlay, HelpPlay, List, Move, Phase, Play, Posed, RuleSet, Set, [], arith, drop, flat_map, flat_map-append, game_of, help_lines, pairs_front, phase_half_moves, phase_start, play_of, refl, set_tree, solutions, take, take-append-drop, tree, ℕ, ◌<◌, ◌∷◌, ◌≡◌, flat_map_single, ◌∙◌, map-id, flat_map-map}
+use Rattle.pop_solve.proofs.Words.{AllPairs, HelpPlay, List, Move, Phase, Posed, RuleSet, [], arith, drop, flat_map, flat_map-append, game_of, help_lines, pairs_front, phase_half_moves, phase_start, play_of, solutions, take, take-append-drop, ℕ, ◌<◌, ◌∷◌, ◌≡◌, flat_map_single, ◌∙◌, map-id, flat_map-map}
 use Rattle.chess_core.specs.MoveOrder.{order_number}
 
 -- the first of joined lists

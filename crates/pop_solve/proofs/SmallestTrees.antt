@@ -1,5 +1,5 @@
 -- The smallest trees that decide a position.
-use Rattle.pop_solve.proofs.Words.{Battle, Bool, Game, List, [], arith, cond, decided_by, least_of, rules, smallest_below, smallest_tree, suc, sum_by, sum_by-cons, zero, ℕ, ◌+◌, ◌∷◌, ◌≡◌, ◌≤◌}
+use Rattle.pop_solve.proofs.Words.{Battle, Bool, Game, List, [], arith, cond, decided_by, least_of, rules, smallest_below, smallest_tree, suc, sum_by, sum_by-cons, ℕ, ◌+◌, ◌∷◌, ◌≡◌, ◌≤◌}
 
 module _ {M : Type 0} (test : M → Bool) (f : M → ℕ) where
   least-most : (n : ℕ) (ms : List M) → least_of test f n ms ≤ n

@@ -1,5 +1,5 @@
 -- The value of a position by what its tests say.
-use Rattle.pop_solve.proofs.Words.{Battle, Game, Selfmate, [], arith, can_move, every_move, false, joined_value, refl, rules, seeks, some_move, suc, true, value, zero, ℕ, ◌%◌, ◌&&◌, ◌<◌, ◌||◌, ◌≡◌, and_parts, nat_tests}
+use Rattle.pop_solve.proofs.Words.{Battle, Game, Selfmate, arith, can_move, every_move, false, joined_value, refl, rules, seeks, some_move, true, value, ℕ, ◌%◌, ◌&&◌, ◌<◌, ◌≡◌, and_parts, nat_tests}
 use Rattle.pop_solve.specs.declared.aim.Battle.TheVariants.{Direct}
 use Rattle.std.specs.Prelude.{◌==◌}
 use Rattle.std.proofs.lemmas.List.{nil_from_length}

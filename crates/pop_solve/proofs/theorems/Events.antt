@@ -1,5 +1,5 @@
 -- The events of a problem before they are shown: no line and no node comes twice.
-use Rattle.pop_solve.proofs.Words.{AllPairs, BareEvent, Bool, Contains, Contains-append_cases, List, Move, Phase, Play, Posed, RuleSet, Set, [], arith, cond, events, events_from, false, from_map, impossible, in_cases, inl, inr, is_barred, line, map, none_in_nil, opening, pairs_append, pairs_map, pairs_nil, pairs_of, path_event, phase_events, solutions, subst, sym, take, total, tree_node, true, ◌++◌, ◌∙◌, ◌∷◌, ◌≡◌, ◌≢◌, ◌⊎◌}
+use Rattle.pop_solve.proofs.Words.{AllPairs, BareEvent, Bool, Contains, Contains-append_cases, List, Move, Phase, Play, Posed, RuleSet, Set, [], arith, cond, events, false, from_map, impossible, in_cases, inl, inr, is_barred, line, map, none_in_nil, opening, pairs_append, pairs_map, pairs_nil, pairs_of, path_event, phase_events, solutions, subst, take, total, tree_node, true, ◌++◌, ◌∷◌, ◌≡◌, ◌≢◌}
 use Rattle.pop_solve.proofs.theorems.Lists.{paths}
 use Rattle.pop_solve.proofs.theorems.Solutions.{shown_paths_differ}
 

@@ -1,5 +1,5 @@
 -- The trees of battle play, over any game: which moves stand in them, that no path stands twice, and in which order the paths stand.
-use Rattle.pop_solve.proofs.Words.{AllPairs, Battle, Bool, Contains, Game, List, [], continuations, arith, best_moves, false, from_filter, in_filter, keeps_win, least_moves, nodes_below, none_in_nil, pairs_weaker, refl, is_in_set_play, set_tree, suc, take, tree, true, wins_in, zero, ℕ, ◌-◌, ◌↔◌, ◌∷◌, ◌≡◌, ◌≢◌, ◌≤◌, rules}
+use Rattle.pop_solve.proofs.Words.{AllPairs, Battle, Bool, Contains, Game, List, [], continuations, arith, best_moves, false, from_filter, in_filter, keeps_win, least_moves, nodes_below, none_in_nil, refl, is_in_set_play, set_tree, suc, take, tree, true, wins_in, zero, ℕ, ◌-◌, ◌↔◌, ◌∷◌, ◌≡◌, ◌≢◌, ◌≤◌, rules}
 use Rattle.pop_solve.proofs.Nodes.{any_from_element, element_from_any, beginnings, deeper_unless, first_play_holds, first_set_play_holds, in_order, play_holds, roots_are, roots_unless, deeper_are, set_play_holds, tree_paths, set_tree_paths, from_nodes, below_key, kept, below_set}
 use Rattle.pop_solve.proofs.theorems.Lengths.{no_win_in_none, wins_by_a_move, wins_in_least}
 use Rattle.pop_solve.proofs.theorems.Lists.{HasBeginnings, StandsBefore, never_before_itself, paths}

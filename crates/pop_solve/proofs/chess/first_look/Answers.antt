@@ -1,4 +1,4 @@
-use Rattle.pop_solve.proofs.Words.{LegalPlace, ap, rules, sym, ◌∙◌}
+use Rattle.pop_solve.proofs.Words.{rules}
 use Rattle.pop_solve.proofs.Boards.{has_first, has_killer}
 use Rattle.pop_solve.proofs.chess.first_look.Goals as goal
 

@@ -1,5 +1,5 @@
 use Rattle.pop_solve.proofs.LastMoves.{begins_first, ends, found_first, from, goes_on, stops, stuck}
-use Rattle.pop_solve.proofs.Words.{arith, refl, rules, value}
+use Rattle.pop_solve.proofs.Words.{refl, rules, value}
 use Rattle.pop_solve.proofs.last_defence.value_of_last_defence.Goals as goal
 
 pub is_reached_without_move-requires : goal.is_reached_without_move-requires

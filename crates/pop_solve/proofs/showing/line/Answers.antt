@@ -1,4 +1,4 @@
-use Rattle.pop_solve.proofs.Words.{ap, arith, position, refl, reverse, rules, sym, take_all, ◌+◌, ◌∙◌, position_after}
+use Rattle.pop_solve.proofs.Words.{ap, arith, position, refl, reverse, rules, sym, take_all, ◌+◌, ◌∙◌}
 use Rattle.pop_solve.proofs.Paths as paths
 use Rattle.pop_solve.proofs.showing.line.Goals as goal
 
