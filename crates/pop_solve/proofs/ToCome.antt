@@ -170,13 +170,7 @@ module _ (rule : RuleSet) (plan : Plan) where
         → is_mating rule P m ≡ false → F 1 (m ∷ ms) ≡ F 1 ms) → (plan.play ≡ HelpPlay → plan.goal ≡ Mate → (m : Move) (ms : List Move)
         → allows_mate rule P m ≡ false → F 2 (m ∷ ms) ≡ F 2 ms) → F f.left (moves_behind rule P f.place) ≡ F f.left (moves_behind rule P g.mid)
     unfolding position
-    same-later F skip settle = elim g.fits [
-      | inl same ↦ elim same.1 [
-        | inl none ↦ rw (g.passed, none) refl
-        | inr e ↦ rw (g.passed, e.2) (passed-over (F 1) (is_mating rule P) (skip e.0 e.1) g.over (moves_behind rule P g.mid) e.3)
-      ]
-      | inr e ↦ rw (g.passed, e.2) (passed-over (F 2) (allows_mate rule P) (settle e.0 e.1) g.over (moves_behind rule P g.mid) e.3.none)
-    ]
+    same-later F skip settle = grind (arith, g.fits, g.passed, passed-over (F 1) (is_mating rule P), passed-over (F 2) (allows_mate rule P))
 
     come-skip : to_come rule plan h p (f ∷ below) ≡ to_come rule plan h p later
     unfolding to_come position path

@@ -1,5 +1,5 @@
 -- The lines of help play: which lists of moves they are, that each stands once, and in which order.
-use Rattle.pop_solve.proofs.Words.{AllPairs, Contains, Game, Goal, IsWellFormed, List, Move, Position, Precedes, RuleSet, [], after_well_formed, arith, chess, help_lines, is_goal_reached, is_legal, is_pseudo_legal-from_legal, length, moves_are_the_legal_moves, moves_differ, moves_in_order, none_in_nil, pairs_nil, pairs_weaker, path_end, refl, suc, true, zero, ℕ, ◌↔◌, ◌∷◌, ◌≡◌, ◌≢◌, ◌≤◌, position_after}
+use Rattle.pop_solve.proofs.Words.{AllPairs, Contains, Game, Goal, IsWellFormed, List, Move, Position, Precedes, RuleSet, [], after_well_formed, arith, chess, help_lines, is_goal_reached, is_legal, is_pseudo_legal-from_legal, length, moves_are_the_legal_moves, moves_differ, moves_in_order, none_in_nil, pairs_nil, path_end, refl, rules, suc, true, zero, ℕ, ◌↔◌, ◌∷◌, ◌≡◌, ◌≢◌, ◌≤◌, position_after}
 use Rattle.pop_solve.proofs.HelpPlay.{from_lines, in_lines, lines_stand}
 use Rattle.pop_solve.proofs.theorems.Lists.{IsPlayable, StandsBefore, never_before_itself}
 
@@ -21,9 +21,7 @@ module _ {P M : Type 0} (game : Game P M) where
 
   -- Where no position has two moves alike, no two lines are alike.
   pub help_lines_differ : ((p : P) → AllPairs (λ m n. m ≢ n) (game.moves p)) → (h : ℕ) (p : P) → AllPairs (λ a b. a ≢ b) (help_lines game h p)
-  help_lines_differ differ h p =
-      pairs_weaker (StandsBefore (λ m n. m ≢ n)) (λ a b. a ≢ b) (help_lines game h p) (never_before_itself (λ m n. m ≢ n) (λ m ne. ne refl))
-      (help_lines_in_order (λ m n. m ≢ n) differ h p)
+  help_lines_differ differ h p = search (rules, never_before_itself {M = M} (λ m n. m ≢ n) (λ m ne. ne refl), help_lines_in_order (λ m n. m ≢ n) differ h p)
 
 -- Chess, under a set of rules.
 -- Each move of the line is legal in the position in which it is made.
