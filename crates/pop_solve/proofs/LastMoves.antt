@@ -11,11 +11,11 @@ use Rattle.pop_solve.specs.ties.Calls.{Finds}
 pub one_quiet : (rule : RuleSet) (q : Position) → list_all (is_mating rule q) (moves rule q) ≡ false → value Selfmate (chess Mate rule) 1 q ≡ false
 one_quiet rule q quiet = grind (arith, value-forced)
 
--- nor where none does
 none_mates : (test : Move → Bool) (ms : List Move) → filter test ms ≡ [] → (not (eqb (length ms) 0) && list_all test ms) ≡ false
 none_mates test [] none = refl
 none_mates test (m ∷ ms) none = grind arith
 
+-- nor where none does
 pub no_mates : (rule : RuleSet) (q : Position) → mates_behind rule q 0 ≡ [] → value Selfmate (chess Mate rule) 1 q ≡ false
 unfolding mates_behind
 no_mates rule q none = rw (value-forced Selfmate (chess Mate rule) q refl) (none_mates (is_mating rule q) (moves rule q) (rw (← behind_start rule q) none))
@@ -31,11 +31,12 @@ pub record AreTried (battle : Battle) (rule : RuleSet) (p : Position) (ahead : L
 
 module _ {battle : Battle} {rule : RuleSet} {p : Position} {v : Bool} {before least most : ℕ} where
   -- where no more are to be tried, the count is right
-  pub ends : {ahead : List Move} {counted : ℕ} → AreTried battle rule p ahead v before least most counted → ahead ≡ [] → (counted ≤ most) × HasCounted before counted least
+  pub ends : {ahead : List Move} {counted : ℕ} → AreTried battle rule p ahead v before least most counted → ahead ≡ []
+      → (counted ≤ most) × HasCounted before counted least
   ends a none = grind (arith, trees-end)
 
-  module _ {m : Move} {ahead later : List Move} (here : ahead ≡ m ∷ later) {counted : ℕ} (count : ℕ) (a : AreTried battle rule p ahead v before least most counted)
-      (few : count ≤ counted + 1) (one : HasCounted counted count 1) where
+  module _ {m : Move} {ahead later : List Move} (here : ahead ≡ m ∷ later) {counted : ℕ} (count : ℕ)
+      (a : AreTried battle rule p ahead v before least most counted) (few : count ≤ counted + 1) (one : HasCounted counted count 1) where
     -- so is it at a move that decides
     pub stops : value battle (chess Mate rule) 1 (position_after rule p m) ≡ seeks battle 2 → (count ≤ most) × HasCounted before count least
     stops e = grind (arith, trees-next battle (chess Mate rule) 1 p m later, tree-one)
@@ -52,14 +53,16 @@ module _ (battle : Battle) (rule : RuleSet) (p : Position) where
   stuck v opened none told = search (rules, value-stuck)
 
   -- with one all moves are to be tried, in any order
-  pub begins : (ahead : List Move) (before counted : ℕ) → joined_value battle (chess Mate rule) 2 p ahead ≡ joined_value battle (chess Mate rule) 2 p (moves rule p)
-      → length ahead ≡ length (moves rule p) → smallest_tree battle (chess Mate rule) 2 p ≤ 1 + smallest_below battle (chess Mate rule) 2 p ahead
+  pub begins : (ahead : List Move) (before counted : ℕ)
+      → joined_value battle (chess Mate rule) 2 p ahead ≡ joined_value battle (chess Mate rule) 2 p (moves rule p) → length ahead ≡ length (moves rule p)
+      → smallest_tree battle (chess Mate rule) 2 p ≤ 1 + smallest_below battle (chess Mate rule) 2 p ahead
       → can_move (chess Mate rule) p ≡ true → counted ≤ before + 1 → HasCounted before counted 1
       → AreTried battle rule p ahead (value battle (chess Mate rule) 2 p) before (smallest_tree battle (chess Mate rule) 2 p)
       (before + walk_count (moves rule) (position_after rule) 2 p) counted
   unfolding walk_count joined_value
   begins ahead before counted same long trees some few one =
-      grind (arith, value-open battle (chess Mate rule) 2 p (omega arith) some (unreached Mate rule p some), each_one (moves rule) (position_after rule) p (moves rule p))
+      let open_yet = value-open battle (chess Mate rule) 2 p (omega arith) some (unreached Mate rule p some) in
+      grind (arith, open_yet, each_one (moves rule) (position_after rule) p (moves rule p))
 
   -- none to move
   pub none_moves : moves rule p ≡ [] → can_move (chess Mate rule) p ≡ false
@@ -90,16 +93,17 @@ module _ (rule : RuleSet) (p board : Position) (known : LegalPlace) (next : Opti
   from ahead later f = grind arith
 
   -- the search for the first defence in an order
-  module _ (o : Order) (s : Stretch) (place : ℕ) (later : List Move) (f : Finds rule p board known next (moves_ahead rule p o s place) later) (begin : s ≡ Killer)
-      (at : place ≡ o.killer - 1) where
+  module _ (o : Order) (s : Stretch) (place : ℕ) (later : List Move) (f : Finds rule p board known next (moves_ahead rule p o s place) later)
+      (begin : s ≡ Killer) (at : place ≡ o.killer - 1) where
     -- finds one exactly where there is a move
     pub found_first : is_some next ≡ can_move (chess Mate rule) p
     found_first = grind (arith, some_of, from, any-start rule p o (λ m. true))
 
     -- with it all are to be tried
     pub begins_first : (before opened : ℕ) → is_some next ≡ true → opened ≤ before + 1 → HasCounted before opened 1
-        → IfSome next (λ m. is_legal rule p m ≡ true) × AreTried Direct rule p (from_next next later) (value Direct (chess Mate rule) 2 p) before (smallest_tree Direct (chess Mate rule) 2 p)
-        (before + walk_count (moves rule) (position_after rule) 2 p) opened
+        → IfSome next (λ m. is_legal rule p m ≡ true)
+        × AreTried Direct rule p (from_next next later) (value Direct (chess Mate rule) 2 p) before
+        (smallest_tree Direct (chess Mate rule) 2 p) (before + walk_count (moves rule) (position_after rule) 2 p) opened
     begins_first before opened some few one =
         let e = from _ _ f in (
           grind arith,

@@ -19,4 +19,5 @@ returns-then-is_some-clause-value g c = search (rules, values.value-open, unreac
 
 pub returns-else-is_some-clause-value : goal.returns-else-is_some-clause-value
 returns-else-is_some-clause-value g c =
-    search (rules, values.value-stuck, c.first_look.ensures.unchanged, c.first_look.ensures.moves c.args.aim.goal, c.if-is_some.ensures, c.value_without_move.ensures)
+    let told = rw c.first_look.ensures.unchanged at c.value_without_move.ensures in
+    search (rules, values.value-stuck, c.first_look.ensures.moves c.args.aim.goal, c.if-is_some.ensures)
