@@ -1,8 +1,7 @@
 -- A king's step to an empty square that an attacker reaches over the hurdles is illegal.
-use Rattle.chess_mates.proofs.Chess.{Bool, Colour, IsAttackedOver, IsBarred, IsMade, IsMereMove, IsPlainMove, IsSiege, IsSiegeOf, IsWellFormed, IsWhole, King, List, Man, Move, None, Option, Position, RuleSet, Siege, Some, after_well_formed, and_from, and_left, ap, arith, arrived, bit_and, bit_at, bit_not, bit_or, captures_do_more, cases_Bool, cases_eq, cases_lt, cond-true, faced_men_stand_still, false, false_by, false≢true, in_check, inl, inr, is_attacked, is_attacked_at, is_attacker, is_legal, is_of_colour, is_paralysed, is_pseudo_legal, is_some, king_is_after, king_square, length, made, man_on, men_on, not, off_left, off_right, off_second, on_board, or_lt, other, position_after, reached_over, reaches, reaches_as, refl, same_colour, same_colour-refl, same_kind, side_of, simple_after, some_square_true, sym, true, w64, word_has, ℕ, ◌&&◌, ◌<◌, ◌==◌, ◌^◌, ◌∙◌, ◌≡◌, ◌≢◌}
+use Rattle.chess_mates.proofs.Chess.{Colour, IsAttackedOver, IsBarred, IsMade, IsMereMove, IsPlainMove, IsSiege, IsSiegeOf, IsWellFormed, IsWhole, King, List, Man, Move, None, Option, Position, RuleSet, Siege, Some, StandAlike, after_well_formed, and_from, and_left, ap, arith, arrived, bit_and, bit_at, bit_not, bit_or, captures_do_more, cases_eq, cases_lt, cond-true, faced_men_stand_still, false, false_by, false≢true, in_check, inl, inr, is_attacked, is_attacked_at, is_attacker, is_legal, is_of_colour, is_paralysed, is_pseudo_legal, is_some, king_is_after, king_square, length, made, man_on, men_on, not, off_left, off_right, off_second, on_board, or_lt, other, position_after, reached_over, reaches, reaches_alike, reaches_as, refl, rules, same_Bool, same_colour, same_colour-refl, same_kind, side_of, simple_after, some_square_true, sym, true, w64, word_has, ℕ, ◌<◌, ◌==◌, ◌^◌, ◌∙◌, ◌≡◌, ◌≢◌}
 use Rattle.chess_mates.proofs.HomeSquares.{some_of}
 use Rattle.chess_mates.proofs.Hurdles.{on_one, one_on, size_on}
-use Rattle.chess_mates.proofs.Landing.{StandAlike, reaches_alike}
 use Rattle.chess_mates.proofs.Passing.{on_denied}
 use Rattle.chess_mates.proofs.Standing.{not_mine_enemy, some_side, stays_there, stood, unfree}
 
@@ -16,17 +15,14 @@ barred_is rule v w r l t able fits_r fits_l ridden leapt small on off =
     record {
       able = able;
       free = off_left v.hurdles (bit_not w64 (bit_or r l)) t none;
-      attacked = elim (on_one r l t (on_denied (bit_or r l) t (or_lt 64 r l fits_r fits_l) small (off_right v.hurdles (bit_not w64 (bit_or r l)) t none))) [
-        | inl y ↦ ridden t small y
-        | inr y ↦ leapt t small y
-      ];
+      attacked = search (
+        rules,
+        ridden,
+        leapt,
+        on_one r l t
+            (on_denied (bit_or r l) t (or_lt 64 r l fits_r fits_l) small (off_right v.hurdles (bit_not w64 (bit_or r l)) t none)),
+      );
     }
-
-same_test : (a b : Bool) → (a ≡ true → b ≡ true) → (b ≡ true → a ≡ true) → a ≡ b
-same_test a b f g = grind (arith, cases_Bool a, cases_Bool b)
-
-not_both : (a b : Bool) → (a && not b) ≡ true → b ≡ true → ⊥
-not_both a b h e = grind arith
 
 able_strikes : (s : ℕ) (men : List (Option Man)) (t : ℕ) (z : Man) → man_on men s ≡ Some z → reaches_as men z.colour z.kind s t ≡ true → reaches men s t ≡ true
 unfolding reaches
@@ -58,21 +54,12 @@ module _ (rule : RuleSet) (p : Position) (m : Move) (x : Man) (v : Siege) (well 
   -- the hurdles are all men but the king
   hurdle_is : (e : ℕ) → e < 64 → e ≢ m.from → is_some (man_on p.men e) ≡ (bit_at v.hurdles e == 1)
   unfolding side_of
-  hurdle_is e low off = same_test _ _
-      (λ some. whole.hurdles e low (elim (some_of (man_on p.men e) p.turn some) [
-        | inl mine ↦ inl (word_has (λ s. is_of_colour (man_on p.men s) p.turn) v.own e fits.own low ∙ mine)
-        | inr enemy ↦ inr (word_has (λ s. is_of_colour (man_on p.men s) (other p.turn)) v.enemies e fits.enemies low ∙ enemy)
-      ]) (λ same. off (sym same ∙ at_king)))
-      (λ on. elim (siege.hurdles.men e low on).0 [
-        | inl mine ↦ some_side _ p.turn (sym (word_has (λ s. is_of_colour (man_on p.men s) p.turn) v.own e fits.own low) ∙ mine)
-        | inr enemy ↦ some_side _ (other p.turn) (sym (word_has (λ s. is_of_colour (man_on p.men s) (other p.turn)) v.enemies e fits.enemies low) ∙ enemy)
-      ])
+  hurdle_is e low off = same_Bool _ _
+      (λ some. whole.hurdles e low (search (rules, some_of (man_on p.men e) p.turn some, word_has, fits.own, fits.enemies)) (λ same. off (sym same ∙ at_king)))
+      (λ on. search (rules, (siege.hurdles.men e low on).0, some_side, word_has, fits.own, fits.enemies))
 
   beyond : (men : List (Option Man)) (e : ℕ) → length men ≡ 64 → (e < 64 → ⊥) → is_some (man_on men e) ≡ false
-  beyond men e size high = by (man_on men e) refl where
-    by : (o : Option Man) → man_on men e ≡ o → is_some o ≡ false
-    by None h = refl
-    by (Some z) h = absurd (high (on_board men e z size h))
+  beyond men e size high = search (rules, on_board)
 
   left : is_some (man_on q.men m.from) ≡ false
   left = by (man_on q.men m.from) refl where
@@ -105,14 +92,13 @@ module _ (rule : RuleSet) (p : Position) (m : Move) (x : Man) (v : Siege) (well 
   stood_a : man_on p.men a.from ≡ Some a.man
   stood_a = fits.men.alone a.from a.man a.stands
 
-  enemy_a : a.man.colour ≡ other p.turn
-  enemy_a = a.stands.mine ∙ fits.colour
+  enemy_a : is_of_colour (Some a.man) (other p.turn) ≡ true
+  enemy_a = rw (a.stands.mine, fits.colour) (same_colour-refl (other p.turn))
 
   -- he doesn't stand where the king does or arrives
   not_from : a.from ≢ m.from
   not_from e = false≢true (sym (not_mine_enemy x p.turn is.mine)
-      ∙ ap (λ (o : Option Man). is_of_colour o (other p.turn)) (sym here ∙ ap (man_on p.men) (sym e) ∙ stood_a)
-      ∙ ap (λ (c : Colour). same_colour c (other p.turn)) enemy_a ∙ same_colour-refl (other p.turn))
+      ∙ ap (λ (o : Option Man). is_of_colour o (other p.turn)) (sym here ∙ ap (man_on p.men) (sym e) ∙ stood_a) ∙ enemy_a)
 
   not_to : a.from ≢ m.to
   not_to e = false≢true (sym barred.free ∙ rw (← e) (sym (hurdle_is a.from a.stands.small not_from) ∙ ap (λ (o : Option Man). is_some o) stood_a))
@@ -122,8 +108,7 @@ module _ (rule : RuleSet) (p : Position) (m : Move) (x : Man) (v : Siege) (well 
 
   strikes : is_attacker rule q.men m.to (other p.turn) a.from ≡ true
   unfolding is_attacker is_paralysed reached_over
-  strikes = and_from _ _ (and_from _ _ (ap (λ (o : Option Man). is_of_colour o (other p.turn)) there
-      ∙ ap (λ (c : Colour). same_colour c (other p.turn)) enemy_a ∙ same_colour-refl (other p.turn))
+  strikes = and_from _ _ (and_from _ _ (ap (λ (o : Option Man). is_of_colour o (other p.turn)) there ∙ enemy_a)
       (ap not (and_left (faced_men_stand_still rule) _ barred.able)))
       (able_strikes a.from q.men m.to a.man there (sym (reaches_alike (men_on v.hurdles) q.men a.man.colour a.man.kind a.from m.to alike) ∙ a.reaches))
 
@@ -134,4 +119,4 @@ module _ (rule : RuleSet) (p : Position) (m : Move) (x : Man) (v : Siege) (well 
 
   pub barred_is_illegal : is_legal rule p m ≡ true → ⊥
   unfolding is_legal
-  barred_is_illegal legal = not_both (is_pseudo_legal rule p m) (in_check rule q.men p.turn) legal checked
+  barred_is_illegal legal = grind (arith, checked, legal)

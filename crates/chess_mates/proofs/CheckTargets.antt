@@ -1,94 +1,65 @@
 -- A move that goes to no square from which its man may give check gives none.
-use Rattle.chess_mates.proofs.Chess.{AreCastlingTargets, AreCheckSquares, AreCheckTargets, Black, CheckSquares, Colour, IsMade, IsWellFormed, King, Man, Move, None, Pawn, Position, Rook, RuleSet, Some, White, agree_below_at, and_parts, ap, are_rebirths_quiet, arith, arrival_needed, bit_and, bit_at, bit_not, bit_or, cannot_expose, captures_do_more, cases_Bool, check_squares_for, enemy, every_square_on, false, false_by, halfway, implied, in_check, inl, inr, is_castling, is_legal, is_pseudo_legal, is_pseudo_legal-from_legal, is_some, is_square, is_two_files_aside, last_rank, made, man_on, may_check_from, may_expose, may_go, may_go_aimed, may_stand_between, nobody_moves, not, off_left, off_right, off_second, other, position_after, rank_of, refl, rule_of_checks, rules, same_kind, sym, true, w64, word, word_has, ℕ, ◌+◌, ◌/◌, ◌<◌, ◌==◌, ◌||◌, ◌∙◌, ◌≡◌}
+use Rattle.chess_mates.proofs.Chess.{AreCastlingTargets, AreCheckSquares, AreCheckTargets, Black, CheckSquares, Colour, IsMade, IsWellFormed, King, Man, Move, Pawn, Position, Rook, RuleSet, Some, White, agree_below_at, and_parts, ap, are_rebirths_quiet, arith, arrival_needed, bit_at, bit_or, cannot_expose, captures_do_more, cases_Bool, castling_steps, check_squares_for, enemy, false, false_by, halfway, implied, in_check, inl, inr, is_castling, is_pseudo_legal, is_pseudo_legal-from_legal, is_some, is_square, is_two_files_aside, last_rank, made, man_on, may_check_from, may_expose, may_go, may_go_aimed, may_stand_between, not, off_left, off_right, other, position_after, rank_of, refl, rules, same_kind, steps_to, sym, true, word, word_has, ℕ, ◌+◌, ◌/◌, ◌<◌, ◌==◌, ◌||◌, ◌∙◌, ◌≡◌}
 use Rattle.chess_rules.proofs.attacks.EvasionTargets.{plain_elsewhere}
-use Rattle.chess_mates.proofs.CastlingChecks.{castling_aside, castling_gives_no_check}
+use Rattle.chess_mates.proofs.CastlingChecks.{castling_gives_no_check}
 use Rattle.chess_mates.proofs.KingsApart.{kings_apart}
 use Rattle.chess_mates.proofs.Rebirths.{no_check_by_rebirth}
 use Rattle.chess_mates.proofs.Standing.{not_mine_enemy, unnamed}
 
 -- a pawn's last rank is in the word of both
 pub last_rank_on : (c : Colour) (t : ℕ) → t < 64 → (rank_of t == last_rank c) ≡ true → (bit_at 18374686479671623935 t == 1) ≡ true
-last_rank_on c t lt = implied (rank_of t == last_rank c) _ (agreed c) where
-  agreed : (c : Colour) → (not (rank_of t == last_rank c) || bit_at 18374686479671623935 t == 1) ≡ true
-  agreed White = agree_below_at (λ n. not (rank_of n == 8) || bit_at 18374686479671623935 n == 1) (λ _. true) 64 t refl lt
-  agreed Black = agree_below_at (λ n. not (rank_of n == 1) || bit_at 18374686479671623935 n == 1) (λ _. true) 64 t refl lt
-
--- nobody moves from an empty square
-pub check_targets_nobody : (rule : RuleSet) (p : Position) (f w : ℕ) → man_on p.men f ≡ None → AreCheckTargets rule p f w
-unfolding is_legal
-check_targets_nobody rule p f w none = search (rules, nobody_moves)
-
--- every square is in the word
-pub check_targets_all : (rule : RuleSet) (p : Position) (f : ℕ) → AreCheckTargets rule p f (bit_not w64 0)
-check_targets_all rule p f = search (rules, every_square_on)
+last_rank_on White t lt = implied _ _ (agree_below_at (λ n. not (rank_of n == 8) || bit_at 18374686479671623935 n == 1) (λ _. true) 64 t refl lt)
+last_rank_on Black t lt = implied _ _ (agree_below_at (λ n. not (rank_of n == 1) || bit_at 18374686479671623935 n == 1) (λ _. true) 64 t refl lt)
 
 -- off the words of the check squares, of the crossed square, of last ranks or castlings, and of the men where a rebirth may give check
 module _ (rule : RuleSet) (p : Position) (x : Man) (s : CheckSquares) (f : ℕ) (well : IsWellFormed p) (here : man_on p.men f ≡ Some x)
     (checks : AreCheckSquares p.men (other p.turn) s) (inside : f < 64) (covered : (bit_at s.shield_squares f == 1) ≡ false) (a b c d : ℕ)
     (checked_from : a ≡ check_squares_for s x.kind) (crossed : b ≡ word (λ t. is_square p.crossed t))
-    (promotes : same_kind x.kind Pawn ≡ true → c ≡ 18374686479671623935)
-    (castles : same_kind x.kind King ≡ true → AreCastlingTargets s f c)
+    (promotes : same_kind x.kind Pawn ≡ true → c ≡ 18374686479671623935) (castles : same_kind x.kind King ≡ true → AreCastlingTargets s f c)
     (reborn : are_rebirths_quiet rule p.men p.turn ≡ false → captures_do_more rule ≡ true → d ≡ word (λ t. is_some (man_on p.men t))) where
   module _ (m : Move) (at : m.from ≡ f) (small : m.to < 64) (may : is_pseudo_legal rule p m ≡ true)
       (apart : same_kind x.kind King ≡ true → may_check_from p.men (other p.turn) x m.to ≡ false)
       (off-lines : (bit_at (bit_or (bit_or (bit_or (bit_or a b) c) d) s.fairy_lines) m.to == 1) ≡ false) where
-    off : (bit_at (bit_or (bit_or (bit_or a b) c) d) m.to == 1) ≡ false
-    off = off_left (bit_or (bit_or (bit_or a b) c) d) s.fairy_lines m.to off-lines
+    -- off each of the words
+    off : ((bit_at a m.to == 1) ≡ false) × ((bit_at b m.to == 1) ≡ false) × ((bit_at c m.to == 1) ≡ false) × ((bit_at d m.to == 1) ≡ false)
+        × ((bit_at s.fairy_lines m.to == 1) ≡ false)
+    off = search (rules, off_left, off_right)
 
     aside : may_stand_between p.men (other p.turn) m.to ≡ false
-    aside =
-        sym (word_has (may_stand_between p.men (other p.turn)) s.fairy_lines m.to checks.fairy_lines small)
-        ∙ off_right (bit_or (bit_or (bit_or a b) c) d) s.fairy_lines m.to off-lines
+    aside = sym (word_has (may_stand_between p.men (other p.turn)) s.fairy_lines m.to checks.fairy_lines small) ∙ off.4
 
     is : IsMade rule p x m
     is = made rule p m x may (ap (man_on p.men) at ∙ here)
-
-    off-abc : (bit_at (bit_or (bit_or a b) c) m.to == 1) ≡ false
-    off-abc = off_left (bit_or (bit_or a b) c) d m.to off
-
-    off-c : (bit_at c m.to == 1) ≡ false
-    off-c = off_right (bit_or a b) c m.to off-abc
-
-    off-ab : (bit_at (bit_or a b) m.to == 1) ≡ false
-    off-ab = off_left (bit_or a b) c m.to off-abc
-
-    unpromoted : m.promo ≡ None
-    unpromoted = unnamed p x m m.promo (search (rules, and_parts, false_by, last_rank_on, off-c)) is.promotion
 
     origin_stays : may_expose p.men (other p.turn) m.from ≡ false
     origin_stays = rw at (sym (word_has (may_expose p.men (other p.turn)) s.shield_squares f checks.shield_squares inside) ∙ covered)
 
     -- a king that castles: the square halfway is none from which a rook gives check
     castled : is_castling x m ≡ true → in_check rule (position_after rule p m).men (other p.turn) ≡ false
+    unfolding steps_to
     castled y =
         let king : same_kind x.kind King ≡ true = (and_parts _ _ (and_parts _ _ y).0).0 in
-        let half : (m.from + m.to) / 2 < 64 = omega (arith, small, inside, at) in
-        let beside : is_two_files_aside f m.to ≡ true = ap (λ n. is_two_files_aside n m.to) (sym at) ∙ castling_aside x m small y in
+        let beside : is_two_files_aside f m.to ≡ true = grind (arith, castling_steps x m small y, at) in
         castling_gives_no_check rule p x m well is y (other p.turn) (not_mine_enemy x p.turn is.mine) origin_stays aside (apart king)
-        (sym (word_has (may_check_from p.men (other p.turn) (enemy (other p.turn) Rook)) s.straight (halfway m) checks.straight half)
-        ∙ ap (λ n. bit_at s.straight ((n + m.to) / 2) == 1) at ∙ (castles king).elsewhere m.to small beside off-c)
-
-    covering : is_castling x m ≡ false → cannot_expose (rule_of_checks rule p.men p.turn) p (other p.turn) m ≡ true
-    unfolding cannot_expose
-    covering no_castling =
-        grind (arith, plain_elsewhere, off_right, off-ab, off, is.here, origin_stays, aside, cases_Bool (are_rebirths_quiet rule p.men p.turn), reborn)
+        (sym (word_has (may_check_from p.men (other p.turn) (enemy (other p.turn) Rook)) s.straight (halfway m) checks.straight (omega arith))
+        ∙ ap (λ n. bit_at s.straight ((n + m.to) / 2) == 1) at ∙ (castles king).elsewhere m.to small beside off.2)
 
     no_check_elsewhere : in_check rule (position_after rule p m).men (other p.turn) ≡ false
+    unfolding cannot_expose
     no_check_elsewhere = elim (cases_Bool (is_castling x m)) [
       | inl y ↦ castled y
-      | inr n ↦
-          no_check_by_rebirth rule p x m s x a m.to well may is.here checks (rw unpromoted refl) checked_from refl small (off_left a b m.to off-ab) apart
-          unpromoted (covering n)
+      | inr n ↦ no_check_by_rebirth rule p x m s a well may is.here checks checked_from small off.0 apart
+          (unnamed p x m m.promo (search (rules, and_parts, false_by, last_rank_on, off)) is.promotion)
+          (grind (arith, plain_elsewhere, off, is.here, origin_stays, aside, cases_Bool (are_rebirths_quiet rule p.men p.turn), reborn))
     ]
 
   -- for a man who may check, uncover a check, castle, capture en passant or be followed by a rebirth: each by its own word
   pub check_targets_some : AreCheckTargets rule p f (bit_or (bit_or (bit_or (bit_or a b) c) d) s.fairy_lines)
   check_targets_some = grind (arith, no_check_elsewhere, is_pseudo_legal-from_legal, kings_apart)
 
--- the targets among the squares to which the man might go
-pub check_targets_there : (rule : RuleSet) (p : Position) (x : Man) (f o w : ℕ) → man_on p.men f ≡ Some x
-    → ((t : ℕ) → t < 64 → may_go p x f t ≡ true → (bit_at o t == 1) ≡ true) → AreCheckTargets rule p f w → AreCheckTargets rule p f (bit_and o w)
-check_targets_there rule p x f o w here there are = record {
-  elsewhere = λ m at small lawful off.
-      let may = is_pseudo_legal-from_legal rule p m lawful in grind (arith, arrival_needed rule p m small may, may, may_go_aimed, off_second, off);
+-- a word that lacks only targets to which the man can't go
+pub targets_lack : (rule : RuleSet) (p : Position) (x : Man) (f w v : ℕ) → man_on p.men f ≡ Some x → AreCheckTargets rule p f w
+    → ((t : ℕ) → t < 64 → may_go p x f t ≡ true → (bit_at v t == 1) ≡ false → (bit_at w t == 1) ≡ false) → AreCheckTargets rule p f v
+targets_lack rule p x f w v here are off = record {
+  elsewhere = λ m at lt legal none. let may = is_pseudo_legal-from_legal rule p m legal in grind (arith, arrival_needed rule p m lt may, may, may_go_aimed);
 }

@@ -1,78 +1,43 @@
 -- The squares from which a move may give check, by kinds.
-use Rattle.chess_mates.proofs.Chess.{AreCheckSquares, AreRides, Bishop, CheckSquares, Colour, IsWellFormed, Kind, King, List, Man, Move, None, Option, Position, Queen, Rook, RuleSet, Some, ap, arith, arriving_colour, arriving_man, bit_at, bit_not, bit_or, cannot_expose, cannot_expose_parts, cases_Bool, check_squares_for, diagonal-back, diagonal_steps, enemy, every_square, false, false≢true, in_check, inl, is_absent, is_fairy, is_pseudo_legal, king_square, king_there, list_any-append, made, man_on, may_check_from, may_check_from_at, not_zero, on_board, or_left, or_parts, other, other_twice, plain_safe, position_after, reaches_as, rules, same_kind, squares_either, squares_of, squares_same, straight-back, straight_steps, true, w64, word, word_empty, word_has, ℕ, ◌&&◌, ◌<◌, ◌==◌, ◌||◌, ◌∙◌, ◌≡◌}
+use Rattle.chess_mates.proofs.Chess.{AreCheckSquares, AreRides, Bishop, CheckSquares, Colour, IsWellFormed, Kind, King, List, Man, Move, None, Option, Position, Queen, Rook, RuleSet, Some, arith, bit_at, bit_or, cannot_expose, cannot_expose_parts, cases_Bool, check_squares_for, diagonal-back, diagonal_steps, enemy, false, false≢true, in_check, inl, is_attacked, is_man, is_pseudo_legal, king_square, king_there, list_any-append, made, man_on, may_check_from, on_board, or_parts, other, other_twice, plain_safe, position_after, reaches_as, rules, same_kind, squares_either, squares_same, straight-back, straight_steps, true, word, word_has, ℕ, ◌<◌, ◌==◌, ◌∙◌, ◌≡◌}
 
--- a move that can't expose the enemy's king, and whose man doesn't strike him where he arrives, gives no check
-gives_no_check : (rule : RuleSet) (p : Position) (x : Man) (m : Move) → IsWellFormed p → is_pseudo_legal rule p m ≡ true → m.to < 64
-    → man_on p.men m.from ≡ Some x
-    → m.promo ≡ None → cannot_expose rule p (other p.turn) m ≡ true → may_check_from p.men (other p.turn) (arriving_man x m.promo) m.to ≡ false
-    → in_check rule (position_after rule p m).men (other p.turn) ≡ false
-unfolding may_check_from
-gives_no_check rule p x m well may small here unpromoted h off =
-    let parts = cannot_expose_parts rule p x (other p.turn) m here h in
-    plain_safe rule p x m (other p.turn) well (made rule p m x may here) small parts.plain parts.origin parts.aside (grind (arith, or_parts, on_board))
+-- a king whom nobody attacks where he stands isn't in check
+pub unchecked : (rule : RuleSet) (men : List (Option Man)) (c : Colour)
+    → ((k : ℕ) → k < 64 → is_man (man_on men k) c King ≡ true → is_attacked rule men k (other c) ≡ false) → in_check rule men c ≡ false
+unfolding in_check
+unchecked rule men c none = grind (arith, king_there)
 
--- for `check_squares_of`: without a king nobody checks
-pub check_squares_of_none : (men : List (Option Man)) (c : Colour) (j : Kind) → king_square men c ≡ None → 0 ≡ word (may_check_from men c (enemy c j))
-unfolding may_check_from
-check_squares_of_none men c j h = word_empty (may_check_from men c (enemy c j)) (λ s b. ap (λ (o : Option ℕ). may_check_from_at men o (enemy c j) s) h)
-
--- a fairy man of whom none stands there may check from everywhere
-pub check_squares_of_all : (men : List (Option Man)) (c : Colour) (j : Kind) (k : ℕ) → king_square men c ≡ Some k → is_absent men (enemy c j) ≡ true
-    → bit_not w64 0 ≡ word (may_check_from men c (enemy c j))
-unfolding may_check_from
-check_squares_of_all men c j k at absent = grind (arith, every_square, or_left)
-
--- another checks from where he would be reached from the king
-pub check_squares_of_some : (men : List (Option Man)) (c : Colour) (j : Kind) (k w : ℕ) → king_square men c ≡ Some k → is_absent men (enemy c j) ≡ false
-    → w ≡ word (λ s. reaches_as men (other c) j s k) → w ≡ word (may_check_from men c (enemy c j))
-unfolding may_check_from
-check_squares_of_some men c j k w at present h = grind (arith, squares_same)
-
--- a rook checks from where he would get from the king
+-- a rook checks from where he would get from the king, and a bishop
 pub rook_squares : (men : List (Option Man)) (c : Colour) (k w : ℕ) → king_square men c ≡ Some k → w ≡ word (may_check_from men c (enemy c Rook))
     → AreRides men (other c) Rook straight_steps k w
 unfolding may_check_from reaches_as
 rook_squares men c k w at h = inl (h ∙ squares_same _ _ (λ t small. rw at (straight-back men t k small (king_there men c k at).0)))
 
--- and a bishop
 pub bishop_squares : (men : List (Option Man)) (c : Colour) (k w : ℕ) → king_square men c ≡ Some k → w ≡ word (may_check_from men c (enemy c Bishop))
     → AreRides men (other c) Bishop diagonal_steps k w
 unfolding may_check_from reaches_as
 bishop_squares men c k w at h = inl (h ∙ squares_same _ _ (λ t small. rw at (diagonal-back men t k small (king_there men c k at).0)))
 
--- whether no such fairy man stands on the board, told by the word of his kind
-pub absent_is : (men : List (Option Man)) (c : Colour) (j : Kind) (w : ℕ) → w ≡ squares_of men c j
-    → (is_fairy j && (w == 0)) ≡ is_absent men (record { colour = c; kind = j })
-unfolding squares_of
-absent_is men c j w h = grind (arith, not_zero)
-
 -- a queen's squares are a rook's and a bishop's
-queen_on : (men : List (Option Man)) (c : Colour) (o : Option ℕ) (s : ℕ)
-    → (may_check_from_at men o (enemy c Rook) s || may_check_from_at men o (enemy c Bishop) s) ≡ may_check_from_at men o (enemy c Queen) s
-unfolding reaches_as
-queen_on men c o s = grind (arith, list_any-append)
-
 queen_squares : (men : List (Option Man)) (c : Colour) (r b : ℕ) → r ≡ word (may_check_from men c (enemy c Rook))
     → b ≡ word (may_check_from men c (enemy c Bishop)) → bit_or r b ≡ word (may_check_from men c (enemy c Queen))
-unfolding may_check_from
+unfolding may_check_from reaches_as
 queen_squares men c r b h i =
-    grind (arith, squares_either (may_check_from men c (enemy c Rook)) (may_check_from men c (enemy c Bishop)), squares_same, queen_on)
+    grind (arith, squares_either (may_check_from men c (enemy c Rook)) (may_check_from men c (enemy c Bishop)), squares_same, list_any-append)
 
 squares_by_kind : (men : List (Option Man)) (c : Colour) (s : CheckSquares) (j : Kind) → AreCheckSquares men c s
     → same_kind j King ≡ false → check_squares_for s j ≡ word (may_check_from men c (enemy c j))
 squares_by_kind men c s j a piece = search (rules, false≢true, queen_squares)
 
--- a man off the squares of his kind gives no check by standing there; of a king that has to be known
-off_check_squares : (men : List (Option Man)) (e : Colour) (s : CheckSquares) (y : Man) (w t : ℕ) → AreCheckSquares men (other e) s
-    → y.colour ≡ e → w ≡ check_squares_for s y.kind → t < 64 → (bit_at w t == 1) ≡ false
-    → (same_kind y.kind King ≡ true → may_check_from men (other e) y t ≡ false) → may_check_from men (other e) y t ≡ false
-off_check_squares men e s y w t a colour h small off apart =
-    grind (arith, cases_Bool (same_kind y.kind King), squares_by_kind men (other e) s y.kind a, other_twice e, word_has (may_check_from men (other e) y) w t)
-
 -- for moves that may uncover nothing, to a square off the words of check squares
-pub no_check : (rule : RuleSet) (p : Position) (x : Man) (m : Move) (s : CheckSquares) (y : Man) (w t : ℕ) → IsWellFormed p → is_pseudo_legal rule p m ≡ true
-    → man_on p.men m.from ≡ Some x → AreCheckSquares p.men (other p.turn) s → y ≡ arriving_man x m.promo → w ≡ check_squares_for s y.kind → t ≡ m.to → t < 64
-    → (bit_at w t == 1) ≡ false → (same_kind y.kind King ≡ true → may_check_from p.men (other p.turn) y t ≡ false) → m.promo ≡ None
-    → cannot_expose rule p (other p.turn) m ≡ true → in_check rule (position_after rule p m).men (other p.turn) ≡ false
-no_check rule p x m s y w t well may here a is h same small off apart unpromoted cover =
-    grind (arith, off_check_squares, gives_no_check, arriving_colour x m.promo, made rule p m x may here)
+pub no_check : (rule : RuleSet) (p : Position) (x : Man) (m : Move) (s : CheckSquares) (w : ℕ) → IsWellFormed p → is_pseudo_legal rule p m ≡ true
+    → man_on p.men m.from ≡ Some x → AreCheckSquares p.men (other p.turn) s → w ≡ check_squares_for s x.kind → m.to < 64 → (bit_at w m.to == 1) ≡ false
+    → (same_kind x.kind King ≡ true → may_check_from p.men (other p.turn) x m.to ≡ false) → m.promo ≡ None → cannot_expose rule p (other p.turn) m ≡ true
+    → in_check rule (position_after rule p m).men (other p.turn) ≡ false
+unfolding may_check_from
+no_check rule p x m s w well may here a h small off apart unpromoted cover =
+    let parts = cannot_expose_parts rule p x (other p.turn) m here cover in
+    let is = made rule p m x may here in
+    let check = may_check_from p.men (other p.turn) x in
+    let calm : check m.to ≡ false = grind (arith, cases_Bool, squares_by_kind p.men (other p.turn) s x.kind a, other_twice p.turn, word_has check w m.to) in
+    plain_safe rule p x m (other p.turn) well is small parts.plain parts.origin parts.aside (grind (arith, calm, or_parts, on_board))

@@ -14,42 +14,41 @@ unfoldable pub use Rattle.chess_mates.specs.ties.Flights.{has_flight, is_open, i
 pub use Rattle.chess_mates.specs.ties.Mates.{IsNextMate, allows_mate, is_mating}
 unfoldable pub use Rattle.chess_mates.specs.ties.Mates.{mates, mates_behind, mates_between}
 pub use Rattle.chess_rules.proofs.Bits.{every_square, not_zero, off_left, off_right, on_left, on_right, word_empty, word_has}
-pub use Rattle.chess_rules.proofs.Tests.{all_kept, any_kept, implied, some_is, find_no}
+pub use Rattle.chess_rules.proofs.Tests.{all_kept, any_kept, implied, some_is, find_no, same_Bool}
 pub use Rattle.chess_rules.proofs.attacks.Exposing.{king_is_after, king_stays_king, IsSimple, captures_arrival, check_is, exposed_is}
 pub use Rattle.chess_rules.proofs.attacks.Seeing.{king_stands, there_now, gone_to, is_occupied_after, kept_now, left_now, no_man, occupied_now, occupied_words}
-pub use Rattle.chess_rules.proofs.attacks.Shielding.{arriving_colour, cannot_expose_parts, king_is, man_there, moved_plainly, not_attacked, other_differs, other_twice, plain_safe, simple_after, unreborn_after, IsCovered, IsShift, covered_parts, frees, gone_shift, line_before, not_parted, shield_squares_none, stood, unreached}
+pub use Rattle.chess_rules.proofs.attacks.Shielding.{arriving_colour, cannot_expose_parts, king_is, man_there, moved_plainly, not_attacked, other_differs, other_twice, plain_safe, simple_after, unreborn_after, IsCovered, IsShift, covered_parts, frees, gone_shift, line_before, not_parted, stood, unreached}
 pub use Rattle.chess_rules.proofs.attacks.StayingInCheck.{king_there}
 pub use Rattle.chess_rules.proofs.listing_moves.Arrivals.{may_go_aimed, no_steps}
 pub use Rattle.chess_rules.proofs.listing_moves.Calls.{is_pseudo_legal-from_legal}
 pub use Rattle.chess_rules.proofs.listing_moves.Places.{moves_behind-end, moves_behind-here, moves_behind-start, place_of_triple}
-pub use Rattle.chess_rules.proofs.listing_moves.Targeting.{arrival_needed, castling_steps, every_square_on, false_by, nobody_moves, own_moves}
+pub use Rattle.chess_rules.proofs.listing_moves.Targeting.{arrival_needed, castling_steps, every_square_on, false_by, nobody_moves, own_moves, no_pawn_arrives}
 pub use Rattle.chess_rules.proofs.listing_moves.Walks.{candidates, no_candidates, off_second, off_zero, on_first}
 pub use Rattle.chess_rules.proofs.making_moves.Fits.{arrived, arrived_other, arriving_king, can_move, capture_of_piece, castle_of, corner_stays, king_no_step, no_capture, pawn_is_no_king, taken}
 pub use Rattle.chess_rules.proofs.making_moves.Pseudo.{IsCastle, IsMade, king_is_no_pawn, made, on_board, pawn_goes, ways}
 pub use Rattle.chess_rules.proofs.making_moves.Stays.{IsReborn, after_well_formed, captured_enemy, captured_mortal, maker, man_on-with_cases, move_man_other, moved_sound, rebirth_small, reborn_is}
-pub use Rattle.chess_rules.proofs.rays.Ends.{square_is, back, return_square, stays}
+pub use Rattle.chess_rules.proofs.rays.Ends.{square_is, back, return_square}
 pub use Rattle.chess_rules.proofs.rays.Flips.{diagonal-back, king-back, straight-back, reaches_back}
-pub use Rattle.chess_rules.proofs.Basics.{Bool, List, None, Option, Some, [], agree_below, agree_below_at, and_from, and_left, and_parts, and_right, ap, append_cancel_right, arith, bit_and, bit_at, bit_at-lt, bit_at-zero, bit_at_and, bit_at_or, bit_not, bit_or, cases_Bool, cases_eq, cases_lt, cond-false, cond-true, eq-eqb, eqb-true, false, false_from_ne_true, false≢true, filter, filter-append, find, get_or-map-range_with_len, if◌then◌else◌, inl, inr, is_some, length, length-map-range_with_len, length-set, list_all, list_any, list_any-append, map, ne_eqb, not, not-true, or_cases, or_from, or_left, or_lt, or_parts, or_right, range_with_len, refl, rules, subst, suc, sym, true, true_from_ne_false, w64, zero, ℕ, ◌%◌, ◌&&◌, ◌*◌, ◌++◌, ◌+◌, ◌-◌, ◌/◌, ◌<◌, ◌==◌, ◌^◌, ◌||◌, ◌∙◌, ◌∷◌, ◌≡◌, ◌≢◌, ◌≤◌, ◌⊎◌}
-pub use Rattle.chess_mates.specs.ties.Siege.{AreAdjacent, AreArrivals, AreCaptureSquares, AreCastlingSquares, AreClosed, AreFree, AreGuardsWithout, AreHomes, AreHomesOf, AreHurdles, AreReached, AreSpringboards, AreSprings, AreThreats, AreWeak, IsArrival, IsAttackedOver, IsBarred, IsCaptured, IsCastlingHarmless, IsCheckWord, IsField, IsFlight, IsHarmless, IsHome, IsHurdle, IsMet, IsNear, IsNoCheck, IsOff, IsQuiet, IsReached, IsReachedFrom, IsRiskAt, IsSafeMove, IsSafeStep, IsSettledStep, IsShut, IsShutAt, IsSiege, IsSiegeOf, IsSparedStep, IsSprung, IsUnguarded, IsUnsprung, IsWeak, IsWeakAt, IsWhole, KeepsFlight, KeepsFlightBeside, LeavesOne, MayRide, is_leaper, is_rider, men_on}
+pub use Rattle.chess_rules.proofs.Basics.{Bool, List, None, Option, Some, [], agree_below, agree_below_at, and_from, and_left, and_parts, and_right, ap, append_cancel_right, arith, bit_and, bit_at, bit_at-lt, bit_at_and, bit_at_or, bit_not, bit_or, cases_Bool, cases_eq, cases_lt, cond-false, cond-true, eq-eqb, eqb-true, false, false_from_ne_true, false≢true, filter, filter-append, find, get_or-map-range_with_len, if◌then◌else◌, inl, inr, is_some, length, length-map-range_with_len, length-set, list_all, list_any, list_any-append, map, ne_eqb, not, not-true, or_cases, or_from, or_left, or_lt, or_parts, or_right, range_with_len, refl, rules, subst, suc, sym, true, true_from_ne_false, w64, zero, ℕ, ◌%◌, ◌&&◌, ◌*◌, ◌++◌, ◌+◌, ◌-◌, ◌/◌, ◌<◌, ◌==◌, ◌^◌, ◌||◌, ◌∙◌, ◌∷◌, ◌≡◌, ◌≢◌, ◌≤◌, ◌⊎◌}
+pub use Rattle.chess_rules.proofs.HoldBelow.{HoldBelow, hold_all, hold_map, hold_next, hold_on}
+pub use Rattle.chess_mates.specs.ties.Siege.{AreAdjacent, AreArrivals, AreCaptureSquares, AreCastlingSquares, AreClosed, AreFree, AreGuardsWithout, AreHomes, AreHomesOf, AreHurdles, AreReached, AreSpringboards, AreSprings, AreThreats, AreWeak, IsArrival, IsAttackedOver, IsBarred, IsCaptured, IsCastlingHarmless, IsCheckWord, IsField, IsFlight, IsHarmless, IsHome, IsHurdle, IsLike, IsNear, IsNoCheck, IsOff, IsQuiet, IsReached, IsReachedFrom, IsRiskAt, IsSafeMove, IsSafeStep, IsSettledStep, IsShut, IsShutAt, IsSiege, IsSiegeOf, IsSparedStep, IsSprung, IsUnguarded, IsUnsprung, IsWeak, IsWeakAt, IsWhole, KeepsFlight, KeepsFlightBeside, LeavesOne, MayRide, is_leaper, is_rider, men_on}
 unfoldable pub use Rattle.chess_mates.specs.ties.Siege.{reached_over}
 pub use Rattle.chess_mates.specs.ties.LastingFlights.{AreApproached, AreGuarded, AreNear, IsLeft, KeepsOne, LeaveOne}
 pub use Rattle.chess_mates.specs.ties.Attackers.{AreAttackers, IsAttacker, squares_for}
-pub use Rattle.chess_mates.specs.declared.attackers.Attackers.{Attackers}
-pub use Rattle.chess_mates.specs.ties.Threats.{AreCapturers, AreMere, ArePlain, AreRisky, AreThreatsOf, IsMereMove, IsPassing, IsPlainMove, ToldThreats}
-pub use Rattle.chess_rules.proofs.attacks.Attacking.{attacked_plainly, goes_on, some_square_same}
 pub use Rattle.chess_core.specs.Steps.{is_hopper}
+pub use Rattle.chess_mates.specs.ties.Threats.{AreCapturers, AreMere, ArePlain, AreRisky, AreThreatsOf, IsMereMove, IsPassing, IsPlainMove, ToldThreats}
 pub use Rattle.chess_mates.specs.declared.siege.Siege.{Siege}
-pub use Rattle.std.proofs.Common.{IfSome, ap₂}
+pub use Rattle.chess_rules.proofs.rays.Landing.{StandAlike, any_false, no_reach_there, not_yet, reaches_alike}
+pub use Rattle.chess_rules.proofs.attacks.Attacking.{attacked_plainly, goes_on, some_square_same}
+pub use Rattle.chess_mates.specs.declared.attackers.Attackers.{Attackers}
+pub use Rattle.chess_rules.proofs.theorems.Moves.{legal_moves_are_triples, moves_are_the_legal_moves, moves_are_the_legal_triples}
 pub use Rattle.std.proofs.lemmas.Nat.Bits.{bit_at_above, bit_at_cat_high, bit_at_cat_low, bit_at_not}
-pub use Rattle.chess_mates.specs.declared.risk.Risk.{Risk}
-pub use Rattle.chess_rules.proofs.theorems.Moves.{legal_moves_are_triples, moves_are_the_legal_moves}
+pub use Rattle.std.proofs.Common.{IfSome}
 pub use Rattle.chess_mates.specs.declared.field.Field.{Field}
-pub use Rattle.chess_rules.proofs.rays.Ahead.{Ordered, onward, ordered, passes}
+pub use Rattle.chess_mates.specs.declared.risk.Risk.{Risk}
+pub use Rattle.std.specs.Prelude.{min}
 pub use Rattle.std.proofs.lemmas.Bool.{not-false}
-pub use Rattle.chess_core.proofs.Ranges.{all_range_true, any_range_true, second_fails}
-pub use Rattle.chess_rules.proofs.making_moves.Plays.{length-without_at, none_from_is_some}
+unfoldable pub use Rattle.chess_rules.specs.Play.{unmoved_after}
 pub use Rattle.chess_rules.specs.ties.Sight.{is_simple}
-pub use Rattle.chess_core.specs.Castling.{without_unmoved}
-pub use Rattle.chess_rules.proofs.rays.Ways.{Hop, hop-found, ride-made}
-pub use Rattle.chess_rules.proofs.attacks.FairyLines.{Holds, IsBeside, IsNoHurdle, hop_kept, knight_directions, queen_directions, ride_kept}
-pub use Rattle.chess_rules.specs.ties.Places.{per_arrival, per_origin}
+pub use Rattle.chess_rules.proofs.rays.Ahead.{onward, ordered, passes}
+pub use Rattle.chess_rules.proofs.rays.Ways.{Hop, hop-found, ride-found, ride-made}

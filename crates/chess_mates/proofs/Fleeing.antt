@@ -1,39 +1,21 @@
 -- A flight after a move, told by the men that an attack on it sees.
-use Rattle.chess_mates.proofs.Chess.{AreOpen, AreSteps, Bool, Colour, IsMade, IsSafe, IsSeenFrom, IsSimple, IsWellFormed, King, List, Man, Move, None, Option, Pawn, Position, RuleSet, Some, after_well_formed, all_triples, and_from, and_left, and_parts, and_right, any_range_cases, any_range_false, ap, ap₂, arith, arrived, arriving_colour, arriving_king, arriving_man, bit_and, bit_at, bit_at-lt, bit_at_and, bit_not, bit_or, capture_of_piece, capture_square, captures_arrival, captures_do_more, cases_Bool, cases_eq, check_is, cond-false, cond-true, differs, eq-eqb, eqb-true, false, false_from_ne_true, false≢true, first_of_and, gone_to, has_flight, inl, inr, is_arrival_free, is_attacked, is_flight, is_flight_at, is_legal, is_man, is_mate, is_nil, is_occupied_after, is_of_colour, is_open, is_paralysed, is_pseudo_legal, is_reached, is_some, is_square, kept_now, king_after, king_is_no_pawn, king_no_step, king_square, king_stands, king_there, leaps, left_now, length, list_any, made, man_on, man_there, mates, moves, moves_behind, moves_behind-here, moves_behind-start, no_capture, none_from_is_some, not, not-true, not_attacked, occupied_now, occupied_squares, on_first, or_cases, or_left, or_parts, or_right, other, other_differs, other_twice, per_arrival, per_origin, position_after, queen_steps, reaches, reaches_as, reaches_of, refl, rules, same_colour, same_colour-true, same_kind, side_of, sight_lifted, simple_after, some_square, some_square_same, some_square_true, square_is, squares, squares_both, squares_either, squares_not, squares_of, suc, sym, taken, there_now, triple_at, true, w64, without_man, word, word_has, zero, ℕ, ◌&&◌, ◌*◌, ◌+◌, ◌<◌, ◌==◌, ◌||◌, ◌∙◌, ◌≡◌, ◌≢◌}
-use Rattle.chess_mates.proofs.Landing.{StandAlike, no_reach_there, reaches_alike}
+use Rattle.chess_mates.proofs.Chess.{AreOpen, AreSteps, Bool, Colour, IsMade, IsSafe, IsSeenFrom, IsSimple, IsWellFormed, King, List, Man, Move, None, Option, Position, RuleSet, Some, StandAlike, after_well_formed, and_from, and_left, and_parts, and_right, any_range_cases, any_range_false, arith, arrived, arriving_colour, arriving_king, arriving_man, bit_and, bit_at, bit_at-lt, bit_at_and, bit_not, bit_or, capture_of_piece, capture_square, captures_arrival, captures_do_more, cases_Bool, cases_eq, check_is, cond-false, cond-true, eq-eqb, eqb-true, false, false_from_ne_true, false≢true, first_of_and, gone_to, has_flight, inl, inr, is_arrival_free, is_attacked, is_flight, is_flight_at, is_legal, is_man, is_mate, is_nil, is_of_colour, is_open, is_paralysed, is_pseudo_legal, is_reached, is_some, is_square, kept_now, king_is_no_pawn, king_no_step, king_square, king_stands, king_there, leaps, left_now, length, list_any, made, man_on, man_there, mates, moves, moves_are_the_legal_triples, no_capture, no_reach_there, not, not-true, not_attacked, occupied_now, occupied_squares, on_first, or_cases, or_left, or_parts, other, other_differs, other_twice, position_after, queen_steps, reaches, reaches_alike, reaches_as, reaches_of, refl, rules, same_colour, same_colour-true, same_kind, side_of, sight_lifted, simple_after, some_square, some_square_same, some_square_true, square_is, squares, squares_both, squares_either, squares_not, squares_of, sym, taken, there_now, true, w64, without_man, word, word_has, ℕ, ◌&&◌, ◌<◌, ◌==◌, ◌||◌, ◌∙◌, ◌≡◌, ◌≢◌}
+use Rattle.chess_rules.proofs.listing_moves.Triples.{nothing_in}
 use Rattle.chess_mates.proofs.Mating.{turn_after}
-use Rattle.chess_rules.proofs.listing_moves.Places.{moves_behind-skip}
 use Rattle.chess_mates.proofs.Stepping.{IsStep, arrival_alike, lifted_alike, lifted_words, occupied_lifted, same_elsewhere, seen_stepped, stands_arrived, stepped}
-
--- a legal move is one of the moves
-some_left : (rule : RuleSet) (p : Position) (n : ℕ) → n < all_triples → is_legal rule p (triple_at n) ≡ true → (j a : ℕ) → a + j ≡ n
-    → is_nil (moves_behind rule p a) ≡ false
-some_left rule p n lt h zero a e = search (rules, moves_behind-here)
-some_left rule p n lt h (suc j) a e = grind (arith, cases_Bool, moves_behind-here, moves_behind-skip, some_left rule p n lt h j (a + 1) (omega (arith, e)))
-
-triple_there : (k t : ℕ) → t < 64 → triple_at (k * per_origin + t * per_arrival) ≡ record { from = k; to = t; promo = None }
-unfolding triple_at
-triple_there k t there = search rules
-
-some_legal : (rule : RuleSet) (p : Position) (k t : ℕ) → k < 64 → t < 64 → is_legal rule p (record { from = k; to = t; promo = None }) ≡ true
-    → is_nil (moves rule p) ≡ false
-some_legal rule p k t small there h =
-    ap is_nil (sym (moves_behind-start rule p))
-    ∙ some_left rule p (k * per_origin + t * per_arrival) (omega (arith, small, there)) (ap (is_legal rule p) (triple_there k t there) ∙ h)
-    (k * per_origin + t * per_arrival) 0 (omega arith)
 
 -- a side with a flight isn't mated
 flight_is_legal : (rule : RuleSet) (p : Position) (o : Option ℕ) (t : ℕ) → king_square p.men p.turn ≡ o → t < 64 → is_flight_at rule p o t ≡ true
     → is_nil (moves rule p) ≡ false
 flight_is_legal rule p None t at small h = absurd (false≢true h)
-flight_is_legal rule p (Some k) t at small h = some_legal rule p k t (king_there p.men p.turn k at).0 small h
+flight_is_legal rule p (Some k) t at small h = false_from_ne_true _ (λ none.
+    nothing_in (moves rule p) none _ ((moves_are_the_legal_triples rule p _).1 (((king_there p.men p.turn k at).0, small, search rules), h)))
 
 flight_there : (rule : RuleSet) (p : Position) → has_flight rule p ≡ true → is_nil (moves rule p) ≡ false
 unfolding has_flight is_flight some_square squares
-flight_there rule p h = elim (any_range_cases (λ t. is_flight_at rule p (king_square p.men p.turn) t) 0 64) [
-  | inl w ↦ flight_is_legal rule p (king_square p.men p.turn) w.0 refl (omega (arith, w.2)) w.3
-  | inr none ↦ absurd (false≢true (sym (any_range_false (λ t. is_flight_at rule p (king_square p.men p.turn) t) 0 64 none) ∙ h))
-]
+flight_there rule p h =
+    let flight = is_flight_at rule p (king_square p.men p.turn) in
+    grind (arith, any_range_cases flight 0 64, any_range_false flight 0 64, flight_is_legal rule p (king_square p.men p.turn), false≢true)
 
 -- for moves behind which a flight is left
 pub no_mate_with_flight : (rule : RuleSet) (p : Position) (m : Move) → has_flight rule (position_after rule p m) ≡ true → false ≡ mates rule p m
@@ -44,10 +26,7 @@ no_mate_with_flight rule p m h = search (rules, flight_there)
 pub no_king_free : (c d : Colour) (o : Option Man) → is_arrival_free c o ≡ true → is_man o d King ≡ false
 no_king_free c d o h = grind (arith, and_parts, and_right, not-true)
 
-no_own_free : (c : Colour) (o : Option Man) → is_arrival_free c o ≡ true → is_of_colour o c ≡ false
-no_own_free c o h = grind (arith, not-true, and_parts)
-
--- squares of one word that aren't in another
+-- a square of two words is one of the second
 pub on_second : (a b i : ℕ) → (bit_at (bit_and a b) i == 1) ≡ true → (bit_at b i == 1) ≡ true
 on_second a b i h = search (rules, bit_at-lt, bit_at_and, eq-eqb, eqb-true)
 
@@ -55,138 +34,74 @@ on_second a b i h = search (rules, bit_at-lt, bit_at_and, eq-eqb, eqb-true)
 pub unseen_bit : (test : ℕ → Bool) (n w t : ℕ) → w ≡ word test → t < 64 → (bit_at (bit_and n (bit_not w64 w)) t == 1) ≡ true → (bit_at w t == 1) ≡ false
 unseen_bit test n w t h small on = search (rules, on_second, squares_not, word_has)
 
--- the squares to which a king may step, attacks apart: the test by words says it of men that stay, are gone, or have come
-if_stays : (c : Colour) (o : Option Man) (h a : Bool) → (a || h) ≡ false
-    → not ((is_of_colour o (other c) && (not h && not a)) || is_man o c King) ≡ is_arrival_free (other c) o
-if_stays c None h a off = refl
-if_stays c (Some y) h a off = grind (arith, cases_Bool (same_kind y.kind King), or_parts)
+-- and for one of the first that the test leaves out
+pub seen_bit : (test : ℕ → Bool) (n w t : ℕ) → w ≡ word test → t < 64 → (bit_at n t == 1) ≡ true → (bit_at w t == 1) ≡ false
+    → (bit_at (bit_and n (bit_not w64 w)) t == 1) ≡ true
+seen_bit test n w t h small on off = search (rules, bit_at_and, eq-eqb, eqb-true, squares_not, word_has)
 
-arrived_free : (c : Colour) (z : Man) → same_colour z.colour (other c) ≡ false → same_kind z.kind King ≡ false → is_arrival_free (other c) (Some z) ≡ true
-arrived_free c z side king = and_from (not (same_colour z.colour (other c))) _ (ap not side) (ap not king)
-
-if_gone : (i o a k : Bool) → (a || o) ≡ true → k ≡ false → not ((i && (not o && not a)) || k) ≡ true
-if_gone i o a k h n = grind arith
-
-if_comes : (i o a k : Bool) → (i ≡ true → o ≡ true) → k ≡ false → not ((i && (not o && not a)) || k) ≡ true
-if_comes i o a k h n = grind arith
-
+-- where a side stands somebody stands
 pub some_of_colour : (o : Option Man) (c : Colour) → is_of_colour o c ≡ true → is_some o ≡ true
 some_of_colour o c h = grind arith
-
-closed_words : (p : Position) (a : ℕ) (o : Option ℕ) (c : Colour) (w n : ℕ) → w ≡ side_of p.men (other c) → n ≡ squares_of p.men c King → (l : ℕ)
-    → l ≡ bit_and (bit_not w64 (word (is_square o))) (bit_not w64 (word (is_square (Some a))))
-    → bit_or (bit_and w l) n ≡ word (λ s. (is_of_colour (man_on p.men s) (other c) && (not (is_square o s) && not (a == s))) || is_man (man_on p.men s) c King)
-unfolding side_of squares_of
-closed_words p a o c w n side kings l standing = search (rules, squares_both, squares_either, squares_not)
 
 -- a king reaches the squares of his leaps
 pub reached_near : (men : List (Option Man)) (c : Colour) (k w t : ℕ) → w ≡ word (λ t. list_any (leaps k t) queen_steps) → t < 64 → (bit_at w t == 1) ≡ true
     → reaches_as men c King k t ≡ true
 unfolding reaches_as
-reached_near men c k w t h small on = sym (word_has (λ t. list_any (leaps k t) queen_steps) w t h small) ∙ on
+reached_near men c k w t h small on = search (rules, word_has)
 
-and_also : (a b : Bool) → b ≡ true → a ≡ (a && b)
-and_also a b h = grind arith
-
-both_bits : (a b i : ℕ) → (bit_at a i == 1) ≡ true → (bit_at b i == 1) ≡ true → (bit_at (bit_and a b) i == 1) ≡ true
-both_bits a b i x y = search (rules, bit_at_and, eq-eqb, eqb-true)
-
--- and for one of the first that the test leaves out
-pub seen_bit : (test : ℕ → Bool) (n w t : ℕ) → w ≡ word test → t < 64 → (bit_at n t == 1) ≡ true → (bit_at w t == 1) ≡ false
-    → (bit_at (bit_and n (bit_not w64 w)) t == 1) ≡ true
-seen_bit test n w t h small on off = search (rules, both_bits, squares_not, word_has)
-
-first_false : (a b : Bool) → (a && b) ≡ false → b ≡ true → a ≡ false
-first_false a b h e = grind arith
+-- the king of the side that waits stays where he stood
+pub king_waits : (rule : RuleSet) (p : Position) (x : Man) (m : Move) (c : Colour) → IsWellFormed p → IsMade rule p x m → m.to < 64 → c ≡ other p.turn
+    → king_square (arrived p x m) c ≡ king_square p.men c
+king_waits rule p x m c well is small e = king_stands p.men m.from (capture_square p x m) m.to (arriving_man x m.promo) c (record {
+  small = omega (arith, small, well.size);
+  here = grind (arith, is, other_differs, and_left);
+  comes = grind (arith, is, arriving_colour x m.promo, other_differs, and_left);
+  arrival = no_king_free p.turn c (man_on p.men m.to) is.arrival;
+  captured = λ s at. grind (arith, taken rule p x m s well is (square_is (capture_square p x m) s at), and_right);
+})
 
 -- the men after the move, and the king among them
 module _ (rule : RuleSet) (p : Position) (m : Move) (x : Man) (k : ℕ) (i : IsSeenFrom rule p m x k) where
   pub is_made : IsMade rule p x m
   is_made = made rule p m x i.pseudo i.here
 
-  simply : IsSimple rule p x m
-  simply = let h = i.simple in grind (arith, and_parts, not-true)
-
   pub after_seen : (position_after rule p m).men ≡ arrived p x m
-  after_seen = simple_after rule p x m i.here simply.castling simply.rebirth
-
-  no_king_arrives : same_kind x.kind King ≡ false → same_kind (arriving_man x m.promo).kind King ≡ false
-  no_king_arrives mortal = search (rules, false_from_ne_true, false≢true, arriving_king, is_made)
+  after_seen = search (rules, simple_after, i.simple, and_parts, not-true)
 
   pub no_own_arrives : same_colour (arriving_man x m.promo).colour (other p.turn) ≡ false
-  no_own_arrives = ap (λ (c : Colour). same_colour c (other p.turn)) (arriving_colour x m.promo ∙ is_made.mine) ∙ other_differs p.turn
-
-  -- no king leaves his square, unless he goes
-  no_king_left : (c : Colour) (t : ℕ) → is_man (Some x) c King ≡ false → (m.from == t || is_square (capture_square p x m) t) ≡ true
-      → is_man (man_on p.men t) c King ≡ false
-  no_king_left c t stays gone = elim (or_cases (m.from == t) (is_square (capture_square p x m) t) gone) [
-    | inl from ↦
-        ap (λ (o : Option Man). is_man o c King) (ap (man_on p.men) (sym (eqb-true m.from t from)) ∙ i.here) ∙ stays
-    | inr there ↦
-        let w = taken rule p x m t i.well_formed is_made (square_is (capture_square p x m) t there) in
-        ap (λ (o : Option Man). is_man o c King) w.there ∙ and_right (same_colour w.man.colour c) _ w.mortal
-  ]
-
-  no_enemy_king : is_man (Some x) (other p.turn) King ≡ false
-  no_enemy_king = and_left _ _ (ap (λ (c : Colour). same_colour c (other p.turn)) is_made.mine ∙ other_differs p.turn)
+  no_own_arrives = grind (arith, arriving_colour, is_made, other_differs)
 
   module _ (small : m.to < 64) where
     pub king_seen : king_square (position_after rule p m).men (other p.turn) ≡ Some k
-    king_seen =
-        ap (λ (l : List (Option Man)). king_square l (other p.turn)) after_seen
-        ∙ king_stands p.men m.from (capture_square p x m) m.to (arriving_man x m.promo) (other p.turn) (record {
-          small = omega (arith, small, i.well_formed.size);
-          here = no_king_left (other p.turn) m.from no_enemy_king (or_left (m.from == m.from) _ (eq-eqb m.from m.from refl));
-          comes = and_left _ _ no_own_arrives;
-          arrival = no_king_free p.turn (other p.turn) (man_on p.men m.to) is_made.arrival;
-          captured = λ s at. no_king_left (other p.turn) s no_enemy_king (or_right (m.from == s) _ at);
-        })
-        ∙ i.king
+    king_seen = search (rules, after_seen, king_waits rule p x m (other p.turn) i.well_formed is_made small refl, i.king)
 
+    -- the squares to which the king may step, attacks apart, by words
     abbrev is_free : ℕ → Bool
     is_free t =
         not ((is_of_colour (man_on p.men t) (other p.turn) && (not (is_square (capture_square p x m) t) && not (m.from == t)))
         || is_man (man_on p.men t) p.turn King)
 
     free_there : same_kind x.kind King ≡ false → (t : ℕ) → is_free t ≡ is_arrival_free (other p.turn) (man_on (arrived p x m) t)
-    free_there mortal t =
-        grind (
-          arith,
-          cases_eq t m.to,
-          cases_Bool (m.from == t || is_square (capture_square p x m) t),
-          there_now,
-          arrived_free,
-          no_own_arrives,
-          no_king_arrives mortal,
-          left_now,
-          kept_now,
-          if_stays,
-          if_gone,
-          if_comes,
-          captures_arrival,
-          some_of_colour,
-          no_king_free,
-          is_made,
-          no_king_left p.turn t (and_right _ _ mortal),
-        )
+    free_there mortal t = elim (cases_eq t m.to) [
+      | inl e ↦
+          let king = arriving_king p x m m.promo is_made.promotion in
+          grind (arith, there_now, no_own_arrives, king, captures_arrival, no_king_free, is_made, cases_Bool (same_kind (arriving_man x m.promo).kind King))
+      | inr ne ↦ elim (cases_Bool (m.from == t || is_square (capture_square p x m) t)) [
+        | inl gone ↦ grind (arith, left_now, or_cases (m.from == t), eqb-true m.from t, taken rule p x m t i.well_formed is_made, square_is, and_right, i.here)
+        | inr stays ↦ grind (arith, kept_now, or_parts)
+      ]
+    ]
 
     -- but where he has come
     free_elsewhere : (t : ℕ) → t ≢ m.to → is_free t ≡ true → is_arrival_free (other p.turn) (man_on (arrived p x m) t) ≡ true
-    free_elsewhere t ne free = elim (cases_Bool (m.from == t || is_square (capture_square p x m) t)) [
-      | inl gone ↦ ap (is_arrival_free (other p.turn)) (left_now p.men m.from (capture_square p x m) m.to (arriving_man x m.promo) t ne gone)
-      | inr stays ↦
-          ap (is_arrival_free (other p.turn)) (kept_now p.men m.from (capture_square p x m) m.to (arriving_man x m.promo) t ne stays)
-          ∙ sym (if_stays p.turn (man_on p.men t) (is_square (capture_square p x m) t) (m.from == t) stays)
-          ∙ free
-    ]
+    free_elsewhere t ne free = grind (arith, cases_Bool, left_now, kept_now, or_parts)
 
     -- where the king may step, attacks apart
     open_there : (t : ℕ) → t < 64 → (list_any (leaps k t) queen_steps && is_free t) ≡ true → is_arrival_free (other p.turn) (man_on (arrived p x m) t) ≡ true
     unfolding reaches_as
     open_there t lt h = elim (cases_Bool (same_kind x.kind King)) [
-      | inr mortal ↦ sym (free_there mortal t) ∙ (and_parts _ _ h).1
-      | inl king ↦ free_elsewhere t (λ e. false≢true (sym (i.apart king) ∙ ap (reaches_as p.men (other p.turn) King k) (sym e) ∙ (and_parts _ _ h).0))
-          (and_parts _ _ h).1
+      | inr mortal ↦ grind (arith, free_there mortal t, and_parts)
+      | inl king ↦ grind (arith, free_elsewhere t, cases_eq t m.to, i.apart king, and_parts, false≢true)
     ]
 
     -- for the word of squares open to the king: without Circe
@@ -194,21 +109,14 @@ module _ (rule : RuleSet) (p : Position) (m : Move) (x : Man) (k : ℕ) (i : IsS
         → l ≡ (sight_lifted p.men m.from (capture_square p x m) m.to k).standing
         → h ≡ bit_or (bit_and (side_of p.men (other p.turn)) l) (squares_of p.men p.turn King)
         → AreSteps rule (position_after rule p m).men x (other p.turn) k (bit_and w (bit_not w64 h))
-    unfolding is_open reaches_as
+    unfolding is_open reaches_as side_of squares_of
     open_squares w l h circe near standing held =
-        let told : (t : ℕ) → t < 64 → (bit_at (bit_and w (bit_not w64 h)) t == 1) ≡ (list_any (leaps k t) queen_steps && is_free t) = λ t lt.
-        word_has _ _ t (ap₂ bit_and near (ap (bit_not w64) (held ∙ closed_words p m.from (capture_square p x m) p.turn _ _ refl refl l standing)
-        ∙ squares_not _) ∙ squares_both _ _) lt in
-        let opened : (t : ℕ) → (list_any (leaps k t) queen_steps && is_arrival_free (other p.turn) (man_on (arrived p x m) t))
-        ≡ is_open rule (position_after rule p m).men (other p.turn) k t = λ t.
-        ap (λ (l : List (Option Man)). list_any (leaps k t) queen_steps && is_arrival_free (other p.turn) (man_on l t)) (sym after_seen)
-        ∙ and_also _ _ (ap not (and_left (captures_do_more rule) _ circe)) in
+        let words : bit_and w (bit_not w64 h) ≡ word (λ t. list_any (leaps k t) queen_steps && is_free t) =
+        search (rules, near, held, standing, squares_both, squares_either, squares_not) in
+        let told = λ (t : ℕ). word_has (λ t. list_any (leaps k t) queen_steps && is_free t) (bit_and w (bit_not w64 h)) t words in
         record {
-          inside = λ t lt on.
-              let both = sym (told t lt) ∙ on in
-              sym (opened t) ∙ and_from _ _ (and_parts _ _ both).0 (open_there t lt both);
-          outside = λ mortal _ t lt off.
-              sym (opened t) ∙ ap (λ b. list_any (leaps k t) queen_steps && b) (sym (free_there mortal t)) ∙ sym (told t lt) ∙ off;
+          inside = λ t lt on. grind (arith, told t lt, open_there t lt, after_seen, and_parts, circe);
+          outside = λ mortal _ t lt off. grind (arith, told t lt, free_there mortal t, after_seen);
         }
 
     -- in Circe, where he mayn't capture
@@ -220,10 +128,8 @@ module _ (rule : RuleSet) (p : Position) (m : Move) (x : Man) (k : ℕ) (i : IsS
         let held = occupied ∙ lifted_words p.men m.from (capture_square p x m) m.to k in
         record {
           inside = λ t lt on.
-              let reached = reached_near (position_after rule p m).men (other p.turn) k w t near lt (on_first w _ t on) in
-              let off : (is_occupied_after p.men m.from (capture_square p x m) m.to t && not (k == t)) ≡ false = sym (word_has _ l t held lt)
-              ∙ unseen_bit _ w l t held lt on in
-              grind (arith, differs, false≢true, no_reach_there, none_from_is_some, occupied_now, first_false, after_seen, and_from, and_right);
+              let there = reached_near (position_after rule p m).men (other p.turn) k w t near lt (on_first w _ t on) in
+              grind (arith, there, word_has _ l t held lt, unseen_bit _ w l t held lt on, no_reach_there, occupied_now, after_seen);
           outside = λ _ none. absurd (false≢true (sym none ∙ circe));
         }
 
@@ -237,10 +143,6 @@ pub record IsStepSeen (men : List (Option Man)) (a : ℕ) (o : Option ℕ) (b : 
 pub reaches_alike_of : (men others : List (Option Man)) (o : Option Man) (s t : ℕ) → StandAlike men others t → reaches_of men o s t ≡ reaches_of others o s t
 reaches_alike_of men others o s t a = grind (arith, reaches_alike)
 
--- who doesn't reach a square doesn't attack it, paralysed or not
-pub no_strike : (a p r : Bool) → (a && r) ≡ false → ((a && p) && r) ≡ false
-no_strike a p r q = grind arith
-
 module _ (men : List (Option Man)) (a : ℕ) (o : Option ℕ) (b : ℕ) (z : Man) (k : ℕ) (u : Option ℕ) (t : ℕ) (x : Man) (c : Colour) (r : ℕ)
     (i : IsStepSeen men a o b z k u t x c r) where
   abbrev now : List (Option Man)
@@ -250,36 +152,20 @@ module _ (men : List (Option Man)) (a : ℕ) (o : Option ℕ) (b : ℕ) (z : Man
   then = stepped men a o b x k u t x
 
   arrival_seen : reaches_as now z.colour z.kind b t ≡ (bit_at r t == 1)
-  arrival_seen =
-      let lifted : List (Option Man) = without_man (gone_to men a o b z) k in
-      reaches_alike now lifted z.colour z.kind b t (lifted_alike men a o b z k u t x i.step.arrival i.step.flight i.step.taken)
-      ∙ sym (grind (arith, word_has, occupied_lifted))
-
-  elsewhere : (s : ℕ) → (s ≡ b → s ≡ t)
-      → (is_of_colour (man_on now s) c && reaches now s t) ≡ (is_of_colour (man_on then s) c && reaches then s t)
-  unfolding reaches
-  elsewhere s off =
-      ap (λ (y : Option Man). is_of_colour y c && reaches_of now y s t) (same_elsewhere men a o b z x k u t x s i.step.flight i.step.taken off)
-      ∙ ap (λ (y : Bool). is_of_colour (man_on then s) c && y) (grind (arith, reaches_alike_of, arrival_alike))
-
-  same_strikes : (bit_at r t == 1) ≡ false → (s : ℕ) → (is_of_colour (man_on now s) c && reaches now s t) ≡ (is_of_colour (man_on then s) c && reaches then s t)
-  unfolding reaches
-  same_strikes unseen s = grind (arith, cases_eq s b, cases_eq s t, elsewhere, stands_arrived, and_right, and_left, arrival_seen)
+  arrival_seen = search (rules, reaches_alike now (without_man (gone_to men a o b z) k), lifted_alike, word_has, occupied_lifted, i)
 
   -- whom the man that has arrived doesn't reach is reached by the others alone
   pub reached_alike : (bit_at r t == 1) ≡ false → is_reached now t c ≡ is_reached then t c
-  unfolding is_reached
-  reached_alike unseen = some_square_same _ _ (λ s lt. same_strikes unseen s)
+  unfolding is_reached reaches
+  reached_alike unseen = some_square_same _ _ (λ s lt.
+      grind (arith, cases_eq s b, cases_eq s t, same_elsewhere, reaches_alike_of, arrival_alike, stands_arrived, arrival_seen))
 
   -- whom the man that has arrived reaches
   pub arrived_strikes : same_colour z.colour c ≡ true → (bit_at r t == 1) ≡ true → is_reached now t c ≡ true
   unfolding is_reached reaches
   arrived_strikes mine on =
-      let small : b < 64 = omega (arith, i.step.arrival, i.size) in
-      let off : b ≢ t = λ e. false≢true (sym (no_reach_there now z.colour z.kind b small) ∙ ap (reaches_as now z.colour z.kind b) e ∙ arrival_seen ∙ on) in
-      let there : man_on now b ≡ Some z = stands_arrived men a o b z k u t x b i.step.arrival i.step.taken refl off i.step.apart in
-      some_square_true (λ s. is_of_colour (man_on now s) c && reaches now s t) b small
-      (ap (λ (y : Option Man). is_of_colour y c && reaches_of now y b t) there ∙ and_from _ _ mine (arrival_seen ∙ on))
+      some_square_true (λ s. is_of_colour (man_on now s) c && reaches now s t) b (omega (arith, i.step.arrival, i.size))
+      (grind (arith, arrival_seen, no_reach_there now z.colour z.kind b, cases_eq b t, stands_arrived men a o b z k u t x b, and_from, false≢true, i.step))
 
 -- the step itself
 other_side : (o : Option Man) (c : Colour) → is_man o (other c) King ≡ true → is_of_colour o c ≡ false
@@ -332,19 +218,13 @@ module _ (rule : RuleSet) (q : Position) (x : Man) (k t : ℕ) (i : IsKingStep r
       let way = open_parts rule q.men q.turn k t i.near in
       record {
         castling = false_from_ne_true _ (search (rules, king_no_step, steps_there));
-        rebirth = λ circe. no_capture q x (step_to k t) (way.nobody circe) (and_left (same_kind x.kind Pawn) _ (king_is_no_pawn x.kind i.king));
+        rebirth = search (rules, no_capture, way.nobody, and_left, king_is_no_pawn);
       }
 
   -- and it is legal exactly where nobody attacks the square then
-  step_is : is_legal rule q (step_to k t) ≡ not (is_attacked rule (arrived q x (step_to k t)) t (other q.turn))
+  pub step_is : is_legal rule q (step_to k t) ≡ not (is_attacked rule (arrived q x (step_to k t)) t (other q.turn))
   unfolding is_legal
-  step_is =
-      let king : king_after q x (step_to k t) ≡ Some t = cond-true (same_kind x.kind King) _ _ i.king in
-      ap₂ (λ a b. a && not b) may_step (check_is rule q x (step_to k t) (Some t) i.well_formed (made rule q (step_to k t) x may_step i.here) i.small
-      simple_step king)
-
-  pub step_is_legal : is_attacked rule (arrived q x (step_to k t)) t (other q.turn) ≡ false → is_legal rule q (step_to k t) ≡ true
-  step_is_legal safe = step_is ∙ ap not safe
+  step_is = search (rules, may_step, check_is rule q x (step_to k t) (Some t), made, simple_step, cond-true)
 
 -- the king's square and the arrival
 pub record IsKingOn (men : List (Option Man)) (c : Colour) (k : ℕ) (x : Man) : Type 0 where
@@ -369,7 +249,7 @@ module _ (rule : RuleSet) (p : Position) (m : Move) (x : Man) (k : ℕ) (i : IsS
       → IsStep p.men m.from (capture_square p x m) m.to k (capture_square (position_after rule p m) y (step_to k t)) t y p.turn
   is_step y t there king =
       let free = (is_made rule p m x k i).arrival in
-      grind (arith, taken, capture_of_piece, king_is_no_pawn, square_is, king_is_other, other_side, king_there, no_own_free, no_king_square)
+      grind (arith, taken, capture_of_piece, king_is_no_pawn, square_is, king_is_other, other_side, king_there, and_parts, not-true, no_king_square)
 
   abbrev pub step_taken : Man → ℕ → Option ℕ
   step_taken y t = capture_square (position_after rule p m) y (step_to k t)
@@ -382,24 +262,14 @@ module _ (rule : RuleSet) (p : Position) (m : Move) (x : Man) (k : ℕ) (i : IsS
 
   pub king_step : (y : Man) (t : ℕ) → t < 64 → IsKingOn (position_after rule p m).men (other p.turn) k y
       → is_open rule (position_after rule p m).men (other p.turn) k t ≡ true → IsKingStep rule (position_after rule p m) y k t
-  king_step y t there king way = record {
-    well_formed = after_well_formed rule p m i.well_formed i.pseudo;
-    here = king.here;
-    mine = ap (same_colour y.colour) turn_is ∙ king.mine;
-    king = king.king;
-    small = there;
-    near = ap (λ (c : Colour). is_open rule (position_after rule p m).men c k t) turn_is ∙ way;
-  }
+  king_step y t there king way = search (rules, after_well_formed, turn_is, i.pseudo)
 
   -- the king's step is legal where nobody attacks him then
   pub step_legal_is : (y : Man) (t : ℕ) → t < 64 → IsKingOn (position_after rule p m).men (other p.turn) k y
       → is_open rule (position_after rule p m).men (other p.turn) k t ≡ true
       → is_legal rule (position_after rule p m) (step_to k t) ≡ not (is_attacked rule (men_stepped y t) t p.turn)
   step_legal_is y t there king way =
-      step_is rule (position_after rule p m) y k t (king_step y t there king way)
-      ∙ ap not (ap (λ (l : List (Option Man)). is_attacked rule (gone_to l k (step_taken y t) t y) t (other (position_after rule p m).turn))
-      (after_seen rule p m x k i)
-      ∙ ap (is_attacked rule (men_stepped y t) t) (ap other turn_is ∙ other_twice p.turn))
+      search (rules, step_is rule (position_after rule p m) y k t (king_step y t there king way), after_seen, turn_is, other_twice)
 
   module _ (n r : ℕ)
       (arrives : (l : List (Option Man)) → (sight_lifted p.men m.from (capture_square p x m) m.to k).occupied ≡ occupied_squares l
@@ -414,14 +284,12 @@ module _ (rule : RuleSet) (p : Position) (m : Move) (x : Man) (k : ℕ) (i : IsS
         → is_legal rule (position_after rule p m) (step_to k t) ≡ true
     safe_step t near safe =
         let king = king_on (position_after rule p m).men (other p.turn) k (king_seen rule p m x k i small) in
-        let lifted : List (Option Man) = without_man (gone_to p.men m.from (capture_square p x m) m.to (arriving_man x m.promo)) k in
-        let seen : r ≡ word (reaches_as lifted (arriving_man x m.promo).colour (arriving_man x m.promo).kind m.to) =
-        arrives lifted (occupied_lifted p.men m.from (capture_square p x m) m.to (arriving_man x m.promo) k (omega (arith, small, i.well_formed.size))) in
+        let z = arriving_man x m.promo in
         let step = step_seen king.0 t safe.small king.1 in
-        step_legal_is king.0 t safe.small king.1 (near.inside t safe.small (on_first n (bit_not w64 r) t safe.here))
-        ∙ ap not (not_attacked rule (men_stepped king.0 t) p.turn t (reached_alike p.men m.from (capture_square p x m) m.to (arriving_man x m.promo) k
-        (step_taken king.0 t) t king.0 p.turn r step (unseen_bit _ n r t seen safe.small safe.here)
-        ∙ safe.unreached _ (seen_stepped p.men m.from (capture_square p x m) m.to k (step_taken king.0 t) t king.0 p.turn step.step)))
+        let alike = reached_alike p.men m.from (capture_square p x m) m.to z k (step_taken king.0 t) t king.0 p.turn r step in
+        let lifted = occupied_lifted p.men m.from (capture_square p x m) m.to z k step.step.arrival in
+        let legal = step_legal_is king.0 t safe.small king.1 (near.inside t safe.small (on_first n (bit_not w64 r) t safe.here)) in
+        search (rules, legal, not_attacked, alike (unseen_bit _ n r t (arrives _ lifted) safe.small safe.here), safe.unreached, seen_stepped)
 
     -- for `flights_from`: it is a flight
     pub has_flight_to : (t : ℕ) → AreSteps rule (position_after rule p m).men x (other p.turn) k n
@@ -429,7 +297,5 @@ module _ (rule : RuleSet) (p : Position) (m : Move) (x : Man) (k : ℕ) (i : IsS
         → has_flight rule (position_after rule p m) ≡ true
     unfolding has_flight is_flight
     has_flight_to t near safe =
-        some_square_true (is_flight rule (position_after rule p m)) t safe.small
-        (ap (λ (o : Option ℕ). is_flight_at rule (position_after rule p m) o t)
-        (ap (king_square (position_after rule p m).men) turn_is ∙ king_seen rule p m x k i small)
-        ∙ safe_step t (record { inside = near.inside }) safe)
+        let step = safe_step t (record { inside = near.inside }) safe in
+        search (rules, some_square_true (is_flight rule (position_after rule p m)) t safe.small, turn_is, king_seen rule p m x k i small, step)

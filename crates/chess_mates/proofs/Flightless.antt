@@ -7,29 +7,18 @@ use Rattle.chess_mates.proofs.Stepping.{occupied_lifted, seen_stepped}
 use Rattle.chess_rules.specs.ties.Sifting.{is_of_others}
 
 -- how a king in check goes: by a step
-castles_in_check : (rule : RuleSet) (q : Position) (y : Man) (n : Move) → in_check rule q.men y.colour ≡ true → can_castle rule q y n ≡ false
-unfolding can_castle may_castle
-castles_in_check rule q y n h = and_left _ _ (and_right _ _ (ap not h))
-
-pub record IsOwnStep (rule : RuleSet) (q : Position) (k : ℕ) (n : Move) : Type 0 where
-  pub small : n.to < 64
-  pub move : step_to k n.to ≡ n
-  pub way : is_open rule q.men q.turn k n.to ≡ true
-
 own_step : (rule : RuleSet) (q : Position) (n : Move) (k : ℕ) (y : Man) → IsWellFormed q → king_square q.men q.turn ≡ Some k → man_on q.men k ≡ Some y
     → same_kind y.kind King ≡ true → in_check rule q.men q.turn ≡ true → is_of_others q n ≡ false → is_legal rule q n ≡ true
-    → captures_do_more rule ≡ false → IsOwnStep rule q k n
-unfolding is_open reaches reaches_as
+    → captures_do_more rule ≡ false → (n.to < 64) × ((step_to k n.to ≡ n) × (is_open rule q.men q.turn k n.to ≡ true))
+unfolding is_open reaches reaches_as can_castle may_castle
 own_step rule q n k y well at here king check kings legal circe =
     let triple = legal_moves_are_triples rule q n well legal in
     let origin : n.from ≡ k = some_is n.from k (sym (king_is q.men q.turn n.from well.kings triple.0 (grind (arith, kings))) ∙ at) in
     let is = made rule q n y (is_pseudo_legal-from_legal rule q n legal) (ap (man_on q.men) origin ∙ here) in
     let promo : n.promo ≡ None = unnamed q y n n.promo (and_left _ _ (king_is_no_pawn y.kind king)) is.promotion in
-    record {
-      small = triple.1;
-      move = rw (origin, promo) refl;
-      way = grind (arith, is.can_go, king_is_no_pawn, castles_in_check, is.mine, is.arrival, here, same_kind-true y.kind King king);
-    }
+    let way : is_open rule q.men q.turn k n.to ≡ true =
+    grind (arith, is.can_go, king_is_no_pawn, and_left, and_right, is.mine, is.arrival, here, same_kind-true y.kind King king) in
+    (triple.1, (rw (origin, promo) refl, way))
 
 module _ (rule : RuleSet) (p : Position) (m : Move) (x : Man) (k : ℕ) (i : IsSeenFrom rule p m x k) (small : m.to < 64) (n r : ℕ)
     (arrives : (l : List (Option Man)) → (sight_lifted p.men m.from (capture_square p x m) m.to k).occupied ≡ occupied_squares l
@@ -54,12 +43,6 @@ module _ (rule : RuleSet) (p : Position) (m : Move) (x : Man) (k : ℕ) (i : IsS
             _ (seen_stepped p.men m.from (capture_square p x m) m.to k (step_taken rule p m x k i small y t) t y p.turn seen.step)
       ]
 
-  no_step : (y : Man) (t : ℕ) → t < 64 → IsKingOn (position_after rule p m).men (other p.turn) k y
-      → is_open rule (position_after rule p m).men (other p.turn) k t ≡ true → is_legal rule (position_after rule p m) (step_to k t) ≡ false
-  no_step y t there king way =
-      let attacked = attacked_plainly rule (men_stepped rule p m x k i small y t) t p.turn true plain.1 in
-      grind (arith, step_legal_is rule p m x k i small y t there king way, attacked, reached y t there king way)
-
   pub flightless : IsFlightless rule (position_after rule p m)
   flightless = record {
     stays = λ check n kings. false_from_ne_true _ (λ legal.
@@ -69,8 +52,10 @@ module _ (rule : RuleSet) (p : Position) (m : Move) (x : Man) (k : ℕ) (i : IsS
         let turn : q.turn ≡ other p.turn = turn_after rule p m i.pseudo in
         let well = after_well_formed rule p m i.well_formed i.pseudo in
         let step = own_step rule q n k king.0 well (ap (king_square q.men) turn ∙ at) king.1.here king.1.king check kings legal plain.0 in
-        false≢true (sym (no_step king.0 n.to step.small king.1 (ap (λ (c : Colour). is_open rule q.men c k n.to) (sym turn) ∙ step.way))
-        ∙ ap (is_legal rule q) step.move ∙ legal));
+        let way = ap (λ (c : Colour). is_open rule q.men c k n.to) (sym turn) ∙ step.1.1 in
+        let attacked = attacked_plainly rule (men_stepped rule p m x k i small king.0 n.to) n.to p.turn true plain.1 in
+        let lawful = step_legal_is rule p m x k i small king.0 n.to step.0 king.1 way in
+        grind (arith, lawful, attacked, reached king.0 n.to step.0 king.1 way, step.1.0, legal));
   }
 
 -- where no move of the king is legal, the others' are all

@@ -1,9 +1,6 @@
 -- The squares on which captured men may be reborn, and those that are closed to a king.
-use Rattle.chess_mates.proofs.Chess.{AreClosed, AreHomes, AreHomesOf, Bishop, Black, Colour, Grasshopper, IsAt, IsHome, Kind, King, Knight, List, Man, Nightrider, None, Option, Pawn, Position, Queen, Rook, RuleSet, Some, White, agree_below_at, arith, bit_at, bit_or, captures_do_more, cases_Bool, eq-eqb, false, false≢true, file_of, is_man, is_of_colour, is_some, is_square, man_on, not, on_left, on_right, other, rank_of, rebirth, rebirth_small, refl, rules, same_colour, same_kind, side_of, square_at, square_at-is, squares_of, sym, true, word, word_has, ℕ, ◌&&◌, ◌<◌, ◌==◌, ◌||◌, ◌∙◌, ◌≡◌, ◌⊎◌}
+use Rattle.chess_mates.proofs.Chess.{AreClosed, AreHomes, AreHomesOf, Bishop, Black, Colour, Grasshopper, Kind, King, Knight, List, Man, Nightrider, Option, Pawn, Position, Queen, Rook, RuleSet, Some, White, agree_below_at, arith, bit_at, bit_or, captures_do_more, cases_Bool, eq-eqb, false, false≢true, file_of, is_man, is_of_colour, is_some, is_square, man_on, not, on_left, on_right, other, rank_of, rebirth, rebirth_small, refl, rules, same_kind, side_of, square_at, square_at-is, squares_of, true, word, word_has, ℕ, ◌<◌, ◌==◌, ◌||◌, ◌≡◌, ◌⊎◌}
 use Rattle.chess_mates.proofs.Risks.{none_on}
-
-far_end : (f k r : ℕ) → square_at f k ≡ Some r → (r < 64) × ((rank_of r == k) ≡ true)
-far_end f k r h = let i : IsAt f k r = square_at-is f k r (rw h (eq-eqb r r refl)) in (i.small, eq-eqb (rank_of r) k (sym i.rank))
 
 -- the words of `homes_of`
 abbrev homes : Colour → Kind → ℕ
@@ -17,10 +14,8 @@ homes White Bishop = 36
 homes Black Bishop = 2594073385365405696
 homes White Knight = 66
 homes Black Knight = 4755801206503243776
-homes White Grasshopper = 18374686479671623680
-homes Black Grasshopper = 255
-homes White Nightrider = 18374686479671623680
-homes Black Nightrider = 255
+homes White _ = 18374686479671623680
+homes Black _ = 255
 
 -- a man who is no pawn is reborn on a square of his word
 pub home_on : (c : Colour) (k : Kind) (w : ℕ) → w ≡ homes c k → same_kind k Pawn ≡ false → (t r : ℕ) → rebirth c k t ≡ Some r → (bit_at w r == 1) ≡ true
@@ -28,35 +23,21 @@ unfolding rebirth
 home_on c k w e piece t r h =
     let last = agree_below_at (λ n. not (rank_of n == 8) || bit_at 18374686479671623680 n == 1) (λ _. true) 64 r refl in
     let first = agree_below_at (λ n. not (rank_of n == 1) || bit_at 255 n == 1) (λ _. true) 64 r refl in
-    grind (arith, far_end, last, first, false≢true)
+    grind (arith, square_at-is, eq-eqb, last, first, false≢true)
 
 -- a pawn on that of his file
 pub pawn_home_on : (c : Colour) (s k w : ℕ) → ((t : ℕ) → rebirth c Pawn t ≡ square_at (file_of t) k)
     → w ≡ word (λ q. is_square (square_at (file_of s) k) q) → (t r : ℕ) → file_of t ≡ file_of s → rebirth c Pawn t ≡ Some r → (bit_at w r == 1) ≡ true
-pawn_home_on c s k w home only t r file h =
-    word_has (λ q. is_square (square_at (file_of s) k) q) w r only (rebirth_small c Pawn t r h)
-    ∙ grind (arith, home t, eq-eqb)
+pawn_home_on c s k w home only t r file h = search (rules, word_has, rebirth_small, eq-eqb)
 
--- for `homes_on`: men of the kind, pawns apart
-pub homes_are : (men : List (Option Man)) (c : Colour) (k : Kind) (w : ℕ)
-    → ((t r : ℕ) → rebirth c k t ≡ Some r → (bit_at w r == 1) ≡ true) → AreHomesOf men c k w
-homes_are men c k w h = record {
-  homes = λ s r z small here mine kind home. h home.square r (rw (mine, kind) at home.reborn);
-}
-
-both : (c : Colour) (k : Kind) → (same_colour c c && same_kind k k) ≡ true
-both c k = grind (arith, eq-eqb)
-
--- pawns
+-- for `homes_on`: pawns
 pub pawn_homes_are : (men : List (Option Man)) (c : Colour) (l w : ℕ) → l ≡ squares_of men c Pawn
     → ((s : ℕ) → s < 64 → (bit_at l s == 1) ≡ true → (t r : ℕ) → file_of t ≡ file_of s → rebirth c Pawn t ≡ Some r → (bit_at w r == 1) ≡ true)
     → (k : Kind) → k ≡ Pawn → AreHomesOf men c k w
 unfolding squares_of
 pawn_homes_are men c l w pawns h k pawn = record {
   homes = λ s r z small here mine own home.
-      let kind : z.kind ≡ Pawn = own ∙ pawn in
-      h s small (word_has (λ q. is_man (man_on men q) c Pawn) l s pawns small ∙ rw (here, mine, kind) (both c Pawn)) home.square r (home.file (rw kind refl))
-      (rw (mine, kind) at home.reborn);
+      grind (arith, h s small, word_has (λ q. is_man (man_on men q) c Pawn) l s pawns small, home.file, home.reborn, eq-eqb);
 }
 
 -- no men of the kind
@@ -64,7 +45,7 @@ pub no_homes_are : (men : List (Option Man)) (c : Colour) (k : Kind) (l w : ℕ)
 unfolding squares_of
 no_homes_are men c k l w are none = record {
   homes = λ s r z small here mine kind home.
-      absurd (none_on l s none (word_has (λ q. is_man (man_on men q) c k) l s are small ∙ rw (here, mine, kind) (both c k)));
+      grind (arith, none_on l s none, word_has (λ q. is_man (man_on men q) c k) l s are small, eq-eqb);
 }
 
 -- for `home_squares`: all kinds, since a king isn't captured
@@ -73,18 +54,10 @@ pub all_homes : (men : List (Option Man)) (c : Colour) (q r b n p g d : ℕ) →
     → AreHomes men c (bit_or (bit_or (bit_or (bit_or (bit_or (bit_or q r) b) n) p) g) d)
 unfolding rebirth
 all_homes men c q r b n p g d queens rooks bishops knights pawns hoppers riders = record {
-  homes = λ s t z small here mine home. by s t z small here mine home z.kind refl;
-} where
-  by : (s t : ℕ) (z : Man) → s < 64 → man_on men s ≡ Some z → z.colour ≡ c → IsHome z s t → (k : Kind) → z.kind ≡ k
-      → (bit_at (bit_or (bit_or (bit_or (bit_or (bit_or (bit_or q r) b) n) p) g) d) t == 1) ≡ true
-  by s t z small here mine home King e = absurd (let none : None ≡ Some t = rw e at home.reborn in cc)
-  by s t z small here mine home Queen e = search (rules, on_left, on_right, queens.homes) depth 8
-  by s t z small here mine home Rook e = search (rules, on_left, on_right, rooks.homes) depth 8
-  by s t z small here mine home Bishop e = search (rules, on_left, on_right, bishops.homes) depth 8
-  by s t z small here mine home Knight e = search (rules, on_left, on_right, knights.homes) depth 8
-  by s t z small here mine home Pawn e = search (rules, on_left, on_right, pawns.homes) depth 8
-  by s t z small here mine home Grasshopper e = search (rules, on_left, on_right, hoppers.homes) depth 8
-  by s t z small here mine home Nightrider e = search (rules, on_left, on_right, riders.homes) depth 8
+  homes = λ s t z small here mine home.
+      let at = λ (k : Kind) (w : ℕ) (h : AreHomesOf men c k w). h.homes s t z small here mine in
+      grind (arith, on_left, on_right, at _ _ queens, at _ _ rooks, at _ _ bishops, at _ _ knights, at _ _ pawns, at _ _ hoppers, at _ _ riders, home);
+}
 
 -- for `closed_squares`: without Circe
 pub own_closed : (rule : RuleSet) (p : Position) (c : Colour) (w : ℕ) → c ≡ p.turn → w ≡ side_of p.men c → captures_do_more rule ≡ false → AreClosed rule p w
@@ -99,10 +72,10 @@ some_of o c h = grind (arith, cases_Bool (is_of_colour o c))
 pub all_closed : (rule : RuleSet) (p : Position) (c d : Colour) (a e h : ℕ) → c ≡ p.turn → d ≡ other c → a ≡ side_of p.men c → e ≡ side_of p.men d
     → AreHomes p.men c h → AreClosed rule p (bit_or (bit_or a e) h)
 unfolding side_of
-all_closed rule p c d a e h turn enemy own enemies homes = record {
-  own = λ s small mine. grind (arith, on_left, word_has (λ q. is_of_colour (man_on p.men q) c) a s own small);
-  others = λ more s small some.
-      let side = λ (c : Colour). word_has (λ q. is_of_colour (man_on p.men q) c) in
-      grind (arith, on_left, on_right, some_of (man_on p.men s) c some, side c a s own small, side d e s enemies small);
-  homes = λ more. record { homes = λ s r z small here mine home. on_right (bit_or a e) h r (homes.homes s r z small here (mine ∙ sym turn) home) };
-}
+all_closed rule p c d a e h turn enemy own enemies homes =
+    let side = λ (c : Colour). word_has (λ q. is_of_colour (man_on p.men q) c) in
+    record {
+      own = λ s small mine. grind (arith, on_left, side c a s own small);
+      others = λ more s small some. grind (arith, on_left, on_right, some_of (man_on p.men s) c some, side c a s own small, side d e s enemies small);
+      homes = λ more. record { homes = λ s r z small here mine home. search (rules, on_right, homes.homes s r z small here) };
+    }

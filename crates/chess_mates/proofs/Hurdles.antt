@@ -1,5 +1,5 @@
 -- What men reach over hurdles, the squares of a word, and later on the board.
-use Rattle.chess_mates.proofs.Chess.{AreReached, Attackers, Bishop, Bool, Colour, Grasshopper, IsAttackedOver, IsNear, IsReached, IsReachedFrom, Kind, King, Knight, List, Man, Nightrider, None, Option, Pawn, Queen, Rook, Some, Step, White, [], all_at, all_range_true, along, and_from, and_parts, any_kept, any_range_cases, any_range_false, any_range_true, ap, arith, bit_at, bit_at-lt, bit_at_or, bit_or, cases_Bool, cases_eq, cases_lt, diagonal_steps, eq-eqb, eqb-true, false, false≢true, find, find_first, gait_of, get_or-map-range_with_len, hop-found, hops, if◌then◌else◌, inl, inr, is_clear, is_hopper, is_leaper, is_occupied, is_rider, is_some, is_square, is_vacant_at, knight_steps, leaps, length, length-map-range_with_len, list_any, man_on, men_on, not, not-true, occupied_squares, off_zero, on_board, on_left, on_right, or_cases, or_left, or_right, other, queen_steps, range_with_len, reached_over, reaches_as, refl, ride-made, rides, same_kind, same_kind-true, squares, squares_for, straight_steps, subst, suc, sym, true, word, word_has, zero, ℕ, ◌&&◌, ◌+◌, ◌-◌, ◌<◌, ◌==◌, ◌^◌, ◌||◌, ◌∙◌, ◌∷◌, ◌≡◌, ◌≢◌, ◌≤◌, ◌⊎◌}
+use Rattle.chess_mates.proofs.Chess.{AreReached, Attackers, Bishop, Bool, Colour, Grasshopper, IsAttackedOver, IsNear, IsReached, IsReachedFrom, Kind, King, Knight, List, Man, Nightrider, None, Option, Pawn, Queen, Rook, Some, Step, White, [], along, any_kept, ap, arith, bit_at, bit_at-lt, bit_at_or, bit_or, cases_Bool, cases_eq, cases_lt, diagonal_steps, eq-eqb, eqb-true, false, false≢true, find, find_first, gait_of, get_or-map-range_with_len, hop-found, hops, if◌then◌else◌, inl, inr, is_hopper, is_leaper, is_occupied, is_rider, is_some, is_vacant_at, knight_steps, leaps, length, length-map-range_with_len, list_any, man_on, men_on, not, not-true, occupied_squares, off_zero, on_board, on_left, on_right, or_cases, or_left, or_right, other, queen_steps, range_with_len, reached_over, reaches_as, refl, ride-found, ride-made, rides, rules, same_kind, same_kind-true, squares, squares_for, straight_steps, suc, sym, true, word, word_has, zero, ℕ, ◌-◌, ◌<◌, ◌==◌, ◌^◌, ◌||◌, ◌∙◌, ◌∷◌, ◌≡◌, ◌≢◌, ◌≤◌, ◌⊎◌}
 use Rattle.chess_core.proofs.Words.{square_word}
 use Rattle.chess_core.specs.ties.Words.{bit_of}
 use Rattle.chess_mates.proofs.KindByKind.{of_kind}
@@ -21,33 +21,21 @@ pub on_either : (a b i : ℕ) → (bit_at (bit_or a b) i == 1) ≡ true → (bit
 on_either a b i h off = grind (arith, eqb-true, bit_at_or, unset, bit_at-lt, eq-eqb)
 
 pub on_one : (a b i : ℕ) → (bit_at (bit_or a b) i == 1) ≡ true → ((bit_at a i == 1) ≡ true) ⊎ ((bit_at b i == 1) ≡ true)
-on_one a b i h = elim (cases_Bool (bit_at a i == 1)) [
-  | inl on ↦ inl on
-  | inr off ↦ inr (on_either a b i h off)
-]
+on_one a b i h = search (rules, cases_Bool, on_either)
 
 -- men on the squares of a word
 bit_small : (d s : ℕ) → bit_at d s ≡ bit_of (bit_at d s == 1)
 bit_small d s = grind (arith, bit_at-lt d s)
 
-abbrev one_if : Bool → Option Man
-one_if b = if b then Some (record { colour = White; kind = Pawn }) else None
-
 abbrev placed : ℕ → ℕ → Option Man
-placed d s = one_if (bit_at d s == 1)
-
-on_word : (d s : ℕ) → s < 64 → man_on (men_on d) s ≡ placed d s
-unfolding squares
-on_word d s small = get_or-map-range_with_len (placed d) 0 64 s s None small (omega arith)
-
-is_one : (b : Bool) → is_some (one_if b) ≡ b
-is_one b = grind arith
+placed d s = if bit_at d s == 1 then Some (record { colour = White; kind = Pawn }) else None
 
 pub one_on : (d s : ℕ) → s < 64 → is_some (man_on (men_on d) s) ≡ (bit_at d s == 1)
-one_on d s small = ap (λ (o : Option Man). is_some o) (on_word d s small) ∙ is_one (bit_at d s == 1)
+unfolding squares
+one_on d s small = grind (arith, get_or-map-range_with_len (placed d) 0 64 s s None small (omega arith))
 
 -- the squares of men on the squares of a word are that word
-occupied_on : (d : ℕ) → d < 2 ^ 64 → d ≡ occupied_squares (men_on d)
+pub occupied_on : (d : ℕ) → d < 2 ^ 64 → d ≡ occupied_squares (men_on d)
 occupied_on d fits = square_word (λ s. is_some (man_on (men_on d) s)) d fits (λ s small. bit_small d s ∙ ap bit_of (sym (one_on d s small)))
 
 pub size_on : (d : ℕ) → length (men_on d) ≡ 64
@@ -58,20 +46,11 @@ size_on d = length-map-range_with_len (placed d) 0 64
 pub reached_is : (d : ℕ) (x : Man) (s r : ℕ) → d < 2 ^ 64 → ((men : List (Option Man)) → d ≡ occupied_squares men → r ≡ word (reaches_as men x.colour x.kind s))
     → IsReached d x s r
 unfolding reached_over
-reached_is d x s r fits h = record {
-  inside = λ t small reached. word_has (reaches_as (men_on d) x.colour x.kind s) r t (h (men_on d) (occupied_on d fits)) small ∙ reached;
-}
-
--- and nothing else
-pub reached_alone : (d : ℕ) (x : Man) (s r : ℕ) → d < 2 ^ 64
-    → ((men : List (Option Man)) → d ≡ occupied_squares men → r ≡ word (reaches_as men x.colour x.kind s)) → (t : ℕ) → t < 64 → (bit_at r t == 1) ≡ true
-    → reached_over d x s t ≡ true
-unfolding reached_over
-reached_alone d x s r fits h t small on = sym (word_has (reaches_as (men_on d) x.colour x.kind s) r t (h (men_on d) (occupied_on d fits)) small) ∙ on
+reached_is d x s r fits h = search (rules, occupied_on, word_has)
 
 -- for a loop over a word: each square found is one of it
 pub found_on : (w n k : ℕ) → find (λ s. bit_at w s == 1) (range_with_len n (64 - n)) ≡ Some k → (k < 64) × ((bit_at w k == 1) ≡ true)
-found_on w n k found = let first = find_first (λ s. bit_at w s == 1) n (64 - n) k found in (omega (arith, first.low, first.high), first.here)
+found_on w n k found = search (rules, find_first)
 
 -- those that the attackers reach, kind by kind
 module _ (d : ℕ) (a : Attackers) (region : ℕ) where
@@ -111,95 +90,58 @@ module _ (d : ℕ) (a : Attackers) (region : ℕ) where
   -- for both together: all but hoppers
   pub all_reach : (r l : ℕ) → AreReached d a region is_rider r → AreReached d a region is_leaper l
       → AreReached d a region (λ k. not (is_hopper (gait_of k))) (bit_or r l)
-  all_reach r l rides leaps = of_either is_rider is_leaper _ r l (λ i e. grind arith) rides leaps
+  all_reach r l rides leaps = search (rules, of_either)
 
 -- the converse: who is reached is attacked
 module _ (d : ℕ) (a : Attackers) where
   pub attacked_by : (k : Kind) (t : ℕ) → IsReachedFrom d (record { colour = a.colour; kind = k }) (squares_for a k) t → IsAttackedOver d a t
-  attacked_by k t r = record {
-    from = r.from;
-    man = record { colour = a.colour; kind = k };
-    stands = record { small = r.small; mine = refl; on = r.on };
-    reaches = r.reaches;
-  }
-
-  -- for `ridden_squares` and `leapt_squares`
-  pub attacked_either : (q r : ℕ) → ((t : ℕ) → t < 64 → (bit_at q t == 1) ≡ true → IsAttackedOver d a t)
-      → ((t : ℕ) → t < 64 → (bit_at r t == 1) ≡ true → IsAttackedOver d a t) → (t : ℕ) → t < 64
-      → (bit_at (bit_or q r) t == 1) ≡ true → IsAttackedOver d a t
-  attacked_either q r first second t small on = elim (on_one q r t on) [ inl y ↦ first t small y | inr y ↦ second t small y ]
+  attacked_by k t r = search rules
 
 -- on a board where each hurdle that a man reaches over the hurdles still stands, he reaches no more than over them
 module _ (d : ℕ) (men : List (Option Man)) where
   pub empty_on : (q : ℕ) → ((bit_at d q == 1) ≡ true → q < 64 → ⊥) → is_vacant_at (men_on d) (Some q) ≡ true
-  empty_on q none = by (man_on (men_on d) q) refl where
-    by : (o : Option Man) → man_on (men_on d) q ≡ o → not (is_some o) ≡ true
-    by None e = refl
-    by (Some z) e =
-        let small = on_board (men_on d) q z (size_on d) e in
-        absurd (none (sym (one_on d q small) ∙ ap (λ (o : Option Man). is_some o) e) small)
+  empty_on q none = search (rules, on_board, one_on, size_on)
 
   -- the hurdles that a step from s leads to still stand
   abbrev Stand : ℕ → Step → Type 0
   Stand s st = (b : ℕ) → b < 64 → (bit_at d b == 1) ≡ true → rides (men_on d) s b st ≡ true → is_some (man_on men b) ≡ true
 
-  vacant_over : (st : Step) (s n : ℕ) (o : Option ℕ) → along s st (n + 1) ≡ o → n ≤ 6 → Stand s st
-      → is_clear (men_on d) s st n ≡ true → is_vacant_at men o ≡ true → is_vacant_at (men_on d) o ≡ true
-  unfolding rides
-  vacant_over st s n None at le stand clear vacant = absurd (false≢true vacant)
-  vacant_over st s n (Some q) at le stand clear vacant = empty_on q (λ on small. false≢true (sym (not-true _ vacant) ∙ stand q small on
-      (any_range_true (λ k. is_square (along s st k) q && is_clear (men_on d) s st (k - 1)) 1 7 (n + 1)
-      (omega arith) (omega arith) (and_from _ _ (ap (λ (o : Option ℕ). is_square o q) at ∙ eq-eqb q q refl)
-      (let same : n ≡ n + 1 - 1 = omega arith in subst (λ (j : ℕ). is_clear (men_on d) s st j ≡ true) same clear)))))
+  -- square by square what is empty on the board is so over the hurdles
+  vacant_at : (st : Step) (s m : ℕ) (o : Option ℕ) → Stand s st → 1 ≤ m → m < 8 → along s st m ≡ o
+      → ((j : ℕ) → 1 ≤ j → j < m → is_vacant_at (men_on d) (along s st j) ≡ true) → is_vacant_at men o ≡ true → is_vacant_at (men_on d) o ≡ true
+  vacant_at st s m None stand low high at before vacant = absurd (false≢true vacant)
+  vacant_at st s m (Some q) stand low high at before vacant = empty_on q (λ on small. false≢true (sym (not-true _ vacant)
+      ∙ stand q small on (ride-made (men_on d) s q st m (record { low = low; high = high; at = at; free = before }))))
 
-  clear_over : (st : Step) (s n : ℕ) → n ≤ 6 → Stand s st → is_clear men s st n ≡ true → is_clear (men_on d) s st n ≡ true
-  unfolding is_clear
-  clear_over st s zero le stand clear = refl
-  clear_over st s (suc n) le stand clear =
-      let at = all_at (λ i. is_vacant_at men (along s st i)) 1 (suc n) in
-      let before : is_clear (men_on d) s st n ≡ true = clear_over st s n (omega (arith, le)) stand
-      (all_range_true (λ i. is_vacant_at men (along s st i)) 1 n (λ i lo hi. at i clear lo (omega (arith, hi)))) in
-      all_range_true (λ i. is_vacant_at (men_on d) (along s st i)) 1 (suc n) (λ i lo hi. elim (cases_lt i (n + 1)) [
-        | inl lt ↦ all_at (λ i. is_vacant_at (men_on d) (along s st i)) 1 n i before lo (omega (arith, lt))
-        | inr ge ↦
-            let last : i ≡ n + 1 = omega (arith, ge, hi) in
-            rw last (vacant_over st s n (along s st (n + 1)) refl (omega (arith, le)) stand before (at (n + 1) clear (omega arith) (omega arith)))
-      ])
+  vacant_over : (st : Step) (s n : ℕ) → Stand s st → n ≤ 8 → ((j : ℕ) → 1 ≤ j → j < n → is_vacant_at men (along s st j) ≡ true) → (j : ℕ) → 1 ≤ j → j < n
+      → is_vacant_at (men_on d) (along s st j) ≡ true
+  vacant_over st s zero stand high free j low lt = absurd (omega (arith, lt))
+  vacant_over st s (suc m) stand high free j low lt = vacant_at st s j (along s st j) stand low (omega (arith, lt, high)) refl
+      (λ i lo before. vacant_over st s m stand (omega (arith, high)) (λ e l b. free e l (omega (arith, b))) i lo (omega (arith, before, lt))) (free j low lt)
 
   rides_over : (st : Step) (s t : ℕ) → Stand s st → rides men s t st ≡ true → rides (men_on d) s t st ≡ true
-  unfolding rides
-  rides_over st s t stand h = elim (any_range_cases (λ k. is_square (along s st k) t && is_clear men s st (k - 1)) 1 7) [
-    | inl w ↦
-        let both = and_parts _ _ w.3 in
-        any_range_true (λ k. is_square (along s st k) t && is_clear (men_on d) s st (k - 1)) 1 7 w.0 w.1 w.2
-        (and_from _ _ both.0 (clear_over st s (w.0 - 1) (omega (arith, w.2)) stand both.1))
-    | inr none ↦ absurd (false≢true (sym (any_range_false (λ k. is_square (along s st k) t && is_clear men s st (k - 1)) 1 7 none) ∙ h))
-  ]
+  rides_over st s t stand h =
+      let w = ride-found men s t st h in
+      let free = vacant_over st s w.0 stand (omega (arith, w.1.high)) w.1.free in
+      ride-made (men_on d) s t st w.0 (record { low = w.1.low; high = w.1.high; at = w.1.at; free = free })
 
   some_over : (s t : ℕ) (ds : List Step)
       → ((b : ℕ) → b < 64 → (bit_at d b == 1) ≡ true → list_any (rides (men_on d) s b) ds ≡ true → is_some (man_on men b) ≡ true)
       → list_any (rides men s t) ds ≡ true → list_any (rides (men_on d) s t) ds ≡ true
   some_over s t [] stand h = h
-  some_over s t (st ∷ ds) stand h = elim (or_cases _ _ h) [
-    | inl y ↦
-        ap (λ (b : Bool). b || list_any (rides (men_on d) s t) ds)
-        (rides_over st s t (λ b small on r. stand b small on (ap (λ (a : Bool). a || list_any (rides (men_on d) s b) ds) r)) y)
-    | inr y ↦ or_right _ _ (some_over s t ds (λ b small on r. stand b small on (or_right _ _ r)) y)
-  ]
+  some_over s t (st ∷ ds) stand h = search (rules, or_cases, or_left, or_right, rides_over, some_over s t ds)
 
   -- a man who is no hopper
   pub later : (c : Colour) (k : Kind) (s t : ℕ) → is_hopper (gait_of k) ≡ false
       → (is_rider k ≡ true → (b : ℕ) → b < 64 → (bit_at d b == 1) ≡ true → reaches_as (men_on d) c k s b ≡ true → is_some (man_on men b) ≡ true)
       → reaches_as men c k s t ≡ true → reaches_as (men_on d) c k s t ≡ true
   unfolding reaches_as
-  later c King s t plain stand h = h
   later c Queen s t plain stand h = some_over s t queen_steps (stand refl) h
   later c Rook s t plain stand h = some_over s t straight_steps (stand refl) h
   later c Bishop s t plain stand h = some_over s t diagonal_steps (stand refl) h
   later c Nightrider s t plain stand h = some_over s t knight_steps (stand refl) h
-  later c Knight s t plain stand h = h
-  later c Pawn s t plain stand h = h
   later c Grasshopper s t plain stand h = absurd (false≢true (sym plain))
+  later c _ s t plain stand h = h
 
   -- the same where two hurdles may be gone, on none of his lines
   pub later_but : (a o : ℕ) (c : Colour) (k : Kind) (s t : ℕ) → is_hopper (gait_of k) ≡ false
@@ -207,13 +149,7 @@ module _ (d : ℕ) (men : List (Option Man)) where
       → (is_rider k ≡ true → (bit_at d a == 1) ≡ true → reaches_as (men_on d) c k s a ≡ true → ⊥)
       → (is_rider k ≡ true → (bit_at d o == 1) ≡ true → reaches_as (men_on d) c k s o ≡ true → ⊥)
       → reaches_as men c k s t ≡ true → reaches_as (men_on d) c k s t ≡ true
-  later_but a o c k s t plain stays one other h = later c k s t plain (λ rider e low on reach. elim (cases_eq e a) [
-    | inl same ↦ absurd (one rider (rw same at on) (rw same at reach))
-    | inr left ↦ elim (cases_eq e o) [
-      | inl same ↦ absurd (other rider (rw same at on) (rw same at reach))
-      | inr off ↦ stays e low on left off
-    ]
-  ]) h
+  later_but a o c k s t plain stays one other h = search (rules, cases_eq, later)
 
 -- on the empty board
 module _ (men : List (Option Man)) where
@@ -222,21 +158,10 @@ module _ (men : List (Option Man)) where
   openly c k s t plain h = later 0 men c k s t plain (λ rider b small on reach. absurd (false≢true (sym (off_zero b) ∙ on))) h
 
   on_line : (o : Option ℕ) → (is_vacant_at men o || is_occupied men o) ≡ true → is_vacant_at (men_on 0) o ≡ true
-  on_line None h = absurd (false≢true h)
-  on_line (Some q) h = empty_on 0 men q (λ on small. false≢true (sym (off_zero q) ∙ on))
+  on_line o h = grind (arith, empty_on 0 men, off_zero)
 
   pub hop_openly : (s t : ℕ) (st : Step) → hops men s t st ≡ true → rides (men_on 0) s t st ≡ true
-  hop_openly s t st h =
-      let w = hop-found men s t st h in
-      ride-made (men_on 0) s t st w.0 (record {
-        low = omega (arith, w.1.low);
-        high = w.1.high;
-        at = w.1.at;
-        free = λ j lo hi. on_line (along s st j) (elim (cases_lt j (w.0 - 1)) [
-          | inl before ↦ or_left _ _ (w.1.free j lo before)
-          | inr last ↦ or_right _ _ (let same : w.0 - 1 ≡ j = omega (arith, last, hi) in rw same at w.1.hurdle)
-        ]);
-      })
+  hop_openly s t st h = search (rules, cases_lt, hop-found, on_line, or_left, or_right, ride-made)
 
   -- and a grasshopper what a queen does
   pub hops_openly : (b c : Colour) (s t : ℕ) → reaches_as men b Grasshopper s t ≡ true → reaches_as (men_on 0) c Queen s t ≡ true

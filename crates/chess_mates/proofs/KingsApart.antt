@@ -1,20 +1,15 @@
 -- A king who goes next to the other king is in check there: no legal move does so.
-use Rattle.chess_mates.proofs.Chess.{CanCastle, IsMade, IsWellFormed, King, List, Man, Move, None, Option, Position, RuleSet, Some, after_well_formed, and_from, and_parts, arith, arrived, arrived_other, can_move, capture_square, cases_Bool, corner, false, false≢true, halfway, in_check, inl, inr, is_attacked, is_attacker, is_castling, is_legal, is_pseudo_legal, is_pseudo_legal-from_legal, king-back, king_is, king_square, king_stays_king, made, man_on, man_on-with_other, man_on-without_other, man_on_at, may_check_from, may_check_from_at, move_man_other, moved_men, moved_plainly, not-true, other, other_differs, position_after, put_at, reaches_as, reborn_is, reborn_square, refl, same_colour-refl, same_kind, same_kind-true, some_square_true, sym, taken, true, ℕ, ◌<◌, ◌∙◌, ◌≡◌}
+use Rattle.chess_mates.proofs.Chess.{CanCastle, IsMade, IsWellFormed, King, Man, Move, Position, RuleSet, Some, after_well_formed, and_from, and_parts, arith, arrived, arrived_other, can_move, capture_square, cases_Bool, corner, false, false≢true, halfway, in_check, inl, inr, is_attacked, is_attacker, is_castling, is_legal, is_pseudo_legal, is_pseudo_legal-from_legal, king-back, king_is, king_square, king_stays_king, made, man_on, man_on-without_other, man_on_at, may_check_from, move_man_other, moved_men, moved_plainly, not-true, other, other_differs, position_after, reaches_as, reborn_is, reborn_square, same_colour-refl, same_kind, same_kind-true, some_square_true, sym, taken, true, ℕ, ◌<◌, ◌∙◌, ◌≡◌}
 use Rattle.chess_mates.proofs.Fleeing.{IsKingOn, king_is_able, king_on, no_king_square, steps_there}
+use Rattle.chess_mates.proofs.Standing.{stood_reborn}
 use Rattle.chess_mates.proofs.Rebirths.{after_is}
 use Rattle.chess_rules.proofs.making_moves.Returns.{moved_arrival}
-
--- who stands on a square stays there when somebody is put on an empty one
-stays_put : (men : List (Option Man)) (o : Option ℕ) (w : Option Man) (s : ℕ) (z : Man) → ((r : ℕ) → o ≡ Some r → man_on men r ≡ None)
-    → man_on men s ≡ Some z → man_on (put_at men o w) s ≡ Some z
-stays_put men None w s z free there = there
-stays_put men (Some r) w s z free there = grind (arith, man_on-with_other)
 
 module _ (rule : RuleSet) (p : Position) (x : Man) (m : Move) (well : IsWellFormed p) (is : IsMade rule p x m) where
   stays_after : (s : ℕ) (z : Man) → man_on (moved_men p x m) s ≡ Some z → man_on (position_after rule p m).men s ≡ Some z
   stays_after s z there =
-      rw (after_is rule p x m is.here) (stays_put (moved_men p x m) (reborn_square rule p x m) (man_on_at p.men (capture_square p x m)) s z
-      (λ r at. (reborn_is rule p x m r at).empty) there)
+      let cases = stood_reborn (moved_men p x m) (reborn_square rule p x m) (man_on_at p.men (capture_square p x m)) s in
+      rw (after_is rule p x m is.here) (grind (arith, cases, reborn_is rule p x m s))
 
   -- the enemy's king stands where he stood
   module _ (k : ℕ) (at : king_square p.men (other p.turn) ≡ Some k) (y : Man) (stood : IsKingOn p.men (other p.turn) k y) where
@@ -42,20 +37,15 @@ module _ (rule : RuleSet) (p : Position) (x : Man) (m : Move) (well : IsWellForm
       in_check_there : is_pseudo_legal rule p m ≡ true → in_check rule (position_after rule p m).men p.turn ≡ true
       unfolding in_check is_attacked
       in_check_there may =
-          let square : king_square (position_after rule p m).men p.turn ≡ Some m.to =
-          king_is (position_after rule p m).men p.turn m.to (after_well_formed rule p m well may).kings small
-          (grind (arith, stays_after m.to x, moved_arrival, king_stays_king, is.mine, same_colour-refl p.turn, king)) in
-          grind (arith, square, some_square_true (is_attacker rule (position_after rule p m).men m.to (other p.turn)) k stood.small strikes_him)
+          let square = king_is (position_after rule p m).men p.turn m.to (after_well_formed rule p m well may).kings small in
+          let struck = some_square_true (is_attacker rule (position_after rule p m).men m.to (other p.turn)) k stood.small strikes_him in
+          grind (arith, square, stays_after m.to x, moved_arrival, king_stays_king, is.mine, same_colour-refl p.turn, king, struck)
 
 -- a king gives no check himself by a legal move
 pub kings_apart : (rule : RuleSet) (p : Position) (x : Man) (m : Move) → IsWellFormed p → man_on p.men m.from ≡ Some x → m.to < 64 → is_legal rule p m ≡ true
     → same_kind x.kind King ≡ true → may_check_from p.men (other p.turn) x m.to ≡ false
 unfolding may_check_from is_legal
-kings_apart rule p x m well here small lawful king = by (king_square p.men (other p.turn)) refl where
-  by : (o : Option ℕ) → king_square p.men (other p.turn) ≡ o → may_check_from_at p.men o x m.to ≡ false
-  by None at = refl
-  by (Some k) at =
-      let may = is_pseudo_legal-from_legal rule p m lawful in
-      let stood = king_on p.men (other p.turn) k at in
-      let check = in_check_there rule p x m well (made rule p m x may here) k at stood.0 stood.1 small king in
-      grind (arith, check, may, same_kind-true x.kind King king, lawful, not-true _ (and_parts (is_pseudo_legal rule p m) _ lawful).1)
+kings_apart rule p x m well here small lawful king =
+    let may = is_pseudo_legal-from_legal rule p m lawful in
+    let check = in_check_there rule p x m well (made rule p m x may here) in
+    grind (arith, king_on p.men (other p.turn), check, may, same_kind-true x.kind King king, lawful, not-true, and_parts)

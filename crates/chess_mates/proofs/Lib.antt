@@ -5,8 +5,6 @@ pub mod Checking
 pub mod Rebirths
 pub mod Mating
 pub mod MatesBetween
-pub mod EveryMove
-pub mod Landing
 pub mod Stepping
 pub mod Fleeing
 pub mod Flightless
@@ -17,7 +15,6 @@ pub mod CastlingChecks
 pub mod CheckTargets
 pub mod FarMen
 pub mod LastingFlights
-pub mod HoldBelow
 pub mod KindByKind
 pub mod Hurdles
 pub mod Risks

@@ -1,19 +1,15 @@
 -- The mates between two places, and the walk that finds them.
-use Rattle.chess_mates.proofs.Chess.{AreCheckOrigins, AreCheckTargets, AreOrigins, HaveNone, IsNextMate, List, Move, Position, RuleSet, [], all_triples, append_cancel_right, arith, bit_at, candidates, cases_lt, false, filter-append, first_of_and, is_mating, is_pseudo_legal, mates, mates_behind, mates_between, moves_behind, moves_behind-here, moves_between, no_candidates, place_of_triple, refl, second_of_and, sym, triple_at, true, ℕ, ◌++◌, ◌+◌, ◌-◌, ◌<◌, ◌==◌, ◌∷◌, ◌≡◌, ◌≤◌}
+use Rattle.chess_mates.proofs.Chess.{HaveNone, IsNextMate, Position, RuleSet, [], all_triples, append_cancel_right, arith, cases_lt, filter, filter-append, first_of_and, is_mating, mates, mates_behind, mates_between, min, moves_behind, moves_behind-here, moves_between, place_of_triple, second_of_and, triple_at, true, ℕ, ◌++◌, ◌+◌, ◌<◌, ◌∷◌, ◌≡◌, ◌≤◌}
 use Rattle.chess_rules.proofs.listing_moves.Between.{behind_cut, between-none, between-past}
-use Rattle.chess_mates.proofs.Mating.{legal_of_mate, mates_behind-end, mates_behind-none, mates_numbered, no_mate, no_mate_quietly, not_mating}
-
-none_before : (xs ys : List Move) → xs ++ ys ≡ ys → xs ≡ []
-none_before xs ys e = append_cancel_right xs [] ys e
+use Rattle.chess_mates.proofs.Mating.{mates_behind-end, mates_behind-none, mates_numbered}
 
 -- the first move that mates behind a place, by its number
 pub next_mate_numbered : (rule : RuleSet) (p : Position) (start n : ℕ) → start ≤ n → n < all_triples → mates_behind rule p n ≡ mates_behind rule p start
     → mates rule p (triple_at n) ≡ true → IsNextMate rule p start (n + 1) (triple_at n)
 unfolding mates_behind mates
 next_mate_numbered rule p start n le lt same h =
-    let less : n + 1 - 1 ≡ n = omega arith in
-    let cut = behind_cut rule p start n le in
-    grind (arith, filter-append, none_before, moves_behind-here, first_of_and, second_of_and)
+    let none = append_cancel_right (filter (is_mating rule p) (moves_between rule p start n)) [] (filter (is_mating rule p) (moves_behind rule p n)) in
+    grind (arith, behind_cut rule p start n le, filter-append, none, moves_behind-here, first_of_and, second_of_and)
 
 -- the mates behind a place, cut at another
 pub cut_mates : (rule : RuleSet) (p : Position) (a b : ℕ) → a ≤ b → mates_behind rule p a ≡ mates_between rule p a b ++ mates_behind rule p b
@@ -31,36 +27,16 @@ until-mate rule p a n e low before fits none h =
 pub until-mateless : (rule : RuleSet) (p : Position) (a n e : ℕ) → a < n → n ≤ all_triples → n ≤ e → (n < all_triples → e ≤ n) → HaveNone (mates rule p) a n
     → mates_between rule p a e ≡ []
 until-mateless rule p a n e lt fits before all none =
-    grind (arith, none_before, cut_mates rule p a e (omega (arith, lt, before)), mates_behind-none, cases_lt n all_triples, mates_behind-end)
+    append_cancel_right (mates_between rule p a e) [] (mates_behind rule p e)
+    (grind (arith, cut_mates rule p a e (omega (arith, lt, before)), mates_behind-none, cases_lt n all_triples, mates_behind-end))
 
--- none lies between a place and one that isn't behind it
-pub mates_between-none : (rule : RuleSet) (p : Position) (a b : ℕ) → b ≤ a → mates_between rule p a b ≡ []
+-- none lies between a place and one that isn't behind it, nor behind the last triple
+pub mates_between-none : (rule : RuleSet) (p : Position) (a b : ℕ) → min b all_triples ≤ a → mates_between rule p a b ≡ []
 unfolding mates_between
-mates_between-none rule p a b le = rw (between-none rule p a b le) refl
-
--- nor behind the last triple
-pub mates_between-past : (rule : RuleSet) (p : Position) (a b : ℕ) → all_triples ≤ a → mates_between rule p a b ≡ []
-unfolding mates_between
-mates_between-past rule p a b ge = rw (between-past rule p a b ge) refl
-
--- a move to no square that gives check doesn't mate
-pub checks_elsewhere : (rule : RuleSet) (p : Position) (s w : ℕ) → AreCheckTargets rule p s w → (m : Move) → m.from ≡ s → m.to < 64
-    → is_pseudo_legal rule p m ≡ true
-    → (bit_at w m.to == 1) ≡ false → mates rule p m ≡ false
-checks_elsewhere rule p s w h m at small may off = sym (no_mate_quietly rule p m (λ lawful. h.elsewhere m at small lawful off))
-
--- a move from no square from which one may give check doesn't mate
-pub mating_origins : (rule : RuleSet) (p : Position) (w : ℕ) → AreCheckOrigins rule p w → AreOrigins (mates rule p) w
-mating_origins rule p w h = grind (arith, no_mate_quietly)
+mates_between-none rule p a b le = grind (arith, between-none, between-past)
 
 -- for the walk over mates up to an end
-pub ruleset until_mates = (legal_of_mate, mates_between-none, mates_between-past, place_of_triple, until-mateless)
+pub ruleset until_mates = (first_of_and, mates_between-none, place_of_triple, until-mateless)
 
 -- for the next mate
-pub ruleset next_mates = (legal_of_mate, mates_behind-end, mates_behind-none, mates_numbered, next_mate_numbered, place_of_triple)
-
--- for a move that doesn't mate
-pub ruleset no_mates = (no_mate, no_mate_quietly)
-
--- for the candidates of one origin
-pub ruleset mating_candidates = (candidates, no_candidates, checks_elsewhere, not_mating)
+pub ruleset next_mates = (first_of_and, mates_behind-end, mates_behind-none, mates_numbered, next_mate_numbered, place_of_triple)

@@ -1,5 +1,5 @@
 -- The moves that mate, by their numbers.
-use Rattle.chess_mates.proofs.Chess.{HaveNone, Move, Position, RuleSet, [], all_triples, and_left, and_right, arith, cases_Bool, false, first_of_and, in_check, is_legal, is_legal-idle, is_mate, is_mating, is_pseudo_legal, is_pseudo_legal-from_legal, maker, mates, mates_behind, moves_behind-end, moves_behind-here, not, other, position_after, position_after_by, refl, rules, second_of_and, sym, triple_at, true, ℕ, ◌&&◌, ◌+◌, ◌<◌, ◌∙◌, ◌∷◌, ◌≡◌, ◌≤◌}
+use Rattle.chess_mates.proofs.Chess.{HaveNone, Move, Position, RuleSet, [], all_triples, and_left, and_right, arith, cases_Bool, false, first_of_and, in_check, is_legal, is_legal-idle, is_mate, is_mating, is_pseudo_legal, is_pseudo_legal-from_legal, maker, mates, mates_behind, moves_behind-end, moves_behind-here, moves_behind-start, not-true, other, position_after, position_after_by, refl, rules, second_of_and, sym, triple_at, true, ℕ, ◌+◌, ◌<◌, ◌∙◌, ◌∷◌, ◌≡◌, ◌≤◌}
 use Rattle.chess_rules.proofs.listing_moves.Sifting.{wanted-none}
 
 -- a move that may not be made doesn't mate
@@ -18,10 +18,6 @@ pub mates_behind-none : (rule : RuleSet) (p : Position) (a b : ℕ) → (b < all
 unfolding mates_behind mates
 mates_behind-none rule p a b low high h = wanted-none rule p (is_mating rule p) a b low high h
 
--- the same for search
-pub no_mate : (rule : RuleSet) (p : Position) (m : Move) → false ≡ is_pseudo_legal rule p m → false ≡ mates rule p m
-no_mate rule p m h = sym (not_mating rule p m (sym h))
-
 -- the other side is to move after a move
 pub turn_after : (rule : RuleSet) (p : Position) (m : Move) → is_pseudo_legal rule p m ≡ true → (position_after rule p m).turn ≡ other p.turn
 unfolding position_after position_after_by
@@ -33,11 +29,11 @@ pub no_mate_quietly : (rule : RuleSet) (p : Position) (m : Move)
 unfolding mates is_mate
 no_mate_quietly rule p m quiet = grind (arith, cases_Bool, and_left, turn_after, is_pseudo_legal-from_legal, and_right)
 
--- a move that may be made, tested in the position after it
-pub mates_after : (rule : RuleSet) (p : Position) (m : Move) → is_pseudo_legal rule p m ≡ true
-    → (not (in_check rule (position_after rule p m).men p.turn) && is_mate rule (position_after rule p m)) ≡ mates rule p m
-unfolding mates is_legal
-mates_after rule p m may = search rules
+-- a legal move that gives no check doesn't mate
+pub quiet : (rule : RuleSet) (p : Position) (m : Move) → is_legal rule p m ≡ true → in_check rule (position_after rule p m).men (other p.turn) ≡ false
+    → is_mating rule p m ≡ false
+unfolding mates
+quiet rule p m lawful calm = grind (arith, no_mate_quietly rule p m (λ h. calm))
 
 -- the first move that mates from a place on, by its number
 pub mates_numbered : (rule : RuleSet) (p : Position) (start n : ℕ) → n < all_triples → mates_behind rule p n ≡ mates_behind rule p start
@@ -45,7 +41,5 @@ pub mates_numbered : (rule : RuleSet) (p : Position) (start n : ℕ) → n < all
 unfolding mates_behind mates
 mates_numbered rule p start n lt same h = sym same ∙ search (rules, first_of_and, moves_behind-here, second_of_and)
 
--- a move that mates is legal
-pub legal_of_mate : (rule : RuleSet) (p : Position) (m : Move) → mates rule p m ≡ true → is_legal rule p m ≡ true
-unfolding mates
-legal_of_mate rule p m h = first_of_and _ _ h
+-- for positions in which each legal move mates
+pub ruleset quietly = (is_pseudo_legal-from_legal, moves_behind-start, not-true, quiet)

@@ -1,13 +1,7 @@
 -- Where a man goes, he might go whoever else stood on the board.
-use Rattle.chess_mates.proofs.Chess.{Bishop, Bool, Grasshopper, King, Knight, List, Man, Nightrider, Option, Pawn, Position, Queen, Rook, and_parts, arith, bit_at, bit_not, bit_or, cond-false, cond-true, diagonal_steps, every_square_on, false, false≢true, goes_on, inl, inr, is_advance, is_on_some, knight_steps, leaps, list_any, list_any-append, may_go, men_on, no_steps, occupied_squares, on_left, on_right, or_cases, pawn_capture_steps, queen_steps, reached_over, reaches_as, refl, rides, rules, same_kind, steps_to, straight_steps, sym, true, w64, word, word_has, ℕ, ◌&&◌, ◌<◌, ◌==◌, ◌||◌, ◌∙◌, ◌≡◌}
+use Rattle.chess_mates.proofs.Chess.{Bool, Grasshopper, Kind, King, Leaper, List, Man, Nightrider, Option, Pawn, Position, Queen, Rider, and_parts, arith, bit_at, bit_or, cond-false, cond-true, diagonal_steps, false, false≢true, gait_of, goes_on, inl, inr, is_advance, is_on_some, kind_steps, leaps, list_any, list_any-append, may_go, men_on, no_steps, occupied_squares, on_left, on_right, or_cases, reached_over, reaches_as, refl, rides, rules, same_kind, steps_to, straight_steps, sym, true, word, word_has, ℕ, ◌&&◌, ◌<◌, ◌==◌, ◌||◌, ◌∙◌, ◌≡◌}
 use Rattle.chess_mates.proofs.Hurdles.{hops_openly, openly, reached_is}
 use Rattle.chess_mates.specs.ties.LastingFlights.{AreReached}
-
--- a piece that is no king reaches where it goes
-pub reached : (p : Position) (x : Man) (s t : ℕ) → same_kind x.kind Pawn ≡ false → same_kind x.kind King ≡ false → may_go p x s t ≡ true
-    → reaches_as p.men x.colour x.kind s t ≡ true
-unfolding may_go
-reached p x s t none piece h = search (rules, cond-false, no_steps)
 
 -- who rides to a square is on a line with it
 pub rides_on : (men : List (Option Man)) (s t : ℕ) (ds : List _) → list_any (rides men s t) ds ≡ true → is_on_some ds s t ≡ true
@@ -20,75 +14,47 @@ advances v one two rank free h = grind (arith, and_parts, false≢true)
 
 -- what a man reaches, he would reach on an empty board: for `open_reach`, kind by kind
 module _ (x : Man) (s : ℕ) where
-  -- a rook's lines
-  pub rook_reach : (l : ℕ) → x.kind ≡ Rook → l ≡ word (is_on_some straight_steps s) → AreReached x s l
+  -- a rook's lines and a bishop's
+  pub ride_reach : (k : Kind) (l : ℕ) → x.kind ≡ k → gait_of k ≡ Rider → l ≡ word (is_on_some (kind_steps x.colour k) s) → AreReached x s l
   unfolding reaches_as
-  rook_reach l kind lines = record {
-    inside = λ men t small h. word_has (is_on_some straight_steps s) l t lines small ∙ rides_on men s t straight_steps (rw kind at h);
-  }
-
-  -- a bishop's
-  pub bishop_reach : (l : ℕ) → x.kind ≡ Bishop → l ≡ word (is_on_some diagonal_steps s) → AreReached x s l
-  unfolding reaches_as
-  bishop_reach l kind lines = record {
-    inside = λ men t small h. word_has (is_on_some diagonal_steps s) l t lines small ∙ rides_on men s t diagonal_steps (rw kind at h);
-  }
-
-  queen_on : (men : List (Option Man)) (t l d : ℕ) → l ≡ word (is_on_some straight_steps s) → d ≡ word (is_on_some diagonal_steps s) → t < 64
-      → list_any (rides men s t) queen_steps ≡ true → (bit_at (bit_or l d) t == 1) ≡ true
-  queen_on men t l d lines slants small h = elim (or_cases _ _ (sym (list_any-append (rides men s t) straight_steps diagonal_steps) ∙ h)) [
-    | inl y ↦ on_left l d t (word_has (is_on_some straight_steps s) l t lines small ∙ rides_on men s t straight_steps y)
-    | inr y ↦ on_right l d t (word_has (is_on_some diagonal_steps s) d t slants small ∙ rides_on men s t diagonal_steps y)
-  ]
+  ride_reach k l kind rider lines = search (rules, word_has, rides_on)
 
   -- a queen's
   pub queen_reach : (l d : ℕ) → x.kind ≡ Queen → l ≡ word (is_on_some straight_steps s) → d ≡ word (is_on_some diagonal_steps s) → AreReached x s (bit_or l d)
   unfolding reaches_as
-  queen_reach l d kind lines slants = record { inside = λ men t small h. queen_on men t l d lines slants small (rw kind at h) }
-
-  -- a knight's leaps
-  pub knight_reach : (l : ℕ) → x.kind ≡ Knight → l ≡ word (λ q. list_any (leaps s q) knight_steps) → AreReached x s l
-  unfolding reaches_as
-  knight_reach l kind squares = record { inside = λ men t small h. word_has (λ q. list_any (leaps s q) knight_steps) l t squares small ∙ (rw kind at h) }
-
-  -- a king's steps
-  pub king_reach : (l : ℕ) → x.kind ≡ King → l ≡ word (λ q. list_any (leaps s q) queen_steps) → AreReached x s l
-  unfolding reaches_as
-  king_reach l kind squares = record { inside = λ men t small h. word_has (λ q. list_any (leaps s q) queen_steps) l t squares small ∙ (rw kind at h) }
-
-  -- a pawn's captures
-  pub pawn_reach : (l : ℕ) → x.kind ≡ Pawn → l ≡ word (λ q. list_any (leaps s q) (pawn_capture_steps x.colour)) → AreReached x s l
-  unfolding reaches_as
-  pawn_reach l kind squares = record {
-    inside = λ men t small h. word_has (λ q. list_any (leaps s q) (pawn_capture_steps x.colour)) l t squares small ∙ (rw kind at h);
+  queen_reach l d kind lines slants = record {
+    inside = λ men t small h. elim (or_cases _ _ (sym (list_any-append (rides men s t) straight_steps diagonal_steps) ∙ (rw kind at h))) [
+      | inl y ↦ on_left l d t (word_has (is_on_some straight_steps s) l t lines small ∙ rides_on men s t straight_steps y)
+      | inr y ↦ on_right l d t (word_has (is_on_some diagonal_steps s) d t slants small ∙ rides_on men s t diagonal_steps y)
+    ];
   }
 
-  -- a grasshopper's, a queen's
-  pub grasshopper_reach : (l d : ℕ) → x.kind ≡ Grasshopper → l ≡ word (is_on_some straight_steps s) → d ≡ word (is_on_some diagonal_steps s)
-      → AreReached x s (bit_or l d)
+  -- a knight's leaps, a king's steps and a pawn's captures
+  pub leap_reach : (k : Kind) (test : ℕ → Bool) (l : ℕ) → x.kind ≡ k → gait_of k ≡ Leaper → l ≡ word test
+      → ((t : ℕ) → list_any (leaps s t) (kind_steps x.colour k) ≡ test t) → AreReached x s l
   unfolding reaches_as
-  grasshopper_reach l d kind lines slants = record {
-    inside = λ men t small h. queen_on (men_on 0) t l d lines slants small (hops_openly men x.colour x.colour s t (rw kind at h));
-  }
+  leap_reach k test l kind leaper squares same = search (rules, word_has)
 
   -- a nightrider's, over no hurdle
   pub nightrider_reach : (w : ℕ) → x.kind ≡ Nightrider
       → ((men : List (Option Man)) → 0 ≡ occupied_squares men → w ≡ word (reaches_as men x.colour Nightrider s)) → AreReached x s w
   unfolding reached_over
-  nightrider_reach w kind h = record {
-    inside = λ men t small reached. (reached_is 0 (record { colour = x.colour; kind = Nightrider }) s w (omega arith) h).inside t small
-        (openly men x.colour Nightrider s t refl (rw kind at reached));
-  }
+  nightrider_reach w kind h =
+      let over = reached_is 0 (record { colour = x.colour; kind = Nightrider }) s w (omega arith) h in
+      search (rules, over.inside, openly)
 
-  -- all squares
-  pub any_reach : AreReached x s (bit_not w64 0)
-  any_reach = record { inside = λ men t small h. every_square_on t small }
+-- a grasshopper's, a queen's
+pub grasshopper_reach : (x : Man) (s l d : ℕ) → x.kind ≡ Grasshopper → l ≡ word (is_on_some straight_steps s) → d ≡ word (is_on_some diagonal_steps s)
+    → AreReached x s (bit_or l d)
+grasshopper_reach x s l d kind lines slants =
+    search (rules, (queen_reach (record { colour = x.colour; kind = Queen }) s l d refl lines slants).inside (men_on 0), hops_openly)
 
 -- for `open_targets`: where a man might go whom the word shows what he reaches
 module _ (p : Position) (x : Man) (s t w : ℕ) (small : t < 64) (h : may_go p x s t ≡ true) (are : AreReached x s w) where
   -- a piece
   pub piece_targets : same_kind x.kind Pawn ≡ false → same_kind x.kind King ≡ false → (bit_at w t == 1) ≡ true
-  piece_targets none piece = are.inside p.men t small (reached p x s t none piece h)
+  unfolding may_go
+  piece_targets none piece = search (rules, cond-false, no_steps, are.inside p.men t small)
 
   -- a pawn, who steps too
   pub pawn_targets : (a : ℕ) → x.kind ≡ Pawn → a ≡ word (is_advance x.colour s) → (bit_at (bit_or w a) t == 1) ≡ true

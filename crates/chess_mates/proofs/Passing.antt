@@ -1,26 +1,22 @@
 -- Moves that are plain: who castles, captures en passant or might be captured so.
-use Rattle.chess_mates.proofs.Chess.{AreCapturers, Black, Colour, IsMereMove, IsPassing, IsPlainMove, King, Man, Move, None, Pawn, Position, Some, White, and_from, and_left, and_parts, and_right, arith, bit_and, bit_at, bit_not, bit_or, capture_of_piece, capture_square, cond-false, cond-true, false, false_by, false≢true, halfway, inl, inr, is_advance, is_castling, is_man, is_of_colour, is_square, king_is_no_pawn, leaps, list_any, man_on, may_go, no_capture, off_left, off_right, or_cases, other, pawn_goes, pawn_is_no_king, queen_steps, refl, rules, same_colour-refl, same_kind, same_kind-true, side_of, squares_of, sym, true, true_from_ne_false, w64, word, word_has, ℕ, ◌<◌, ◌==◌, ◌^◌, ◌∙◌, ◌≡◌}
+use Rattle.chess_mates.proofs.Chess.{AreCapturers, Black, Colour, IsMereMove, IsPassing, IsPlainMove, King, Man, Move, None, Pawn, Position, White, and_left, and_parts, and_right, arith, bit_and, bit_at, bit_not, bit_or, capture_of_piece, capture_square, cond-false, cond-true, false, false_by, false≢true, halfway, is_advance, is_castling, is_man, is_of_colour, is_square, king_is_no_pawn, leaps, list_any, man_on, may_go, no_capture, no_pawn_arrives, off_left, off_right, or_cases, other, pawn_goes, pawn_is_no_king, queen_steps, refl, rules, same_colour-refl, same_kind, same_kind-true, side_of, squares_of, sym, true, w64, word, word_has, ℕ, ◌<◌, ◌==◌, ◌^◌, ◌∙◌, ◌≡◌}
 use Rattle.chess_rules.proofs.rays.Tables.{king_step_is_no_castling}
 use Rattle.chess_mates.proofs.Approaches.{far_is_vacant, goes_over_next, no_far_step, steps_from_there, takes_or_steps}
+pub use Rattle.chess_mates.proofs.FarMen.{on_denied}
 use Rattle.chess_mates.proofs.KindByKind.{man_is}
 use Rattle.chess_mates.proofs.LastingFlights.{on_both}
 use Rattle.chess_mates.proofs.CheckTargets.{last_rank_on}
-use Rattle.chess_mates.proofs.Risks.{bit_denied, no_pawn_arrives, none_at}
+use Rattle.chess_mates.proofs.Risks.{bit_denied, none_at}
 use Rattle.chess_mates.proofs.Standing.{captured_there}
-
--- a square that isn't one of the others is one of the word
-pub on_denied : (w i : ℕ) → w < 2 ^ 64 → i < 64 → (bit_at (bit_not w64 w) i == 1) ≡ false → (bit_at w i == 1) ≡ true
-on_denied w i fits small off = true_from_ne_false _ (λ none. false≢true (sym off ∙ bit_denied w i fits small none))
 
 module _ (p : Position) (x : Man) (m : Move) (from : m.from < 64) (to : m.to < 64) where
   -- a pawn, by the words of the squares ahead of him and of those a step away
   module _ (a n : ℕ) (ahead : a ≡ word (is_advance x.colour m.from)) (near : n ≡ word (λ t. list_any (leaps m.from t) queen_steps)) where
     -- for a pawn that goes a step
     pub steps_freely : n < 2 ^ 64 → (bit_at (bit_not w64 n) m.to == 1) ≡ false → IsPassing p x m
-    steps_freely fits off = record {
-      freely = λ double.
-          grind (arith, no_far_step m.from m.to from to, word_has (λ t. list_any (leaps m.from t) queen_steps) n m.to near to, on_denied n m.to fits to off);
-    }
+    steps_freely fits off =
+        let step = word_has (λ t. list_any (leaps m.from t) queen_steps) n m.to near to in
+        record { freely = λ double. grind (arith, no_far_step m.from m.to from to, step, on_denied n m.to fits to off) }
 
     -- for a pawn beside whom none will stand
     pub passes_freely : (w l : ℕ) → may_go p x m.from m.to ≡ true → AreCapturers (other x.colour) (bit_and a n) w
@@ -34,15 +30,11 @@ module _ (p : Position) (x : Man) (m : Move) (from : m.from < 64) (to : m.to < 6
           let there = on_both a n (halfway m) (word_has (is_advance x.colour m.from) a (halfway m) ahead low ∙ over.0)
           (word_has (λ t. list_any (leaps m.from t) queen_steps) n (halfway m) near low ∙ over.1) in
           let kind : z.kind ≡ Pawn = same_kind-true z.kind Pawn pawn in
-          elim (or_cases _ _ (takes_or_steps q (other x.colour) s (halfway m) (rw (← man_is z (other x.colour) Pawn enemy kind) at comes))) [
-            | inl takes ↦
-                let stands = word_has (λ t. is_man (man_on p.men t) (other x.colour) Pawn) l s pawns small
-                ∙ rw (here, enemy, kind) (and_from _ _ (same_colour-refl (other x.colour)) refl) in
-                none_at (bit_and w l) s none (on_both w l s (before.capture s (halfway m) small low takes there) stands)
-            | inr steps ↦
-                let at = steps_from_there p x.colour m.from m.to s from to small low pawn_x both.1 steps in
-                let stood : None ≡ Some z = sym (far_is_vacant p x.colour m.from m.to from to pawn_x both.1) ∙ rw at at here in cc
-          ]);
+          let stands = word_has (λ t. is_man (man_on p.men t) (other x.colour) Pawn) l s pawns small in
+          let at = steps_from_there p x.colour m.from m.to from to pawn_x both.1 s small low in
+          let vacant = far_is_vacant p x.colour m.from m.to from to pawn_x both.1 in
+          let goes = takes_or_steps q (other x.colour) s (halfway m) (rw (← man_is z (other x.colour) Pawn enemy kind) at comes) in
+          grind (arith, before.capture s (halfway m) small low, same_colour-refl (other x.colour), none_at (bit_and w l) s none, on_both w l s, at, or_cases));
     }
 
   -- where the man captures nobody, and isn't promoted
@@ -75,17 +67,14 @@ module _ (p : Position) (x : Man) (m : Move) (from : m.from < 64) (to : m.to < 6
   pub pawn_plain : (o : ℕ) → o ≡ word (is_square p.crossed) → same_kind x.kind Pawn ≡ true → (bit_at o m.to == 1) ≡ false → IsPassing p x m → IsPlainMove p x m
   pawn_plain o crossed pawn off passing = search (rules, and_left, pawn_is_no_king, captured_there, word_has)
 
-  -- a piece that doesn't castle
-  piece_plain : same_kind x.kind Pawn ≡ false → is_castling x m ≡ false → IsPlainMove p x m
-  piece_plain piece still = search (rules, capture_of_piece, and_parts, false≢true)
-
   -- for a man who is neither pawn nor king
   pub man_plain : same_kind x.kind Pawn ≡ false → same_kind x.kind King ≡ false → IsPlainMove p x m
-  man_plain piece mortal = piece_plain piece (and_left _ _ (and_left _ _ mortal))
+  man_plain piece mortal = search (rules, capture_of_piece, and_parts, and_left, false≢true)
 
   -- for a king who goes a step
   pub king_plain : (n : ℕ) → n ≡ word (λ t. list_any (leaps m.from t) queen_steps) → n < 2 ^ 64 → same_kind x.kind King ≡ true
       → (bit_at (bit_not w64 n) m.to == 1) ≡ false → IsPlainMove p x m
   king_plain n near fits king off =
       let steps = word_has (λ t. list_any (leaps m.from t) queen_steps) n m.to near to in
-      piece_plain (king_is_no_pawn x.kind king) (grind (arith, steps, on_denied n m.to fits to off, king_step_is_no_castling m.from m.to from to))
+      let still : is_castling x m ≡ false = grind (arith, steps, on_denied n m.to fits to off, king_step_is_no_castling m.from m.to from to) in
+      search (rules, capture_of_piece, and_parts, king_is_no_pawn, false≢true)

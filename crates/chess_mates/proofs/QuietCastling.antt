@@ -1,13 +1,8 @@
 -- Castling gives no check where the rook doesn't see the enemy king from his new square, and the king leaves no line to him.
-use Rattle.chess_mates.proofs.Chess.{Bishop, Bool, Colour, Grasshopper, IsMade, IsWellFormed, Kind, List, Man, Move, Nightrider, Option, Position, Rook, RuleSet, Some, Step, [], and_left, and_right, ap, arith, eqb-true, false, false_by, halfway, in_check, is_castling, is_fairy, is_lined, is_man, is_on_fairy_line, is_on_fairy_line_at, is_on_some, is_reached, is_rider, is_shut, king_square, king_there, knight_steps, list_any, man_on, may_check_from, may_expose, may_stand_between, or_from, other, position_after, queen_steps, reaches_as, refl, rules, some_square_false, straight-back, straight_steps, true, ℕ, ◌<◌, ◌==◌, ◌∙◌, ◌∷◌, ◌≡◌}
+use Rattle.chess_mates.proofs.Chess.{Bishop, Colour, Grasshopper, IsMade, IsWellFormed, Kind, Man, Move, Nightrider, Position, Rook, RuleSet, Some, Step, and_left, and_right, any_false, arith, eqb-true, false, false_by, halfway, in_check, is_castling, is_fairy, is_lined, is_man, is_on_fairy_line, is_on_some, is_reached, is_rider, is_shut, king_square, king_there, knight_steps, man_on, may_check_from, may_expose, may_stand_between, or_from, other, position_after, queen_steps, reaches_as, refl, rules, some_square_false, straight-back, straight_steps, true, ℕ, ◌<◌, ◌==◌, ◌≡◌}
 use Rattle.chess_mates.proofs.OpenBoard.{rides_on}
 use Rattle.chess_mates.proofs.CastlingChecks.{castling_gives_no_check}
 use Rattle.chess_mates.proofs.Standing.{not_mine, reach_none}
-
--- where no step of the list passes the test
-any_false : (f : Step → Bool) (ds : List Step) → ((d : Step) → f d ≡ false) → list_any f ds ≡ false
-any_false f [] none = refl
-any_false f (d ∷ ds) none = or_from _ _ (none d) (any_false f ds none)
 
 -- x castles in p; the enemy's king, of colour c, stands on k
 module _ (rule : RuleSet) (p : Position) (x : Man) (m : Move) (c : Colour) (k : ℕ) (well : IsWellFormed p) (is : IsMade rule p x m)
@@ -23,21 +18,15 @@ module _ (rule : RuleSet) (p : Position) (x : Man) (m : Move) (c : Colour) (k : 
   unfolding is_on_fairy_line
   unlined t = or_from _ _ (any_false _ queen_steps (λ d. no_lined Grasshopper refl t d)) (any_false _ knight_steps (λ d. no_lined Nightrider refl t d))
 
-  rook_off : may_check_from p.men c (record { colour = other c; kind = Rook }) (halfway m) ≡ false
-  unfolding may_check_from reaches_as
-  rook_off = grind (arith, king, rides_on p.men k (halfway m) straight_steps, straight-back p.men (halfway m) k half small)
-
-  elsewhere : (k == m.from) ≡ false
-  elsewhere = false_by _ (λ e. grind (arith, eqb-true k m.from e, (king_there p.men c k king).1, is.here, not_mine x c enemy))
-
   covered : may_expose p.men c m.from ≡ false
   unfolding may_expose is_shut is_reached reaches_as
-  covered = grind (arith, king, some_square_false, reach_none p.men k c calm, elsewhere, unseen Rook refl refl, unseen Bishop refl refl, unlined m.from)
-
-  aside : may_stand_between p.men c m.to ≡ false
-  unfolding may_stand_between
-  aside = ap (λ (o : Option ℕ). is_on_fairy_line_at p.men o c m.to) king ∙ unlined m.to
+  covered =
+      let apart : (k == m.from) ≡ false = false_by _ (λ e. grind (arith, eqb-true k m.from e, (king_there p.men c k king).1, is.here, not_mine x c enemy)) in
+      grind (arith, king, some_square_false, reach_none p.men k c calm, apart, unseen Rook refl refl, unseen Bishop refl refl, unlined m.from)
 
   -- for castlings told by squares
   pub castles_quietly : in_check rule (position_after rule p m).men c ≡ false
-  castles_quietly = castling_gives_no_check rule p x m well is castling c (not_mine x c enemy) covered aside untouched rook_off
+  unfolding may_stand_between may_check_from reaches_as
+  castles_quietly =
+      castling_gives_no_check rule p x m well is castling c (not_mine x c enemy) covered (rw king (unlined m.to)) untouched
+      (grind (arith, king, rides_on p.men k (halfway m) straight_steps, straight-back p.men (halfway m) k half small))

@@ -1,84 +1,37 @@
 -- The men of a siege, its castlings and the king's field.
-use Rattle.chess_mates.proofs.Chess.{AreAdjacent, AreAttackers, AreCaptureSquares, AreCastlingSquares, AreClosed, AreFree, AreHurdles, AreReached, AreSpringboards, AreSprings, AreThreats, AreWeak, Attackers, Bishop, Colour, Field, Grasshopper, IsAttacker, IsCastlingHarmless, IsField, IsHurdle, IsNear, IsReached, IsRiskAt, IsShut, IsSiege, IsSiegeOf, IsUnsprung, IsWellFormed, IsWhole, Kind, King, Knight, List, Man, MayRide, Nightrider, None, Option, Pawn, Position, Queen, Risk, Rook, RuleSet, Siege, Some, White, and_parts, ap, arith, bit_and, bit_at, bit_not, bit_or, corner, diagonal_steps, eq-eqb, eqb-true, every_square_on, false, false_by, false≢true, find_no, has_unmoved, inl, inr, is_fairy, is_man, is_of_colour, is_on_some, is_rider, is_square, king_square, king_there, leaps, list_any, list_any-append, man_on, men_on, ne_eqb, occupied_squares, off_left, off_right, on_first, on_left, on_right, or_cases, other, queen_steps, reached_over, reaches_as, refl, rides, same_colour, same_kind, side_of, squares, squares_for, squares_of, straight_steps, subst, sym, true, w64, word, word_has, ℕ, ◌&&◌, ◌+◌, ◌-◌, ◌<◌, ◌==◌, ◌^◌, ◌||◌, ◌∙◌, ◌≡◌, ◌≢◌, ◌⊎◌}
-use Rattle.chess_mates.specs.declared.field.Landings.{Landings}
+use Rattle.chess_mates.proofs.Chess.{AreAdjacent, AreAttackers, AreCaptureSquares, AreCastlingSquares, AreClosed, AreFree, AreHurdles, AreReached, AreSpringboards, AreSprings, AreThreats, AreWeak, Attackers, Bishop, Colour, Field, Grasshopper, IsAttacker, IsCastlingHarmless, IsField, IsHurdle, IsReached, IsRiskAt, IsShut, IsSiege, IsSiegeOf, IsUnsprung, IsWellFormed, IsWhole, Kind, King, Knight, List, Man, MayRide, Nightrider, None, Option, Pawn, Position, Queen, Risk, Rook, RuleSet, Siege, Some, White, and_parts, arith, bit_and, bit_at, bit_not, bit_or, corner, eq-eqb, eqb-true, every_square_on, false, false_by, false≢true, find_no, has_unmoved, inl, inr, is_fairy, is_man, is_on_some, is_rider, is_square, king_square, king_there, leaps, list_any, list_any-append, man_on, men_on, ne_eqb, occupied_squares, off_left, off_right, on_first, on_left, on_right, or_cases, other, queen_steps, reached_over, reaches_as, refl, rules, side_of, squares, squares_for, squares_of, straight_steps, true, w64, word, word_has, ℕ, ◌&&◌, ◌+◌, ◌-◌, ◌<◌, ◌==◌, ◌^◌, ◌||◌, ◌∙◌, ◌≡◌, ◌≢◌, ◌⊎◌}
 use Rattle.chess_mates.specs.declared.field.Springs.{Springs}
 use Rattle.chess_mates.proofs.Hurdles.{on_one, reached_is, reached_left, reached_right}
-use Rattle.chess_mates.proofs.FarMen.{man_of_word}
+use Rattle.chess_mates.proofs.FarMen.{man_of_word, off_denied}
 use Rattle.chess_mates.proofs.KindByKind.{man_is}
 use Rattle.chess_mates.proofs.Fleeing.{on_second}
-use Rattle.chess_mates.proofs.Springboards.{grasshopper_on, landing_anywhere, none_sprung, unsprung_right}
-use Rattle.chess_mates.proofs.Risks.{denied_on, none_at, off_word, none_on, weak_never}
+use Rattle.chess_mates.proofs.Springboards.{grasshopper_on, unsprung_right}
+use Rattle.chess_mates.proofs.Risks.{denied_on, none_at, none_on, weak_left}
 use Rattle.chess_mates.proofs.LastingFlights.{on_both}
-
--- for `adjacent_squares`
-pub adjacent_are : (v : Siege) (k n : ℕ) → n ≡ word (λ t. list_any (leaps k t) queen_steps) → v.closed < 2 ^ 64 → v.men.kings < 2 ^ 64
-    → AreAdjacent v k (bit_and (bit_and n (bit_not w64 v.closed)) (bit_not w64 v.men.kings))
-adjacent_are v k n near closed kings = record {
-  next = λ f small on. sym (word_has (λ t. list_any (leaps k t) queen_steps) n f near small) ∙ on_first n _ f (on_first _ _ f on);
-  free = λ f small on. off_word n v.closed f closed small (on_first _ _ f on);
-  kings = λ f small on. off_word _ v.men.kings f kings small on;
-}
 
 -- for `capture_squares`: where no attacker stands on a closed square, and none is a hopper
 pub captures_are : (v : Siege) (k n : ℕ) → n ≡ word (λ t. list_any (leaps k t) queen_steps) → bit_and v.closed v.enemies ≡ 0 → v.men.grasshoppers ≡ 0
     → AreCaptureSquares v k n
 captures_are v k n near none plain = record {
-  next = λ f small on. sym (word_has (λ t. list_any (leaps k t) queen_steps) n f near small) ∙ on;
-  off = λ f s on small enemy. false_by _ (λ closed. none_at (bit_and v.closed v.enemies) s none (on_both v.closed v.enemies s closed enemy));
-  plain = λ f s z on i. false_by _ (λ hop. none_at v.men.grasshoppers s plain (grasshopper_on v.men s z i hop));
+  next = λ f small on. search (rules, word_has);
+  off = λ f s on small enemy. search (rules, false_by, none_at (bit_and v.closed v.enemies), on_both);
+  plain = λ f s z on i. search (rules, false_by, none_at v.men.grasshoppers, grasshopper_on);
 }
 
--- elsewhere none
-pub no_captures : (v : Siege) (k : ℕ) → AreCaptureSquares v k 0
-no_captures v k = record {
-  next = λ f small on. absurd (none_at 0 f refl on);
-  off = λ f s on small enemy. absurd (none_at 0 f refl on);
-  plain = λ f s z on i. absurd (none_at 0 f refl on);
-}
-
+-- for fewer squares next to the king
 pub fewer_adjacent : (v : Siege) (k n w : ℕ) → AreAdjacent v k n → AreAdjacent v k (bit_and n w)
-fewer_adjacent v k n w are = record {
-  next = λ f small on. are.next f small (on_first n w f on);
-  free = λ f small on. are.free f small (on_first n w f on);
-  kings = λ f small on. are.kings f small (on_first n w f on);
-}
+fewer_adjacent v k n w are = search (rules, on_first)
 
 -- a queen's lines are a rook's and a bishop's
 pub queen_lines : (d k r b : ℕ) (c : Colour) → IsReached d (record { colour = c; kind = Rook }) k r → IsReached d (record { colour = c; kind = Bishop }) k b
     → IsReached d (record { colour = c; kind = Queen }) k (bit_or r b)
 unfolding reached_over reaches_as
-queen_lines d k r b c rook bishop = record {
-  inside = λ t small reached. elim (or_cases _ _ (sym (list_any-append (rides (men_on d) k t) straight_steps diagonal_steps) ∙ reached)) [
-    | inl y ↦ on_left r b t (rook.inside t small y)
-    | inr y ↦ on_right r b t (bishop.inside t small y)
-  ];
-}
-
--- for `nightrider_lines`
-pub nightrider_lines : (d k w : ℕ) → d < 2 ^ 64 → ((men : List (Option Man)) → d ≡ occupied_squares men → w ≡ word (reaches_as men White Nightrider k))
-    → (c : Colour) → IsReached d (record { colour = c; kind = Nightrider }) k w
-unfolding reached_over reaches_as
-nightrider_lines d k w fits h c = record { inside = (reached_is d (record { colour = White; kind = Nightrider }) k w fits h).inside }
+queen_lines d k r b c rook bishop = grind (arith, list_any-append, on_left, on_right, or_cases)
 
 -- for `springs_of`
-pub springs_are : (v : Siege) (k n s : ℕ) (i : Landings) → AreAdjacent v k n → AreSpringboards v.men k s
-    → ((f : ℕ) → f < 64 → (bit_at i.squares f == 1) ≡ true → IsUnsprung v k f i.springboards)
-    → AreSprings v k (record { near = bit_and n i.squares; own = s; all = bit_or s i.springboards })
-springs_are v k n s i near own landings = record {
-  near = fewer_adjacent v k n i.squares near;
-  unsprung = λ f small on. unsprung_right v k f s i.springboards (landings f small (on_second n i.squares f on));
-  own = own;
-  within = λ h on. on_left s i.springboards h on;
-}
-
--- for `no_springs`
-pub springless : (v : Siege) (k n : ℕ) → v.men.grasshoppers ≡ 0 → AreAdjacent v k n → AreSprings v k (record { near = n; own = 0; all = 0 })
-springless v k n none near = record {
-  near = near;
-  unsprung = λ f small on. landing_anywhere v k f none;
-  own = none_sprung v.men k none;
-  within = λ h on. on;
-}
+pub springs_are : (v : Siege) (k n s j b : ℕ) → AreAdjacent v k n → AreSpringboards v.men k s
+    → ((f : ℕ) → f < 64 → (bit_at j f == 1) ≡ true → IsUnsprung v k f b) → AreSprings v k (record { near = bit_and n j; own = s; all = bit_or s b })
+springs_are v k n s j b near own landings = search (rules, fewer_adjacent, on_left, on_second, unsprung_right)
 
 -- the king's field
 pub field_is : (v : Siege) (k c r b l : ℕ) (i : Springs) → AreSprings v k i → v.hurdles < 2 ^ 64
@@ -105,32 +58,24 @@ field_is v k c r b l i springs hurdles rook bishop riders captures = record {
   lines = by;
 } where
   straight : (c : Colour) → IsReached v.hurdles (record { colour = c; kind = Rook }) k r
-  straight c = record { inside = (reached_is v.hurdles (record { colour = White; kind = Rook }) k r hurdles rook).inside }
+  straight c = search (rules, reached_is)
 
   diagonal : (c : Colour) → IsReached v.hurdles (record { colour = c; kind = Bishop }) k b
-  diagonal c = record { inside = (reached_is v.hurdles (record { colour = White; kind = Bishop }) k b hurdles bishop).inside }
+  diagonal c = search (rules, reached_is)
 
   by : (c : Colour) (j : Kind) → MayRide v j → IsReached v.hurdles (record { colour = c; kind = j }) k (bit_or (bit_or r b) l)
   by c Queen may = reached_left v.hurdles _ k (bit_or r b) l (queen_lines v.hurdles k r b c (straight c) (diagonal c))
-  by c Rook may = reached_left v.hurdles _ k (bit_or r b) l (reached_left v.hurdles _ k r b (straight c))
-  by c Bishop may = reached_left v.hurdles _ k (bit_or r b) l (reached_right v.hurdles _ k r b (diagonal c))
+  by c Rook may = search (reached_left, straight)
+  by c Bishop may = search (reached_left, reached_right, diagonal)
   by c Nightrider may = reached_right v.hurdles _ k (bit_or r b) l (riders (may.1 refl) c)
-  by c King may = absurd (false≢true may.0)
-  by c Knight may = absurd (false≢true may.0)
-  by c Pawn may = absurd (false≢true may.0)
-  by c Grasshopper may = absurd (false≢true may.0)
+  by c _ may = absurd (false≢true may.0)
 
 plain_among : (a : Attackers) (s : ℕ) (x : Man) → IsAttacker a x s → (bit_or a.grasshoppers a.nightriders == 0) ≡ true → is_fairy x.kind ≡ false
-plain_among a s x i none = by x.kind refl where
-  by : (k : Kind) → x.kind ≡ k → is_fairy k ≡ false
-  by Grasshopper e = absurd (none_on _ s none (on_left a.grasshoppers a.nightriders s (rw e at i.on)))
-  by Nightrider e = absurd (none_on _ s none (on_right a.grasshoppers a.nightriders s (rw e at i.on)))
-  by King e = refl
-  by Queen e = refl
-  by Rook e = refl
-  by Bishop e = refl
-  by Knight e = refl
-  by Pawn e = refl
+plain_among a s x i none = by x.kind i.on where
+  by : (k : Kind) → (bit_at (squares_for a k) s == 1) ≡ true → is_fairy k ≡ false
+  by Grasshopper on = absurd (none_on _ s none (on_left a.grasshoppers a.nightriders s on))
+  by Nightrider on = absurd (none_on _ s none (on_right a.grasshoppers a.nightriders s on))
+  by _ on = refl
 
 -- for `castling_is_harmless`, by the words of rooks and kings
 pub harmless_castling : (v : Siege) (g : Field) (l : ℕ) → l ≡ word (is_on_some straight_steps g.king)
@@ -152,21 +97,6 @@ harmless_castling v g l lines h = elim (or_cases _ _ h) [
       }
 ]
 
--- the risk of all
-pub risk_never : (v : Siege) (k : ℕ) (g : Field) → g.king ≡ k → IsField v g → IsRiskAt v k (record { critical = bit_not w64 0; lines = 0 })
-risk_never v k g king field = record {
-  field = g;
-  king = king;
-  is = field;
-  castling = λ b small off. absurd (nowhere b small off);
-  unsprung = λ b small off. absurd (nowhere b small off);
-  hops = λ b small off. absurd (nowhere b small off);
-  lines = λ a b small off on. absurd (nowhere b small off);
-  weak = λ s x i. weak_never v g 0 x s;
-} where
-  nowhere : (b : ℕ) → b < 64 → (bit_at (bit_not w64 0) b == 1) ≡ false → ⊥
-  nowhere b small off = false≢true (sym off ∙ every_square_on b small)
-
 -- for the risk told of all attackers
 pub risk_is : (v : Siege) (k : ℕ) (g : Field) (r : Risk) (o : ℕ) → g.king ≡ k → IsField v g → IsCastlingHarmless v g → AreWeak v g r
     → AreFree v k g.springboards → o ≡ word (λ s. is_square (Some k) s) → o < 2 ^ 64
@@ -177,25 +107,16 @@ risk_is v k g r o king field castling all free only fits = record {
   is = field;
   castling = λ b small off. castling;
   lines = λ a b small critical off. off_right r.lines g.lines a off;
-  unsprung = λ b small off. record {
-    springboards = g.springboards;
-    are = field.springs.own;
-    free = rw king free;
-    within = λ h on. on;
-  };
-  hops = λ b small off ne. false_by _ (λ on. false≢true (sym (off_right r.critical _ b off) ∙ denied_on g.hops o b fits small on
-      (false_by _ (λ at. ne (sym (eqb-true k b (sym (word_has (λ s. is_square (Some k) s) o b only small) ∙ at)) ∙ sym king)))));
-  weak = λ s x i. record {
-    weak = λ a b small inside off. (all.weak s x i).weak a b small inside
-        (record { lines = λ on. off_left r.lines g.lines a (off.lines on); critical = off_left r.critical _ b off.critical });
-  };
+  unsprung = λ b small off. record { springboards = _; are = field.springs.own; free = rw king free; within = λ h on. on };
+  hops = λ b small off ne. search (rules, denied_on, eqb-true, false_by, off_right, king, word_has);
+  weak = λ s x i. weak_left v g r (record { critical = bit_and g.hops (bit_not w64 o); lines = g.lines }) s x (all.weak s x i);
 }
 
 -- with the lines of all riders
-pub threats_are : (v : Siege) (r : Risk) (w : ℕ) → IsSiege v → IsWhole v → IsRiskAt v v.king r → AreReached v.hurdles v.men (bit_not w64 0) is_rider w
-    → AreThreats v (record { critical = r.critical; lines = bit_or r.lines w })
+pub threats_are : (v : Siege) (critical lines w : ℕ) → IsSiege v → IsWhole v → IsRiskAt v v.king (record { critical = critical; lines = lines })
+    → AreReached v.hurdles v.men (bit_not w64 0) is_rider w → AreThreats v (record { critical = critical; lines = bit_or lines w })
 unfolding reached_over
-threats_are v r w siege whole risk ridden = record {
+threats_are v critical lines w siege whole risk ridden = record {
   siege = siege;
   whole = whole;
   risk = record {
@@ -203,55 +124,38 @@ threats_are v r w siege whole risk ridden = record {
     king = risk.king;
     is = risk.is;
     castling = risk.castling;
-    lines = λ a b small critical off. risk.lines a b small critical (off_left r.lines w a off);
+    lines = λ a b small far off. risk.lines a b small far (off_left lines w a off);
     unsprung = risk.unsprung;
     hops = risk.hops;
     weak = λ s x i. record {
       weak = λ a b small inside off. (risk.weak s x i).weak a b small inside
-          (record { lines = λ on. off_left r.lines w a (off.lines on); critical = off.critical });
+          (record { lines = λ on. off_left lines w a (off.lines on); critical = off.critical });
     };
   };
   rides = λ s x i rider. record {
-    inside = λ t small reached. on_right r.lines w t ((ridden.reach s x i rider (near s x t small reached)).inside t small reached);
+    inside = λ t small reached. on_right lines w t ((ridden.reach s x i rider
+        (record { square = t; small = small; on = every_square_on t small; men = men_on v.hurdles; reaches = reached })).inside t small reached);
   };
-} where
-  near : (s : ℕ) (x : Man) (t : ℕ) → t < 64 → reached_over v.hurdles x s t ≡ true → IsNear x s (bit_not w64 0)
-  near s x t small reached = record { square = t; small = small; on = every_square_on t small; men = men_on v.hurdles; reaches = reached }
+}
 
 -- the men of the siege
 pub hurdles_are : (own enemies k o w : ℕ) → o ≡ word (λ t. is_square (Some k) t) → o < 2 ^ 64
     → AreHurdles own enemies k (bit_and (bit_and (bit_or own enemies) (bit_not w64 o)) (bit_not w64 w))
-hurdles_are own enemies k o w only fits = record {
-  men = λ e small on.
-      let there = on_first (bit_and (bit_or own enemies) (bit_not w64 o)) (bit_not w64 w) e on in (
-        on_one own enemies e (on_first (bit_or own enemies) _ e there),
-        λ same. false≢true (sym (off_word (bit_or own enemies) o e fits small there) ∙ word_has (λ t. is_square (Some k) t) o e only small ∙ eq-eqb k e same),
-      );
-}
+hurdles_are own enemies k o w only fits = search (rules, off_denied, on_first, on_one, word_has)
 
 -- all of them, where none is lifted
-pub hurdles_whole : (own enemies k o w : ℕ) → o ≡ word (λ t. is_square (Some k) t) → o < 2 ^ 64 → w ≡ word (λ t. is_square None t) → w < 2 ^ 64
-    → (e : ℕ) → e < 64 → IsHurdle own enemies k (bit_and (bit_and (bit_or own enemies) (bit_not w64 o)) (bit_not w64 w)) e
-hurdles_whole own enemies k o w only fits none low e small there ne =
-    denied_on (bit_and (bit_or own enemies) (bit_not w64 o)) w e low small
-    (denied_on (bit_or own enemies) o e fits small (elim there [
-      | inl mine ↦ on_left own enemies e mine
-      | inr enemy ↦ on_right own enemies e enemy
-    ]) (word_has (λ t. is_square (Some k) t) o e only small ∙ ne_eqb k e ne))
-    (word_has (λ t. is_square None t) w e none small)
+pub hurdles_whole : (own enemies k o w : ℕ) (lifted : Option ℕ) → o ≡ word (λ t. is_square (Some k) t) → o < 2 ^ 64 → w ≡ word (λ t. is_square lifted t)
+    → w < 2 ^ 64 → lifted ≡ None → (e : ℕ) → e < 64 → IsHurdle own enemies k (bit_and (bit_and (bit_or own enemies) (bit_not w64 o)) (bit_not w64 w)) e
+hurdles_whole own enemies k o w lifted only fits at low none e small there ne = grind (arith, denied_on, ne_eqb, on_left, on_right, word_has)
 
 -- for a man who is lifted: his square isn't a hurdle
 pub lifted_off : (a w s : ℕ) (o : Option ℕ) → w ≡ word (λ t. is_square o t) → w < 2 ^ 64 → s < 64 → o ≡ Some s
     → (bit_at (bit_and a (bit_not w64 w)) s == 1) ≡ false
-lifted_off a w s o only fits small e = false_by _ (λ on. false≢true (sym (off_word a w s fits small on) ∙ word_has (λ t. is_square o t) w s only small
-    ∙ ap (λ (u : Option ℕ). is_square u s) e ∙ eq-eqb s s refl))
+lifted_off a w s o only fits small e = search (rules, false_by, off_denied, word_has)
 
 -- who stands on a square is of his colour and kind
-self : (c : Colour) (k : Kind) → (same_colour c c && same_kind k k) ≡ true
-self c k = grind (arith, eq-eqb)
-
 there : (men : List (Option Man)) (s : ℕ) (x : Man) (c : Colour) → man_on men s ≡ Some x → x.colour ≡ c → is_man (man_on men s) c x.kind ≡ true
-there men s x c here mine = ap (λ (o : Option Man). is_man o c x.kind) here ∙ rw mine (self c x.kind)
+there men s x c here mine = grind (arith, eq-eqb)
 
 -- the men of the board
 pub attackers_are : (men : List (Option Man)) (a : Attackers) → a.kings ≡ squares_of men a.colour King → a.queens ≡ squares_of men a.colour Queen
@@ -259,43 +163,25 @@ pub attackers_are : (men : List (Option Man)) (a : Attackers) → a.kings ≡ sq
     → a.pawns ≡ squares_of men a.colour Pawn → a.grasshoppers ≡ squares_of men a.colour Grasshopper
     → a.nightriders ≡ squares_of men a.colour Nightrider → AreAttackers men a
 unfolding squares_of
-attackers_are men a kings queens rooks bishops knights pawns grasshoppers nightriders = record {
-  stand = λ s x small here mine. record {
-    small = small;
-    mine = mine;
-    on = word_has (λ q. is_man (man_on men q) a.colour x.kind) _ s (words x.kind) small ∙ there men s x a.colour here mine;
-  };
-  alone = λ s x i. man_of_word men a.colour x.kind _ s (words x.kind) i.small i.on ∙ ap (λ (y : Man). Some y) (man_is x a.colour x.kind i.mine refl);
-} where
-  words : (k : Kind) → squares_for a k ≡ squares_of men a.colour k
-  words k = grind arith
+attackers_are men a kings queens rooks bishops knights pawns grasshoppers nightriders = grind (arith, man_is, man_of_word, there, word_has)
 
 -- for `castling_square`: one side, by numbers
 pub shut_on : (p : Position) (c : Colour) (own w corner next a b : ℕ) → own ≡ side_of p.men c → next < 64
     → (has_unmoved p.unmoved corner ≡ false) ⊎ ((bit_at own next == 1) ≡ true) ⊎ ((bit_at w next == 1) ≡ true) → corner ≡ a → next ≡ b → IsShut p c w a b
 unfolding side_of
-shut_on p c own w corner next a b side small (inl moved) e f = inl (rw (← e) moved)
-shut_on p c own w corner next a b side small (inr (inl on)) e f =
-    inr (inl (rw (← f) (sym (word_has (λ q. is_of_colour (man_on p.men q) c) own next side small) ∙ on)))
-shut_on p c own w corner next a b side small (inr (inr on)) e f = inr (inr (λ low. rw (← f) on))
+shut_on p c own w corner next a b side small h e f = search (rules, word_has)
 
 shut_in : (p : Position) (c : Colour) (v w a b : ℕ) → ((q : ℕ) → (bit_at v q == 1) ≡ true → (bit_at w q == 1) ≡ true) → IsShut p c v a b → IsShut p c w a b
-shut_in p c v w a b more (inl moved) = inl moved
-shut_in p c v w a b more (inr (inl on)) = inr (inl on)
-shut_in p c v w a b more (inr (inr on)) = inr (inr (λ low. more b (on low)))
+shut_in p c v w a b more h = search (rules, more)
 
 -- for `castling_squares`: without a king
 pub no_king_castles : (p : Position) (c : Colour) (w : ℕ) → king_square p.men c ≡ None → AreCastlingSquares p c w
 unfolding king_square squares
-no_king_castles p c w none = record {
-  sides = λ s small is. absurd (false≢true (sym (find_no (λ q. is_man (man_on p.men q) c King) 0 64 s none (omega arith) (omega arith)) ∙ is));
-}
+no_king_castles p c w none = record { sides = λ s lo is. search (rules, find_no (λ q. is_man (man_on p.men q) c King) 0 64 s none (omega arith) (omega arith)) }
 
 king_castles : (p : Position) (c : Colour) (w k : ℕ) → IsWellFormed p → king_square p.men c ≡ Some k
     → (has_unmoved p.unmoved k ≡ false) ⊎ (IsShut p c w (k + 3) (k + 1) × IsShut p c w (k - 4) (k - 1)) → AreCastlingSquares p c w
-king_castles p c w k well king sides = record {
-  sides = λ s small is. rw (well.kings.same c s k is (king_there p.men c k king).1) sides;
-}
+king_castles p c w k well king sides = record { sides = λ s small is. rw (well.kings.same c s k is (king_there p.men c k king).1) sides }
 
 -- with one who has moved
 pub moved_king_castles : (p : Position) (c : Colour) (w k : ℕ) → king_square p.men c ≡ Some k → has_unmoved p.unmoved k ≡ false → IsWellFormed p
@@ -310,10 +196,8 @@ king_castles_anywhere p c k king well =
 -- on both sides
 pub king_castles_to : (p : Position) (c : Colour) (k long short : ℕ) → king_square p.men c ≡ Some k → IsShut p c long (k - 4) (k - 1)
     → IsShut p c short (k + 3) (k + 1) → IsWellFormed p → AreCastlingSquares p c (bit_or long short)
-king_castles_to p c k long short king far near well = king_castles p c (bit_or long short) k well king (inr (
-  shut_in p c short (bit_or long short) (k + 3) (k + 1) (λ q on. on_right long short q on) near,
-  shut_in p c long (bit_or long short) (k - 4) (k - 1) (λ q on. on_left long short q on) far,
-))
+king_castles_to p c k long short king far near well =
+    king_castles p c (bit_or long short) k well king (inr (search (shut_in, on_left, on_right, far, near)))
 
 -- for a siege by the board's men
 pub siege_fits : (rule : RuleSet) (p : Position) (v : Siege) → v.men.colour ≡ other p.turn → king_square p.men p.turn ≡ Some v.king
@@ -321,14 +205,4 @@ pub siege_fits : (rule : RuleSet) (p : Position) (v : Siege) → v.men.colour �
     → v.enemies ≡ side_of p.men v.men.colour → AreAttackers p.men v.men → v.men.kings ≡ squares_of p.men v.men.colour King
     → AreCastlingSquares p v.men.colour v.castled → AreClosed rule p v.closed → IsSiegeOf rule p v
 unfolding squares_of
-siege_fits rule p v colour king own enemies men kings castled closed = record {
-  colour = colour;
-  men = men;
-  own = own;
-  enemies = enemies ∙ ap (side_of p.men) colour;
-  king = sym king;
-  kings = λ s small is. word_has (λ q. is_man (man_on p.men q) v.men.colour King) v.men.kings s kings small
-      ∙ ap (λ (c : Colour). is_man (man_on p.men s) c King) colour ∙ is;
-  castled = subst (λ (c : Colour). AreCastlingSquares p c v.castled) colour castled;
-  closed = closed;
-}
+siege_fits rule p v colour king own enemies men kings castled closed = search (rules, word_has)

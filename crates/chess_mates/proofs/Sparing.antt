@@ -1,5 +1,5 @@
 -- No reply mates after a defender's move without risk.
-use Rattle.chess_mates.proofs.Chess.{AreFree, AreRisky, AreSifted, AreSpringboards, Bool, Colour, Field, IsArrival, IsAttacker, IsCaptured, IsCastle, IsCastlingHarmless, IsCheckWord, IsFlight, IsHome, IsMade, IsMereMove, IsNear, IsOff, IsPlainMove, IsQuiet, IsReborn, IsRiskAt, IsShut, IsShutAt, IsSiege, IsSiegeOf, IsSprung, IsUnguarded, IsUnsprung, IsWeakAt, IsWellFormed, Kind, King, List, Man, MayRide, Move, Nightrider, None, Option, Pawn, Position, Risk, RuleSet, Siege, Some, [], after_well_formed, all_triples, allows_mate, and_from, and_left, and_parts, and_right, ap, arith, arrival_needed, arrived, arrived_other, arriving_colour, arriving_king, arriving_man, bit_at, capture_of_piece, capture_square, captured_enemy, captured_man, captures_are_reborn, captures_do_more, cases_Bool, cases_eq, castle_of, corner, eqb-true, false, false_by, false_from_ne_true, false≢true, file_of, gait_of, halfway, has_flight, has_unmoved, if◌then◌else◌, in_check, inl, inr, is_absent, is_arrival_free, is_attacked, is_attacked_at, is_attacker, is_castling, is_double_step, is_fairy, is_hopper, is_legal, is_man, is_of_colour, is_pseudo_legal, is_rider, is_some, is_square, king-back, king_after, king_is, king_is_after, king_square, king_stands, king_there, leaps, list_any, made, maker, man_on, man_on_at, man_there, mates, mates_behind, may_check_from, may_go, may_go_aimed, men_on, moved_men, moved_plainly, on_board, or_parts, other, other_twice, position_after, position_after_by, put_at, queen_steps, reached_over, reaches_as, reaches_back, rebirth, reborn_is, reborn_square, refl, same_colour, same_colour-refl, same_colour-true, same_kind, same_kind-true, side_of, simple_after, square_is, subst, sym, taken, there_now, triple_at, true, word, word_has, ℕ, ◌-◌, ◌<◌, ◌==◌, ◌∙◌, ◌≡◌, ◌≢◌, ◌⊎◌}
+use Rattle.chess_mates.proofs.Chess.{AreFree, Colour, Field, IsArrival, IsAttacker, IsCaptured, IsCastlingHarmless, IsCheckWord, IsFlight, IsHome, IsMade, IsMereMove, IsNear, IsOff, IsPlainMove, IsQuiet, IsReborn, IsRiskAt, IsShut, IsShutAt, IsSiege, IsSiegeOf, IsUnguarded, IsUnsprung, IsWeakAt, IsWellFormed, Kind, King, List, Man, MayRide, Move, Nightrider, None, Option, Pawn, Position, Risk, RuleSet, Siege, Some, [], after_well_formed, all_triples, and_from, and_left, and_parts, and_right, ap, arith, arrival_needed, arrived, arriving_colour, arriving_king, arriving_man, bit_at, capture_of_piece, capture_square, captured_enemy, captured_man, captures_are_reborn, captures_do_more, cases_Bool, cases_eq, castle_of, corner, eq-eqb, eqb-true, false, false_by, false_from_ne_true, false≢true, file_of, gait_of, halfway, has_flight, has_unmoved, in_check, inl, inr, is_absent, is_arrival_free, is_attacked, is_attacked_at, is_attacker, is_castling, is_double_step, is_fairy, is_hopper, is_legal, is_man, is_of_colour, is_pseudo_legal, is_rider, is_some, is_square, king-back, king_after, king_is, king_is_after, king_square, king_stands, king_there, leaps, list_any, made, maker, man_on, man_there, mates, mates_behind, may_check_from, may_go, may_go_aimed, men_on, moved_men, moved_plainly, off_second, off_zero, on_board, or_parts, other, other_twice, position_after, position_after_by, queen_steps, reached_over, reaches_as, reaches_back, rebirth, reborn_is, reborn_square, refl, rules, same_colour, same_colour-refl, same_colour-true, same_kind, same_kind-true, side_of, simple_after, square_is, subst, sym, taken, there_now, true, word, word_has, ℕ, ◌-◌, ◌<◌, ◌==◌, ◌||◌, ◌∙◌, ◌≡◌, ◌≢◌, ◌⊎◌}
 use Rattle.chess_mates.proofs.Rebirths.{after_is}
 use Rattle.chess_mates.proofs.Hurdles.{later, later_but}
 use Rattle.chess_mates.proofs.HomeSquares.{some_of}
@@ -10,11 +10,11 @@ use Rattle.chess_mates.proofs.Mating.{mates_behind-end, mates_behind-none, no_ma
 use Rattle.chess_mates.proofs.Standing.{and_left_king, arrival_small, captured_there, castle_unmoved, free_man, has_one, king_reaches, mine_again, moved_stays, no_rebirth, nobody_strikes, not_mine, not_mine_enemy, piece_reaches, same_man, some_side, some_stays, stays_there, stood, stood_reborn, unfree, unnamed}
 use Rattle.chess_mates.proofs.QuietCastling.{castles_quietly}
 
-rider_hops_not : (k : Kind) → is_rider k ≡ true → is_hopper (gait_of k) ≡ false
-rider_hops_not k rider = grind arith
-
 no_fairy_hops : (k : Kind) → is_fairy k ≡ false → is_hopper (gait_of k) ≡ false
 no_fairy_hops k plain = grind arith
+
+man_of : (o : Option Man) → is_some o ≡ true → (z : Man) × (o ≡ Some z)
+man_of o h = grind arith
 
 -- the move m of the defender, plain, without risk
 pub record IsSpared (rule : RuleSet) (p : Position) (m : Move) (x : Man) (v : Siege) (k : ℕ) (r : Risk) : Type 0 where
@@ -34,6 +34,13 @@ free_kept c o u kept side king = grind (arith, free_man c u side king)
 
 vacant_kept : (o u : Option Man) → ((z : Man) → o ≡ Some z → u ≡ Some z) → (is_some u ≡ true → ⊥) → o ≡ None
 vacant_kept o u kept none = grind arith
+
+-- the enemy king stays
+enemy_king : (rule : RuleSet) (p : Position) (x : Man) (m : Move) → IsWellFormed p → IsMade rule p x m → m.to < 64
+    → king_square (arrived p x m) (other p.turn) ≡ king_square p.men (other p.turn)
+enemy_king rule p x m well is to =
+    let caught = λ (s : ℕ) (at : is_square (capture_square p x m) s ≡ true). taken rule p x m s well is (square_is (capture_square p x m) s at) in
+    king_stands _ _ _ _ _ _ (search (rules, arith, no_king_free, caught, and_left, and_right, arriving_colour, not_mine_enemy))
 
 module _ (rule : RuleSet) (p : Position) (m : Move) (x : Man) (v : Siege) (k : ℕ) (risk : Risk) (well : IsWellFormed p)
     (may : is_pseudo_legal rule p m ≡ true) (here : man_on p.men m.from ≡ Some x) (small : m.to < 64) (from : m.from < 64)
@@ -60,28 +67,30 @@ module _ (rule : RuleSet) (p : Position) (m : Move) (x : Man) (v : Siege) (k : �
   well_q = after_well_formed rule p m well may
 
   king_q : king_square q.men p.turn ≡ Some k
-  king_q = ap (λ (l : List (Option Man)). king_square l p.turn) men_q ∙ king_is_after rule p x m well is small i.plain.castling ∙ king
+  king_q = grind (arith, men_q, king_is_after rule p x m well is small i.plain.castling)
 
   stood_q : (s : ℕ) (z : Man) → man_on q.men s ≡ Some z
       → ((s ≡ m.to) × (z ≡ arriving_man x m.promo)) ⊎ ((s ≢ m.to) × ((s ≢ m.from) × (man_on p.men s ≡ Some z)))
-  stood_q s z there = stood p x m s z (omega (arith, small, well.size)) (sym (ap (λ (l : List (Option Man)). man_on l s) men_q) ∙ there)
+  stood_q s z there = grind (arith, men_q, stood p x m s z, small, well.size)
 
   -- an enemy stood there before
   enemy_stood : (s : ℕ) (z : Man) → man_on q.men s ≡ Some z → z.colour ≡ other p.turn → man_on p.men s ≡ Some z
   enemy_stood s z there enemy = grind (arith, stood_q s z there, not_mine, arriving_colour, is, same_colour-refl)
 
-  attacker : (s : ℕ) (z : Man) → s < 64 → man_on p.men s ≡ Some z → z.colour ≡ other p.turn → IsAttacker v.men z s
-  attacker s z inside there enemy = i.fits.men.stand s z inside there (enemy ∙ sym i.fits.colour)
+  attacker : (s : ℕ) (z : Man) → s < 64 → man_on q.men s ≡ Some z → z.colour ≡ other p.turn → IsAttacker v.men z s
+  attacker s z inside there enemy = i.fits.men.stand s z inside (enemy_stood s z there enemy) (enemy ∙ sym i.fits.colour)
 
-  -- a hurdle is somebody's square, and stays occupied
-  some_p : (e : ℕ) → e < 64 → (bit_at v.hurdles e == 1) ≡ true → is_some (man_on p.men e) ≡ true
+  -- somebody stands where a side does
+  somebody : (e : ℕ) → e < 64 → is_some (man_on p.men e) ≡ (bit_at v.own e == 1 || bit_at v.enemies e == 1)
   unfolding side_of
-  some_p e inside on =
+  somebody e inside =
       let has = λ (c : Colour). word_has (λ s. is_of_colour (man_on p.men s) c) in
-      grind (arith, (i.siege.hurdles.men e inside on).0, some_side, has p.turn v.own e i.fits.own inside, has (other p.turn) v.enemies e i.fits.enemies inside)
+      grind (arith, some_side, some_of, has p.turn v.own e i.fits.own inside, has (other p.turn) v.enemies e i.fits.enemies inside)
 
+  -- a hurdle stays occupied
   stays_q : (e : ℕ) → e < 64 → (bit_at v.hurdles e == 1) ≡ true → e ≢ m.from → is_some (man_on q.men e) ≡ true
-  stays_q e inside on left = grind (arith, men_q, some_stays, i.plain.captures, small, well.size, some_p)
+  stays_q e inside on left =
+      grind (arith, men_q, some_stays, i.plain.captures, small, well.size, (i.siege.hurdles.men e inside on).0, somebody e inside)
 
   at_k : k < 64
   at_k = (king_there q.men p.turn k king_q).0
@@ -97,25 +106,21 @@ module _ (rule : RuleSet) (p : Position) (m : Move) (x : Man) (v : Siege) (k : �
   may_ride : (s : ℕ) (z : Man) → IsAttacker v.men z s → is_rider z.kind ≡ true → MayRide v z.kind
   may_ride s z a rider = (rider, λ kind none. none_at v.men.nightriders s none (rw (same_kind-true z.kind Nightrider kind) at a.on))
 
-  free_of : (t w : ℕ) → IsUnsprung v g.king t w → IsUnsprung v k t w
-  free_of t w u = subst (λ (j : ℕ). IsUnsprung v j t w) i.at.king u
-
   -- no line from the king ends on the square that the defender leaves
   shut_off : (c : Colour) (j : Kind) → MayRide v j → (bit_at v.hurdles m.from == 1) ≡ true → reaches_as (men_on v.hurdles) c j k m.from ≡ true → ⊥
-  shut_off c j may on reach = false≢true (sym (i.at.lines m.from m.to small i.off.critical (i.off.lines on)) ∙ lined c j m.from from may reach)
+  shut_off c j may on reach = grind (arith, i.at.lines m.from m.to small i.off.critical, i.off.lines, lined c j m.from from)
 
-  -- a hurdle on a line from the king stays, once the defender has moved
-  stays_lined : (c : Colour) (j : Kind) → MayRide v j → (e : ℕ) → e < 64 → (bit_at v.hurdles e == 1) ≡ true → reaches_as (men_on v.hurdles) c j k e ≡ true
-      → is_some (man_on q.men e) ≡ true
-  stays_lined c j may e low on reach = grind (arith, cases_eq e m.from, shut_off c j may, stays_q e low on)
-
-  -- who is no hopper and stands off his check squares doesn't reach the king, where he would reach him over the hurdles too
-  off_word : (men : List (Option Man)) (s : ℕ) (z : Man) (c : ℕ) → s < 64 → is_hopper (gait_of z.kind) ≡ false → IsCheckWord v.hurdles g.king z c
-      → (bit_at c s == 1) ≡ false → (reaches_as men (other z.colour) z.kind k s ≡ true → reaches_as (men_on v.hurdles) (other z.colour) z.kind k s ≡ true)
-      → reaches_as men z.colour z.kind s k ≡ false
+  -- from off his check squares no attacker but a hopper reaches the king, where all hurdles stand but m.from and o, on none of his lines
+  off_word : (men : List (Option Man)) (o s t : ℕ) (z : Man) (a : IsAttacker v.men z s) → t < 64 → is_hopper (gait_of z.kind) ≡ false
+      → (bit_at (weak_at s z a).checks t == 1) ≡ false
+      → ((e : ℕ) → e < 64 → (bit_at v.hurdles e == 1) ≡ true → e ≢ m.from → e ≢ o → is_some (man_on men e) ≡ true)
+      → (is_rider z.kind ≡ true → (bit_at v.hurdles o == 1) ≡ true → reaches_as (men_on v.hurdles) (other z.colour) z.kind k o ≡ true → ⊥)
+      → reaches_as men z.colour z.kind t k ≡ false
   unfolding reached_over
-  off_word men s z c inside plain word off over = false_from_ne_true _ (λ h. false≢true (sym off ∙ (rw i.at.king at word).inside plain s inside
-      (over (sym (reaches_back men z.colour z.kind s k plain inside at_k) ∙ h))))
+  off_word men o s t z a inside plain off stays last =
+      let shut = λ (rider : is_rider z.kind ≡ true). shut_off (other z.colour) z.kind (may_ride s z a rider) in
+      let over = later_but v.hurdles men m.from o (other z.colour) z.kind k t plain stays shut last in
+      grind (arith, reaches_back men z.colour z.kind t k plain inside at_k, (weak_at s z a).word.inside plain t inside, i.at.king, over)
 
   module _ (n : Move) (to : n.to < 64) (can : is_pseudo_legal rule q n ≡ true) where
     abbrev y : Man
@@ -137,20 +142,18 @@ module _ (rule : RuleSet) (p : Position) (m : Move) (x : Man) (v : Siege) (k : �
     stood_y = enemy_stood n.from y here_y enemy_y
 
     is_y : IsAttacker v.men y n.from
-    is_y = attacker n.from y from_small stood_y enemy_y
+    is_y = attacker n.from y from_small here_y enemy_y
 
-    w : IsWeakAt v g y n.from m.from m.to
+    abbrev w : IsWeakAt v g y n.from m.from m.to
     w = weak_at n.from y is_y
 
     shuts : (corner next : ℕ) → IsShut p (other p.turn) v.castled corner next → has_unmoved q.unmoved corner ≡ true → man_on q.men next ≡ None → next < 64
         → (bit_at v.castled next == 1) ≡ true
-    shuts corner next (inl moved) unmoved none low =
-        absurd (false≢true (sym (moved_stays rule p x m corner nobody i.plain.castling here moved) ∙ unmoved))
+    shuts corner next (inl moved) unmoved none low = cc (moved_stays rule p x m corner nobody i.plain.castling here moved)
     shuts corner next (inr (inl stands)) unmoved none low =
-        let off : next ≢ m.from = λ e. false≢true (sym (not_mine_enemy x p.turn is.mine)
-        ∙ sym (ap (λ (o : Option Man). is_of_colour o (other p.turn)) (ap (man_on p.men) e ∙ here)) ∙ stands) in
-        absurd (false≢true (sym (ap (λ (o : Option Man). is_some o) none) ∙ ap (λ (l : List (Option Man)). is_some (man_on l next)) men_q
-        ∙ some_stays p x m next i.plain.captures (omega (arith, small, well.size)) off (some_side _ (other p.turn) stands)))
+        let some = some_stays p x m next i.plain.captures (omega (arith, small, well.size)) (λ e. grind (arith, not_mine_enemy x p.turn is.mine, here))
+        (some_side _ (other p.turn) stands) in
+        absurd (false≢true (rw (← men_q, none) at some))
     shuts corner next (inr (inr on)) unmoved none low = on low
 
     -- castling gives no check
@@ -158,23 +161,20 @@ module _ (rule : RuleSet) (p : Position) (m : Move) (x : Man) (v : Siege) (k : �
       king_y : same_kind y.kind King ≡ true
       king_y = (and_parts _ _ (and_parts _ _ castling).0).0
 
-      castle : IsCastle q n
-      castle = (castle_of rule q y n well_q is_n castling).1
-
       half : halfway n < 64
       half = omega (arith, from_small, to)
 
       half_on : (bit_at v.castled (halfway n) == 1) ≡ true
       half_on =
+          let castle = (castle_of rule q y n well_q is_n castling).1 in
           let unmoved = castle_unmoved rule q y n well_q is_n castling in
           elim (i.fits.castled.sides n.from from_small (grind (arith, stood_y, and_from, enemy_y, same_colour-refl, king_y))) [
             | inl moved ↦ absurd (false≢true (sym (moved_stays rule p x m n.from nobody i.plain.castling here moved) ∙ unmoved.0))
             | inr sides ↦ elim castle.far [
               | inl f ↦ shuts (corner n) (halfway n) (rw (f.1.0, f.1.1) sides.0) unmoved.1 castle.between half
               | inr f ↦
-                  let at : corner n ≡ n.from - 4 = omega (arith, f.1.0) in
-                  let mid : halfway n ≡ n.from - 1 = omega (arith, f.1.1) in
-                  shuts (corner n) (halfway n) (rw (at, mid) sides.1) unmoved.1 castle.between half
+                  let at : (corner n ≡ n.from - 4) × (halfway n ≡ n.from - 1) = (omega (arith, f.1.0), omega (arith, f.1.1)) in
+                  shuts (corner n) (halfway n) (rw (at.0, at.1) sides.1) unmoved.1 castle.between half
             ]
           ]
 
@@ -185,26 +185,24 @@ module _ (rule : RuleSet) (p : Position) (m : Move) (x : Man) (v : Siege) (k : �
       unseen_from j plain rider = false_by _ (λ h.
           let may : MayRide v j = (rider, λ kind. absurd (false≢true (sym plain ∙ ap is_fairy (same_kind-true j Nightrider kind)))) in
           let off = harmless.kings (halfway n) n.from from_small half_on (grind (arith, same_kind-true y.kind King king_y, is_y.on)) in
-          false≢true (sym off ∙ lined p.turn j n.from from_small may (later v.hurdles q.men p.turn j k n.from (rider_hops_not j rider)
-          (λ r. stays_lined p.turn j may) h)))
+          false≢true (sym off ∙ lined p.turn j n.from from_small may (later v.hurdles q.men p.turn j k n.from (no_fairy_hops j plain)
+          (λ r e low on reach. grind (arith, cases_eq e m.from, shut_off p.turn j may, stays_q e low on)) h)))
 
       -- there is no fairy man
       no_fairy : (j : Kind) → is_fairy j ≡ true → (s : ℕ) → s < 64 → is_man (man_on q.men s) (other p.turn) j ≡ false
       no_fairy j fairy s inside = false_by _ (λ h.
           let z = man_there (man_on q.men s) (other p.turn) j h in
           let both = and_parts (same_colour z.0.colour (other p.turn)) (same_kind z.0.kind j) (rw z.1 at h) in
-          let enemy = same_colour-true _ _ both.0 in
-          false≢true (sym (harmless.fairies (halfway n) s z.0 half_on (attacker s z.0 inside (enemy_stood s z.0 z.1 enemy) enemy))
-          ∙ ap is_fairy (same_kind-true z.0.kind j both.1) ∙ fairy))
+          let a = attacker s z.0 inside z.1 (same_colour-true _ _ both.0) in
+          false≢true (sym (harmless.fairies (halfway n) s z.0 half_on a) ∙ ap is_fairy (same_kind-true z.0.kind j both.1) ∙ fairy))
 
       -- no enemy reaches the king now
       calm : (s : ℕ) (z : Man) → s < 64 → man_on q.men s ≡ Some z → z.colour ≡ other p.turn → reaches_as q.men z.colour z.kind s k ≡ false
       calm s z inside there enemy =
-          let a = attacker s z inside (enemy_stood s z there enemy) enemy in
+          let a = attacker s z inside there enemy in
           let plain = no_fairy_hops z.kind (harmless.fairies (halfway n) s z half_on a) in
-          let weak = weak_at s z a in
-          off_word q.men s z weak.checks inside plain weak.word (weak.off plain) (later v.hurdles q.men (other z.colour) z.kind k s plain
-          (λ rider. stays_lined (other z.colour) z.kind (may_ride s z a rider)))
+          off_word q.men m.from s s z a inside plain ((weak_at s z a).off plain) (λ e low on left off. stays_q e low on left)
+          (λ rider. shut_off (other z.colour) z.kind (may_ride s z a rider))
 
       castled : is_legal rule q n ≡ true → in_check rule (position_after rule q n).men p.turn ≡ false
       castled lawful =
@@ -219,11 +217,9 @@ module _ (rule : RuleSet) (p : Position) (m : Move) (x : Man) (v : Siege) (k : �
     uncrossed : same_kind y.kind Pawn ≡ true → is_square q.crossed n.to ≡ false
     unfolding position_after position_after_by
     uncrossed pawn = rw here (elim (cases_Bool (is_double_step x m)) [
-      | inr single ↦ ap (λ (b : Bool). is_square (if b then Some (halfway m) else None) n.to) single
-      | inl double ↦ ap (λ (b : Bool). is_square (if b then Some (halfway m) else None) n.to) double ∙ false_by _ (λ h.
-          let at : halfway m ≡ n.to = eqb-true (halfway m) n.to h in
-          false≢true (sym (i.plain.passing.freely double q n.from y from_small (omega (arith, at, to)) stood_y (enemy_y ∙ ap other (sym is.mine)) pawn)
-          ∙ ap (λ (t : ℕ). may_go q y n.from t) at ∙ goes_y))
+      | inr single ↦ rw single refl
+      | inl double ↦ rw double (false_by _ (λ h. let at : halfway m ≡ n.to = eqb-true (halfway m) n.to h in
+          cc (i.plain.passing.freely double q n.from y from_small (omega (arith, at, to)) stood_y (enemy_y ∙ ap other (sym is.mine)) pawn, goes_y)))
     ])
 
     captures_q : (s : ℕ) → capture_square q y n ≡ Some s → s ≡ n.to
@@ -254,7 +250,7 @@ module _ (rule : RuleSet) (p : Position) (m : Move) (x : Man) (v : Siege) (k : �
         home_from e file = record { square = n.to; file = file; reborn = ap (rebirth b.man.colour b.man.kind) (sym taken_on) ∙ b.home }
 
         closed_s : (bit_at v.closed s == 1) ≡ true
-        closed_s = elim (stood_q n.to b.man (ap (man_on q.men) (sym taken_on) ∙ ap (man_on_at q.men) (sym b.where_taken) ∙ b.who)) [
+        closed_s = elim (stood_q n.to b.man (grind (arith, taken_on, b.where_taken, b.who))) [
           | inl came ↦
               let mere = i.mere circe in
               let same : b.man ≡ x = came.1 ∙ ap (arriving_man x) (unnamed p x m m.promo mere.unpromoted is.promotion) in
@@ -268,39 +264,27 @@ module _ (rule : RuleSet) (p : Position) (m : Move) (x : Man) (v : Siege) (k : �
 
       king_landed : king_square landed p.turn ≡ Some k
       king_landed =
-          king_stands q.men n.from (capture_square q y n) n.to (arriving_man y n.promo) p.turn (record {
-            small = omega (arith, to, well_q.size);
-            here = rw here_y (and_left (same_colour y.colour p.turn) _ (not_mine y p.turn enemy_y));
-            comes = and_left (same_colour (arriving_man y n.promo).colour p.turn) _ (rw (arriving_colour y n.promo) (not_mine y p.turn enemy_y));
-            arrival = no_king_free q.turn p.turn (man_on q.men n.to) is_n.arrival;
-            captured = λ s at.
-                let t = taken rule q y n s well_q is_n (square_is (capture_square q y n) s at) in
-                rw t.there (and_right (same_colour t.man.colour p.turn) _ t.mortal);
-          })
+          subst (λ (c : Colour). king_square landed c ≡ king_square q.men c) (ap other turn_q ∙ other_twice p.turn) (enemy_king rule q y n well_q is_n to)
           ∙ king_q
-
-      abbrev IsNew : ℕ → Man → Type 0
-      IsNew s z = (z.colour ≡ p.turn) × ((bit_at v.closed s == 1) ≡ true)
 
       abbrev Stood : ℕ → Man → Type 0
       Stood s z = ((s ≡ n.to) × (z ≡ arriving_man y n.promo)) ⊎ ((s ≢ n.to) × ((s ≢ n.from) × (man_on q.men s ≡ Some z)))
 
       -- on a square stands who stood there, or who is reborn there
-      same_or_new : (s : ℕ) → (man_on r.men s ≡ man_on landed s) ⊎ ((man_on landed s ≡ None) × ((z : Man) × ((man_on r.men s ≡ Some z) × IsNew s z)))
+      same_or_new : (s : ℕ) → (man_on r.men s ≡ man_on landed s)
+          ⊎ ((man_on landed s ≡ None) × ((z : Man) × ((man_on r.men s ≡ Some z) × ((z.colour ≡ p.turn) × ((bit_at v.closed s == 1) ≡ true)))))
       same_or_new s =
-          let on = ap (λ (l : List (Option Man)). man_on l s) (after_is rule q y n here_y ∙ ap (λ (l : List (Option Man)).
-          put_at l (reborn_square rule q y n) (captured_man q y n)) (moved_plainly q y n plain_n)) in
-          elim (stood_reborn landed (reborn_square rule q y n) (captured_man q y n) s) [
-            | inl same ↦ inl (on ∙ same)
+          rw (after_is rule q y n here_y, moved_plainly q y n plain_n) (elim (stood_reborn landed (reborn_square rule q y n) (captured_man q y n) s) [
+            | inl same ↦ inl same
             | inr new ↦
                 let who : new.1.0 ≡ (b s new.0).man = same_man _ _ (sym new.1.1.0 ∙ (b s new.0).who) in
-                inr (rw (moved_plainly q y n plain_n) at (b s new.0).empty, (new.1.0, (on ∙ new.1.1.1, (rw who (defends s new.0), closed_s s new.0))))
-          ]
+                inr (rw (moved_plainly q y n plain_n) at (b s new.0).empty, (new.1.0, (new.1.1.1, (rw who (defends s new.0), closed_s s new.0))))
+          ])
 
       king_r : king_square r.men p.turn ≡ Some k
       king_r = king_is r.men p.turn k well_r.kings at_k (grind (arith, same_or_new k, (king_there landed p.turn k king_landed).1))
 
-      stood_r : (s : ℕ) (z : Man) → man_on r.men s ≡ Some z → Stood s z ⊎ IsNew s z
+      stood_r : (s : ℕ) (z : Man) → man_on r.men s ≡ Some z → Stood s z ⊎ ((z.colour ≡ p.turn) × ((bit_at v.closed s == 1) ≡ true))
       stood_r s z there = grind (arith, same_or_new s, stood q y n s z (omega (arith, to, well_q.size)), same_man)
 
       -- of the attackers nobody is new
@@ -308,22 +292,23 @@ module _ (rule : RuleSet) (p : Position) (m : Move) (x : Man) (v : Siege) (k : �
       enemy_r s z there enemy = grind (arith, stood_r s z there, not_mine, same_colour-refl)
 
       -- he comes over the hurdles, to another attacker's square only if that one has been captured
-      comes_over : is_hopper (gait_of y.kind) ≡ false → reaches_as q.men y.colour y.kind n.from n.to ≡ true → reached_over v.hurdles y n.from n.to ≡ true
-      unfolding reached_over
-      comes_over plain h =
-          later v.hurdles q.men y.colour y.kind n.from n.to plain
-          (λ rider e inside on h. grind (arith, cases_eq e m.from, i.shut.shut n.from y is_y rider, stays_q e inside on)) h
-
       arrival : IsArrival v.hurdles y n.from n.to
-      arrival = record { small = to; position = q; goes = goes_y; reaches = λ piece plain. comes_over plain (piece_reaches rule q y n is_n piece plain_n) }
+      unfolding reached_over
+      arrival = record {
+        small = to;
+        position = q;
+        goes = goes_y;
+        reaches = λ piece plain. later v.hurdles q.men y.colour y.kind n.from n.to plain
+            (λ rider e inside on h. grind (arith, cases_eq e m.from, i.shut.shut n.from y is_y rider, stays_q e inside on))
+            (piece_reaches rule q y n is_n piece plain_n);
+      }
 
       recaptures : (bit_at v.enemies n.to == 1) ≡ true → m.to ≡ n.to
       unfolding side_of
       recaptures on = elim (cases_eq m.to n.to) [
         | inl e ↦ e
         | inr ne ↦
-            let enemy : is_of_colour (man_on p.men n.to) (other p.turn) ≡ true =
-            sym (word_has (λ s. is_of_colour (man_on p.men s) (other p.turn)) v.enemies n.to i.fits.enemies to) ∙ on in
+            let enemy = sym (word_has (λ s. is_of_colour (man_on p.men s) (other p.turn)) v.enemies n.to i.fits.enemies to) ∙ on in
             let kept = stays_there p x m n.to i.plain.captures (λ e. grind (arith, not_mine_enemy x p.turn is.mine, here)) (λ e. ne (sym e)) in
             absurd (unfree (other p.turn) (man_on q.men n.to) (rw turn_q at is_n.arrival) (rw (← kept, ← men_q) at enemy))
       ]
@@ -355,36 +340,32 @@ module _ (rule : RuleSet) (p : Position) (m : Move) (x : Man) (v : Siege) (k : �
               let word = subst (λ (j : ℕ). IsCheckWord v.hurdles j y w.checks) i.at.king w.word in
               elim (cases_Bool (is_hopper (gait_of y.kind))) [
                 | inl hop ↦ false_from_ne_true _ (λ h. false≢true (sym quiet ∙ (word.hops hop).inside men n.to to h))
-                | inr plain ↦ off_word men n.to y w.checks to plain w.word quiet (later_but v.hurdles men m.from n.from (other y.colour) y.kind k n.to plain stays
-                    (λ rider. shut_off (other y.colour) y.kind (may_ride n.from y is_y rider))
-                    (λ rider on reach. false≢true (sym (w.off plain) ∙ word.inside plain n.from from_small reach)))
+                | inr plain ↦ off_word men n.from n.from n.to y is_y to plain quiet stays
+                    (λ rider on reach. false≢true (sym (w.off plain) ∙ word.inside plain n.from from_small reach))
               ]
 
       -- on a free square of springboards nobody stands but the man who came last or the one before, and the king on his own
-      stands_r : (boards h : ℕ) → AreFree v k boards → (bit_at boards h == 1) ≡ true → h < 64 → h ≢ k → h ≢ m.to → h ≢ n.to → is_some (man_on r.men h) ≡ false
-      unfolding side_of
-      stands_r boards h free on low apart before last = by (man_on r.men h) refl where
-        by : (o : Option Man) → man_on r.men h ≡ o → is_some o ≡ false
-        by None e = refl
-        by (Some z) e = elim (stood_r h z e) [
-          | inr new ↦ absurd (false≢true (sym (free.closed h on low apart) ∙ new.1))
-          | inl old ↦ elim old [
-            | inl came ↦ absurd (last came.0)
-            | inr kept ↦ elim (stood_q h z kept.1.1) [
-              | inl came ↦ absurd (before came.0)
-              | inr stays ↦ elim (some_of (man_on p.men h) p.turn (ap (λ (o : Option Man). is_some o) stays.1.1)) [
-                | inl mine ↦ absurd (false≢true (sym (free.own h on low apart)
-                    ∙ word_has (λ s. is_of_colour (man_on p.men s) p.turn) v.own h i.fits.own low ∙ mine))
-                | inr enemy ↦ absurd (false≢true (sym (free.enemies h on low apart)
-                    ∙ word_has (λ s. is_of_colour (man_on p.men s) (other p.turn)) v.enemies h i.fits.enemies low ∙ enemy))
-              ]
-            ]
-          ]
-        ]
+      stands_r : (boards h : ℕ) (z : Man) → AreFree v k boards → (bit_at boards h == 1) ≡ true → h < 64 → h ≢ k → h ≢ m.to → h ≢ n.to
+          → man_on r.men h ≡ Some z → ⊥
+      stands_r boards h z free on low apart before last there = elim (stood_r h z there) [
+        | inr new ↦ false≢true (sym (free.closed h on low apart) ∙ new.1)
+        | inl old ↦
+            absurd (grind (arith, old, before, last, stood_q h z, somebody h low, free.own h on low apart, free.enemies h on low apart))
+      ]
 
-      -- the defender came to none of the field
-      off_hops : (h : ℕ) → (bit_at g.hops h == 1) ≡ true → h ≢ k → h ≢ m.to
-      off_hops h on apart e = false≢true (sym (i.at.hops m.to small i.off.critical (λ same. apart (e ∙ same ∙ i.at.king))) ∙ rw e at on)
+      -- no hopper reaches t, over whose springboards the attacker hasn't come, on a board whose men but the one on t stand in r
+      unhopped : (t w : ℕ) → IsUnsprung v k t w → ((h : ℕ) → (bit_at w h == 1) ≡ true → (bit_at g.hops h == 1) ≡ true)
+          → (bit_at w n.to == 1) ≡ false → (men : List (Option Man))
+          → ((h : ℕ) (y : Man) → h ≢ t → man_on men h ≡ Some y → (h ≢ k) × (man_on r.men h ≡ Some y))
+          → (s : ℕ) (z : Man) → IsAttacker v.men z s → is_hopper (gait_of z.kind) ≡ true → reaches_as men z.colour z.kind s t ≡ false
+      unhopped t w u hops off men stand s z a hop = false_from_ne_true _ (λ h.
+          let b = u.are.sprung men s z a hop h in
+          let y = man_of (man_on men b.square) b.stands in
+          let on = u.within b.square b.on in
+          let at = stand b.square y.0 b.apart y.1 in
+          let critical = i.at.hops m.to small i.off.critical in
+          stands_r u.springboards b.square y.0 u.free b.on b.small at.0 (λ e. grind (arith, e, at.0, hops b.square on, critical, i.at.king))
+          (λ e. false≢true (sym off ∙ rw e at on)) at.1)
 
       -- kings stay apart
       king_comes : is_legal rule q n ≡ true → same_kind y.kind King ≡ true → reaches_as r.men y.colour y.kind n.to k ≡ false
@@ -395,14 +376,6 @@ module _ (rule : RuleSet) (p : Position) (m : Move) (x : Man) (v : Siege) (k : �
 
       -- where he gives no check
       module _ (quiet : IsQuiet v g w.checks y n.from m.from n.to) (lawful : is_legal rule q n ≡ true) where
-        unsprung : (s : ℕ) (z : Man) → IsAttacker v.men z s → is_hopper (gait_of z.kind) ≡ true → reaches_as r.men z.colour z.kind s k ≡ false
-        unsprung s z a hop = false_from_ne_true _ (λ h.
-            let u = rw i.at.king at (i.at.unsprung m.to small i.off.critical) in
-            let b = u.are.sprung r.men s z a hop h in
-            false≢true (sym (stands_r u.springboards b.square u.free b.on b.small b.apart
-            (off_hops b.square (i.at.is.springs.within b.square (u.within b.square b.on)) b.apart)
-            (λ e. false≢true (sym quiet.check.unsprung ∙ (rw e at (u.within b.square b.on))))) ∙ b.stands))
-
         unseen : (s : ℕ) (z : Man) → s < 64 → man_on r.men s ≡ Some z → z.colour ≡ other p.turn → reaches_as r.men z.colour z.kind s k ≡ false
         unseen s z inside there enemy = elim (enemy_r s z there enemy) [
           | inl came ↦
@@ -412,17 +385,13 @@ module _ (rule : RuleSet) (p : Position) (m : Move) (x : Man) (v : Siege) (k : �
                 | inl king ↦ king_comes lawful king
               ])
           | inr kept ↦
-              let before = enemy_stood s z kept.1.1 enemy in
-              let a = attacker s z inside before enemy in
+              let a = attacker s z inside kept.1.1 enemy in
               elim (cases_Bool (is_hopper (gait_of z.kind))) [
-                | inl hop ↦ unsprung s z a hop
+                | inl hop ↦ unhopped k g.springboards (rw i.at.king at (i.at.unsprung m.to small i.off.critical)) i.at.is.springs.within
+                    quiet.check.unsprung r.men (λ h y ne there. (ne, there)) s z a hop
                 | inr plain ↦ elim quiet.covered [
-                  | inl hidden ↦
-                      let weak = weak_at s z a in
-                      off_word r.men s z weak.checks inside plain weak.word (weak.off plain)
-                      (later_but v.hurdles r.men m.from n.from (other z.colour) z.kind k s plain stays_r
-                      (λ rider. shut_off (other z.colour) z.kind (may_ride s z a rider))
-                      (λ rider on reach. false≢true (sym hidden ∙ lined (other z.colour) z.kind n.from from_small (may_ride s z a rider) reach)))
+                  | inl hidden ↦ off_word r.men n.from s s z a inside plain ((weak_at s z a).off plain) stays_r
+                      (λ rider on reach. false≢true (sym hidden ∙ lined (other z.colour) z.kind n.from from_small (may_ride s z a rider) reach))
                   | inr u ↦ unguarded_off r.men stays_r s k z at_k a kept.1.0 plain (rw i.at.king at u)
                 ]
               ]
@@ -432,16 +401,11 @@ module _ (rule : RuleSet) (p : Position) (m : Move) (x : Man) (v : Siege) (k : �
         unfolding in_check is_attacked is_attacker
         no_check = ap (λ (o : Option ℕ). is_attacked_at rule r.men o (other p.turn)) king_r ∙ nobody_strikes rule r.men k p.turn unseen
 
-      -- the springboards of a square, the king's own square apart: nobody stands on them
-      record IsUnsprungAt (f : ℕ) : Type 0 where
-        springboards : ℕ
-        are : AreSpringboards v.men f springboards
-        off : (h : ℕ) → (bit_at springboards h == 1) ≡ true → h < 64 → h ≢ k → is_some (man_on r.men h) ≡ false
-
       -- a free square next to the king that nobody reaches
       module _ (f : ℕ) (in_f : f < 64) (near : list_any (leaps k f) queen_steps ≡ true) (free : is_arrival_free p.turn (man_on r.men f) ≡ true)
           (vacant : captures_do_more rule ≡ true → man_on r.men f ≡ None) (unguarded : IsUnguarded v n.from m.from f)
-          (unsprung : (s : ℕ) (z : Man) → IsAttacker v.men z s → n.from ≢ s → is_hopper (gait_of z.kind) ≡ true → IsUnsprungAt f)
+          (unsprung : (men : List (Option Man)) → ((h : ℕ) (y : Man) → h ≢ f → man_on men h ≡ Some y → (h ≢ k) × (man_on r.men h ≡ Some y))
+          → (s : ℕ) (z : Man) → IsAttacker v.men z s → n.from ≢ s → is_hopper (gait_of z.kind) ≡ true → reaches_as men z.colour z.kind s f ≡ false)
           (comes_off : f ≢ n.to → (men : List (Option Man)) → reaches_as men (arriving_man y n.promo).colour (arriving_man y n.promo).kind n.to f ≡ false) where
         -- nobody attacks the king who has gone there
         module _ (z : Man) (stands : IsKingOn r.men p.turn k z) where
@@ -449,25 +413,13 @@ module _ (rule : RuleSet) (p : Position) (m : Move) (x : Man) (v : Siege) (k : �
           fled = arrived r z (step_to k f)
 
           stays_then : (e : ℕ) → e < 64 → (bit_at v.hurdles e == 1) ≡ true → e ≢ m.from → e ≢ n.from → is_some (man_on fled e) ≡ true
-          stays_then e inside on left off = elim (cases_eq e f) [
-            | inl same ↦ rw (same, there_now r.men k (capture_square r z (step_to k f)) f z (omega (arith, in_f, well_r.size))) refl
-            | inr ne ↦
-                rw (arrived_other r z (step_to k f) e (i.off_king e inside on)
-                (λ s cap e. ne (e ∙ capture_of_piece r z (step_to k f) s (and_left_king z stands.king) cap)) ne) (stays_r e inside on left off)
-          ]
+          stays_then e inside on left off =
+              some_stays r z (step_to k f) e (λ s. capture_of_piece r z (step_to k f) s (and_left_king z stands.king)) (omega (arith, in_f, well_r.size))
+              (i.off_king e inside on) (stays_r e inside on left off)
 
-          -- on none of his springboards stands a man
-          unhopped : (s : ℕ) (u : Man) → IsAttacker v.men u s → IsUnsprungAt f → is_hopper (gait_of u.kind) ≡ true
-              → reaches_as fled u.colour u.kind s f ≡ false
-          unhopped s u a off hop = false_from_ne_true _ (λ h.
-              let b = off.are.sprung fled s u a hop h in
-              by b (man_on fled b.square) refl b.stands) where
-                by : (b : IsSprung fled f off.springboards) (o : Option Man) → man_on fled b.square ≡ o → is_some o ≡ true → ⊥
-                by b None e some = false≢true some
-                by b (Some y) e some = elim (stood r z (step_to k f) b.square y (omega (arith, in_f, well_r.size)) e) [
-                  | inl came ↦ b.apart came.0
-                  | inr kept ↦ false≢true (sym (off.off b.square b.on b.small kept.1.0) ∙ ap (λ (o : Option Man). is_some o) kept.1.1)
-                ]
+          stood_then : (h : ℕ) (y : Man) → h ≢ f → man_on fled h ≡ Some y → (h ≢ k) × (man_on r.men h ≡ Some y)
+          stood_then h y ne there =
+              elim (stood r z (step_to k f) h y (omega (arith, in_f, well_r.size)) there) [ inl came ↦ absurd (ne came.0) | inr kept ↦ kept.1 ]
 
           unreached : (s : ℕ) (u : Man) → s < 64 → man_on fled s ≡ Some u → u.colour ≡ other p.turn → reaches_as fled u.colour u.kind s f ≡ false
           unreached s u inside there enemy = elim (stood r z (step_to k f) s u (omega (arith, in_f, well_r.size)) there) [
@@ -475,9 +427,9 @@ module _ (rule : RuleSet) (p : Position) (m : Move) (x : Man) (v : Siege) (k : �
             | inr kept ↦ elim (enemy_r s u kept.1.1 enemy) [
               | inl came ↦ rw (came.1, came.0) (comes_off (λ e. kept.0 (came.0 ∙ sym e)) fled)
               | inr stays ↦
-                  let a = attacker s u inside (enemy_stood s u stays.1.1 enemy) enemy in
+                  let a = attacker s u inside stays.1.1 enemy in
                   elim (cases_Bool (is_hopper (gait_of u.kind))) [
-                    | inl hop ↦ unhopped s u a (unsprung s u a (λ e. stays.1.0 (sym e)) hop) hop
+                    | inl hop ↦ unsprung fled stood_then s u a (λ e. stays.1.0 (sym e)) hop
                     | inr plain ↦ unguarded_off fled stays_then s f u in_f a stays.1.0 plain unguarded
                   ]
             ]
@@ -499,44 +451,35 @@ module _ (rule : RuleSet) (p : Position) (m : Move) (x : Man) (v : Siege) (k : �
         stood_f : (z : Man) → man_on r.men f ≡ Some z → man_on p.men f ≡ Some z
         stood_f z e = grind (arith, stood_r f z e, stood_q f z, open_f, flight.left.off, flight.elsewhere)
 
-        flight_unsprung : (s : ℕ) (z : Man) → IsAttacker v.men z s → n.from ≢ s → is_hopper (gait_of z.kind) ≡ true → IsUnsprungAt f
-        flight_unsprung s z a ne hop =
-            let u = free_of f g.hops (i.at.is.springs.unsprung f flight.left.small flight.left.on) in
-            record {
-              springboards = u.springboards;
-              are = u.are;
-              off = λ h on low apart. stands_r u.springboards h u.free on low apart (off_hops h (u.within h on) apart)
-                  (λ e. false≢true (sym (flight.unsprung s z a ne hop) ∙ (rw e at (u.within h on))));
-            }
-
         left_flees : has_flight rule r ≡ true
         left_flees =
             let same : arriving_man y n.promo ≡ y = ap (arriving_man y) (unnamed q y n n.promo flight.plain is_n.promotion) in
-            flees f flight.left.small (ap (λ (c : ℕ). list_any (leaps c f) queen_steps) (sym i.at.king) ∙ i.at.is.springs.near.next f flight.left.small flight.left.on)
+            flees f flight.left.small
+            (subst (λ (j : ℕ). list_any (leaps j f) queen_steps ≡ true) i.at.king (i.at.is.springs.near.next f flight.left.small flight.left.on))
             (free_kept p.turn _ _ stood_f (false_by _ (λ own. false≢true (sym open_f ∙ i.fits.closed.own f flight.left.small own)))
             (false_by _ (λ king. false≢true (sym (i.at.is.springs.near.kings f flight.left.small flight.left.on) ∙ i.fits.kings f flight.left.small king))))
             (λ circe. vacant_kept _ _ stood_f (λ some. false≢true (sym open_f ∙ i.fits.closed.others circe f flight.left.small some)))
-            flight.unguarded flight_unsprung
+            flight.unguarded (λ men stand s z a ne hop. unhopped f g.hops
+            (subst (λ (j : ℕ). IsUnsprung v j f g.hops) i.at.king (i.at.is.springs.unsprung f flight.left.small flight.left.on))
+            (λ h on. on) (flight.unsprung s z a ne hop) men stand s z a hop)
             (λ ne men. rw same (flight.left.unreached men))
 
       -- he captures who has come
       module _ (captured : IsCaptured v g n.from m.from n.to) where
-        came_r : man_on r.men n.to ≡ Some (arriving_man y n.promo)
-        came_r = grind (arith, there_now, arriving_man, to, well_q, same_or_new)
-
         near : list_any (leaps k n.to) queen_steps ≡ true
         near = rw i.at.king at (i.at.is.captures.next n.to to captured.on)
 
         capture_flees : same_kind y.kind King ≡ false → has_flight rule r ≡ true
         unfolding side_of
         capture_flees mortal =
+            let came : man_on r.men n.to ≡ Some (arriving_man y n.promo) = grind (arith, there_now, arriving_man, to, well_q, same_or_new) in
             flees n.to to near
-            (rw came_r (free_man p.turn (Some (arriving_man y n.promo)) (rw (arriving_colour y n.promo) (not_mine y p.turn enemy_y))
+            (rw came (free_man p.turn (Some (arriving_man y n.promo)) (rw (arriving_colour y n.promo) (not_mine y p.turn enemy_y))
             (and_right _ _ (false_by _ (λ king. false≢true (sym mortal ∙ (rw (arriving_king q y n n.promo is_n.promotion king) at king)))))))
             (λ circe. absurd (false≢true (sym (i.at.is.captures.off n.to n.from captured.on from_small
             (grind (arith, word_has, i.fits.enemies, from_small, stood_y, enemy_y, same_colour-refl)))
             ∙ i.fits.closed.others circe n.from from_small (rw stood_y refl))))
-            captured.unguarded (λ s z a ne hop. absurd (false≢true (sym (i.at.is.captures.plain n.to s z captured.on a) ∙ hop)))
+            captured.unguarded (λ men stand s z a ne hop. absurd (false≢true (sym (i.at.is.captures.plain n.to s z captured.on a) ∙ hop)))
             (λ ne. absurd (ne refl))
 
         unmated_captured : mates rule q n ≡ false
@@ -555,16 +498,13 @@ module _ (rule : RuleSet) (p : Position) (m : Move) (x : Man) (v : Siege) (k : �
     unmated : mates rule q n ≡ false
     unmated = grind (arith, cases_Bool (is_castling y n), no_mate_quietly rule q n, castled, unmated_plainly, turn_q, other_twice p.turn)
 
-  none_mates : (j : ℕ) → mates rule q (triple_at j) ≡ false
-  none_mates j = grind (arith, cases_Bool, unmated, arrival_small, not_mating)
-
   -- for each way of the defender
   pub no_mate_behind : mates_behind rule q 0 ≡ []
   no_mate_behind =
-      mates_behind-none rule q 0 all_triples (λ lt. omega arith) (omega arith) (record { fails = λ j lo hi. none_mates j })
+      mates_behind-none rule q 0 all_triples (λ lt. omega arith) (omega arith) (record {
+        fails = λ j lo hi. grind (arith, cases_Bool, unmated, arrival_small, not_mating);
+      })
       ∙ mates_behind-end rule q all_triples (omega arith)
 
--- squares that aren't risky sift moves by whether some reply mates
-pub sifted_by_risk : (rule : RuleSet) (p : Position) (s squares risky : ℕ) → AreRisky rule p s squares risky
-    → AreSifted rule p (allows_mate rule p) s squares risky
-sifted_by_risk rule p s squares risky r = record { taken = λ m lawful here inside out. rw (r.settled m lawful here inside out) refl }
+-- for one square and its word
+pub ruleset one_square = (eq-eqb, eqb-true, off_second, off_zero, word_has)

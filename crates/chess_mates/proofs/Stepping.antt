@@ -1,6 +1,6 @@
 -- The men once a man has made a move and the enemy king a step, and what an attack then sees.
-use Rattle.chess_mates.proofs.Chess.{AreSeen, Bool, Colour, Kind, List, Man, None, Option, Some, and_left, and_right, ap, arith, bit_or, cases_Bool, cases_eq, differs, eq-eqb, eqb-true, false, false_from_ne_true, gone_to, inl, inr, is_man, is_occupied_after, is_of_colour, is_some, is_square, kept_now, left_now, length, length-set, length-without_at, man_on, man_on-with_other, man_on-without_other, man_on-without_same, no_man, not, occupied_now, occupied_squares, occupied_words, or_from, or_left, rules, same_colour, sight_lifted, sight_with, squares_both, squares_either, squares_not, squares_of, squares_same, sym, there_now, true, without_man, word, ℕ, ◌&&◌, ◌<◌, ◌==◌, ◌||◌, ◌∙◌, ◌≡◌, ◌≢◌}
-use Rattle.chess_mates.proofs.Landing.{StandAlike}
+use Rattle.chess_mates.proofs.Chess.{AreSeen, Colour, Kind, List, Man, None, Option, Some, StandAlike, and_left, and_right, arith, cases_Bool, cases_eq, differs, eq-eqb, eqb-true, false, false_from_ne_true, gone_to, inl, inr, is_man, is_occupied_after, is_of_colour, is_some, is_square, kept_now, left_now, length, length-set, man_on, man_on-with_other, man_on-without_other, man_on-without_same, no_man, not, occupied_now, occupied_squares, occupied_words, or_from, or_left, rules, same_colour, sight_lifted, sight_with, squares_both, squares_either, squares_not, squares_of, there_now, true, without_man, word, ℕ, ◌&&◌, ◌<◌, ◌==◌, ◌||◌, ◌≡◌, ◌≢◌}
+use Rattle.chess_rules.proofs.making_moves.Plays.{length-without_at}
 
 -- the men once z has come from a to b and the man on o is gone, and then x from k to t and the man on u is gone
 abbrev pub stepped : List (Option Man) → ℕ → Option ℕ → ℕ → Man → ℕ → Option ℕ → ℕ → Man → List (Option Man)
@@ -16,115 +16,82 @@ pub record IsStep (men : List (Option Man)) (a : ℕ) (o : Option ℕ) (b k : �
   pub entered : is_of_colour (man_on men b) c ≡ false
   pub apart : b ≢ k
 
-length-gone : (men : List (Option Man)) (a : ℕ) (o : Option ℕ) (b : ℕ) (z : Man) → length (gone_to men a o b z) ≡ length men
-length-gone men a o b z = search (rules, length-set, length-without_at)
-
 taken_nowhere : (u : Option ℕ) (t q : ℕ) → ((s : ℕ) → is_square u s ≡ true → s ≡ t) → q ≢ t → is_square u q ≡ false
 taken_nowhere u t q h ne = false_from_ne_true _ (λ y. ne (h q y))
 
--- the man on a square
-pub on_flight : (men : List (Option Man)) (a : ℕ) (o : Option ℕ) (b : ℕ) (z : Man) (k : ℕ) (u : Option ℕ) (t : ℕ) (x : Man) (q : ℕ) → t < length men → q ≡ t
-    → man_on (stepped men a o b z k u t x) q ≡ Some x
-on_flight men a o b z k u t x q small e = search rules
+module _ (men : List (Option Man)) (a : ℕ) (o : Option ℕ) (b : ℕ) (z : Man) (k : ℕ) where
+  -- the king lifted, nobody on the flight yet but who stood there
+  lifted_one : (q : ℕ) → b < length men
+      → (is_occupied_after men a o b q && not (k == q)) ≡ is_some (man_on (without_man (gone_to men a o b z) k) q)
+  lifted_one q arrival = grind (arith, and_right, cases_eq, differs, eq-eqb, man_on-without_other, man_on-without_same, occupied_now)
 
-pub on_left : (men : List (Option Man)) (a : ℕ) (o : Option ℕ) (b : ℕ) (z : Man) (k : ℕ) (u : Option ℕ) (t : ℕ) (x : Man) (q : ℕ) → q ≢ t → (k == q) ≡ true
-    → man_on (stepped men a o b z k u t x) q ≡ None
-on_left men a o b z k u t x q ne y = left_now (gone_to men a o b z) k u t x q ne (or_left (k == q) (is_square u q) y)
+  -- for the word of occupied squares then
+  pub occupied_lifted : b < length men → (sight_lifted men a o b k).occupied ≡ occupied_squares (without_man (gone_to men a o b z) k)
+  occupied_lifted arrival = search (rules, lifted_one, occupied_words, squares_both, squares_not)
 
-pub on_others : (men : List (Option Man)) (a : ℕ) (o : Option ℕ) (b : ℕ) (z : Man) (k : ℕ) (u : Option ℕ) (t : ℕ) (x : Man) (q : ℕ)
-    → ((s : ℕ) → is_square u s ≡ true → s ≡ t) → q ≢ t → (k == q) ≡ false
-    → man_on (stepped men a o b z k u t x) q ≡ man_on (gone_to men a o b z) q
-on_others men a o b z k u t x q h ne off = search (rules, gone_to, kept_now, or_from, taken_nowhere)
+  module _ (u : Option ℕ) (t : ℕ) (x : Man) where
+    -- the man on a square
+    pub on_flight : (q : ℕ) → t < length men → q ≡ t → man_on (stepped men a o b z k u t x) q ≡ Some x
+    on_flight q small e = search rules
 
--- who stands on a square once the man has arrived
-pub stands_arrived : (men : List (Option Man)) (a : ℕ) (o : Option ℕ) (b : ℕ) (z : Man) (k : ℕ) (u : Option ℕ) (t : ℕ) (x : Man) (q : ℕ) → b < length men
-    → ((s : ℕ) → is_square u s ≡ true → s ≡ t) → q ≡ b → q ≢ t → b ≢ k
-    → man_on (stepped men a o b z k u t x) q ≡ Some z
-stands_arrived men a o b z k u t x q arrival h e ne off = search (rules, gone_to, on_others, there_now)
+    pub on_left : (q : ℕ) → q ≢ t → (k == q) ≡ true → man_on (stepped men a o b z k u t x) q ≡ None
+    on_left q ne y = search (rules, left_now, or_left)
 
--- the squares on which men stand
-without_taken : (h i j e : Bool) → (j ≡ true → e ≡ true) → ((h && not i) || e) ≡ ((h && not (i || j)) || e)
-without_taken h i j e p = grind arith
+    pub on_others : (q : ℕ) → ((s : ℕ) → is_square u s ≡ true → s ≡ t) → q ≢ t → (k == q) ≡ false
+        → man_on (stepped men a o b z k u t x) q ≡ man_on (gone_to men a o b z) q
+    on_others q h ne off = search (rules, kept_now, or_from, taken_nowhere)
 
--- and once the king has stepped
-pub stands : (men : List (Option Man)) (a : ℕ) (o : Option ℕ) (b : ℕ) (z : Man) (k : ℕ) (u : Option ℕ) (t : ℕ) (x : Man) (q : ℕ) → b < length men
-    → t < length men → ((s : ℕ) → is_square u s ≡ true → s ≡ t)
-    → ((is_occupied_after men a o b q && not (k == q)) || t == q) ≡ is_some (man_on (stepped men a o b z k u t x) q)
-stands men a o b z k u t x q arrival flight h = search (rules, gone_to, length-gone, occupied_now, without_taken)
+    -- who stands on a square once the man has arrived
+    pub stands_arrived : (q : ℕ) → b < length men → ((s : ℕ) → is_square u s ≡ true → s ≡ t) → q ≡ b → q ≢ t → b ≢ k
+        → man_on (stepped men a o b z k u t x) q ≡ Some z
+    stands_arrived q arrival h e ne off = search (rules, on_others, there_now)
+
+    -- and once the king has stepped
+    pub stands : (q : ℕ) → b < length men → t < length men → ((s : ℕ) → is_square u s ≡ true → s ≡ t)
+        → ((is_occupied_after men a o b q && not (k == q)) || t == q) ≡ is_some (man_on (stepped men a o b z k u t x) q)
+    stands q arrival flight h = grind (arith, gone_to, length-set, length-without_at, occupied_now)
+
+    pub occupied_stepped : b < length men → t < length men → ((s : ℕ) → is_square u s ≡ true → s ≡ t)
+        → (sight_with (sight_lifted men a o b k) t).occupied ≡ occupied_squares (stepped men a o b z k u t x)
+    occupied_stepped arrival flight h = search (rules, squares_both, squares_not, squares_either, stands)
+
+    -- that board and the one after the step differ on the flight alone
+    pub lifted_alike : b < length men → t < length men → ((s : ℕ) → is_square u s ≡ true → s ≡ t)
+        → StandAlike (stepped men a o b z k u t x) (without_man (gone_to men a o b z) k) t
+    lifted_alike arrival flight h = record { alike = λ q ne. search (rules, is_occupied_after, lifted_one q, stands q) }
+
+module _ (men : List (Option Man)) (a : ℕ) (o : Option ℕ) (b : ℕ) (z y : Man) (k : ℕ) (u : Option ℕ) (t : ℕ) (x : Man) where
+  -- whichever man has arrived
+  pub arrival_alike : b < length men → t < length men → ((s : ℕ) → is_square u s ≡ true → s ≡ t)
+      → StandAlike (stepped men a o b z k u t x) (stepped men a o b y k u t x) t
+  arrival_alike arrival flight h = search (rules, stands)
+
+  -- so they do for each kind of arriving man
+  pub same_elsewhere : (q : ℕ) → t < length men → ((s : ℕ) → is_square u s ≡ true → s ≡ t) → (q ≡ b → q ≡ t)
+      → man_on (stepped men a o b z k u t x) q ≡ man_on (stepped men a o b y k u t x) q
+  same_elsewhere q flight h off = search (rules, man_on-with_other, on_flight, on_left, on_others)
 
 -- the words of men with the king lifted
 pub lifted_words : (men : List (Option Man)) (a : ℕ) (o : Option ℕ) (b k : ℕ)
     → (sight_lifted men a o b k).occupied ≡ word (λ s. is_occupied_after men a o b s && not (k == s))
 lifted_words men a o b k = search (rules, occupied_words, squares_both, squares_not)
 
-pub occupied_stepped : (men : List (Option Man)) (a : ℕ) (o : Option ℕ) (b : ℕ) (z : Man) (k : ℕ) (u : Option ℕ) (t : ℕ) (x : Man) → b < length men
-    → t < length men → ((s : ℕ) → is_square u s ≡ true → s ≡ t)
-    → (sight_with (sight_lifted men a o b k) t).occupied ≡ occupied_squares (stepped men a o b z k u t x)
-occupied_stepped men a o b z k u t x arrival flight h =
-    ap (λ (w : ℕ). bit_or w (word (is_square (Some t)))) (lifted_words men a o b k)
-    ∙ squares_either (λ s. is_occupied_after men a o b s && not (k == s)) (is_square (Some t))
-    ∙ squares_same _ (λ s. is_some (man_on (stepped men a o b z k u t x) s)) (λ s lt. stands men a o b z k u t x s arrival flight h)
-
--- the king lifted, nobody on the flight yet but who stood there
-lifted_one : (men : List (Option Man)) (a : ℕ) (o : Option ℕ) (b : ℕ) (z : Man) (k q : ℕ) → b < length men
-    → (is_occupied_after men a o b q && not (k == q)) ≡ is_some (man_on (without_man (gone_to men a o b z) k) q)
-lifted_one men a o b z k q arrival = grind (arith, and_right, cases_eq, differs, eq-eqb, man_on-without_other, man_on-without_same, occupied_now)
-
--- for the word of occupied squares then
-pub occupied_lifted : (men : List (Option Man)) (a : ℕ) (o : Option ℕ) (b : ℕ) (z : Man) (k : ℕ) → b < length men
-    → (sight_lifted men a o b k).occupied ≡ occupied_squares (without_man (gone_to men a o b z) k)
-occupied_lifted men a o b z k arrival = search (rules, lifted_one, lifted_words, squares_same)
-
--- that board and the one after the step differ on the flight alone
-pub lifted_alike : (men : List (Option Man)) (a : ℕ) (o : Option ℕ) (b : ℕ) (z : Man) (k : ℕ) (u : Option ℕ) (t : ℕ) (x : Man) → b < length men
-    → t < length men → ((s : ℕ) → is_square u s ≡ true → s ≡ t)
-    → StandAlike (stepped men a o b z k u t x) (without_man (gone_to men a o b z) k) t
-lifted_alike men a o b z k u t x arrival flight h = search (rules, is_occupied_after, lifted_one, stands)
-
--- whichever man has arrived
-pub arrival_alike : (men : List (Option Man)) (a : ℕ) (o : Option ℕ) (b : ℕ) (z y : Man) (k : ℕ) (u : Option ℕ) (t : ℕ) (x : Man) → b < length men
-    → t < length men → ((s : ℕ) → is_square u s ≡ true → s ≡ t)
-    → StandAlike (stepped men a o b z k u t x) (stepped men a o b y k u t x) t
-arrival_alike men a o b z y k u t x arrival flight h = search (rules, stands)
-
--- so they do for each kind of arriving man
-pub same_elsewhere : (men : List (Option Man)) (a : ℕ) (o : Option ℕ) (b : ℕ) (z y : Man) (k : ℕ) (u : Option ℕ) (t : ℕ) (x : Man) (q : ℕ) → t < length men
-    → ((s : ℕ) → is_square u s ≡ true → s ≡ t) → (q ≡ b → q ≡ t)
-    → man_on (stepped men a o b z k u t x) q ≡ man_on (stepped men a o b y k u t x) q
-same_elsewhere men a o b z y k u t x q flight h off = search (rules, man_on-with_other, on_flight, on_left, on_others)
-
--- the men of the attack: the one that moved apart
-last_out : (i p q r : Bool) → r ≡ false → (i && ((p && q) && r)) ≡ false
-last_out i p q r h = grind arith
-
-gone_out : (i o e r : Bool) → (e || o) ≡ true → (i && ((not o && not e) && r)) ≡ false
-gone_out i o e r p = grind arith
-
-all_in : (i o e r : Bool) → (e || o) ≡ false → r ≡ true → (i && ((not o && not e) && r)) ≡ i
-all_in i o e r p q = grind arith
-
-attacker_stands : (men : List (Option Man)) (a : ℕ) (o : Option ℕ) (b k : ℕ) (u : Option ℕ) (t : ℕ) (x : Man) (c : Colour) (j : Kind) (q : ℕ)
-    → IsStep men a o b k u t x c
-    → (is_man (man_on men q) c j && ((not (is_square o q) && not (a == q)) && not (t == q))) ≡ is_man (man_on (stepped men a o b x k u t x) q) c j
-attacker_stands men a o b k u t x c j q i = elim (cases_eq q t) [
-  | inl e ↦
-      grind (arith, last_out, eq-eqb, on_flight, and_left)
-  | inr ne ↦ elim (cases_Bool (k == q)) [
-    | inl y ↦
-        grind (arith, eqb-true, no_man, and_left, on_left)
-    | inr n ↦ ours ne n ∙ sym (ap (λ (y : Option Man). is_man y c j) (on_others men a o b x k u t x q i.taken ne n))
-  ]
-] where
-  ours : q ≢ t → (k == q) ≡ false → (is_man (man_on men q) c j && ((not (is_square o q) && not (a == q)) && not (t == q))) ≡ is_man
-      (man_on (gone_to men a o b x) q) c j
-  ours ne n = elim (cases_eq q b) [
-    | inl e ↦
-        grind (arith, no_man, and_left, there_now)
-    | inr off ↦ grind (arith, cases_Bool, gone_out, left_now, all_in, differs, kept_now)
+module _ (men : List (Option Man)) (a : ℕ) (o : Option ℕ) (b k : ℕ) (u : Option ℕ) (t : ℕ) (x : Man) (c : Colour) (i : IsStep men a o b k u t x c) where
+  -- the men of the attack: the one that moved apart
+  attacker_stands : (j : Kind) (q : ℕ) → (is_man (man_on men q) c j && ((not (is_square o q) && not (a == q)) && not (t == q)))
+      ≡ is_man (man_on (stepped men a o b x k u t x) q) c j
+  attacker_stands j q = elim (cases_eq q t) [
+    | inl e ↦ rw (on_flight men a o b x k u t x q i.flight e) (grind (arith, and_right, eq-eqb, e, and_left, i.king))
+    | inr ne ↦ elim (cases_Bool (k == q)) [
+      | inl y ↦ grind (arith, eqb-true, no_man, and_left, on_left)
+      | inr n ↦ rw (on_others men a o b x k u t x q i.taken ne n) (elim (cases_eq q b) [
+        | inl e ↦ grind (arith, no_man, and_left, there_now)
+        | inr off ↦ grind (arith, cases_Bool (a == q || is_square o q), left_now men a o b x q off, kept_now men a o b x q off, differs, ne)
+      ])
+    ]
   ]
 
--- the words are those of the men once a man of the other side has come to b too
-pub seen_stepped : (men : List (Option Man)) (a : ℕ) (o : Option ℕ) (b k : ℕ) (u : Option ℕ) (t : ℕ) (x : Man) (c : Colour) → IsStep men a o b k u t x c
-    → AreSeen men (stepped men a o b x k u t x) c (sight_with (sight_lifted men a o b k) t)
-unfolding squares_of
-seen_stepped men a o b k u t x c i = search (rules, attacker_stands, occupied_stepped, squares_both, squares_not, squares_same)
+  -- the words are those of the men once a man of the other side has come to b too
+  pub seen_stepped : AreSeen men (stepped men a o b x k u t x) c (sight_with (sight_lifted men a o b k) t)
+  unfolding squares_of
+  seen_stepped = search (rules, attacker_stands, occupied_stepped, squares_both, squares_not)

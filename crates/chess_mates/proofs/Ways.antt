@@ -1,5 +1,5 @@
 -- The ways of a defender to a square that isn't risky: his king goes, or another man, who may leave a line.
-use Rattle.chess_mates.proofs.Chess.{AreAdjacent, AreAttackers, AreCastlingSquares, AreClosed, AreMere, ArePlain, AreRisky, AreThreatsOf, Attackers, Colour, IsBarred, IsMereMove, IsPlainMove, IsSafeMove, IsSafeStep, IsSettledStep, IsSparedStep, IsWellFormed, KeepsFlight, KeepsFlightBeside, KeepsOne, King, Man, Move, Option, Position, RuleSet, Some, ToldThreats, [], agree_below_at, along, and_from, and_parts, ap, arrival_needed, bit_and, bit_at, bit_at_above, bit_not, bit_or, captures_do_more, cases_Bool, cases_lt, cond-false, cond-true, false, false_by, false≢true, inl, inr, is_castling, is_legal, is_man, is_pseudo_legal, is_pseudo_legal-from_legal, king_after, king_is, leaps, list_any, made, man_on, mates_behind, may_go, may_go_aimed, off_left, off_right, off_second, other, position_after, queen_steps, refl, same_colour, same_colour-refl, same_kind, some_is, subst, sym, true, w64, ℕ, ◌<◌, ◌==◌, ◌^◌, ◌∙◌, ◌≡◌, ◌≢◌}
+use Rattle.chess_mates.proofs.Chess.{AreAdjacent, AreMere, ArePlain, AreRisky, AreThreatsOf, IsLike, IsMereMove, IsPlainMove, IsSafeMove, IsSafeStep, IsSettledStep, IsSiegeOf, IsSparedStep, IsWellFormed, KeepsFlight, KeepsFlightBeside, KeepsOne, King, Man, Move, Position, RuleSet, Siege, Some, ToldThreats, [], agree_below_at, along, and_from, and_parts, ap, arith, arrival_needed, bit_and, bit_at, bit_at_above, bit_not, bit_or, captures_do_more, cases_Bool, cases_lt, cond-false, cond-true, false, false_by, false≢true, inl, inr, is_castling, is_legal, is_man, is_pseudo_legal, is_pseudo_legal-from_legal, king_after, king_is, leaps, list_any, made, man_on, mates_behind, may_go_aimed, off_left, off_right, off_second, position_after, queen_steps, refl, rules, same_colour-refl, same_kind, some_is, sym, true, w64, ℕ, ◌<◌, ◌==◌, ◌^◌, ◌∙◌, ◌≡◌, ◌≢◌}
 use Rattle.chess_mates.proofs.Risks.{denied_on}
 use Rattle.chess_mates.proofs.LastingFlights.{no_mate_behind as flight_behind}
 use Rattle.chess_mates.proofs.Barring.{barred_is_illegal}
@@ -9,6 +9,10 @@ use Rattle.chess_mates.proofs.Sparing.{no_mate_behind}
 no_step_back : (t : ℕ) → t < 64 → list_any (leaps t t) queen_steps ≡ false
 unfolding along leaps
 no_step_back t small = agree_below_at (λ n. list_any (leaps n n) queen_steps) (λ _. false) 64 t refl small
+
+-- a siege of the same men is one of the same position
+like_fits : (rule : RuleSet) (p : Position) (v w : Siege) → IsLike v w → IsSiegeOf rule p v → IsSiegeOf rule p w
+like_fits rule p v w l fits = search (rules, l.men, l.own, l.enemies, l.king, l.castled, l.closed, fits)
 
 module _ (rule : RuleSet) (p : Position) (x : Man) (v : ToldThreats) (well : IsWellFormed p) (threats : AreThreatsOf rule p v) where
   module _ (m : Move) (may : is_pseudo_legal rule p m ≡ true) (here : man_on p.men m.from ≡ Some x) (small : m.to < 64) where
@@ -21,8 +25,8 @@ module _ (rule : RuleSet) (p : Position) (x : Man) (v : ToldThreats) (well : IsW
         flight_behind rule p m x k near well may here captures alone small king (record {
           next = next.next;
           arrival = arrival;
-          own = λ f low on. false_by _ (λ own. false≢true (sym (next.free f low on) ∙ fits.closed.own f low own));
-          king = λ f low on. false_by _ (λ king. false≢true (sym (next.kings f low on) ∙ fits.kings f low king));
+          own = λ f low on. search (rules, false_by, next.free f low on, fits.closed.own f low);
+          king = λ f low on. search (rules, false_by, next.kings f low on, fits.kings f low);
         }) v.siege.men fits.men fits.colour kept
 
     -- beside him, whoever comes elsewhere
@@ -38,10 +42,8 @@ module _ (rule : RuleSet) (p : Position) (x : Man) (v : ToldThreats) (well : IsW
       (plain : IsPlainMove p x m) (mere : captures_do_more rule ≡ true → IsMereMove p x m) where
     at_king : same_kind x.kind King ≡ true → v.siege.king ≡ m.from
     at_king king =
-        let mine : x.colour ≡ p.turn = (made rule p m x may here).mine in
-        let stands : is_man (man_on p.men m.from) p.turn King ≡ true =
-        ap (λ (o : Option Man). is_man o p.turn King) here ∙ and_from _ _ (ap (λ (c : Colour). same_colour c p.turn) mine ∙ same_colour-refl p.turn) king in
-        some_is v.siege.king m.from (threats.fits.king ∙ king_is p.men p.turn m.from well.kings from stands)
+        let is : is_man (man_on p.men m.from) p.turn King ≡ true = rw (here, (made rule p m x may here).mine) (and_from _ _ (same_colour-refl p.turn) king) in
+        some_is v.siege.king m.from (threats.fits.king ∙ king_is p.men p.turn m.from well.kings from is)
 
     king_safe : same_kind x.kind King ≡ true → IsSafeStep v.siege m.to → mates_behind rule (position_after rule p m) 0 ≡ []
     king_safe king safe =
@@ -67,30 +69,15 @@ module _ (rule : RuleSet) (p : Position) (x : Man) (v : ToldThreats) (well : IsW
     king_spared : same_kind x.kind King ≡ true → IsSparedStep rule v.siege m.to → mates_behind rule (position_after rule p m) 0 ≡ []
     king_spared king spared = elim spared [ inl safe ↦ king_safe king safe | inr kept ↦ king_keeps king kept ]
 
-    -- a step to a square that an attacker reaches isn't legal
-    king_barred : same_kind x.kind King ≡ true → IsBarred rule v.siege m.to → is_legal rule p m ≡ true → ⊥
-    king_barred king barred =
-        barred_is_illegal rule p m x v.siege well may here small plain mere king (at_king king) threats.siege threats.whole threats.fits barred
-
     man_spared : same_kind x.kind King ≡ false → IsSafeMove v.siege m.from m.to → mates_behind rule (position_after rule p m) 0 ≡ []
     man_spared mortal safe =
         let l = safe.like in
-        let fits = threats.fits in
         no_mate_behind rule p m x safe.siege v.siege.king safe.risk well may here small from
-        (cond-false (same_kind x.kind King) _ _ mortal ∙ sym fits.king) (record {
+        (cond-false (same_kind x.kind King) _ _ mortal ∙ sym threats.fits.king) (record {
           plain = plain;
           mere = mere;
           siege = l.siege;
-          fits = record {
-            colour = ap (λ (a : Attackers). a.colour) l.men ∙ fits.colour;
-            men = subst (λ (a : Attackers). AreAttackers p.men a) (sym l.men) fits.men;
-            own = l.own ∙ fits.own;
-            enemies = l.enemies ∙ fits.enemies;
-            king = ap (λ (k : ℕ). Some k) l.king ∙ fits.king;
-            kings = λ s inside stands. ap (λ (a : Attackers). bit_at a.kings s == 1) l.men ∙ fits.kings s inside stands;
-            castled = subst (λ (c : ℕ). AreCastlingSquares p (other p.turn) c) (sym l.castled) fits.castled;
-            closed = subst (λ (c : ℕ). AreClosed rule p c) (sym l.closed) fits.closed;
-          };
+          fits = like_fits rule p v.siege safe.siege l threats.fits;
           at = safe.at;
           off = safe.off;
           shut = safe.shut;
@@ -98,10 +85,7 @@ module _ (rule : RuleSet) (p : Position) (x : Man) (v : ToldThreats) (well : IsW
         })
 
   inside : (w t : ℕ) → w < 2 ^ 64 → (bit_at w t == 1) ≡ true → t < 64
-  inside w t fits on = elim (cases_lt t 64) [
-    | inl small ↦ small
-    | inr high ↦ absurd (let none = bit_at_above w 64 t fits high in cc)
-  ]
+  inside w t fits on = grind (arith, bit_at_above w 64 t fits, cases_lt t 64)
 
   -- of the squares of w those of l, if off them the king keeps a flight beside the man
   pub unkept_are_risky : (s w l r : ℕ) → man_on p.men s ≡ Some x → w < 2 ^ 64 → same_kind x.kind King ≡ false
@@ -129,8 +113,7 @@ module _ (rule : RuleSet) (p : Position) (x : Man) (v : ToldThreats) (well : IsW
           let small = inside w m.to fits on in
           let may = is_pseudo_legal-from_legal rule p m legal in
           let both : (bit_at (bit_or u r) m.to == 1) ≡ false = off_second w (bit_or u r) m.to off on in
-          let goes : may_go p x s m.to ≡ true = ap (λ (n : ℕ). may_go p x n m.to) (sym origin)
-          ∙ may_go_aimed rule p x m (ap (man_on p.men) origin ∙ here) (arrival_needed rule p m small may) in
+          let goes = rw origin at (may_go_aimed rule p x m (ap (man_on p.men) origin ∙ here) (arrival_needed rule p m small may)) in
           spares m legal may origin small on (off_left u r m.to both) (off_right u r m.to both) (plain.plain m origin small goes (off_left u r m.to both))
           (λ circe. (mere circe).mere m origin small goes (off_left u r m.to both));
     }
@@ -144,7 +127,8 @@ module _ (rule : RuleSet) (p : Position) (x : Man) (v : ToldThreats) (well : IsW
           let there = ap (man_on p.men) origin ∙ here in
           elim (safe m.to small (denied_on w u m.to fits_u small on off) none) [
             | inl calm ↦ king_spared m may there small (rw origin from) plain mere king calm
-            | inr barred ↦ absurd (king_barred m may there small (rw origin from) plain mere king barred legal)
+            | inr barred ↦ absurd (barred_is_illegal rule p m x v.siege well may there small plain mere king
+                (at_king m may there small (rw origin from) plain mere king) threats.siege threats.whole threats.fits barred legal)
           ])
 
       -- for another man's moves

@@ -40,6 +40,7 @@ pub(crate) struct CheckSquares {
 }
 
 // Whether it is one of the fairy kinds, and none of the colour stands on the board.
+#[tactic(auto, using(chess_rules::proofs::Bits::not_zero), unfolding(chess_core::specs::ties::Words::squares_of))]
 fn is_absent(board: &Board, colour: Colour, kind: Kind) -> bool
     ensures { result ≡ is_absent board.now.men (record { colour = colour; kind = kind }) }
 {
@@ -48,6 +49,7 @@ fn is_absent(board: &Board, colour: Colour, kind: Kind) -> bool
 
 // The squares from which an enemy of this kind may give check to the colour's king: all of them for fairy men
 // of whom none stands on the board.
+#[tactic(auto, using(chess_rules::proofs::Bits::word_empty, chess_rules::proofs::Bits::every_square, std::proofs::lemmas::Bool::or_left, chess_core::proofs::Words::squares_same), unfolding(crate::specs::ties::CheckSquares::may_check_from))]
 pub(crate) fn check_squares_of(board: &Board, colour: Colour, kind: Kind) -> Squares
     ensures { result ≡ word (may_check_from board.now.men colour (enemy colour kind)) }
 {
@@ -64,6 +66,7 @@ pub(crate) fn check_squares_of(board: &Board, colour: Colour, kind: Kind) -> Squ
 // The squares from which a move may expose the colour's king, told by those from which a rook and a bishop may
 // give check to it, and by the fairy lines to it.
 #[inline(always)]
+#[tactic(auto, using(chess_rules::proofs::attacks::Shielding::shield_squares_none, crate::proofs::Checking::rook_squares, crate::proofs::Checking::bishop_squares))]
 fn shields_seen(
     board: &Board,
     colour: Colour,
@@ -178,6 +181,7 @@ fn special_targets(squares: &CheckSquares, kind: Kind, king: Option<Square>) -> 
 // The squares to which a man of this kind must go to give check by a legal move, from any square that is no
 // shield square; a king from his own, `king`.
 #[inline(always)]
+#[tactic(auto, using(crate::proofs::CheckTargets::check_targets_some))]
 pub(crate) fn targets_off_shields<R: Rules>(
     board: &Board,
     squares: &CheckSquares,
@@ -200,6 +204,7 @@ pub(crate) fn targets_off_shields<R: Rules>(
 }
 
 // The squares to which this man must go from here to give check by a legal move.
+#[tactic(auto, using(chess_rules::proofs::listing_moves::Targeting::every_square_on))]
 fn check_targets<R: Rules>(board: &Board, squares: &CheckSquares, man: Man, from: Square) -> Squares
     requires well_formed { IsWellFormed board.now }
     requires squares { AreCheckSquares board.now.men (other board.now.turn) squares.now }
@@ -215,6 +220,7 @@ fn check_targets<R: Rules>(board: &Board, squares: &CheckSquares, man: Man, from
 }
 
 // Those of them to which the man on the square, if one stands there, might go, were the others gone.
+#[tactic(auto, using(chess_rules::proofs::listing_moves::Targeting::nobody_moves, crate::proofs::CheckTargets::targets_lack, chess_rules::proofs::listing_moves::Walks::off_second), unfolding(chess_rules::specs::Legal::is_legal))]
 pub(crate) fn near_check_targets<R: Rules>(
     board: &Board,
     squares: &CheckSquares,

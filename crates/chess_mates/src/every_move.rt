@@ -28,6 +28,7 @@ use chess_rules::words::{contains, next_bit};
 
 /// Whether the side to move has a legal move and each of its legal moves mates: one that can't give check
 /// says no without being played. The board is unchanged.
+#[tactic(auto, using(crate::proofs::Mating::quietly))]
 pub fn every_move_mates<R: Rules>(board: &mut Board) -> bool
     requires { IsWellFormed board.old }
     ensures answer { result ≡ (not (is_nil (moves R.rule board.old))
@@ -47,7 +48,7 @@ pub fn every_move_mates<R: Rules>(board: &mut Board) -> bool
 
 // The squares to which the king on `king` may step, attacks apart: in Circe none are told.
 #[inline(always)]
-#[tactic(auto, using(crate::proofs::QuietSteps::open_steps, crate::proofs::QuietSteps::no_steps))]
+#[tactic(auto, using(crate::proofs::QuietSteps::open_steps, chess_rules::proofs::listing_moves::Walks::off_zero))]
 fn step_squares<R: Rules>(board: &Board, king: Square) -> Squares
     ensures { (x : Man) → man_on board.now.men king ≡ Some x → same_kind x.kind King ≡ true
         → AreOpen R.rule board.now.men board.now.turn king result }
@@ -59,6 +60,7 @@ fn step_squares<R: Rules>(board: &Board, king: Square) -> Squares
 }
 
 // Whether no enemy reaches the king once he has stepped from `from` to `to`.
+#[tactic(auto, using(crate::proofs::Mating::quietly))]
 fn is_unreached(board: &Board, king: Man, from: Square, to: Square) -> bool
     ensures { result ≡ true → IsUnreached board.now king from to }
 {
@@ -142,7 +144,7 @@ fn has_quiet_move<R: Rules>(
 }
 
 // Whether a legal move can't give check, so that it doesn't mate.
-#[tactic(auto, using(crate::proofs::EveryMove::quietly))]
+#[tactic(auto, using(crate::proofs::Mating::quietly))]
 fn is_quiet<R: Rules>(board: &Board, squares: &CheckSquares, m: &Move) -> bool
     requires well_formed { IsWellFormed board.now }
     requires legal { is_legal R.rule board.now m.now ≡ true }

@@ -49,7 +49,7 @@ pub(crate) struct Springs {
 }
 
 // The squares next to a king of the defender on this square to which he might go, attacks apart.
-#[tactic(auto, using(crate::proofs::Sieges::adjacent_are))]
+#[tactic(auto, using(crate::proofs::FarMen::off_denied, chess_rules::proofs::listing_moves::Walks::on_first, chess_rules::proofs::Bits::word_has))]
 pub(crate) fn adjacent_squares(siege: &Siege, king: Square) -> Squares
     ensures { AreAdjacent siege.now king result }
 {
@@ -58,7 +58,7 @@ pub(crate) fn adjacent_squares(siege: &Siege, king: Square) -> Squares
 
 // The squares next to the king on which he may capture, attacks apart: in Circe, where attackers stand on closed squares,
 // and beside hoppers none.
-#[tactic(auto, using(crate::proofs::Sieges::captures_are, crate::proofs::Sieges::no_captures))]
+#[tactic(auto, using(crate::proofs::Sieges::captures_are, crate::proofs::Risks::none_at))]
 fn capture_squares(siege: &Siege, king: Square) -> Squares
     ensures { AreCaptureSquares siege.now king result }
 {
@@ -69,7 +69,7 @@ fn capture_squares(siege: &Siege, king: Square) -> Squares
 }
 
 // The squares of a nightrider's lines from a king on this square, if the attackers have one.
-#[tactic(auto, using(crate::proofs::Sieges::nightrider_lines))]
+#[tactic(auto, using(crate::proofs::Hurdles::reached_is), unfolding(crate::specs::ties::Siege::reached_over, chess_rules::specs::Reaches::reaches_as))]
 pub(crate) fn nightrider_lines(siege: &Siege, king: Square) -> Squares
     ensures { siege.now.men.nightriders ≢ 0 → (c : Colour)
         → IsReached siege.now.hurdles (record { colour = c; kind = Nightrider }) king result }
@@ -129,6 +129,7 @@ fn landing_on(siege: &Siege, king: Square, to: Square) -> Landings
 }
 
 // Such squares of a word.
+#[tactic(auto, using(crate::proofs::Risks::none_at, crate::proofs::Springboards::landing_anywhere))]
 fn landings_among(siege: &Siege, king: Square, squares: Squares) -> Landings
     ensures { (f : ℕ) → f < 64 → (bit_at result.squares f == 1) ≡ true
         → IsUnsprung siege.now king f result.springboards }
@@ -169,7 +170,7 @@ pub(crate) fn springs_of(siege: &Siege, king: Square) -> Springs
 }
 
 // The same against attackers without a grasshopper.
-#[tactic(auto, using(crate::proofs::Sieges::springless))]
+#[tactic(auto, using(crate::proofs::Springboards::landing_anywhere, crate::proofs::Springboards::none_sprung))]
 pub(crate) fn no_springs(siege: &Siege, king: Square) -> Springs
     requires { siege.now.men.grasshoppers ≡ 0 }
     ensures { AreSprings siege.now king result }
@@ -219,6 +220,7 @@ pub(crate) fn castling_is_harmless(siege: &Siege, field: &Field) -> bool
 
 // The squares to which no other man may come lest the king, who stays, keeps no flight whatever is played: those that no
 // attacker reaches, were all others gone, if they can't all be taken with one move. Where captures do more it isn't asked.
+#[tactic(auto, using(chess_rules::proofs::listing_moves::Targeting::every_square_on, crate::proofs::Sieges::fewer_adjacent))]
 pub(crate) fn needed_squares<R: Rules>(siege: &Siege) -> Squares
     ensures { AreNeeded siege.now result }
 {

@@ -112,6 +112,7 @@ pub(crate) fn open_squares<R: Rules>(board: &Board, sight: Sight, king: Square) 
 
 // The first of the squares that no man of the colour attacks once the enemy king stands there, the man that
 // moved apart.
+#[tactic(auto, using(chess_rules::proofs::HoldBelow::hold_all, chess_rules::proofs::HoldBelow::hold_none))]
 #[inline(always)]
 pub(crate) fn first_safe(
     board: &Board,

@@ -21,7 +21,7 @@ pub(crate) struct Guards {
 }
 
 // The squares that the man on `from` reaches over the hurdles.
-#[tactic(auto, using(crate::proofs::Hurdles::reached_alone, crate::proofs::Hurdles::reached_is))]
+#[tactic(auto, using(crate::proofs::Hurdles::occupied_on, crate::proofs::Hurdles::reached_is, chess_rules::proofs::Bits::word_has), unfolding(crate::specs::ties::Siege::reached_over))]
 pub(crate) fn reach_from(hurdles: Squares, man: Man, from: Square) -> Squares
     ensures all { IsReached hurdles man from result }
     ensures alone { (t : ℕ) → t < 64 → (bit_at result t == 1) ≡ true
@@ -44,6 +44,7 @@ fn reach_towards(hurdles: Squares, man: Man, from: Square, region: Squares) -> S
 }
 
 // Those that such men on the squares of a word reach.
+#[tactic(auto, using(chess_rules::proofs::HoldBelow::hold_none, chess_rules::proofs::listing_moves::Walks::off_zero))]
 fn reach_together(hurdles: Squares, man: Man, squares: Squares, region: Squares) -> Squares
     ensures all { (s : ℕ) → s < 64 → (bit_at squares s == 1) ≡ true
         → IsNear man s region → IsReached hurdles man s result }
@@ -82,6 +83,7 @@ pub(crate) fn reach_of(
 }
 
 // The squares that riders reach.
+#[tactic(auto, using(crate::proofs::Hurdles::riders_reach))]
 pub(crate) fn ridden_squares(hurdles: Squares, men: &Attackers, region: Squares) -> Squares
     ensures all { AreReached hurdles men.now region is_rider result }
     ensures alone { (t : ℕ) → t < 64 → (bit_at result t == 1) ≡ true
@@ -101,6 +103,7 @@ pub(crate) fn ridden_squares(hurdles: Squares, men: &Attackers, region: Squares)
 }
 
 // Those that knights, pawns and kings reach.
+#[tactic(auto, using(crate::proofs::Hurdles::leapers_reach))]
 pub(crate) fn leapt_squares(hurdles: Squares, men: &Attackers, region: Squares) -> Squares
     ensures all { AreReached hurdles men.now region is_leaper result }
     ensures alone { (t : ℕ) → t < 64 → (bit_at result t == 1) ≡ true

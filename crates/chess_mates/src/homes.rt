@@ -48,6 +48,7 @@ fn pawn_home(colour: Colour, from: Square) -> Squares
 }
 
 // The squares on which the pawns may be reborn.
+#[tactic(auto, using(chess_rules::proofs::HoldBelow::hold_all, chess_rules::proofs::HoldBelow::hold_none))]
 fn pawn_homes(colour: Colour, pawns: Squares) -> Squares
     ensures { (s : ℕ) → s < 64 → (bit_at pawns s == 1) ≡ true → (t r : ℕ) → file_of t ≡ file_of s
         → rebirth colour Pawn t ≡ Some r → (bit_at result r == 1) ≡ true }
@@ -63,7 +64,7 @@ fn pawn_homes(colour: Colour, pawns: Squares) -> Squares
 }
 
 // The squares on which men of the kind may be reborn, if the colour has any.
-#[tactic(auto, using(crate::proofs::HomeSquares::homes_are, crate::proofs::HomeSquares::no_homes_are, crate::proofs::HomeSquares::pawn_homes_are))]
+#[tactic(auto, using(crate::proofs::HomeSquares::no_homes_are, crate::proofs::HomeSquares::pawn_homes_are))]
 fn homes_on(board: &Board, colour: Colour, kind: Kind) -> Squares
     ensures { AreHomesOf board.now.men colour kind result }
 {

@@ -26,6 +26,7 @@ use chess_rules::rules::Rules;
 use chess_rules::words::{contains, next_bit, only};
 
 // Those that the men of this kind reach so, who stand on the squares of a word.
+#[tactic(auto, using(chess_rules::proofs::HoldBelow::hold_all, chess_rules::proofs::HoldBelow::hold_none, crate::proofs::Risks::none_on))]
 #[inline(always)]
 fn open_reach_of(colour: Colour, kind: Kind, squares: Squares) -> Squares
     ensures { (s : ℕ) → s < 64 → (bit_at squares s == 1) ≡ true
@@ -105,6 +106,7 @@ pub(crate) fn open_approaches(man: Man, to: Square) -> Squares
 }
 
 // Whether one of the squares is left wherever the man comes to a square of the word.
+#[tactic(auto, using(chess_rules::proofs::HoldBelow::hold_all, chess_rules::proofs::HoldBelow::hold_none))]
 fn leaves_one_each(squares: Squares, man: Man, targets: Squares) -> bool
     ensures { result ≡ true → (t : ℕ) → t < 64 → (bit_at targets t == 1) ≡ true
         → (f : ℕ) × IsLeft squares man t f }
@@ -137,6 +139,7 @@ fn leaves_one(squares: Squares, man: Man, from: Square) -> bool
 }
 
 // Whether each man of this kind leaves one so, who stands on a square of the word.
+#[tactic(auto, using(chess_rules::proofs::HoldBelow::hold_all, chess_rules::proofs::HoldBelow::hold_none, crate::proofs::Risks::none_on))]
 #[inline(always)]
 fn each_leaves_one(squares: Squares, colour: Colour, kind: Kind, men: Squares) -> bool
     ensures { result ≡ true → (s : ℕ) → s < 64 → (bit_at men s == 1) ≡ true

@@ -100,6 +100,7 @@ impl<R: Rules> MatingMoves<R> {
     /// The first legal move behind the place that mates, on which the place then stands. Where there is
     /// none: `None`, and the place stands behind all triples. The board is unchanged.
     /// The place must be one in the board's position.
+    #[tactic(auto, using(crate::proofs::MatesBetween::next_mates), unfolding(crate::specs::ties::Mates::mates, chess_rules::specs::ties::Places::place_of))]
     pub fn next(&mut self, board: &mut Board) -> Option<Move>
         requires well_formed { IsWellFormed board.old }
         requires place { IsMatingPlaceIn R.rule board.old self.old }
@@ -130,6 +131,7 @@ impl<R: Rules> MatingMoves<R> {
     /// The first legal move behind the place that mates and doesn't lie behind `end`, on which the place
     /// then stands. Where there is none: `None`, and the place stays. The board is unchanged. The place
     /// must be one in the board's position.
+    #[tactic(auto, using(crate::proofs::MatesBetween::until_mates), unfolding(crate::specs::ties::Mates::mates))]
     pub fn next_until(&mut self, end: Moves<R>, board: &mut Board) -> Option<Move>
         requires well_formed { IsWellFormed board.old }
         requires place { IsMatingPlaceIn R.rule board.old self.old }
@@ -228,7 +230,7 @@ impl Sought for CheckSquares {
 }
 
 // The squares from which a move may mate, and perhaps more: those from which one may give check.
-#[tactic(auto, using(crate::proofs::MatesBetween::mating_origins))]
+#[tactic(auto, using(crate::proofs::Mating::no_mate_quietly))]
 fn mating_origins<R: Rules>(board: &Board, squares: &CheckSquares) -> Squares
     requires well_formed { IsWellFormed board.now }
     requires squares { AreCheckSquares board.now.men (other board.now.turn) squares.now }
@@ -238,7 +240,7 @@ fn mating_origins<R: Rules>(board: &Board, squares: &CheckSquares) -> Squares
 }
 
 // The squares to which the man on `from` may go with check, and perhaps more.
-#[tactic(auto, using(crate::proofs::MatesBetween::mating_candidates))]
+#[tactic(auto, using(chess_rules::proofs::listing_moves::Walks::candidates, chess_rules::proofs::listing_moves::Walks::no_candidates, crate::proofs::Mating::no_mate_quietly, crate::proofs::Mating::not_mating))]
 fn candidates<R: Rules>(board: &Board, squares: &CheckSquares, from: Square) -> Squares
     requires well_formed { IsWellFormed board.now }
     requires squares { AreCheckSquares board.now.men (other board.now.turn) squares.now }
@@ -252,7 +254,7 @@ fn candidates<R: Rules>(board: &Board, squares: &CheckSquares, from: Square) -> 
 }
 
 // Whether the move is legal and mates. The board is unchanged after it.
-#[tactic(auto, using(crate::proofs::MatesBetween::no_mates, crate::proofs::Fleeing::no_mate_with_flight))]
+#[tactic(auto, using(crate::proofs::Mating::no_mate_quietly, crate::proofs::Mating::not_mating, crate::proofs::Fleeing::no_mate_with_flight))]
 fn is_mating<R: Rules>(board: &mut Board, squares: &CheckSquares, m: Move) -> bool
     requires well_formed { IsWellFormed board.old }
     requires aimed { IsAimed R.rule board.old m }
@@ -274,7 +276,7 @@ fn is_mating<R: Rules>(board: &mut Board, squares: &CheckSquares, m: Move) -> bo
 
 // Whether the move, which may be made, is legal and mates; `flights` is told of the position after it. The
 // board is unchanged after it.
-#[tactic(auto, using(crate::proofs::Mating::mates_after))]
+#[tactic(auto, unfolding(crate::specs::ties::Mates::mates, chess_rules::specs::Legal::is_legal))]
 fn gives_mate<R: Rules>(board: &mut Board, m: Move, flights: Flights) -> bool
     requires well_formed { IsWellFormed board.old }
     requires pseudo { is_pseudo_legal R.rule board.old m ≡ true }

@@ -16,7 +16,7 @@ use chess_rules::reach::reach_over;
 use chess_rules::targets::steps_to;
 
 // The squares that the man on `from` reaches, whoever else stands on the board: of a grasshopper a queen's lines.
-#[tactic(auto, using(crate::proofs::OpenBoard::bishop_reach, crate::proofs::OpenBoard::grasshopper_reach, crate::proofs::OpenBoard::king_reach, crate::proofs::OpenBoard::knight_reach, crate::proofs::OpenBoard::nightrider_reach, crate::proofs::OpenBoard::pawn_reach, crate::proofs::OpenBoard::queen_reach, crate::proofs::OpenBoard::rook_reach))]
+#[tactic(auto, using(crate::proofs::OpenBoard::grasshopper_reach, crate::proofs::OpenBoard::leap_reach, crate::proofs::OpenBoard::nightrider_reach, crate::proofs::OpenBoard::queen_reach, crate::proofs::OpenBoard::ride_reach))]
 pub(crate) fn open_reach(man: Man, from: Square) -> Squares
     ensures { AreReached man from result }
 {
@@ -48,7 +48,7 @@ pub(crate) fn open_targets(man: Man, from: Square) -> Squares
 // The squares from which a pawn of this colour might come to one of the targets, and perhaps more: what lies
 // over the edge of a file counts.
 #[inline(always)]
-#[tactic(auto, using(crate::proofs::Approaches::black_pawns_before, crate::proofs::Approaches::white_pawns_before))]
+#[tactic(auto, using(crate::proofs::Approaches::pawns_come_from))]
 pub(crate) fn pawns_before(colour: Colour, targets: Squares) -> Squares
     ensures { AreApproaches (record { colour = colour; kind = Pawn }) targets result }
 {
@@ -59,7 +59,7 @@ pub(crate) fn pawns_before(colour: Colour, targets: Squares) -> Squares
 }
 
 // The squares from which a pawn of this colour might capture on one of the targets, and perhaps more, as above.
-#[tactic(auto, using(crate::proofs::Approaches::black_capturers, crate::proofs::Approaches::white_capturers))]
+#[tactic(auto, using(crate::proofs::Approaches::pawns_capture_from))]
 pub(crate) fn capturers_before(colour: Colour, targets: Squares) -> Squares
     ensures { AreCapturers colour targets result }
 {

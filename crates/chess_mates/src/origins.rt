@@ -41,6 +41,7 @@ fn far_pawns<R: Rules>(board: &Board, squares: &CheckSquares) -> Squares
 
 // Whether the man couldn't come from here to one of his targets on an empty board.
 #[inline(always)]
+#[tactic(auto, using(crate::proofs::FarMen::far_by))]
 fn is_far<R: Rules>(board: &Board, man: Man, from: Square, targets: Squares) -> bool
     requires here { man_on board.now.men from ≡ Some man }
     requires targets { AreCheckTargets R.rule board.now from targets }
@@ -52,6 +53,7 @@ fn is_far<R: Rules>(board: &Board, man: Man, from: Square, targets: Squares) -> 
 // The squares of the mover's men of this kind, no kings, who couldn't come to a check square on an empty
 // board.
 #[inline(always)]
+#[tactic(auto, using(crate::proofs::FarMen::far_either, chess_rules::proofs::listing_moves::Walks::off_zero, crate::proofs::FarMen::far_one))]
 fn far_men<R: Rules>(board: &Board, squares: &CheckSquares, kind: Kind) -> Squares
     requires well_formed { IsWellFormed board.now }
     requires squares { AreCheckSquares board.now.men (other board.now.turn) squares.now }
@@ -82,6 +84,7 @@ fn far_men<R: Rules>(board: &Board, squares: &CheckSquares, kind: Kind) -> Squar
 // The square of the mover's king, if he couldn't come to a check square on an empty board, castling among
 // his moves.
 #[inline(always)]
+#[tactic(auto, using(chess_rules::proofs::listing_moves::Walks::off_zero, crate::proofs::FarMen::far_one))]
 fn far_king<R: Rules>(board: &Board, squares: &CheckSquares) -> Squares
     requires well_formed { IsWellFormed board.now }
     requires squares { AreCheckSquares board.now.men (other board.now.turn) squares.now }
@@ -110,6 +113,7 @@ fn own_squares(board: &Board) -> Squares
 }
 
 // The squares of the mover's men, those apart who couldn't come to a check square on an empty board.
+#[tactic(auto, using(crate::proofs::FarMen::check_origins_own))]
 pub(crate) fn check_origins<R: Rules>(board: &Board, squares: &CheckSquares) -> Squares
     requires well_formed { IsWellFormed board.now }
     requires squares { AreCheckSquares board.now.men (other board.now.turn) squares.now }

@@ -47,6 +47,7 @@ fn left_squares(near: Squares, man: Man, to: Square) -> Squares
 
 // The squares that a defender mustn't come to lest none is left then. To a square where another attacker stands the man
 // comes only if he recaptures there.
+#[tactic(auto, using(chess_rules::proofs::listing_moves::Targeting::every_square_on))]
 fn critical_with(near: Squares, enemies: Squares, man: Man, to: Square) -> Squares
     ensures { LeavesOne near enemies result man to }
 {
@@ -65,6 +66,7 @@ fn critical_with(near: Squares, enemies: Squares, man: Man, to: Square) -> Squar
 }
 
 // The same wherever the man comes to a square of the word.
+#[tactic(auto, using(chess_rules::proofs::HoldBelow::hold_none))]
 fn critical_after(near: Squares, enemies: Squares, man: Man, targets: Squares) -> Squares
     ensures { (t : ℕ) → t < 64 → (bit_at targets t == 1) ≡ true
         → LeavesOne near enemies result man t }
@@ -83,7 +85,7 @@ fn critical_after(near: Squares, enemies: Squares, man: Man, targets: Squares) -
 pub(crate) const LAST_RANKS: Squares = 0xff00_0000_0000_00ff;
 
 // Whether the man may promote on one of the squares.
-#[tactic(auto, using(crate::proofs::Risks::no_last_rank_on, crate::proofs::Risks::no_pawn_arrives))]
+#[tactic(auto, using(crate::proofs::LastingFlights::no_last_rank, chess_rules::proofs::listing_moves::Targeting::no_pawn_arrives))]
 fn may_promote_on(man: Man, targets: Squares) -> bool
     ensures { result ≡ false → (t : ℕ) → t < 64 → (bit_at targets t == 1) ≡ true
         → is_promoting man t ≡ false }
@@ -96,7 +98,7 @@ fn may_promote_on(man: Man, targets: Squares) -> bool
 
 // The squares to which the man on `from` may go: a pawn or a grasshopper whoever else stands on the board, others over the
 // hurdles.
-#[tactic(auto, using(crate::proofs::Risks::open_arrivals, crate::proofs::Risks::piece_arrivals))]
+#[tactic(auto, using(crate::proofs::Standing::no_hopper))]
 fn arrivals(hurdles: Squares, man: Man, from: Square) -> Squares
     ensures { AreArrivals hurdles man from result }
 {
@@ -107,6 +109,7 @@ fn arrivals(hurdles: Squares, man: Man, from: Square) -> Squares
 }
 
 // Those of the squares from which he checks, or lets a hopper check, or on which he promotes. A king doesn't check.
+#[tactic(auto, using(chess_rules::proofs::listing_moves::Walks::off_second, crate::proofs::Risks::king_targets))]
 fn checking_targets(man: Man, reached: Squares, checks: Squares, springboards: Squares) -> Squares
     ensures { (t : ℕ) → t < 64 → (bit_at reached t == 1) ≡ true
         → (bit_at result t == 1) ≡ false → IsNoCheck checks springboards man t }
@@ -134,7 +137,7 @@ fn watched_squares(guards: &Guards, king: Square, reached: Squares, targets: Squ
 }
 
 // Those of the squares on which the king can't capture who comes there.
-#[tactic(auto, using(crate::proofs::Risks::captured_on))]
+#[tactic(auto, using(crate::proofs::Risks::bit_denied, chess_rules::proofs::Bits::off_left, chess_rules::proofs::Bits::off_right, chess_rules::proofs::listing_moves::Walks::off_second))]
 fn uncaptured_squares(field: &Field, guards: &Guards, squares: Squares) -> Squares
     ensures { (t : ℕ) → t < 64 → (bit_at squares t == 1) ≡ true
         → (bit_at result t == 1) ≡ false → ((bit_at field.now.captures t == 1) ≡ true)
@@ -144,6 +147,7 @@ fn uncaptured_squares(field: &Field, guards: &Guards, squares: Squares) -> Squar
 }
 
 // Whether the man, who goes from `from`, may come to a springboard of another's on one of the squares.
+#[tactic(auto, using(crate::proofs::Risks::none_checks))]
 fn may_spring(siege: &Siege, field: &Field, from: Square, squares: Squares) -> bool
     ensures { result ≡ false → (t : ℕ) → t < 64 → (bit_at squares t == 1) ≡ true → (q : ℕ) (z : Man)
         → IsAttacker siege.now.men z q → from ≢ q → is_hopper (gait_of z.kind) ≡ true
@@ -187,6 +191,7 @@ fn risk_of_going(
 
 // The risk of the man on `from`, who checks from the squares of `checks`. Mostly he can't come there, were the others
 // gone.
+#[tactic(auto, using(chess_rules::proofs::listing_moves::Walks::off_zero, crate::proofs::Risks::harmless_quietly, crate::proofs::Risks::open_arrivals))]
 #[inline(always)]
 fn risk_from(siege: &Siege, field: &Field, man: Man, from: Square, checks: Squares) -> Risk
     ensures { IsHarmless siege.now field.now checks result man from }
@@ -211,6 +216,7 @@ fn risk_from(siege: &Siege, field: &Field, man: Man, from: Square, checks: Squar
 }
 
 // The same of such men on the squares of a word.
+#[tactic(auto, using(chess_rules::proofs::HoldBelow::hold_none))]
 #[inline(always)]
 fn risk_together(siege: &Siege, field: &Field, man: Man, squares: Squares, checks: Squares) -> Risk
     ensures { (s : ℕ) → s < 64 → (bit_at squares s == 1) ≡ true
@@ -230,6 +236,7 @@ fn risk_together(siege: &Siege, field: &Field, man: Man, squares: Squares, check
 
 // The squares from which the man, once he has come there, checks the king of the field: a grasshopper whoever else stands on
 // the board, others over the hurdles.
+#[tactic(auto, using(crate::proofs::Risks::check_hops, crate::proofs::Risks::check_word))]
 fn check_squares_over(siege: &Siege, field: &Field, man: Man) -> Squares
     requires { IsField siege.now field.now }
     ensures { IsCheckWord siege.now.hurdles field.now.king man result }
@@ -251,6 +258,7 @@ fn check_squares_over(siege: &Siege, field: &Field, man: Man) -> Squares
 
 // The squares from which the man may check or promote with his next move, were the others gone, or uncover a check, and
 // perhaps more: of pawns and kings fewer than all, but where hoppers aim at the king.
+#[tactic(auto, using(chess_rules::proofs::listing_moves::Targeting::every_square_on, chess_rules::proofs::listing_moves::Targeting::false_by, crate::proofs::Risks::king_targets, crate::proofs::Risks::none_at, crate::proofs::Risks::pawn_idly))]
 fn suspect_squares(field: &Field, man: Man, checks: Squares) -> Squares
     ensures { (v : Siege) (s : ℕ) → s < 64 → (bit_at result s == 1) ≡ false
         → IsHarmless v field.now checks (record { critical = 0; lines = 0 }) man s }
@@ -280,6 +288,7 @@ fn check_now(man: Man, checks: Squares, squares: Squares) -> bool
 }
 
 // The risk of the men of this kind, who stand on the squares. Where one of them checks now, nothing is told.
+#[tactic(auto, using(chess_rules::proofs::listing_moves::Targeting::every_square_on, crate::proofs::Risks::none_at))]
 #[inline(always)]
 fn risk_of(siege: &Siege, field: &Field, kind: Kind, squares: Squares) -> Risk
     requires { IsField siege.now field.now }
@@ -346,7 +355,7 @@ fn risk_of_all(siege: &Siege, field: &Field) -> Risk
 
 // The risk of a defender whose king is on the square, with his field's lines of nightriders and springboards. Where a hopper
 // checks him, or a castling may, nothing is told.
-#[tactic(auto, using(crate::proofs::Sieges::risk_is, crate::proofs::Sieges::risk_never))]
+#[tactic(auto, using(crate::proofs::Sieges::risk_is, chess_rules::proofs::listing_moves::Targeting::every_square_on))]
 #[inline(always)]
 fn risk_with(siege: &Siege, king: Square, riders: Squares, springs: &Springs) -> Risk
     requires riders { siege.now.men.nightriders ≢ 0 → (c : Colour)
@@ -444,6 +453,7 @@ fn kept_risk_behind(siege: &Siege, kept: &mut Option<RiskBehind>, from: Square) 
 
 // Those of the squares that the man on `from`, who isn't the king, mustn't come to, and perhaps more: told by the siege's
 // own risk, unless he leaves a line on which he is a hurdle. Nothing gets better by that.
+#[tactic(auto, using(chess_rules::proofs::listing_moves::Targeting::false_by))]
 pub(crate) fn critical_from(
     siege: &Siege,
     risk: &Risk,

@@ -30,6 +30,7 @@ pub(crate) struct Siege {
 
 // The square `next`, beside the king, if the side may castle with the rook in the corner: he is unmoved, and no man of
 // its own stands there.
+#[tactic(auto, using(chess_rules::proofs::Bits::word_has))]
 fn castling_square(board: &Board, own: Squares, corner: Square, next: Square) -> Squares
     ensures { (has_unmoved board.now.unmoved corner ≡ false)
         ⊎ ((bit_at own next == 1) ≡ true) ⊎ ((bit_at result next == 1) ≡ true) }
@@ -46,6 +47,7 @@ fn castling_square(board: &Board, own: Squares, corner: Square, next: Square) ->
 }
 
 // The squares to which a rook of the colour may castle, whatever the other side plays before, and perhaps more.
+#[tactic(auto, using(crate::proofs::Sieges::moved_king_castles, crate::proofs::Sieges::no_king_castles))]
 fn castling_squares(board: &Board, colour: Colour) -> Squares
     ensures { IsWellFormed board.now → AreCastlingSquares board.now colour result }
 {
@@ -76,6 +78,7 @@ fn castling_squares(board: &Board, colour: Colour) -> Squares
 }
 
 // All men but the king, and perhaps without one of his.
+#[tactic(auto, using(crate::proofs::Sieges::hurdles_are, crate::proofs::Sieges::lifted_off))]
 fn hurdles_of(own: Squares, enemies: Squares, king: Square, lifted: Option<Square>) -> Squares
     ensures are { AreHurdles own enemies king result }
     ensures lifted { (s : ℕ) → s < 64 → lifted ≡ Some s → (bit_at result s == 1) ≡ false }

@@ -59,6 +59,7 @@ fn keeps_flight_at<R: Rules>(siege: &Siege, guarded: Squares, to: Square) -> boo
 }
 
 // The square, if the king mustn't step there: a reply may mate him there, or a man stands on it, unless he keeps a flight.
+#[tactic(auto, using(crate::proofs::Sparing::one_square))]
 fn risky_step<R: Rules>(siege: &Siege, guarded: Squares, to: Square) -> Squares
     requires { AreGuarded siege.now.men guarded }
     ensures { (bit_at result to == 1) ≡ false → IsSparedStep R.rule siege.now to }
@@ -76,6 +77,7 @@ fn risky_step<R: Rules>(siege: &Siege, guarded: Squares, to: Square) -> Squares
 }
 
 // Those of the squares to which he mustn't step.
+#[tactic(auto, using(chess_rules::proofs::HoldBelow::hold_none, chess_rules::proofs::HoldBelow::hold_all))]
 fn risky_among<R: Rules>(siege: &Siege, steps: Squares) -> Squares
     ensures { (t : ℕ) → t < 64 → (bit_at steps t == 1) ≡ true → (bit_at result t == 1) ≡ false
         → IsSparedStep R.rule siege.now t }
@@ -109,6 +111,7 @@ fn unbarred_steps<R: Rules>(siege: &Siege, steps: Squares) -> Squares
 }
 
 // Those of the squares to which he mustn't step, of legal steps.
+#[tactic(auto, using(chess_rules::proofs::Basics::cases_Bool))]
 fn risky_steps<R: Rules>(siege: &Siege, steps: Squares) -> Squares
     ensures { (t : ℕ) → t < 64 → (bit_at steps t == 1) ≡ true → (bit_at result t == 1) ≡ false
         → IsSettledStep R.rule siege.now t }

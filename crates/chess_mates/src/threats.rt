@@ -60,6 +60,7 @@ fn special_squares(board: &Board, man: Man, from: Square) -> Squares
 }
 
 // The squares to which the man can't go but by capturing or being promoted.
+#[tactic(auto, using(crate::proofs::Passing::piece_mere))]
 fn altering_squares(board: &Board, man: Man, from: Square) -> Squares
     ensures { AreMere board.now man from result }
 {
@@ -74,6 +75,7 @@ fn altering_squares(board: &Board, man: Man, from: Square) -> Squares
 }
 
 // The squares for which nothing is told of the man on `from`: in Circe captures and promotions too.
+#[tactic(auto, using(chess_rules::proofs::Bits::off_left, chess_rules::proofs::Bits::off_right))]
 fn unplain_squares<R: Rules>(board: &Board, man: Man, from: Square) -> Squares
     ensures plain { ArePlain board.now man from result }
     ensures mere { captures_do_more R.rule ≡ true → AreMere board.now man from result }
@@ -93,6 +95,7 @@ fn can_be_told<R: Rules>() -> bool
 }
 
 // Those of the squares that are needed; where captures do more all.
+#[tactic(auto, using(chess_rules::proofs::listing_moves::Walks::off_second))]
 fn unkept_squares<R: Rules>(needed: Squares, squares: Squares) -> Squares
     ensures { (t : ℕ) → t < 64 → (bit_at squares t == 1) ≡ true → (bit_at result t == 1) ≡ false
         → (captures_do_more R.rule ≡ false) × ((bit_at needed t == 1) ≡ false) }
@@ -227,6 +230,7 @@ impl Threats {
     }
 
     /// Whether the move doesn't come to such a square, so that no reply mates. `false` says nothing.
+    #[tactic(auto, using(crate::proofs::Sparing::one_square))]
     pub fn rule_out_mate<R: Rules>(&mut self, board: &Board, m: &Move) -> bool
         requires well_formed { IsWellFormed board.now }
         requires legal { is_legal R.rule board.now m.now ≡ true }
@@ -249,7 +253,6 @@ impl Sift for Threats {
 
     ghost fits = { λ t rule p. AreThreatsOf rule p t };
 
-    #[tactic(auto, using(crate::proofs::Sparing::sifted_by_risk))]
     fn sift<R: Rules>(&mut self, board: &Board, from: Square, squares: Squares) -> Squares {
         self.risky_squares::<R>(board, from, squares)
     }

@@ -10,3 +10,4 @@ pub mod Flips
 pub mod Tables
 pub mod Parting
 pub mod Riding
+pub mod Landing

@@ -1,5 +1,5 @@
 -- The value by half-moves is what the battle definitions say.
-use Rattle.pop_solve.proofs.Words.{Battle, Game, Selfmate, arith, can_move, every_move, is_lost, is_self_lost, refl, rules, self_wins, some_move, suc, value, wins, zero, ℕ, ◌&&◌, ◌*◌, ◌||◌, ◌≡◌, Direct}
+use Rattle.pop_solve.proofs.Words.{Battle, Game, Selfmate, arith, can_move, every_move, is_lost, is_self_lost, refl, rules, self_wins, suc, value, wins, zero, ℕ, ◌&&◌, ◌*◌, ◌||◌, ◌≡◌, Direct}
 
 module _ {P M : Type 0} (game : Game P M) where
   -- with no half-move left the goal decides
@@ -11,10 +11,7 @@ module _ {P M : Type 0} (game : Game P M) where
   pub value-is_lost : (j : ℕ) (q : P) → value Direct game (2 * j) q ≡ is_lost game j q
   unfolding is_lost value
   value-is_lost zero q = refl
-  value-is_lost (suc j) q =
-      let white : (r : P) → value Direct game (suc (2 * j)) r ≡ some_move game (is_lost game j) r = search (rules, value-is_lost j) in
-      let two : 2 * suc j ≡ suc (suc (2 * j)) = omega arith in
-      rw two (search (rules, white))
+  value-is_lost (suc j) q = let two : 2 * suc j ≡ suc (suc (2 * j)) = omega arith in rw two (search (rules, value-is_lost j))
 
   -- with an odd number: White wins
   pub value-wins : (k : ℕ) (p : P) → value Direct game (suc (2 * k)) p ≡ wins game (suc k) p

@@ -31,7 +31,6 @@ module _ {P M : Type 0} (game : Game P M) where
   unfolding walk_length shown_length
   walk_length-most play variation t q = search (rules, length_most)
 
-module _ {P M : Type 0} (game : Game P M) where
   -- nor less than the first that is tried
   pub least_length_from-least : (battle : Battle) (q : P) (n a : ℕ) → a ≤ least_length_from battle game q n a
   unfolding least_length_from
@@ -44,26 +43,24 @@ module _ {P M : Type 0} (game : Game P M) where
   unfolding is_followed value walk_length shown_length
   ended-reached play variation root t q f e = search (rules, nat_tests, least_length_from-least)
 
--- in a battle each path is given
-pub given-battle : {P M : Type 0} (plan : Plan) (game : Game P M) (battle : Battle) (t : ℕ) (q : P) → plan.play ≡ BattlePlay battle
-    → is_given plan.play game t q ≡ true
-unfolding is_given
-given-battle plan game battle t q fought = rw fought refl
+module _ {P M : Type 0} (plan : Plan) (game : Game P M) where
+  -- in a battle each path is given
+  pub given-battle : (battle : Battle) (t : ℕ) (q : P) → plan.play ≡ BattlePlay battle → is_given plan.play game t q ≡ true
+  unfolding is_given
+  given-battle battle t q fought = rw fought refl
 
--- in help play the walk follows each move, with the half-moves that are left
-pub walk_length-help : {P M : Type 0} (plan : Plan) (game : Game P M) (t : ℕ) (q : P) → plan.play ≡ HelpPlay
-    → walk_length plan.play (has_variations plan.tree) game t q ≡ t
-unfolding walk_length
-walk_length-help plan game t q help = rw help refl
+  -- in help play the walk follows each move, with the half-moves that are left
+  pub walk_length-help : (t : ℕ) (q : P) → plan.play ≡ HelpPlay → walk_length plan.play (has_variations plan.tree) game t q ≡ t
+  unfolding walk_length
+  walk_length-help t q help = rw help refl
 
--- it follows each move of help play
-pub follows-help : {P M : Type 0} (plan : Plan) (game : Game P M) (root : Bool) (t : ℕ) (q : P) → plan.play ≡ HelpPlay
-    → is_followed plan.play game root t q ≡ true
-unfolding is_followed
-follows-help plan game root t q help = rw help refl
+  -- it follows each move of help play
+  pub follows-help : (root : Bool) (t : ℕ) (q : P) → plan.play ≡ HelpPlay → is_followed plan.play game root t q ≡ true
+  unfolding is_followed
+  follows-help root t q help = rw help refl
 
--- where keys alone are shown it doesn't go on below a move of White
-pub walk_length-keys : {P M : Type 0} (plan : Plan) (game : Game P M) (t : ℕ) (q : P) (battle : Battle) → plan.play ≡ BattlePlay battle
-    → has_variations plan.tree ≡ false → seeks battle (t + 1) ≡ true → walk_length plan.play (has_variations plan.tree) game t q ≡ 0
-unfolding walk_length
-walk_length-keys plan game t q battle fought b c = rw (fought, b, c) refl
+  -- where keys alone are shown it doesn't go on below a move of White
+  pub walk_length-keys : (t : ℕ) (q : P) (battle : Battle) → plan.play ≡ BattlePlay battle → has_variations plan.tree ≡ false
+      → seeks battle (t + 1) ≡ true → walk_length plan.play (has_variations plan.tree) game t q ≡ 0
+  unfolding walk_length
+  walk_length-keys t q battle fought b c = rw (fought, b, c) refl

@@ -1,5 +1,5 @@
 -- The first solutions of a phase, by the paths that begin them.
-use Rattle.pop_solve.proofs.Words.{Battle, BattlePlay, Bool, Frame, Game, IsWalking, List, Plan, PlayOfSides, Position, RuleSet, Steps, Walks, [], append-nil, arith, beginning_count, begins_solution, chess, cond, eqb, false, is_help_play, kept_paths, length, map, moves_behind, nat_tests, is_given, path, position, refl, rules, shown_paths, suc, to_come, true, zero, ℕ, ◌&&◌, ◌++◌, ◌+◌, ◌-◌, ◌<◌, ◌||◌, ◌∷◌, ◌≡◌, ◌⊎◌, and_parts, HelpPlay, map-id, nil_from_length}
+use Rattle.pop_solve.proofs.Words.{Battle, BattlePlay, Bool, Frame, Game, IsWalking, List, Plan, PlayOfSides, Position, RuleSet, Steps, Walks, [], append-nil, arith, beginning_count, begins_solution, chess, cond, eqb, false, is_help_play, kept_paths, length, moves_behind, nat_tests, is_given, path, position, refl, rules, shown_paths, suc, to_come, true, zero, ℕ, ◌&&◌, ◌+◌, ◌-◌, ◌<◌, ◌||◌, ◌∷◌, ◌≡◌, ◌⊎◌, and_parts, HelpPlay, map-id, nil_from_length}
 use Rattle.pop_solve.proofs.Paths.{path-length}
 
 module _ {M : Type 0} where
@@ -21,10 +21,6 @@ module _ {M : Type 0} where
   full-help [] = (refl, refl)
   full-help (x ∷ xs) = (refl, refl)
 
-  -- lines behind no move
-  pub map-same : (xs : List (List M)) → map (λ line. [] ++ line) xs ≡ xs
-  map-same xs = map-id xs
-
 -- the first path by the moves of a root in battle play begins a solution
 module _ {P M : Type 0} (plan : Plan) (game : Game P M) (battle : Battle) (fought : plan.play ≡ BattlePlay battle) where
   full-battle : (root : Bool) (k left : ℕ) (p : P) (ms : List M)
@@ -39,7 +35,7 @@ module _ (rule : RuleSet) (plan : Plan) (h : ℕ) (p : Position) where
   -- the paths to come from the root alone
   pub to_come-root : (f : Frame) → to_come rule plan h p (f ∷ []) ≡ shown_paths plan (chess plan.goal rule) true (h - 0) f.left p (moves_behind rule p f.place)
   unfolding to_come path position
-  to_come-root f = search (rules, append-nil, map-same)
+  to_come-root f = search (rules, append-nil, map-id)
 
   -- with none to begin, and none on the way
   full : (play : PlayOfSides) → plan.play ≡ play → (frames : List Frame) → (is_help_play play || eqb (length frames) 1) ≡ true
@@ -49,20 +45,17 @@ module _ (rule : RuleSet) (plan : Plan) (h : ℕ) (p : Position) where
   full (BattlePlay battle) same (f ∷ []) e = rw (to_come-root f) (full-battle plan (chess plan.goal rule) battle same _ _ _ _ _)
   full (BattlePlay battle) same (f ∷ (g ∷ below)) e = absurd (grind (arith, nat_tests))
 
-  none : (frames : List Frame) → length frames ≡ 0 → to_come rule plan h p frames ≡ []
-  unfolding to_come
-  none frames e = search (rules, nil_from_length)
-
   module _ (old mid : List Frame) (same : to_come rule plan h p old ≡ to_come rule plan h p mid) where
     -- the walk ends once no frame is left, or where the limit is reached and no solution is on the way
     pub walks_ended : (limit : ℕ) (board : Position) → IsWalking rule h p mid board
         → (length mid ≡ 0) ⊎ ((eqb limit 0 && (is_help_play plan.play || eqb (length mid) 1)) ≡ true)
         → Walks rule plan (is_help_play plan.play) h p limit old mid board false
-    unfolding kept_paths beginning_count
-    walks_ended limit board r e = grind (arith, nat_tests, and_parts, full plan.play refl mid, none mid, nil_from_length)
+    unfolding kept_paths beginning_count to_come
+    walks_ended limit board r e = grind (arith, nat_tests, and_parts, full plan.play refl mid, nil_from_length)
 
     -- a step that gives a path ends it too
     pub walks_given : (limit : ℕ) (new : List Frame) (board : Position) (before after : ℕ) (given : Bool) → Steps rule plan h p mid new board before after given
         → given ≡ true → 0 < length mid → (eqb limit 0 && (is_help_play plan.play || eqb (length mid) 1)) ≡ false
         → Walks rule plan (is_help_play plan.play) h p limit old new board true
-    walks_given limit new board before after given made is some e = grind (arith, path-length, nat_tests, keep-next, beginning_count-next, none)
+    unfolding to_come
+    walks_given limit new board before after given made is some e = grind (arith, path-length, nat_tests, keep-next, beginning_count-next, nil_from_length)

@@ -2,10 +2,9 @@ pub mod Words
 pub mod Boards
 pub mod Values
 pub mod SmallestTrees
-pub mod LastMoves
 pub mod Orders
 pub mod Tests
-pub mod LastDefences
+pub mod LastMoves
 pub mod Battles
 pub mod Lengths
 pub mod Least

@@ -1,5 +1,5 @@
 -- One more move never harms.
-use Rattle.pop_solve.proofs.Words.{Bool, Game, List, [], arith, can_move, cases_lt, every_move, fails_before_first, false, is_lost, is_self_lost, list_all, list_any, passes_at_first, position_or_len, prefix_len-le-length, range_with_len, rules, self_wins, some_move, suc, true, wins, zero, ℕ, ◌&&◌, ◌-◌, ◌<◌, ◌||◌, ◌∷◌, ◌≡◌, ◌≤◌}
+use Rattle.pop_solve.proofs.Words.{Bool, Game, List, [], arith, can_move, cases_lt, every_move, fails_before_first, false, is_lost, is_self_lost, list_all, list_any, passes_at_first, position_or_len, prefix_len-le-length, range_with_len, rules, self_wins, suc, true, wins, zero, ℕ, ◌&&◌, ◌-◌, ◌<◌, ◌||◌, ◌∷◌, ◌≡◌, ◌≤◌}
 use Rattle.std.proofs.lemmas.List.FromFn.{get_or-range_with_len, length-range_with_len}
 
 module _ {X : Type 0} (f g : X → Bool) (weaker : (x : X) → f x ≡ true → g x ≡ true) where
@@ -12,33 +12,27 @@ module _ {X : Type 0} (f g : X → Bool) (weaker : (x : X) → f x ≡ true → 
   all_weaker (x ∷ xs) h = search (rules, all_weaker xs, weaker)
 
 module _ {P M : Type 0} (game : Game P M) where
-  some_weaker : (f g : P → Bool) → ((q : P) → f q ≡ true → g q ≡ true) → (p : P) → some_move game f p ≡ true → some_move game g p ≡ true
-  some_weaker f g w p h = search (rules, any_weaker)
-
-  every_weaker : (f g : P → Bool) → ((q : P) → f q ≡ true → g q ≡ true) → (p : P) → every_move game f p ≡ true → every_move game g p ≡ true
-  every_weaker f g w p h = search (rules, all_weaker)
-
   -- who is lost within some moves is lost within more
   pub is_lost-more : (j : ℕ) (q : P) → is_lost game j q ≡ true → is_lost game (suc j) q ≡ true
   unfolding is_lost
   is_lost-more zero q h = search rules
-  is_lost-more (suc j) q h = search (rules, every_weaker, some_weaker, is_lost-more j)
+  is_lost-more (suc j) q h = search (rules, all_weaker, any_weaker, is_lost-more j)
 
   -- who wins within some moves wins within more
   pub wins-more : (k : ℕ) (p : P) → wins game k p ≡ true → wins game (suc k) p ≡ true
   unfolding wins
-  wins-more k p h = search (rules, some_weaker, is_lost-more)
+  wins-more k p h = search (rules, any_weaker, is_lost-more)
 
   -- after Black's move White wins, or Black has reached the goal
   won-more : (f g : P → Bool) → ((r : P) → f r ≡ true → g r ≡ true) → (q : P)
       → (can_move game q && every_move game (λ r. game.goal r || f r) q) ≡ true → (can_move game q && every_move game (λ r. game.goal r || g r) q) ≡ true
-  won-more f g w q h = search (rules, every_weaker)
+  won-more f g w q h = search (rules, all_weaker)
 
   -- the same of a selfmate
   pub self_wins-more : (k : ℕ) (p : P) → self_wins game k p ≡ true → self_wins game (suc k) p ≡ true
   unfolding self_wins
   self_wins-more zero p h = absurd cc
-  self_wins-more (suc k) p h = search (rules, some_weaker, won-more, self_wins-more k)
+  self_wins-more (suc k) p h = search (rules, any_weaker, all_weaker, self_wins-more k)
 
   -- and after a move of White's
   pub is_self_lost-more : (j : ℕ) (q : P) → is_self_lost game j q ≡ true → is_self_lost game (suc j) q ≡ true
@@ -61,8 +55,7 @@ module _ (test : ℕ → Bool) (n : ℕ) where
 
   -- no lower number passes
   pub first_is_first : (k : ℕ) → k < position_or_len test (range_with_len 0 n) → test k ≡ false
-  first_is_first k less =
-      search (rules, get_or-range_with_len, length-range_with_len, fails_before_first test (range_with_len 0 n) k 0, first_at_most)
+  first_is_first k less = search (rules, get_or-range_with_len, length-range_with_len, fails_before_first test (range_with_len 0 n) k 0, first_at_most)
 
   -- it passes itself, if the count does
   pub first_passes : test n ≡ true → test (position_or_len test (range_with_len 0 n)) ≡ true

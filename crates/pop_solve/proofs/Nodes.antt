@@ -1,5 +1,6 @@
 -- The paths of trees.
 use Rattle.pop_solve.proofs.Words.{AllPairs, AllPairs-filter, Battle, Bool, Contains, Game, List, [], continuations, arith, best_moves, cond, false, false≢true, filter, first_in, flat_map, flat_map_single, from_filter, from_flat_map, from_map, in_cases, in_filter, in_flat_map, in_map, inr, keeps_win, later_in, list_any, map, node, nodes_below, none_in_nil, or_cases, pairs_flat_map, pairs_map, pairs_nil, pairs_of, refl, rules, is_in_set_play, set_tree, subst, suc, take, take-map, tree, true, zero, ℕ, ◌++◌, ◌-◌, ◌↔◌, ◌∷◌, ◌≡◌, ◌≢◌, ◌⊎◌, flat_map-map}
+use Rattle.std.proofs.Math.Seq.{take-nil}
 use Rattle.pop_solve.proofs.theorems.Lists.{HasBeginnings, StandsBefore}
 
 -- some element passes a test
@@ -23,8 +24,7 @@ HasNoEmpty {M} paths = (path : List M) → Contains paths path → path ≢ []
 module _ {M : Type 0} where
   -- a path of a node begins with its move
   starts : (m : M) (below : List (List M)) (path : List M) → Contains (node m below) path → (rest : List M) × (m ∷ rest ≡ path)
-  starts m below path c =
-      search (rules, in_cases (m ∷ []) (map (λ path. m ∷ path) below) path, from_map (λ path. m ∷ path) below path)
+  starts m below path c = search (rules, in_cases (m ∷ []) (map (λ path. m ∷ path) below) path, from_map (λ path. m ∷ path) below path)
 
   module _ (f : M → List (List M)) where
     -- a path of nodes: its first move is one of theirs, and the others are none or a path below it
@@ -46,8 +46,7 @@ module _ {M : Type 0} where
     -- nodes over lists that have their beginnings have theirs
     pub nodes_have_beginnings : ((m : M) → HasBeginnings (f m)) → (ms : List M) → HasBeginnings (flat_map (λ m. node m (f m)) ms)
     nodes_have_beginnings closed ms x [] ys c = root_in_nodes ms x (from_nodes ms x ys c).0
-    nodes_have_beginnings closed ms x (y ∷ xs) ys c =
-        grind (arith, from_nodes ms x ((y ∷ xs) ++ ys) c, path_in_nodes ms x (y ∷ xs), closed x y xs ys)
+    nodes_have_beginnings closed ms x (y ∷ xs) ys c = grind (arith, from_nodes ms x ((y ∷ xs) ++ ys) c, path_in_nodes ms x (y ∷ xs), closed x y xs ys)
 
     module _ (before : M → M → Type 0) where
       -- nodes in order, with paths in order below each
@@ -122,11 +121,6 @@ module _ {P M : Type 0} (battle : Battle) (game : Game P M) (n : ℕ) where
     unfolding set_tree below_set
     set_tree_paths h p = flat_map-map (λ s. s) (λ d. node d (below_set h p d)) (set_moves p)
 
-    -- set play without half-moves has no first solutions
-    pub first_set_tree_none : (k : ℕ) (p : P) → flat_map (λ s. s) (take k (set_tree battle game variation n zero p)) ≡ []
-    unfolding set_tree
-    first_set_tree_none k p = grind arith
-
   -- so what holds of trees holds of all of them
   module _ {Ok : List M → Type 0} {Q : List (List M) → Type 0} (holds : HoldsOfTrees game Ok Q) where
     unless : (g : Bool) (paths : List (List M)) → Q paths → Q (cond g [] paths)
@@ -155,8 +149,7 @@ module _ {P M : Type 0} (battle : Battle) (game : Game P M) (n : ℕ) where
 
     -- of a play
     pub play_holds : (variation : Bool) (h : ℕ) (p : P) → Q (flat_map (λ s. s) (tree battle game variation n h p))
-    play_holds variation h p =
-        rw (tree_paths variation h p) (holds.nodes _ (kept p) (holds.some _ _ (holds.moves p)) (below_key_holds variation h p))
+    play_holds variation h p = rw (tree_paths variation h p) (holds.nodes _ (kept p) (holds.some _ _ (holds.moves p)) (below_key_holds variation h p))
 
     -- of set play
     pub set_play_holds : (variation : Bool) (h : ℕ) (p : P) → Q (flat_map (λ s. s) (set_tree battle game variation n h p))
@@ -176,7 +169,7 @@ module _ {P M : Type 0} (battle : Battle) (game : Game P M) (n : ℕ) where
       -- of set play
       pub first_set_play_holds : (h : ℕ) (p : P) → Q (flat_map (λ s. s) (take k (set_tree battle game variation n h p)))
       unfolding set_tree below_set
-      first_set_play_holds zero p = rw (first_set_tree_none variation k p) holds.none
+      first_set_play_holds zero p = rw (take-nil k) holds.none
       first_set_play_holds (suc h) p =
           rw (joined_first (λ d. node d (below_set variation h p d)) k (set_moves p))
           (holds.nodes _ (take k (set_moves p)) (ok _) (below_set_holds variation h p))

@@ -1,8 +1,8 @@
 -- The outcomes of a step, for frames listed from the top down.
-use Rattle.pop_solve.proofs.Words.{AreKnown, Bool, CameFrom, CameFromAt, Counts, Frame, GoesTo, HelpPlay, IfSome, IsCounted, IsLinked, IsPlaceIn, IsRoomy, IsWalking, are_whites, LegalPlace, List, Move, Option, Plan, Position, RuleSet, Steps, [], after_well_formed, ap, arith, chess, eqb, false, fewest_left, is_followed, is_given, walk_length, inl, inr, is_legal, is_pseudo_legal-from_legal, length, min, moves_behind, opened_frame, path, position, refl, rules, suc, to_come, to_open, true, walk_work, undo_of, has_variations, walk_behind, ℕ, ◌+◌, ◌-◌, ◌<◌, ◌^◌, ◌∷◌, ◌≡◌, ◌⊎◌, position_after}
+use Rattle.pop_solve.proofs.Words.{AreKnown, Bool, CameFrom, CameFromAt, Counts, Frame, GoesTo, HelpPlay, IfSome, IsCounted, IsLinked, IsPlaceIn, IsRoomy, IsWalking, are_whites, LegalPlace, List, Move, Option, Plan, Position, RuleSet, Steps, [], after_well_formed, ap, arith, chess, eqb, false, fewest_left, fewest_walked, shown_paths, is_followed, is_given, walk_length, inl, inr, is_legal, is_pseudo_legal-from_legal, length, min, moves_behind, opened_frame, path, position, refl, rules, suc, to_come, to_open, true, walk_work, undo_of, has_variations, walk_behind, ℕ, ◌+◌, ◌-◌, ◌<◌, ◌^◌, ◌∷◌, ◌≡◌, ◌⊎◌, position_after}
 use Rattle.pop_solve.proofs.Tests.{learned, moved, came_from}
 use Rattle.pop_solve.proofs.GoingOn.{no_zero, walk_length-help, follows-help, walk_length-keys, walk_length-most, ended-reached}
-use Rattle.pop_solve.proofs.ToCome.{one, walk_count-start, come-pass, come-enter, tries-pass, tries-enter, turns-pass, turns-enter, open-next, come-close, tries-close, turns-close, open-close, steps-skip}
+use Rattle.pop_solve.proofs.ToCome.{one, walk_count-start, come-pass, come-enter, tries-pass, tries-enter, turns-pass, turns-enter, open-next, steps-skip}
 
 -- what undoes the top frame
 module _ (rule : RuleSet) (h : ℕ) (p : Position) where
@@ -38,9 +38,8 @@ module _ (rule : RuleSet) (plan : Plan) (h : ℕ) (p : Position) (f : Frame) (be
     (r : IsWalking rule h p (f ∷ below) board) where
   steps-close : (after : Position) (count : ℕ) → (f.left ≡ 0) ⊎ (moves_behind rule board f.place ≡ []) → (length below ≡ 0 → after ≡ board)
       → ((q : Position) → 0 < length below → CameFromAt rule f board q → after ≡ q) → Steps rule plan h p (f ∷ below) below after count count false
-  unfolding are_whites
-  steps-close after count e lowest before =
-      search (rules, walking-close rule h p f below board after r lowest before, come-close, turns-close, open-close, tries-close)
+  unfolding are_whites to_come shown_paths fewest_left fewest_walked walk_work to_open walk_behind
+  steps-close after count e lowest before = search (rules, walking-close rule h p f below board after r lowest before)
 
   module _ (next : ℕ) (m : Move) (t : ℕ) (left : f.left ≡ suc t) (e : moves_behind rule board f.place ≡ m ∷ moves_behind rule board next) where
     here : moves_behind rule (position rule p (f ∷ below)) f.place ≡ m ∷ moves_behind rule (position rule p (f ∷ below)) next
@@ -103,8 +102,7 @@ pub skips-close : (rule : RuleSet) (plan : Plan) (h : ℕ) (p : Position) (f : F
     → IsWalking rule h p (f ∷ below) board → (after : Position) (before count : ℕ)
     → ((f.left ≡ 0) × (count ≡ before)) ⊎ GoesTo rule plan f.left (position rule p (f ∷ below)) f.place [] before count → (length below ≡ 0 → after ≡ board)
     → ((q : Position) → 0 < length below → CameFromAt rule f board q → after ≡ q) → Steps rule plan h p (f ∷ below) below after before count false
-skips-close rule plan h p f below board r after before count (inl e) lowest back =
-    search (rules, steps-close rule plan h p f below board r after before)
+skips-close rule plan h p f below board r after before count (inl e) lowest back = search (rules, steps-close rule plan h p f below board r after before)
 skips-close rule plan h p f below board r after before count (inr g) lowest back = steps-skip rule plan h p f below [] before count g below after count false
     (steps-close rule plan h p (moved f g.mid) below board (walking-moved rule h p f g.mid below board board r refl) after count
     (inr (rw r.board_at g.here)) lowest back)

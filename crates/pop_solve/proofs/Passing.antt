@@ -1,5 +1,5 @@
 -- Moves that are passed over since no reply to them mates.
-use Rattle.pop_solve.proofs.Words.{IfSome, IsNextUnsettled, IsSifted, IsWellFormed, MatchOption, Move, None, Option, Position, RuleSet, Some, [], allows_mate, append-nil, append_assoc, arith, filter, from_map, is_legal, is_pseudo_legal-from_legal, length, min, moves_behind, moves_behind-end, moves_behind-here, place_of_triple, range_with_len, true, ℕ, ◌+◌, ◌-◌, ◌<◌, ◌^◌, ◌∙◌, ◌∷◌, ◌≡◌, rules, behind_cut, from_range, triples_numbered, all_triples, place_of, triple_at}
+use Rattle.pop_solve.proofs.Words.{IfSome, IsNextUnsettled, IsSifted, IsWellFormed, MatchOption, Move, None, Option, Position, RuleSet, Some, [], allows_mate, append-nil, append_assoc, arith, filter, from_map, is_legal, is_pseudo_legal-from_legal, length, min, moves_behind, moves_behind-end, moves_behind-here, place_of_triple, range_with_len, true, ℕ, ◌+◌, ◌-◌, ◌<◌, ◌^◌, ◌∷◌, ◌≡◌, rules, behind_cut, from_range, triples_numbered, all_triples, place_of, triple_at}
 use Rattle.chess_rules.proofs.listing_moves.Triples.{in_triples, made_is_triple}
 
 module _ (rule : RuleSet) (p : Position) where
@@ -22,17 +22,7 @@ module _ (rule : RuleSet) (p : Position) where
       → IfSome o (λ m. place < next) → after ≡ min (before + n) (2 ^ 64 - 1) → IsNextUnsettled rule p place next before after o
   sifted place next n before after None sound at lawful none onward counted = grind (arith, moves_behind-end rule p all_triples, append-nil)
   sifted place next n before after (Some m) sound at lawful passed onward counted =
-      let back = behind_back m sound lawful in
-      let cut = behind_cut rule p place next (omega (arith, onward)) in (
-        record {
-          mid = next - 1;
-          over = passed.over;
-          passed = cut ∙ (rw (passed.passed, at, back) (append_assoc passed.over (m ∷ []) (moves_behind rule p (place_of (Some m)))));
-          here = rw at back;
-          fits = record { none = passed.none; counts = rw passed.counted at counted };
-        },
-        lawful,
-      )
+      grind (arith, behind_back m sound lawful, behind_cut rule p place next (omega (arith, onward)), append_assoc)
 
   -- where no threats are told no move is passed over
   pub none_passed : (place next before : ℕ) (o : Option Move) → before < 2 ^ 64

@@ -1,5 +1,5 @@
 -- The paths of a phase's solutions.
-use Rattle.pop_solve.proofs.Words.{AllPairs, Battle, BattlePlay, HelpPlay, List, Move, Phase, Play, Posed, RuleSet, Set, [], arith, drop, flat_map, flat_map-append, game_of, help_lines, pairs_front, phase_half_moves, phase_start, play_of, refl, set_tree, solutions, take, take-append-drop, tree, ℕ, ◌<◌, ◌∷◌, ◌≡◌, flat_map_single, ◌∙◌, map-id, flat_map-map}
+use Rattle.pop_solve.proofs.Words.{AllPairs, HelpPlay, List, Move, Phase, Posed, RuleSet, [], arith, drop, flat_map, flat_map-append, game_of, help_lines, pairs_front, phase_half_moves, phase_start, play_of, solutions, take, take-append-drop, ℕ, ◌<◌, ◌∷◌, ◌≡◌, flat_map_single, ◌∙◌, map-id, flat_map-map}
 use Rattle.chess_core.specs.MoveOrder.{order_number}
 
 -- the first of joined lists
@@ -12,23 +12,8 @@ first_joined R n xss pairs = pairs_front R (flat_map (λ s. s) (take n xss)) (fl
 pub never_itself : (m : Move) → order_number m < order_number m → ⊥
 never_itself m less = omega (arith, less)
 
-module _ (rule : RuleSet) (problem : Posed) where
-  -- the paths of help play are its lines
-  pub help_paths : (phase : Phase) → play_of problem.stipulation.form ≡ HelpPlay
-      → flat_map (λ s. s) (solutions rule problem phase) ≡ help_lines (game_of rule problem) (phase_half_moves problem phase) (phase_start problem phase)
-  unfolding solutions
-  help_paths phase help = rw help (flat_map-map (λ s. s) (λ x. x ∷ []) _ ∙ flat_map_single (λ x. x) _ ∙ map-id _)
-
-  -- those of a battle's play are its tree
-  pub play_paths : (battle : Battle) → play_of problem.stipulation.form ≡ BattlePlay battle
-      → solutions rule problem Play
-      ≡ tree battle (game_of rule problem) problem.variation problem.stipulation.n (phase_half_moves problem Play) (phase_start problem Play)
-  unfolding solutions
-  play_paths battle fought = rw fought refl
-
-  -- those of its set play are that tree
-  pub set_paths : (battle : Battle) → play_of problem.stipulation.form ≡ BattlePlay battle
-      → solutions rule problem Set
-      ≡ set_tree battle (game_of rule problem) problem.variation problem.stipulation.n (phase_half_moves problem Set) (phase_start problem Set)
-  unfolding solutions
-  set_paths battle fought = rw fought refl
+-- the paths of help play are its lines
+pub help_paths : (rule : RuleSet) (problem : Posed) (phase : Phase) → play_of problem.stipulation.form ≡ HelpPlay
+    → flat_map (λ s. s) (solutions rule problem phase) ≡ help_lines (game_of rule problem) (phase_half_moves problem phase) (phase_start problem phase)
+unfolding solutions
+help_paths rule problem phase help = rw help (flat_map-map (λ s. s) (λ x. x ∷ []) _ ∙ flat_map_single (λ x. x) _ ∙ map-id _)

@@ -1,5 +1,5 @@
 -- The smallest trees that decide a position.
-use Rattle.pop_solve.proofs.Words.{Battle, Bool, Game, List, [], arith, cond, decided_by, least_of, rules, smallest_below, smallest_tree, suc, sum_by, sum_by-cons, zero, ℕ, ◌+◌, ◌∷◌, ◌≡◌, ◌≤◌}
+use Rattle.pop_solve.proofs.Words.{Battle, Bool, Game, List, [], arith, cond, decided_by, least_of, rules, smallest_below, smallest_tree, suc, sum_by, sum_by-cons, ℕ, ◌+◌, ◌∷◌, ◌≡◌, ◌≤◌}
 
 module _ {M : Type 0} (test : M → Bool) (f : M → ℕ) where
   least-most : (n : ℕ) (ms : List M) → least_of test f n ms ≤ n
@@ -7,14 +7,10 @@ module _ {M : Type 0} (test : M → Bool) (f : M → ℕ) where
   least-most n [] = search rules
   least-most n (m ∷ ms) = search (rules, least-most n ms)
 
-  least-plus : (k a n : ℕ) (ms : List M) → n ≡ k + a → least_of test f n ms ≤ k + least_of test f a ms
-  unfolding least_of
-  least-plus k a n [] e = search rules
-  least-plus k a n (m ∷ ms) e = search (rules, least-plus k a n ms e)
-
   least-next : (m : M) (a n : ℕ) (ms : List M) → n ≡ f m + a → least_of test f n (m ∷ ms) ≤ f m + cond (test m) 0 (least_of test f a ms)
   unfolding least_of
-  least-next m a n ms e = grind (arith, least-plus (f m) a n ms e)
+  least-next m a n [] e = grind arith
+  least-next m a n (x ∷ ms) e = grind (arith, least-next m a n ms)
 
 module _ {P M : Type 0} (battle : Battle) (game : Game P M) where
   -- a move that decides ends the count, another adds its tree
@@ -22,9 +18,7 @@ module _ {P M : Type 0} (battle : Battle) (game : Game P M) where
       → smallest_below battle game (suc t) p (m ∷ ms) ≤ smallest_tree battle game t (game.after p m) + cond (decided_by battle game t p m) 0
       (smallest_below battle game (suc t) p ms)
   unfolding smallest_below
-  trees-next t p m ms =
-      let f : M → ℕ = λ m. smallest_tree battle game t (game.after p m) in
-      least-next (decided_by battle game t p) f m (sum_by f ms) (sum_by f (m ∷ ms)) ms (sum_by-cons f m ms)
+  trees-next t p m ms = least-next _ _ m _ _ ms (sum_by-cons (λ m. smallest_tree battle game t (game.after p m)) m ms)
 
   -- none below no moves
   pub trees-end : (t : ℕ) (p : P) → smallest_below battle game t p [] ≡ 0
@@ -48,8 +42,6 @@ module _ {P M : Type 0} (battle : Battle) (game : Game P M) where
   -- with one left a single position is
   pub tree-one : (t : ℕ) (p : P) → t ≡ 1 → smallest_tree battle game t p ≤ 1
   unfolding smallest_below
-  tree-one zero p e = cc
-  tree-one (suc zero) p e = grind (arith, trees-start 1 p, least-most, game.moves p, nothing p (game.moves p))
-  tree-one (suc (suc t)) p e = absurd (omega (arith, e))
+  tree-one t p e = grind (arith, trees-start 1 p, least-most, game.moves p, nothing p (game.moves p))
 
 pub ruleset shortest = (tree-zero, tree-one)

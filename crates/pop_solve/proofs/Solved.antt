@@ -11,20 +11,12 @@ pub record IsCutInto {M : Type 0} (help : Bool) (n : ℕ) (paths : List (List M)
   pub begun : beginning_count help n paths ≡ length (take n sols)
 
 -- help play: each path is a solution
-pub lines-kept : {M : Type 0} (n : ℕ) (xs : List (List M)) → kept_paths true n xs ≡ flat_map (λ solution. solution) (take n (map (λ x. x ∷ []) xs))
-unfolding kept_paths
-lines-kept zero [] = refl
-lines-kept zero (x ∷ xs) = refl
-lines-kept (suc n) [] = refl
-lines-kept (suc n) (x ∷ xs) = search (rules, lines-kept n xs)
-
--- each path begins one
-pub lines-begun : {M : Type 0} (n : ℕ) (xs : List (List M)) → beginning_count true n xs ≡ length (take n (map (λ x. x ∷ []) xs))
-unfolding beginning_count
-lines-begun zero [] = refl
-lines-begun zero (x ∷ xs) = refl
-lines-begun (suc n) [] = refl
-lines-begun (suc n) (x ∷ xs) = omega (arith, lines-begun n xs)
+pub lines-cut : {M : Type 0} (n : ℕ) (xs : List (List M)) → IsCutInto true n xs (map (λ x. x ∷ []) xs)
+unfolding kept_paths beginning_count
+lines-cut zero [] = search rules
+lines-cut zero (x ∷ xs) = search rules
+lines-cut (suc n) [] = search rules
+lines-cut (suc n) (x ∷ xs) = search (rules, lines-cut n xs)
 
 -- battle play: each node of one move begins a solution
 abbrev some : {M : Type 0} → List M → Bool
@@ -112,9 +104,8 @@ module _ {P M : Type 0} (game : Game P M) (plan : Plan) (battle : Battle) (fough
       → IsCutInto false max (shown_paths plan game true (suc h) (suc h) p ms) (set_by battle game (has_variations plan.tree) n h p ms)
   set-cut n h max p ms e =
       let s : seeks battle (suc h + 1) ≡ true = halves-seek game battle n (suc h) (omega (arith, e)) in
-      let s2 : seeks battle h ≡ true = search rules in
       root-cut game plan battle fought h max p ms _ _ (λ m. set_value battle n h (game.after p m) e)
-      (λ m v. nodes_below-set game plan battle fought n h (game.after p m) s2 (grind arith) v)
+      (λ m v. nodes_below-set game plan battle fought n h (game.after p m) (search rules) (grind arith) v)
 
 -- a phase of no half-moves
 none-cut : {M : Type 0} (help : Bool) (n : ℕ) → IsCutInto {M = M} help n [] []
@@ -133,7 +124,8 @@ module _ (rule : RuleSet) (problem : Posed) (stated : IsSound problem) where
       → IsCutInto (is_help_play play) problem.max_solutions (shown_paths plan (game_of rule problem) true h h (phase_start problem phase) (legal_moves rule
       (phase_start problem phase))) (solutions_by play rule problem phase)
   unfolding help_lines set_tree
-  cut phase HelpPlay e h z = search (rules, shown_paths-zero, none-cut, shown_paths-help (game_of rule problem) plan e true, lines-kept, lines-begun)
+  cut phase HelpPlay e zero z = rw z (search (rules, shown_paths-zero, none-cut))
+  cut phase HelpPlay e (suc h) z = rw (z, shown_paths-help (game_of rule problem) plan e true h (phase_start problem phase)) (lines-cut _ _)
   cut Set (BattlePlay battle) e zero z = rw z (search (rules, shown_paths-zero, none-cut))
   cut Set (BattlePlay battle) e (suc h) z =
       rw z (rw (shown_paths-varied problem.variation) at (set-cut (game_of rule problem) plan battle e problem.stipulation.n h problem.max_solutions

@@ -32,6 +32,9 @@ module _ (rule : RuleSet) (q : Position) (o : Order) where
   sum-start : (f : Move → ℕ) → sum_by f first ≡ sum_by f (legal_moves rule q)
   sum-start f = same_start rule q o (λ m c. f m + c) (sum_by f) (sum_by-cons f) (λ m n c. omega arith)
 
+  pub length-start : length first ≡ length (legal_moves rule q)
+  length-start = same_start rule q o (λ m c. suc c) length (λ m ms. refl) (λ m n c. refl)
+
   least-start : (test : Move → Bool) (f : Move → ℕ) (n : ℕ) → least_of test f n first ≡ least_of test f n (legal_moves rule q)
   unfolding least_of
   least-start test f n = same_start rule q o (λ m c. cond (test m) (min (f m) c) c) (least_of test f n) (λ m ms. refl) (λ m k c. grind arith)
@@ -119,12 +122,11 @@ module _ (rule : RuleSet) (aim : Aim) where
     unfolding test_work position
     work-settled = rw (left, steps-next t P (untried_moves rule P f) (moves_ahead rule P f.order s next) m e) (omega arith)
 
-module _ (rule : RuleSet) (p : Position) where
-  -- a frame above the lowest came from the position below
-  pub came_from : (f : Frame) (below : List Frame) (board : Position) → IsLinked rule p (f ∷ below) → board ≡ position rule p (f ∷ below)
-      → 0 < length below → CameFromAt rule f board (position rule p below)
-  unfolding IsLinked position
-  came_from f below board l at deep = search rules
+-- a frame above the lowest came from the position below
+pub came_from : (rule : RuleSet) (p : Position) (f : Frame) (below : List Frame) (board : Position) → IsLinked rule p (f ∷ below)
+    → board ≡ position rule p (f ∷ below) → 0 < length below → CameFromAt rule f board (position rule p below)
+unfolding IsLinked position
+came_from rule p f below board l at deep = search rules
 
 -- the frames from the floor up, once a frame is put on or taken off
 tests-push : (floor : ℕ) (xs : List Frame) (x : Frame) → floor ≤ length xs → tests floor (xs ++ x ∷ []) ≡ x ∷ tests floor xs

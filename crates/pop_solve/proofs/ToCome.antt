@@ -1,6 +1,6 @@
 -- What the moves still to come say of paths, turns and counts: the next move, and those passed over.
-use Rattle.pop_solve.proofs.Words.{Battle, BattlePlay, Bool, Frame, GoesTo, HelpPlay, are_whites, List, Mate, Move, Plan, Position, RuleSet, Steps, Undo, [], ap, append_assoc, append-nil, allows_mate, arith, chess, cond, eqb, false, fewest_for, fewest_left, fewest_walked, filter, is_followed, is_given, walk_length, inl, inr, is_mating, length, length-append, map, map-append, mates_behind, moves_behind, opened_frame, path, position, refl, rules, seeks_last, shown_paths, smallest_tree, work_from, work_behind, suc, sum_by, sum_by-append, sum_by-cons, to_come, to_open, true, walk_work, value, has_variations, walk_behind, walk_count, zero, ℕ, ◌++◌, ◌+◌, ◌-◌, ◌<◌, ◌∙◌, ◌∷◌, ◌≡◌, ◌≤◌, ◌⊎◌, position_after, legal_moves}
-use Rattle.pop_solve.proofs.Boards.{behind_start}
+use Rattle.pop_solve.proofs.Words.{Battle, BattlePlay, Bool, Frame, GoesTo, HelpPlay, are_whites, List, Mate, Move, Plan, Position, RuleSet, Steps, Undo, [], ap, append_assoc, append-nil, allows_mate, arith, chess, cond, eqb, false, fewest_for, fewest_left, fewest_walked, filter, is_followed, is_given, walk_length, is_mating, length, length-append, map, map-append, mates_behind, moves_behind, opened_frame, path, position, refl, rules, seeks_last, shown_paths, smallest_tree, work_from, work_behind, suc, sum_by-append, sum_by-cons, to_come, to_open, true, walk_work, value, has_variations, walk_behind, walk_count, zero, ℕ, ◌++◌, ◌+◌, ◌-◌, ◌<◌, ◌∙◌, ◌∷◌, ◌≡◌, ◌≤◌, ◌⊎◌, position_after, legal_moves}
+use Rattle.pop_solve.proofs.Boards.{behind_start, each_one, none_of}
 use Rattle.pop_solve.proofs.Tests.{moved}
 use Rattle.pop_solve.proofs.GoingOn.{cases, no_zero, ways, walk_length-help, follows-help}
 
@@ -112,18 +112,7 @@ module _ (rule : RuleSet) (plan : Plan) where
   unfolding to_come shown_paths
   come-close h p f below e = search rules
 
-  -- nor does it try anything
-  pub tries-close : (h : ℕ) (p : Position) (f : Frame) (below : List Frame) → (f.left ≡ 0) ⊎ (moves_behind rule (position rule p (f ∷ below)) f.place ≡ [])
-      → fewest_left rule plan h p (f ∷ below) ≡ fewest_left rule plan h p below
-  unfolding fewest_left fewest_walked
-  tries-close h p f below e = search rules
-
-  -- closing it takes a turn
-  pub turns-close : (h : ℕ) (p : Position) (f : Frame) (below : List Frame) → walk_work rule h p below < walk_work rule h p (f ∷ below)
-  unfolding walk_work
-  turns-close h p f below = omega arith
-
-  -- it opens nothing
+  -- nor does it open anything
   pub open-close : (p : Position) (f : Frame) (below : List Frame) → (f.left ≡ 0) ⊎ (moves_behind rule (position rule p (f ∷ below)) f.place ≡ [])
       → to_open rule p (f ∷ below) ≡ to_open rule p below
   unfolding to_open walk_behind
@@ -149,14 +138,9 @@ module _ (rule : RuleSet) (plan : Plan) where
     unfolding fewest_walked smallest_tree is_followed value
     fewest-skipped low fuel last for battle fought m ms misses = search (rules, sum_by-cons)
 
-    none_of : (ms : List Move) → sum_by (λ m. walk_count (legal_moves rule) (position_after rule) 0 (position_after rule P m)) ms ≡ 0
-    unfolding walk_count
-    none_of [] = refl
-    none_of (m ∷ ms) = search (rules, none_of ms)
-
     nothing : (k place : ℕ) → k ≡ 1 → walk_behind rule k P place ≡ 0
     unfolding walk_behind
-    nothing k place e = rw e (none_of (moves_behind rule P place))
+    nothing k place e = rw e (none_of (legal_moves rule) (position_after rule) P (moves_behind rule P place))
 
   -- the last but one of help play, settled
   module _ (help : plan.play ≡ HelpPlay) (for : plan.goal ≡ Mate) where
@@ -172,13 +156,6 @@ module _ (rule : RuleSet) (plan : Plan) where
     unfolding shown_paths is_given
     settled P low fuel m ms none = search (rules, follows-help, walk_length-help, mateless)
 
-  -- each move counts one, with a half-move left behind it
-  each_one : (P : Position) (ms : List Move) → sum_by (λ m. walk_count (legal_moves rule) (position_after rule) 1 (position_after rule P m)) ms ≡ length ms
-  unfolding walk_count
-  each_one P [] = refl
-  each_one P (m ∷ ms) =
-      rw sum_by-cons (omega (arith, each_one P ms, none_of (position_after rule P m) (legal_moves rule (position_after rule P m))))
-
   -- moves are passed over that have no paths
   module _ (h : ℕ) (p : Position) (f : Frame) (below : List Frame) (rest : List Move) (before between : ℕ)
       (g : GoesTo rule plan f.left (position rule p (f ∷ below)) f.place rest before between) where
@@ -193,13 +170,7 @@ module _ (rule : RuleSet) (plan : Plan) where
         → is_mating rule P m ≡ false → F 1 (m ∷ ms) ≡ F 1 ms) → (plan.play ≡ HelpPlay → plan.goal ≡ Mate → (m : Move) (ms : List Move)
         → allows_mate rule P m ≡ false → F 2 (m ∷ ms) ≡ F 2 ms) → F f.left (moves_behind rule P f.place) ≡ F f.left (moves_behind rule P g.mid)
     unfolding position
-    same-later F skip settle = elim g.fits [
-      | inl same ↦ elim same.1 [
-        | inl none ↦ rw (g.passed, none) refl
-        | inr e ↦ rw (g.passed, e.2) (passed-over (F 1) (is_mating rule P) (skip e.0 e.1) g.over (moves_behind rule P g.mid) e.3)
-      ]
-      | inr e ↦ rw (g.passed, e.2) (passed-over (F 2) (allows_mate rule P) (settle e.0 e.1) g.over (moves_behind rule P g.mid) e.3.none)
-    ]
+    same-later F skip settle = grind (arith, g.fits, g.passed, passed-over (F 1) (is_mating rule P), passed-over (F 2) (allows_mate rule P))
 
     come-skip : to_come rule plan h p (f ∷ below) ≡ to_come rule plan h p later
     unfolding to_come position path
@@ -214,7 +185,7 @@ module _ (rule : RuleSet) (plan : Plan) where
     -- in play with two half-moves left each opens one frame
     each : (k : ℕ) → k ≡ 2 → walk_behind rule k P f.place ≡ length g.over + walk_behind rule k P g.mid
     unfolding walk_behind
-    each k e = rw (e, each_one P, each_one P) (simp (g.passed, length-append))
+    each k e = rw (e, each_one (legal_moves rule) (position_after rule) P, each_one (legal_moves rule) (position_after rule) P) (simp (g.passed, length-append))
 
     tries-skip : (battle : Battle) → plan.play ≡ BattlePlay battle → fewest_left rule plan h p (f ∷ below) ≡ fewest_left rule plan h p later
     unfolding fewest_left position

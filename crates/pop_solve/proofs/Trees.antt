@@ -150,7 +150,6 @@ module _ {P M : Type 0} (game : Game P M) where
           → suc t ≤ suc k → suc t ≤ 2 * n → game.goal q ≡ false → seeks battle (suc t) ≡ false → Tie n (suc k) (suc t) q
       unfolding nodes_below shown_length
       tie-black n k t q ih v room most g s =
-          let z : eqb (suc t) 0 ≡ false = grind arith in
           let s1 : seeks battle (t + 1) ≡ false = grind arith in
           let w : seeks battle t ≡ true = grind (arith, seeks-step) in
           grind (arith, as_nodes, game.moves q, flat-all, value-black battle t q g s v, by_none, beneath-is)
@@ -159,8 +158,7 @@ module _ {P M : Type 0} (game : Game P M) where
       tie : (n k t : ℕ) (q : P) → value battle game t q ≡ true → t ≤ k → t ≤ 2 * n → Tie n k t q
       tie n k zero q v room most = tie-goal n k 0 q (sym (value-zero game battle q) ∙ v)
       tie n zero (suc t) q v room most = absurd (omega (arith, room))
-      tie n (suc k) (suc t) q v room most =
-          search (rules, cases (game.goal q), cases (seeks battle (suc t)), tie-black, tie-white, tie-goal, tie n k)
+      tie n (suc k) (suc t) q v room most = search (rules, cases (game.goal q), cases (seeks battle (suc t)), tie-black, tie-white, tie-goal, tie n k)
 
     -- where no variations are shown, nothing stands below a move of White
     beneath-none : (k t : ℕ) (q : P) → has_variations plan.tree ≡ false → seeks battle (t + 1) ≡ true → beneath k t q ≡ []
@@ -189,8 +187,7 @@ module _ {P M : Type 0} (game : Game P M) where
     ]
       where
         no_variation : has_variations plan.tree ≡ false → (h2 : ℕ) → h ≡ h2 → (g : Bool) → game.goal r ≡ g
-            → shown_paths plan game false h2 (shown_length battle game h2 r) r (game.moves r) ≡ cond g []
-            (map (λ m. m ∷ []) (best_moves battle game n r))
+            → shown_paths plan game false h2 (shown_length battle game h2 r) r (game.moves r) ≡ cond g [] (map (λ m. m ∷ []) (best_moves battle game n r))
         no_variation e h2 i true g = open-goal h2 r g
         no_variation e zero i false g = absurd (grind (arith, value-zero))
         no_variation e (suc k) i false g =

@@ -1,5 +1,5 @@
 -- The value of a position by what its tests say.
-use Rattle.pop_solve.proofs.Words.{Battle, Game, Selfmate, [], arith, can_move, every_move, false, joined_value, refl, rules, seeks, some_move, suc, true, value, zero, ℕ, ◌%◌, ◌&&◌, ◌<◌, ◌||◌, ◌≡◌, and_parts, nat_tests}
+use Rattle.pop_solve.proofs.Words.{Battle, Game, Selfmate, arith, can_move, every_move, false, joined_value, refl, rules, seeks, some_move, true, value, ℕ, ◌%◌, ◌&&◌, ◌<◌, ◌≡◌, and_parts, nat_tests}
 use Rattle.pop_solve.specs.declared.aim.Battle.TheVariants.{Direct}
 use Rattle.std.specs.Prelude.{◌==◌}
 use Rattle.std.proofs.lemmas.List.{nil_from_length}
@@ -15,27 +15,19 @@ module _ {P M : Type 0} (battle : Battle) (game : Game P M) where
   unfolding value
   value-forced p is = rw is refl
 
-  value-joined_value : (t : ℕ) (p : P) → 0 < t → (t % 2 == 0 && game.goal p) ≡ false → (seeks battle t || can_move game p) ≡ true
-      → value battle game t p ≡ joined_value battle game t p (game.moves p)
-  unfolding value joined_value
-  value-joined_value t p some e k = search rules
-
   -- White with a half-move that nothing ends before
-  pub value-free : (t : ℕ) (p : P) → 0 < t → (t % 2 == 1 && seeks battle t) ≡ true → value battle game t p ≡ joined_value battle game t p (game.moves p)
-  value-free t p some e = grind (arith, and_parts, value-joined_value)
+  pub free_moves : (t : ℕ) (p : P) → 0 < t → (t % 2 == 1 && seeks battle t) ≡ true → value battle game t p ≡ joined_value battle game t p (game.moves p)
+  unfolding value joined_value
+  free_moves t p some e = grind (arith, and_parts)
 
   -- with a move, and the goal not reached
   pub value-open : (t : ℕ) (p : P) → 0 < t → can_move game p ≡ true → game.goal p ≡ false → value battle game t p ≡ joined_value battle game t p (game.moves p)
-  value-open t p some k e = search (rules, value-joined_value)
+  unfolding value joined_value
+  value-open t p some k e = search rules
 
   -- without a move
   pub value-stuck : (t : ℕ) (p : P) → 0 < t → can_move game p ≡ false → value battle game t p ≡ (t % 2 == 0 && game.goal p)
   unfolding value
-  value-stuck zero p some k = absurd (omega (arith, some))
-  value-stuck (suc t) p some k =
-      let none : game.moves p ≡ [] = nil_from_length (game.moves p) (grind (arith, nat_tests)) in
-      grind arith
+  value-stuck t p some k = grind (arith, nat_tests, nil_from_length (game.moves p))
 
 pub ruleset last_half_move = (value-mates, value-forced)
-
-pub ruleset free_moves = (value-free)

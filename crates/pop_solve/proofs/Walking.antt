@@ -31,8 +31,8 @@ module _ (rule : RuleSet) (plan : Plan) (h : ℕ) (top : Frame) (old new : List 
       → ((q : Position) → 0 < depth → CameFromAt rule top now q → after ≡ q) → Steps rule plan h p (reverse old) (reverse new) after opened count false
   close_steps p board now after depth opened count r e d none lowest before =
       let r2 = walking_top p board now r e in
-      let none2 = rw (← e, r2.board_at) at none in
-      rw (popped old new top taken) (search (rules, skips-close rule plan h p top (reverse new) now r2 after opened count none2, depth_is))
+      rw (popped old new top taken)
+      (search (rules, skips-close rule plan h p top (reverse new) now r2 after opened count (rw (← e, r2.board_at) at none), depth_is))
 
   -- there is room for its half-moves
   pub room_left : (p board : Position) → IsWalking rule h p (reverse old) board → top.left + length new ≤ h
@@ -89,14 +89,14 @@ module _ (rule : RuleSet) (plan : Plan) (h : ℕ) (top : Frame) (old new : List 
               (steps-skip rule plan h p f (reverse new) _ opened between g _ after opened2 _ s))
         ]
 
--- what the next move or the next mate says of the moves passed over
-module _ (rule : RuleSet) (plan : Plan) (left : ℕ) (p : Position) (place next before after : ℕ) where
-  -- the next mate is the next move where play ends with it
-  pub next_mating : (o : Option Move) → plan.goal ≡ Mate → seeks_last plan.play ≡ true → left ≡ 1 → after ≡ before
-      → MatchOption o (mates_behind rule p place ≡ []) (λ m. IsNextMate rule p place next m × (is_legal rule p m ≡ true))
-      → IsNextOf rule plan left p place next before after o
-  unfolding mates_behind
-  next_mating o for last single e same = grind (arith, moves_behind-end rule p all_triples (omega arith), append-nil)
+-- the next mate is the next move where play ends with it
+pub next_mating : (rule : RuleSet) (plan : Plan) (left : ℕ) (p : Position) (place next before after : ℕ) (o : Option Move) → plan.goal ≡ Mate
+    → seeks_last plan.play ≡ true → left ≡ 1 → after ≡ before
+    → MatchOption o (mates_behind rule p place ≡ []) (λ m. IsNextMate rule p place next m × (is_legal rule p m ≡ true))
+    → IsNextOf rule plan left p place next before after o
+unfolding mates_behind
+next_mating rule plan left p place next before after o for last single e same =
+    grind (arith, moves_behind-end rule p all_triples (omega arith), append-nil)
 
 -- a frame is closed, whatever is walked
 module _ (rule : RuleSet) (h : ℕ) (top : Frame) (old new : List Frame) (taken : old ≡ new ++ top ∷ []) where

@@ -68,21 +68,9 @@ reaches_back men c k s t plain p q = by (gait_of k) plain where
       (λ d. rides-back men s t d p q)
   by Hopper e = absurd (false≢true (sym e))
 
--- so does a nightrider
-pub nightrider-back : (men : List (Option Man)) (s t : ℕ) → s < 64 → t < 64 → list_any (rides men s t) knight_steps ≡ list_any (rides men t s) knight_steps
-nightrider-back men s t = rides_turned knight_steps men s t refl
-
--- so does a knight
-pub knight-back : (s t : ℕ) → s < 64 → t < 64 → list_any (leaps s t) knight_steps ≡ list_any (leaps t s) knight_steps
-knight-back s t = leaps_turned knight_steps knight_steps s t refl refl
-
 -- so does a king
 pub king-back : (s t : ℕ) → s < 64 → t < 64 → list_any (leaps s t) queen_steps ≡ list_any (leaps t s) queen_steps
 king-back s t = leaps_turned queen_steps queen_steps s t refl refl
-
--- a pawn captures back as one of the other colour
-pub pawn-back : (c : Colour) (s t : ℕ) → s < 64 → t < 64 → list_any (leaps s t) (pawn_capture_steps c) ≡ list_any (leaps t s) (pawn_capture_steps (other c))
-pawn-back c s t = grind (arith, leaps_turned)
 
 -- a hop along a queen's line is found by looking back from where it lands
 pub hops-turned : (men : List (Option Man)) (s t : ℕ) → s < 64 → t < 64 → list_any (hops men s t) queen_steps ≡ list_any (hopped_from men t s) queen_steps

@@ -1,5 +1,5 @@
 -- The events of a problem before they are shown: no line and no node comes twice.
-use Rattle.pop_solve.proofs.Words.{AllPairs, BareEvent, Bool, Contains, Contains-append_cases, List, Move, Phase, Play, Posed, RuleSet, Set, [], arith, cond, events, events_from, false, from_map, impossible, in_cases, inl, inr, is_barred, line, map, none_in_nil, opening, pairs_append, pairs_map, pairs_nil, pairs_of, path_event, phase_events, solutions, subst, sym, take, total, tree_node, true, ◌++◌, ◌∙◌, ◌∷◌, ◌≡◌, ◌≢◌, ◌⊎◌}
+use Rattle.pop_solve.proofs.Words.{AllPairs, BareEvent, Bool, Contains, Contains-append_cases, List, Move, Phase, Play, Posed, RuleSet, Set, [], arith, cond, events, false, from_map, impossible, in_cases, inl, inr, is_barred, line, map, none_in_nil, opening, pairs_append, pairs_map, pairs_nil, pairs_of, path_event, phase_events, solutions, subst, take, total, tree_node, true, ◌++◌, ◌∷◌, ◌≡◌, ◌≢◌}
 use Rattle.pop_solve.proofs.theorems.Lists.{paths}
 use Rattle.pop_solve.proofs.theorems.Solutions.{shown_paths_differ}
 
@@ -26,13 +26,7 @@ module _ (rule : RuleSet) (problem : Posed) where
       (pairs_map (λ a b. a ≢ b) IsOtherThan (path_event problem phase) all
       (λ x y ne gives same. ne (grind arith)) (shown_paths_differ rule problem phase))
       (pairs_of IsOtherThan end [] (λ y c. absurd (none_in_nil y c)) (pairs_nil IsOtherThan))
-      (λ x y c d gives same. across x y (from_map (path_event problem phase) all x c) (in_cases end [] y d) same)
-    where
-      across : (x y : BareEvent)
-          → ((path : List Move) × Contains (paths (take problem.max_solutions (solutions rule problem phase))) path × (path_event problem phase path ≡ x))
-          → (end ≡ y) ⊎ Contains [] y → x ≡ y → ⊥
-      across x y w (inl e) same = apart w.0 (w.2 ∙ same ∙ sym e)
-      across x y w (inr none) same = none_in_nil y none
+      (λ x y c d gives same. grind (arith, from_map (path_event problem phase) all x c, in_cases end [] y d, none_in_nil y))
 
   -- No line and no node of a phase comes twice.
   pub events_of_a_phase_differ : (phase : Phase) → AllPairs IsOtherThan (phase_events rule problem phase)
@@ -44,10 +38,8 @@ module _ (rule : RuleSet) (problem : Posed) where
       → GivesPath x → (path : List Move) × (path_event problem phase path ≡ x)
   in_rest phase true end x bare c gives = grind (arith, in_cases, none_in_nil)
   in_rest phase false end x bare c gives =
-      elim (Contains-append_cases (map (path_event problem phase) (paths (take problem.max_solutions (solutions rule problem phase)))) (end ∷ []) x c) [
-        | inl here ↦ let w = from_map (path_event problem phase) (paths (take problem.max_solutions (solutions rule problem phase))) x here in (w.0, w.2)
-        | inr there ↦ grind (arith, in_cases)
-      ]
+      let all = paths (take problem.max_solutions (solutions rule problem phase)) in
+      grind (arith, Contains-append_cases (map (path_event problem phase) all) (end ∷ []) x c, from_map (path_event problem phase) all x, in_cases, none_in_nil)
 
   in_phase : (phase : Phase) (x : BareEvent) → Contains (phase_events rule problem phase) x → GivesPath x
       → (path : List Move) × (path_event problem phase path ≡ x)
@@ -55,17 +47,10 @@ module _ (rule : RuleSet) (problem : Posed) where
   in_phase phase x c gives =
       elim (in_cases (opening phase) _ x c) [ inl e ↦ grind arith | inr r ↦ in_rest phase (is_barred rule problem phase) _ x (λ none. none) r gives ]
 
+  both : AllPairs IsOtherThan (phase_events rule problem Set ++ phase_events rule problem Play)
+  both = pairs_append IsOtherThan (phase_events rule problem Set) (phase_events rule problem Play) (events_of_a_phase_differ Set)
+      (events_of_a_phase_differ Play) (λ x y c d gives same. grind (arith, in_phase Set x c gives, in_phase Play y d (subst GivesPath same gives)))
+
   -- No line and no node of a problem comes twice.
   pub events_differ : AllPairs IsOtherThan (events rule problem)
-  events_differ = by_set_play problem.set_play
-    where
-      both : AllPairs IsOtherThan (phase_events rule problem Set ++ phase_events rule problem Play)
-      both =
-          pairs_append IsOtherThan (phase_events rule problem Set) (phase_events rule problem Play)
-          (events_of_a_phase_differ Set) (events_of_a_phase_differ Play)
-          (λ x y c d gives same.
-          grind (arith, in_phase Set x c gives, in_phase Play y d (subst GivesPath same gives)))
-
-      by_set_play : (b : Bool) → AllPairs IsOtherThan (events_from rule problem (cond b Set Play))
-      by_set_play true = both
-      by_set_play false = events_of_a_phase_differ Play
+  events_differ = grind (arith, both, events_of_a_phase_differ)

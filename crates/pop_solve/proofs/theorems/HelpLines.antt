@@ -1,5 +1,5 @@
 -- The lines of help play: which lists of moves they are, that each stands once, and in which order.
-use Rattle.pop_solve.proofs.Words.{AllPairs, Contains, Game, Goal, IsWellFormed, List, Move, Position, Precedes, RuleSet, [], after_well_formed, arith, chess, help_lines, is_goal_reached, is_legal, is_pseudo_legal-from_legal, length, moves_are_the_legal_moves, moves_differ, moves_in_order, none_in_nil, pairs_nil, pairs_weaker, path_end, refl, suc, true, zero, ℕ, ◌↔◌, ◌∷◌, ◌≡◌, ◌≢◌, ◌≤◌, position_after}
+use Rattle.pop_solve.proofs.Words.{AllPairs, Contains, Game, Goal, IsWellFormed, List, Move, Position, Precedes, RuleSet, [], after_well_formed, arith, chess, help_lines, is_goal_reached, is_legal, is_pseudo_legal-from_legal, length, moves_are_the_legal_moves, moves_differ, moves_in_order, none_in_nil, pairs_nil, path_end, refl, rules, suc, true, zero, ℕ, ◌↔◌, ◌∷◌, ◌≡◌, ◌≢◌, ◌≤◌, position_after}
 use Rattle.pop_solve.proofs.HelpPlay.{from_lines, in_lines, lines_stand}
 use Rattle.pop_solve.proofs.theorems.Lists.{IsPlayable, StandsBefore, never_before_itself}
 
@@ -21,16 +21,13 @@ module _ {P M : Type 0} (game : Game P M) where
 
   -- Where no position has two moves alike, no two lines are alike.
   pub help_lines_differ : ((p : P) → AllPairs (λ m n. m ≢ n) (game.moves p)) → (h : ℕ) (p : P) → AllPairs (λ a b. a ≢ b) (help_lines game h p)
-  help_lines_differ differ h p =
-      pairs_weaker (StandsBefore (λ m n. m ≢ n)) (λ a b. a ≢ b) (help_lines game h p) (never_before_itself (λ m n. m ≢ n) (λ m ne. ne refl))
-      (help_lines_in_order (λ m n. m ≢ n) differ h p)
+  help_lines_differ differ h p = search (rules, never_before_itself {M = M} (λ m n. m ≢ n) (λ m ne. ne refl), help_lines_in_order (λ m n. m ≢ n) differ h p)
 
 -- Chess, under a set of rules.
-module _ (rule : RuleSet) where
-  -- Each move of the line is legal in the position in which it is made.
-  abbrev pub IsLegalLine : Position → List Move → Type 0
-  IsLegalLine p [] = Unit {0}
-  IsLegalLine p (m ∷ line) = (is_legal rule p m ≡ true) × IsLegalLine (position_after rule p m) line
+-- Each move of the line is legal in the position in which it is made.
+abbrev pub IsLegalLine : RuleSet → Position → List Move → Type 0
+IsLegalLine rule p [] = Unit {0}
+IsLegalLine rule p (m ∷ line) = (is_legal rule p m ≡ true) × IsLegalLine rule (position_after rule p m) line
 
 -- And for a goal.
 module _ (goal : Goal) (rule : RuleSet) where
@@ -43,9 +40,8 @@ module _ (goal : Goal) (rule : RuleSet) where
 
   -- From a well-formed position a list stands among the lines of help play in h half-moves, one or more, exactly where it has h moves, each
   -- legal where it is made, and the goal is reached in its last position.
-  pub help_lines_of_chess_are : (h : ℕ) (p : Position) (line : List Move) → IsWellFormed p
-      → Contains (help_lines (chess goal rule) h p) line
-      ↔ ((1 ≤ h) × (length line ≡ h) × IsLegalLine rule p line × (is_goal_reached goal rule (path_end (position_after rule) p line) ≡ true))
+  pub help_lines_of_chess_are : (h : ℕ) (p : Position) (line : List Move) → IsWellFormed p → Contains (help_lines (chess goal rule) h p) line ↔ ((1 ≤ h)
+      × (length line ≡ h) × IsLegalLine rule p line × (is_goal_reached goal rule (path_end (position_after rule) p line) ≡ true))
   help_lines_of_chess_are h p line well = grind (arith, help_lines_are (chess goal rule) h p line, playable_is_legal p line well)
 
   -- They stand in lexicographic order of the moves.

@@ -35,9 +35,8 @@ module _ {M : Type 0} (before : M → M → Type 0) where
   difference_decides (x ∷ front) m n xs ys less = inr (refl, difference_decides front m n xs ys less)
 
   -- And these are all the ways to stand before a list.
-  pub ways_to_stand_before : (xs ys : List M) → StandsBefore xs ys
-      → ((y : M) × (zs : List M) × (ys ≡ xs ++ y ∷ zs))
-      ⊎ ((front : List M) × (m : M) × (n : M) × (us : List M) × (vs : List M) × (xs ≡ front ++ m ∷ us) × (ys ≡ front ++ n ∷ vs) × before m n)
+  pub ways_to_stand_before : (xs ys : List M) → StandsBefore xs ys → ((y : M) × (zs : List M) × (ys ≡ xs ++ y ∷ zs)) ⊎ ((front : List M) × (m : M) × (n : M)
+      × (us : List M) × (vs : List M) × (xs ≡ front ++ m ∷ us) × (ys ≡ front ++ n ∷ vs) × before m n)
   ways_to_stand_before [] ys b = grind arith
   ways_to_stand_before (x ∷ xs) [] b = absurd b
   ways_to_stand_before (x ∷ xs) (y ∷ ys) (inl less) = inr ([], x, y, xs, ys, refl, refl, less)

@@ -1,6 +1,6 @@
 -- The solutions of a chess problem: which lines and keys they are, that no path of a phase stands twice, and in which order the paths stand.
 use Rattle.pop_solve.proofs.Words.{AllPairs, Battle, BattlePlay, Contains, HelpPlay, IsSound, List, Move, Phase, Play, PlayOfSides, Posed, Precedes, RuleSet, Set, [], game_of, is_goal_reached, is_legal, keeps_win, length, moves_are_the_legal_moves, moves_in_order, pairs_weaker, path_end, phase_half_moves, phase_start, play_of, play_start, refl, rules, is_in_set_play, solutions, take, true, ◌↔◌, ◌∷◌, ◌≡◌, ◌≢◌, ◌≤◌, position_after}
-use Rattle.pop_solve.proofs.PhasePaths.{first_joined, help_paths, never_itself, play_paths, set_paths}
+use Rattle.pop_solve.proofs.PhasePaths.{first_joined, help_paths, never_itself}
 use Rattle.pop_solve.proofs.Sound.{start_sound}
 use Rattle.pop_solve.proofs.theorems.HelpLines.{IsLegalLine, help_lines_of_chess_are, help_lines_of_chess_in_order}
 use Rattle.pop_solve.proofs.theorems.Lists.{HasBeginnings, StandsBefore, never_before_itself, paths}
@@ -17,38 +17,39 @@ module _ (rule : RuleSet) (problem : Posed) where
 
   -- Battle play: a move is a key of a sound problem exactly where it is legal and keeps the win within the problem's number of moves.
   pub keys_of_a_problem_are : (m : Move) (battle : Battle) → IsSound problem → play_of problem.stipulation.form ≡ BattlePlay battle
-      → Contains (paths (solutions rule problem Play)) (m ∷ [])
-      ↔ ((is_legal rule (play_start problem) m ≡ true)
+      → Contains (paths (solutions rule problem Play)) (m ∷ []) ↔ ((is_legal rule (play_start problem) m ≡ true)
       × (keeps_win battle (game_of rule problem) problem.stipulation.n (position_after rule (play_start problem) m) ≡ true))
+  unfolding solutions
   keys_of_a_problem_are m battle sound fought =
       let game = game_of rule problem in
       let are = keys_are battle game problem.stipulation.n problem.variation (phase_half_moves problem Play) (play_start problem) m in
       let legal = moves_are_the_legal_moves rule (play_start problem) m (start_sound problem sound Play) in
-      rw (play_paths rule problem battle fought) (λ c. let w = are.0 c in (legal.0 w.0, w.1), λ w. are.1 (legal.1 w.0, w.1))
+      rw fought (λ c. let w = are.0 c in (legal.0 w.0, w.1), λ w. are.1 (legal.1 w.0, w.1))
 
   -- Set play: a move of Black stands among the first moves exactly where set play has half-moves, the move is legal in its first position,
   -- and after it the goal is reached, if that is for Black to do, or White wins with a move less.
   pub set_moves_of_a_problem_are : (d : Move) (battle : Battle) → IsSound problem → play_of problem.stipulation.form ≡ BattlePlay battle
-      → Contains (paths (solutions rule problem Set)) (d ∷ [])
-      ↔ ((1 ≤ phase_half_moves problem Set) × (is_legal rule (phase_start problem Set) d ≡ true)
+      → Contains (paths (solutions rule problem Set)) (d ∷ []) ↔ ((1 ≤ phase_half_moves problem Set) × (is_legal rule (phase_start problem Set) d ≡ true)
       × (is_in_set_play battle (game_of rule problem) problem.stipulation.n (position_after rule (phase_start problem Set) d) ≡ true))
+  unfolding solutions
   set_moves_of_a_problem_are d battle sound fought =
       let game = game_of rule problem in
       let from = phase_start problem Set in
       let are = set_play_is battle game problem.stipulation.n problem.variation (phase_half_moves problem Set) from d in
       let legal = moves_are_the_legal_moves rule from d (start_sound problem sound Set) in
-      rw (set_paths rule problem battle fought) (λ c. let w = are.0 c in (w.0, legal.0 w.1, w.2), λ w. are.1 (w.0, legal.1 w.1, w.2))
+      rw fought (λ c. let w = are.0 c in (w.0, legal.0 w.1, w.2), λ w. are.1 (w.0, legal.1 w.1, w.2))
+
+  by_play : (play : PlayOfSides) → play_of problem.stipulation.form ≡ play → (phase : Phase)
+      → AllPairs (StandsBefore Precedes) (paths (solutions rule problem phase))
+  unfolding solutions
+  by_play HelpPlay help phase = rw (help_paths rule problem phase help) (search (rules, help_lines_of_chess_in_order))
+  by_play (BattlePlay battle) fought Play = rw fought (search (rules, play_in_order, moves_in_order))
+  by_play (BattlePlay battle) fought Set = rw fought (search (rules, set_play_in_order, moves_in_order))
 
   -- The paths of each phase stand in lexicographic order of the moves: lines in order, and in trees each node before what stands below it,
   -- and that before the next of its siblings.
   pub paths_in_order : (phase : Phase) → AllPairs (StandsBefore Precedes) (paths (solutions rule problem phase))
-  paths_in_order phase = by_play (play_of problem.stipulation.form) refl phase
-    where
-      by_play : (play : PlayOfSides) → play_of problem.stipulation.form ≡ play → (phase : Phase)
-          → AllPairs (StandsBefore Precedes) (paths (solutions rule problem phase))
-      by_play HelpPlay help phase = rw (help_paths rule problem phase help) (search (rules, help_lines_of_chess_in_order))
-      by_play (BattlePlay battle) fought Play = rw (play_paths rule problem battle fought) (search (rules, play_in_order, moves_in_order))
-      by_play (BattlePlay battle) fought Set = rw (set_paths rule problem battle fought) (search (rules, set_play_in_order, moves_in_order))
+  paths_in_order phase = by_play _ refl phase
 
   -- No two paths of a phase are alike.
   pub paths_differ : (phase : Phase) → AllPairs (λ a b. a ≢ b) (paths (solutions rule problem phase))
@@ -65,11 +66,13 @@ module _ (rule : RuleSet) (problem : Posed) where
   -- In battle play a beginning of a path is a path too: no node stands without those above it.
   pub nodes_stand_below_their_parents : (phase : Phase) (battle : Battle) → play_of problem.stipulation.form ≡ BattlePlay battle
       → HasBeginnings (paths (solutions rule problem phase))
-  nodes_stand_below_their_parents Play battle fought = rw (play_paths rule problem battle fought) (search (rules, play_has_beginnings))
-  nodes_stand_below_their_parents Set battle fought = rw (set_paths rule problem battle fought) (search (rules, set_play_has_beginnings))
+  unfolding solutions
+  nodes_stand_below_their_parents Play battle fought = rw fought (search (rules, play_has_beginnings))
+  nodes_stand_below_their_parents Set battle fought = rw fought (search (rules, set_play_has_beginnings))
 
   -- Nor does one that is shown, where the limit cuts the solutions.
   pub shown_nodes_stand_below_their_parents : (phase : Phase) (battle : Battle) → play_of problem.stipulation.form ≡ BattlePlay battle
       → HasBeginnings (paths (take problem.max_solutions (solutions rule problem phase)))
-  shown_nodes_stand_below_their_parents Play battle fought = rw (play_paths rule problem battle fought) (search (rules, first_solutions_have_beginnings))
-  shown_nodes_stand_below_their_parents Set battle fought = rw (set_paths rule problem battle fought) (search (rules, first_set_solutions_have_beginnings))
+  unfolding solutions
+  shown_nodes_stand_below_their_parents Play battle fought = rw fought (search (rules, first_solutions_have_beginnings))
+  shown_nodes_stand_below_their_parents Set battle fought = rw fought (search (rules, first_set_solutions_have_beginnings))

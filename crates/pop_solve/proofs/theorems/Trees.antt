@@ -1,5 +1,5 @@
 -- The trees of battle play, over any game: which moves stand in them, that no path stands twice, and in which order the paths stand.
-use Rattle.pop_solve.proofs.Words.{AllPairs, Battle, Bool, Contains, Game, List, [], continuations, arith, best_moves, false, from_filter, in_filter, keeps_win, least_moves, nodes_below, none_in_nil, pairs_weaker, refl, is_in_set_play, set_tree, suc, take, tree, true, wins_in, zero, ℕ, ◌-◌, ◌↔◌, ◌∷◌, ◌≡◌, ◌≢◌, ◌≤◌, rules}
+use Rattle.pop_solve.proofs.Words.{AllPairs, Battle, Bool, Contains, Game, List, [], continuations, arith, best_moves, false, from_filter, in_filter, keeps_win, least_moves, nodes_below, none_in_nil, refl, is_in_set_play, set_tree, suc, take, tree, true, wins_in, zero, ℕ, ◌-◌, ◌↔◌, ◌∷◌, ◌≡◌, ◌≢◌, ◌≤◌, rules}
 use Rattle.pop_solve.proofs.Nodes.{any_from_element, element_from_any, beginnings, deeper_unless, first_play_holds, first_set_play_holds, in_order, play_holds, roots_are, roots_unless, deeper_are, set_play_holds, tree_paths, set_tree_paths, from_nodes, below_key, kept, below_set}
 use Rattle.pop_solve.proofs.theorems.Lengths.{no_win_in_none, wins_by_a_move, wins_in_least}
 use Rattle.pop_solve.proofs.theorems.Lists.{HasBeginnings, StandsBefore, never_before_itself, paths}
@@ -51,13 +51,11 @@ module _ {P M : Type 0} (battle : Battle) (game : Game P M) (n : ℕ) where
   pub defences_are : (h : ℕ) (q : P) (d : M) → Contains (nodes_below battle game n h q) (d ∷ []) ↔ ((1 ≤ h) × (game.goal q ≡ false) × Contains (game.moves q) d)
   unfolding nodes_below
   defences_are zero q d = grind (arith, none_in_nil)
-  defences_are (suc h) q d =
-      grind (arith, roots_unless (λ d. continuations battle game n h (game.after q d)) (game.goal q) (game.moves q) d)
+  defences_are (suc h) q d = grind (arith, roots_unless (λ d. continuations battle game n h (game.after q d)) (game.goal q) (game.moves q) d)
 
   -- And below a defence stands what answers it, with a half-move less.
-  pub defences_go_on : (h : ℕ) (q : P) (d x : M) (path : List M)
-      → Contains (nodes_below battle game n (suc h) q) (d ∷ (x ∷ path))
-      ↔ ((game.goal q ≡ false) × Contains (game.moves q) d × Contains (continuations battle game n h (game.after q d)) (x ∷ path))
+  pub defences_go_on : (h : ℕ) (q : P) (d x : M) (path : List M) → Contains (nodes_below battle game n (suc h) q) (d ∷ (x ∷ path)) ↔ ((game.goal q ≡ false)
+      × Contains (game.moves q) d × Contains (continuations battle game n h (game.after q d)) (x ∷ path))
   unfolding nodes_below
   defences_go_on h q d x path = deeper_unless (λ d. continuations battle game n h (game.after q d)) (game.goal q) (game.moves q) d x path
 
@@ -79,17 +77,15 @@ module _ {P M : Type 0} (battle : Battle) (game : Game P M) (n : ℕ) where
       grind (arith, is_best r m, roots_unless (λ m. nodes_below battle game n h (game.after r m)) (game.goal r) (best_moves battle game n r) m)
 
   -- And below a continuation stand the defences to it, with a half-move less.
-  pub continuations_go_on : (h : ℕ) (r : P) (m x : M) (path : List M)
-      → Contains (continuations battle game n (suc h) r) (m ∷ (x ∷ path))
+  pub continuations_go_on : (h : ℕ) (r : P) (m x : M) (path : List M) → Contains (continuations battle game n (suc h) r) (m ∷ (x ∷ path))
       ↔ ((game.goal r ≡ false) × IsBest r m × Contains (nodes_below battle game n h (game.after r m)) (x ∷ path))
   unfolding continuations
   continuations_go_on h r m x path =
       grind (arith, is_best r m, deeper_unless (λ m. nodes_below battle game n h (game.after r m)) (game.goal r) (best_moves battle game n r) m x path)
 
   -- Set play, with half-moves left, shows those moves of Black after which the goal is reached or White wins with a move less.
-  pub set_play_is : (variation : Bool) (h : ℕ) (p : P) (d : M)
-      → Contains (paths (set_tree battle game variation n h p)) (d ∷ [])
-      ↔ ((1 ≤ h) × Contains (game.moves p) d × (is_in_set_play battle game n (game.after p d) ≡ true))
+  pub set_play_is : (variation : Bool) (h : ℕ) (p : P) (d : M) → Contains (paths (set_tree battle game variation n h p)) (d ∷ []) ↔ ((1 ≤ h)
+      × Contains (game.moves p) d × (is_in_set_play battle game n (game.after p d) ≡ true))
   unfolding set_tree
   set_play_is variation zero p d = grind (arith, none_in_nil)
   set_play_is variation (suc h) p d =
@@ -125,10 +121,8 @@ module _ {P M : Type 0} (battle : Battle) (game : Game P M) (n : ℕ) where
 
     -- Where no position has two moves alike, no two paths of the play are alike.
     pub play_differs : ((p : P) → AllPairs (λ m n. m ≢ n) (game.moves p)) → AllPairs (λ a b. a ≢ b) (paths (tree battle game variation n h p))
-    play_differs differ = pairs_weaker (StandsBefore (λ m n. m ≢ n)) (λ a b. a ≢ b) (paths (tree battle game variation n h p))
-        (never_before_itself (λ m n. m ≢ n) (λ m ne. ne refl)) (play_in_order (λ m n. m ≢ n) differ)
+    play_differs differ = search (rules, never_before_itself {M = M} (λ m n. m ≢ n) (λ m ne. ne refl), play_in_order (λ m n. m ≢ n) differ)
 
     -- Nor two of set play.
     pub set_play_differs : ((p : P) → AllPairs (λ m n. m ≢ n) (game.moves p)) → AllPairs (λ a b. a ≢ b) (paths (set_tree battle game variation n h p))
-    set_play_differs differ = pairs_weaker (StandsBefore (λ m n. m ≢ n)) (λ a b. a ≢ b) (paths (set_tree battle game variation n h p))
-        (never_before_itself (λ m n. m ≢ n) (λ m ne. ne refl)) (set_play_in_order (λ m n. m ≢ n) differ)
+    set_play_differs differ = search (rules, never_before_itself {M = M} (λ m n. m ≢ n) (λ m ne. ne refl), set_play_in_order (λ m n. m ≢ n) differ)

@@ -3,4 +3,4 @@ use Rattle.chess_mates.proofs.every_move.first_unreached.Goals as goal
 
 pub returns-then-is_unreached-clause-within : goal.returns-then-is_unreached-clause-within
 returns-then-is_unreached-clause-within c =
-    let first = find_first (λ s. bit_at c.args.squares s == 1) _ _ _ (sym c.next_bit.ensures.value ∙ c.in-Some.is) in (search rules, first.here)
+    (search rules, (find_first (λ s. bit_at c.args.squares s == 1) _ _ _ (sym c.next_bit.ensures.value ∙ c.in-Some.is)).here)

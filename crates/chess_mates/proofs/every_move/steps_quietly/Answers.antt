@@ -5,5 +5,4 @@ use Rattle.chess_mates.proofs.every_move.steps_quietly.Goals as goal
 
 pub returns : goal.returns
 returns g c = λ h.
-    one_fails g.R.Rules.rule c.args.board.now (step_to c.in-Some.from c.in-Some-first_unreached.to) c.requires.well_formed (search (rules, step_legal))
-    (c.is_quiet.ensures h)
+    one_fails _ _ (step_to c.in-Some.from c.in-Some-first_unreached.to) c.requires.well_formed (search (rules, step_legal)) (c.is_quiet.ensures h)

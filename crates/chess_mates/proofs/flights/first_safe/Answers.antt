@@ -1,24 +1,17 @@
-use Rattle.chess_mates.proofs.Chess.{arith, bit_at, find_first, rules, sym, ◌==◌, ◌∙◌}
-use Rattle.chess_mates.proofs.HoldBelow.{hold_all, hold_next, hold_none}
+use Rattle.chess_mates.proofs.Chess.{hold_on, sym, ◌∙◌}
+use Rattle.chess_mates.proofs.Hurdles.{found_on}
 use Rattle.chess_mates.proofs.flights.first_safe.Goals as goal
-
-pub loop-square-init : goal.loop-square-init
-loop-square-init c = hold_none _ _
 
 pub loop-square-preserved : goal.loop-square-preserved
 loop-square-preserved c =
-    rw c.index-number.ensures.value (hold_next c.args.squares _ c.loop-square.number c.in-Some.square c.loop-square.invariant
-    (sym c.next_bit.ensures.value ∙ c.in-Some.is)
-    (λ men are. sym (c.is_attacker_seen.ensures men (rw c.sight_with.ensures are)) ∙ c.if-not-is_attacker_seen.false))
+    hold_on _ _ _ _ _ _ c.loop-square.invariant c.next_bit.ensures.value c.in-Some.is c.index-number.ensures.value
+    (λ men are. sym (c.is_attacker_seen.ensures men (rw c.sight_with.ensures are)) ∙ c.if-not-is_attacker_seen.false)
 
 pub returns-then-not-is_attacker_seen-clause-safe : goal.returns-then-not-is_attacker_seen-clause-safe
 returns-then-not-is_attacker_seen-clause-safe c =
-    let first = find_first (λ s. bit_at c.args.squares s == 1) _ _ _ (sym c.next_bit.ensures.value ∙ c.in-Some.is) in
+    let found = found_on c.args.squares c.loop-square.number c.in-Some.square (sym c.next_bit.ensures.value ∙ c.in-Some.is) in
     record {
-      small = omega (arith, first.high);
-      here = first.here;
+      small = found.0;
+      here = found.1;
       unreached = λ men are. sym (c.is_attacker_seen.ensures men (rw c.sight_with.ensures are)) ∙ c.if-not-is_attacker_seen.true;
     }
-
-pub returns-clause-guarded : goal.returns-clause-guarded
-returns-clause-guarded c = search (rules, hold_all)

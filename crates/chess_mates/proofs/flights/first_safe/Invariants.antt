@@ -1,5 +1,4 @@
-use Rattle.chess_mates.proofs.Chess.{AreSeen, List, Man, Option, is_reached, sight_with, true, ◌-◌, ◌≡◌}
-use Rattle.chess_mates.proofs.HoldBelow.{HoldBelow}
+use Rattle.chess_mates.proofs.Chess.{AreSeen, HoldBelow, List, Man, Option, is_reached, sight_with, true, ◌-◌, ◌≡◌}
 use Rattle.chess_mates.proofs.flights.first_safe.Given as goal
 
 abbrev pub invariant-loop-square : goal.invariant-loop-square

@@ -1,8 +1,16 @@
-use Rattle.chess_mates.proofs.Chess.{arith}
-use Rattle.chess_mates.proofs.Risks.{guards_are}
+use Rattle.chess_mates.proofs.Chess.{ap, arith, not, on_first, rules, word_has, ◌<◌, ◌^◌}
+use Rattle.chess_mates.proofs.FarMen.{off_denied}
+use Rattle.chess_mates.proofs.Hurdles.{all_reach}
 use Rattle.chess_mates.proofs.guards.guards_without.Goals as goal
 
 pub returns : goal.returns
 returns c =
-    guards_are c.args.siege.now c.args.from c.args.region c.only.result c.ridden_squares-ridden.result c.leapt_squares.result c.without-men.result
-    c.only.ensures (omega arith) c.without-men.ensures c.ridden_squares-ridden.ensures.all c.leapt_squares.ensures.all
+    let fits : c.only.result < 2 ^ 64 = omega arith in
+    let others = c.without-men.ensures in
+    let rides = c.ridden_squares-ridden.ensures.all in
+    record {
+      hurdles = _;
+      kept = λ e small on. (on_first c.args.siege.now.hurdles _ e on, λ same. search (rules, fits, off_denied, word_has));
+      rides = λ q z i ne rider near. rides.reach q z (others q z i ne) rider near;
+      guards = λ q z i ne plain near. (all_reach _ _ _ _ _ rides c.leapt_squares.ensures.all).reach q z (others q z i ne) (ap not plain) near;
+    }

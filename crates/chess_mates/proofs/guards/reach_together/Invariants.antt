@@ -1,5 +1,4 @@
-use Rattle.chess_mates.proofs.Chess.{IsNear, IsReached, IsReachedFrom, bit_at, true, ℕ, ◌-◌, ◌<◌, ◌==◌, ◌≡◌}
-use Rattle.chess_mates.proofs.HoldBelow.{HoldBelow}
+use Rattle.chess_mates.proofs.Chess.{HoldBelow, IsNear, IsReached, IsReachedFrom, bit_at, true, ℕ, ◌-◌, ◌<◌, ◌==◌, ◌≡◌}
 use Rattle.chess_mates.proofs.guards.reach_together.Given as goal
 
 abbrev pub invariant-loop-from : goal.invariant-loop-from

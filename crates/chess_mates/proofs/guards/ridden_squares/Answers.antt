@@ -1,18 +1,14 @@
-use Rattle.chess_mates.proofs.Chess.{Bishop, Nightrider, Queen, Rook}
-use Rattle.chess_mates.proofs.Hurdles.{attacked_by, attacked_either, riders_reach}
+use Rattle.chess_mates.proofs.Chess.{rules}
+use Rattle.chess_mates.proofs.Hurdles.{attacked_by, on_one}
 use Rattle.chess_mates.proofs.guards.ridden_squares.Goals as goal
 
-pub returns-clause-all : goal.returns-clause-all
-returns-clause-all c =
-    riders_reach c.args.hurdles c.args.men.now c.args.region c.reach_of-queens.result c.reach_of-rooks.result c.reach_of-bishops.result
-    c.reach_of-nightriders.result c.reach_of-queens.ensures.all c.reach_of-rooks.ensures.all c.reach_of-bishops.ensures.all
-    c.reach_of-nightriders.ensures.all
-
 pub returns-clause-alone : goal.returns-clause-alone
-returns-clause-alone c =
-    let d = c.args.hurdles in
-    let a = c.args.men.now in
-    attacked_either d a _ _ (attacked_either d a _ _ (attacked_either d a _ _ (λ t low on. attacked_by d a Queen t (c.reach_of-queens.ensures.alone t low on))
-    (λ t low on. attacked_by d a Rook t (c.reach_of-rooks.ensures.alone t low on)))
-    (λ t low on. attacked_by d a Bishop t (c.reach_of-bishops.ensures.alone t low on)))
-    (λ t low on. attacked_by d a Nightrider t (c.reach_of-nightriders.ensures.alone t low on))
+returns-clause-alone c = search (
+  rules,
+  attacked_by,
+  on_one,
+  c.reach_of-queens.ensures.alone,
+  c.reach_of-rooks.ensures.alone,
+  c.reach_of-bishops.ensures.alone,
+  c.reach_of-nightriders.ensures.alone,
+)

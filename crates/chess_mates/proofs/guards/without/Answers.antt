@@ -1,6 +1,6 @@
-use Rattle.chess_mates.proofs.Chess.{arith}
-use Rattle.chess_mates.proofs.Risks.{kept_without}
+use Rattle.chess_mates.proofs.Chess.{arith, eqb-true, false_by, rules, word_has, ◌<◌, ◌^◌}
+use Rattle.chess_mates.proofs.Risks.{denied_on}
 use Rattle.chess_mates.proofs.guards.without.Goals as goal
 
 pub returns : goal.returns
-returns c = λ s x i ne. kept_without c.args.men.now c.args.gone c.only-others.result s x c.only-others.ensures (omega arith) i ne
+returns c = λ s x i ne. let fits : c.only-others.result < 2 ^ 64 = omega arith in search (rules, fits, denied_on, eqb-true, false_by, word_has)

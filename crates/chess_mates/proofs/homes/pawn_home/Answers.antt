@@ -4,11 +4,9 @@ use Rattle.chess_mates.proofs.homes.pawn_home.Goals as goal
 
 pub returns-in-White : goal.returns-in-White
 unfolding rebirth
-returns-in-White c =
-    pawn_home_on c.args.colour c.args.from 2 c.only.result (λ t. rw c.in-White.is refl) (rw (c.new.ensures, c.file.ensures.value) at c.only.ensures)
+returns-in-White c = pawn_home_on c.args.colour _ 2 _ (λ t. rw c.in-White.is refl) (rw (c.new.ensures, c.file.ensures.value) at c.only.ensures)
 
 pub returns-in-Black : goal.returns-in-Black
 unfolding rebirth
 returns-in-Black c =
-    pawn_home_on c.args.colour c.args.from 7 c.only-in-Black.result (λ t. rw c.in-Black.is refl)
-    (rw (c.new-in-Black.ensures, c.file-in-Black.ensures.value) at c.only-in-Black.ensures)
+    pawn_home_on c.args.colour _ 7 _ (λ t. rw c.in-Black.is refl) (rw (c.new-in-Black.ensures, c.file-in-Black.ensures.value) at c.only-in-Black.ensures)

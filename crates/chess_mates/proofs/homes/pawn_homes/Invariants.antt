@@ -1,5 +1,4 @@
-use Rattle.chess_mates.proofs.Chess.{Pawn, Some, bit_at, file_of, rebirth, true, ℕ, ◌-◌, ◌==◌, ◌≡◌}
-use Rattle.chess_mates.proofs.HoldBelow.{HoldBelow}
+use Rattle.chess_mates.proofs.Chess.{HoldBelow, Pawn, Some, bit_at, file_of, rebirth, true, ℕ, ◌-◌, ◌==◌, ◌≡◌}
 use Rattle.chess_mates.proofs.homes.pawn_homes.Given as goal
 
 abbrev pub invariant-loop-from : goal.invariant-loop-from

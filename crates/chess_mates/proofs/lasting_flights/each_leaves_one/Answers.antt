@@ -1,22 +1,5 @@
-use Rattle.chess_mates.proofs.Chess.{sym, ◌∙◌}
-use Rattle.chess_mates.proofs.HoldBelow.{hold_all, hold_next, hold_none}
-use Rattle.chess_mates.proofs.Risks.{none_at}
-use Rattle.chess_mates.specs.ties.LastingFlights.{LeavesOne}
+use Rattle.chess_mates.proofs.Chess.{hold_on, rules}
 use Rattle.chess_mates.proofs.lasting_flights.each_leaves_one.Goals as goal
 
-pub returns-then-men-eq0 : goal.returns-then-men-eq0
-returns-then-men-eq0 c = λ yes s small on. absurd (none_at c.args.men s c.if-men-eq0.true on)
-
-pub loop-from-init : goal.loop-from-init
-loop-from-init c = hold_none _ _
-
 pub loop-from-preserved : goal.loop-from-preserved
-loop-from-preserved c =
-    rw c.index-number.ensures.value
-    (hold_next c.args.men (λ s. LeavesOne c.args.squares (record { colour = c.args.colour; kind = c.args.kind }) s) c.loop-from.number c.in-Some.from
-    c.loop-from.invariant (sym c.next_bit.ensures.value ∙ c.in-Some.is) (c.leaves_one.ensures c.if-not-leaves_one.false))
-
-pub returns : goal.returns
-returns c = λ yes.
-    hold_all c.args.men (λ s. LeavesOne c.args.squares (record { colour = c.args.colour; kind = c.args.kind }) s) c.loop-from.number
-    c.loop-from.invariant (sym c.next_bit.ensures.value ∙ c.in_default.is)
+loop-from-preserved c = search (rules, hold_on, c.next_bit.ensures.value, c.leaves_one.ensures)

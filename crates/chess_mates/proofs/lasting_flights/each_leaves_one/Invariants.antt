@@ -1,5 +1,4 @@
-use Rattle.chess_mates.proofs.Chess.{◌-◌}
-use Rattle.chess_mates.proofs.HoldBelow.{HoldBelow}
+use Rattle.chess_mates.proofs.Chess.{HoldBelow, ◌-◌}
 use Rattle.chess_mates.specs.ties.LastingFlights.{LeavesOne}
 use Rattle.chess_mates.proofs.lasting_flights.each_leaves_one.Given as goal
 

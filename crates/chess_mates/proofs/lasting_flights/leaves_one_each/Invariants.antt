@@ -1,5 +1,4 @@
-use Rattle.chess_mates.proofs.Chess.{IsLeft, ℕ, ◌-◌}
-use Rattle.chess_mates.proofs.HoldBelow.{HoldBelow}
+use Rattle.chess_mates.proofs.Chess.{HoldBelow, IsLeft, ℕ, ◌-◌}
 use Rattle.chess_mates.proofs.lasting_flights.leaves_one_each.Given as goal
 
 abbrev pub invariant-loop-to : goal.invariant-loop-to

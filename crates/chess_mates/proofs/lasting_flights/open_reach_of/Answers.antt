@@ -1,27 +1,10 @@
-use Rattle.chess_mates.proofs.Chess.{Man, sym, ◌∙◌}
-use Rattle.chess_mates.proofs.HoldBelow.{hold_all, hold_map, hold_next, hold_none}
+use Rattle.chess_mates.proofs.Chess.{Man, hold_map, hold_on}
 use Rattle.chess_mates.proofs.LastingFlights.{reached_left, reached_right}
-use Rattle.chess_mates.proofs.Risks.{none_at}
 use Rattle.chess_mates.specs.ties.LastingFlights.{AreReached}
 use Rattle.chess_mates.proofs.lasting_flights.open_reach_of.Goals as goal
-
-pub returns-then-squares-eq0 : goal.returns-then-squares-eq0
-returns-then-squares-eq0 c = λ s small on. absurd (none_at c.args.squares s c.if-squares-eq0.true on)
-
-pub loop-from-init : goal.loop-from-init
-loop-from-init c = hold_none _ _
 
 pub loop-from-preserved : goal.loop-from-preserved
 loop-from-preserved c =
     let x : Man = record { colour = c.args.colour; kind = c.args.kind } in
-    let r = c.loop-from.reached in
-    let more = c.open_reach-more in
-    rw c.index-number.ensures.value
-    (hold_next c.args.squares (λ s. AreReached x s _) c.loop-from.number c.in-Some.from
-    (hold_map c.args.squares (λ s. AreReached x s r) _ c.loop-from.number (λ s h. reached_left x s r more.result h) c.loop-from.invariant)
-    (sym c.next_bit.ensures.value ∙ c.in-Some.is) (reached_right x c.in-Some.from r more.result more.ensures))
-
-pub returns : goal.returns
-returns c =
-    hold_all c.args.squares (λ s. AreReached (record { colour = c.args.colour; kind = c.args.kind }) s c.loop-from.reached) c.loop-from.number
-    c.loop-from.invariant (sym c.next_bit.ensures.value ∙ c.in_default.is)
+    hold_on _ _ _ _ _ _ (hold_map c.args.squares (λ s. AreReached x s _) _ c.loop-from.number (λ s h. reached_left x s _ _ h) c.loop-from.invariant)
+    c.next_bit.ensures.value c.in-Some.is c.index-number.ensures.value (reached_right x c.in-Some.from _ _ c.open_reach-more.ensures)

@@ -1,5 +1,5 @@
-use Rattle.chess_mates.proofs.Chess.{Bishop, Queen, Rook, arith, refl, sym, ◌∙◌}
-use Rattle.chess_mates.proofs.Risks.{check_hops, check_lines, check_word}
+use Rattle.chess_mates.proofs.Chess.{Bishop, Queen, Rook, refl, sym, ◌∙◌}
+use Rattle.chess_mates.proofs.Risks.{check_lines}
 use Rattle.chess_mates.proofs.Sieges.{queen_lines}
 use Rattle.chess_mates.proofs.risk.check_squares_over.Goals as goal
 
@@ -12,10 +12,3 @@ returns-then-is-2 c = check_lines _ _ _ c.args.man Rook (sym c.is-2.ensures ∙ 
 
 pub returns-then-is-3 : goal.returns-then-is-3
 returns-then-is-3 c = check_lines _ _ _ c.args.man Bishop (sym c.is-3.ensures ∙ c.if-is-3.true) refl c.requires.diagonal
-
-pub returns-then-is-4 : goal.returns-then-is-4
-returns-then-is-4 c = check_hops _ _ _ c.args.man (sym c.is-4.ensures ∙ c.if-is-4.true) c.open_approaches.ensures
-
-pub returns : goal.returns
-returns c = check_word c.args.siege.now.hurdles c.args.field.now.king c.reach_over.result c.args.man (omega arith)
-    (sym c.is-4.ensures ∙ c.if-is-4.false) (rw c.other.ensures at c.reach_over.ensures)

@@ -1,5 +1,4 @@
-use Rattle.chess_mates.proofs.Chess.{LeavesOne, ◌-◌}
-use Rattle.chess_mates.proofs.HoldBelow.{HoldBelow}
+use Rattle.chess_mates.proofs.Chess.{HoldBelow, LeavesOne, ◌-◌}
 use Rattle.chess_mates.proofs.risk.critical_after.Given as goal
 
 abbrev pub invariant-loop-to : goal.invariant-loop-to

@@ -1,10 +1,6 @@
 use Rattle.chess_mates.proofs.Chess.{arith}
-use Rattle.chess_mates.proofs.Risks.{none_checks}
 use Rattle.chess_mates.proofs.Springboards.{no_other}
 use Rattle.chess_mates.proofs.risk.may_spring.Goals as goal
-
-pub returns-then-others-ne0 : goal.returns-then-others-ne0
-returns-then-others-ne0 c = λ no t small on q z i ne hop. none_checks c.args.field.now.hops c.args.squares t no on
 
 pub returns-else-others-ne0 : goal.returns-else-others-ne0
 returns-else-others-ne0 c = λ no t small on q z i ne hop.

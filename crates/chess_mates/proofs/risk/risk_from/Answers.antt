@@ -1,19 +1,14 @@
-use Rattle.chess_mates.proofs.Chess.{sym, ◌∙◌}
-use Rattle.chess_mates.proofs.Risks.{harmless_going, harmless_quietly, open_arrivals}
+use Rattle.chess_mates.proofs.Chess.{inl, inr}
 use Rattle.chess_mates.proofs.risk.risk_from.Goals as goal
 
-pub returns-then-not-contains : goal.returns-then-not-contains
-returns-then-not-contains c =
-    harmless_quietly c.args.siege.now c.args.field.now c.args.checks c.args.man c.args.from c.open_targets-open.result c.checking_targets-most.result
-    (open_arrivals c.args.siege.now.hurdles c.args.man c.args.from c.open_targets-open.result c.open_targets-open.ensures) c.checking_targets-most.ensures
-    c.if-most-eq0.true (sym c.contains.ensures ∙ c.if-not-contains.true)
-
-pub returns-then-not-contains-2 : goal.returns-then-not-contains-2
-returns-then-not-contains-2 c =
-    harmless_quietly c.args.siege.now c.args.field.now c.args.checks c.args.man c.args.from c.arrivals-reached.result c.checking_targets-targets.result
-    c.arrivals-reached.ensures c.checking_targets-targets.ensures c.if-targets-eq0.true (sym c.contains-then-targets-eq0.ensures ∙ c.if-not-contains-2.true)
-
 pub returns : goal.returns
-returns c =
-    harmless_going c.args.siege.now c.args.field.now c.args.checks c.args.man c.args.from c.arrivals-reached.result c.checking_targets-targets.result
-    c.arrivals-reached.ensures c.checking_targets-targets.ensures c.risk_of_going.result c.risk_of_going.ensures
+returns c = record {
+  mild = λ a b small inside off. record {
+    each = λ t i there.
+        let on = c.arrivals-reached.ensures.inside t i in
+        elim (c.risk_of_going.ensures a b t small inside off i.small on there) [
+          | inl calm ↦ inl (record { check = c.checking_targets-targets.ensures t i.small on calm.0; covered = inr calm.1 })
+          | inr flight ↦ inr flight
+        ];
+  };
+}

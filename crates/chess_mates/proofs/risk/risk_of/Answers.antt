@@ -1,21 +1,15 @@
-use Rattle.chess_mates.proofs.Chess.{bit_at, cases_Bool, inl, inr, ◌==◌}
+use Rattle.chess_mates.proofs.Chess.{bit_at, cases_Bool, inl, inr, off_zero, ◌==◌}
 use Rattle.chess_mates.proofs.LastingFlights.{on_both}
-use Rattle.chess_mates.proofs.Risks.{harmless_more, none_at, weak_is, weak_never}
+use Rattle.chess_mates.proofs.Risks.{weak_is}
 use Rattle.chess_mates.proofs.risk.risk_of.Goals as goal
-
-pub returns-then-squares-eq0 : goal.returns-then-squares-eq0
-returns-then-squares-eq0 c = λ s small on. absurd (none_at c.args.squares s c.if-squares-eq0.true on)
-
-pub returns-then-check_now : goal.returns-then-check_now
-returns-then-check_now c = λ s small on. weak_never c.args.siege.now c.args.field.now 0 _ s
 
 pub returns : goal.returns
 returns c = λ s small on.
     let v = c.args.siege.now in
-    let g = c.args.field.now in
-    let checks = c.check_squares_over-checks.result in
-    weak_is v g c.risk_together.result _ checks s c.check_squares_over-checks.ensures (λ plain. c.check_now.ensures c.if-check_now.false plain s on)
+    weak_is v c.args.field.now _ _ _ s c.check_squares_over-checks.ensures (λ plain. c.check_now.ensures c.if-check_now.false plain s on)
     (elim (cases_Bool (bit_at c.suspect_squares.result s == 1)) [
       | inl suspect ↦ c.risk_together.ensures s small (on_both c.args.squares c.suspect_squares.result s on suspect)
-      | inr idle ↦ harmless_more v g checks c.risk_together.result _ s (c.suspect_squares.ensures v s small idle)
+      | inr idle ↦ record {
+        mild = λ a b lo hi off. (c.suspect_squares.ensures v s small idle).mild a b lo hi (record { lines = λ on. off_zero a; critical = off_zero b });
+      }
     ])

@@ -1,16 +1,44 @@
-use Rattle.chess_mates.proofs.Chess.{ap, arith, bit_at, ℕ, ◌==◌, ◌∙◌}
-use Rattle.chess_mates.proofs.Risks.{met_is, never_off}
+use Rattle.chess_mates.proofs.Chess.{Some, ap, arith, bit_at, cases_Bool, eq-eqb, every_square_on, false, false_by, false≢true, inl, inr, is_square, on_first, on_left, on_right, refl, sym, word_has, ℕ, ◌<◌, ◌==◌, ◌∙◌, ◌≡◌}
+use Rattle.chess_mates.proofs.FarMen.{off_denied}
+use Rattle.chess_mates.proofs.Risks.{unguarded_at}
 use Rattle.chess_mates.proofs.risk.risk_of_going.Goals as goal
 
 pub returns-then-may_spring : goal.returns-then-may_spring
-returns-then-may_spring c = λ a b t inside small off low on there. absurd (never_off c.args.siege.now.hurdles 0 a b small off)
+returns-then-may_spring c = λ a b t inside small off low on there. absurd (false≢true (sym off.critical ∙ every_square_on b small))
 
 pub returns : goal.returns
-returns c = λ a b t inside small off low on.
+returns c = λ a b t inside small off low on there.
+    let g = c.args.field.now in
+    let o = c.only.result in
+    let guards = c.guards_without-guards in
+    let seen = guards.result.guarded in
     let watched = c.watched_squares-watched in
-    met_is c.args.siege.now c.args.field.now c.args.from c.only.result c.guards_without-guards.result a c.guards_without-guards.ensures off.lines
-    c.args.man c.args.targets watched.result c.uncaptured_squares-left.result c.critical_after.result b t c.only.ensures
-    (omega (arith, c.index-small.ensures.value, c.index-small.ensures.small)) small low (omega arith) off.critical
-    (λ every. ap (λ (w : ℕ). bit_at w t == 1) (watched.ensures.all every) ∙ on)
-    (λ shut. watched.ensures.some shut) (c.uncaptured_squares-left.ensures t low)
-    (c.may_promote_on.ensures c.if-may_promote_on.false) (c.may_spring.ensures c.if-may_spring.false) c.critical_after.ensures
+    let left = c.uncaptured_squares-left in
+    let at = unguarded_at c.args.siege.now g c.args.from o guards.result a guards.ensures off.lines in
+    elim (cases_Bool (bit_at left.result t == 1)) [
+      | inl left_on ↦
+          let one = (c.critical_after.ensures t low left_on).left b small off.critical there in
+          let f = one.0 in
+          let near = on_first g.near _ f one.1.on in
+          inr (inr (record {
+            plain = c.may_promote_on.ensures c.if-may_promote_on.false t low left_on;
+            unsprung = c.may_spring.ensures c.if-may_spring.false t low left_on;
+            square = f;
+            left = record { small = one.1.small; on = near; off = one.1.off; unreached = one.1.unreached };
+            unguarded = at f (on_left _ o f (on_left g.near g.captures f near)) (off_denied g.near seen f (omega arith) one.1.small one.1.on);
+            elsewhere = one.2;
+          }))
+      | inr free ↦ elim (cases_Bool (bit_at watched.result t == 1)) [
+        | inl on ↦
+            let taken = left.ensures t low on free in
+            inr (inl (record { on = taken.0; unguarded = at t (on_left _ o t (on_right g.near g.captures t taken.0)) taken.1 }))
+        | inr none ↦
+            let small : g.king < 64 = omega (arith, c.index-small.ensures.value, c.index-small.ensures.small) in
+            let unseen : (bit_at seen g.king == 1) ≡ false = false_by _ (λ h.
+            false≢true (sym none ∙ ap (λ (w : ℕ). bit_at w t == 1) (watched.ensures.all h) ∙ on)) in
+            inl (
+              ap (λ (w : ℕ). bit_at w t == 1) (sym (watched.ensures.some unseen)) ∙ none,
+              at g.king (on_right _ o g.king (word_has (λ q. is_square (Some g.king) q) o g.king c.only.ensures small ∙ eq-eqb g.king g.king refl)) unseen,
+            )
+      ]
+    ]

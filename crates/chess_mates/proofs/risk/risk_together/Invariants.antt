@@ -1,5 +1,4 @@
-use Rattle.chess_mates.proofs.Chess.{IsHarmless, ◌-◌}
-use Rattle.chess_mates.proofs.HoldBelow.{HoldBelow}
+use Rattle.chess_mates.proofs.Chess.{HoldBelow, IsHarmless, ◌-◌}
 use Rattle.chess_mates.proofs.risk.risk_together.Given as goal
 
 abbrev pub invariant-loop-from : goal.invariant-loop-from

@@ -1,14 +1,6 @@
-use Rattle.chess_mates.proofs.Chess.{arith, rules, sym, ◌∙◌}
-use Rattle.chess_mates.proofs.Sieges.{king_castles_anywhere, king_castles_to, moved_king_castles, no_king_castles, shut_on}
+use Rattle.chess_mates.proofs.Chess.{arith, sym, ◌∙◌}
+use Rattle.chess_mates.proofs.Sieges.{king_castles_anywhere, king_castles_to, shut_on}
 use Rattle.chess_mates.proofs.siege.castling_squares.Goals as goal
-
-pub returns-in_default : goal.returns-in_default
-returns-in_default c = λ well. no_king_castles c.args.board.now c.args.colour 0 (sym c.king_of.ensures ∙ c.in_default.is)
-
-pub returns-then-not-has : goal.returns-then-not-has
-returns-then-not-has c = λ well.
-    moved_king_castles c.args.board.now c.args.colour 0 c.in-Some.king (sym c.king_of.ensures ∙ c.in-Some.is)
-    (search (rules, c.has.ensures, c.if-not-has.true, c.unmoved.ensures)) well
 
 pub returns-then-at-lt4 : goal.returns-then-at-lt4
 returns-then-at-lt4 c = λ well. king_castles_anywhere c.args.board.now c.args.colour c.in-Some.king (sym c.king_of.ensures ∙ c.in-Some.is) well

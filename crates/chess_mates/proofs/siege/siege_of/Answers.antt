@@ -1,12 +1,6 @@
-use Rattle.chess_mates.proofs.Chess.{ap, other, refl, side_of, sym, ◌∙◌}
+use Rattle.chess_mates.proofs.Chess.{ap, other, side_of, sym, ◌∙◌}
 use Rattle.chess_mates.proofs.Sieges.{siege_fits}
 use Rattle.chess_mates.proofs.siege.siege_of.Goals as goal
-
-pub returns-clause-siege : goal.returns-clause-siege
-returns-clause-siege g c = record { hurdles = c.hurdles_of.ensures.are }
-
-pub returns-clause-whole : goal.returns-clause-whole
-returns-clause-whole g c = record { hurdles = c.hurdles_of.ensures.whole refl }
 
 pub returns-clause-of : goal.returns-clause-of
 returns-clause-of g c = λ well king.

@@ -1,5 +1,4 @@
-use Rattle.chess_mates.proofs.Chess.{IsSparedStep, bit_at, false, ◌-◌, ◌==◌, ◌≡◌}
-use Rattle.chess_mates.proofs.HoldBelow.{HoldBelow}
+use Rattle.chess_mates.proofs.Chess.{HoldBelow, IsSparedStep, bit_at, false, ◌-◌, ◌==◌, ◌≡◌}
 use Rattle.chess_mates.proofs.steps.risky_among.Given as goal
 
 abbrev pub invariant-loop-to : goal.invariant-loop-to

@@ -1,17 +1,13 @@
-use Rattle.chess_mates.proofs.Chess.{arith, ◌<◌}
+use Rattle.chess_mates.proofs.Chess.{arith}
 use Rattle.chess_mates.proofs.Passing.{passes_freely, steps_freely}
 use Rattle.chess_mates.proofs.threats.contested_squares.Goals as goal
 
 pub returns-then-capturers_before-squares-eq0 : goal.returns-then-capturers_before-squares-eq0
 returns-then-capturers_before-squares-eq0 c = λ m from to goes off.
-    let small : m.from < 64 = omega (arith, from, c.index-small.ensures.value, c.index-small.ensures.small) in
-    passes_freely c.args.board.now c.args.man m small to c.pawn_advances.result c.king_leaps-near.result (rw from c.pawn_advances.ensures)
-    (rw from c.king_leaps-near.ensures) c.capturers_before.result c.squares.result (rw from goes)
+    passes_freely _ _ m (omega arith) to _ _ (rw from c.pawn_advances.ensures) (rw from c.king_leaps-near.ensures) _ _ (rw from goes)
     (rw c.other-enemy.ensures at c.capturers_before.ensures) (rw c.other-enemy.ensures at c.squares.ensures.word)
     c.if-capturers_before-squares-eq0.true
 
 pub returns : goal.returns
 returns c = λ m from to goes off.
-    let small : m.from < 64 = omega (arith, from, c.index-small.ensures.value, c.index-small.ensures.small) in
-    steps_freely c.args.board.now c.args.man m small to c.pawn_advances.result c.king_leaps-near.result (rw from c.pawn_advances.ensures)
-    (rw from c.king_leaps-near.ensures) (omega arith) off
+    steps_freely _ _ m (omega arith) to c.pawn_advances.result _ (rw from c.pawn_advances.ensures) (rw from c.king_leaps-near.ensures) (omega arith) off

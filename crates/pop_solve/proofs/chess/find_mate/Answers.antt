@@ -1,5 +1,5 @@
 use Rattle.pop_solve.proofs.Words.{MatingPlace, ap, rules}
-use Rattle.pop_solve.proofs.Boards.{mate_before, mate_behind, no_mate, on_mate_before, on_mate_behind}
+use Rattle.pop_solve.proofs.Boards.{mate_before, mate_behind, no_mate}
 use Rattle.pop_solve.proofs.chess.find_mate.Goals as goal
 
 pub returns-then-is_some-clause-mates : goal.returns-then-is_some-clause-mates
@@ -19,7 +19,7 @@ returns-clause-mates g c =
     search (rules, none, place, cut)
 
 pub returns-then-is_some-clause-place : goal.returns-then-is_some-clause-place
-returns-then-is_some-clause-place g c = search (rules, on_mate_behind)
+returns-then-is_some-clause-place g c = search rules
 
 pub returns-then-is_some-2-clause-place : goal.returns-then-is_some-2-clause-place
-returns-then-is_some-2-clause-place g c = search (rules, on_mate_before, c.next_until.ensures.place)
+returns-then-is_some-2-clause-place g c = search (rules, c.next_until.ensures.place)

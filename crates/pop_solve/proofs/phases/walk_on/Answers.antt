@@ -13,29 +13,19 @@ returns-then-step g c =
     let l = length-reverse c.loop-frames.frames.items in
     let some : 0 < length c.loop-frames.frames.items = grind (arith, nat_tests) in
     let s = c.step.ensures.steps _ c.loop-frames.invariant.0 in
-    record {
-      walks = rw (← c.still_to_begin-limit.ensures) (kept.walks_given g.R.Rules.rule _ _ _ _ _ c.loop-frames.invariant.1 _ _ _ _ _ _ s c.if-step.true
-          (omega (arith, l, some)) (rw (l, ← c.len.ensures.value) (sym c.is_full.ensures ∙ c.if-not-is_full.true)));
-      opens = search (rules, s.opens);
-      tries = search (rules, s.tries);
-    }
+    let w = kept.walks_given g.R.Rules.rule _ _ _ _ _ c.loop-frames.invariant.1 c.still_to_begin-limit.result _ _ _ _ _ s c.if-step.true
+    (omega (arith, l, some)) (rw (l, ← c.len.ensures.value) (sym c.is_full.ensures ∙ c.if-not-is_full.true)) in
+    search (rules, w, s, c.still_to_begin-limit.ensures)
 
 pub returns-else-not-is_full : goal.returns-else-not-is_full
 returns-else-not-is_full g c =
-    let l = length-reverse c.loop-frames.frames.items in
-    record {
-      walks = rw (← c.still_to_begin-limit.ensures) (kept.walks_ended g.R.Rules.rule _ _ _ _ _ c.loop-frames.invariant.1 _ _ c.loop-frames.invariant.0
-          (inr (rw (l, ← c.len.ensures.value) (sym c.is_full.ensures ∙ c.if-not-is_full.false))));
-      opens = c.loop-frames.invariant.2;
-      tries = c.loop-frames.invariant.3;
-    }
+    let w = kept.walks_ended g.R.Rules.rule _ _ _ _ _ c.loop-frames.invariant.1 c.still_to_begin-limit.result _ c.loop-frames.invariant.0
+    (inr (rw (length-reverse c.loop-frames.frames.items, ← c.len.ensures.value) (sym c.is_full.ensures ∙ c.if-not-is_full.false))) in
+    search (rules, w, c.still_to_begin-limit.ensures)
 
 pub returns-after-loop-frames : goal.returns-after-loop-frames
 returns-after-loop-frames g c =
     let none : length c.loop-frames.frames.items ≡ 0 = grind (arith, nat_tests) in
-    record {
-      walks = rw (← c.still_to_begin-limit.ensures) (kept.walks_ended g.R.Rules.rule _ _ _ _ _ c.loop-frames.invariant.1 _ _ c.loop-frames.invariant.0
-          (inl (omega (arith, none, length-reverse c.loop-frames.frames.items))));
-      opens = c.loop-frames.invariant.2;
-      tries = c.loop-frames.invariant.3;
-    }
+    let w = kept.walks_ended g.R.Rules.rule _ _ _ _ _ c.loop-frames.invariant.1 c.still_to_begin-limit.result _ c.loop-frames.invariant.0
+    (inl (omega (arith, none, length-reverse c.loop-frames.frames.items))) in
+    search (rules, w, c.still_to_begin-limit.ensures)

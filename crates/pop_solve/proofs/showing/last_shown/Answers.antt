@@ -1,11 +1,10 @@
-use Rattle.pop_solve.proofs.Words.{◌∙◌}
+use Rattle.pop_solve.proofs.Words.{rules}
 use Rattle.pop_solve.proofs.Paths as paths
 use Rattle.pop_solve.proofs.showing.last_shown.Goals as goal
 
 pub take_back-requires : goal.take_back-requires
 take_back-requires g c =
-    let top = paths.topped-last _ _ c.index-frames-frames.is c.requires.deep in
-    record { came = paths.back-asks g.R.Rules.rule top _ _ _ c.requires.walking.2 }
+    let top = paths.topped-last _ _ c.index-frames-frames.is c.requires.deep in search (rules, paths.back-asks, c.requires.walking)
 
 pub play_shown-requires : goal.play_shown-requires
 play_shown-requires g c =
@@ -20,8 +19,4 @@ play_shown-requires g c =
 pub returns : goal.returns
 returns g c =
     let top = paths.topped-last _ _ c.index-frames-frames.is c.requires.deep in
-    let back = c.take_back.ensures.before in
-    record {
-      unchanged = c.play_shown.ensures.after ∙ paths.back-again g.R.Rules.rule top _ _ _ _ c.requires.walking.2 back;
-      shown = λ h p w. c.play_shown.ensures.shown ∙ paths.back-shown g.R.Rules.rule top h p _ _ w back c.args.plan.goal;
-    }
+    search (rules, paths.back-again, paths.back-shown, c.requires.walking, c.take_back.ensures.before, c.play_shown.ensures)

@@ -1,4 +1,4 @@
-use Rattle.pop_solve.proofs.Words.{ap, arith, position, refl, reverse, rules, sym, take_all, ◌+◌, ◌∙◌, position_after}
+use Rattle.pop_solve.proofs.Words.{ap, arith, position, refl, reverse, rules, sym, take_all, ◌+◌, ◌∙◌}
 use Rattle.pop_solve.proofs.Paths as paths
 use Rattle.pop_solve.proofs.showing.line.Goals as goal
 
@@ -16,11 +16,8 @@ pub loop-k-preserved : goal.loop-k-preserved
 loop-k-preserved g c = (
   λ h p w.
       let top = paths.topped-at _ (c.loop-k.k + 1) _ _ c.index-frames-k.is refl c.loop-k.auto.k c.loop-k-test.true in
-      let at = c.loop-k.invariant.0 h p w in (
-        rw (c.push.ensures.items, c.play_shown.ensures.shown, at.0, at.1) (sym (paths.forth-along g.R.Rules.rule top c.args.goal p)),
-        c.play_shown.ensures.after ∙ ap (λ b. position_after g.R.Rules.rule b c.index-frames-k.result.by) at.1
-            ∙ sym (paths.forth-position g.R.Rules.rule top p),
-      ),
+      let at = c.loop-k.invariant.0 h p w in
+      search (rules, at, paths.forth-along, paths.forth-position, c.push.ensures.items, c.play_shown.ensures.shown, c.play_shown.ensures.after),
   c.play_shown.ensures.well_formed,
   omega (arith, c.push.ensures.len, c.loop-k.invariant.2),
 )

@@ -1,4 +1,4 @@
-use Rattle.pop_solve.proofs.Words.{arith, rules, sym, ◌<◌, ◌∙◌, value, smallest_tree}
+use Rattle.pop_solve.proofs.Words.{rules, value, smallest_tree}
 use Rattle.pop_solve.proofs.Boards.{unreached}
 use Rattle.pop_solve.proofs.Values as values
 use Rattle.pop_solve.proofs.value.value_at_once.Goals as goal
@@ -9,19 +9,15 @@ returns-then-left-eq0-clause-value g c = search rules
 
 pub returns-else-is_some-clause-tried : goal.returns-else-is_some-clause-tried
 unfolding smallest_tree
-returns-else-is_some-clause-tried g c = let stuck = sym (c.first_look.ensures.moves c.args.aim.goal) ∙ sym c.if-is_some.ensures in search rules
+returns-else-is_some-clause-tried g c = search (rules, c.first_look.ensures.moves c.args.aim.goal, c.if-is_some.ensures)
 
 pub value_without_move-requires : goal.value_without_move-requires
 value_without_move-requires g c = search (rules, c.first_look.ensures.unchanged, c.first_look.ensures.moves, c.if-is_some.ensures)
 
 pub returns-then-is_some-clause-value : goal.returns-then-is_some-clause-value
-returns-then-is_some-clause-value g c =
-    let some : 0 < c.args.left = omega (arith, c.if-left-eq0.false) in
-    let moves = sym (c.first_look.ensures.moves c.args.aim.goal) ∙ sym c.if-is_some.ensures in
-    (some, values.value-open _ _ _ _ some moves (unreached c.args.aim.goal g.R.Rules.rule _ moves))
+returns-then-is_some-clause-value g c = search (rules, values.value-open, unreached, c.first_look.ensures.moves c.args.aim.goal, c.if-is_some.ensures)
 
 pub returns-else-is_some-clause-value : goal.returns-else-is_some-clause-value
 returns-else-is_some-clause-value g c =
-    let some : 0 < c.args.left = omega (arith, c.if-left-eq0.false) in
-    rw c.first_look.ensures.unchanged at c.value_without_move.ensures ∙ sym
-    (values.value-stuck _ _ _ _ some (sym (c.first_look.ensures.moves c.args.aim.goal) ∙ sym c.if-is_some.ensures))
+    let told = rw c.first_look.ensures.unchanged at c.value_without_move.ensures in
+    search (rules, values.value-stuck, c.first_look.ensures.moves c.args.aim.goal, c.if-is_some.ensures)

@@ -1,4 +1,4 @@
-use Rattle.pop_solve.proofs.Words.{Frame, ap, arith, rules, ◌≡◌}
+use Rattle.pop_solve.proofs.Words.{arith, rules}
 use Rattle.pop_solve.proofs.Walking as walking
 use Rattle.pop_solve.proofs.walk.step.Goals as goal
 
@@ -8,11 +8,8 @@ step_back-requires g c = λ deep. rw c.next_of.ensures.unchanged
 
 pub returns-in_default-next_of : goal.returns-in_default-next_of
 returns-in_default-next_of g c = record {
-  steps = λ p r.
-      let left : c.top.inside.left ≡ c.in-Some.top.left = ap (λ (f : Frame). f.left) c.top.view_is in
-      let place : c.top.inside.place ≡ c.in-Some.top.place = ap (λ (f : Frame). f.place) c.top.view_is in
-      walking.close_steps g.R.Rules.rule c.args.plan c.args.half_moves _ _ _ c.in-Some.ensures.items _ _ _ _ _ _ _ r c.next_of.ensures.unchanged
-      c.len-depth.ensures.value (rw (left, place) at c.in_default-next_of.ensures.next) c.step_back.ensures.lowest c.step_back.ensures.before;
+  steps = λ p r. walking.close_steps g.R.Rules.rule c.args.plan c.args.half_moves _ _ _ c.in-Some.ensures.items _ _ _ _ _ _ _ r c.next_of.ensures.unchanged
+      c.len-depth.ensures.value (search (rules, c.in_default-next_of.ensures.next, c.top.view_is)) c.step_back.ensures.lowest c.step_back.ensures.before;
 }
 
 pub returns : goal.returns

@@ -4,5 +4,4 @@ use Rattle.chess_mates.proofs.quiet_steps.QuietSteps.follow.Goals as goal
 
 pub steps_quietly-requires-clause-seen : goal.steps_quietly-requires-clause-seen
 steps_quietly-requires-clause-seen g c =
-    seen_from g.R.Rules.rule c.args.board.now c.in-Some.man c.args.m.now c.in-Some-king_of.king c.requires.well_formed c.requires.legal (search rules)
-    (search rules) (search rules)
+    seen_from _ _ _ _ _ c.requires.well_formed c.requires.legal (search rules) (search rules) (search rules)

@@ -1,12 +1,14 @@
 -- What a man reaches doesn't depend on who stands on the square that it reaches.
-use Rattle.chess_mates.proofs.Chess.{Bishop, Black, Bool, Colour, Direction, East, Gait, Hopper, Kind, Knight, Leaper, List, Man, Nightrider, North, NorthEast, NorthWest, Option, Ordered, Pawn, Rider, Rook, Some, South, SouthEast, SouthWest, Step, West, White, [], along, and_left, any_range_false, any_range_same, arith, cases_Bool, false, false_from_ne_true, gait_of, goes_by, hops, inl, inr, is_clear, is_occupied, is_some, is_square, kind_steps, knight_directions, leaps, list_all, list_any, man_on, ordered, place, queen_directions, range_with_len, reaches_as, refl, rides, rules, square_is, stays, step_of, suc, zero, ℕ, ◌&&◌, ◌+◌, ◌-◌, ◌<◌, ◌||◌, ◌∙◌, ◌∷◌, ◌≡◌, ◌≢◌, ◌≤◌}
+use Rattle.chess_rules.proofs.Basics.{Bool, List, Option, Some, [], and_left, arith, cases_Bool, false, false_from_ne_true, is_some, list_all, list_any, or_from, range_with_len, refl, rules, suc, zero, ℕ, ◌&&◌, ◌+◌, ◌-◌, ◌<◌, ◌||◌, ◌∙◌, ◌∷◌, ◌≡◌, ◌≢◌, ◌≤◌}
+use Rattle.chess_rules.proofs.Chess.{Bishop, Black, Colour, Direction, East, Gait, Hopper, Kind, Knight, Leaper, Man, Nightrider, North, NorthEast, NorthWest, Pawn, Rider, Rook, South, SouthEast, SouthWest, Step, West, White, along, any_range_false, any_range_same, gait_of, goes_by, hops, is_clear, is_occupied, is_square, kind_steps, leaps, man_on, place, reaches_as, rides, step_of}
+use Rattle.chess_rules.proofs.rays.Ends.{square_is}
+use Rattle.chess_rules.proofs.attacks.FairyLines.{knight_directions, queen_directions}
+use Rattle.chess_rules.proofs.rays.Ahead.{Ordered, ordered}
+use Rattle.chess_rules.proofs.rays.Ends.{stays}
 
 -- men stand on the same squares, t apart
 pub record StandAlike (men others : List (Option Man)) (t : ℕ) : Type 0 where
   pub alike : (q : ℕ) → q ≢ t → is_some (man_on men q) ≡ is_some (man_on others q)
-
-occupied_alike : (men others : List (Option Man)) (t : ℕ) (o : Option ℕ) → StandAlike men others t → o ≢ Some t → is_occupied men o ≡ is_occupied others o
-occupied_alike men others t o a ne = grind arith
 
 -- a line doesn't come to its end before
 pub not_yet : (s t : ℕ) (d : Step) (k i : ℕ) → Ordered d → along s d k ≡ Some t → i < k → along s d i ≢ Some t
@@ -14,10 +16,7 @@ not_yet s t d k i o at lt here = let less : place d t < place d t = o.in_order s
 
 all_range_same : (p q : ℕ → Bool) (a n : ℕ) → ((k : ℕ) → a ≤ k → k < a + n → p k ≡ q k) → list_all p (range_with_len a n) ≡ list_all q (range_with_len a n)
 all_range_same p q a zero h = refl
-all_range_same p q a (suc n) h =
-    let r : list_all p (range_with_len (a + 1) n) ≡ list_all q (range_with_len (a + 1) n) =
-    all_range_same p q (a + 1) n (λ k lo hi. h k (omega arith) (omega arith)) in
-    (λ j. h a (omega arith) (omega arith) j && r j)
+all_range_same p q a (suc n) h = (λ j. h a (omega arith) (omega arith) j && all_range_same p q (a + 1) n (λ k lo hi. h k (omega arith) (omega arith)) j)
 
 clear_alike : (men others : List (Option Man)) (s t : ℕ) (d : Step) (k n : ℕ) → Ordered d → StandAlike men others t → along s d k ≡ Some t → n < k
     → is_clear men s d n ≡ is_clear others s d n
@@ -40,27 +39,27 @@ same_steps f g h White Pawn = same_along (NorthWest ∷ NorthEast ∷ []) f g h
 same_steps f g h Black Pawn = same_along (SouthWest ∷ SouthEast ∷ []) f g h
 same_steps f g h c k = same_along queen_directions f g h
 
-ways_alike : (g : Gait) (men others : List (Option Man)) (s t : ℕ) (d : Step) → Ordered d → StandAlike men others t
-    → goes_by g men s t d ≡ goes_by g others s t d
+ways_alike : (g : Gait) (men others : _) (s t : ℕ) (d : Step) → Ordered d → StandAlike men others t → goes_by g men s t d ≡ goes_by g others s t d
 unfolding rides hops
 ways_alike Leaper men others s t d o a = refl
 ways_alike Rider men others s t d o a =
     any_range_same (λ k. is_square (along s d k) t && is_clear men s d (k - 1)) (λ k. is_square (along s d k) t && is_clear others s d (k - 1)) 1 7
     (grind (arith, cases_Bool, clear_alike, square_is, and_left))
-ways_alike Hopper men others s t d o a =
-    any_range_same (λ k. is_square (along s d k) t && is_occupied men (along s d (k - 1)) && is_clear men s d (k - 2))
+ways_alike Hopper men others s t d o a = any_range_same (λ k. is_square (along s d k) t && is_occupied men (along s d (k - 1)) && is_clear men s d (k - 2))
     (λ k. is_square (along s d k) t && is_occupied others (along s d (k - 1)) && is_clear others s d (k - 2)) 2 6
-    (λ k lo hi. elim (cases_Bool (is_square (along s d k) t)) [
-      | inl y ↦ grind (arith, square_is _ t y, occupied_alike, not_yet s t d k (k - 1) o, clear_alike men others s t d k (k - 2) o a)
-      | inr n ↦ rw n refl
-    ])
+    (λ k lo hi. let end = square_is (along s d k) t in
+    grind (arith, cases_Bool, end, a.alike, not_yet s t d k (k - 1) o, clear_alike men others s t d k (k - 2) o a, and_left))
 
 -- for two boards that differ in who stands on the target
-pub reaches_alike : (men others : List (Option Man)) (c : Colour) (j : Kind) (s t : ℕ) → StandAlike men others t
-    → reaches_as men c j s t ≡ reaches_as others c j s t
+pub reaches_alike : (men others : _) (c : Colour) (j : Kind) (s t : ℕ) → StandAlike men others t → reaches_as men c j s t ≡ reaches_as others c j s t
 unfolding reaches_as
 reaches_alike men others c j s t a =
     same_steps (goes_by (gait_of j) men s t) (goes_by (gait_of j) others s t) (λ x. ways_alike (gait_of j) men others s t (step_of x) (ordered x) a) c j
+
+-- where no step of the list passes the test
+pub any_false : (f : Step → Bool) (ds : List Step) → ((d : Step) → f d ≡ false) → list_any f ds ≡ false
+any_false f [] none = refl
+any_false f (d ∷ ds) none = or_from _ _ (none d) (any_false f ds none)
 
 -- no way leads back to where it began
 no_return : (s k : ℕ) (d : Step) → Ordered d → s < 64 → 1 ≤ k → is_square (along s d k) s ≡ false
@@ -74,8 +73,5 @@ no_way_back g men s d o small = search (rules, no_return, any_range_false, and_l
 -- nor does a man reach where he stands
 pub no_reach_there : (men : List (Option Man)) (c : Colour) (j : Kind) (s : ℕ) → s < 64 → reaches_as men c j s s ≡ false
 unfolding reaches_as
-no_reach_there men c j s small =
-    same_steps (goes_by (gait_of j) men s s) (λ d. false) (λ x. no_way_back (gait_of j) men s (step_of x) (ordered x) small) c j ∙ none (kind_steps c j) where
-      none : (ds : List Step) → list_any (λ d. false) ds ≡ false
-      none [] = refl
-      none (d ∷ ds) = none ds
+no_reach_there men c j s small = same_steps (goes_by (gait_of j) men s s) (λ d. false) (λ x. no_way_back (gait_of j) men s (step_of x) (ordered x) small) c j
+    ∙ any_false (λ d. false) (kind_steps c j) (λ d. refl)

@@ -1,5 +1,7 @@
 -- Loops over the squares of a word.
-use Rattle.chess_mates.proofs.Chess.{None, Some, arith, bit_at, cases_eq, cases_lt, false≢true, find, find_first, find_no, inl, inr, range_with_len, subst, sym, true, ℕ, ◌+◌, ◌-◌, ◌<◌, ◌==◌, ◌∙◌, ◌≡◌}
+use Rattle.chess_rules.proofs.Basics.{None, Option, Some, arith, bit_at, cases_eq, cases_lt, false≢true, find, inl, inr, range_with_len, subst, sym, true, ℕ, ◌+◌, ◌-◌, ◌<◌, ◌==◌, ◌∙◌, ◌≡◌}
+use Rattle.chess_rules.proofs.Chess.{find_first}
+use Rattle.chess_rules.proofs.Tests.{find_no}
 
 -- what holds of each square of a word below a number
 pub record HoldBelow (w : ℕ) (P : ℕ → Type 0) (n : ℕ) : Type 0 where
@@ -17,12 +19,14 @@ hold_next w P n k h found here =
     record {
       holds = λ s lt on. elim (cases_lt s n) [
         | inl below ↦ h.holds s below on
-        | inr ge ↦ elim (cases_eq s k) [
-          | inl e ↦ subst P (sym e) here
-          | inr ne ↦ absurd (false≢true (sym (first.before s ge (omega arith)) ∙ on))
-        ]
+        | inr ge ↦ let same : s ≡ k = grind (arith, cases_eq s k, first.before s ge) in rw same here
       ];
     }
+
+-- the same for search
+pub hold_on : (w : ℕ) (P : ℕ → Type 0) (n k i : ℕ) (o : Option ℕ) → HoldBelow w P n → o ≡ find (λ s. bit_at w s == 1) (range_with_len n (64 - n)) → o ≡ Some k
+    → i ≡ k → P k → HoldBelow w P (i + 1)
+hold_on w P n k i o h next some at here = rw at (hold_next w P n k h (sym next ∙ some) here)
 
 -- for its end: what holds of each square that was found holds of all
 pub hold_all : (w : ℕ) (P : ℕ → Type 0) (n : ℕ) → HoldBelow w P n → find (λ s. bit_at w s == 1) (range_with_len n (64 - n)) ≡ None → (s : ℕ) → s < 64

@@ -1,5 +1,0 @@
-use Rattle.chess_mates.proofs.Chess.{rules}
-use Rattle.chess_mates.proofs.flights.held_squares.Goals as goal
-
-pub returns : goal.returns
-returns c = search rules
