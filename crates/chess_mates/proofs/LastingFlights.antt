@@ -1,10 +1,10 @@
 -- Flights that one move can't take.
-use Rattle.chess_mates.proofs.Chess.{AreApproached, AreAttackers, AreGuarded, AreNear, Attackers, Bishop, Colour, Grasshopper, IfSome, IsAttacker, IsLeft, IsMade, IsWellFormed, KeepsOne, King, Knight, LeaveOne, List, Man, Move, Nightrider, None, Option, Pawn, Position, Queen, Rook, RuleSet, Some, [], after_well_formed, all_triples, and_from, and_left, and_parts, and_right, ap, arith, arrival_needed, arrived, arriving_colour, arriving_man, bit_and, bit_at, bit_at_and, bit_not, bit_or, capture_square, captures_do_more, cases_Bool, castle_of, eq-eqb, eqb-true, false, false_by, false_from_ne_true, false≢true, find, find_first, has_flight, inl, inr, is_arrival_free, is_attacked, is_attacker, is_castling, is_flight, is_flight_at, is_man, is_of_colour, is_open, is_promoting, is_pseudo_legal, is_square, king_after, king_is_after, king_square, king_stands, leaps, list_any, made, maker, man_on, mates, mates_behind, may_go, may_go_aimed, men_on, not, off_left, off_right, off_second, off_zero, on_board, on_first, on_left, on_right, or_lt, other, other_twice, position_after, queen_steps, range_with_len, reaches, reaches_as, reaches_back, reaches_of, refl, rules, same_colour, same_colour-refl, same_colour-true, same_kind, same_kind-true, side_of, simple_after, some_square_false, some_square_true, square_is, squares_of, sym, taken, triple_at, true, w64, word, word_has, ℕ, ◌&&◌, ◌<◌, ◌==◌, ◌^◌, ◌∙◌, ◌≡◌, ◌≢◌, ◌⊎◌}
+use Rattle.chess_mates.proofs.Chess.{AreApproached, AreAttackers, AreGuarded, AreNear, Attackers, Bishop, Colour, Grasshopper, IfSome, IsAttacker, IsLeft, IsMade, IsWellFormed, KeepsOne, King, Knight, LeaveOne, List, Man, Move, Nightrider, None, Option, Pawn, Position, Queen, Rook, RuleSet, Some, [], after_well_formed, all_triples, and_from, and_left, and_parts, and_right, ap, arith, arrival_needed, arrived, arriving_colour, arriving_man, bit_and, bit_at, bit_at_and, bit_not, bit_or, capture_square, captures_do_more, cases_Bool, castle_of, eq-eqb, eqb-true, false, false_by, false_from_ne_true, false≢true, find, find_first, has_flight, inl, inr, is_arrival_free, is_attacked, is_attacker, is_castling, is_flight, is_flight_at, is_man, is_of_colour, is_open, is_promoting, is_pseudo_legal, is_square, king_after, king_is_after, king_square, king_stands, made, maker, man_on, mates, mates_behind, may_go, may_go_aimed, men_on, not, off_left, off_right, off_second, off_zero, on_board, on_first, on_left, on_right, or_lt, other, other_twice, position_after, range_with_len, reaches, reaches_as, reaches_back, reaches_of, refl, rules, same_colour, same_colour-refl, same_colour-true, same_kind, same_kind-true, simple_after, some_square_false, some_square_true, square_is, sym, taken, triple_at, true, w64, word, word_has, ℕ, ◌&&◌, ◌<◌, ◌==◌, ◌^◌, ◌∙◌, ◌≡◌, ◌≢◌, ◌⊎◌}
 use Rattle.chess_mates.proofs.KindByKind.{HoldsOf, of_all}
 use Rattle.chess_mates.specs.ties.LastingFlights.{AreReached, LeavesOne}
 use Rattle.chess_mates.proofs.CheckTargets.{last_rank_on}
 use Rattle.chess_mates.proofs.FarMen.{off_denied}
-use Rattle.chess_mates.proofs.Fleeing.{IsKingOn, IsKingStep, king_on, no_king_free, no_mate_with_flight, no_strike, step_is_legal, step_to, unseen_bit}
+use Rattle.chess_mates.proofs.Fleeing.{IsKingOn, IsKingStep, king_on, no_king_free, no_mate_with_flight, no_strike, step_is_legal, step_to}
 use Rattle.chess_mates.proofs.Mating.{mates_behind-end, mates_behind-none, not_mating, turn_after}
 use Rattle.chess_mates.proofs.Hurdles.{hops_openly}
 use Rattle.chess_mates.proofs.OpenBoard.{any_reach}
@@ -109,21 +109,6 @@ first_there squares targets a o first t x are only found small on off =
       off = λ e. false≢true (sym (off_right a o t free) ∙ word_has (λ q. is_square (Some first) q) o t only small ∙ eq-eqb first t e);
       unreached = λ men. false_from_ne_true _ (λ h. false≢true (sym (off_left a o t free) ∙ are.inside men t small h));
     }
-
--- the squares next to the king
-pub near_are : (p : Position) (m : Move) (k n s y o : ℕ) → n ≡ word (λ t. list_any (leaps k t) queen_steps) → s ≡ side_of p.men p.turn
-    → y ≡ squares_of p.men (other p.turn) King → o ≡ word (λ t. is_square (Some m.to) t)
-    → AreNear p m k (bit_and (bit_and (bit_and n (bit_not w64 s)) (bit_not w64 y)) (bit_not w64 o))
-unfolding side_of squares_of
-near_are p m k n s y o near own king only = record {
-  next = λ f small on. sym (word_has (λ t. list_any (leaps k t) queen_steps) n f near small) ∙ on_first n _ f (on_first _ _ f (on_first _ _ f on));
-  arrival = λ f small on e. false≢true (sym (unseen_bit (λ t. is_square (Some m.to) t) _ o f only small on)
-      ∙ word_has (λ t. is_square (Some m.to) t) o f only small ∙ eq-eqb m.to f (sym e));
-  own = λ f small on. sym (word_has (λ t. is_of_colour (man_on p.men t) p.turn) s f own small)
-      ∙ unseen_bit (λ t. is_of_colour (man_on p.men t) p.turn) n s f own small (on_first _ _ f (on_first _ _ f on));
-  king = λ f small on. sym (word_has (λ t. is_man (man_on p.men t) (other p.turn) King) y f king small)
-      ∙ unseen_bit (λ t. is_man (man_on p.men t) (other p.turn) King) _ y f king small (on_first _ _ f on);
-}
 
 -- for `keeps_one`: the squares that nobody guards can't all be taken
 pub keeps_one : (a : Attackers) (w g : ℕ) → g < 2 ^ 64 → AreGuarded a g → LeaveOne a (bit_and w (bit_not w64 g)) → KeepsOne a w
@@ -324,7 +309,7 @@ module _ (rule : RuleSet) (p : Position) (m : Move) (x : Man) (k w : ℕ) (well 
     | inr not ↦ not_mating rule q (triple_at i) not
   ]
 
-  -- for `keeps_flight`
+  -- no reply mates, whatever is played
   pub no_mate_behind : mates_behind rule q 0 ≡ []
   no_mate_behind =
       mates_behind-none rule q 0 all_triples (λ lt. omega arith) (omega arith) (record { fails = λ i lo hi. none_mates i })
