@@ -1,10 +1,10 @@
 -- Flights that one move can't take.
-use Rattle.chess_mates.proofs.Chess.{AreApproached, AreAttackers, AreGuarded, AreNear, Attackers, Bishop, Grasshopper, IfSome, IsAttacker, IsLeft, IsMade, IsWellFormed, KeepsOne, King, Knight, LeaveOne, Man, Move, Nightrider, None, Option, Pawn, Position, Queen, Rook, RuleSet, Some, [], after_well_formed, all_triples, and_parts, arith, arrival_needed, arrived, arriving_colour, bit_and, bit_at, bit_at_and, bit_not, bit_or, captures_do_more, cases_Bool, castle_of, eq-eqb, eqb-true, every_square_on, false, false_by, false_from_ne_true, false≢true, find, find_first, is_arrival_free, is_castling, is_promoting, is_pseudo_legal, is_square, king_after, king_is_after, king_square, leaps, length, list_any, made, maker, man_on, mates, mates_behind, may_go_aimed, men_on, not, off_left, off_right, off_second, off_zero, on_board, on_first, on_left, on_right, or_lt, other, other_twice, position_after, queen_steps, range_with_len, reaches_as, reaches_back, rules, same_colour-refl, same_kind, same_kind-true, side_of, simple_after, squares_of, sym, triple_at, true, w64, word, word_has, ℕ, ◌<◌, ◌==◌, ◌^◌, ◌∙◌, ◌≡◌, ◌≢◌}
+use Rattle.chess_mates.proofs.Chess.{AreApproached, AreAttackers, AreGuarded, AreNear, Attackers, Bishop, Colour, Grasshopper, IfSome, IsAttacker, IsLeft, IsMade, IsWellFormed, KeepsOne, King, Knight, LeaveOne, List, Man, Move, Nightrider, None, Option, Pawn, Position, Queen, Rook, RuleSet, Some, [], after_well_formed, all_triples, and_from, and_left, and_parts, and_right, ap, arith, arrival_needed, arrived, arriving_colour, arriving_man, bit_and, bit_at, bit_at_and, bit_not, bit_or, capture_square, captures_do_more, cases_Bool, castle_of, eq-eqb, eqb-true, every_square_on, false, false_by, false_from_ne_true, false≢true, find, find_first, has_flight, inl, inr, is_arrival_free, is_attacked, is_attacker, is_castling, is_flight, is_flight_at, is_man, is_of_colour, is_open, is_promoting, is_pseudo_legal, is_square, king_after, king_is_after, king_square, king_stands, leaps, length, list_any, made, maker, man_on, mates, mates_behind, may_go, may_go_aimed, men_on, not, off_left, off_right, off_second, off_zero, on_board, on_first, on_left, on_right, or_lt, other, other_twice, position_after, queen_steps, range_with_len, reaches, reaches_as, reaches_back, reaches_of, refl, rules, same_colour, same_colour-refl, same_colour-true, same_kind, same_kind-true, side_of, simple_after, some_square_false, some_square_true, square_is, squares_of, sym, taken, triple_at, true, w64, word, word_has, ℕ, ◌&&◌, ◌<◌, ◌==◌, ◌^◌, ◌∙◌, ◌≡◌, ◌≢◌, ◌⊎◌}
 use Rattle.chess_mates.proofs.KindByKind.{HoldsOf, of_all}
 use Rattle.chess_mates.specs.ties.LastingFlights.{AreReached, LeavesOne}
 use Rattle.chess_mates.proofs.CheckTargets.{last_rank_on}
 use Rattle.chess_mates.proofs.FarMen.{off_denied}
-use Rattle.chess_mates.proofs.Fleeing.{IsKingOn, king_waits, no_mate_with_flight, step_to, unseen_bit}
+use Rattle.chess_mates.proofs.Fleeing.{IsKingOn, IsKingStep, king_on, king_waits, no_king_free, no_mate_with_flight, no_strike, step_is_legal, step_to, unseen_bit}
 use Rattle.chess_mates.proofs.Mating.{mates_behind-end, mates_behind-none, not_mating, turn_after}
 use Rattle.chess_mates.proofs.Hurdles.{found_on, hops_openly}
 use Rattle.chess_mates.proofs.Standing.{arrival_small, has_one, no_hopper, not_mine, stood, unnamed}
@@ -75,18 +75,6 @@ first_there squares targets a o first t x are only found small on off =
     let free = off_second targets (bit_or a o) t off on in
     let apart : first ≢ t = λ e. grind (arith, off_right a o t free, word_has _ o t only small, eq-eqb) in
     search (rules, is, apart, are.inside, off_left a o t free, false_from_ne_true, false≢true)
-
--- the squares next to the king
-pub near_are : (p : Position) (m : Move) (k n s y o : ℕ) → n ≡ word (λ t. list_any (leaps k t) queen_steps) → s ≡ side_of p.men p.turn
-    → y ≡ squares_of p.men (other p.turn) King → o ≡ word (λ t. is_square (Some m.to) t)
-    → AreNear p m k (bit_and (bit_and (bit_and n (bit_not w64 s)) (bit_not w64 y)) (bit_not w64 o))
-unfolding side_of squares_of
-near_are p m k n s y o near own king only = record {
-  next = λ f small on. search (rules, word_has _ n f near small, on_first);
-  arrival = λ f small on e. search (rules, false≢true, unseen_bit, word_has _ o f only small, eq-eqb);
-  own = λ f small on. search (rules, word_has _ s f own small, unseen_bit, on_first);
-  king = λ f small on. search (rules, word_has _ y f king small, unseen_bit, on_first);
-}
 
 -- for `keeps_one`: the squares that nobody guards can't all be taken
 pub keeps_one : (a : Attackers) (w g : ℕ) → g < 2 ^ 64 → AreGuarded a g → LeaveOne a (bit_and w (bit_not w64 g)) → KeepsOne a w
@@ -161,6 +149,6 @@ module _ (rule : RuleSet) (p : Position) (m : Move) (x : Man) (k w : ℕ) (well 
   none_mates : (i : ℕ) → mates rule q (triple_at i) ≡ false
   none_mates i = grind (arith, cases_Bool, unmated (triple_at i) (arrival_small i), maker rule q (triple_at i), not_mating)
 
-  -- for `keeps_flight`
+  -- no reply mates, whatever is played
   pub no_mate_behind : mates_behind rule q 0 ≡ []
   no_mate_behind = search (rules, mates_behind-none rule q 0 all_triples, none_mates, mates_behind-end)

@@ -1,28 +1,20 @@
 //! Flights that one move can't take, told before the defender's move: the enemy's men count as if no other
 //! stood on the board, so it doesn't matter who goes, captures or is captured.
-ghost use Rattle.std.specs.Prelude.{◌≡◌, ◌≢◌, ◌<◌, ◌==◌, [], ℕ, IfSome, Some, not, true, false};
+ghost use Rattle.std.specs.Prelude.{◌≡◌, ◌≢◌, ◌<◌, ◌==◌, ℕ, IfSome, true, false};
 ghost use Rattle.std.specs.Int.{bit_at};
 ghost use Rattle.chess_core.specs.Position.{same_kind};
 ghost use Rattle.chess_core.specs.SquareNames.{e1, e8};
-ghost use Rattle.chess_core.specs.WellFormed.{IsWellFormed};
 ghost use Rattle.chess_core.specs.declared.man.Kind.TheVariants.{King};
 ghost use Rattle.chess_core.specs.declared.man.Man.{Man};
-ghost use Rattle.chess_mates.specs.ties.LastingFlights.{AreApproached, AreGuarded, AreNear, AreReached, IsLeft, KeepsOne, LeaveOne, LeavesOne};
-ghost use Rattle.chess_mates.specs.ties.Mates.{mates_behind};
-ghost use Rattle.chess_rules.specs.Legal.{is_legal};
-ghost use Rattle.chess_rules.specs.Play.{is_castling, position_after};
-ghost use Rattle.chess_rules.specs.RuleSet.{captures_do_more};
+ghost use Rattle.chess_mates.specs.ties.LastingFlights.{AreApproached, AreGuarded, AreReached, IsLeft, KeepsOne, LeaveOne, LeavesOne};
 ghost use Rattle.chess_rules.specs.ties.Sight.{king_after};
 ghost use Rattle.chess_rules.specs.ties.Targets.{is_promoting};
 
-use crate::attackers::{Attackers, MOST_ATTACKERS, attackers_on};
+use crate::attackers::Attackers;
 use crate::open_board::{open_reach, open_targets};
 use chess_core::board::Board;
 use chess_core::man::{Colour, Kind, Man, Move};
 use chess_core::square::{Square, Squares};
-use chess_rules::leaps::king_leaps;
-use chess_rules::play::is_castling;
-use chess_rules::rules::Rules;
 use chess_rules::words::{contains, next_bit, only};
 
 // Those that the men of this kind reach so, who stand on the squares of a word.
@@ -198,17 +190,6 @@ pub(crate) fn king_after(board: &Board, man: Man, m: &Move) -> Option<Square>
     board.king_of(board.turn())
 }
 
-// The squares next to the king on `king` on which no man of the mover stands, neither before the move nor after it,
-// and not the enemy's king.
-#[tactic(auto, using(crate::proofs::LastingFlights::near_are))]
-fn near_squares(board: &Board, m: &Move, king: Square) -> Squares
-    ensures { AreNear board.now m.now king result }
-{
-    let mover = board.turn();
-    let enemy_king = board.squares(mover.other(), Kind::King);
-    king_leaps(king) & !board.side(mover) & !enemy_king & !only(Some(m.to))
-}
-
 // Whether those of the squares that none of the men reaches, were the others gone, can't all be taken with one move.
 #[tactic(auto, using(crate::proofs::LastingFlights::keeps_one))]
 #[inline(always)]
@@ -218,49 +199,4 @@ pub(crate) fn keeps_one(men: &Attackers, guarded: Squares, near: Squares) -> boo
 {
     let squares = near & !guarded;
     squares != 0 && leave_one(squares, men)
-}
-
-// Whether such flights are looked for: not in Circe, nor beside many enemies.
-fn are_looked_for<R: Rules>(board: &Board) -> bool
-    ensures { result ≡ true → captures_do_more R.rule ≡ false }
-{
-    let enemy = board.turn().other();
-    !R::captures_do_more() && board.side(enemy).count_ones() <= MOST_ATTACKERS
-}
-
-// Whether the man doesn't castle.
-fn goes_alone(man: Man, m: &Move) -> bool
-    ensures { result ≡ not (is_castling man m.now) }
-{
-    !is_castling(man, m)
-}
-
-/// Where it answers `true`, no reply to this move mates: the king keeps a flight, whatever is played. `false`
-/// says nothing: so it answers where kings castle, in Circe, and beside many men of the other side.
-pub fn keeps_flight<R: Rules>(board: &Board, m: &Move) -> bool
-    requires well_formed { IsWellFormed board.now }
-    requires legal { is_legal R.rule board.now m.now ≡ true }
-    ensures { result ≡ true → mates_behind R.rule (position_after R.rule board.now m.now) 0 ≡ [] }
-{
-    if !are_looked_for::<R>(board) {
-        return false;
-    }
-    let Some(man) = board.man_at(m.from) else {
-        return false;
-    };
-    // For the proof: a square's number is below 64.
-    let _small = m.to.index();
-    if !goes_alone(man, m) {
-        return false;
-    }
-    let Some(king) = king_after(board, man, m) else {
-        return false;
-    };
-    let near = near_squares(board, m, king);
-    if near == 0 {
-        return false;
-    }
-    let enemy = board.turn().other();
-    let men = attackers_on(board, enemy);
-    keeps_one(&men, guarded_squares(&men), near)
 }

@@ -13,7 +13,7 @@ mod field;
 mod flights;
 mod guards;
 mod homes;
-pub mod lasting_flights;
+mod lasting_flights;
 pub mod mating_moves;
 mod open_board;
 mod origins;
@@ -25,5 +25,4 @@ pub mod threats;
 
 pub use crate::aims::aims_at_king;
 pub use crate::every_move::every_move_mates;
-pub use crate::lasting_flights::keeps_flight;
 pub use crate::mating_moves::{MatingMoves, next_mate};

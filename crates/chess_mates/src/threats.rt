@@ -87,13 +87,6 @@ fn unplain_squares<R: Rules>(board: &Board, man: Man, from: Square) -> Squares
     special | altering_squares(board, man, from)
 }
 
-// Whether threats can be told: not where captures do more than that men are reborn.
-fn can_be_told<R: Rules>() -> bool
-    ensures { result ≡ true → IsTold R.rule }
-{
-    !R::captures_do_more() || R::captures_are_reborn()
-}
-
 // Those of the squares that are needed; where captures do more all.
 #[tactic(auto, using(chess_rules::proofs::listing_moves::Walks::off_second))]
 fn unkept_squares<R: Rules>(needed: Squares, squares: Squares) -> Squares
@@ -180,12 +173,11 @@ impl Threats {
         }
     }
 
-    /// Whether they are told at all: not, but in Circe, where the side that isn't to move has only so few men or fewer.
-    pub fn are_told<R: Rules>(board: &Board, few: u32) -> bool
+    /// Whether they are told at all: not where captures do more than that men are reborn.
+    pub fn are_told<R: Rules>() -> bool
         ensures { result ≡ true → IsTold R.rule }
     {
-        (R::captures_do_more() || board.side(board.turn().other()).count_ones() > few)
-            && can_be_told::<R>()
+        !R::captures_do_more() || R::captures_are_reborn()
     }
 
     /// Whether these are the threats in the board's position: they hold in each with the same men and castlings and the
@@ -194,7 +186,7 @@ impl Threats {
         requires { IsWellFormed board.now }
         ensures { result ≡ true → AreThreatsOf R.rule board.now self.now }
     {
-        can_be_told::<R>() && is_of::<R>(&self.siege, board)
+        Threats::are_told::<R>() && is_of::<R>(&self.siege, board)
     }
 
     /// Those of the squares that the man on `from` mustn't come to by a legal move lest a reply may mate. So he mustn't where

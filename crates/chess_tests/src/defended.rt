@@ -57,7 +57,7 @@ fn is_told_wrong<R: Rules>(rule: Rule, board: &mut Board, told: &mut u32) -> boo
     let Some(king) = board.king_of(board.turn()) else {
         return false;
     };
-    if !Threats::are_told::<R>(board, 0) {
+    if !Threats::are_told::<R>() {
         return false;
     }
     let mut threats = Threats::of::<R>(board, king);

@@ -7,8 +7,9 @@ use crate::plain::{self, Plain, Rule, bit};
 use crate::setup::{move_of, moves_of, posed};
 use arrayvec::ArrayVec;
 use chess_core::{Board, Colour, Diagram, Kind, Move, Square};
+use chess_mates::MatingMoves;
 use chess_mates::quiet_steps::QuietSteps;
-use chess_mates::{MatingMoves, keeps_flight};
+use chess_mates::threats::Threats;
 use chess_rules::{Circe, Madrasi, Moves, Orthodox, Rules, is_mate};
 
 // Whether two boards answer every question alike.
@@ -189,29 +190,36 @@ pub(crate) fn has_mates(rule: Rule, position: &str, wanted: &str) -> bool {
     mates.as_slice() == moves_of(wanted).as_slice()
 }
 
-// Whether a flight is kept for good by this move, if it is legal.
-fn keeps_under<R: Rules>(diagram: &Diagram, wanted: Move) -> Option<bool>
+// Whether threats say that no mate follows this move, if it is legal.
+fn is_harmless_under<R: Rules>(diagram: &Diagram, wanted: Move) -> Option<bool>
     requires { IsWellFormed (position_of diagram.now) }
 {
     let mut board = Board::of(diagram);
     let mut place = Moves::<R>::start();
     while let Some(m) = place.next(&mut board) {
         if m == wanted {
-            return Some(keeps_flight::<R>(&board, &m));
+            let Some(king) = board.king_of(board.turn()) else {
+                return None;
+            };
+            if !Threats::are_told::<R>() {
+                return None;
+            }
+            let mut threats = Threats::of::<R>(&board, king);
+            return Some(threats.rule_out_mate::<R>(&board, &m));
         }
     }
     None
 }
 
-// Whether the legal move from the position is told to keep a flight, or is not.
-pub(crate) fn is_told_to_keep(rule: Rule, position: &str, m: &str, wanted: bool) -> bool {
+// Whether the legal move from the position is told to be followed by no mate, or is not.
+pub(crate) fn is_told_harmless(rule: Rule, position: &str, m: &str, wanted: bool) -> bool {
     let (Some(diagram), Some(m)) = (posed(position), move_of(m)) else {
         return false;
     };
     let told = match rule {
-        Rule::Orthodox => keeps_under::<Orthodox>(&diagram, m),
-        Rule::Circe => keeps_under::<Circe>(&diagram, m),
-        Rule::Madrasi => keeps_under::<Madrasi>(&diagram, m),
+        Rule::Orthodox => is_harmless_under::<Orthodox>(&diagram, m),
+        Rule::Circe => is_harmless_under::<Circe>(&diagram, m),
+        Rule::Madrasi => is_harmless_under::<Madrasi>(&diagram, m),
     };
     told == Some(wanted)
 }

@@ -11,13 +11,9 @@ ghost use Rattle.pop_solve.specs.declared.aim.Battle.TheVariants.{Direct};
 use crate::aim::Battle;
 use chess_core::board::Board;
 use chess_core::man::Move;
-use chess_mates::lasting_flights::keeps_flight;
 use chess_mates::threats::Threats;
 use chess_rules::moves::Moves;
 use chess_rules::rules::Rules;
-
-// Against so many men or fewer a selfmate asks for no threats: there `keeps_flight` takes less time.
-const FEW_IN_SELFMATES: u32 = 7;
 
 /// For each number of half-moves below 32 the places on the last two moves that decided a position with so many
 /// half-moves left. In a direct mate they are tried first in the next such position; that any place may stand here costs
@@ -88,8 +84,8 @@ impl<R: Rules> Killers<R> {
         }
     }
 
-    /// Keeps the threats in the board's position, if they are told there against more than `few` men, and else none.
-    pub(crate) fn tell_threats(&mut self, board: &Board, few: u32)
+    /// Keeps the threats in the board's position, if they are told, and else none.
+    pub(crate) fn tell_threats(&mut self, board: &Board)
         requires well_formed { IsWellFormed board.now }
         ensures { IfSome self.new.threats (λ t. AreThreatsOf R.rule board.now t) }
     {
@@ -97,7 +93,7 @@ impl<R: Rules> Killers<R> {
             self.threats = None;
             return;
         };
-        if !Threats::are_told::<R>(board, few) {
+        if !Threats::are_told::<R>() {
             self.threats = None;
             return;
         }
@@ -109,18 +105,15 @@ impl<R: Rules> Killers<R> {
         self.threats = Some(Threats::of::<R>(board, king));
     }
 
-    /// Whether no reply to this move mates, told by `keeps_flight` or by the threats in the board's position, which are kept
-    /// for its other moves. `false` says nothing.
+    /// Whether no reply to this move mates, told by the threats in the board's position, which are kept for its other moves.
+    /// `false` says nothing.
     pub fn rule_out_mate(&mut self, board: &Board, m: &Move) -> bool
         requires well_formed { IsWellFormed board.now }
         requires legal { is_legal R.rule board.now m.now ≡ true }
         ensures { result ≡ true
             → mates_behind R.rule (position_after R.rule board.now m.now) 0 ≡ [] }
     {
-        if keeps_flight::<R>(board, m) {
-            return true;
-        }
-        self.tell_threats(board, FEW_IN_SELFMATES);
+        self.tell_threats(board);
         let Some(threats) = &mut self.threats else {
             return false;
         };

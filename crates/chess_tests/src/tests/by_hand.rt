@@ -1,6 +1,6 @@
 //! Small positions whose legal moves, or mates, are worked out by hand.
 use crate::plain::Rule;
-use crate::probe::{has_mates, has_moves, is_told_to_keep, is_told_to_step};
+use crate::probe::{has_mates, has_moves, is_told_harmless, is_told_to_step};
 
 // The rules, the position, and the legal moves of White.
 const LEGAL_MOVES: [(Rule, &str, &str); 28] = [
@@ -194,41 +194,37 @@ const MATES: [(Rule, &str, &str); 11] = [
     (Rule::Orthodox, "7k/5P2/6K1/8/8/8/8/8", "f7f8Q f7f8R"),
 ];
 
-// The rules, a position of Black's, his legal move, and whether he is told to keep a flight.
-const KEPT: [(Rule, &str, &str, bool); 14] = [
+// The rules, a position of Black's, his legal move, and whether it is told that no mate follows.
+const HARMLESS: [(Rule, &str, &str, bool); 15] = [
     // A rook takes one file or one rank, and the king has more.
     (Rule::Orthodox, "8/8/8/3k4/8/8/8/K6R b", "d5e5", true),
+    (Rule::Circe, "8/8/8/3k4/8/8/8/K6R b", "d5e5", true),
     (Rule::Madrasi, "8/8/8/3k4/8/8/8/K6R b", "d5e5", true),
-    // In Circe nothing is told, since men come back.
-    (Rule::Circe, "8/8/8/3k4/8/8/8/K6R b", "d5e5", false),
+    // The rook checks if it captures the knight, but the king keeps a flight. In Circe such flights aren't looked for.
+    (Rule::Orthodox, "8/8/3k4/8/K7/1s6/3R4/8 b", "b3d4", true),
+    (Rule::Circe, "8/8/3k4/8/K7/1s6/3R4/8 b", "b3d4", false),
     // The rook mates on h8.
     (Rule::Orthodox, "k7/8/1K6/8/8/8/8/7R b", "a8b8", false),
-    // Whoever castles isn't told, nor is anything where White's king stands at home.
+    // Nothing is told of castling.
     (
         Rule::Orthodox,
         "r3k3/8/8/8/8/8/8/K6R a8 e8 b",
         "e8c8",
         false,
     ),
-    (
-        Rule::Orthodox,
-        "8/8/8/3k4/8/8/8/4K2R e1 h1 b",
-        "d5d6",
-        false,
-    ),
-    // A pawn before its last rank may become anybody, and a grasshopper may get anywhere.
+    // A pawn before its last rank may become anybody.
     (Rule::Orthodox, "8/P7/8/4k3/8/8/8/K7 b", "e5e4", false),
-    (Rule::Orthodox, "8/8/8/4k3/8/8/8/K6G b", "e5e4", false),
-    // The king takes the last man; a man takes the rook, and may be taken himself.
-    (Rule::Orthodox, "8/8/8/3k4/4R3/8/8/K7 b", "d5e4", true),
-    (Rule::Orthodox, "8/8/8/3k4/8/2s5/8/KR6 b", "c3b1", true),
     // Two steps are looked for from any square, so this pawn counts as one that may be promoted.
     (Rule::Orthodox, "8/8/P7/4k3/8/8/8/K7 b", "e5e4", false),
+    // A grasshopper comes next to the king on few squares.
+    (Rule::Orthodox, "8/8/8/4k3/8/8/8/K6G b", "e5e4", true),
+    // The king takes the last man; a man takes the rook, and may be taken himself. Of captures in Circe nothing is told.
+    (Rule::Orthodox, "8/8/8/3k4/4R3/8/8/K7 b", "d5e4", true),
+    (Rule::Circe, "8/8/8/3k4/4R3/8/8/K7 b", "d5e4", false),
+    (Rule::Orthodox, "8/8/8/3k4/8/2s5/8/KR6 b", "c3b1", true),
+    (Rule::Circe, "8/8/8/3k4/8/2s5/8/KR6 b", "c3b1", false),
     // A pawn may go where the king stood; he takes it, or goes elsewhere.
     (Rule::Orthodox, "8/8/8/4k3/4P3/8/8/K7 b", "e5d4", true),
-    // Seven men of the mating side are looked at, eight are not.
-    (Rule::Orthodox, "8/8/8/3k4/8/8/5PPP/K4BSR b", "d5e5", true),
-    (Rule::Orthodox, "8/8/8/3k4/8/8/PPPP4/KRSB4 b", "d5e5", false),
 ];
 
 // The rules, a position of White's, his legal move, and whether Black's king is told to have a quiet step then.
@@ -263,10 +259,10 @@ fn quiet_steps(rt: HostRuntime) {
 }
 
 #[test]
-fn lasting_flights(rt: HostRuntime) {
-    for (rule, position, m, wanted) in &KEPT {
+fn harmless_moves(rt: HostRuntime) {
+    for (rule, position, m, wanted) in &HARMLESS {
         assert!(rt;
-            is_told_to_keep(*rule, position, m, *wanted),
+            is_told_harmless(*rule, position, m, *wanted),
             "{position} {m}"
         );
     }

@@ -1,7 +1,7 @@
 use Rattle.std.proofs.Common.{◌≡◌, length}
 use Rattle.chess_core.specs.Diagrams.{position_of}
 use Rattle.chess_rules.specs.ties.Places.{moves_behind}
-use Rattle.chess_tests.proofs.probe.keeps_under.Given as goal
+use Rattle.chess_tests.proofs.probe.is_harmless_under.Given as goal
 
 -- the board is the diagram's
 abbrev pub invariant-loop-m : goal.invariant-loop-m
