@@ -4,7 +4,7 @@ use Rattle.chess_mates.proofs.KindByKind.{HoldsOf, of_all}
 use Rattle.chess_mates.specs.ties.LastingFlights.{AreReached, LeavesOne}
 use Rattle.chess_mates.proofs.CheckTargets.{last_rank_on}
 use Rattle.chess_mates.proofs.FarMen.{off_denied}
-use Rattle.chess_mates.proofs.Fleeing.{IsKingOn, IsKingStep, king_on, king_waits, no_king_free, no_mate_with_flight, no_strike, step_is_legal, step_to, unseen_bit}
+use Rattle.chess_mates.proofs.Fleeing.{IsKingOn, IsKingStep, king_on, king_waits, no_king_free, no_mate_with_flight, step_to, unseen_bit}
 use Rattle.chess_mates.proofs.Mating.{mates_behind-end, mates_behind-none, not_mating, turn_after}
 use Rattle.chess_mates.proofs.Hurdles.{found_on, hops_openly}
 use Rattle.chess_mates.proofs.Standing.{arrival_small, has_one, no_hopper, not_mine, stood, unnamed}
