@@ -29,7 +29,7 @@ unfoldable pub use Rattle.pop_parts.specs.ties.PartStages.{StandsInPart, part_le
 pub use Rattle.pop_run.proofs.Findings.{IsPrinting, first_shown, printing_breaks_off, printing_goes_on}
 pub use Rattle.chess_rules.specs.Legal.{moves as legal_moves}
 pub use Rattle.chess_rules.specs.Play.{position_after}
-pub use Rattle.pop_solve.proofs.Kept.{beginning_count-next, keep-next, map-same}
+pub use Rattle.pop_solve.proofs.Kept.{beginning_count-next, keep-next}
 pub use Rattle.pop_input.specs.declared.item.Item.{Item}
 pub use Rattle.pop_input.specs.ties.Used.{UsesEntry, UsesItem}
 pub use Rattle.pop_run.proofs.Reached.{Reached, Stopped, item_reached, item_stops, last_few, reached_few, reached_start, start_few, still_more, stopped_last, stopped_reads, stopped_reads_words, stops_few}
