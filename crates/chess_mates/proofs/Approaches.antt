@@ -52,9 +52,10 @@ no_far_step s t p q far = not-true _ (implied _ _ (pairs (λ s t. not (is_far s 
 abbrev pawn_steps : Colour → ℕ → ℕ → Bool
 pawn_steps c s t = is_square (along s (forward c) 1) t || (rank_of s == second_rank c && is_square (along s (forward c) 2) t)
 
-abbrev pub pawn_way : Colour → ℕ → ℕ → Bool
+abbrev pawn_way : Colour → ℕ → ℕ → Bool
 pawn_way c s t = list_any (leaps s t) (pawn_capture_steps c) || pawn_steps c s t
 
+-- a pawn that may go goes so
 pub takes_or_steps : (p : Position) (c : Colour) (s t : ℕ) → may_go p (record { colour = c; kind = Pawn }) s t ≡ true → pawn_way c s t ≡ true
 unfolding may_go reaches_as
 takes_or_steps p c s t goes = search (rules, and_parts, or_cases, or_left, or_right)

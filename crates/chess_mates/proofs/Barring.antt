@@ -117,6 +117,7 @@ module _ (rule : RuleSet) (p : Position) (m : Move) (x : Man) (v : Siege) (well 
   checked = ap (λ (o : Option ℕ). is_attacked_at rule q.men o (other p.turn)) king_q
       ∙ some_square_true (is_attacker rule q.men m.to (other p.turn)) a.from a.stands.small strikes
 
+  -- the king would be in check after the move, so it is illegal
   pub barred_is_illegal : is_legal rule p m ≡ true → ⊥
   unfolding is_legal
   barred_is_illegal legal = grind (arith, checked, legal)

@@ -62,16 +62,20 @@ king_waits rule p x m c well is small e = king_stands p.men m.from (capture_squa
 
 -- the men after the move, and the king among them
 module _ (rule : RuleSet) (p : Position) (m : Move) (x : Man) (k : ℕ) (i : IsSeenFrom rule p m x k) where
+  -- the move has what the definition asks of it
   pub is_made : IsMade rule p x m
   is_made = made rule p m x i.pseudo i.here
 
+  -- nobody castles or is reborn: the men after the move are those once its man has arrived
   pub after_seen : (position_after rule p m).men ≡ arrived p x m
   after_seen = search (rules, simple_after, i.simple, and_parts, not-true)
 
+  -- the man that arrives is none of the side that waits
   pub no_own_arrives : same_colour (arriving_man x m.promo).colour (other p.turn) ≡ false
   no_own_arrives = grind (arith, arriving_colour, is_made, other_differs)
 
   module _ (small : m.to < 64) where
+    -- its king stands where he stood
     pub king_seen : king_square (position_after rule p m).men (other p.turn) ≡ Some k
     king_seen = search (rules, after_seen, king_waits rule p x m (other p.turn) i.well_formed is_made small refl, i.king)
 
@@ -140,6 +144,7 @@ pub record IsStepSeen (men : List (Option Man)) (a : ℕ) (o : Option ℕ) (b : 
     pub size : length men ≡ 64
     pub arrived : (l : List (Option Man)) → (sight_lifted men a o b k).occupied ≡ occupied_squares l → r ≡ word (reaches_as l z.colour z.kind b)
 
+-- where men stand on the same squares, t apart, whoever reaches t on one board reaches it on the other
 pub reaches_alike_of : (men others : List (Option Man)) (o : Option Man) (s t : ℕ) → StandAlike men others t → reaches_of men o s t ≡ reaches_of others o s t
 reaches_alike_of men others o s t a = grind (arith, reaches_alike)
 
@@ -192,6 +197,7 @@ pub record IsOpenTo (rule : RuleSet) (men : List (Option Man)) (c : Colour) (k t
   pub free : is_arrival_free c (man_on men t) ≡ true
   pub nobody : captures_do_more rule ≡ true → man_on men t ≡ None
 
+-- each open square has them
 pub open_parts : (rule : RuleSet) (men : List (Option Man)) (c : Colour) (k t : ℕ) → is_open rule men c k t ≡ true → IsOpenTo rule men c k t
 unfolding is_open
 open_parts rule men c k t h = search rules
@@ -237,6 +243,7 @@ pub record IsKingOn (men : List (Option Man)) (c : Colour) (k : ℕ) (x : Man) :
 pub king_on : (men : List (Option Man)) (c : Colour) (k : ℕ) → king_square men c ≡ Some k → (x : Man) × IsKingOn men c k x
 king_on men c k at = grind (arith, king_there men c k, man_there, and_parts)
 
+-- a man of the other side is none of this one
 pub king_is_other : (x : Man) (c : Colour) → same_colour x.colour (other c) ≡ true → same_colour x.colour c ≡ false
 king_is_other x c h = search rules
 
@@ -245,21 +252,26 @@ pub no_king_square : (men : List (Option Man)) (c d : Colour) (k b : ℕ) → ki
 no_king_square men c d k b at free e = grind (arith, false≢true, no_king_free c d (man_on men b) free, king_there men d k)
 
 module _ (rule : RuleSet) (p : Position) (m : Move) (x : Man) (k : ℕ) (i : IsSeenFrom rule p m x k) (small : m.to < 64) where
+  -- the king's step after the move meets what is asked of the squares
   pub is_step : (y : Man) (t : ℕ) → t < 64 → IsKingOn (position_after rule p m).men (other p.turn) k y
       → IsStep p.men m.from (capture_square p x m) m.to k (capture_square (position_after rule p m) y (step_to k t)) t y p.turn
   is_step y t there king =
       let free = (is_made rule p m x k i).arrival in
       grind (arith, taken, capture_of_piece, king_is_no_pawn, square_is, king_is_other, other_side, king_there, and_parts, not-true, no_king_square)
 
+  -- the square on which his step captures
   abbrev pub step_taken : Man → ℕ → Option ℕ
   step_taken y t = capture_square (position_after rule p m) y (step_to k t)
 
+  -- the men after the move and his step
   abbrev pub men_stepped : Man → ℕ → List (Option Man)
   men_stepped y t = stepped p.men m.from (capture_square p x m) m.to (arriving_man x m.promo) k (step_taken y t) t y
 
+  -- after the move it is the other side's turn
   pub turn_is : (position_after rule p m).turn ≡ other p.turn
   turn_is = turn_after rule p m i.pseudo
 
+  -- to an open square he has a step
   pub king_step : (y : Man) (t : ℕ) → t < 64 → IsKingOn (position_after rule p m).men (other p.turn) k y
       → is_open rule (position_after rule p m).men (other p.turn) k t ≡ true → IsKingStep rule (position_after rule p m) y k t
   king_step y t there king way = search (rules, after_well_formed, turn_is, i.pseudo)
@@ -274,6 +286,7 @@ module _ (rule : RuleSet) (p : Position) (m : Move) (x : Man) (k : ℕ) (i : IsS
   module _ (n r : ℕ)
       (arrives : (l : List (Option Man)) → (sight_lifted p.men m.from (capture_square p x m) m.to k).occupied ≡ occupied_squares l
       → r ≡ word (reaches_as l (arriving_man x m.promo).colour (arriving_man x m.promo).kind m.to)) where
+    -- what is seen of an attack on him holds once he has stepped there
     pub step_seen : (y : Man) (t : ℕ) → t < 64 → IsKingOn (position_after rule p m).men (other p.turn) k y
         → IsStepSeen p.men m.from (capture_square p x m) m.to (arriving_man x m.promo) k (step_taken y t) t y p.turn r
     step_seen y t there king = search (rules, is_step y t there king)

@@ -43,6 +43,7 @@ module _ (rule : RuleSet) (p : Position) (m : Move) (x : Man) (k : ℕ) (i : IsS
             _ (seen_stepped p.men m.from (capture_square p x m) m.to k (step_taken rule p m x k i small y t) t y p.turn seen.step)
       ]
 
+  -- in check the king has no legal step
   pub flightless : IsFlightless rule (position_after rule p m)
   flightless = record {
     stays = λ check n kings. false_from_ne_true _ (λ legal.

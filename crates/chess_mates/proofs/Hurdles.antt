@@ -20,6 +20,7 @@ unset n lt h = grind (arith, false≢true)
 pub on_either : (a b i : ℕ) → (bit_at (bit_or a b) i == 1) ≡ true → (bit_at a i == 1) ≡ false → (bit_at b i == 1) ≡ true
 on_either a b i h off = grind (arith, eqb-true, bit_at_or, unset, bit_at-lt, eq-eqb)
 
+-- a square of two words joined is one of the first or of the second
 pub on_one : (a b i : ℕ) → (bit_at (bit_or a b) i == 1) ≡ true → ((bit_at a i == 1) ≡ true) ⊎ ((bit_at b i == 1) ≡ true)
 on_one a b i h = search (rules, cases_Bool, on_either)
 
@@ -30,6 +31,7 @@ bit_small d s = grind (arith, bit_at-lt d s)
 abbrev placed : ℕ → ℕ → Option Man
 placed d s = if bit_at d s == 1 then Some (record { colour = White; kind = Pawn }) else None
 
+-- on such a board a man stands on a square exactly where it is one of the word
 pub one_on : (d s : ℕ) → s < 64 → is_some (man_on (men_on d) s) ≡ (bit_at d s == 1)
 unfolding squares
 one_on d s small = grind (arith, get_or-map-range_with_len (placed d) 0 64 s s None small (omega arith))
@@ -38,6 +40,7 @@ one_on d s small = grind (arith, get_or-map-range_with_len (placed d) 0 64 s s N
 pub occupied_on : (d : ℕ) → d < 2 ^ 64 → d ≡ occupied_squares (men_on d)
 occupied_on d fits = square_word (λ s. is_some (man_on (men_on d) s)) d fits (λ s small. bit_small d s ∙ ap bit_of (sym (one_on d s small)))
 
+-- the board has 64 squares
 pub size_on : (d : ℕ) → length (men_on d) ≡ 64
 unfolding squares
 size_on d = length-map-range_with_len (placed d) 0 64
@@ -54,16 +57,16 @@ found_on w n k found = search (rules, find_first)
 
 -- those that the attackers reach, kind by kind
 module _ (d : ℕ) (a : Attackers) (region : ℕ) where
-  abbrev pub ReachAs : Kind → ℕ → Type 0
+  abbrev ReachAs : Kind → ℕ → Type 0
   ReachAs k w = (s : ℕ) → s < 64 → (bit_at (squares_for a k) s == 1) ≡ true → IsNear (record { colour = a.colour; kind = k }) s region
       → IsReached d (record { colour = a.colour; kind = k }) s w
 
-  pub of_one : (k : Kind) (w : ℕ) → ReachAs k w → AreReached d a region (same_kind k) w
+  of_one : (k : Kind) (w : ℕ) → ReachAs k w → AreReached d a region (same_kind k) w
   of_one k w h = record {
     reach = λ s x i same near. of_kind a (λ y q. IsNear y q region → IsReached d y q w) k s x h i (sym (same_kind-true k x.kind same)) near;
   }
 
-  pub of_either : (j k l : Kind → Bool) (q r : ℕ) → ((i : Kind) → l i ≡ true → (j i || k i) ≡ true) → AreReached d a region j q → AreReached d a region k r
+  of_either : (j k l : Kind → Bool) (q r : ℕ) → ((i : Kind) → l i ≡ true → (j i || k i) ≡ true) → AreReached d a region j q → AreReached d a region k r
       → AreReached d a region l (bit_or q r)
   of_either j k l q r more first second = record {
     reach = λ s x i one near. elim (or_cases (j x.kind) (k x.kind) (more x.kind one)) [
@@ -92,13 +95,14 @@ module _ (d : ℕ) (a : Attackers) (region : ℕ) where
       → AreReached d a region (λ k. not (is_hopper (gait_of k))) (bit_or r l)
   all_reach r l rides leaps = search (rules, of_either)
 
--- the converse: who is reached is attacked
 module _ (d : ℕ) (a : Attackers) where
+  -- the converse: who is reached is attacked
   pub attacked_by : (k : Kind) (t : ℕ) → IsReachedFrom d (record { colour = a.colour; kind = k }) (squares_for a k) t → IsAttackedOver d a t
   attacked_by k t r = search rules
 
 -- on a board where each hurdle that a man reaches over the hurdles still stands, he reaches no more than over them
 module _ (d : ℕ) (men : List (Option Man)) where
+  -- a square off the word is empty over the hurdles
   pub empty_on : (q : ℕ) → ((bit_at d q == 1) ≡ true → q < 64 → ⊥) → is_vacant_at (men_on d) (Some q) ≡ true
   empty_on q none = search (rules, on_board, one_on, size_on)
 
@@ -160,6 +164,7 @@ module _ (men : List (Option Man)) where
   on_line : (o : Option ℕ) → (is_vacant_at men o || is_occupied men o) ≡ true → is_vacant_at (men_on 0) o ≡ true
   on_line o h = grind (arith, empty_on 0 men, off_zero)
 
+  -- where a man hops on some board, he could ride
   pub hop_openly : (s t : ℕ) (st : Step) → hops men s t st ≡ true → rides (men_on 0) s t st ≡ true
   hop_openly s t st h = search (rules, cases_lt, hop-found, on_line, or_left, or_right, ride-made)
 

@@ -9,6 +9,7 @@ use Rattle.chess_mates.proofs.Risks.{denied_on, none_at, none_on}
 pub hopper_is : (k : Kind) → is_hopper (gait_of k) ≡ true → k ≡ Grasshopper
 hopper_is k hop = grind (arith, false≢true)
 
+-- an attacker that is a hopper stands on a square of the grasshoppers' word
 pub grasshopper_on : (a : Attackers) (q : ℕ) (z : Man) → IsAttacker a z q → is_hopper (gait_of z.kind) ≡ true → (bit_at a.grasshoppers q == 1) ≡ true
 grasshopper_on a q z i hop = rw (hopper_is z.kind hop) at i.on
 
@@ -102,6 +103,7 @@ module _ (a : Attackers) (t o l d n r b : ℕ) (inside : t < 64) (only : o ≡ w
         stands = i.stands;
       }
 
+  -- the word has the springboards of t: each hop there is straight or diagonal
   pub springboards_are : AreSpringboards a t Boards
   unfolding reaches_as reached_over
   springboards_are = record {
@@ -130,6 +132,7 @@ free_are v k w o only fits none = search (rules, off_left, off_right, free) wher
 pub unsprung_left : (v : Siege) (k t a b : ℕ) → IsUnsprung v k t a → IsUnsprung v k t (bit_or a b)
 unsprung_left v k t a b h = record { springboards = h.springboards; are = h.are; free = h.free; within = λ s on. on_left a b s (h.within s on) }
 
+-- the same for the second word
 pub unsprung_right : (v : Siege) (k t a b : ℕ) → IsUnsprung v k t b → IsUnsprung v k t (bit_or a b)
 unsprung_right v k t a b h = record { springboards = h.springboards; are = h.are; free = h.free; within = λ s on. on_right a b s (h.within s on) }
 

@@ -66,6 +66,7 @@ pub stood_reborn : (men : List (Option Man)) (o : Option ℕ) (w : Option Man) (
     → (man_on (put_at men o w) s ≡ man_on men s) ⊎ ((o ≡ Some s) × ((y : Man) × ((w ≡ Some y) × (man_on (put_at men o w) s ≡ Some y))))
 stood_reborn men o w s = grind (arith, man_on-with_cases)
 
+-- who stands on one square is one man
 pub same_man : (a b : Man) → Some a ≡ Some b → a ≡ b
 same_man a b h = cc
 

@@ -34,9 +34,11 @@ module _ (men : List (Option Man)) (a : ℕ) (o : Option ℕ) (b : ℕ) (z : Man
     pub on_flight : (q : ℕ) → t < length men → q ≡ t → man_on (stepped men a o b z k u t x) q ≡ Some x
     on_flight q small e = search rules
 
+    -- nobody stands where the king has left
     pub on_left : (q : ℕ) → q ≢ t → (k == q) ≡ true → man_on (stepped men a o b z k u t x) q ≡ None
     on_left q ne y = search (rules, left_now, or_left)
 
+    -- elsewhere who stood there before the king stepped
     pub on_others : (q : ℕ) → ((s : ℕ) → is_square u s ≡ true → s ≡ t) → q ≢ t → (k == q) ≡ false
         → man_on (stepped men a o b z k u t x) q ≡ man_on (gone_to men a o b z) q
     on_others q h ne off = search (rules, kept_now, or_from, taken_nowhere)
@@ -51,11 +53,12 @@ module _ (men : List (Option Man)) (a : ℕ) (o : Option ℕ) (b : ℕ) (z : Man
         → ((is_occupied_after men a o b q && not (k == q)) || t == q) ≡ is_some (man_on (stepped men a o b z k u t x) q)
     stands q arrival flight h = grind (arith, gone_to, length-set, length-without_at, occupied_now)
 
+    -- for the word of occupied squares after the step
     pub occupied_stepped : b < length men → t < length men → ((s : ℕ) → is_square u s ≡ true → s ≡ t)
         → (sight_with (sight_lifted men a o b k) t).occupied ≡ occupied_squares (stepped men a o b z k u t x)
     occupied_stepped arrival flight h = search (rules, squares_both, squares_not, squares_either, stands)
 
-    -- that board and the one after the step differ on the flight alone
+    -- the board with the king lifted and the one after the step differ on the flight alone
     pub lifted_alike : b < length men → t < length men → ((s : ℕ) → is_square u s ≡ true → s ≡ t)
         → StandAlike (stepped men a o b z k u t x) (without_man (gone_to men a o b z) k) t
     lifted_alike arrival flight h = record { alike = λ q ne. search (rules, is_occupied_after, lifted_one q, stands q) }

@@ -70,7 +70,7 @@ fn wanted_squares<R: Rules, S: Sift>(
 }
 
 // The first triple of the man on `from` that is a legal move to one of the squares, from the one numbered `start` on, each
-// counted from the origin's first; 448 where there is none. The board is unchanged.
+// counted from the origin's first; `PER_ORIGIN` where there is none. The board is unchanged.
 fn next_wanted<R: Rules, S: Sift>(
     board: &mut Board,
     known: Known,

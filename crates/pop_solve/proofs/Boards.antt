@@ -87,4 +87,5 @@ module _ (goal : Goal) (rule : RuleSet) (p : Position) where
   unfolding is_mate is_stalemate
   unreached e = search rules
 
+-- for `value_at_once`: what ends a value before a frame is opened
 pub ruleset settling = (for_mate, mate-value, walk_count-some)

@@ -62,11 +62,12 @@ module _ (rule : RuleSet) (plan : Plan) (p : Position) (place before after : ℕ
       → filter (is_mating rule p) (moves_behind rule p place) ≡ filter (is_mating rule p) rest
   no_mate_is_passed_over t = grind (arith, filter-append)
 
-  -- with two no move that some reply mates, and those that are passed over are counted, each once
+  -- with two no move that some reply mates
   pub no_move_before_a_mate_is_passed_over : GoesTo rule plan 2 p place rest before after
       → filter (allows_mate rule p) (moves_behind rule p place) ≡ filter (allows_mate rule p) rest
   no_move_before_a_mate_is_passed_over t = grind (arith, filter-append)
 
+  -- and those that are passed over are counted, each once
   pub moves_passed_over_count_once : before < 2 ^ 64 → GoesTo rule plan 2 p place rest before after
       → after ≡ min (before + (length (moves_behind rule p place) - length rest)) (2 ^ 64 - 1)
   moves_passed_over_count_once range t = grind (arith, length-append t.over)

@@ -20,6 +20,7 @@ pub no_mates : (rule : RuleSet) (q : Position) → mates_behind rule q 0 ≡ [] 
 unfolding mates_behind
 no_mates rule q none = rw (value-forced Selfmate (chess Mate rule) q refl) (none_mates (is_mating rule q) (moves rule q) (rw (← behind_start rule q) none))
 
+-- for `forces_mate`: where Black needn't mate
 pub ruleset unforced = (one_quiet, no_mates)
 
 -- these moves are still to be tried: joined their values are v, and with them so many positions are counted, at least and at most

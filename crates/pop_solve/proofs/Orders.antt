@@ -82,6 +82,8 @@ module _ (rule : RuleSet) (p : Position) (order : Order) where
   same_start step g cons swap = ap (λ ms. g (ms ++ moves_later rule p order Killer)) (before_killer (order.killer - 1) refl)
       ∙ same_parted step g cons swap (is_at order.killer) (is_at order.earlier) (comes_early order.early p) (legal_moves rule p)
 
+-- for `place_before`: what is ahead at the start of each stretch
 pub ruleset first_place = (before_killer, before_earlier, behind_earlier, behind_start)
 
+-- for `stretch_behind`: what is ahead behind each stretch
 pub ruleset next_stretch = (later_aimed, append-nil)

@@ -44,4 +44,5 @@ module _ {P M : Type 0} (battle : Battle) (game : Game P M) where
   unfolding smallest_below
   tree-one t p e = grind (arith, trees-start 1 p, least-most, game.moves p, nothing p (game.moves p))
 
+-- for `value_at_once`: with at most one half-move left
 pub ruleset shortest = (tree-zero, tree-one)

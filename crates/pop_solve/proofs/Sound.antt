@@ -34,4 +34,5 @@ battle-play form e = search rules
 pub battle-form : (form : Form) (battle : Battle) → play_of form ≡ BattlePlay battle → is_help form ≡ false
 battle-form form battle e = sym (helps-form form) ∙ ap is_help_play e
 
+-- for `Search::new` and `Search::opened`: how each form is played
 pub ruleset ways_to_play = (battle-play, help-play)

@@ -32,6 +32,7 @@ module _ (rule : RuleSet) (q : Position) (o : Order) where
   sum-start : (f : Move → ℕ) → sum_by f first ≡ sum_by f (legal_moves rule q)
   sum-start f = same_start rule q o (λ m c. f m + c) (sum_by f) (sum_by-cons f) (λ m n c. omega arith)
 
+  -- there are as many as there are legal moves
   pub length-start : length first ≡ length (legal_moves rule q)
   length-start = same_start rule q o (λ m c. suc c) length (λ m ms. refl) (λ m n c. refl)
 

@@ -151,7 +151,7 @@ module _ (rule : RuleSet) (plan : Plan) where
         rw (← append-nil (legal_moves rule P)) (passed-over (shown_paths plan (chess plan.goal rule) false fuel 1 P) (is_mating rule P)
         (skipped P false fuel (rw help refl) for) (legal_moves rule P) [] (rw (← behind_start rule P) none) ∙ search rules)
 
-    pub settled : (P : Position) (low : Bool) (fuel : ℕ) (m : Move) (ms : List Move) → allows_mate rule P m ≡ false
+    settled : (P : Position) (low : Bool) (fuel : ℕ) (m : Move) (ms : List Move) → allows_mate rule P m ≡ false
         → shown_paths plan (chess plan.goal rule) low fuel 2 P (m ∷ ms) ≡ shown_paths plan (chess plan.goal rule) low fuel 2 P ms
     unfolding shown_paths is_given
     settled P low fuel m ms none = search (rules, follows-help, walk_length-help, mateless)

@@ -30,4 +30,5 @@ module _ {P M : Type 0} (battle : Battle) (game : Game P M) where
   unfolding value
   value-stuck t p some k = grind (arith, nat_tests, nil_from_length (game.moves p))
 
+-- for the value of the last half-move, of either battle
 pub ruleset last_half_move = (value-mates, value-forced)

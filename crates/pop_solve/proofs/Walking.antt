@@ -116,4 +116,5 @@ pub walking_back : (rule : RuleSet) (h : ℕ) (p board : Position) (frames : Lis
 unfolding position
 walking_back rule h p board frames r none = grind (arith, nil_from_length, length-reverse)
 
+-- for `step`: what holds of the frame taken off
 pub ruleset top_frame = (top_known, room_left)

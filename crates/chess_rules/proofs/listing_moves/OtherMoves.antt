@@ -12,9 +12,11 @@ module _ (rule : RuleSet) (p : Position) where
   unfolding squares_of
   other_origins o k own kings = search (rules, cases_Bool, and_right, word_has, squares_not, off_second, and_left)
 
+  -- candidates for all legal moves are candidates for those of other men
   pub other_candidates : (s w : ℕ) → AreCandidates rule p (is_legal rule p) s w → AreCandidates rule p (is_wanted rule p (is_of_others p)) s w
   other_candidates s w are = search (rules, and_left)
 
+  -- a legal move is another man's exactly where it starts off the king's square
   pub is_other : (m : Move) (k s : ℕ) → IsWellFormed p → IsAimed rule p m → k ≡ squares_of p.men p.turn King → s ≡ m.from → true ≡ is_legal rule p m
       → not (bit_at k s == 1) ≡ is_wanted rule p (is_of_others p) m
   unfolding squares_of

@@ -13,12 +13,14 @@ pub record Ride (f : ℕ) (men : List (Option Man)) (s t : ℕ) (d : Step) (k : 
   pub at : along s d k ≡ Some t
   pub free : (j : ℕ) → f ≤ j → j < k → is_vacant_at men (along s d j) ≡ true
 
+-- who rides takes some number of steps
 pub ride_on-found : (f : ℕ) (men : List (Option Man)) (s t : ℕ) (d : Step) → rides_on f men s t d ≡ true → (k : ℕ) × Ride f men s t d k
 unfolding rides_on
 ride_on-found f men s t d h =
     let w = found (λ k. is_square (along s d k) t && list_all (λ i. is_vacant_at men (along s d i)) (range_with_len f (k - f))) f (8 - f) h in
     (w.0, grind (arith, square_is (along s d w.0) t, and_parts, all_at (λ i. is_vacant_at men (along s d i)) f (w.0 - f)))
 
+-- and who takes such a number rides
 pub ride_on-made : (f : ℕ) (men : List (Option Man)) (s t : ℕ) (d : Step) (k : ℕ) → Ride f men s t d k → rides_on f men s t d ≡ true
 unfolding rides_on
 ride_on-made f men s t d k r =
@@ -30,6 +32,7 @@ pub ride-found : (men : List (Option Man)) (s t : ℕ) (d : Step) → rides men 
 unfolding rides is_clear rides_on
 ride-found men s t d h = ride_on-found 1 men s t d h
 
+-- and such a one is a ride
 pub ride-made : (men : List (Option Man)) (s t : ℕ) (d : Step) (k : ℕ) → Ride 1 men s t d k → rides men s t d ≡ true
 unfolding rides is_clear rides_on
 ride-made men s t d k r = ride_on-made 1 men s t d k r
@@ -42,12 +45,14 @@ pub record Hop (men : List (Option Man)) (s t : ℕ) (d : Step) (k : ℕ) : Type
   pub hurdle : is_occupied men (along s d (k - 1)) ≡ true
   pub free : (j : ℕ) → 1 ≤ j → j < k - 1 → is_vacant_at men (along s d j) ≡ true
 
+-- who hops takes some number of steps
 pub hop-found : (men : List (Option Man)) (s t : ℕ) (d : Step) → hops men s t d ≡ true → (k : ℕ) × Hop men s t d k
 unfolding hops is_clear
 hop-found men s t d h =
     let w = found (λ k. is_square (along s d k) t && is_occupied men (along s d (k - 1)) && is_clear men s d (k - 2)) 2 6 h in
     (w.0, grind (arith, square_is (along s d w.0) t, and_parts, all_at (λ i. is_vacant_at men (along s d i)) 1 (w.0 - 2)))
 
+-- and who takes such a number hops
 pub hop-made : (men : List (Option Man)) (s t : ℕ) (d : Step) (k : ℕ) → Hop men s t d k → hops men s t d ≡ true
 unfolding hops is_clear
 hop-made men s t d k r =
@@ -59,6 +64,7 @@ hop-made men s t d k r =
 pub from_start : (men : List (Option Man)) (s t b : ℕ) (d : Step) (k j : ℕ) → Ride 1 men s t d k → 1 ≤ j → j < k → along s d j ≡ Some b → rides men s b d ≡ true
 from_start men s t b d k j r lo lt at = ride-made men s b d j (search rules)
 
+-- from its end, in the opposite direction
 pub from_end : (men : List (Option Man)) (s t b : ℕ) (d : Step) (k j : ℕ) → Ride 1 men s t d k → j < k → along s d j ≡ Some b → rides men t b (back d) ≡ true
 from_end men s t b d k j r lt at = ride-made men t b (back d) (k - j) (grind (arith, mirrored))
 
