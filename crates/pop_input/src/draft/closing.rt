@@ -14,7 +14,7 @@ use crate::condition::Condition;
 use crate::draft::Draft;
 use crate::fault_kind::FaultKind;
 use crate::item::{Fault, Item, Last};
-use crate::problem::Problem;
+use crate::problem::{Problem, Texts};
 use crate::stipulation::{Form, Stipulation};
 use chess_core::board::Board;
 use chess_core::diagram::Diagram;
@@ -43,8 +43,7 @@ impl Draft {
                     self.condition,
                     self.switches,
                     self.limit,
-                    title,
-                    author,
+                    Texts { title, author },
                 ),
                 last,
             ),
