@@ -100,17 +100,17 @@ impl Block {
     }
 
     /// The item, where a closing word stands in this line.
-    pub(crate) fn closed(&self, line: u64, last: Last) -> Item
+    pub(crate) fn item_at_close(&self, line: u64, last: Last) -> Item
         ensures { result ≡ item_of (entry_now self.now line) last }
     {
         match self.fault {
             Some(fault) => Item::Faulty(fault, last),
-            None => self.draft.posed(&self.title, &self.author, line, last),
+            None => self.draft.posed_item(&self.title, &self.author, line, last),
         }
     }
 
     /// The item, where the input ends in this line.
-    pub(crate) fn ended(&self, line: u64) -> Item
+    pub(crate) fn item_at_end(&self, line: u64) -> Item
         ensures { result ≡ ended_item self.now line }
     {
         match self.fault {

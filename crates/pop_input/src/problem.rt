@@ -9,6 +9,15 @@ use chess_core::diagram::Diagram;
 use pop_text::text::Text;
 use std::marker::Model;
 
+/// The texts of a problem, each empty where there is none.
+#[derive(Clone, Copy)]
+pub(crate) struct Texts<'a> {
+    /// The last title.
+    pub(crate) title: &'a Text,
+    /// The last author.
+    pub(crate) author: &'a Text,
+}
+
 /// A problem that was read without a fault: it can be set up and solved.
 /// Contracts see the record `Posed`, and `IsSound` holds of each.
 #[derive(Clone, Copy)]
@@ -70,8 +79,7 @@ impl Problem {
         condition: Option<Condition>,
         switches: Switches,
         max_solutions: u32,
-        title: &Text,
-        author: &Text,
+        texts: Texts<'_>,
     ) -> Problem
         requires { IsSound (record {
           diagram = diagram.now;
@@ -81,8 +89,8 @@ impl Problem {
           variation = switches.variation;
           no_board = switches.no_board;
           max_solutions = max_solutions;
-          title = title.now;
-          author = author.now;
+          title = texts.title.now;
+          author = texts.author.now;
         }) }
         ensures { result ≡ record {
           diagram = diagram.now;
@@ -92,8 +100,8 @@ impl Problem {
           variation = switches.variation;
           no_board = switches.no_board;
           max_solutions = max_solutions;
-          title = title.now;
-          author = author.now;
+          title = texts.entry.title.now;
+          author = texts.entry.author.now;
         } }
     {
         Problem {
@@ -102,8 +110,8 @@ impl Problem {
             fairy: condition,
             switches,
             limit: max_solutions,
-            named: *title,
-            composer: *author,
+            named: *texts.title,
+            composer: *texts.author,
         }
     }
 

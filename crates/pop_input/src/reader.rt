@@ -110,13 +110,13 @@ impl Reader {
                 ReadToken::Word => match read_word(&mut block, &word) {
                     Some(last) => {
                         self.next_block = next_behind(last);
-                        return block.closed(word.line, last);
+                        return block.item_at_close(word.line, last);
                     }
                     None => skip_on(&mut self.scanner, block.fault),
                 },
                 ReadToken::Ended(line) => {
                     self.next_block = Next::Nothing;
-                    return block.ended(line);
+                    return block.item_at_end(line);
                 }
                 ReadToken::Cut(cut) => {
                     let (fault, last) = told_of_cut(block.fault, cut);

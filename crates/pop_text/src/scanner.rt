@@ -350,7 +350,7 @@ impl Scanner {
             match self.peek(source) {
                 Ok(Some(byte)) if ends_line(byte) => {
                     self.advance(1, 1);
-                    return Ok(Text::trimmed(kept));
+                    return Ok(Text::of_line(kept));
                 }
                 Ok(Some(_)) => {
                     let part = self.line_part();
@@ -358,7 +358,7 @@ impl Scanner {
                     keep_all(&mut kept, part);
                     self.advance(count, 0);
                 }
-                Ok(None) => return Ok(Text::trimmed(kept)),
+                Ok(None) => return Ok(Text::of_line(kept)),
                 Err(fault) => return Err(fault),
             }
         }

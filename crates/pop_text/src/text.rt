@@ -50,8 +50,8 @@ impl Text {
         &self.cells[..self.size as usize]
     }
 
-    /// The bytes without their trailing blanks.
-    pub(crate) fn trimmed(mut kept: ArrayVec<u8, 200>) -> Text
+    /// The text of a line: the bytes kept of it without their trailing blanks.
+    pub(crate) fn of_line(mut kept: ArrayVec<u8, 200>) -> Text
         ensures { result ≡ without_trailing kept.items }
     {
         while let Some(&byte) = kept.as_slice().last() {

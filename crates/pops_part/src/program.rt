@@ -92,7 +92,7 @@ fn report<R: Read + Drop, W: Write + Drop, E: Write + Drop>(
     let mut sink = WriteSink::new(output);
     let ending = answer(wanted, &mut source, &mut sink);
     let mut output = sink.into_inner();
-    let ending = flushed(ending, output.flush().is_ok());
+    let ending = ending_after_flush(ending, output.flush().is_ok());
     let text = message_of(ending);
     if text.is_empty() {
         status_of(ending)
@@ -151,7 +151,7 @@ fn phase_named(name: PhaseName) -> Phase
 }
 
 // How a run ends that ended so before the output's last flush.
-fn flushed(ending: Ending, is_flushed: bool) -> Ending
+fn ending_after_flush(ending: Ending, is_flushed: bool) -> Ending
     ensures { result ≡ ending_flushed ending is_flushed }
 {
     if is_flushed {

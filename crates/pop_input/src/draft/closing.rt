@@ -14,7 +14,7 @@ use crate::condition::Condition;
 use crate::draft::Draft;
 use crate::fault_kind::FaultKind;
 use crate::item::{Fault, Item, Last};
-use crate::problem::Problem;
+use crate::problem::{Problem, Texts};
 use crate::stipulation::{Form, Stipulation};
 use chess_core::board::Board;
 use chess_core::diagram::Diagram;
@@ -27,7 +27,7 @@ impl Draft {
     /// The problem that the words pose, or the fault at their end, in this line. The tests in their order: a stipulation,
     /// men, the crossed square, the king of the side to be mated, check to the side that isn't to move.
     #[tactic(auto, unfolding(crate::specs::Blocks::posed_entry))]
-    pub(crate) fn posed(&self, title: &Text, author: &Text, line: u64, last: Last) -> Item
+    pub(crate) fn posed_item(&self, title: &Text, author: &Text, line: u64, last: Last) -> Item
         ensures { result ≡ item_of (posed_entry self.now title.now author.now line) last }
     {
         let Some(stipulation) = self.stipulation else {
@@ -43,8 +43,7 @@ impl Draft {
                     self.condition,
                     self.switches,
                     self.limit,
-                    title,
-                    author,
+                    Texts { title, author },
                 ),
                 last,
             ),

@@ -25,15 +25,15 @@ pub fn settings(alloc: Global, words: &[&str]) -> Result<Settings, ArgFault>
     ensures taken { IfOk result (λ s. refusals (map (λ s. s.now) words.now) ≡ []) }
     ensures usage { IfErr result (IsUsageIfRefused (map (λ s. s.now) words.now)) }
 {
-    let matches = match matched(alloc, words) {
+    let matches = match arg_matches(alloc, words) {
         Ok(matches) => matches,
         Err(error) => return Err(fault_told(&error)),
     };
-    chosen(alloc, &matches)
+    settings_of(alloc, &matches)
 }
 
 // What the options choose, or `Memory`.
-fn chosen(alloc: Global, matches: &ArgMatches<'_>) -> Result<Settings, ArgFault>
+fn settings_of(alloc: Global, matches: &ArgMatches<'_>) -> Result<Settings, ArgFault>
     ensures chosen { IfOk result (IsChosen (rows_of (found_of matches.now))) }
     ensures refused { IfErr result (λ fault. fault ≡ ArgFault.Memory) }
 {
@@ -52,7 +52,7 @@ fn chosen(alloc: Global, matches: &ArgMatches<'_>) -> Result<Settings, ArgFault>
 }
 
 // The words as clap matches them.
-fn matched<'a>(alloc: Global, words: &'a [&'a str]) -> Result<ArgMatches<'a>, Error>
+fn arg_matches<'a>(alloc: Global, words: &'a [&'a str]) -> Result<ArgMatches<'a>, Error>
     ensures rows { IfOk result (λ m. rows_of (found_of m)
         ≡ matches_of command (map (λ s. s.now) words.now)) }
     ensures passes { IfErr result (λ e. takes command (map (λ s. s.now) words.now) ≡ true

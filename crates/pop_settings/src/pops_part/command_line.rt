@@ -31,14 +31,14 @@ pub fn settings(alloc: Global, words: &[&str]) -> Result<Settings, ArgFault>
     ensures usage { IfErr result (IsUsageIfRefused (map (λ s. s.now) words.now)) }
     ensures deep { IfOk result (λ s. IsDeep s.wanted) }
 {
-    match matched(alloc, words) {
-        Ok(matches) => chosen(alloc, &matches),
+    match arg_matches(alloc, words) {
+        Ok(matches) => settings_of(alloc, &matches),
         Err(error) => Err(fault_told(&error)),
     }
 }
 
 // What the options choose: the settings, or `Usage` where they are of neither form, or `Memory`.
-fn chosen(alloc: Global, matches: &ArgMatches<'_>) -> Result<Settings, ArgFault>
+fn settings_of(alloc: Global, matches: &ArgMatches<'_>) -> Result<Settings, ArgFault>
     ensures chosen { IfOk result (IsChosen (rows_of (found_of matches.now))) }
     ensures refused { IfErr result (λ fault.
         fault ≡ fault_by (wanted_by (rows_of (found_of matches.now)))) }
@@ -151,7 +151,7 @@ fn parts_of(
 }
 
 // The words as clap matches them.
-fn matched<'a>(alloc: Global, words: &'a [&'a str]) -> Result<ArgMatches<'a>, Error>
+fn arg_matches<'a>(alloc: Global, words: &'a [&'a str]) -> Result<ArgMatches<'a>, Error>
     ensures rows { IfOk result (λ m. rows_of (found_of m)
         ≡ matches_of command (map (λ s. s.now) words.now)) }
     ensures passes { IfErr result (λ e. takes command (map (λ s. s.now) words.now) ≡ true

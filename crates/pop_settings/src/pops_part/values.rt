@@ -76,7 +76,7 @@ pub fn range_of(text: &[u8]) -> Option<Range>
 {
     let at = digits_in_front(text);
     let first = number_of(&text[..at])?;
-    ordered(first, last_of(first, &text[at..]))
+    range_in_order(first, last_of(first, &text[at..]))
 }
 
 // How many digits the text begins with.
@@ -102,7 +102,7 @@ fn last_of(first: u64, behind: &[u8]) -> Option<u64>
 }
 
 // Both numbers, where they are in order.
-fn ordered(first: u64, last: Option<u64>) -> Option<Range>
+fn range_in_order(first: u64, last: Option<u64>) -> Option<Range>
     ensures { result ≡ ordered_range first last }
 {
     match last {

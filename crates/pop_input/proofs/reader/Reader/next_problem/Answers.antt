@@ -57,14 +57,14 @@ pub returns-in-Some-clause-item : goal.returns-in-Some-clause-item
 returns-in-Some-clause-item g c =
     let i = c.loop-keyword.invariant in
     let new : Standing = record { next = c.next_behind-self-inside.result; at = c.next_token.new.scanner } in
-    rw c.closed.ensures (word_closes _ _ new _ _ i.starts _ _ _ _ i.block _ _ c.in-Word.ensures.token.0 c.read_word.ensures.read c.in-Some.last _
+    rw c.item_at_close.ensures (word_closes _ _ new _ _ i.starts _ _ _ _ i.block _ _ c.in-Word.ensures.token.0 c.read_word.ensures.read c.in-Some.last _
     refl (sym c.read_word.ensures.closes ∙ c.in-Some.is) c.next_behind-self-inside.ensures)
 
 pub returns-in-Some-clause-used : goal.returns-in-Some-clause-used
 returns-in-Some-clause-used g c =
     let i = c.loop-keyword.invariant in
     let behind : Standing = record { next = c.next_behind-self-inside.result; at = c.next_token.new.scanner } in
-    rw c.closed.ensures (closed_item _ _ behind _ _ (g.S.Source.remaining c.next_token.new.source) _ _
+    rw c.item_at_close.ensures (closed_item _ _ behind _ _ (g.S.Source.remaining c.next_token.new.source) _ _
     (word_used _ _ behind _ _ _ _ _ i.block i.used _ _ c.in-Some.last c.in-Word.ensures.token.0 c.in-Word.ensures.used
     (sym c.read_word.ensures.closes ∙ c.in-Some.is) c.next_behind-self-inside.ensures) (search rules) (search rules))
 
@@ -73,7 +73,7 @@ returns-in-Ended-clause-used g c =
     let i = c.loop-keyword.invariant in
     let new : Standing = record { next = Nothing; at = c.next_token.new.scanner } in
     let u = c.in-Ended.ensures.used in
-    rw c.ended.ensures (inr (end_used _ _ new _ _ _ _ _ i.block i.used c.in-Ended.ensures.token.0 u.0 (inl u.1)))
+    rw c.item_at_end.ensures (inr (end_used _ _ new _ _ _ _ _ i.block i.used c.in-Ended.ensures.token.0 u.0 (inl u.1)))
 
 pub returns-in-Cut-clause-used : goal.returns-in-Cut-clause-used
 returns-in-Cut-clause-used g c =
@@ -86,7 +86,7 @@ pub returns-in-Ended-clause-item : goal.returns-in-Ended-clause-item
 returns-in-Ended-clause-item g c =
     let i = c.loop-keyword.invariant in
     let new : Standing = record { next = Nothing; at = c.next_token.new.scanner } in
-    rw c.ended.ensures (input_ends _ _ new _ _ i.starts _ _ _ i.block c.in-Ended.line c.in-Ended.ensures.token refl)
+    rw c.item_at_end.ensures (input_ends _ _ new _ _ i.starts _ _ _ i.block c.in-Ended.line c.in-Ended.ensures.token refl)
 
 pub returns-in-Cut-clause-item : goal.returns-in-Cut-clause-item
 returns-in-Cut-clause-item g c =
@@ -98,11 +98,11 @@ returns-in-Cut-clause-item g c =
 
 pub returns-in-Some-clause-numbered : goal.returns-in-Some-clause-numbered
 returns-in-Some-clause-numbered g c =
-    rw c.closed.ensures (word_numbered _ _ _ _ _ _ _ _ _ c.loop-keyword.invariant.block _ _ c.in-Word.ensures.token.0 c.read_word.ensures.read c.in-Some.last)
+    rw c.item_at_close.ensures (word_numbered _ _ _ _ _ _ _ _ _ c.loop-keyword.invariant.block _ _ c.in-Word.ensures.token.0 c.read_word.ensures.read c.in-Some.last)
 
 pub returns-in-Ended-clause-numbered : goal.returns-in-Ended-clause-numbered
 returns-in-Ended-clause-numbered g c =
-    rw c.ended.ensures
+    rw c.item_at_end.ensures
     (ended_numbered c.next_token.new.scanner c.loop-keyword.block c.in-Ended.line (block_fault_small _ _ _ _ _ _ c.loop-keyword.invariant.block))
 
 pub returns-in-Cut-clause-numbered : goal.returns-in-Cut-clause-numbered

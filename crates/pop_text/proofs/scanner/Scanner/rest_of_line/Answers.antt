@@ -34,7 +34,7 @@ returns-in-Ok-Some-clause-used g c =
     let line = seen_so_far c.loop-byte.invariant.line c.peek.ensures.uses in
     let at = rw c.in-Ok-Some.field-0-is at c.in-Ok-Some.ensures.at in
     let uses = line_ends c.in-Ok-Some.byte at.0 line.used.uses at.1 (sym c.ends_line.ensures ∙ c.if-ends_line.true) (c.advance.ensures.uses _) in
-    (line.used.bytes, line.used.all, c.trimmed.ensures ∙ ap without_trailing line.is, inl uses)
+    (line.used.bytes, line.used.all, c.of_line.ensures ∙ ap without_trailing line.is, inl uses)
 
 pub returns-in-Ok-Some-clause-text : goal.returns-in-Ok-Some-clause-text
 returns-in-Ok-Some-clause-text g c keyword =
@@ -45,7 +45,7 @@ pub returns-in-Ok-None-clause-used : goal.returns-in-Ok-None-clause-used
 returns-in-Ok-None-clause-used g c =
     let line = seen_so_far c.loop-byte.invariant.line c.peek.ensures.uses in
     let at = rw c.in-Ok-None.field-0-is at c.in-Ok-None.ensures.at in
-    (line.used.bytes, line.used.all, c.trimmed-in-Ok-None.ensures ∙ ap without_trailing line.is, inr (line.used.uses, at.0, at.1))
+    (line.used.bytes, line.used.all, c.of_line-in-Ok-None.ensures ∙ ap without_trailing line.is, inr (line.used.uses, at.0, at.1))
 
 pub returns-in-Ok-None-clause-text : goal.returns-in-Ok-None-clause-text
 returns-in-Ok-None-clause-text g c keyword = line_of _ _ _ _ keyword _ (returns-in-Ok-None-clause-used g c)

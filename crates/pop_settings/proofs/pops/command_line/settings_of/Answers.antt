@@ -1,8 +1,8 @@
 use Rattle.pop_settings.proofs.Basics.{Some, ap, codes, option_map, string_bytes, sym, ◌∙◌}
 use Rattle.clap.specs.Matches.{found_of}
 use Rattle.clap.proofs.WalkLemmas.{first_value-rows, one_text-rows}
-use Rattle.pop_settings.proofs.pops.command_line.chosen.Goals as goal
-use Rattle.pop_settings.proofs.pops.command_line.chosen.Goals.{in-Some+in-Ok, in-None}
+use Rattle.pop_settings.proofs.pops.command_line.settings_of.Goals as goal
+use Rattle.pop_settings.proofs.pops.command_line.settings_of.Goals.{in-Some+in-Ok, in-None}
 
 pub returns-clause-chosen : goal.returns-clause-chosen
 returns-clause-chosen c =

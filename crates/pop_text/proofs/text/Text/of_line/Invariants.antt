@@ -1,5 +1,5 @@
 use Rattle.pop_text.proofs.Basics.{length, without_trailing, ◌≡◌}
-use Rattle.pop_text.proofs.text.Text.trimmed.Given as goal
+use Rattle.pop_text.proofs.text.Text.of_line.Given as goal
 
 -- only trailing blanks are gone
 abbrev pub invariant-loop-byte : goal.invariant-loop-byte
