@@ -55,7 +55,7 @@ pub fn show_parts<S: Source, W: Sink>(asked: &Asked, source: &mut S, sink: &mut 
     'items: loop {
         let item = reader.next_problem(source);
         if is_end(&item) {
-            return missing(failed);
+            return outcome_without_item(failed);
         }
         if number == asked.item {
             match show_item(sink, asked, &item) {
@@ -69,7 +69,7 @@ pub fn show_parts<S: Source, W: Sink>(asked: &Asked, source: &mut S, sink: &mut 
 }
 
 // What comes of an input without the item, by whether its device failed.
-fn missing(failed: bool) -> Outcome
+fn outcome_without_item(failed: bool) -> Outcome
     ensures { result ≡ (if failed then InputFailed else NoItem) }
 {
     if failed {

@@ -20,7 +20,7 @@ returns-then-is_end-clause-headline g c =
     let next = c.next_problem-item in
     let none : entry_in next.result ≡ None = none_there _ (sym c.is_end.ensures ∙ c.if-is_end.true) in
     rw i.untouched (item_missing c.args.asked.now c.items.reader next.new.self c.items.number c.items.failed _ (g.S.Source.remaining c.items.source)
-    (g.S.Source.remaining next.new.source) _ next.result _ _ _ _ _ i.passed next.ensures.item none (next.ensures.seen i.seen) c.missing.ensures
+    (g.S.Source.remaining next.new.source) _ next.result _ _ _ _ _ i.passed next.ensures.item none (next.ensures.seen i.seen) c.outcome_without_item.ensures
     (failures_then _ _ _ _ _ _ (inl refl) next.ensures.ends i.read_failures next.ensures.counted) refl)
 
 pub returns-in-Ok-clause-headline : goal.returns-in-Ok-clause-headline
