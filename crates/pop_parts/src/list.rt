@@ -49,7 +49,7 @@ pub fn list_parts<S: Source, W: Sink>(depth: usize, source: &mut S, sink: &mut W
     let mut reader = Reader::new();
     let mut number: u64 = 1;
     let mut so_far = Status::Sound;
-    'items: loop {
+    loop {
         let item = reader.next_problem(source);
         if is_end(&item) {
             return so_far;

@@ -2,13 +2,11 @@
 ghost use Rattle.std.specs.Prelude.{◌≡◌, ◌+◌, ◌-◌, ◌<◌, ◌≤◌, ◌==◌, ◌^◌, ℕ, [], ◌∷◌, ◌++◌, length, reverse, true, false, min};
 ghost use Rattle.arrayvec.specs.ArrayVec.{array_vec_len};
 ghost use Rattle.chess_core.specs.WellFormed.{IsWellFormed};
-ghost use Rattle.chess_core.specs.declared.man.Move.{Move};
-ghost use Rattle.std.specs.Prelude.{List};
 ghost use Rattle.chess_rules.specs.Legal.{is_legal, is_mate};
 ghost use Rattle.chess_rules.specs.Play.{position_after};
 ghost use Rattle.pop_input.specs.Posed.{IsSound};
 ghost use Rattle.pop_input.specs.Stipulations.{half_moves, is_help};
-ghost use Rattle.pop_solve.specs.Events.{event_of, path_event, phase_half_moves as half_moves_of_phase, phase_start, play_start};
+ghost use Rattle.pop_solve.specs.Events.{Path, event_of, path_event, phase_half_moves as half_moves_of_phase, phase_start, play_start};
 ghost use Rattle.pop_parts.specs.PhaseParts.{part_events};
 ghost use Rattle.pop_parts.specs.ties.Beginnings.{IsSeeking};
 ghost use Rattle.pop_solve.specs.ties.Marks.{is_for_mate};
@@ -129,9 +127,9 @@ fn give_first<R: Rules>(
     board: &mut Board,
 ) -> (PartStage, Event)
     requires sound { IsSound problem.now }
-    requires stands { (front : List Move) × StandsInPart R.rule problem.now phase front First
+    requires stands { (front : Path) × StandsInPart R.rule problem.now phase front First
         (reverse frames.now) board.old }
-    ensures stands { (front : List Move) → StandsInPart R.rule problem.now phase front First
+    ensures stands { (front : Path) → StandsInPart R.rule problem.now phase front First
         (reverse frames.now) board.old
         → StandsInPart R.rule problem.now phase front result.0 (reverse frames.now) board.new }
     ensures gives { Gives R.rule problem.now
@@ -157,9 +155,9 @@ fn go_on_in_part<R: Rules, const N: usize>(
 ) -> (PartStage, Event)
     requires sound { IsSound problem.now }
     requires room { half_moves problem.now.stipulation < N }
-    requires stands { (front : List Move) × StandsInPart R.rule problem.now phase front
+    requires stands { (front : Path) × StandsInPart R.rule problem.now phase front
         (Within count) (reverse frames.old.items) board.old }
-    ensures stands { (front : List Move) → StandsInPart R.rule problem.now phase front
+    ensures stands { (front : Path) → StandsInPart R.rule problem.now phase front
         (Within count) (reverse frames.old.items) board.old
         → StandsInPart R.rule problem.now phase front result.0 (reverse frames.new.items)
         board.new }
@@ -167,7 +165,7 @@ fn go_on_in_part<R: Rules, const N: usize>(
         (part_left R.rule problem.now phase (Within count) (reverse frames.old.items))
         (part_left R.rule problem.now phase result.0 (reverse frames.new.items))
         result.1 board.new (array_vec_len frames.new) }
-    ensures opens { (front : List Move) → StandsInPart R.rule problem.now phase front
+    ensures opens { (front : Path) → StandsInPart R.rule problem.now phase front
         (Within count) (reverse frames.old.items) board.old
         → IsPartOpened R.rule problem.now phase front (reverse frames.old.items) history.old.opened
         → IsPartOpened R.rule problem.now phase front

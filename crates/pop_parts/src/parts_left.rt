@@ -94,13 +94,13 @@ impl<R: Rules, const N: usize> PartsLeft<R, N> {
             &mut self.board,
             &mut self.frames,
         )?;
-        let frames = copied::<R, N>(&self.frames);
+        let frames = copy_of::<R, N>(&self.frames);
         Some(PartSearch::at(&self.problem, self.phase, by, self.board, frames, killers))
     }
 }
 
 /// The same frames once more.
-fn copied<R: Rules, const N: usize>(frames: &ArrayVec<Frame<R>, N>) -> ArrayVec<Frame<R>, N>
+fn copy_of<R: Rules, const N: usize>(frames: &ArrayVec<Frame<R>, N>) -> ArrayVec<Frame<R>, N>
     requires few { N ≤ 33 }
     ensures { result.items ≡ frames.now.items }
 {

@@ -52,10 +52,10 @@ pub fn show_parts<S: Source, W: Sink>(asked: &Asked, source: &mut S, sink: &mut 
     let mut reader = Reader::new();
     let mut number: u64 = 1;
     let mut failed = false;
-    'items: loop {
+    loop {
         let item = reader.next_problem(source);
         if is_end(&item) {
-            return missing(failed);
+            return outcome_without_item(failed);
         }
         if number == asked.item {
             match show_item(sink, asked, &item) {
@@ -69,7 +69,7 @@ pub fn show_parts<S: Source, W: Sink>(asked: &Asked, source: &mut S, sink: &mut 
 }
 
 // What comes of an input without the item, by whether its device failed.
-fn missing(failed: bool) -> Outcome
+fn outcome_without_item(failed: bool) -> Outcome
     ensures { result ≡ (if failed then InputFailed else NoItem) }
 {
     if failed {
@@ -219,7 +219,7 @@ fn print_behind<R: Rules, W: Sink>(
     let mut killers = Killers::none();
     let mut number = first;
     let mut left = count;
-    'parts: while left > 0 {
+    while left > 0 {
         left -= 1;
         killers = print_part::<R, W>(sink, number, parts, killers)?;
         number = 1;
@@ -264,7 +264,7 @@ fn print_events<R: Rules, W: Sink>(
         (flat_map event_text (map (event_of R.rule search.old.problem) search.old.left)) result }
     ensures counted { W.failures sink.new ≡ count_after result (W.failures sink.old) }
 {
-    'events: while let Some(event) = search.next() {
+    while let Some(event) = search.next() {
         print_event(sink, &event)?;
     }
     Ok(())

@@ -90,7 +90,7 @@ fn cheapest_defence<R: Rules>(
     let mut place = Moves::<R>::start();
     let mut best = None;
     let mut least = u64::MAX;
-    'moves: while let Some(by) = next_move::<R>(&mut known, &mut place, &mut stand) {
+    while let Some(by) = next_move::<R>(&mut known, &mut place, &mut stand) {
         if let Some(cost) = cost_of_defence::<R>(aim, left, by, &stand, killers) {
             if cost < least {
                 least = cost;

@@ -27,7 +27,7 @@ impl<R: Read + Drop> ReadSource<R> {
     }
 
     // What the reader's answer is told as: so many bytes, none of them at the end, or a failure, which is counted.
-    fn told(&mut self, answer: io::Result<usize>) -> Result<usize, Device>
+    fn result_of(&mut self, answer: io::Result<usize>) -> Result<usize, Device>
         requires { self.old.failures < greatest_count }
         ensures answer { TellsRead answer result }
         ensures counted { self.new.failures ≡ count_after result self.old.failures }
@@ -50,6 +50,6 @@ impl<R: Read + Drop> Source for ReadSource<R> {
 
     fn read(&mut self, buffer: &mut [u8]) -> Result<usize, Device> {
         let answer = self.reader.read(buffer);
-        self.told(answer)
+        self.result_of(answer)
     }
 }

@@ -39,7 +39,7 @@ impl<W: Write + Drop> WriteSink<W> {
     }
 
     // What the writer's answer is told as: so many bytes, or a failure, which is counted. None of a text is one.
-    fn told(&mut self, answer: io::Result<usize>, text: &[u8]) -> Result<usize, SinkFault>
+    fn result_of(&mut self, answer: io::Result<usize>, text: &[u8]) -> Result<usize, SinkFault>
         requires { self.old.failures < greatest_count }
         ensures answer { TellsWrite (length text.now) answer result }
         ensures counted { self.new.failures ≡ count_after result self.old.failures }
@@ -62,6 +62,6 @@ impl<W: Write + Drop> Sink for WriteSink<W> {
 
     fn write(&mut self, text: &[u8]) -> Result<usize, SinkFault> {
         let answer = self.writer.write(text);
-        self.told(answer, text)
+        self.result_of(answer, text)
     }
 }

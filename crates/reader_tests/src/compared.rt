@@ -17,7 +17,7 @@ fn read(input: &[u8], at_most: usize, failed: bool) -> ArrayVec<Told, ITEMS>
     let mut reader = Reader::new();
     let mut items = ArrayVec::new();
     let mut last = false;
-    'items: for _round in 0..ITEMS {
+    for _round in 0..ITEMS {
         let item = reader.next_problem(&mut source);
         match item {
             Item::End => break,

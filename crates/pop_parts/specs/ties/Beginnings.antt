@@ -13,7 +13,7 @@ use Rattle.pop_input.specs.Posed.{Posed}
 use Rattle.pop_input.specs.Stipulations.{is_help}
 use Rattle.pop_events.specs.declared.event.Phase.{Phase}
 use Rattle.pop_solve.specs.Chess.{chess}
-use Rattle.pop_solve.specs.Events.{phase_half_moves, phase_start}
+use Rattle.pop_solve.specs.Events.{Path, phase_half_moves, phase_start}
 use Rattle.pop_parts.specs.PhaseParts.{beginnings}
 use Rattle.pop_solve.specs.ties.Frames.{Frame, position}
 use Rattle.pop_solve.specs.ties.Walk.{IsWalking, path, walk_work}
@@ -23,13 +23,13 @@ unfoldable pub are_idle : List Frame → Bool
 are_idle frames = list_all (λ f. f.left == 0) frames
 
 -- the lists of moves from p that begin with these, k moves behind each
-unfoldable pub beginnings_by : Goal → RuleSet → ℕ → Position → List Move → List (List Move)
+unfoldable pub beginnings_by : Goal → RuleSet → ℕ → Position → List Move → List Path
 beginnings_by goal rule k p ms =
     flat_map (λ m. map (λ rest. m ∷ rest) (beginnings (chess goal rule) k
     (position_after rule p m))) ms
 
 -- the beginnings of d moves still to come from all frames, in order
-unfoldable pub beginnings_to_come : Goal → RuleSet → ℕ → Position → List Frame → List (List Move)
+unfoldable pub beginnings_to_come : Goal → RuleSet → ℕ → Position → List Frame → List Path
 beginnings_to_come goal rule d p [] = []
 beginnings_to_come goal rule d p (f ∷ below) =
     map (λ rest. path (f ∷ below) ++ rest)
@@ -46,7 +46,7 @@ pub record IsSeeking (rule : RuleSet) (h d : ℕ) (p : Position) (frames : List 
   pub room : d ≤ h
 
 -- the path to the top frame and the move behind it, if there is one
-abbrev pub path_found : List Frame → Option Move → List (List Move)
+abbrev pub path_found : List Frame → Option Move → List Path
 path_found frames None = []
 path_found frames (Some m) = (path frames ++ m ∷ []) ∷ []
 

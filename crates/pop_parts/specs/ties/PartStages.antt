@@ -1,11 +1,10 @@
 -- What a search of one part has still to give.
 use Rattle.std.specs.Prelude.{◌≡◌, ℕ, ◌+◌, ◌-◌, ◌≤◌, ◌==◌, true, false, List, [], ◌∷◌, ◌++◌, map, length}
 use Rattle.chess_core.specs.Position.{Position}
-use Rattle.chess_core.specs.declared.man.Move.{Move}
 use Rattle.chess_rules.specs.RuleSet.{RuleSet}
 use Rattle.pop_input.specs.Posed.{Posed}
 use Rattle.pop_input.specs.Stipulations.{is_help}
-use Rattle.pop_solve.specs.Events.{BareEvent, path_event, phase_half_moves, phase_start, play_start, total}
+use Rattle.pop_solve.specs.Events.{BareEvent, Path, path_event, phase_half_moves, phase_start, play_start, total}
 use Rattle.pop_parts.specs.PhaseParts.{part_count}
 use Rattle.pop_events.specs.declared.event.Phase.{Phase}
 use Rattle.pop_parts.specs.declared.part_search.PartStage.{PartStage}
@@ -23,7 +22,7 @@ begun_at (Within count) = count
 begun_at Behind = 0
 
 -- the paths still to come at a stage
-unfoldable pub part_paths : RuleSet → Posed → Phase → PartStage → List Frame → List (List Move)
+unfoldable pub part_paths : RuleSet → Posed → Phase → PartStage → List Frame → List Path
 part_paths rule problem phase First frames = path frames ∷ phase_paths rule problem phase frames
 part_paths rule problem phase (Within count) frames = phase_paths rule problem phase frames
 part_paths rule problem phase Behind frames = []
@@ -35,7 +34,7 @@ begun_in_all rule problem phase stage frames =
     (problem.max_solutions - begun_at stage) (part_paths rule problem phase stage frames)
 
 -- the events of some paths, where `count` solutions have begun
-abbrev pub events_left : Posed → Phase → ℕ → List (List Move) → List BareEvent
+abbrev pub events_left : Posed → Phase → ℕ → List Path → List BareEvent
 events_left problem phase count paths =
     map (path_event problem phase)
     (kept_paths (is_help problem.stipulation.form) (problem.max_solutions - count) paths)
@@ -53,7 +52,7 @@ part_left rule problem phase (Within count) frames =
 part_left rule problem phase Behind frames = []
 
 -- the board stands on the top frame of a part's walk, whose solutions come to the part's
-pub record IsInPart (rule : RuleSet) (problem : Posed) (phase : Phase) (front : List Move)
+pub record IsInPart (rule : RuleSet) (problem : Posed) (phase : Phase) (front : Path)
     (stage : PartStage) (frames : List Frame) (board : Position) : Type 0 where
   pub walking : IsWalking rule (phase_half_moves problem phase) (phase_start problem phase) frames
       board
@@ -61,7 +60,7 @@ pub record IsInPart (rule : RuleSet) (problem : Posed) (phase : Phase) (front : 
   pub counts : begun_in_all rule problem phase stage frames ≡ part_count rule problem phase front
 
 -- what holds of board and frames at a stage
-unfoldable pub StandsInPart : RuleSet → Posed → Phase → List Move → PartStage → List Frame
+unfoldable pub StandsInPart : RuleSet → Posed → Phase → Path → PartStage → List Frame
     → Position → Type 0
 StandsInPart rule problem phase front First frames board =
     IsInPart rule problem phase front First frames board × (2 ≤ length frames)
@@ -72,7 +71,7 @@ StandsInPart rule problem phase front Behind frames board = (frames ≡ [])
     × (board ≡ play_start problem)
 
 -- in help play, if no limit ends the part, all positions of the part's walk but those still to be opened were opened
-abbrev pub IsPartOpened : RuleSet → Posed → Phase → List Move → List Frame → ℕ → Type 0
+abbrev pub IsPartOpened : RuleSet → Posed → Phase → Path → List Frame → ℕ → Type 0
 IsPartOpened rule problem phase front frames opened =
     is_help problem.stipulation.form ≡ true → is_part_stopped rule problem phase front ≡ false
     → IsCounted (part_walk rule problem phase front) opened

@@ -1,12 +1,11 @@
 -- What a contract sees of a search of one part and of the parts still to come, and how many positions a part's walk opens.
 use Rattle.std.specs.Prelude.{ℕ, ◌-◌, ◌==◌, Bool, true, ◌&&◌, List, [], ◌∷◌, length}
 use Rattle.chess_core.specs.Position.{Position}
-use Rattle.chess_core.specs.declared.man.Move.{Move}
 use Rattle.chess_rules.specs.Legal.{is_legal, moves as legal_moves}
 use Rattle.chess_rules.specs.Play.{position_after}
 use Rattle.chess_rules.specs.RuleSet.{RuleSet}
 use Rattle.pop_input.specs.Posed.{Posed}
-use Rattle.pop_solve.specs.Events.{BareEvent, phase_half_moves, phase_start}
+use Rattle.pop_solve.specs.Events.{BareEvent, Path, phase_half_moves, phase_start}
 use Rattle.pop_solve.specs.Game.{path_end}
 use Rattle.pop_parts.specs.PhaseParts.{part_count}
 use Rattle.pop_events.specs.declared.event.Phase.{Phase}
@@ -18,7 +17,7 @@ use Rattle.pop_solve.specs.ties.Counts.{walk_count}
 pub record PartSeen (R : Type 0) : Type 0 where
   pub problem : Posed
   pub phase : Phase
-  pub front : List Move
+  pub front : Path
   pub left : List BareEvent
   pub board : Position
   pub depth : ℕ
@@ -29,21 +28,21 @@ pub record PartSeen (R : Type 0) : Type 0 where
 pub record LeftSeen : Type 0 where
   pub problem : Posed
   pub phase : Phase
-  pub left : List (List Move)
+  pub left : List Path
 
 -- how many lists of fewer moves than are left behind a part's first moves there are there, each legal where it stands
-abbrev pub part_walk : RuleSet → Posed → Phase → List Move → ℕ
+abbrev pub part_walk : RuleSet → Posed → Phase → Path → ℕ
 part_walk rule problem phase front =
     walk_count (legal_moves rule) (position_after rule)
     (phase_half_moves problem phase - length front)
     (path_end (position_after rule) (phase_start problem phase) front)
 
 -- whether the limit of solutions ended a part
-abbrev pub is_part_stopped : RuleSet → Posed → Phase → List Move → Bool
+abbrev pub is_part_stopped : RuleSet → Posed → Phase → Path → Bool
 is_part_stopped rule problem phase front =
     part_count rule problem phase front == problem.max_solutions
 
 -- each of the moves from p on is legal where it is made
-unfoldable pub are_legal : RuleSet → Position → List Move → Bool
+unfoldable pub are_legal : RuleSet → Position → Path → Bool
 are_legal rule p [] = true
 are_legal rule p (m ∷ ms) = is_legal rule p m && are_legal rule (position_after rule p m) ms

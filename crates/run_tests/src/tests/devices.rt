@@ -196,7 +196,7 @@ fn steps_behind_a_failed_write(rt: HostRuntime) {
         let mut sink = Counted::new(TrialSink::<ROOM>::new(4096, Some(bytes)));
         let mut session = Session::new(&settings(false));
         let mut failed = None;
-        'steps: for _step in 0..8u8 {
+        for _step in 0..8u8 {
             let step = session.step(&mut source, &mut sink);
             match failed {
                 None => {

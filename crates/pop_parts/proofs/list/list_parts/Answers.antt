@@ -4,9 +4,9 @@ use Rattle.pop_parts.proofs.Listing.{cut_stopped, ends_stopped, entry_there, ite
 use Rattle.pop_parts.proofs.Reading.{reads_as_a_run}
 use Rattle.pop_parts.proofs.list.list_parts.Goals as goal
 
-pub items-init : goal.items-init
+pub loop-reader-init : goal.loop-reader-init
 unfolding limit
-items-init g c = rw c.new-reader.ensures (record {
+loop-reader-init g c = rw c.new-reader.ensures (record {
   listed = listed_start _ _ _;
   seen = tt;
   read_failures = refl;
@@ -16,52 +16,52 @@ items-init g c = rw c.new-reader.ensures (record {
 
 pub returns-then-is_end-clause-headline : goal.returns-then-is_end-clause-headline
 returns-then-is_end-clause-headline g c =
-    let i = c.items.invariant in
+    let i = c.loop-reader.invariant in
     let next = c.next_problem-item in
     let none : entry_in next.result ≡ None = none_there _ (sym c.is_end.ensures ∙ c.if-is_end.true) in
-    list_ends _ c.items.reader next.new.self c.items.number c.items.so_far _ (g.S.Source.remaining c.items.source) (g.S.Source.remaining next.new.source) _
-    (g.W.Sink.taken c.items.sink) next.result _ _ _ _ i.listed next.ensures.item none (next.ensures.seen i.seen)
+    list_ends _ c.loop-reader.reader next.new.self c.loop-reader.number c.loop-reader.so_far _ (g.S.Source.remaining c.loop-reader.source)
+    (g.S.Source.remaining next.new.source) _ (g.W.Sink.taken c.loop-reader.sink) next.result _ _ _ _ i.listed next.ensures.item none (next.ensures.seen i.seen)
     (failures_then _ _ _ _ _ _ (inl refl) next.ensures.ends i.read_failures next.ensures.counted) i.write_failures
 
 pub returns-in-Err-clause-headline : goal.returns-in-Err-clause-headline
 returns-in-Err-clause-headline g c =
-    let i = c.items.invariant in
+    let i = c.loop-reader.invariant in
     let next = c.next_problem-item in
     let there = entry_there _ (sym c.is_end.ensures ∙ c.if-is_end.false) in
-    list_cut _ c.items.reader next.new.self c.items.number c.items.so_far _ (g.S.Source.remaining c.items.source) (g.S.Source.remaining next.new.source) _
-    (g.W.Sink.taken c.items.sink) (g.W.Sink.taken c.print_item.new.sink) next.result there.0 _ _ _ _ i.listed next.ensures.item there.1
-    (next.ensures.seen i.seen) c.in-Err.ensures.bytes
+    list_cut _ c.loop-reader.reader next.new.self c.loop-reader.number c.loop-reader.so_far _ (g.S.Source.remaining c.loop-reader.source)
+    (g.S.Source.remaining next.new.source) _ (g.W.Sink.taken c.loop-reader.sink) (g.W.Sink.taken c.print_item.new.sink) next.result there.0 _ _ _ _ i.listed
+    next.ensures.item there.1 (next.ensures.seen i.seen) c.in-Err.ensures.bytes
     (failures_then _ _ _ _ _ _ (inl refl) next.ensures.ends i.read_failures next.ensures.counted) (rw (← i.write_failures) c.in-Err.ensures.counted)
 
 pub returns-then-is_end-clause-reads : goal.returns-then-is_end-clause-reads
 returns-then-is_end-clause-reads g c =
-    let i = c.items.invariant in
+    let i = c.loop-reader.invariant in
     let next = c.next_problem-item in
     let none : entry_in next.result ≡ None = none_there _ (sym c.is_end.ensures ∙ c.if-is_end.true) in
-    reads_as_a_run next.new.self _ (g.S.Source.remaining next.new.source) _ _ (ends_stopped c.items.reader next.new.self _ (g.S.Source.remaining c.items.source)
-    (g.S.Source.remaining next.new.source) next.result i.listed.reached next.ensures.item next.ensures.used none) (next.ensures.seen i.seen) next.ensures.waits
-    (failures_then _ _ _ _ _ _ (inl refl) next.ensures.ends i.read_failures next.ensures.counted)
+    reads_as_a_run next.new.self _ (g.S.Source.remaining next.new.source) _ _ (ends_stopped c.loop-reader.reader next.new.self _
+    (g.S.Source.remaining c.loop-reader.source) (g.S.Source.remaining next.new.source) next.result i.listed.reached next.ensures.item next.ensures.used none)
+    (next.ensures.seen i.seen) next.ensures.waits (failures_then _ _ _ _ _ _ (inl refl) next.ensures.ends i.read_failures next.ensures.counted)
 
 pub returns-in-Err-clause-reads : goal.returns-in-Err-clause-reads
 returns-in-Err-clause-reads g c =
-    let i = c.items.invariant in
+    let i = c.loop-reader.invariant in
     let next = c.next_problem-item in
     let there = entry_there _ (sym c.is_end.ensures ∙ c.if-is_end.false) in
-    reads_as_a_run next.new.self _ (g.S.Source.remaining next.new.source) _ _ (cut_stopped c.items.reader next.new.self _ (g.S.Source.remaining c.items.source)
-    (g.S.Source.remaining next.new.source) next.result there.0 i.listed.reached next.ensures.item next.ensures.used there.1) (next.ensures.seen i.seen)
-    next.ensures.waits
+    reads_as_a_run next.new.self _ (g.S.Source.remaining next.new.source) _ _ (cut_stopped c.loop-reader.reader next.new.self _
+    (g.S.Source.remaining c.loop-reader.source) (g.S.Source.remaining next.new.source) next.result there.0 i.listed.reached next.ensures.item
+    next.ensures.used there.1) (next.ensures.seen i.seen) next.ensures.waits
     (failures_then _ _ _ _ _ _ (inl refl) next.ensures.ends i.read_failures next.ensures.counted)
 
-pub items-preserved : goal.items-preserved
-items-preserved g c =
-    let i = c.items.invariant in
+pub loop-reader-preserved : goal.loop-reader-preserved
+loop-reader-preserved g c =
+    let i = c.loop-reader.invariant in
     let next = c.next_problem-item in
     let there = entry_there _ (sym c.is_end.ensures ∙ c.if-is_end.false) in
     let less = next.ensures.less (item_there next.result there.0 there.1) in
     record {
-      listed = rw c.status_after-so_far.ensures (listed_step _ c.items.reader next.new.self c.items.number c.items.so_far _
-          (g.S.Source.remaining c.items.source)
-          (g.S.Source.remaining next.new.source) _ (g.W.Sink.taken c.items.sink) (g.W.Sink.taken c.print_item.new.sink) next.result there.0 i.listed
+      listed = rw c.status_after-so_far.ensures (listed_step _ c.loop-reader.reader next.new.self c.loop-reader.number c.loop-reader.so_far _
+          (g.S.Source.remaining c.loop-reader.source)
+          (g.S.Source.remaining next.new.source) _ (g.W.Sink.taken c.loop-reader.sink) (g.W.Sink.taken c.print_item.new.sink) next.result there.0 i.listed
           next.ensures.item next.ensures.used there.1 c.in-Ok.ensures.bytes);
       seen = next.ensures.seen i.seen;
       read_failures = failures_then _ _ _ _ _ _ (inl refl) next.ensures.ends i.read_failures next.ensures.counted;

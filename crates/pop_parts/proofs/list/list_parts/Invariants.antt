@@ -3,8 +3,8 @@ use Rattle.pop_parts.proofs.Listing.{Listed}
 use Rattle.pop_parts.proofs.list.list_parts.Given as goal
 
 -- the items so far are read and listed
-abbrev pub invariant-items : goal.invariant-items
-invariant-items g l = record {
+abbrev pub invariant-loop-reader : goal.invariant-loop-reader
+invariant-loop-reader g l = record {
   listed : Listed l.depth l.reader l.number l.so_far (g.S.Source.remaining l.fn.source) (g.S.Source.remaining l.source) (g.W.Sink.taken l.fn.sink)
       (g.W.Sink.taken l.sink);
   seen : IsSeen l.reader.at.end (g.S.Source.remaining l.source);
@@ -13,5 +13,5 @@ invariant-items g l = record {
   few : l.number + work_left l.reader ≤ 2 ^ 31;
 }
 
-abbrev pub decreases-items : goal.decreases-items
-decreases-items g l = work_left l.reader
+abbrev pub decreases-loop-reader : goal.decreases-loop-reader
+decreases-loop-reader g l = work_left l.reader

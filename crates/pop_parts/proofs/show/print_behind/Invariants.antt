@@ -2,8 +2,8 @@ use Rattle.pop_parts.proofs.Words.{IsPrinting, drop, length, part_text, take, �
 use Rattle.pop_parts.proofs.show.print_behind.Given as goal
 
 -- the parts so far are printed, and the last ones are still to come
-abbrev pub invariant-parts : goal.invariant-parts
-invariant-parts g l = record {
+abbrev pub invariant-loop-left : goal.invariant-loop-left
+invariant-loop-left g l = record {
   problem : l.parts.problem ≡ l.fn.parts.problem;
   phase : l.parts.phase ≡ l.fn.parts.phase;
   printing : IsPrinting (part_text g.R.Rules.rule l.fn.parts.problem l.fn.parts.phase) (take l.count (drop (l.first - 1) l.fn.parts.left))
@@ -13,5 +13,5 @@ invariant-parts g l = record {
   counted : g.W.Sink.failures l.sink ≡ g.W.Sink.failures l.fn.sink;
 }
 
-abbrev pub decreases-parts : goal.decreases-parts
-decreases-parts g l = l.left
+abbrev pub decreases-loop-left : goal.decreases-loop-left
+decreases-loop-left g l = l.left

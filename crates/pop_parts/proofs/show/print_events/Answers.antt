@@ -3,11 +3,11 @@ use Rattle.std.proofs.lemmas.Result.{err_from_is_err_and}
 use Rattle.pop_print.specs.Events.{event_text}
 use Rattle.pop_parts.proofs.show.print_events.Goals as goal
 
-pub events-preserved : goal.events-preserved
-events-preserved g c =
-    let i = c.events.invariant in
+pub loop-event-preserved : goal.loop-event-preserved
+loop-event-preserved g c =
+    let i = c.loop-event.invariant in
     let rule = g.R.Rules.rule in
-    let first = first_shown (event_of rule c.args.search.now.problem) c.events.search.left c.next.new.self.left c.in-Some.event
+    let first = first_shown (event_of rule c.args.search.now.problem) c.loop-event.search.left c.next.new.self.left c.in-Some.event
     (rw i.problem at (sym c.in-Some.is ∙ c.next.ensures.event)) c.next.ensures.left in
     record {
       problem = c.next.ensures.problem ∙ i.problem;
@@ -17,9 +17,9 @@ events-preserved g c =
 
 pub returns-in_err-print_event-clause-bytes : goal.returns-in_err-print_event-clause-bytes
 returns-in_err-print_event-clause-bytes g c =
-    let i = c.events.invariant in
+    let i = c.loop-event.invariant in
     let rule = g.R.Rules.rule in
-    let first = first_shown (event_of rule c.args.search.now.problem) c.events.search.left c.next.new.self.left c.in-Some.event
+    let first = first_shown (event_of rule c.args.search.now.problem) c.loop-event.search.left c.next.new.self.left c.in-Some.event
     (rw i.problem at (sym c.in-Some.is ∙ c.next.ensures.event)) c.next.ensures.left in
     let p = err_from_is_err_and c.from_residual.result c.from_residual.ensures.1 in
     rw p.1 (printing_breaks_off event_text _ _ c.in-Some.event _ _ _ (rw first at i.printing) c.in_err-print_event.ensures.bytes)

@@ -4,9 +4,9 @@ use Rattle.pop_parts.proofs.Listing.{entry_there, item_there, none_there}
 use Rattle.pop_parts.proofs.Showing.{found_reads, item_cut, item_missing, item_shown, missing_reads, passed_start, passed_step}
 use Rattle.pop_parts.proofs.show.show_parts.Goals as goal
 
-pub items-init : goal.items-init
+pub loop-reader-init : goal.loop-reader-init
 unfolding limit
-items-init g c = rw c.new-reader.ensures (record {
+loop-reader-init g c = rw c.new-reader.ensures (record {
   passed = passed_start _ _;
   seen = tt;
   read_failures = refl;
@@ -16,21 +16,22 @@ items-init g c = rw c.new-reader.ensures (record {
 
 pub returns-then-is_end-clause-headline : goal.returns-then-is_end-clause-headline
 returns-then-is_end-clause-headline g c =
-    let i = c.items.invariant in
+    let i = c.loop-reader.invariant in
     let next = c.next_problem-item in
     let none : entry_in next.result ≡ None = none_there _ (sym c.is_end.ensures ∙ c.if-is_end.true) in
-    rw i.untouched (item_missing c.args.asked.now c.items.reader next.new.self c.items.number c.items.failed _ (g.S.Source.remaining c.items.source)
-    (g.S.Source.remaining next.new.source) _ next.result _ _ _ _ _ i.passed next.ensures.item none (next.ensures.seen i.seen) c.missing.ensures
+    rw i.untouched (item_missing c.args.asked.now c.loop-reader.reader next.new.self c.loop-reader.number c.loop-reader.failed _
+    (g.S.Source.remaining c.loop-reader.source) (g.S.Source.remaining next.new.source) _ next.result _ _ _ _ _ i.passed next.ensures.item none
+    (next.ensures.seen i.seen) c.outcome_without_item.ensures
     (failures_then _ _ _ _ _ _ (inl refl) next.ensures.ends i.read_failures next.ensures.counted) refl)
 
 pub returns-in-Ok-clause-headline : goal.returns-in-Ok-clause-headline
 returns-in-Ok-clause-headline g c =
-    let i = c.items.invariant in
+    let i = c.loop-reader.invariant in
     let next = c.next_problem-item in
     let there = entry_there _ (sym c.is_end.ensures ∙ c.if-is_end.false) in
-    let one : c.items.number ≡ c.args.asked.now.item = grind (arith, c.if-number-asked.true) in
+    let one : c.loop-reader.number ≡ c.args.asked.now.item = grind (arith, c.if-number-asked.true) in
     let some : is_some (entry_in next.result) ≡ true = rw there.1 refl in
-    item_shown c.args.asked.now c.items.reader next.new.self c.items.number c.items.failed _ (g.S.Source.remaining c.items.source)
+    item_shown c.args.asked.now c.loop-reader.reader next.new.self c.loop-reader.number c.loop-reader.failed _ (g.S.Source.remaining c.loop-reader.source)
     (g.S.Source.remaining next.new.source) _ _ next.result there.0 _ _ _ _ _ i.passed next.ensures.item there.1 (next.ensures.seen i.seen) one
     (rw i.untouched at c.in-Ok.ensures.bytes) (c.in-Ok.ensures.outcome some)
     (failures_then _ _ _ _ _ _ (inl refl) next.ensures.ends i.read_failures next.ensures.counted)
@@ -38,11 +39,11 @@ returns-in-Ok-clause-headline g c =
 
 pub returns-in-Err-clause-headline : goal.returns-in-Err-clause-headline
 returns-in-Err-clause-headline g c =
-    let i = c.items.invariant in
+    let i = c.loop-reader.invariant in
     let next = c.next_problem-item in
     let there = entry_there _ (sym c.is_end.ensures ∙ c.if-is_end.false) in
-    let one : c.items.number ≡ c.args.asked.now.item = grind (arith, c.if-number-asked.true) in
-    item_cut c.args.asked.now c.items.reader next.new.self c.items.number c.items.failed _ (g.S.Source.remaining c.items.source)
+    let one : c.loop-reader.number ≡ c.args.asked.now.item = grind (arith, c.if-number-asked.true) in
+    item_cut c.args.asked.now c.loop-reader.reader next.new.self c.loop-reader.number c.loop-reader.failed _ (g.S.Source.remaining c.loop-reader.source)
     (g.S.Source.remaining next.new.source) _ _ next.result there.0 _ _ _ _ i.passed next.ensures.item there.1 (next.ensures.seen i.seen) one
     (rw i.untouched at c.in-Err.ensures.bytes)
     (failures_then _ _ _ _ _ _ (inl refl) next.ensures.ends i.read_failures next.ensures.counted)
@@ -50,43 +51,43 @@ returns-in-Err-clause-headline g c =
 
 pub returns-then-is_end-clause-reads : goal.returns-then-is_end-clause-reads
 returns-then-is_end-clause-reads g c =
-    let i = c.items.invariant in
+    let i = c.loop-reader.invariant in
     let next = c.next_problem-item in
     let none : entry_in next.result ≡ None = none_there _ (sym c.is_end.ensures ∙ c.if-is_end.true) in
-    missing_reads _ c.items.reader next.new.self c.items.number c.items.failed _ (g.S.Source.remaining c.items.source) (g.S.Source.remaining next.new.source)
-    next.result _ _ i.passed next.ensures.item next.ensures.used none (next.ensures.seen i.seen) next.ensures.waits
+    missing_reads _ c.loop-reader.reader next.new.self c.loop-reader.number c.loop-reader.failed _ (g.S.Source.remaining c.loop-reader.source)
+    (g.S.Source.remaining next.new.source) next.result _ _ i.passed next.ensures.item next.ensures.used none (next.ensures.seen i.seen) next.ensures.waits
     (failures_then _ _ _ _ _ _ (inl refl) next.ensures.ends i.read_failures next.ensures.counted)
 
 pub returns-in-Ok-clause-reads : goal.returns-in-Ok-clause-reads
 returns-in-Ok-clause-reads g c =
-    let i = c.items.invariant in
+    let i = c.loop-reader.invariant in
     let next = c.next_problem-item in
     let there = entry_there _ (sym c.is_end.ensures ∙ c.if-is_end.false) in
-    let one : c.items.number ≡ c.args.asked.now.item = grind (arith, c.if-number-asked.true) in
-    found_reads _ c.items.reader next.new.self c.items.number c.items.failed _ (g.S.Source.remaining c.items.source) (g.S.Source.remaining next.new.source)
-    next.result there.0 _ _ i.passed next.ensures.item next.ensures.used there.1 one (next.ensures.seen i.seen) next.ensures.waits
-    (failures_then _ _ _ _ _ _ (inl refl) next.ensures.ends i.read_failures next.ensures.counted)
+    let one : c.loop-reader.number ≡ c.args.asked.now.item = grind (arith, c.if-number-asked.true) in
+    found_reads _ c.loop-reader.reader next.new.self c.loop-reader.number c.loop-reader.failed _ (g.S.Source.remaining c.loop-reader.source)
+    (g.S.Source.remaining next.new.source) next.result there.0 _ _ i.passed next.ensures.item next.ensures.used there.1 one (next.ensures.seen i.seen)
+    next.ensures.waits (failures_then _ _ _ _ _ _ (inl refl) next.ensures.ends i.read_failures next.ensures.counted)
 
 pub returns-in-Err-clause-reads : goal.returns-in-Err-clause-reads
 returns-in-Err-clause-reads g c =
-    let i = c.items.invariant in
+    let i = c.loop-reader.invariant in
     let next = c.next_problem-item in
     let there = entry_there _ (sym c.is_end.ensures ∙ c.if-is_end.false) in
-    let one : c.items.number ≡ c.args.asked.now.item = grind (arith, c.if-number-asked.true) in
-    found_reads _ c.items.reader next.new.self c.items.number c.items.failed _ (g.S.Source.remaining c.items.source) (g.S.Source.remaining next.new.source)
-    next.result there.0 _ _ i.passed next.ensures.item next.ensures.used there.1 one (next.ensures.seen i.seen) next.ensures.waits
-    (failures_then _ _ _ _ _ _ (inl refl) next.ensures.ends i.read_failures next.ensures.counted)
+    let one : c.loop-reader.number ≡ c.args.asked.now.item = grind (arith, c.if-number-asked.true) in
+    found_reads _ c.loop-reader.reader next.new.self c.loop-reader.number c.loop-reader.failed _ (g.S.Source.remaining c.loop-reader.source)
+    (g.S.Source.remaining next.new.source) next.result there.0 _ _ i.passed next.ensures.item next.ensures.used there.1 one (next.ensures.seen i.seen)
+    next.ensures.waits (failures_then _ _ _ _ _ _ (inl refl) next.ensures.ends i.read_failures next.ensures.counted)
 
-pub items-preserved : goal.items-preserved
-items-preserved g c =
-    let i = c.items.invariant in
+pub loop-reader-preserved : goal.loop-reader-preserved
+loop-reader-preserved g c =
+    let i = c.loop-reader.invariant in
     let next = c.next_problem-item in
     let there = entry_there _ (sym c.is_end.ensures ∙ c.if-is_end.false) in
     let less = next.ensures.less (item_there next.result there.0 there.1) in
-    let another : c.items.number ≢ c.args.asked.now.item = grind (arith, c.if-number-asked.false) in
+    let another : c.loop-reader.number ≢ c.args.asked.now.item = grind (arith, c.if-number-asked.false) in
     record {
-      passed = rw c.tells_failure-failed.ensures (passed_step _ c.items.reader next.new.self c.items.number c.items.failed _
-          (g.S.Source.remaining c.items.source)
+      passed = rw c.tells_failure-failed.ensures (passed_step _ c.loop-reader.reader next.new.self c.loop-reader.number c.loop-reader.failed _
+          (g.S.Source.remaining c.loop-reader.source)
           (g.S.Source.remaining next.new.source) next.result there.0 i.passed next.ensures.item next.ensures.used there.1 another);
       seen = next.ensures.seen i.seen;
       read_failures = failures_then _ _ _ _ _ _ (inl refl) next.ensures.ends i.read_failures next.ensures.counted;

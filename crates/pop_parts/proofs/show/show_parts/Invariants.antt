@@ -3,8 +3,8 @@ use Rattle.pop_parts.proofs.Showing.{Passed}
 use Rattle.pop_parts.proofs.show.show_parts.Given as goal
 
 -- the items so far are read, and none is the one that is asked for
-abbrev pub invariant-items : goal.invariant-items
-invariant-items g l = record {
+abbrev pub invariant-loop-reader : goal.invariant-loop-reader
+invariant-loop-reader g l = record {
   passed : Passed l.asked.item l.reader l.number l.failed (g.S.Source.remaining l.fn.source) (g.S.Source.remaining l.source);
   seen : IsSeen l.reader.at.end (g.S.Source.remaining l.source);
   read_failures : g.S.Source.failures l.source ≡ failures_after Open l.reader.at.end (g.S.Source.failures l.fn.source);
@@ -12,5 +12,5 @@ invariant-items g l = record {
   few : l.number + work_left l.reader ≤ 2 ^ 31;
 }
 
-abbrev pub decreases-items : goal.decreases-items
-decreases-items g l = work_left l.reader
+abbrev pub decreases-loop-reader : goal.decreases-loop-reader
+decreases-loop-reader g l = work_left l.reader

@@ -2,8 +2,8 @@ use Rattle.pop_solve.proofs.Words.{IfSome, IsPlaceIn, length, moves_behind, ◌�
 use Rattle.pop_solve.proofs.guess.cheapest_defence.Given as goal
 
 -- the board stands as it was, and what is known is of its moves
-abbrev pub invariant-moves : goal.invariant-moves
-invariant-moves g l = (l.stand ≡ l.fn.board) × IfSome l.known (λ k. IsPlaceIn g.R.Rules.rule l.fn.board k)
+abbrev pub invariant-loop-by : goal.invariant-loop-by
+invariant-loop-by g l = (l.stand ≡ l.fn.board) × IfSome l.known (λ k. IsPlaceIn g.R.Rules.rule l.fn.board k)
 
-abbrev pub decreases-moves : goal.decreases-moves
-decreases-moves g l = length (moves_behind g.R.Rules.rule l.fn.board l.place)
+abbrev pub decreases-loop-by : goal.decreases-loop-by
+decreases-loop-by g l = length (moves_behind g.R.Rules.rule l.fn.board l.place)

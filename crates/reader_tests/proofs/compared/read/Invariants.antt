@@ -3,7 +3,7 @@ use Rattle.pop_text.specs.declared.scanner.End.TheVariants.{Open}
 use Rattle.reader_tests.proofs.compared.read.Given as goal
 
 -- no call has failed while the end isn't known
-abbrev pub invariant-items : goal.invariant-items
-invariant-items l = record {
+abbrev pub invariant-loop-round : goal.invariant-loop-round
+invariant-loop-round l = record {
   sound : l.reader.at.end ≡ Open → l.source.failures ≡ 0;
 }
