@@ -4,13 +4,12 @@ use Rattle.pop_solve.specs.declared.aim.Battle.{Battle}
 use Rattle.pop_solve.specs.declared.aim.Play.TheVariants.{Help as HelpPlay, Battle as BattlePlay}
 use Rattle.std.specs.Prelude.{◌≡◌, ℕ, zero, suc, ◌+◌, ◌-◌, ◌≤◌, ◌^◌, min, ◌==◌, Bool, true, false, ◌||◌, if◌then◌else◌, List, [], ◌∷◌, ◌++◌, map, length, drop, ◌⊎◌}
 use Rattle.chess_core.specs.Position.{Position}
-use Rattle.chess_core.specs.declared.man.Move.{Move}
 use Rattle.chess_rules.specs.RuleSet.{RuleSet}
 use Rattle.pop_input.specs.Posed.{Posed}
 use Rattle.pop_input.specs.Stipulations.{is_help}
 use Rattle.pop_solve.specs.ties.Frames.{Frame, to_open}
 use Rattle.pop_solve.specs.ties.Walk.{fewest_left, path, to_come, IsEnded, IsWalking, IsCounted, are_whites}
-use Rattle.pop_solve.specs.Events.{BareEvent, impossible, is_set, total, play_start, events_from, path_event, phase_start, phase_half_moves, event_of, events}
+use Rattle.pop_solve.specs.Events.{BareEvent, Path, impossible, is_set, total, play_start, events_from, path_event, phase_start, phase_half_moves, event_of, events}
 use Rattle.pop_solve.specs.ties.Seen.{fewest_from, fewest_tried, is_never_stopped, is_unstopped, is_walked_once, walk_from, whole_walk, StandsOn}
 use Rattle.pop_events.specs.declared.event.Event.{Event}
 use Rattle.pop_events.specs.declared.event.Phase.{Phase}
@@ -42,7 +41,7 @@ module _ {M : Type 0} where
       else beginning_count help (suc n) xs
 
 -- the paths to come from the frames of a phase
-abbrev pub phase_paths : RuleSet → Posed → Phase → List Frame → List (List Move)
+abbrev pub phase_paths : RuleSet → Posed → Phase → List Frame → List Path
 phase_paths rule problem phase frames =
     to_come rule (plan_of problem) (phase_half_moves problem phase) (phase_start problem phase)
     frames

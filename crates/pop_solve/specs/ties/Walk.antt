@@ -1,4 +1,5 @@
 -- What the frames of a walk stand for.
+use Rattle.pop_solve.specs.Events.{Path}
 use Rattle.pop_solve.specs.declared.aim.Battle.{Battle}
 use Rattle.pop_solve.specs.declared.aim.Battle.TheVariants.{Direct, Selfmate}
 use Rattle.pop_input.specs.declared.stipulation.Goal.TheVariants.{Mate}
@@ -91,13 +92,13 @@ module _ {P M : Type 0} where
       (walk_length plan.play (has_variations plan.tree) game t q) q (game.moves q) else 0)) ms
 
 -- the moves that lead to the top frame
-unfoldable pub path : List Frame → List Move
+unfoldable pub path : List Frame → Path
 path [] = []
 path (f ∷ []) = []
 path (f ∷ (g ∷ below)) = path (g ∷ below) ++ f.by ∷ []
 
 -- the paths still to come from all frames, in order
-unfoldable pub to_come : RuleSet → Plan → ℕ → Position → List Frame → List (List Move)
+unfoldable pub to_come : RuleSet → Plan → ℕ → Position → List Frame → List Path
 to_come rule plan h p [] = []
 to_come rule plan h p (f ∷ below) =
     map (λ line. path (f ∷ below) ++ line)
