@@ -98,7 +98,8 @@ returns-in-Cut-clause-item g c =
 
 pub returns-in-Some-clause-numbered : goal.returns-in-Some-clause-numbered
 returns-in-Some-clause-numbered g c =
-    rw c.item_at_close.ensures (word_numbered _ _ _ _ _ _ _ _ _ c.loop-keyword.invariant.block _ _ c.in-Word.ensures.token.0 c.read_word.ensures.read c.in-Some.last)
+    rw c.item_at_close.ensures
+    (word_numbered _ _ _ _ _ _ _ _ _ c.loop-keyword.invariant.block _ _ c.in-Word.ensures.token.0 c.read_word.ensures.read c.in-Some.last)
 
 pub returns-in-Ended-clause-numbered : goal.returns-in-Ended-clause-numbered
 returns-in-Ended-clause-numbered g c =
