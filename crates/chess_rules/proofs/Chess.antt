@@ -54,7 +54,7 @@ pub use Rattle.chess_rules.specs.ties.Shields.{has_fairy_lines, is_fairy, AreRid
 unfoldable pub use Rattle.chess_rules.specs.ties.Shields.{has_fairy, is_behind, is_checker, is_on_fairy_line, is_plain, is_reached, is_shut, may_expose, may_stand_between, cannot_expose}
 pub use Rattle.chess_rules.specs.ties.Sifting.{AreSifted, IsSifted, is_of_others, is_wanted}
 pub use Rattle.chess_rules.specs.ties.Sight.{AreArrived, AreOthers, AreSeen, is_arriving_as, is_simple, king_after, own_after, sight_after}
-pub use Rattle.chess_rules.specs.ties.Targets.{AreCandidates, AreKept, AreOrigins, IsAimed, is_promoting, is_arrival_of, pawn_goes}
+pub use Rattle.chess_rules.specs.ties.Targets.{AreCandidates, AreKept, AreOrigins, IsAimed, is_promoting, is_arrival_of, passes_to, pawn_goes}
 unfoldable pub use Rattle.chess_rules.specs.ties.Targets.{is_arrival, may_go, steps_to}
 pub use Rattle.chess_rules.specs.ties.Undoing.{CanReturn, leaving_man, return_square}
 unfoldable pub use Rattle.chess_rules.specs.ties.Undoing.{before_by, returned_men, uncastled_men}

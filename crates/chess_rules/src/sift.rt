@@ -8,11 +8,10 @@ ghost use Rattle.chess_rules.specs.ties.Sifting.{AreSifted, is_wanted};
 ghost use Rattle.chess_rules.specs.ties.Targets.{AreCandidates};
 
 use crate::counting::count_origin;
-use crate::legal::is_legal;
 use crate::legal_moves::{Known, candidates, own_origins};
-use crate::moves::triple;
 use crate::rules::Rules;
-use crate::targets::{PER_ORIGIN, TRIPLES, next_from};
+use crate::sought::next_of_man;
+use crate::targets::{PER_ORIGIN, TRIPLES};
 use crate::words::next_bit;
 use chess_core::board::Board;
 use chess_core::man::Move;
@@ -69,40 +68,6 @@ fn wanted_squares<R: Rules, S: Sift>(
     squares & sift.sift::<R>(board, from, squares)
 }
 
-// The first triple of the man on `from` that is a legal move to one of the squares, from the one numbered `start` on, each
-// counted from the origin's first; `PER_ORIGIN` where there is none. The board is unchanged.
-fn next_wanted<R: Rules, S: Sift>(
-    board: &mut Board,
-    known: Known,
-    squares: Squares,
-    from: Square,
-    start: u16,
-) -> u16
-    requires well_formed { IsWellFormed board.old }
-    requires known { IsKnownIn R.rule board.old known }
-    requires squares { AreCandidates R.rule board.old
-        (is_wanted R.rule board.old (S.test R.rule board.old)) from squares }
-    requires start { start ≤ per_origin }
-    ensures low { start ≤ result }
-    ensures high { result ≤ per_origin }
-    ensures none { HaveNone (is_wanted R.rule board.old (S.test R.rule board.old))
-        (per_origin * from + start) (per_origin * from + result) }
-    ensures legal { result < per_origin
-        → is_legal R.rule board.old (triple_at (per_origin * from + result)) ≡ true }
-    ensures board { board.new ≡ board.old }
-{
-    let first = u16::from(from.index()) * PER_ORIGIN;
-    let mut at = next_from(board, from, squares, start);
-    while at < PER_ORIGIN {
-        let m = triple(first + at);
-        if is_legal::<R>(board, known.shield_squares, known.evasion_squares, m) {
-            return at;
-        }
-        at = next_from(board, from, squares, at + 1);
-    }
-    PER_ORIGIN
-}
-
 // The number of the first legal move that the sieve leaves, from the triple numbered `start` on; 28,672 where there is
 // none. The legal moves before it, which it takes, are counted. The board is unchanged.
 #[tactic(auto, using(crate::proofs::Tests::find_first, crate::proofs::listing_moves::Counting::few_between, crate::proofs::listing_moves::Counting::none_left))]
@@ -132,7 +97,7 @@ pub(crate) fn next_left<R: Rules, S: Sift>(
         let squares = candidates::<R>(board, known.evasion_squares, from);
         let wanted = wanted_squares::<R, S>(board, sift, from, squares);
         let begin = number.saturating_sub(first);
-        let at = next_wanted::<R, S>(board, known, wanted, from, begin);
+        let at = next_of_man::<R, Known>(board, &known, from, wanted, begin, PER_ORIGIN);
         *passed += count_origin::<R>(board, known, squares, from, begin, at);
         if at < PER_ORIGIN {
             return first + at;

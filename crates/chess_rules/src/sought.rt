@@ -1,16 +1,18 @@
 //! The triples looked through for those that pass a test, most of them left out by what is known of a
 //! position.
-ghost use Rattle.std.specs.Prelude.{◌≡◌, ◌≤◌, ◌<◌, Some, true};
+ghost use Rattle.std.specs.Prelude.{◌≡◌, ◌+◌, ◌*◌, ◌≤◌, ◌<◌, Some, false, true};
+ghost use Rattle.chess_core.specs.Position.{is_man, man_on};
 ghost use Rattle.chess_core.specs.WellFormed.{IsWellFormed};
-ghost use Rattle.chess_rules.specs.ties.Places.{HaveNone, all_triples, triple_at};
-ghost use Rattle.chess_rules.specs.ties.Targets.{AreCandidates, AreKept, AreOrigins, IsAimed};
+ghost use Rattle.chess_core.specs.declared.man.Kind.TheVariants.{Pawn};
+ghost use Rattle.chess_rules.specs.ties.Places.{HaveNone, all_triples, per_origin, triple_at};
+ghost use Rattle.chess_rules.specs.ties.Targets.{AreCandidates, AreKept, AreOrigins, IsAimed, passes_to};
 
 use crate::moves::triple;
 use crate::rules::Rules;
-use crate::targets::{Kept, PER_ORIGIN, TRIPLES, next_from};
-use crate::words::next_bit;
+use crate::targets::{Kept, PER_ARRIVAL, PER_ORIGIN, next_from};
+use crate::words::{contains, next_bit};
 use chess_core::board::Board;
-use chess_core::man::Move;
+use chess_core::man::{Kind, Move};
 use chess_core::square::{Square, Squares};
 
 /// What is known of a position where moves that pass a test are looked for: the test, what a move that is found
@@ -71,36 +73,117 @@ fn keep<R: Rules, S: Sought>(board: &Board, sought: &S, kept: Kept, from: Square
     }
 }
 
-// The first triple with one of these origins that may pass, from the one numbered `start` on; TRIPLES where
-// there is none.
-fn next_candidate<R: Rules, S: Sought>(
-    board: &Board,
+// The first triple of the pawn on `from` that is found, of those that go to one of the squares, from the one
+// numbered `start` on and before the one numbered `end`, each counted from the origin's first; `end` where there is
+// none. The board is unchanged.
+fn next_of_pawn<R: Rules, S: Sought>(
+    board: &mut Board,
     sought: &S,
-    origins: Squares,
-    kept: &mut Kept,
+    from: Square,
+    squares: Squares,
     start: u16,
+    end: u16,
 ) -> u16
-    requires well_formed { IsWellFormed board.now }
-    requires fits { S.fits sought.now R.rule board.now }
-    requires origins { AreOrigins (S.test R.rule board.now) origins }
-    requires kept { AreKept R.rule board.now (S.test R.rule board.now) kept.old }
-    ensures low { result < all_triples → start ≤ result }
-    ensures high { result ≤ all_triples }
-    ensures none { HaveNone (S.test R.rule board.now) start result }
-    ensures aimed { result < all_triples → IsAimed R.rule board.now (triple_at result) }
-    ensures kept { AreKept R.rule board.now (S.test R.rule board.now) kept.new }
+    requires well_formed { IsWellFormed board.old }
+    requires fits { S.fits sought.now R.rule board.old }
+    requires squares { AreCandidates R.rule board.old
+        (passes_to squares (S.test R.rule board.old)) from squares }
+    requires start { start ≤ per_origin }
+    requires end { end ≤ per_origin }
+    ensures low { result < end → start ≤ result }
+    ensures high { result ≤ end }
+    ensures none { HaveNone (passes_to squares (S.test R.rule board.old))
+        (per_origin * from + start) (per_origin * from + result) }
+    ensures found { result < end
+        → S.found R.rule board.old (triple_at (per_origin * from + result)) ≡ true }
+    ensures board { board.new ≡ board.old }
 {
-    let mut number = start;
-    while let Some(from) = next_bit(origins, (number / PER_ORIGIN) as u8) {
-        let first = u16::from(from.index()) * PER_ORIGIN;
-        *kept = keep::<R, S>(board, sought, *kept, from);
-        let at = next_from(board, from, kept.squares, number.saturating_sub(first));
-        if at < PER_ORIGIN {
-            return first + at;
+    let first = u16::from(from.index()) * PER_ORIGIN;
+    let mut at = next_from(board, from, squares, start);
+    while at < end {
+        if sought.is_found::<R>(board, triple(first + at)) {
+            return at;
         }
-        number = first + PER_ORIGIN;
+        at = next_from(board, from, squares, at + 1);
     }
-    TRIPLES
+    end
+}
+
+// The first triple of the man on `from`, who is no pawn, as above: he goes to each square by one, that without a
+// promotion.
+fn next_of_piece<R: Rules, S: Sought>(
+    board: &mut Board,
+    sought: &S,
+    from: Square,
+    squares: Squares,
+    start: u16,
+    end: u16,
+) -> u16
+    requires well_formed { IsWellFormed board.old }
+    requires fits { S.fits sought.now R.rule board.old }
+    requires squares { AreCandidates R.rule board.old
+        (passes_to squares (S.test R.rule board.old)) from squares }
+    requires no_pawn { is_man (man_on board.old.men from) board.old.turn Pawn ≡ false }
+    requires start { start ≤ per_origin }
+    requires end { end ≤ per_origin }
+    ensures low { result < end → start ≤ result }
+    ensures high { result ≤ end }
+    ensures none { HaveNone (passes_to squares (S.test R.rule board.old))
+        (per_origin * from + start) (per_origin * from + result) }
+    ensures found { result < end
+        → S.found R.rule board.old (triple_at (per_origin * from + result)) ≡ true }
+    ensures board { board.new ≡ board.old }
+{
+    let mut arrival = ((start + PER_ARRIVAL - 1) / PER_ARRIVAL) as u8;
+    while let Some(to) = next_bit(squares, arrival) {
+        let number = u16::from(to.index()) * PER_ARRIVAL;
+        if number >= end {
+            return end;
+        }
+        let m = Move {
+            from,
+            to,
+            promo: None,
+        };
+        if sought.is_found::<R>(board, m) {
+            return number;
+        }
+        arrival = to.index() + 1;
+    }
+    end
+}
+
+// The first triple of the man on `from`, as above, whoever he is.
+pub(crate) fn next_of_man<R: Rules, S: Sought>(
+    board: &mut Board,
+    sought: &S,
+    from: Square,
+    squares: Squares,
+    start: u16,
+    end: u16,
+) -> u16
+    requires well_formed { IsWellFormed board.old }
+    requires fits { S.fits sought.now R.rule board.old }
+    requires squares { AreCandidates R.rule board.old
+        (passes_to squares (S.test R.rule board.old)) from squares }
+    requires start { start ≤ per_origin }
+    requires end { end ≤ per_origin }
+    ensures low { result < end → start ≤ result }
+    ensures high { result ≤ end }
+    ensures none { HaveNone (passes_to squares (S.test R.rule board.old))
+        (per_origin * from + start) (per_origin * from + result) }
+    ensures found { result < end
+        → S.found R.rule board.old (triple_at (per_origin * from + result)) ≡ true }
+    ensures board { board.new ≡ board.old }
+{
+    if squares == 0 {
+        return end;
+    }
+    if contains(board.squares(board.turn(), Kind::Pawn), from) {
+        next_of_pawn::<R, S>(board, sought, from, squares, start, end)
+    } else {
+        next_of_piece::<R, S>(board, sought, from, squares, start, end)
+    }
 }
 
 /// The number of the first move that is found from the triple numbered `start` on and before the one numbered
@@ -125,15 +208,19 @@ pub fn next_passing<R: Rules, S: Sought>(
 {
     let origins = sought.origins::<R>(board);
     let mut number = start;
-    while number < end {
-        number = next_candidate::<R, S>(board, sought, origins, kept, number);
-        if number >= end {
+    while let Some(from) = next_bit(origins, (number / PER_ORIGIN) as u8) {
+        let first = u16::from(from.index()) * PER_ORIGIN;
+        if first >= end {
             return end;
         }
-        if sought.is_found::<R>(board, triple(number)) {
-            return number;
+        *kept = keep::<R, S>(board, sought, *kept, from);
+        let begin = number.saturating_sub(first);
+        let limit = (end - first).min(PER_ORIGIN);
+        let at = next_of_man::<R, S>(board, sought, from, kept.squares, begin, limit);
+        if at < PER_ORIGIN {
+            return first + at;
         }
-        number += 1;
+        number = first + PER_ORIGIN;
     }
     end
 }

@@ -64,6 +64,10 @@ pub record AreCandidates (rule : RuleSet) (p : Position) (test : Move → Bool) 
   pub inside : (t : ℕ) → t < 64 → (bit_at w t == 1) ≡ true → is_arrival rule p s t ≡ true
   pub outside : (m : Move) → m.from ≡ s → m.to < 64 → (bit_at w m.to == 1) ≡ false → test m ≡ false
 
+-- the move goes to a square of the word and passes the test
+abbrev pub passes_to : ℕ → (Move → Bool) → Move → Bool
+passes_to w test m = bit_at w m.to == 1 && test m
+
 -- the word that is kept is that of the origin that is kept with it
 pub record AreKept (rule : RuleSet) (p : Position) (test : Move → Bool) (k : Kept) : Type 0 where
   pub are : (s : ℕ) → k.origin ≡ Some s → AreCandidates rule p test s k.squares
