@@ -111,6 +111,7 @@ fn next_of_pawn<R: Rules, S: Sought>(
 
 // The first triple of the man on `from`, who is no pawn, as above: he goes to each square by one, that without a
 // promotion.
+#[tactic(auto, using(crate::proofs::Tests::find_first, crate::proofs::listing_moves::Walks::plain_aimed, crate::proofs::Chess::cases_eq, crate::proofs::Chess::cases_lt), unfolding(crate::specs::ties::Places::triple_at))]
 fn next_of_piece<R: Rules, S: Sought>(
     board: &mut Board,
     sought: &S,
@@ -154,6 +155,7 @@ fn next_of_piece<R: Rules, S: Sought>(
 }
 
 // The first triple of the man on `from`, as above, whoever he is.
+#[tactic(auto, using(crate::proofs::Bits::word_has), unfolding(chess_core::specs::ties::Words::squares_of))]
 pub(crate) fn next_of_man<R: Rules, S: Sought>(
     board: &mut Board,
     sought: &S,

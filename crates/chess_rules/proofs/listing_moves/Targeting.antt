@@ -86,7 +86,7 @@ pub from-join : (p : Position) (s z a b c : ℕ) → IsBarrenFrom p s z a b → 
 from-join p s z a b c x y = search rules
 
 -- no square of the word lies between
-pub from-missed : (p : Position) (s a b w : ℕ) → ((t : ℕ) → a / per_arrival ≤ t → per_arrival * t < b → (bit_at w t == 1) ≡ false) → IsBarrenFrom p s w a b
+from-missed : (p : Position) (s a b w : ℕ) → ((t : ℕ) → a / per_arrival ≤ t → per_arrival * t < b → (bit_at w t == 1) ≡ false) → IsBarrenFrom p s w a b
 from-missed p s a b w none = search rules
 
 -- each promotion but the first names a kind

@@ -1,6 +1,6 @@
 -- No move is missed by walking from candidate to candidate.
-use Rattle.chess_rules.proofs.Chess.{AreCandidates, AreEvasionsFrom, AreOrigins, Bool, HaveNone, IsAimed, IsBarrenFrom, IsNamed, Man, Move, None, Option, Pawn, Position, RuleSet, Some, all_triples, and_left, and_parts, and_right, ap, arith, bit_and, bit_at, bit_at-lt, bit_at-zero, bit_at_and, cases_Bool, cases_eq, cases_lt, eq-eqb, eqb-true, false, false≢true, find, find_first, find_no, inl, inr, is_arrival, is_arrival_of, is_legal, is_legal-idle, is_man, is_pseudo_legal, man_on, not, passes_to, per_arrival, per_origin, promotion_at, range_with_len, refl, rules, same_kind, side_of, subst, sym, triple_at, true, word, word_has, ℕ, ◌%◌, ◌*◌, ◌+◌, ◌-◌, ◌/◌, ◌<◌, ◌==◌, ◌≡◌, ◌≤◌}
-use Rattle.chess_rules.proofs.listing_moves.Targeting.{arrival_from, arrival_needed, false_by, from-missed, from-unpromoted, no_pawn_arrives, own_moves}
+use Rattle.chess_rules.proofs.Chess.{AreCandidates, AreEvasionsFrom, AreOrigins, Bool, HaveNone, IsAimed, IsBarrenFrom, IsNamed, Man, Move, None, Option, Pawn, Position, RuleSet, Some, all_triples, and_left, and_parts, and_right, ap, arith, bit_and, bit_at, bit_at-lt, bit_at-zero, bit_at_and, cases_Bool, cases_eq, cases_lt, eq-eqb, eqb-true, false, false≢true, find, find_first, find_no, inl, inr, is_arrival, is_arrival_of, is_legal, is_legal-idle, is_man, is_pseudo_legal, is_some, man_on, not, passes_to, per_arrival, per_origin, promotion_at, range_with_len, refl, rules, same_kind, side_of, subst, sym, triple_at, true, word, word_has, ℕ, ◌%◌, ◌*◌, ◌+◌, ◌-◌, ◌/◌, ◌<◌, ◌==◌, ◌≡◌, ◌≤◌}
+use Rattle.chess_rules.proofs.listing_moves.Targeting.{arrival_from, arrival_needed, false_by, named_by, no_pawn_arrives, no_promotion_here, own_moves, some_named}
 
 -- squares of two words
 pub on_first : (a b i : ℕ) → (bit_at (bit_and a b) i == 1) ≡ true → (bit_at a i == 1) ≡ true
@@ -23,28 +23,11 @@ triple_of s a lt =
     let promo : (per_origin * s + a) % per_arrival ≡ a % per_arrival = omega (arith, lt) in
     rw (from, to, promo) refl
 
--- and of those the one that goes to a square without a promotion
-pub plain_triple : (s t : ℕ) → t < 64 → triple_at (per_origin * s + per_arrival * t) ≡ record { from = s; to = t; promo = None }
-plain_triple s t lt = search (rules, triple_of)
-
--- the man who goes to a square is no pawn, if no pawn of the side to move stands on his origin
-goer : (rule : RuleSet) (p : Position) (s t : ℕ) (o : Option Man) → man_on p.men s ≡ o → is_man o p.turn Pawn ≡ false → is_arrival_of rule p o s t ≡ true
-    → (x : Man) × ((man_on p.men s ≡ Some x) × (same_kind x.kind Pawn ≡ false))
-goer rule p s t None here none h = absurd (false≢true h)
-goer rule p s t (Some x) here none h = (x, (here, grind (arith, and_parts, cases_Bool)))
-
--- he goes there without a promotion
-pub plain_here : (rule : RuleSet) (p : Position) (m : Move) → is_man (man_on p.men m.from) p.turn Pawn ≡ false → is_arrival rule p m.from m.to ≡ true
+-- where no pawn of the side to move stands, a man goes without a promotion
+pub plain_aimed : (rule : RuleSet) (p : Position) (m : Move) → is_man (man_on p.men m.from) p.turn Pawn ≡ false → is_arrival rule p m.from m.to ≡ true
     → m.promo ≡ None → IsAimed rule p m
 unfolding is_arrival
-plain_here rule p m none h e =
-    let x = goer rule p m.from m.to (man_on p.men m.from) refl none h in
-    record { man = x.0; here = x.1.0; arrival = h; promotion = rw e (sym (no_pawn_arrives x.0 m.to x.1.1)) }
-
--- the squares of a word that may pass are candidates for a test of moves to them
-pub to_candidates : (rule : RuleSet) (p : Position) (test other : Move → Bool) (s w : ℕ) → AreCandidates rule p test s w
-    → AreCandidates rule p (passes_to w other) s w
-to_candidates rule p test other s w are = record { inside = are.inside; outside = λ m from small off. and_left _ _ off }
+plain_aimed rule p m none h e = grind (arith, false≢true, no_pawn_arrives, and_parts, cases_Bool, cases_eq)
 
 -- where none is found that goes to a candidate, none passes
 pub none-to : (rule : RuleSet) (p : Position) (test found : Move → Bool) (s w a b : ℕ) → b ≤ per_origin → AreCandidates rule p test s w
@@ -92,47 +75,6 @@ module _ (rule : RuleSet) (p : Position) (test : Move → Bool) (needs : (m : Mo
   pub none-until : (a b c : ℕ) → b ≤ c → HaveNone test a c → HaveNone test a b
   none-until a b c le h = search rules
 
-  module _ (s w : ℕ) (are : AreCandidates rule p test s w) (none : is_man (man_on p.men s) p.turn Pawn ≡ false) where
-    -- another man than a pawn has no triple with a promotion
-    plain-rest : (t a : ℕ) → t < 64 → per_arrival * t < a → IsBarrenFrom p s w a (per_arrival * (t + 1))
-    plain-rest t a small less = record {
-      fails = λ law k lo hi on.
-          let to : k / per_arrival ≡ t = omega (arith, lo, hi, less) in
-          let h = plain_here rule p (record { from = s; to = t; promo = None }) none (are.inside t small (rw to at on)) refl in
-          (from-unpromoted p h.man s w t a h.here (sym h.promotion) less).fails law k lo (omega (arith, hi)) on;
-    }
-
-    -- so none passes before the next arrival
-    pub plain-next : (a : ℕ) → a ≤ per_origin → HaveNone test (per_origin * s + a) (per_origin * s + per_arrival * arrival_from a)
-    plain-next a le = grind (arith, cases_eq (a % per_arrival) 0, none-from s w a (per_arrival * arrival_from a), are, plain-rest (a / per_arrival) a)
-
-    -- up to the next candidate
-    pub plain-before : (z a t : ℕ) → HaveNone test (per_origin * s + z) (per_origin * s + per_arrival * a)
-        → find (λ q. bit_at w q == 1) (range_with_len a (64 - a)) ≡ Some t → HaveNone test (per_origin * s + z) (per_origin * s + per_arrival * t)
-    plain-before z a t past found =
-        let f = find_first (λ q. bit_at w q == 1) a (64 - a) t found in
-        none-join _ (per_origin * s + per_arrival * a) _ past
-        (none-from s w (per_arrival * a) (per_arrival * t) (omega (arith, f.high)) are
-        (from-missed p s (per_arrival * a) (per_arrival * t) w (λ q lo hi. f.before q (omega (arith, lo)) (omega (arith, hi)))))
-
-    -- and past it, if it fails
-    pub plain-behind : (z a t : ℕ) → HaveNone test (per_origin * s + z) (per_origin * s + per_arrival * a)
-        → find (λ q. bit_at w q == 1) (range_with_len a (64 - a)) ≡ Some t → test (triple_at (per_origin * s + per_arrival * t)) ≡ false
-        → HaveNone test (per_origin * s + z) (per_origin * s + per_arrival * (t + 1))
-    plain-behind z a t past found fails =
-        let f = find_first (λ q. bit_at w q == 1) a (64 - a) t found in
-        none-onward s w z (per_arrival * t) (per_arrival * (t + 1)) (omega (arith, f.high)) are (plain-before z a t past found) fails
-        (plain-rest t (per_arrival * t + 1) (omega (arith, f.high)) (omega arith))
-
-    -- up to the end, where there is none
-    pub plain-end : (z a : ℕ) → HaveNone test (per_origin * s + z) (per_origin * s + per_arrival * a)
-        → find (λ q. bit_at w q == 1) (range_with_len a (64 - a)) ≡ None → HaveNone test (per_origin * s + z) (per_origin * s + per_origin)
-    plain-end z a past missing =
-        none-join _ (per_origin * s + per_arrival * a) _ past
-        (none-from s w (per_arrival * a) per_origin (omega arith) are
-        (from-missed p s (per_arrival * a) per_origin w
-        (λ q lo hi. find_no (λ q. bit_at w q == 1) a (64 - a) q missing (omega (arith, lo)) (omega (arith, hi)))))
-
   -- the squares of the side to move are all its origins
   pub own-origins : (o : ℕ) → o ≡ side_of p.men p.turn → AreOrigins test o
   unfolding side_of
@@ -158,6 +100,36 @@ module _ (rule : RuleSet) (p : Position) (test : Move → Bool) (needs : (m : Mo
   none-end start number o h past none =
       none-join start number all_triples past (none-missed number all_triples o h (omega arith)
       (λ q lo hi. find_no (λ q. bit_at o q == 1) (number / per_origin) (64 - number / per_origin) q none lo (omega (arith, hi))))
+
+-- where no pawn of the side to move stands, none is made with a promotion
+promoted_idle : (rule : RuleSet) (p : Position) (m : Move) → is_man (man_on p.men m.from) p.turn Pawn ≡ false → is_arrival rule p m.from m.to ≡ true
+    → is_some m.promo ≡ true → is_pseudo_legal rule p m ≡ false
+promoted_idle rule p m none h some =
+    grind (arith, plain_aimed rule p (record { from = m.from; to = m.to; promo = None }) none h refl, no_promotion_here, named_by)
+
+-- if he goes to none of the word's squares below m by a move that passes, and from there on to b it has none, none of his triples to it passes
+pub none-plain : (rule : RuleSet) (p : Position) (test : Move → Bool) → ((m : Move) → is_pseudo_legal rule p m ≡ false → test m ≡ false)
+    → (s w a m b n : ℕ) → AreCandidates rule p (passes_to w test) s w → is_man (man_on p.men s) p.turn Pawn ≡ false
+    → ((t : ℕ) → arrival_from a ≤ t → t < m → (bit_at w t == 1) ≡ true → test (record { from = s; to = t; promo = None }) ≡ false)
+    → ((t : ℕ) → m ≤ t → t < b → (bit_at w t == 1) ≡ false) → n ≤ per_arrival * b → b ≤ 64 → HaveNone (passes_to w test) (per_origin * s + a) (per_origin * s + n)
+none-plain rule p test needs s w a m b n are none fails off up small = record {
+  fails = λ k lo hi.
+      let c : ℕ = k - per_origin * s in
+      let t : ℕ = c / per_arrival in
+      let at : per_origin * s + c ≡ k = omega (arith, lo) in
+      rw (← at, triple_of s c (omega (arith, hi, up, small))) (grind (
+        arith,
+        cases_Bool (bit_at w t == 1),
+        cases_eq (c % per_arrival) 0,
+        cases_lt t m,
+        fails t,
+        off t,
+        needs,
+        promoted_idle,
+        some_named,
+        are.inside t,
+      ));
+}
 
 -- the triple that is found
 pub aimed_from : (rule : RuleSet) (p : Position) (test : Move → Bool) (s w a : ℕ) → a < per_origin → AreCandidates rule p test s w → IsNamed p s w a

@@ -1,18 +1,9 @@
-use Rattle.chess_rules.proofs.Chess.{and_right, arith, per_origin, refl, ◌*◌, ◌∙◌, ◌≡◌}
+use Rattle.chess_rules.proofs.Chess.{and_right, arith, per_origin, rules, ◌*◌, ◌∙◌, ◌≡◌}
 use Rattle.chess_rules.proofs.listing_moves.Walks.{aimed_from, none-from, none-onward}
 use Rattle.chess_rules.proofs.sought.next_of_pawn.Goals as goal
 
 pub loop-at-init : goal.loop-at-init
-loop-at-init g c =
-    let idle = g.met.S.Sought.idle g.R.Rules.rule c.args.board.now in
-    let next = c.next_from-at.ensures in
-    record {
-      board = refl;
-      low = next.low;
-      high = next.high;
-      named = next.named;
-      none = none-from _ _ _ (λ m h. and_right _ _ (idle m h)) _ _ _ _ next.high c.requires.squares next.barren;
-    }
+loop-at-init g c = search (rules, none-from, and_right, g.met.S.Sought.idle)
 
 pub is_found-requires-clause-aimed : goal.is_found-requires-clause-aimed
 is_found-requires-clause-aimed g c =
