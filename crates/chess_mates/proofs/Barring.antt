@@ -124,6 +124,7 @@ unfolding is_legal in_check
 barred_is_illegal rule p m x v well may here small plain mere king at_king siege whole fits barred legal =
     let is = made rule p m x may here in
     let men : (position_after rule p m).men ≡ arrived p x m = simple_after rule p x m here plain.castling (λ c. (mere c).captures) in
-    let to : king_square (arrived p x m) p.turn ≡ Some m.to = king_is_after rule p x m well is small plain.castling ∙ cond-true (same_kind x.kind King) _ _ king in
+    let to : king_square (arrived p x m) p.turn ≡ Some m.to =
+    king_is_after rule p x m well is small plain.castling ∙ cond-true (same_kind x.kind King) _ _ king in
     let attacked = attacked_there rule p m x v well may here small plain.captures at_king siege whole fits barred.able barred.attacked in
     grind (arith, men, to, attacked, legal)

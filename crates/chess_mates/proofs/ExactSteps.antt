@@ -12,7 +12,11 @@ use Rattle.chess_mates.proofs.Barring.{attacked_there, hurdle_is, safe_there}
 
 -- no grasshopper is among the men of an empty word
 pub none_hops : (a : Attackers) → a.grasshoppers ≡ 0 → AreUnhopping a
-none_hops a none = record { plain = λ s x i. grind (arith, no_hopper, cases_Bool (same_kind x.kind Grasshopper), same_kind-true x.kind Grasshopper, none_at a.grasshoppers s none, i.on) }
+none_hops a none = record {
+  plain = λ s x i.
+      let kind = same_kind-true x.kind Grasshopper in
+      grind (arith, no_hopper, cases_Bool (same_kind x.kind Grasshopper), kind, none_at a.grasshoppers s none, i.on);
+}
 
 -- for `plain_squares`, where captures do more: a square next to the king without a hurdle
 pub empty_step : (rule : RuleSet) (v : Siege) (n t : ℕ) → v.hurdles < 2 ^ 64 → n ≡ word (λ t. list_any (leaps v.king t) queen_steps) → t < 64

@@ -98,14 +98,14 @@ fn risky_among<R: Rules>(siege: &Siege, steps: Squares) -> Squares
 // Whether fewer steps are legal isn't asked: they are told at once.
 const FEW_STEPS: u32 = 3;
 
-// More men reach too many squares to tell the steps by them.
+// Against more men steps aren't told by the squares that these reach.
 const FEW_MEN: u32 = 7;
 
 // The squares that the attackers reach, grasshoppers apart, those who may reach the region.
 #[tactic(auto, using(crate::proofs::Hurdles::all_reach))]
 fn reached_squares(siege: &Siege, region: Squares) -> Squares
-    ensures all { AreReached siege.now.hurdles siege.now.men region (λ k. not (is_hopper (gait_of k)))
-        result }
+    ensures all { AreReached siege.now.hurdles siege.now.men region
+        (λ k. not (is_hopper (gait_of k))) result }
     ensures alone { (t : ℕ) → t < 64 → (bit_at result t == 1) ≡ true
         → IsAttackedOver siege.now.hurdles siege.now.men t }
 {
@@ -113,23 +113,22 @@ fn reached_squares(siege: &Siege, region: Squares) -> Squares
     ridden | leapt_squares(siege.hurdles, &siege.men, region)
 }
 
-// Whether these squares tell which steps are legal: the attackers are few, and no grasshopper is among them.
+// Whether the squares that the attackers reach tell which steps are legal: these are few, and no grasshopper among them.
 #[tactic(auto, using(crate::proofs::ExactSteps::none_hops))]
-fn do_tell_steps(siege: &Siege) -> bool
+fn tells_steps(siege: &Siege) -> bool
     ensures { result ≡ true → AreUnhopping siege.now.men }
 {
     siege.men.grasshoppers == 0 && siege.enemies.count_ones() <= FEW_MEN
 }
 
 // The squares next to the king; where captures do more the empty ones alone.
-#[tactic(auto, using(crate::proofs::ExactSteps::empty_step, chess_rules::proofs::Bits::word_has))]
+#[tactic(auto, using(chess_rules::proofs::Bits::word_has))]
 fn plain_squares<R: Rules>(siege: &Siege) -> Squares
     ensures { (t : ℕ) → t < 64 → (bit_at result t == 1) ≡ true → IsPlainStep R.rule siege.now t }
 {
-    let hurdles = siege.hurdles;
     let near = king_leaps(siege.king);
     if R::captures_do_more() {
-        return near & !hurdles;
+        return near & !siege.hurdles;
     }
     near
 }
@@ -140,7 +139,7 @@ fn plain_squares<R: Rules>(siege: &Siege) -> Squares
 pub(crate) fn exact_steps<R: Rules>(siege: &Siege, squares: Squares) -> Option<Squares>
     ensures { IfSome result (λ w. AreExactSteps R.rule siege.now squares w) }
 {
-    if squares.count_ones() < FEW_STEPS || R::faced_men_stand_still() || !do_tell_steps(siege) {
+    if squares.count_ones() < FEW_STEPS || R::faced_men_stand_still() || !tells_steps(siege) {
         return None;
     }
     if squares & !plain_squares::<R>(siege) != 0 {
@@ -150,13 +149,16 @@ pub(crate) fn exact_steps<R: Rules>(siege: &Siege, squares: Squares) -> Option<S
 }
 
 // The steps but for those to an empty square that an attacker reaches: they are illegal, unless attackers may stand still.
-// Where steps are told exactly only legal ones are asked for.
+// Where legal steps were told before, captures too, these alone are asked for.
 #[tactic(auto, using(crate::proofs::Barring::barred_is))]
 fn unbarred_steps<R: Rules>(siege: &Siege, steps: Squares) -> Squares
     ensures { (t : ℕ) → t < 64 → (bit_at steps t == 1) ≡ true
         → (bit_at result t == 1) ≡ false → IsBarred R.rule siege.now t }
 {
-    if steps.count_ones() < FEW_STEPS || R::faced_men_stand_still() || do_tell_steps(siege) {
+    if steps.count_ones() < FEW_STEPS || R::faced_men_stand_still() {
+        return steps;
+    }
+    if !R::captures_do_more() && tells_steps(siege) {
         return steps;
     }
     steps & (siege.hurdles | !reached_squares(siege, steps))
