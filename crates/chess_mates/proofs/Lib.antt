@@ -26,5 +26,6 @@ pub mod Passing
 pub mod QuietCastling
 pub mod Sparing
 pub mod Barring
+pub mod ExactSteps
 pub mod Ways
 pub mod Excluded

@@ -1,9 +1,10 @@
 //! The steps of a king who is besieged: those that he mustn't make lest a reply may mate.
-ghost use Rattle.std.specs.Prelude.{◌≡◌, ◌<◌, ◌==◌, ℕ, true, false};
+ghost use Rattle.std.specs.Prelude.{◌≡◌, ◌<◌, ◌==◌, ℕ, IfSome, not, true, false};
 ghost use Rattle.std.specs.Int.{bit_at};
+ghost use Rattle.chess_core.specs.Steps.{gait_of, is_hopper};
 ghost use Rattle.chess_mates.specs.declared.siege.Siege.{Siege};
 ghost use Rattle.chess_mates.specs.ties.LastingFlights.{AreGuarded};
-ghost use Rattle.chess_mates.specs.ties.Siege.{AreToldSteps, IsBarred, IsSettledStep, IsSparedStep, KeepsFlight};
+ghost use Rattle.chess_mates.specs.ties.Siege.{AreExactSteps, AreReached, AreToldSteps, AreUnhopping, IsAttackedOver, IsBarred, IsPlainStep, IsSettledStep, IsSparedStep, KeepsFlight};
 
 use crate::attackers::Attackers;
 use crate::field::adjacent_squares;
@@ -12,6 +13,7 @@ use crate::lasting_flights::{guarded_squares, keeps_one};
 use crate::risk::risk_at;
 use crate::siege::Siege;
 use chess_core::square::{Square, Squares};
+use chess_rules::leaps::king_leaps;
 use chess_rules::rules::Rules;
 use chess_rules::words::{contains, next_bit, only};
 
@@ -96,7 +98,58 @@ fn risky_among<R: Rules>(siege: &Siege, steps: Squares) -> Squares
 // Whether fewer steps are legal isn't asked: they are told at once.
 const FEW_STEPS: u32 = 3;
 
+// Against more men steps aren't told by the squares that these reach.
+const FEW_MEN: u32 = 7;
+
+// The squares that the attackers reach, grasshoppers apart, those who may reach the region.
+#[tactic(auto, using(crate::proofs::Hurdles::all_reach))]
+fn reached_squares(siege: &Siege, region: Squares) -> Squares
+    ensures all { AreReached siege.now.hurdles siege.now.men region
+        (λ k. not (is_hopper (gait_of k))) result }
+    ensures alone { (t : ℕ) → t < 64 → (bit_at result t == 1) ≡ true
+        → IsAttackedOver siege.now.hurdles siege.now.men t }
+{
+    let ridden = ridden_squares(siege.hurdles, &siege.men, region);
+    ridden | leapt_squares(siege.hurdles, &siege.men, region)
+}
+
+// Whether the squares that the attackers reach tell which steps are legal: these are few, and no grasshopper among them.
+#[tactic(auto, using(crate::proofs::ExactSteps::none_hops))]
+fn tells_steps(siege: &Siege) -> bool
+    ensures { result ≡ true → AreUnhopping siege.now.men }
+{
+    siege.men.grasshoppers == 0 && siege.enemies.count_ones() <= FEW_MEN
+}
+
+// The squares next to the king; where captures do more the empty ones alone.
+#[tactic(auto, using(chess_rules::proofs::Bits::word_has))]
+fn plain_squares<R: Rules>(siege: &Siege) -> Squares
+    ensures { (t : ℕ) → t < 64 → (bit_at result t == 1) ≡ true → IsPlainStep R.rule siege.now t }
+{
+    let near = king_leaps(siege.king);
+    if R::captures_do_more() {
+        return near & !siege.hurdles;
+    }
+    near
+}
+
+// Those of the squares to which he steps by a legal move, if they are told: not where faced men stand still, nor for few
+// squares, nor if he castles or, where captures do more, captures on one of them.
+#[tactic(auto, using(crate::proofs::ExactSteps::unreached_are))]
+pub(crate) fn exact_steps<R: Rules>(siege: &Siege, squares: Squares) -> Option<Squares>
+    ensures { IfSome result (λ w. AreExactSteps R.rule siege.now squares w) }
+{
+    if squares.count_ones() < FEW_STEPS || R::faced_men_stand_still() || !tells_steps(siege) {
+        return None;
+    }
+    if squares & !plain_squares::<R>(siege) != 0 {
+        return None;
+    }
+    Some(squares & !reached_squares(siege, squares))
+}
+
 // The steps but for those to an empty square that an attacker reaches: they are illegal, unless attackers may stand still.
+// Where legal steps were told before, captures too, these alone are asked for.
 #[tactic(auto, using(crate::proofs::Barring::barred_is))]
 fn unbarred_steps<R: Rules>(siege: &Siege, steps: Squares) -> Squares
     ensures { (t : ℕ) → t < 64 → (bit_at steps t == 1) ≡ true
@@ -105,9 +158,10 @@ fn unbarred_steps<R: Rules>(siege: &Siege, steps: Squares) -> Squares
     if steps.count_ones() < FEW_STEPS || R::faced_men_stand_still() {
         return steps;
     }
-    let ridden = ridden_squares(siege.hurdles, &siege.men, steps);
-    let leapt = leapt_squares(siege.hurdles, &siege.men, steps);
-    steps & (siege.hurdles | !(ridden | leapt))
+    if !R::captures_do_more() && tells_steps(siege) {
+        return steps;
+    }
+    steps & (siege.hurdles | !reached_squares(siege, steps))
 }
 
 // Those of the squares to which he mustn't step, of legal steps.

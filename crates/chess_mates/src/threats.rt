@@ -17,7 +17,7 @@ use crate::field::needed_squares;
 use crate::open_board::capturers_before;
 use crate::risk::{LAST_RANKS, Risk, RiskBehind, critical_from, kept_risk};
 use crate::siege::{Siege, is_of, siege_of};
-use crate::steps::{ToldSteps, kept_risky_steps};
+use crate::steps::{ToldSteps, exact_steps, kept_risky_steps};
 use chess_core::board::Board;
 use chess_core::man::{Colour, Kind, Man, Move};
 use chess_core::square::{Square, Squares};
@@ -247,5 +247,18 @@ impl Sift for Threats {
 
     fn sift<R: Rules>(&mut self, board: &Board, from: Square, squares: Squares) -> Squares {
         self.risky_squares::<R>(board, from, squares)
+    }
+
+    #[tactic(auto, using(crate::proofs::ExactSteps::told_exactly))]
+    fn legal_squares<R: Rules>(
+        &self,
+        _board: &Board,
+        from: Square,
+        squares: Squares,
+    ) -> Option<Squares> {
+        if from != self.siege.king {
+            return None;
+        }
+        exact_steps::<R>(&self.siege, squares)
     }
 }

@@ -5,7 +5,7 @@ ghost use Rattle.chess_core.specs.WellFormed.{IsWellFormed};
 ghost use Rattle.chess_core.specs.ties.Words.{word};
 ghost use Rattle.chess_core.specs.Squares.{rank_of};
 ghost use Rattle.chess_rules.specs.Legal.{is_legal, last_rank};
-ghost use Rattle.chess_rules.specs.ties.Counting.{AreLegal, IsKnownIn, is_unsure};
+ghost use Rattle.chess_rules.specs.ties.Counting.{AreGiven, AreLegal, IsKnownIn, is_unsure};
 ghost use Rattle.chess_rules.specs.ties.Places.{moves_between, per_origin};
 ghost use Rattle.chess_rules.specs.ties.Shields.{may_expose};
 ghost use Rattle.chess_rules.specs.ties.Targets.{AreCandidates, is_promoting};
@@ -21,6 +21,20 @@ use crate::words::{contains, only};
 use chess_core::board::Board;
 use chess_core::man::{Colour, Kind, Man};
 use chess_core::square::{Square, Squares};
+
+// Whether the moves to the squares are known to be legal, or each is to be looked at.
+#[derive(Clone, Copy)]
+pub(crate) enum Legality {
+    Open,
+    Sure,
+}
+
+// Squares to which a man may go, and whether he does go to each by a legal move.
+#[derive(Clone, Copy)]
+pub(crate) struct Candidates {
+    pub(crate) squares: Squares,
+    pub(crate) legality: Legality,
+}
 
 // How many squares the word has from the one with this number on.
 #[tactic(auto, using(crate::proofs::listing_moves::Counting::none_from))]
@@ -97,6 +111,24 @@ fn are_surely_legal<R: Rules>(
     squares & unsure_squares::<R>(board, man) == 0
 }
 
+// The same, which need not be looked into if it is sure.
+fn are_known_legal<R: Rules>(
+    board: &Board,
+    shield_squares: Squares,
+    from: Square,
+    given: Candidates,
+) -> bool
+    requires well_formed { IsWellFormed board.now }
+    requires shield_squares { shield_squares ≡ word (may_expose board.now.men board.now.turn) }
+    requires given { AreGiven R.rule board.now from given }
+    ensures { result ≡ true → AreLegal R.rule board.now from given.squares }
+{
+    match given.legality {
+        Legality::Open => are_surely_legal::<R>(board, shield_squares, from, given.squares),
+        Legality::Sure => true,
+    }
+}
+
 // How many legal moves the man on `from` has among his triples numbered from `start` on and below `end`, each
 // counted from the origin's first; each is looked at. `squares` are those to which he may go. The board is
 // unchanged.
@@ -134,21 +166,22 @@ fn count_one_by_one<R: Rules>(
 pub(crate) fn count_origin<R: Rules>(
     board: &mut Board,
     known: Known,
-    squares: Squares,
+    given: Candidates,
     from: Square,
     start: u16,
     end: u16,
 ) -> u16
     requires well_formed { IsWellFormed board.old }
     requires known { IsKnownIn R.rule board.old known }
-    requires squares { AreCandidates R.rule board.old (is_legal R.rule board.old) from squares }
+    requires given { AreGiven R.rule board.old from given }
     requires start { start ≤ end }
     requires end { end ≤ per_origin }
     ensures count { result ≡ length (moves_between R.rule board.old (per_origin * from + start)
         (per_origin * from + end)) }
     ensures board { board.new ≡ board.old }
 {
-    if are_surely_legal::<R>(board, known.shield_squares, from, squares) {
+    let squares = given.squares;
+    if are_known_legal::<R>(board, known.shield_squares, from, given) {
         let ahead = count_from(squares, ((start + PER_ARRIVAL - 1) / PER_ARRIVAL) as u8);
         let behind = count_from(squares, ((end + PER_ARRIVAL - 1) / PER_ARRIVAL) as u8);
         return ahead.saturating_sub(behind);

@@ -2,12 +2,12 @@
 ghost use Rattle.std.specs.Prelude.{◌≡◌, ◌+◌, ◌*◌, ◌<◌, ◌≤◌, length, true};
 ghost use Rattle.chess_core.specs.WellFormed.{IsWellFormed};
 ghost use Rattle.chess_rules.specs.Legal.{is_legal};
-ghost use Rattle.chess_rules.specs.ties.Counting.{IsKnownIn};
+ghost use Rattle.chess_rules.specs.ties.Counting.{AreGiven, IsKnownIn};
 ghost use Rattle.chess_rules.specs.ties.Places.{all_triples, per_origin, HaveNone, moves_between, triple_at};
 ghost use Rattle.chess_rules.specs.ties.Sifting.{AreSifted, is_wanted};
 ghost use Rattle.chess_rules.specs.ties.Targets.{AreCandidates};
 
-use crate::counting::count_origin;
+use crate::counting::{Candidates, Legality, count_origin};
 use crate::legal_moves::{Known, candidates, own_origins};
 use crate::rules::Rules;
 use crate::sought::next_of_man;
@@ -20,10 +20,13 @@ use chess_core::square::{Square, Squares};
 /// A sieve for the legal moves of a position, by the squares to which they go: it takes moves that fail a test,
 /// and leaves all that pass it, and perhaps more. Also told is when it is one of a position.
 pub trait Sift {
-    ghost use Rattle.std.specs.Prelude.{Bool, ◌≡◌};
+    ghost use Rattle.std.specs.Prelude.{Bool, ◌≡◌, IfSome};
     ghost use Rattle.chess_core.specs.Position.{Position};
     ghost use Rattle.chess_core.specs.declared.man.Move.{Move};
+    ghost use Rattle.chess_rules.specs.Legal.{is_legal};
     ghost use Rattle.chess_rules.specs.RuleSet.{RuleSet};
+    ghost use Rattle.chess_rules.specs.ties.Counting.{AreExact};
+    ghost use Rattle.chess_rules.specs.ties.Targets.{AreCandidates};
 
     ghost test: { RuleSet → Position → Move → Bool };
 
@@ -36,6 +39,19 @@ pub trait Sift {
         requires fits { fits self.old R.rule board.now }
         ensures sifted { AreSifted R.rule board.now (test R.rule board.now) from squares result }
         ensures same { self.new ≡ self.old };
+
+    /// The squares to which the man on `from` goes by a legal move, if the sieve tells them. `squares` are those to which
+    /// he may, and perhaps more.
+    fn legal_squares<R: Rules>(
+        &self,
+        board: &Board,
+        from: Square,
+        squares: Squares,
+    ) -> Option<Squares>
+        requires well_formed { IsWellFormed board.now }
+        requires fits { fits self.now R.rule board.now }
+        requires squares { AreCandidates R.rule board.now (is_legal R.rule board.now) from squares }
+        ensures { IfSome result (λ w. AreExact R.rule board.now from w) };
 }
 
 /// What a walk past the moves that a sieve takes comes to.
@@ -45,6 +61,31 @@ pub struct Sifted {
     pub found: Option<Move>,
     /// How many legal moves lie before it, or behind the place where it began if there is none.
     pub passed: u16,
+}
+
+// The squares to which the man on `from` may go by a legal move, those alone to which he does if the sieve tells them.
+fn given_candidates<R: Rules, S: Sift>(
+    board: &Board,
+    sift: &S,
+    known: Known,
+    from: Square,
+) -> Candidates
+    requires well_formed { IsWellFormed board.now }
+    requires known { IsKnownIn R.rule board.now known }
+    requires fits { S.fits sift.now R.rule board.now }
+    ensures { AreGiven R.rule board.now from result }
+{
+    let squares = candidates::<R>(board, known.evasion_squares, from);
+    match sift.legal_squares::<R>(board, from, squares) {
+        Some(told) => Candidates {
+            squares: told,
+            legality: Legality::Sure,
+        },
+        None => Candidates {
+            squares,
+            legality: Legality::Open,
+        },
+    }
 }
 
 // Of the squares to which the man on `from` may go by a legal move those that the sieve leaves.
@@ -94,11 +135,11 @@ pub(crate) fn next_left<R: Rules, S: Sift>(
     let mut number = start;
     while let Some(from) = next_bit(origins, (number / PER_ORIGIN) as u8) {
         let first = u16::from(from.index()) * PER_ORIGIN;
-        let squares = candidates::<R>(board, known.evasion_squares, from);
-        let wanted = wanted_squares::<R, S>(board, sift, from, squares);
+        let given = given_candidates::<R, S>(board, sift, known, from);
+        let wanted = wanted_squares::<R, S>(board, sift, from, given.squares);
         let begin = number.saturating_sub(first);
         let at = next_of_man::<R, Known>(board, &known, from, wanted, begin, PER_ORIGIN);
-        *passed += count_origin::<R>(board, known, squares, from, begin, at);
+        *passed += count_origin::<R>(board, known, given, from, begin, at);
         if at < PER_ORIGIN {
             return first + at;
         }

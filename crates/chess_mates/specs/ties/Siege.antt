@@ -440,3 +440,23 @@ pub record AreToldSteps (v : Siege) (k : ToldSteps) : Type 0 where
       → captures_do_more rule ≡ k.do_more → (t : ℕ) → t < 64
       → (bit_at k.steps t == 1) ≡ true → (bit_at k.risky t == 1) ≡ false
       → IsSettledStep rule v t
+
+-- the king's step to t is plain: he goes to a square next to him, which is empty where captures do more
+pub record IsPlainStep (rule : RuleSet) (v : Siege) (t : ℕ) : Type 0 where
+  pub near : list_any (leaps v.king t) queen_steps ≡ true
+  pub empty : captures_do_more rule ≡ true → (bit_at v.hurdles t == 1) ≡ false
+
+-- no attacker is a hopper
+pub record AreUnhopping (a : Attackers) : Type 0 where
+  pub plain : (s : ℕ) (x : Man) → IsAttacker a x s → is_hopper (gait_of x.kind) ≡ false
+
+-- of the squares, to which the king steps plainly, the word has those that no attacker reaches, and attackers don't
+-- stand still
+pub record AreExactSteps (rule : RuleSet) (v : Siege) (squares w : ℕ) : Type 0 where
+  pub able : faced_men_stand_still rule ≡ false
+  pub plain : (t : ℕ) → t < 64 → (bit_at squares t == 1) ≡ true → IsPlainStep rule v t
+  pub inside : (t : ℕ) → t < 64 → (bit_at w t == 1) ≡ true → (bit_at squares t == 1) ≡ true
+  pub safe : (t : ℕ) → t < 64 → (bit_at w t == 1) ≡ true → (s : ℕ) (x : Man)
+      → IsAttacker v.men x s → reached_over v.hurdles x s t ≡ false
+  pub barred : (t : ℕ) → t < 64 → (bit_at squares t == 1) ≡ true → (bit_at w t == 1) ≡ false
+      → IsAttackedOver v.hurdles v.men t

@@ -7,10 +7,12 @@ use Rattle.chess_core.specs.ties.Words.{word}
 use Rattle.chess_core.specs.declared.man.Man.{Man}
 use Rattle.chess_rules.specs.Legal.{is_legal}
 use Rattle.chess_rules.specs.RuleSet.{RuleSet, captures_do_more}
+use Rattle.chess_rules.specs.declared.counting.Candidates.{Candidates}
+use Rattle.chess_rules.specs.declared.counting.Legality.TheVariants.{Sure}
 use Rattle.chess_rules.specs.declared.legal_moves.Known.{Known}
 use Rattle.chess_rules.specs.ties.Evasions.{AreEvasions}
 use Rattle.chess_rules.specs.ties.Shields.{may_expose, may_stand_between}
-use Rattle.chess_rules.specs.ties.Targets.{is_promoting}
+use Rattle.chess_rules.specs.ties.Targets.{AreCandidates, is_promoting}
 
 -- what is known of a position is so of this one
 pub record IsKnownIn (rule : RuleSet) (p : Position) (k : Known) : Type 0 where
@@ -31,3 +33,13 @@ pub record AreLegal (rule : RuleSet) (p : Position) (s w : ℕ) : Type 0 where
   pub unpromoted : (t : ℕ) → t < 64 → (bit_at w t == 1) ≡ true → is_promoting man t ≡ false
   pub to : (t : ℕ) → t < 64 → (bit_at w t == 1) ≡ true
       → is_legal rule p (record { from = s; to = t; promo = None }) ≡ true
+
+-- and to no other by one
+pub record AreExact (rule : RuleSet) (p : Position) (s w : ℕ) : Type 0 where
+  pub candidates : AreCandidates rule p (is_legal rule p) s w
+  pub legal : AreLegal rule p s w
+
+-- the man on s may go to them by a legal move, and to no other; if that is sure he does go to each
+pub record AreGiven (rule : RuleSet) (p : Position) (s : ℕ) (c : Candidates) : Type 0 where
+  pub candidates : AreCandidates rule p (is_legal rule p) s c.squares
+  pub legal : c.legality ≡ Sure → AreLegal rule p s c.squares
