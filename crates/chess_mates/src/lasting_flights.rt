@@ -15,7 +15,7 @@ use crate::open_board::{open_reach, open_targets};
 use chess_core::board::Board;
 use chess_core::man::{Colour, Kind, Man, Move};
 use chess_core::square::{Square, Squares};
-use chess_rules::words::{contains, next_bit, only};
+use chess_rules::words::{contains, highest, next_bit, only};
 
 // Those that the men of this kind reach so, who stand on the squares of a word.
 #[tactic(auto, using(chess_rules::proofs::HoldBelow::hold_all, chess_rules::proofs::HoldBelow::hold_none, crate::proofs::Risks::none_on))]
@@ -97,6 +97,17 @@ pub(crate) fn open_approaches(man: Man, to: Square) -> Squares
     open_reach(Man { colour, kind }, to)
 }
 
+// The squares where the man takes this one: it, and those from which he reaches it, whoever else stands on the board.
+#[tactic(auto, using(crate::proofs::LastingFlights::untaken_left))]
+fn taking_squares(man: Man, flight: Square) -> Squares
+    ensures { (w t : ℕ) → (bit_at w flight == 1) ≡ true → t < 64 → (bit_at result t == 1) ≡ false
+        → IsLeft w man t flight }
+{
+    // For the proof: a square's number is below 64.
+    let _small = flight.index();
+    open_approaches(man, flight) | only(Some(flight))
+}
+
 // Whether one of the squares is left wherever the man comes to a square of the word.
 #[tactic(auto, using(chess_rules::proofs::HoldBelow::hold_all, chess_rules::proofs::HoldBelow::hold_none))]
 fn leaves_one_each(squares: Squares, man: Man, targets: Squares) -> bool
@@ -113,8 +124,8 @@ fn leaves_one_each(squares: Squares, man: Man, targets: Squares) -> bool
     true
 }
 
-// Whether one of the squares is left wherever the man on `from` may go, were the others gone. Where he neither
-// stands on the first of them nor reaches it, that one is.
+// Whether one of the squares is left wherever the man on `from` may go, were the others gone. Where he doesn't take both
+// the first of them and the last, one of these is.
 #[inline(always)]
 fn leaves_one(squares: Squares, man: Man, from: Square) -> bool
     ensures { result ≡ true → LeavesOne squares man from }
@@ -126,7 +137,8 @@ fn leaves_one(squares: Squares, man: Man, from: Square) -> bool
     let Some(first) = next_bit(squares, 0) else {
         return false;
     };
-    let taking = open_approaches(man, first) | only(Some(first));
+    let last = highest(squares);
+    let taking = taking_squares(man, first) & taking_squares(man, last);
     leaves_one_each(squares, man, targets & taking)
 }
 
