@@ -124,22 +124,30 @@ fn leaves_one_each(squares: Squares, man: Man, targets: Squares) -> bool
     true
 }
 
-// Whether one of the squares is left wherever the man on `from` may go, were the others gone. Where he doesn't take both
-// the first of them and the last, one of these is.
+// The same, asked only where he takes the first of them and the last: elsewhere one of these is left.
+#[inline(always)]
+fn leaves_one_among(squares: Squares, man: Man, targets: Squares) -> bool
+    ensures { result ≡ true → (t : ℕ) → t < 64 → (bit_at targets t == 1) ≡ true
+        → (f : ℕ) × IsLeft squares man t f }
+{
+    let Some(first) = next_bit(squares, 0) else {
+        return false;
+    };
+    let taken = targets & taking_squares(man, first);
+    if taken == 0 {
+        return true;
+    }
+    let last = highest(squares);
+    leaves_one_each(squares, man, taken & taking_squares(man, last))
+}
+
+// Whether one of the squares is left wherever the man on `from` may go, were the others gone.
 #[inline(always)]
 fn leaves_one(squares: Squares, man: Man, from: Square) -> bool
     ensures { result ≡ true → LeavesOne squares man from }
 {
     let targets = open_targets(man, from);
-    if !goes_plainly(man, from, targets) {
-        return false;
-    }
-    let Some(first) = next_bit(squares, 0) else {
-        return false;
-    };
-    let last = highest(squares);
-    let taking = taking_squares(man, first) & taking_squares(man, last);
-    leaves_one_each(squares, man, targets & taking)
+    goes_plainly(man, from, targets) && leaves_one_among(squares, man, targets)
 }
 
 // Whether each man of this kind leaves one so, who stands on a square of the word.
