@@ -1,12 +1,12 @@
 -- Flights that one move can't take.
-use Rattle.chess_mates.proofs.Chess.{AreApproached, AreAttackers, AreGuarded, AreNear, Attackers, Bishop, Colour, Grasshopper, IfSome, IsAttacker, IsLeft, IsMade, IsWellFormed, KeepsOne, King, Knight, LeaveOne, List, Man, Move, Nightrider, None, Option, Pawn, Position, Queen, Rook, RuleSet, Some, [], after_well_formed, all_triples, and_from, and_left, and_parts, and_right, ap, arith, arrival_needed, arrived, arriving_colour, arriving_man, bit_and, bit_at, bit_at_and, bit_not, bit_or, capture_square, captures_do_more, cases_Bool, castle_of, eq-eqb, eqb-true, every_square_on, false, false_by, false_from_ne_true, false≢true, find, find_first, has_flight, inl, inr, is_arrival_free, is_attacked, is_attacker, is_castling, is_flight, is_flight_at, is_man, is_of_colour, is_open, is_promoting, is_pseudo_legal, is_square, king_after, king_is_after, king_square, king_stands, leaps, length, list_any, made, maker, man_on, mates, mates_behind, may_go, may_go_aimed, men_on, not, off_left, off_right, off_second, off_zero, on_board, on_first, on_left, on_right, or_lt, other, other_twice, position_after, queen_steps, range_with_len, reaches, reaches_as, reaches_back, reaches_of, refl, rules, same_colour, same_colour-refl, same_colour-true, same_kind, same_kind-true, side_of, simple_after, some_square_false, some_square_true, square_is, squares_of, sym, taken, triple_at, true, w64, word, word_has, ℕ, ◌&&◌, ◌<◌, ◌==◌, ◌^◌, ◌∙◌, ◌≡◌, ◌≢◌, ◌⊎◌}
+use Rattle.chess_mates.proofs.Chess.{AreApproached, AreAttackers, AreGuarded, AreNear, Attackers, Bishop, Grasshopper, IfSome, IsAttacker, IsLeft, IsMade, IsWellFormed, KeepsOne, King, Knight, LeaveOne, Man, Move, Nightrider, None, Option, Pawn, Position, Queen, Rook, RuleSet, Some, [], after_well_formed, all_triples, and_parts, arith, arrival_needed, arrived, arriving_colour, bit_and, bit_at, bit_at_and, bit_not, bit_or, captures_do_more, cases_Bool, castle_of, eq-eqb, eqb-true, every_square_on, false, false_by, false_from_ne_true, false≢true, find, find_first, is_arrival_free, is_castling, is_promoting, is_pseudo_legal, is_square, king_after, king_is_after, king_square, length, made, maker, man_on, mates, mates_behind, may_go_aimed, men_on, not, off_left, off_right, off_zero, on_board, on_first, on_left, on_right, or_lt, other, other_twice, position_after, range_with_len, reaches_as, reaches_back, rules, same_colour-refl, same_kind, same_kind-true, simple_after, sym, triple_at, true, w64, word, word_has, ℕ, ◌<◌, ◌==◌, ◌^◌, ◌∙◌, ◌≡◌, ◌≢◌}
 use Rattle.chess_mates.proofs.KindByKind.{HoldsOf, of_all}
 use Rattle.chess_mates.specs.ties.LastingFlights.{AreReached, LeavesOne}
 use Rattle.chess_mates.proofs.CheckTargets.{last_rank_on}
 use Rattle.chess_mates.proofs.FarMen.{off_denied}
-use Rattle.chess_mates.proofs.Fleeing.{IsKingOn, IsKingStep, king_on, king_waits, no_king_free, no_mate_with_flight, step_to, unseen_bit}
+use Rattle.chess_mates.proofs.Fleeing.{IsKingOn, king_waits, no_mate_with_flight, step_to}
 use Rattle.chess_mates.proofs.Mating.{mates_behind-end, mates_behind-none, not_mating, turn_after}
-use Rattle.chess_mates.proofs.Hurdles.{found_on, hops_openly}
+use Rattle.chess_mates.proofs.Hurdles.{hops_openly}
 use Rattle.chess_mates.proofs.Standing.{arrival_small, has_one, no_hopper, not_mine, stood, unnamed}
 
 -- for words that are joined: the first has what it reached
@@ -66,15 +66,12 @@ pub hop_back : (x : Man) (t w : ℕ) → t < 64 → same_kind x.kind Grasshopper
     → AreApproached x t w
 hop_back x t w small kind are = search (rules, are.inside (men_on 0), reaches_back (men_on 0) x.colour Queen, hops_openly, same_kind-true)
 
--- where the man neither stands on the first square nor reaches it, that one is left
-pub first_there : (squares targets a o first t : ℕ) (x : Man) → AreApproached x first a → o ≡ word (λ q. is_square (Some first) q)
-    → find (λ s. bit_at squares s == 1) (range_with_len 0 64) ≡ Some first → t < 64 → (bit_at targets t == 1) ≡ true
-    → (bit_at (bit_and targets (bit_or a o)) t == 1) ≡ false → IsLeft squares x t first
-first_there squares targets a o first t x are only found small on off =
-    let is = found_on squares 0 first found in
-    let free = off_second targets (bit_or a o) t off on in
-    let apart : first ≢ t = λ e. grind (arith, off_right a o t free, word_has _ o t only small, eq-eqb) in
-    search (rules, is, apart, are.inside, off_left a o t free, false_from_ne_true, false≢true)
+-- for `taking_squares`: from the other squares the man doesn't take this one, it is left
+pub untaken_left : (w a o f t : ℕ) (x : Man) → AreApproached x f a → o ≡ word (λ q. is_square (Some f) q) → f < 64 → (bit_at w f == 1) ≡ true → t < 64
+    → (bit_at (bit_or a o) t == 1) ≡ false → IsLeft w x t f
+untaken_left w a o f t x are only fits on small off =
+    let apart : f ≢ t = λ e. grind (arith, off_right a o t off, word_has _ o t only small, eq-eqb) in
+    search (rules, apart, are.inside, off_left a o t off, false_from_ne_true, false≢true)
 
 -- for `keeps_one`: the squares that nobody guards can't all be taken
 pub keeps_one : (a : Attackers) (w g : ℕ) → g < 2 ^ 64 → AreGuarded a g → LeaveOne a (bit_and w (bit_not w64 g)) → KeepsOne a w

@@ -4,6 +4,7 @@ ghost use Rattle.std.specs.Prelude.{◌≡◌, ◌≢◌, ◌<◌, ◌==◌, ℕ
 ghost use Rattle.std.specs.Int.{bit_at};
 ghost use Rattle.chess_core.specs.declared.man.Kind.TheVariants.{Nightrider};
 ghost use Rattle.chess_core.specs.declared.man.Colour.{Colour};
+ghost use Rattle.chess_mates.specs.ties.LastingFlights.{AreGuarded};
 ghost use Rattle.chess_mates.specs.ties.Siege.{AreAdjacent, AreFree, AreNeeded, AreSpringboards, AreSprings, IsCastlingHarmless, IsField, IsReached, IsUnsprung, AreCaptureSquares};
 
 use crate::attackers::{Attackers, MOST_ATTACKERS};
@@ -218,19 +219,28 @@ pub(crate) fn castling_is_harmless(siege: &Siege, field: &Field) -> bool
     (siege.castled == 0) | ((rooks == 0) & (kings == 0) & (fairies == 0))
 }
 
-// The squares to which no other man may come lest the king, who stays, keeps no flight whatever is played: those that no
-// attacker reaches, were all others gone, if they can't all be taken with one move. Where captures do more it isn't asked.
-#[tactic(auto, using(chess_rules::proofs::listing_moves::Targeting::every_square_on, crate::proofs::Sieges::fewer_adjacent))]
-pub(crate) fn needed_squares<R: Rules>(siege: &Siege) -> Squares
-    ensures { AreNeeded siege.now result }
+// The squares that the attackers reach, were all others gone. Where captures do more, or against many attackers, nothing is
+// told by them, and they are all.
+#[tactic(auto, using(crate::proofs::LastingFlights::all_guarded))]
+pub(crate) fn open_guards<R: Rules>(siege: &Siege) -> Squares
+    ensures { AreGuarded siege.now.men result }
 {
     if R::captures_do_more() || siege.enemies.count_ones() > MOST_ATTACKERS {
         return !0;
     }
-    let guarded = guarded_squares(&siege.men);
+    guarded_squares(&siege.men)
+}
+
+// The squares to which no other man may come lest the king, who stays, keeps no flight whatever is played: those that no
+// attacker reaches, were all others gone, if they can't all be taken with one move.
+#[tactic(auto, using(chess_rules::proofs::listing_moves::Targeting::every_square_on, crate::proofs::Sieges::fewer_adjacent))]
+pub(crate) fn needed_squares(siege: &Siege, guarded: Squares) -> Squares
+    requires { AreGuarded siege.now.men guarded }
+    ensures { AreNeeded siege.now result }
+{
     let flights = adjacent_squares(siege, siege.king) & !guarded;
-    if !keeps_one(&siege.men, guarded, flights) {
-        return !0;
+    if keeps_one(&siege.men, guarded, flights) {
+        return flights;
     }
-    flights
+    !0
 }

@@ -15,7 +15,7 @@ use crate::open_board::{open_reach, open_targets};
 use chess_core::board::Board;
 use chess_core::man::{Colour, Kind, Man, Move};
 use chess_core::square::{Square, Squares};
-use chess_rules::words::{contains, next_bit, only};
+use chess_rules::words::{contains, highest, next_bit, only};
 
 // Those that the men of this kind reach so, who stand on the squares of a word.
 #[tactic(auto, using(chess_rules::proofs::HoldBelow::hold_all, chess_rules::proofs::HoldBelow::hold_none, crate::proofs::Risks::none_on))]
@@ -97,6 +97,17 @@ pub(crate) fn open_approaches(man: Man, to: Square) -> Squares
     open_reach(Man { colour, kind }, to)
 }
 
+// The squares where the man takes this one: it, and those from which he reaches it, whoever else stands on the board.
+#[tactic(auto, using(crate::proofs::LastingFlights::untaken_left))]
+fn taking_squares(man: Man, flight: Square) -> Squares
+    ensures { (w t : ℕ) → (bit_at w flight == 1) ≡ true → t < 64 → (bit_at result t == 1) ≡ false
+        → IsLeft w man t flight }
+{
+    // For the proof: a square's number is below 64.
+    let _small = flight.index();
+    open_approaches(man, flight) | only(Some(flight))
+}
+
 // Whether one of the squares is left wherever the man comes to a square of the word.
 #[tactic(auto, using(chess_rules::proofs::HoldBelow::hold_all, chess_rules::proofs::HoldBelow::hold_none))]
 fn leaves_one_each(squares: Squares, man: Man, targets: Squares) -> bool
@@ -113,21 +124,30 @@ fn leaves_one_each(squares: Squares, man: Man, targets: Squares) -> bool
     true
 }
 
-// Whether one of the squares is left wherever the man on `from` may go, were the others gone. Where he neither
-// stands on the first of them nor reaches it, that one is.
+// The same, asked only where he takes the first of them and the last: elsewhere one of these is left.
+#[inline(always)]
+fn leaves_one_among(squares: Squares, man: Man, targets: Squares) -> bool
+    ensures { result ≡ true → (t : ℕ) → t < 64 → (bit_at targets t == 1) ≡ true
+        → (f : ℕ) × IsLeft squares man t f }
+{
+    let Some(first) = next_bit(squares, 0) else {
+        return false;
+    };
+    let taken = targets & taking_squares(man, first);
+    if taken == 0 {
+        return true;
+    }
+    let last = highest(squares);
+    leaves_one_each(squares, man, taken & taking_squares(man, last))
+}
+
+// Whether one of the squares is left wherever the man on `from` may go, were the others gone.
 #[inline(always)]
 fn leaves_one(squares: Squares, man: Man, from: Square) -> bool
     ensures { result ≡ true → LeavesOne squares man from }
 {
     let targets = open_targets(man, from);
-    if !goes_plainly(man, from, targets) {
-        return false;
-    }
-    let Some(first) = next_bit(squares, 0) else {
-        return false;
-    };
-    let taking = open_approaches(man, first) | only(Some(first));
-    leaves_one_each(squares, man, targets & taking)
+    goes_plainly(man, from, targets) && leaves_one_among(squares, man, targets)
 }
 
 // Whether each man of this kind leaves one so, who stands on a square of the word.

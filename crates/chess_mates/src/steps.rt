@@ -6,10 +6,9 @@ ghost use Rattle.chess_mates.specs.declared.siege.Siege.{Siege};
 ghost use Rattle.chess_mates.specs.ties.LastingFlights.{AreGuarded};
 ghost use Rattle.chess_mates.specs.ties.Siege.{AreExactSteps, AreReached, AreToldSteps, AreUnhopping, IsAttackedOver, IsBarred, IsPlainStep, IsSettledStep, IsSparedStep, KeepsFlight};
 
-use crate::attackers::Attackers;
 use crate::field::adjacent_squares;
 use crate::guards::{leapt_squares, ridden_squares};
-use crate::lasting_flights::{guarded_squares, keeps_one};
+use crate::lasting_flights::keeps_one;
 use crate::risk::risk_at;
 use crate::siege::Siege;
 use chess_core::square::{Square, Squares};
@@ -41,17 +40,6 @@ impl ToldSteps {
     }
 }
 
-// The squares that the men reach, were all others gone. Where captures do more nothing is told by them, and they are all.
-#[tactic(auto, using(crate::proofs::LastingFlights::all_guarded))]
-fn open_guards<R: Rules>(men: &Attackers) -> Squares
-    ensures { AreGuarded men.now result }
-{
-    if R::captures_do_more() {
-        return !0;
-    }
-    guarded_squares(men)
-}
-
 // Whether the king keeps a flight after the step, whatever is played then.
 fn keeps_flight_at<R: Rules>(siege: &Siege, guarded: Squares, to: Square) -> bool
     requires { AreGuarded siege.now.men guarded }
@@ -80,11 +68,11 @@ fn risky_step<R: Rules>(siege: &Siege, guarded: Squares, to: Square) -> Squares
 
 // Those of the squares to which he mustn't step.
 #[tactic(auto, using(chess_rules::proofs::HoldBelow::hold_none, chess_rules::proofs::HoldBelow::hold_all))]
-fn risky_among<R: Rules>(siege: &Siege, steps: Squares) -> Squares
+fn risky_among<R: Rules>(siege: &Siege, guarded: Squares, steps: Squares) -> Squares
+    requires { AreGuarded siege.now.men guarded }
     ensures { (t : ℕ) → t < 64 → (bit_at steps t == 1) ≡ true → (bit_at result t == 1) ≡ false
         → IsSparedStep R.rule siege.now t }
 {
-    let guarded = open_guards::<R>(&siege.men);
     let mut risky = 0u64;
     let mut number = 0u8;
     while let Some(to) = next_bit(steps, number) {
@@ -166,21 +154,24 @@ fn unbarred_steps<R: Rules>(siege: &Siege, steps: Squares) -> Squares
 
 // Those of the squares to which he mustn't step, of legal steps.
 #[tactic(auto, using(chess_rules::proofs::Basics::cases_Bool))]
-fn risky_steps<R: Rules>(siege: &Siege, steps: Squares) -> Squares
+fn risky_steps<R: Rules>(siege: &Siege, guarded: Squares, steps: Squares) -> Squares
+    requires { AreGuarded siege.now.men guarded }
     ensures { (t : ℕ) → t < 64 → (bit_at steps t == 1) ≡ true → (bit_at result t == 1) ≡ false
         → IsSettledStep R.rule siege.now t }
 {
     let unbarred = unbarred_steps::<R>(siege, steps);
-    risky_among::<R>(siege, unbarred)
+    risky_among::<R>(siege, guarded, unbarred)
 }
 
 // The same, as kept if they are those; they are kept for the next question.
 pub(crate) fn kept_risky_steps<R: Rules>(
     siege: &Siege,
+    guarded: Squares,
     kept: &mut ToldSteps,
     steps: Squares,
 ) -> Squares
-    requires { AreToldSteps siege.now kept.old }
+    requires guarded { AreGuarded siege.now.men guarded }
+    requires kept { AreToldSteps siege.now kept.old }
     ensures risky { (t : ℕ) → t < 64 → (bit_at steps t == 1) ≡ true
         → (bit_at result t == 1) ≡ false → IsSettledStep R.rule siege.now t }
     ensures kept { AreToldSteps siege.now kept.new }
@@ -190,7 +181,7 @@ pub(crate) fn kept_risky_steps<R: Rules>(
     if kept.steps == steps && kept.stand_still == stand_still && kept.do_more == do_more {
         return kept.risky;
     }
-    let risky = risky_steps::<R>(siege, steps);
+    let risky = risky_steps::<R>(siege, guarded, steps);
     *kept = ToldSteps {
         steps,
         stand_still,

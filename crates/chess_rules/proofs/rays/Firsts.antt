@@ -17,7 +17,8 @@ lowest_stop d w fits up =
     let z = bit_at-trailing_zeros w64 v (has_bit v 63 last) (or_lt 64 w (1 * 2 ^ 63 % 2 ^ 64) fits (omega arith)) in
     grind (arith, z, cases_lt, kept w (1 * 2 ^ 63 % 2 ^ 64), bit_at_set_other w64 w 63 (omega arith))
 
-top_bit : (n r : ℕ) → 2 ^ r ≤ n → n < 2 * 2 ^ r → bit_at n r ≡ 1
+-- a number's highest bit is set
+pub top_bit : (n r : ℕ) → 2 ^ r ≤ n → n < 2 * 2 ^ r → bit_at n r ≡ 1
 top_bit n r a b = search rules
 
 none_above : (n r q : ℕ) → n < 2 * 2 ^ r → r < q → bit_at n q ≡ 0

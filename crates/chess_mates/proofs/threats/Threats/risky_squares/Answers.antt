@@ -19,6 +19,6 @@ returns-clause-risky g c =
     let mortal = sym c.is.ensures ∙ c.if-is.false in
     unkept_are_risky _ _ _ _ c.requires.well_formed c.requires.threats _ _ c.unkept_squares-left.result _
     (sym c.man_at.ensures ∙ c.in-Some.is) (omega arith) mortal
-    (λ t low on off. let unkept = c.unkept_squares-left.ensures t low on off in (unkept.0, (rw siege at c.self.invariant.2).keeps t low unkept.1))
+    (λ t low on off. let unkept = c.unkept_squares-left.ensures t low on off in (unkept.0, (rw siege at c.self.invariant.3).keeps t low unkept.1))
     (moves_are_risky _ _ _ _ c.requires.well_formed c.requires.threats _ _ _ _ (sym c.man_at.ensures ∙ c.in-Some.is) (omega arith) (omega arith)
     c.unplain_squares-unplain.ensures.plain c.unplain_squares-unplain.ensures.mere (omega arith) mortal (rw siege at c.critical_of-critical.ensures.safe))
