@@ -28,6 +28,10 @@ able_strikes : (s : ℕ) (men : List (Option Man)) (t : ℕ) (z : Man) → man_o
 unfolding reaches
 able_strikes s men t z here h = rw here h
 
+-- off the board nobody stands
+pub beyond : (men : List (Option Man)) (e : ℕ) → length men ≡ 64 → (e < 64 → ⊥) → is_some (man_on men e) ≡ false
+beyond men e size high = search (rules, on_board)
+
 -- the king, who is x, steps to such a square
 module _ (rule : RuleSet) (p : Position) (m : Move) (x : Man) (v : Siege) (well : IsWellFormed p) (may : is_pseudo_legal rule p m ≡ true)
     (here : man_on p.men m.from ≡ Some x) (small : m.to < 64) (plain : IsPlainMove p x m) (mere : captures_do_more rule ≡ true → IsMereMove p x m)
@@ -57,9 +61,6 @@ module _ (rule : RuleSet) (p : Position) (m : Move) (x : Man) (v : Siege) (well 
   hurdle_is e low off = same_Bool _ _
       (λ some. whole.hurdles e low (search (rules, some_of (man_on p.men e) p.turn some, word_has, fits.own, fits.enemies)) (λ same. off (sym same ∙ at_king)))
       (λ on. search (rules, (siege.hurdles.men e low on).0, some_side, word_has, fits.own, fits.enemies))
-
-  beyond : (men : List (Option Man)) (e : ℕ) → length men ≡ 64 → (e < 64 → ⊥) → is_some (man_on men e) ≡ false
-  beyond men e size high = search (rules, on_board)
 
   left : is_some (man_on q.men m.from) ≡ false
   left = by (man_on q.men m.from) refl where
