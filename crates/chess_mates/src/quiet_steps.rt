@@ -7,9 +7,10 @@ ghost use Rattle.chess_core.specs.WellFormed.{IsWellFormed};
 ghost use Rattle.chess_core.specs.declared.man.Move.{Move};
 ghost use Rattle.chess_mates.specs.ties.Flights.{AreOpen, IsQuietTo, IsSeenFrom, sight_stepped};
 ghost use Rattle.chess_mates.specs.ties.Mates.{is_mating};
-ghost use Rattle.chess_mates.specs.ties.QuietSteps.{GoesSimply, IsStepLeft, NoneHops, must_reply_with_mate, sight_without};
+ghost use Rattle.chess_mates.specs.ties.QuietSteps.{AreQuiet, GoesSimply, IsStepLeft, NoneHops, must_reply_with_mate, sight_without};
 ghost use Rattle.chess_rules.specs.Legal.{is_legal, moves};
-ghost use Rattle.chess_rules.specs.Play.{capture_square, position_after};
+ghost use Rattle.chess_rules.specs.Play.{capture_square, is_castling, position_after};
+ghost use Rattle.chess_rules.specs.ties.Targets.{is_promoting};
 
 use crate::flights::{
     covered_squares, first_safe, held_squares, open_squares, sight_lifted, sight_with,
@@ -135,22 +136,48 @@ fn free_steps<R: Rules>(board: &Board, king: Square) -> Squares
     near & !(board.side(mover.other()) | board.squares(mover, Kind::King))
 }
 
-// The squares to which a man may not simply go: by capturing en passant or being promoted, and in Circe by capturing.
-fn unsimple_squares<R: Rules>(board: &Board, man: Man) -> Squares
-    ensures { (m : Move) → m.to < 64 → (bit_at result m.to == 1) ≡ false
+// The squares to which the man on `from` goes by castling or being promoted, if at all.
+fn special_arrivals(man: Man, from: Square) -> Squares
+    ensures { (m : Move) → m.from ≡ from → m.to < 64 → (bit_at result m.to == 1) ≡ false
+        → (is_castling man m ≡ false) × (is_promoting man m.to ≡ false) }
+{
+    // For the proof: a square's number is below 64.
+    let _small = from.index();
+    if man.kind.is(Kind::Pawn) {
+        return LAST_RANKS;
+    }
+    if man.kind.is(Kind::King) {
+        return !king_leaps(from);
+    }
+    0
+}
+
+// Those to which he may not simply go: so, or by capturing en passant, and in Circe by capturing.
+fn unsimple_squares<R: Rules>(board: &Board, man: Man, from: Square) -> Squares
+    ensures { (m : Move) → m.from ≡ from → m.to < 64 → (bit_at result m.to == 1) ≡ false
         → GoesSimply R.rule board.now man m }
 {
-    let promotions = if man.kind.is(Kind::Pawn) {
-        LAST_RANKS
-    } else {
-        0
-    };
     let captures = if R::captures_do_more() {
         occupied(board)
     } else {
         0
     };
-    only(board.crossed()) | promotions | captures
+    only(board.crossed()) | special_arrivals(man, from) | captures
+}
+
+// Whether no step of the enemy king from `king` is seen to uncover a check, once this man has gone: of the men that are seen
+// none reaches the mover's king, or the square that is left, where that king himself goes.
+fn are_quiet<R: Rules>(board: &Board, sight: Sight, man: Man, king: Square) -> bool
+    ensures { result ≡ true → AreQuiet R.rule board.now sight man king }
+{
+    let enemy = board.turn().other();
+    if man.kind.is(Kind::King) {
+        return !R::faced_men_stand_still() && !is_attacker_seen(board, sight, king, enemy);
+    }
+    match board.king_of(board.turn()) {
+        Some(own) => !is_attacker_seen(board, sight, own, enemy),
+        None => false,
+    }
 }
 
 // The squares to which the man who is lifted must go lest the enemy king's step to `to` is left: all where another man
@@ -175,6 +202,9 @@ fn holding_squares(board: &Board, sight: Sight, man: Man, steps: Squares) -> Squ
     let mut squares = !0u64;
     let mut number = 0u8;
     while let Some(to) = next_bit(steps, number) {
+        if squares == 0 {
+            return squares;
+        }
         squares &= stopping_squares(board, sight, man, to);
         number = to.index() + 1;
     }
@@ -231,7 +261,7 @@ impl QuietSteps {
         self.squares != 0 && none_hops(board)
     }
 
-    // The squares to which the man on `from` may go so that none is seen to be legal then: all if he is the king.
+    // The squares to which the man on `from` may go so that none is seen to be legal then.
     #[tactic(auto, using(crate::proofs::QuietSieve::nothing_told))]
     fn unsettled_squares<R: Rules>(&self, board: &Board, from: Square) -> Squares
         requires well_formed { IsWellFormed board.now }
@@ -241,22 +271,18 @@ impl QuietSteps {
         if !self.are_told(board) {
             return !0;
         }
-        let enemy = board.turn().other();
         let Some(man) = board.man_at(from) else {
             return !0;
         };
-        let Some(king) = board.king_of(enemy) else {
-            return !0;
-        };
-        let Some(own) = board.king_of(board.turn()) else {
+        let Some(king) = board.king_of(board.turn().other()) else {
             return !0;
         };
         let sight = sight_without(board, from, king);
-        if man.kind.is(Kind::King) || is_attacker_seen(board, sight, own, enemy) {
+        if !are_quiet::<R>(board, sight, man, king) {
             return !0;
         }
         let steps = self.squares & free_steps::<R>(board, king);
-        holding_squares(board, sight, man, steps) | unsimple_squares::<R>(board, man)
+        holding_squares(board, sight, man, steps) | unsimple_squares::<R>(board, man, from)
     }
 }
 

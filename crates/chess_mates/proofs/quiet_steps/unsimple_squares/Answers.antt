@@ -3,5 +3,6 @@ use Rattle.chess_mates.proofs.QuietSieve.{goes_simply}
 use Rattle.chess_mates.proofs.quiet_steps.unsimple_squares.Goals as goal
 
 pub returns : goal.returns
-returns g c = λ m small off.
-    goes_simply _ _ _ m c.only.result c.if-is.promotions c.if-captures_do_more.captures (search rules) (search rules) (search rules) small off
+returns g c = λ m from small off.
+    goes_simply _ _ _ m c.only.result c.special_arrivals.result c.if-captures_do_more.captures (search rules)
+    (c.special_arrivals.ensures m from small) (search rules) small off
