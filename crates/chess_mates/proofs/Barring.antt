@@ -23,7 +23,7 @@ unfolding reaches
 able_strikes s men t z here h = rw here h
 
 -- beyond the board nobody stands
-beyond : (men : List (Option Man)) (e : ℕ) → length men ≡ 64 → (e < 64 → ⊥) → is_some (man_on men e) ≡ false
+pub beyond : (men : List (Option Man)) (e : ℕ) → length men ≡ 64 → (e < 64 → ⊥) → is_some (man_on men e) ≡ false
 beyond men e size high = search (rules, on_board)
 
 -- the hurdles are all men but the king

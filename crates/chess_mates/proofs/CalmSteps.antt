@@ -1,5 +1,5 @@
 -- After a move a legal step of the enemy king that gives no check: not every reply mates.
-use Rattle.chess_mates.proofs.Chess.{AreOpen, AreSeen, AreSteps, Bool, Colour, IsQuietTo, IsSafe, IsSeenFrom, IsWellFormed, Kind, King, List, Man, Move, Option, Position, RuleSet, Some, after_well_formed, and_left, and_right, ap, arith, arriving_man, bit_and, bit_not, capture_square, captures_arrival, cases_Bool, cases_eq, differs, eq-eqb, false, gone_to, in_check, inl, inr, is_absent, is_attacked, is_attacked_at, is_legal, is_man, is_mating, is_of_colour, is_open, is_pseudo_legal-from_legal, is_reached, is_simple, is_some, is_square, kept_now, king-back, king_after, king_is_after, king_square, king_stands, left_now, legal_moves_are_triples, length, list_all, man_on, man_on-with_other, may_check_from, may_check_from_at, moves, no_man, not, not-true, not_attacked, occupied_squares, on_first, or_parts, other, other_twice, position_after, reaches, reaches_as, refl, rules, same_colour, same_kind, same_kind-true, sight_lifted, sight_stepped, simple_after, some_square_same, squares_both, squares_not, squares_of, sym, there_now, true, w64, word, ℕ, ◌&&◌, ◌<◌, ◌==◌, ◌||◌, ◌∙◌, ◌≡◌, ◌≢◌}
+use Rattle.chess_mates.proofs.Chess.{AreOpen, AreSeen, AreSteps, Colour, IsQuietTo, IsSafe, IsSeenFrom, IsWellFormed, Kind, King, List, Man, Move, Option, Position, RuleSet, Some, after_well_formed, and_left, and_right, ap, arith, arriving_man, bit_and, bit_not, capture_square, captures_arrival, cases_Bool, cases_eq, differs, eq-eqb, false, gone_to, in_check, inl, inr, is_legal, is_man, is_mating, is_of_colour, is_open, is_pseudo_legal-from_legal, is_reached, is_simple, is_some, is_square, kept_now, king-back, king_after, king_is_after, king_square, king_stands, left_now, legal_moves_are_triples, length, list_all, man_on, man_on-with_other, may_check_from, moves, no_man, not, not-true, not_attacked, occupied_squares, on_first, or_parts, other, other_twice, position_after, reaches, reaches_as, refl, rules, same_colour, same_kind, same_kind-true, sight_lifted, sight_stepped, simple_after, some_square_same, squares_both, squares_not, squares_of, sym, there_now, true, w64, word, ℕ, ◌&&◌, ◌<◌, ◌==◌, ◌||◌, ◌∙◌, ◌≡◌}
 use Rattle.chess_mates.proofs.Mating.{quiet}
 use Rattle.chess_mates.proofs.Fleeing.{IsKingOn, after_seen, is_made, king_is_other, king_on, king_seen, king_step, no_king_free, no_own_arrives, open_parts, reaches_alike_of, safe_step, simple_step, some_of_colour, is_step, step_taken, step_to, turn_is}
 use Rattle.chess_mates.proofs.KingsApart.{kings_apart}
@@ -87,7 +87,7 @@ module _ (rule : RuleSet) (p : Position) (m : Move) (x : Man) (k : ℕ) (i : IsS
       (search (rules, size, free, king_is_other y p.turn king.mine, king.here, is_left.taken, and_left)) ∙ own_king)
 
   -- the king who steps doesn't come next to him
-  apart : reaches now_men t s ≡ false
+  pub apart : reaches now_men t s ≡ false
   unfolding may_check_from reaches reaches_as
   apart =
       let kind : y.kind ≡ King = same_kind-true y.kind King king.king in
@@ -95,13 +95,19 @@ module _ (rule : RuleSet) (p : Position) (m : Move) (x : Man) (k : ℕ) (i : IsS
       let apart_there : reaches_as after.men y.colour y.kind t s ≡ false = (or_parts _ _ (rw (turned, own_king) at none)).1 in
       rw (on_flight p.men m.from (capture_square p x m) m.to (arriving_man x m.promo) k taken t y t is_left.flight refl, kind) (rw kind at apart_there)
 
-  -- and no other man of his side attacks him
-  no_check_then : IsQuietTo p.men p.turn (sight_lifted p.men m.from (capture_square p x m) m.to k) k t s
-      → in_check rule (position_after rule after (step_to k t)).men (other after.turn) ≡ false
+  -- where no man of his side reaches the mover's king, not every reply mates
+  pub calm : is_reached now_men s (other p.turn) ≡ false
+      → list_all (is_mating rule (position_after rule p m)) (moves rule (position_after rule p m)) ≡ false
   unfolding in_check position_after
-  no_check_then quiet = rw (turned, king_after_step, men_made, after_seen rule p m x k i) (not_attacked rule now_men (other p.turn) s
-      (unreached p.men m.from (capture_square p x m) m.to (arriving_man x m.promo) k taken t (other p.turn) is_left y s apart
-      (quiet.unreached _ (seen_left p.men m.from (capture_square p x m) m.to (arriving_man x m.promo) k taken t (other p.turn) is_left))))
+  calm none =
+      let unchecked : in_check rule (position_after rule after (step_to k t)).men (other after.turn) ≡ false =
+      rw (turned, king_after_step, men_made, after_seen rule p m x k i) (not_attacked rule now_men (other p.turn) s none) in
+      one_fails rule after (step_to k t) (after_well_formed rule p m i.well_formed i.pseudo) lawful (quiet rule after (step_to k t) lawful unchecked)
+
+  -- so where no other man of his side does
+  none_of_others : IsQuietTo p.men p.turn (sight_lifted p.men m.from (capture_square p x m) m.to k) k t s → is_reached now_men s (other p.turn) ≡ false
+  none_of_others quiet = unreached p.men m.from (capture_square p x m) m.to (arriving_man x m.promo) k taken t (other p.turn) is_left y s apart
+      (quiet.unreached _ (seen_left p.men m.from (capture_square p x m) m.to (arriving_man x m.promo) k taken t (other p.turn) is_left))
 
 -- for a safe step
 pub not_all_mate : (rule : RuleSet) (p : Position) (m : Move) (x : Man) (k : ℕ) (i : IsSeenFrom rule p m x k) → m.to < 64 → (n w r t s : ℕ)
@@ -116,9 +122,8 @@ not_all_mate rule p m x k i small n w r t s arrives steps safe at quietly =
     let king = king_on (position_after rule p m).men (other p.turn) k (king_seen rule p m x k i small) in
     let way = near.inside t safe.small (on_first (bit_and n w) (bit_not w64 r) t safe.here) in
     let lawful = safe_step rule p m x k i small (bit_and n w) r arrives t near safe in
-    let well = after_well_formed rule p m i.well_formed i.pseudo in
-    let calm = no_check_then rule p m x k i small king.0 t s safe.small king.1 way lawful at quietly in
-    one_fails rule (position_after rule p m) (step_to k t) well lawful (quiet rule (position_after rule p m) (step_to k t) lawful calm)
+    let none = none_of_others rule p m x k i small king.0 t s safe.small king.1 way lawful at quietly in
+    calm rule p m x k i small king.0 t s safe.small king.1 way lawful at none
 
 -- a king doesn't come next to the other
 no_king_next : (rule : RuleSet) (p : Position) (x : Man) (m : Move) (k : ℕ) → IsWellFormed p → man_on p.men m.from ≡ Some x → m.to < 64

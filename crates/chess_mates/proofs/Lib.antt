@@ -22,6 +22,7 @@ pub mod HomeSquares
 pub mod Springboards
 pub mod Sieges
 pub mod Standing
+pub mod QuietSieve
 pub mod Passing
 pub mod QuietCastling
 pub mod Sparing

@@ -1,24 +1,32 @@
 //! Steps of the enemy king after a move, told without playing it: if one gives no check not every reply mates.
-ghost use Rattle.std.specs.Prelude.{◌≡◌, Option, false, true};
+ghost use Rattle.std.specs.Prelude.{◌≡◌, ◌<◌, ◌==◌, ℕ, Option, false, true};
+ghost use Rattle.std.specs.Int.{bit_at};
 ghost use Rattle.std.specs.List.{list_all};
+ghost use Rattle.chess_core.specs.Position.{other};
 ghost use Rattle.chess_core.specs.WellFormed.{IsWellFormed};
-ghost use Rattle.chess_mates.specs.ties.Flights.{IsQuietTo, IsSeenFrom, sight_stepped};
+ghost use Rattle.chess_core.specs.declared.man.Move.{Move};
+ghost use Rattle.chess_mates.specs.ties.Flights.{AreOpen, IsQuietTo, IsSeenFrom, sight_stepped};
 ghost use Rattle.chess_mates.specs.ties.Mates.{is_mating};
+ghost use Rattle.chess_mates.specs.ties.QuietSteps.{AreQuiet, GoesSimply, IsStepLeft, NoneHops, must_reply_with_mate, sight_without};
 ghost use Rattle.chess_rules.specs.Legal.{is_legal, moves};
-ghost use Rattle.chess_rules.specs.Play.{capture_square, position_after};
+ghost use Rattle.chess_rules.specs.Play.{capture_square, is_castling, position_after};
+ghost use Rattle.chess_rules.specs.ties.Targets.{is_promoting};
 
 use crate::flights::{
     covered_squares, first_safe, held_squares, open_squares, sight_lifted, sight_with,
 };
-use crate::lasting_flights::king_after;
+use crate::lasting_flights::{king_after, open_approaches};
+use crate::risk::LAST_RANKS;
 use chess_core::board::Board;
-use chess_core::man::{Colour, Man, Move};
+use chess_core::man::{Colour, Kind, Man, Move};
 use chess_core::square::{Square, Squares};
 use chess_rules::exposure::is_simple;
 use chess_rules::leaps::king_leaps;
+use chess_rules::lines::occupied;
 use chess_rules::outward::is_attacker_seen;
 use chess_rules::play::capture_square;
 use chess_rules::rules::Rules;
+use chess_rules::sift::Sift;
 use chess_rules::sight::Sight;
 use chess_rules::words::{next_bit, only};
 
@@ -93,6 +101,116 @@ fn steps_now(board: &Board, king: Square) -> Squares {
     steps
 }
 
+// Whether no grasshopper stands on the board.
+#[tactic(auto, using(crate::proofs::QuietSieve::no_grasshopper))]
+fn none_hops(board: &Board) -> bool
+    ensures { result ≡ true → NoneHops board.now.men }
+{
+    board.squares(Colour::White, Kind::Grasshopper)
+        | board.squares(Colour::Black, Kind::Grasshopper)
+        == 0
+}
+
+// The men but for those on two squares.
+fn sight_without(board: &Board, from: Square, king: Square) -> Sight
+    ensures { result ≡ sight_without board.now.men from king }
+{
+    let gone = only(Some(from)) | only(Some(king));
+    Sight {
+        occupied: occupied(board) & !gone,
+        standing: !gone,
+    }
+}
+
+// The squares to which the enemy king on `king` may step, attacks apart: next to him, where neither a man of his own nor
+// a king stands, and in Circe nobody.
+#[tactic(auto, using(crate::proofs::QuietSieve::open_in_circe, crate::proofs::QuietSieve::open_elsewhere))]
+fn free_steps<R: Rules>(board: &Board, king: Square) -> Squares
+    ensures { AreOpen R.rule board.now.men (other board.now.turn) king result }
+{
+    let near = king_leaps(king);
+    if R::captures_do_more() {
+        return near & !occupied(board);
+    }
+    let mover = board.turn();
+    near & !(board.side(mover.other()) | board.squares(mover, Kind::King))
+}
+
+// The squares to which the man on `from` goes by castling or being promoted, if at all.
+fn special_arrivals(man: Man, from: Square) -> Squares
+    ensures { (m : Move) → m.from ≡ from → m.to < 64 → (bit_at result m.to == 1) ≡ false
+        → (is_castling man m ≡ false) × (is_promoting man m.to ≡ false) }
+{
+    // For the proof: a square's number is below 64.
+    let _small = from.index();
+    if man.kind.is(Kind::Pawn) {
+        return LAST_RANKS;
+    }
+    if man.kind.is(Kind::King) {
+        return !king_leaps(from);
+    }
+    0
+}
+
+// Those to which he may not simply go: so, or by capturing en passant, and in Circe by capturing.
+fn unsimple_squares<R: Rules>(board: &Board, man: Man, from: Square) -> Squares
+    ensures { (m : Move) → m.from ≡ from → m.to < 64 → (bit_at result m.to == 1) ≡ false
+        → GoesSimply R.rule board.now man m }
+{
+    let captures = if R::captures_do_more() {
+        occupied(board)
+    } else {
+        0
+    };
+    only(board.crossed()) | special_arrivals(man, from) | captures
+}
+
+// Whether no step of the enemy king from `king` is seen to uncover a check, once this man has gone: of the men that are seen
+// none reaches the mover's king, or the square that is left, where that king himself goes.
+fn are_quiet<R: Rules>(board: &Board, sight: Sight, man: Man, king: Square) -> bool
+    ensures { result ≡ true → AreQuiet R.rule board.now sight man king }
+{
+    let enemy = board.turn().other();
+    if man.kind.is(Kind::King) {
+        return !R::faced_men_stand_still() && !is_attacker_seen(board, sight, king, enemy);
+    }
+    match board.king_of(board.turn()) {
+        Some(own) => !is_attacker_seen(board, sight, own, enemy),
+        None => false,
+    }
+}
+
+// The squares to which the man who is lifted must go lest the enemy king's step to `to` is left: all where another man
+// reaches it.
+fn stopping_squares(board: &Board, sight: Sight, man: Man, to: Square) -> Squares
+    ensures { (w t : ℕ) → (bit_at w to == 1) ≡ true → t < 64 → (bit_at result t == 1) ≡ false
+        → IsStepLeft board.now sight w man t to }
+{
+    // For the proof: a square's number is below 64.
+    let _small = to.index();
+    if is_attacker_seen(board, sight, to, board.turn()) {
+        return !0;
+    }
+    open_approaches(man, to) | only(Some(to))
+}
+
+// Those to which he must go lest one of the steps is left.
+fn holding_squares(board: &Board, sight: Sight, man: Man, steps: Squares) -> Squares
+    ensures { (t : ℕ) → t < 64 → (bit_at result t == 1) ≡ false
+        → (f : ℕ) × IsStepLeft board.now sight steps man t f }
+{
+    let mut squares = !0u64;
+    let mut number = 0u8;
+    while let Some(to) = next_bit(steps, number) {
+        if squares == 0 {
+            return squares;
+        }
+        squares &= stopping_squares(board, sight, man, to);
+        number = to.index() + 1;
+    }
+    squares
+}
+
 /// Steps of the enemy king that give no check, for the moves of one position.
 #[derive(Clone, Copy)]
 pub struct QuietSteps {
@@ -134,5 +252,49 @@ impl QuietSteps {
             Some(king) => steps_quietly::<R>(board, man, m, captured, king, squares),
             None => false,
         }
+    }
+
+    /// Whether they are told for all moves of a man at once: not where he could step nowhere, nor beside grasshoppers.
+    pub fn are_told(&self, board: &Board) -> bool
+        ensures { result ≡ true → NoneHops board.now.men }
+    {
+        self.squares != 0 && none_hops(board)
+    }
+
+    // The squares to which the man on `from` may go so that none is seen to be legal then.
+    #[tactic(auto, using(crate::proofs::QuietSieve::nothing_told))]
+    fn unsettled_squares<R: Rules>(&self, board: &Board, from: Square) -> Squares
+        requires well_formed { IsWellFormed board.now }
+        ensures { (m : Move) → is_legal R.rule board.now m ≡ true → m.from ≡ from
+            → (bit_at result m.to == 1) ≡ false → must_reply_with_mate R.rule board.now m ≡ false }
+    {
+        if !self.are_told(board) {
+            return !0;
+        }
+        let Some(man) = board.man_at(from) else {
+            return !0;
+        };
+        let Some(king) = board.king_of(board.turn().other()) else {
+            return !0;
+        };
+        let sight = sight_without(board, from, king);
+        if !are_quiet::<R>(board, sight, man, king) {
+            return !0;
+        }
+        let steps = self.squares & free_steps::<R>(board, king);
+        holding_squares(board, sight, man, steps) | unsimple_squares::<R>(board, man, from)
+    }
+}
+
+impl Sift for QuietSteps {
+    ghost use Rattle.std.specs.Prelude.{⊤};
+    ghost use Rattle.chess_mates.specs.ties.QuietSteps.{must_reply_with_mate};
+
+    ghost test = { must_reply_with_mate };
+
+    ghost fits = { λ steps rule p. ⊤ };
+
+    fn sift<R: Rules>(&mut self, board: &Board, from: Square, squares: Squares) -> Squares {
+        squares & self.unsettled_squares::<R>(board, from)
     }
 }

@@ -1,5 +1,5 @@
 -- The last two half-moves where mate is the goal, tried without frames: their value, and how many positions they take.
-use Rattle.pop_solve.proofs.Words.{Battle, Bool, Direct, HasCounted, IfSome, Killer, LegalPlace, List, Mate, Move, None, Option, Order, Position, RuleSet, Selfmate, Some, [], ap, arith, can_move, chess, cond, eqb, false, filter, is_goal_reached, is_legal, is_mating, is_some, joined_value, length, list_all, list_any, mates_behind, min, moves, moves_ahead, moves_behind, nat_tests, not, position_after, refl, rules, seeks, smallest_below, smallest_tree, true, value, walk_count, ℕ, ◌&&◌, ◌+◌, ◌-◌, ◌<◌, ◌^◌, ◌∷◌, ◌≡◌, ◌≤◌}
+use Rattle.pop_solve.proofs.Words.{AreTaken, Battle, Bool, Direct, HasCounted, IfSome, Killer, LegalPlace, List, Mate, Move, None, Option, Order, Passes, Position, RuleSet, Selfmate, Some, [], ap, arith, can_move, chess, cond, eqb, false, filter, is_goal_reached, is_legal, is_mating, is_some, joined_value, length, list_all, list_any, mates_behind, min, moves, moves_ahead, moves_behind, must_reply_with_mate, nat_tests, not, position_after, refl, rules, seeks, smallest_below, smallest_tree, true, value, walk_count, ℕ, ◌&&◌, ◌++◌, ◌+◌, ◌-◌, ◌<◌, ◌^◌, ◌∷◌, ◌≡◌, ◌≤◌}
 use Rattle.pop_solve.proofs.Boards.{behind_start, each_one, unreached}
 use Rattle.pop_solve.proofs.SmallestTrees.{tree-one, trees-end, trees-next, trees-start}
 use Rattle.pop_solve.proofs.Tests.{any-start, fewest-start, first, length-start, rest-start}
@@ -45,6 +45,32 @@ module _ {battle : Battle} {rule : RuleSet} {p : Position} {v : Bool} {before le
     -- after another the next is to be tried
     pub goes_on : value battle (chess Mate rule) 1 (position_after rule p m) ≡ not (seeks battle 2) → AreTried battle rule p later v before least most count
     goes_on e = grind (arith, trees-next battle (chess Mate rule) 1 p m later, tree-one)
+
+module _ {rule : RuleSet} {p : Position} {v : Bool} {before least most : ℕ} where
+  taken_on : (over ahead : List Move) (counted count : ℕ) → AreTried Selfmate rule p (over ++ ahead) v before least most counted
+      → AreTaken (must_reply_with_mate rule p) counted count over → AreTried Selfmate rule p ahead v before least most count
+  taken_on [] ahead counted count a taken =
+      let counts = taken.counts in
+      record { joined = a.joined; fits = omega (arith, a.fits, counts); tried = omega (arith, a.tried, counts) }
+  taken_on (m ∷ over) ahead counted count a taken =
+      let quiet : must_reply_with_mate rule p m ≡ false = grind (arith, taken.none) in
+      taken_on over ahead (min (counted + 1) (2 ^ 64 - 1)) count
+      (goes_on refl _ a (omega arith) (omega arith) (one_quiet rule (position_after rule p m) quiet))
+      (record { none = grind (arith, taken.none); counts = omega (arith, taken.counts) })
+
+  -- moves that are passed over don't decide: the others are still to be tried
+  pub passes_on : {place counted count : ℕ} {ahead : List Move} → Passes rule p place ahead (AreTaken (must_reply_with_mate rule p) counted count)
+      → AreTried Selfmate rule p (moves_behind rule p place) v before least most counted → AreTried Selfmate rule p ahead v before least most count
+  passes_on n a = taken_on n.over _ _ _ (rw (n.passed, n.here) at a) n.fits
+
+-- nothing is counted only where nothing was before, and no move is passed over
+untaken : (over : List Move) (counted count : ℕ) → count ≡ min (counted + length over) (2 ^ 64 - 1) → count ≡ 0 → (counted ≡ 0) × (over ≡ [])
+untaken [] counted count e zero = (omega (arith, e, zero), refl)
+untaken (m ∷ over) counted count e zero = absurd (omega (arith, e, zero))
+
+pub none_taken : {rule : RuleSet} {p : Position} {test : Move → Bool} {place counted count : ℕ} → Passes rule p place [] (AreTaken test counted count)
+    → count ≡ 0 → (counted ≡ 0) × (moves_behind rule p place ≡ [])
+none_taken n zero = grind (arith, untaken n.over _ _ n.fits.counts zero, n.passed, n.here)
 
 module _ (battle : Battle) (rule : RuleSet) (p : Position) where
   -- without a move the goal decides, and nothing is counted

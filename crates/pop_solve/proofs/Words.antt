@@ -29,6 +29,7 @@ pub use Rattle.chess_rules.specs.ties.Places.{IsPlaceIn, LegalPlace}
 unfoldable pub use Rattle.chess_rules.specs.ties.Places.{moves_behind, moves_between}
 pub use Rattle.chess_rules.specs.ties.Sifting.{IsSifted}
 pub use Rattle.chess_mates.specs.ties.Mates.{IsNextMate, MatingPlace, allows_mate, is_mating, mates_between}
+pub use Rattle.chess_mates.specs.ties.QuietSteps.{must_reply_with_mate}
 unfoldable pub use Rattle.chess_mates.specs.ties.Mates.{mates_behind}
 pub use Rattle.pop_input.specs.Posed.{IsSound, Posed}
 pub use Rattle.pop_input.specs.Stipulations.{half_moves, half_moves_of, is_help, may_have}
@@ -70,7 +71,7 @@ pub use Rattle.pop_solve.specs.ties.Plans.{is_help_play, plan_of, has_variations
 pub use Rattle.pop_solve.specs.ties.Seen.{StandsOn, fewest_from, is_stop, is_unstopped, is_walked_once, phase_fewest, phase_walk, walk_from}
 pub use Rattle.pop_solve.specs.ties.Values.{decides, join, seeks}
 unfoldable pub use Rattle.pop_solve.specs.ties.Values.{joined_value, value}
-pub use Rattle.pop_solve.specs.ties.Walk.{AreSettled, GoesTo, HaveNoPaths, IsCounted, IsEnded, IsNextOf, IsNextUnsettled, IsWalking, Passes, Opens, Steps, Tries, ends_variation, fewest_half_moves, fewest_for, seeks_last}
+pub use Rattle.pop_solve.specs.ties.Walk.{AreSettled, AreTaken, GoesTo, HaveNoPaths, IsCounted, IsEnded, IsNextLeft, IsNextOf, IsNextUnsettled, IsWalking, Passes, Opens, Steps, Tries, ends_variation, fewest_half_moves, fewest_for, seeks_last}
 unfoldable pub use Rattle.pop_solve.specs.ties.Walk.{IsRoomy, are_whites, fewest_left, fewest_walked, least_length_from, is_followed, is_given, walk_length, shown_length, path, shown_paths, to_come, walk_work}
 pub use Rattle.chess_rules.proofs.listing_moves.Between.{behind_cut}
 pub use Rattle.chess_rules.proofs.listing_moves.Members.{from_range}

@@ -1,6 +1,7 @@
 //! White's last move of a selfmate for mate, after which Black must mate.
 ghost use Rattle.std.specs.Prelude.{◌≡◌, ◌+◌, ◌≤◌, [], length, true};
 ghost use Rattle.chess_core.specs.WellFormed.{IsWellFormed};
+ghost use Rattle.chess_mates.specs.ties.QuietSteps.{must_reply_with_mate};
 ghost use Rattle.chess_rules.specs.Legal.{is_legal, moves as legal_moves};
 ghost use Rattle.chess_rules.specs.Play.{position_after};
 ghost use Rattle.chess_rules.specs.ties.Places.{IsPlaceIn, moves_behind};
@@ -9,6 +10,7 @@ ghost use Rattle.pop_solve.specs.Chess.{chess};
 ghost use Rattle.pop_solve.specs.declared.aim.Battle.TheVariants.{Selfmate};
 ghost use Rattle.pop_solve.specs.ties.Counts.{HasCounted, smallest_below, smallest_tree, walk_count};
 ghost use Rattle.pop_solve.specs.ties.Values.{joined_value, value};
+ghost use Rattle.pop_solve.specs.ties.Walk.{IsNextLeft};
 
 use crate::chess::{is_reached_without_move, must_mate, next_behind, retract};
 use crate::history::History;
@@ -43,6 +45,32 @@ fn forces_mate<R: Rules>(
     forced
 }
 
+/// The next move behind the place after which Black's king has no quiet step, as far as they are told for all moves of a man.
+/// Those that are passed over are counted.
+#[tactic(auto, using(crate::proofs::Passing::none_passed))]
+fn next_unquiet<R: Rules>(
+    steps: &mut QuietSteps,
+    moves: &mut LegalMoves<R>,
+    board: &mut Board,
+    counted: &mut u64,
+) -> Option<Move>
+    requires well_formed { IsWellFormed board.old }
+    requires known { IsPlaceIn R.rule board.old moves.old }
+    ensures unchanged { board.new ≡ board.old }
+    ensures within { IsPlaceIn R.rule board.old moves.new }
+    ensures next { IsNextLeft R.rule board.old (must_reply_with_mate R.rule board.old)
+        moves.old.place moves.new.place counted.old counted.new result }
+{
+    // For the proof: the count is below 2^64.
+    let _counted = *counted;
+    if !steps.are_told(board) {
+        return next_behind::<R>(moves, board);
+    }
+    let sifted = moves.next_sifted(steps, board);
+    *counted = counted.saturating_add(u64::from(sifted.passed));
+    sifted.found
+}
+
 /// Whether some move behind the place forces mate. Each one up to the first that does is counted.
 fn some_forces_mate<R: Rules>(
     mut moves: LegalMoves<R>,
@@ -61,8 +89,8 @@ fn some_forces_mate<R: Rules>(
     ensures tried { HasCounted 0 counted.new (smallest_below Selfmate (chess Mate R.rule) 2
         board.old (moves_behind R.rule board.old moves.place)) }
 {
-    let steps = QuietSteps::of(board);
-    while let Some(by) = next_behind::<R>(&mut moves, board) {
+    let mut steps = QuietSteps::of(board);
+    while let Some(by) = next_unquiet::<R>(&mut steps, &mut moves, board, counted) {
         *counted = counted.saturating_add(1);
         if forces_mate::<R>(steps, by, board, killers) {
             return true;

@@ -186,19 +186,27 @@ pub record Passes (rule : RuleSet) (p : Position) (place : ℕ) (rest : List Mov
   pub here : moves_behind rule p mid ≡ rest
   pub fits : what over
 
--- no reply to any of these moves of p mates, and from `before` to `after` each has counted as one opened frame
-pub record AreSettled (rule : RuleSet) (p : Position) (before after : ℕ) (over : List Move) : Type
-    0 where
-  pub none : filter (allows_mate rule p) over ≡ []
+-- none of these moves passes the test, and from `before` to `after` each has counted as one opened frame
+pub record AreTaken (test : Move → Bool) (before after : ℕ) (over : List Move) : Type 0 where
+  pub none : filter test over ≡ []
   pub counts : after ≡ min (before + length over) (2 ^ 64 - 1)
 
--- an answer, of the next move behind a place that isn't settled
+-- so where no reply to any of them mates
+abbrev pub AreSettled : RuleSet → Position → (before after : ℕ) → List Move → Type 0
+AreSettled rule p = AreTaken (allows_mate rule p)
+
+-- an answer, of the next move behind a place that a sieve for the test leaves
+abbrev pub IsNextLeft : RuleSet → Position → (Move → Bool) → (place next before after : ℕ)
+    → Option Move → Type 0
+IsNextLeft rule p test place next before after found =
+    MatchOption found (Passes rule p place [] (AreTaken test before after))
+    (λ m. Passes rule p place (m ∷ moves_behind rule p next) (AreTaken test before after)
+    × (is_legal rule p m ≡ true))
+
+-- and of the next one that isn't settled
 abbrev pub IsNextUnsettled : RuleSet → Position → (place next before after : ℕ) → Option Move → Type
     0
-IsNextUnsettled rule p place next before after found =
-    MatchOption found (Passes rule p place [] (AreSettled rule p before after))
-    (λ m. Passes rule p place (m ∷ moves_behind rule p next) (AreSettled rule p before after)
-    × (is_legal rule p m ≡ true))
+IsNextUnsettled rule p = IsNextLeft rule p (allows_mate rule p)
 
 -- these moves of p have no paths, with `left` half-moves left: there are none, or with one left, by a side that seeks
 -- mate, they don't mate; with two left in help play for mate they are settled, and counted

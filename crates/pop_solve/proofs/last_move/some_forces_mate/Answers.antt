@@ -1,5 +1,5 @@
-use Rattle.pop_solve.proofs.Words.{arith, joined_value, rules}
-use Rattle.pop_solve.proofs.LastMoves.{ends, goes_on, stops}
+use Rattle.pop_solve.proofs.Words.{arith, joined_value, refl, rules}
+use Rattle.pop_solve.proofs.LastMoves.{ends, goes_on, none_taken, passes_on, stops}
 use Rattle.pop_solve.proofs.last_move.some_forces_mate.Goals as goal
 
 pub loop-by-init : goal.loop-by-init
@@ -8,14 +8,17 @@ loop-by-init g c = search rules
 
 pub returns-then-forces_mate : goal.returns-then-forces_mate
 returns-then-forces_mate g c =
-    let here = rw c.loop-by.invariant.0 at c.in-Some.ensures.found.next.0 in
-    let s = stops here c.saturating_add.result c.loop-by.invariant.3 (omega arith) (omega arith) (search rules) in
-    search (rules, here, s)
+    let tried = passes_on (rw c.loop-by.invariant.0 at c.in-Some.ensures.next.0) c.loop-by.invariant.3 in
+    let s = stops refl c.saturating_add.result tried (omega arith) (omega arith) (search rules) in
+    search (rules, s)
 
 pub loop-by-preserved : goal.loop-by-preserved
 loop-by-preserved g c =
-    let here = rw c.loop-by.invariant.0 at c.in-Some.ensures.found.next.0 in
-    (search rules, search rules, λ zero. absurd (omega (arith, zero)), goes_on here _ c.loop-by.invariant.3 (omega arith) (omega arith) (search rules))
+    let tried = passes_on (rw c.loop-by.invariant.0 at c.in-Some.ensures.next.0) c.loop-by.invariant.3 in
+    (search rules, search rules, λ zero. absurd (omega (arith, zero)), goes_on refl _ tried (omega arith) (omega arith) (search rules))
 
 pub returns : goal.returns
-returns g c = let e = ends c.loop-by.invariant.3 (rw c.loop-by.invariant.0 at c.in_default.ensures.found.next) in search (rules, e)
+returns g c =
+    let none = rw c.loop-by.invariant.0 at c.in_default.ensures.next in
+    let tried = passes_on none c.loop-by.invariant.3 in
+    search (rules, tried.joined, ends tried refl, none_taken none)

@@ -1,0 +1,11 @@
+use Rattle.chess_mates.proofs.Chess.{off_left, off_right, rules}
+use Rattle.chess_mates.proofs.QuietSieve.{settled, small_arrival}
+use Rattle.chess_mates.proofs.quiet_steps.QuietSteps.unsettled_squares.Goals as goal
+
+pub returns : goal.returns
+returns g c = λ m lawful from off.
+    let small = small_arrival _ _ m c.requires.well_formed lawful in
+    let quiet = rw (c.sight_without-sight.ensures, ← from) at c.are_quiet.ensures (search rules) in
+    let left = rw (c.sight_without-sight.ensures, ← from) at c.holding_squares.ensures m.to small (off_left _ _ m.to off) in
+    settled _ _ m _ _ _ _ c.requires.well_formed lawful (search rules) (search rules) (c.are_told.ensures (search rules))
+    (c.unsimple_squares.ensures m from small (off_right _ _ m.to off)) quiet c.free_steps.ensures left

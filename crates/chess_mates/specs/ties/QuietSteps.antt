@@ -1,0 +1,65 @@
+-- Steps of the enemy king that give no check, told for all moves of one man (own).
+use Rattle.std.specs.Prelude.{◌≡◌, ◌<◌, ℕ, Bool, true, false, List, Option, Some, None}
+use Rattle.std.specs.Int.{bit_not, w64}
+use Rattle.std.specs.Int.Bits.{bit_and, bit_or}
+use Rattle.std.specs.List.{list_all}
+use Rattle.chess_core.specs.Position.{Position, king_square, man_on, other, same_kind}
+use Rattle.chess_core.specs.Squares.{is_square}
+use Rattle.chess_core.specs.Steps.{gait_of, is_hopper}
+use Rattle.chess_core.specs.ties.Words.{word}
+use Rattle.chess_core.specs.declared.man.Kind.TheVariants.{King}
+use Rattle.chess_core.specs.declared.man.Man.{Man}
+use Rattle.chess_core.specs.declared.man.Move.{Move}
+use Rattle.chess_mates.specs.ties.LastingFlights.{IsLeft}
+use Rattle.chess_mates.specs.ties.Mates.{is_mating}
+use Rattle.chess_rules.specs.Legal.{moves}
+use Rattle.chess_rules.specs.Play.{capture_square, is_castling, position_after}
+use Rattle.chess_rules.specs.RuleSet.{RuleSet, captures_do_more, faced_men_stand_still}
+use Rattle.chess_rules.specs.declared.sight.Sight.{Sight}
+use Rattle.chess_rules.specs.ties.Lines.{occupied_squares}
+use Rattle.chess_rules.specs.ties.Shields.{is_reached}
+use Rattle.chess_rules.specs.ties.Sight.{AreSeen}
+use Rattle.chess_rules.specs.ties.Targets.{is_promoting}
+
+-- each reply to the move mates
+abbrev pub must_reply_with_mate : RuleSet → Position → Move → Bool
+must_reply_with_mate rule p m =
+    list_all (is_mating rule (position_after rule p m)) (moves rule (position_after rule p m))
+
+-- no man hops
+pub record NoneHops (men : List (Option Man)) : Type 0 where
+  pub none : (s : ℕ) (x : Man) → s < 64 → man_on men s ≡ Some x
+      → is_hopper (gait_of x.kind) ≡ false
+
+-- the words of the men but for those on two squares
+abbrev pub sight_without : List (Option Man) → ℕ → ℕ → Sight
+sight_without men a k =
+    let gone = bit_or (word (is_square (Some a))) (word (is_square (Some k))) in
+    record {
+      occupied = bit_and (occupied_squares men) (bit_not w64 gone);
+      standing = bit_not w64 gone;
+    }
+
+-- x captures only where he arrives, and in Circe nobody, and neither castles nor is promoted
+pub record GoesSimply (rule : RuleSet) (p : Position) (x : Man) (m : Move) : Type 0 where
+  pub castling : is_castling x m ≡ false
+  pub captures : (s : ℕ) → capture_square p x m ≡ Some s → s ≡ m.to
+  pub mere : captures_do_more rule ≡ true → capture_square p x m ≡ None
+  pub unpromoted : is_promoting x m.to ≡ false
+
+-- once x has come to t, the enemy king's step to f is left of the word: no man of the mover reaches f, neither x nor one
+-- of those whose words are given
+pub record IsStepLeft (p : Position) (v : Sight) (w : ℕ) (x : Man) (t f : ℕ) : Type 0 where
+  pub left : IsLeft w x t f
+  pub others : (men : List (Option Man)) → AreSeen p.men men p.turn v
+      → is_reached men f p.turn ≡ false
+
+-- once x has gone and the enemy king has stepped from k, none of the men of his side whose words are given reaches the
+-- mover's king, or k where that king himself goes and no man stands still
+pub record AreQuiet (rule : RuleSet) (p : Position) (v : Sight) (x : Man) (k : ℕ) : Type 0 where
+  pub stands : same_kind x.kind King ≡ false → (s : ℕ) × (king_square p.men p.turn ≡ Some s)
+      × ((men : List (Option Man)) → AreSeen p.men men (other p.turn) v
+      → is_reached men s (other p.turn) ≡ false)
+  pub goes : same_kind x.kind King ≡ true → (faced_men_stand_still rule ≡ false)
+      × ((men : List (Option Man)) → AreSeen p.men men (other p.turn) v
+      → is_reached men k (other p.turn) ≡ false)
