@@ -297,4 +297,13 @@ impl Sift for QuietSteps {
     fn sift<R: Rules>(&mut self, board: &Board, from: Square, squares: Squares) -> Squares {
         squares & self.unsettled_squares::<R>(board, from)
     }
+
+    fn legal_squares<R: Rules>(
+        &self,
+        _board: &Board,
+        _from: Square,
+        _squares: Squares,
+    ) -> Option<Squares> {
+        None
+    }
 }

@@ -32,10 +32,6 @@ module _ (rule : RuleSet) (q : Position) (o : Order) where
   sum-start : (f : Move → ℕ) → sum_by f first ≡ sum_by f (legal_moves rule q)
   sum-start f = same_start rule q o (λ m c. f m + c) (sum_by f) (sum_by-cons f) (λ m n c. omega arith)
 
-  -- there are as many as there are legal moves
-  pub length-start : length first ≡ length (legal_moves rule q)
-  length-start = same_start rule q o (λ m c. suc c) length (λ m ms. refl) (λ m n c. refl)
-
   least-start : (test : Move → Bool) (f : Move → ℕ) (n : ℕ) → least_of test f n first ≡ least_of test f n (legal_moves rule q)
   unfolding least_of
   least-start test f n = same_start rule q o (λ m c. cond (test m) (min (f m) c) c) (least_of test f n) (λ m ms. refl) (λ m k c. grind arith)

@@ -10,14 +10,13 @@ ghost use Rattle.pop_solve.specs.ties.Counts.{HasCounted, smallest_tree, walk_co
 ghost use Rattle.pop_solve.specs.ties.Values.{value};
 
 use crate::aim::Battle;
-use crate::chess::{find_mate, is_reached_without_move, retract};
+use crate::chess::{find_mate, is_reached_without_move, moves_at, retract};
 use crate::frame::Stretch;
 use crate::history::History;
 use crate::killers::Killers;
 use crate::stretches::{next_tried, order_of};
 use chess_core::board::Board;
 use chess_core::man::Move;
-use chess_rules::legal_moves::LegalMoves;
 use chess_rules::rules::Rules;
 use pop_input::stipulation::Goal;
 
@@ -64,8 +63,7 @@ pub(crate) fn value_of_last_defence<R: Rules>(board: &mut Board, history: &mut H
         (smallest_tree Direct (chess Mate R.rule) 2 board.old) }
 {
     let order = order_of(&history.killers, Battle::Direct, 2);
-    let mut moves = LegalMoves::<R>::of(board);
-    moves.go_to(order.killer.back());
+    let mut moves = moves_at::<R>(None, order.killer.back(), board);
     let mut stretch = Stretch::Killer;
     let mut next = next_tried::<R>(order, &mut stretch, &mut moves, board);
     if next.is_none() {

@@ -9,6 +9,7 @@ pub mod history;
 pub mod killers;
 mod last_defence;
 mod last_move;
+mod mate_in_two;
 pub mod phases;
 pub mod plan;
 pub mod search;

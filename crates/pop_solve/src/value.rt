@@ -29,6 +29,7 @@ use crate::history::History;
 use crate::killers::Killers;
 use crate::last_defence::{has_mate, value_of_last_defence};
 use crate::last_move::value_of_last_move;
+use crate::mate_in_two::mates_in_two;
 use crate::stretches::{next_tried, order_of};
 use arrayvec::ArrayVec;
 use chess_core::board::Board;
@@ -93,7 +94,8 @@ fn value_of_two<R: Rules>(battle: Battle, board: &mut Board, history: &mut Histo
 }
 
 /// The value of a position, where it is known without a frame; else what is known of its moves, if they were looked for.
-/// The last two half-moves need none where mate is the goal, and are counted as if they had.
+/// The last half-moves need none where mate is the goal, and are counted as if they had: three of a direct mate, two of a
+/// selfmate.
 #[tactic(auto, using(crate::proofs::Boards::settling, crate::proofs::SmallestTrees::shortest, crate::proofs::Values::free_moves))]
 fn value_at_once<R: Rules>(
     aim: Aim,
@@ -125,6 +127,9 @@ fn value_at_once<R: Rules>(
     if is_for_mate(aim.goal) && left == 1 {
         history.opened = history.opened.saturating_add(1);
         return Some(last_value::<R>(aim.battle, board, &mut history.killers));
+    }
+    if is_for_mate(aim.goal) && aim.battle == Battle::Direct && left == 3 {
+        return Some(mates_in_two::<R>(board, history));
     }
     if is_free(aim.battle, left) {
         return None;

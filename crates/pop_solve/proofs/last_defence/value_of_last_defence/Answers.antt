@@ -1,4 +1,4 @@
-use Rattle.pop_solve.proofs.LastMoves.{begins_first, ends, found_first, from, goes_on, stops, stuck}
+use Rattle.pop_solve.proofs.LastMoves.{begins_first, ends, found_first, from, goes_on, one_more, stops, stuck}
 use Rattle.pop_solve.proofs.Words.{refl, rules, value}
 use Rattle.pop_solve.proofs.last_defence.value_of_last_defence.Goals as goal
 
@@ -17,11 +17,14 @@ loop-next-init g c =
 
 pub returns-then-not-lets_mate : goal.returns-then-not-lets_mate
 returns-then-not-lets_mate g c =
-    let s = stops refl _ (rw c.in-Some.is at c.loop-next.invariant.3) c.lets_mate.ensures.opened c.lets_mate.ensures.tried (search rules) in search (rules, s)
+    let s = stops refl _ (rw c.in-Some.is at c.loop-next.invariant.3) (one_more _ _ _ _ _ c.lets_mate.ensures.opened c.lets_mate.ensures.tried)
+    (search rules) in
+    search (rules, s)
 
 pub loop-next-preserved : goal.loop-next-preserved
 loop-next-preserved g c =
-    let s = goes_on refl _ (rw c.in-Some.is at c.loop-next.invariant.3) c.lets_mate.ensures.opened c.lets_mate.ensures.tried (search rules) in
+    let s = goes_on refl _ (rw c.in-Some.is at c.loop-next.invariant.3) (one_more _ _ _ _ _ c.lets_mate.ensures.opened c.lets_mate.ensures.tried)
+    (search rules) in
     search (rules, s, from, c.next_tried-next-in-Some.ensures)
 
 pub returns : goal.returns

@@ -1,6 +1,6 @@
 use Rattle.pop_solve.proofs.Words.{Selfmate, arith, joined_value, rules, value}
 use Rattle.pop_solve.proofs.Boards.{behind_start}
-use Rattle.pop_solve.proofs.LastMoves.{begins_plain, none_moves, stuck}
+use Rattle.pop_solve.proofs.LastMoves.{begins_plain, none_moves, walk_among-two, stuck}
 use Rattle.pop_solve.proofs.last_move.value_of_last_move.Goals as goal
 
 pub is_reached_without_move-requires : goal.is_reached_without_move-requires
@@ -14,4 +14,4 @@ pub returns : goal.returns
 unfolding joined_value
 returns g c =
     let b = begins_plain Selfmate g.R.Rules.rule c.args.board.now c.of-moves.result.place c.args.history.now.opened (search rules) (omega arith) in
-    search (rules, b)
+    search (rules, b, walk_among-two)
