@@ -20,6 +20,7 @@ pub mod Hurdles
 pub mod Risks
 pub mod HomeSquares
 pub mod Springboards
+pub mod HoppedFlights
 pub mod Sieges
 pub mod Standing
 pub mod QuietSieve

@@ -1,5 +1,5 @@
 -- The men of a siege, its castlings and the king's field.
-use Rattle.chess_mates.proofs.Chess.{AreAdjacent, AreAttackers, AreCaptureSquares, AreCastlingSquares, AreClosed, AreFree, AreHurdles, AreReached, AreSpringboards, AreSprings, AreThreats, AreWeak, Attackers, Bishop, Colour, Field, Grasshopper, IsAttacker, IsCastlingHarmless, IsField, IsHurdle, IsReached, IsRiskAt, IsShut, IsSiege, IsSiegeOf, IsUnsprung, IsWellFormed, IsWhole, Kind, King, Knight, List, Man, MayRide, Nightrider, None, Option, Pawn, Position, Queen, Risk, Rook, RuleSet, Siege, Some, White, and_parts, arith, bit_and, bit_at, bit_not, bit_or, corner, eq-eqb, eqb-true, every_square_on, false, false_by, false≢true, find_no, has_unmoved, inl, inr, is_fairy, is_man, is_on_some, is_rider, is_square, king_square, king_there, leaps, list_any, list_any-append, man_on, men_on, ne_eqb, occupied_squares, off_left, off_right, on_first, on_left, on_right, or_cases, other, queen_steps, reached_over, reaches_as, refl, rules, side_of, squares, squares_for, squares_of, straight_steps, true, w64, word, word_has, ℕ, ◌&&◌, ◌+◌, ◌-◌, ◌<◌, ◌==◌, ◌^◌, ◌||◌, ◌∙◌, ◌≡◌, ◌≢◌, ◌⊎◌}
+use Rattle.chess_mates.proofs.Chess.{AreAdjacent, AreAttackers, AreCaptureSquares, AreCastlingSquares, AreClosed, AreFree, AreHurdles, AreReached, AreSpringboards, AreSprings, AreThreats, AreWeak, Attackers, Bishop, Colour, Field, Grasshopper, IsAttacker, IsCastlingHarmless, IsField, IsHurdle, IsReached, IsRiskAt, IsShut, IsSiege, IsSiegeOf, IsUnsprung, IsWellFormed, IsWhole, Kind, King, Knight, List, Man, MayRide, Nightrider, None, Option, Pawn, Position, Queen, Risk, Rook, RuleSet, Siege, Some, White, and_parts, arith, bit_and, bit_at, bit_not, bit_or, corner, eq-eqb, eqb-true, every_square_on, false, false_by, false≢true, find_no, has_unmoved, inl, inr, is_fairy, is_man, is_on_some, is_rider, is_square, king_square, king_there, leaps, list_any, list_any-append, man_on, men_on, ne_eqb, occupied_squares, off_left, off_right, on_first, on_left, on_right, or_cases, other, queen_steps, reached_over, reaches_as, refl, rules, side_of, square_is, squares, squares_for, squares_of, straight_steps, true, w64, word, word_has, ℕ, ◌&&◌, ◌+◌, ◌-◌, ◌<◌, ◌==◌, ◌^◌, ◌||◌, ◌∙◌, ◌≡◌, ◌≢◌, ◌⊎◌}
 use Rattle.chess_mates.specs.declared.field.Springs.{Springs}
 use Rattle.chess_mates.proofs.Hurdles.{on_one, reached_is, reached_left, reached_right}
 use Rattle.chess_mates.proofs.FarMen.{man_of_word, off_denied}
@@ -143,10 +143,11 @@ pub hurdles_are : (own enemies k o w : ℕ) → o ≡ word (λ t. is_square (Som
     → AreHurdles own enemies k (bit_and (bit_and (bit_or own enemies) (bit_not w64 o)) (bit_not w64 w))
 hurdles_are own enemies k o w only fits = search (rules, off_denied, on_first, on_one, word_has)
 
--- all of them, where none is lifted
+-- all of them but who is lifted
 pub hurdles_whole : (own enemies k o w : ℕ) (lifted : Option ℕ) → o ≡ word (λ t. is_square (Some k) t) → o < 2 ^ 64 → w ≡ word (λ t. is_square lifted t)
-    → w < 2 ^ 64 → lifted ≡ None → (e : ℕ) → e < 64 → IsHurdle own enemies k (bit_and (bit_and (bit_or own enemies) (bit_not w64 o)) (bit_not w64 w)) e
-hurdles_whole own enemies k o w lifted only fits at low none e small there ne = grind (arith, denied_on, ne_eqb, on_left, on_right, word_has)
+    → w < 2 ^ 64 → (e : ℕ) → e < 64 → lifted ≢ Some e → IsHurdle own enemies k (bit_and (bit_and (bit_or own enemies) (bit_not w64 o)) (bit_not w64 w)) e
+hurdles_whole own enemies k o w lifted only fits at low e small off there ne =
+    grind (arith, denied_on, false_by, ne_eqb, on_left, on_right, square_is, word_has)
 
 -- for a man who is lifted: his square isn't a hurdle
 pub lifted_off : (a w s : ℕ) (o : Option ℕ) → w ≡ word (λ t. is_square o t) → w < 2 ^ 64 → s < 64 → o ≡ Some s

@@ -1,5 +1,5 @@
 -- No reply mates after a defender's move without risk.
-use Rattle.chess_mates.proofs.Chess.{AreFree, Colour, Field, IsArrival, IsAttacker, IsCaptured, IsCastlingHarmless, IsCheckWord, IsFlight, IsHome, IsMade, IsMereMove, IsNear, IsOff, IsPlainMove, IsQuiet, IsReborn, IsRiskAt, IsShut, IsShutAt, IsSiege, IsSiegeOf, IsUnguarded, IsUnsprung, IsWeakAt, IsWellFormed, Kind, King, List, Man, MayRide, Move, Nightrider, None, Option, Pawn, Position, Risk, RuleSet, Siege, Some, [], after_well_formed, all_triples, and_from, and_left, and_parts, and_right, ap, arith, arrival_needed, arrived, arriving_colour, arriving_king, arriving_man, bit_at, capture_of_piece, capture_square, captured_enemy, captured_man, captures_are_reborn, captures_do_more, cases_Bool, cases_eq, castle_of, corner, eq-eqb, eqb-true, false, false_by, false_from_ne_true, false≢true, file_of, gait_of, halfway, has_flight, has_unmoved, in_check, inl, inr, is_absent, is_arrival_free, is_attacked, is_attacked_at, is_attacker, is_castling, is_double_step, is_fairy, is_hopper, is_legal, is_man, is_of_colour, is_pseudo_legal, is_rider, is_some, is_square, king-back, king_after, king_is, king_is_after, king_square, king_stands, king_there, leaps, list_any, made, maker, man_on, man_there, mates, mates_behind, may_check_from, may_go, may_go_aimed, men_on, moved_men, moved_plainly, off_second, off_zero, on_board, or_parts, other, other_twice, position_after, position_after_by, queen_steps, reached_over, reaches_as, reaches_back, rebirth, reborn_is, reborn_square, refl, rules, same_colour, same_colour-refl, same_colour-true, same_kind, same_kind-true, side_of, simple_after, square_is, subst, sym, taken, there_now, true, word, word_has, ℕ, ◌-◌, ◌<◌, ◌==◌, ◌||◌, ◌∙◌, ◌≡◌, ◌≢◌, ◌⊎◌}
+use Rattle.chess_mates.proofs.Chess.{AreFree, AreLaterHurdles, Colour, Field, IsArrival, IsAttacker, IsCaptured, IsCastlingHarmless, IsCheckWord, IsFlight, IsHome, IsHurdle, IsMade, IsMereMove, IsNear, IsOff, IsPlainMove, IsQuiet, IsReborn, IsRiskAt, IsShut, IsShutAt, IsSiege, IsSiegeOf, IsUnguarded, IsUnsprung, IsWeakAt, IsWellFormed, Kind, King, List, Man, MayRide, Move, Nightrider, None, Option, Pawn, Position, Risk, RuleSet, Siege, Some, [], after_well_formed, all_triples, and_from, and_left, and_parts, and_right, ap, arith, arrival_needed, arrived, arriving_colour, arriving_king, arriving_man, bit_at, capture_of_piece, capture_square, captured_enemy, captured_man, captures_are_reborn, captures_do_more, cases_Bool, cases_eq, castle_of, corner, eq-eqb, eqb-true, false, false_by, false_from_ne_true, false≢true, file_of, gait_of, halfway, has_flight, has_unmoved, in_check, inl, inr, is_absent, is_arrival_free, is_attacked, is_attacked_at, is_attacker, is_castling, is_double_step, is_fairy, is_hopper, is_legal, is_man, is_of_colour, is_pseudo_legal, is_rider, is_some, is_square, king-back, king_after, king_is, king_is_after, king_square, king_stands, king_there, leaps, list_any, made, maker, man_on, man_there, mates, mates_behind, may_check_from, may_go, may_go_aimed, men_on, moved_men, moved_plainly, off_second, off_zero, on_board, or_cases, or_parts, other, other_twice, position_after, position_after_by, queen_steps, reached_over, reaches_as, reaches_back, rebirth, reborn_is, reborn_square, refl, rules, same_colour, same_colour-refl, same_colour-true, same_kind, same_kind-true, side_of, simple_after, square_is, subst, sym, taken, there_now, true, word, word_has, ℕ, ◌-◌, ◌<◌, ◌==◌, ◌||◌, ◌∙◌, ◌≡◌, ◌≢◌, ◌⊎◌}
 use Rattle.chess_mates.proofs.Rebirths.{after_is}
 use Rattle.chess_mates.proofs.Hurdles.{later, later_but}
 use Rattle.chess_mates.proofs.HomeSquares.{some_of}
@@ -26,6 +26,7 @@ pub record IsSpared (rule : RuleSet) (p : Position) (m : Move) (x : Man) (v : Si
   pub off : IsOff v.hurdles r m.from m.to
   pub shut : IsShutAt v m.from
   pub off_king : (e : ℕ) → e < 64 → (bit_at v.hurdles e == 1) ≡ true → e ≢ k
+  pub whole : (e : ℕ) → e < 64 → e ≢ m.from → IsHurdle v.own v.enemies k v.hurdles e
 
 -- where at most who stood there stands
 free_kept : (c : Colour) (o u : Option Man) → ((z : Man) → o ≡ Some z → u ≡ Some z) → is_of_colour u c ≡ false → is_man u (other c) King ≡ false
@@ -140,6 +141,10 @@ module _ (rule : RuleSet) (p : Position) (m : Move) (x : Man) (v : Siege) (k : �
 
     stood_y : man_on p.men n.from ≡ Some y
     stood_y = enemy_stood n.from y here_y enemy_y
+
+    enemy_from : (bit_at v.enemies n.from == 1) ≡ true
+    unfolding side_of
+    enemy_from = grind (arith, word_has, i.fits.enemies, from_small, stood_y, enemy_y, same_colour-refl)
 
     is_y : IsAttacker v.men y n.from
     is_y = attacker n.from y from_small here_y enemy_y
@@ -270,21 +275,24 @@ module _ (rule : RuleSet) (p : Position) (m : Move) (x : Man) (v : Siege) (k : �
       abbrev Stood : ℕ → Man → Type 0
       Stood s z = ((s ≡ n.to) × (z ≡ arriving_man y n.promo)) ⊎ ((s ≢ n.to) × ((s ≢ n.from) × (man_on q.men s ≡ Some z)))
 
+      abbrev IsNew : ℕ → Type 0
+      IsNew s = ((bit_at v.closed s == 1) ≡ true) × (captures_do_more rule ≡ true)
+
       -- on a square stands who stood there, or who is reborn there
       same_or_new : (s : ℕ) → (man_on r.men s ≡ man_on landed s)
-          ⊎ ((man_on landed s ≡ None) × ((z : Man) × ((man_on r.men s ≡ Some z) × ((z.colour ≡ p.turn) × ((bit_at v.closed s == 1) ≡ true)))))
+          ⊎ ((man_on landed s ≡ None) × ((z : Man) × ((man_on r.men s ≡ Some z) × ((z.colour ≡ p.turn) × IsNew s))))
       same_or_new s =
           rw (after_is rule q y n here_y, moved_plainly q y n plain_n) (elim (stood_reborn landed (reborn_square rule q y n) (captured_man q y n) s) [
             | inl same ↦ inl same
             | inr new ↦
                 let who : new.1.0 ≡ (b s new.0).man = same_man _ _ (sym new.1.1.0 ∙ (b s new.0).who) in
-                inr (rw (moved_plainly q y n plain_n) at (b s new.0).empty, (new.1.0, (new.1.1.1, (rw who (defends s new.0), closed_s s new.0))))
+                inr (rw (moved_plainly q y n plain_n) at (b s new.0).empty, (new.1.0, (new.1.1.1, (rw who (defends s new.0), (closed_s s new.0, circe s new.0)))))
           ])
 
       king_r : king_square r.men p.turn ≡ Some k
       king_r = king_is r.men p.turn k well_r.kings at_k (grind (arith, same_or_new k, (king_there landed p.turn k king_landed).1))
 
-      stood_r : (s : ℕ) (z : Man) → man_on r.men s ≡ Some z → Stood s z ⊎ ((z.colour ≡ p.turn) × ((bit_at v.closed s == 1) ≡ true))
+      stood_r : (s : ℕ) (z : Man) → man_on r.men s ≡ Some z → Stood s z ⊎ ((z.colour ≡ p.turn) × IsNew s)
       stood_r s z there = grind (arith, same_or_new s, stood q y n s z (omega (arith, to, well_q.size)), same_man)
 
       -- of the attackers nobody is new
@@ -348,9 +356,17 @@ module _ (rule : RuleSet) (p : Position) (m : Move) (x : Man) (v : Siege) (k : �
       stands_r : (boards h : ℕ) (z : Man) → AreFree v k boards → (bit_at boards h == 1) ≡ true → h < 64 → h ≢ k → h ≢ m.to → h ≢ n.to
           → man_on r.men h ≡ Some z → ⊥
       stands_r boards h z free on low apart before last there = elim (stood_r h z there) [
-        | inr new ↦ false≢true (sym (free.closed h on low apart) ∙ new.1)
+        | inr new ↦ false≢true (sym (free.closed h on low apart) ∙ new.1.0)
         | inl old ↦
             absurd (grind (arith, old, before, last, stood_q h z, somebody h low, free.own h on low apart, free.enemies h on low apart))
+      ]
+
+      -- whoever stands elsewhere than where the two came stands on a later hurdle
+      standing : (d h : ℕ) (z : Man) → AreLaterHurdles v k n.from d → h < 64 → h ≢ k → h ≢ n.to → man_on r.men h ≡ Some z
+          → ((bit_at d h == 1) ≡ true) ⊎ (h ≡ m.to)
+      standing d h z are low apart off there = elim (stood_r h z there) [
+        | inr new ↦ inl (are.closed h n.from low new.1.0 enemy_from (i.fits.closed.others new.1.1 n.from from_small (rw stood_y refl)) apart)
+        | inl old ↦ search (rules, or_cases, old, off, stood_q h z, somebody h low, i.whole h low, are.hurdles h low)
       ]
 
       -- no hopper reaches t, over whose springboards the attacker hasn't come, on a board whose men but the one on t stand in r
@@ -406,7 +422,8 @@ module _ (rule : RuleSet) (p : Position) (m : Move) (x : Man) (v : Siege) (k : �
           (vacant : captures_do_more rule ≡ true → man_on r.men f ≡ None) (unguarded : IsUnguarded v n.from m.from f)
           (unsprung : (men : List (Option Man)) → ((h : ℕ) (y : Man) → h ≢ f → man_on men h ≡ Some y → (h ≢ k) × (man_on r.men h ≡ Some y))
           → (s : ℕ) (z : Man) → IsAttacker v.men z s → n.from ≢ s → is_hopper (gait_of z.kind) ≡ true → reaches_as men z.colour z.kind s f ≡ false)
-          (comes_off : f ≢ n.to → (men : List (Option Man)) → reaches_as men (arriving_man y n.promo).colour (arriving_man y n.promo).kind n.to f ≡ false) where
+          (comes_off : f ≢ n.to → (men : List (Option Man)) → ((h : ℕ) (y : Man) → h ≢ f → man_on men h ≡ Some y → (h ≢ k) × (man_on r.men h ≡ Some y))
+          → reaches_as men (arriving_man y n.promo).colour (arriving_man y n.promo).kind n.to f ≡ false) where
         -- nobody attacks the king who has gone there
         module _ (z : Man) (stands : IsKingOn r.men p.turn k z) where
           abbrev fled : List (Option Man)
@@ -425,7 +442,7 @@ module _ (rule : RuleSet) (p : Position) (m : Move) (x : Man) (v : Siege) (k : �
           unreached s u inside there enemy = elim (stood r z (step_to k f) s u (omega (arith, in_f, well_r.size)) there) [
             | inl came ↦ absurd (false≢true (rw came.1 at (sym (not_mine u p.turn enemy)) ∙ stands.mine))
             | inr kept ↦ elim (enemy_r s u kept.1.1 enemy) [
-              | inl came ↦ rw (came.1, came.0) (comes_off (λ e. kept.0 (came.0 ∙ sym e)) fled)
+              | inl came ↦ rw (came.1, came.0) (comes_off (λ e. kept.0 (came.0 ∙ sym e)) fled stood_then)
               | inr stays ↦
                   let a = attacker s u inside stays.1.1 enemy in
                   elim (cases_Bool (is_hopper (gait_of u.kind))) [
@@ -449,7 +466,7 @@ module _ (rule : RuleSet) (p : Position) (m : Move) (x : Man) (v : Siege) (k : �
 
         -- who stands there stood there before
         stood_f : (z : Man) → man_on r.men f ≡ Some z → man_on p.men f ≡ Some z
-        stood_f z e = grind (arith, stood_r f z e, stood_q f z, open_f, flight.left.off, flight.elsewhere)
+        stood_f z e = grind (arith, stood_r f z e, stood_q f z, open_f, flight.left.off, flight.left.elsewhere)
 
         left_flees : has_flight rule r ≡ true
         left_flees =
@@ -462,7 +479,13 @@ module _ (rule : RuleSet) (p : Position) (m : Move) (x : Man) (v : Siege) (k : �
             flight.unguarded (λ men stand s z a ne hop. unhopped f g.hops
             (subst (λ (j : ℕ). IsUnsprung v j f g.hops) i.at.king (i.at.is.springs.unsprung f flight.left.small flight.left.on))
             (λ h on. on) (flight.unsprung s z a ne hop) men stand s z a hop)
-            (λ ne men. rw same (flight.left.unreached men))
+            (λ ne men stand. rw same (flight.left.unreached men (record {
+              stand = λ h low apart off some.
+                  let y = man_of (man_on men h) some in
+                  let at = stand h y.0 apart y.1 in
+                  let are = subst (λ (j : ℕ). AreLaterHurdles v j n.from flight.hurdles) i.at.king flight.are in
+                  (λ e. at.0 (e ∙ i.at.king), standing flight.hurdles h y.0 are low at.0 off at.1);
+            })))
 
       -- he captures who has come
       module _ (captured : IsCaptured v g n.from m.from n.to) where
@@ -476,8 +499,7 @@ module _ (rule : RuleSet) (p : Position) (m : Move) (x : Man) (v : Siege) (k : �
             flees n.to to near
             (rw came (free_man p.turn (Some (arriving_man y n.promo)) (rw (arriving_colour y n.promo) (not_mine y p.turn enemy_y))
             (and_right _ _ (false_by _ (λ king. false≢true (sym mortal ∙ (rw (arriving_king q y n n.promo is_n.promotion king) at king)))))))
-            (λ circe. absurd (false≢true (sym (i.at.is.captures.off n.to n.from captured.on from_small
-            (grind (arith, word_has, i.fits.enemies, from_small, stood_y, enemy_y, same_colour-refl)))
+            (λ circe. absurd (false≢true (sym (i.at.is.captures.off n.to n.from captured.on from_small enemy_from)
             ∙ i.fits.closed.others circe n.from from_small (rw stood_y refl))))
             captured.unguarded (λ men stand s z a ne hop. absurd (false≢true (sym (i.at.is.captures.plain n.to s z captured.on a) ∙ hop)))
             (λ ne. absurd (ne refl))

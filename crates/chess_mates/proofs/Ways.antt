@@ -58,6 +58,7 @@ module _ (rule : RuleSet) (p : Position) (x : Man) (v : ToldThreats) (well : IsW
           off = record { lines = λ on. absurd ((siege.hurdles.men m.from from on).1 same); critical = safe.off };
           shut = record { shut = λ s z a rider on. absurd ((siege.hurdles.men m.from from on).1 same) };
           off_king = λ e inside on same. false≢true (sym safe.free ∙ (rw same at on));
+          whole = λ e inside left there apart. threats.whole.hurdles e inside there (λ at. left (sym at ∙ same));
         })
 
     -- after his step
@@ -82,6 +83,7 @@ module _ (rule : RuleSet) (p : Position) (x : Man) (v : ToldThreats) (well : IsW
           off = safe.off;
           shut = safe.shut;
           off_king = λ e inside on same. (l.siege.hurdles.men e inside on).1 (l.king ∙ sym same);
+          whole = λ e inside left there apart. safe.whole.hurdles e inside (λ at. left (sym at)) there (λ at. apart (sym l.king ∙ at));
         })
 
   inside : (w t : ℕ) → w < 2 ^ 64 → (bit_at w t == 1) ≡ true → t < 64

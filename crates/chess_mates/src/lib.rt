@@ -13,6 +13,7 @@ mod field;
 mod flights;
 mod guards;
 mod homes;
+mod hopped_flights;
 mod lasting_flights;
 pub mod mating_moves;
 mod open_board;

@@ -8,7 +8,7 @@ ghost use Rattle.chess_core.specs.declared.man.Man.{Man};
 ghost use Rattle.chess_mates.specs.declared.siege.Siege.{Siege};
 ghost use Rattle.chess_mates.specs.ties.Attackers.{IsAttacker};
 ghost use Rattle.chess_mates.specs.ties.LastingFlights.{IsLeft};
-ghost use Rattle.chess_mates.specs.ties.Siege.{AreArrivals, AreSprings, AreThreats, AreWeak, IsCheckWord, IsField, IsHarmless, IsMet, IsNoCheck, IsOff, IsReached, IsRiskAt, IsRiskBehind, IsSafeMove, IsSiege, IsWeak, IsWhole, LeavesOne};
+ghost use Rattle.chess_mates.specs.ties.Siege.{AreArrivals, AreLaterHurdles, AreSprings, AreThreats, AreWeak, IsCheckWord, IsField, IsHarmless, IsMet, IsNoCheck, IsOff, IsReached, IsRiskAt, IsRiskBehind, IsSafeMove, IsSiege, IsWeak, IsWhole, LeavesOne, LeavesUntaken};
 ghost use Rattle.chess_rules.specs.ties.Targets.{is_promoting};
 
 use crate::field::{
@@ -16,6 +16,7 @@ use crate::field::{
     springs_of,
 };
 use crate::guards::{Guards, guards_without, reach_from, ridden_squares};
+use crate::hopped_flights::{critical_of_hops, later_hurdles};
 use crate::lasting_flights::open_approaches;
 use crate::open_board::{open_reach, open_targets, pawns_before};
 use crate::siege::{Siege, lifted_from};
@@ -79,6 +80,26 @@ fn critical_after(near: Squares, enemies: Squares, man: Man, targets: Squares) -
         number = to.index() + 1;
     }
     critical
+}
+
+// The same once the man on `from` has gone: of a grasshopper it's told by the hurdles that he may hop over then.
+fn critical_of_going(
+    siege: &Siege,
+    field: &Field,
+    man: Man,
+    from: Square,
+    near: Squares,
+    targets: Squares,
+) -> Squares
+    ensures { (t : ℕ) → t < 64 → (bit_at targets t == 1) ≡ true
+        → (d : ℕ) × AreLaterHurdles siege.now field.now.king from d
+        × LeavesUntaken d field.now.king near siege.now.enemies result man t }
+{
+    let hurdles = later_hurdles(siege, field.king, from);
+    if man.kind.is(Kind::Grasshopper) {
+        return critical_of_hops(field.king, near, siege.enemies, hurdles, targets);
+    }
+    critical_after(near, siege.enemies, man, targets)
 }
 
 // The first rank and the last.
@@ -184,7 +205,7 @@ fn risk_of_going(
         };
     }
     Risk {
-        critical: critical_after(field.near & !guards.guarded, siege.enemies, man, left),
+        critical: critical_of_going(siege, field, man, from, field.near & !guards.guarded, left),
         lines: guards.ridden,
     }
 }

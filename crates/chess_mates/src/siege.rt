@@ -1,6 +1,6 @@
 //! A king's siege: the men around him, before his side's move. All men but the king are hurdles: each square on which one
 //! stands stays occupied, be it that he is captured, but for the squares that the defender and the attacker leave.
-ghost use Rattle.std.specs.Prelude.{◌≡◌, ◌<◌, ◌==◌, ◌⊎◌, ℕ, None, Some, true, false};
+ghost use Rattle.std.specs.Prelude.{◌≡◌, ◌≢◌, ◌<◌, ◌==◌, ◌⊎◌, ℕ, Some, true, false};
 ghost use Rattle.std.specs.Int.{bit_at};
 ghost use Rattle.chess_core.specs.Castling.{has_unmoved};
 ghost use Rattle.chess_core.specs.Position.{king_square};
@@ -82,7 +82,7 @@ fn castling_squares(board: &Board, colour: Colour) -> Squares
 fn hurdles_of(own: Squares, enemies: Squares, king: Square, lifted: Option<Square>) -> Squares
     ensures are { AreHurdles own enemies king result }
     ensures lifted { (s : ℕ) → s < 64 → lifted ≡ Some s → (bit_at result s == 1) ≡ false }
-    ensures whole { lifted ≡ None → (e : ℕ) → e < 64 → IsHurdle own enemies king result e }
+    ensures whole { (e : ℕ) → e < 64 → lifted ≢ Some e → IsHurdle own enemies king result e }
 {
     (own | enemies) & !only(Some(king)) & !only(lifted)
 }

@@ -103,6 +103,10 @@ IsHurdle own enemies k d e =
 pub record IsWhole (v : Siege) : Type 0 where
   pub hurdles : (e : ℕ) → e < 64 → IsHurdle v.own v.enemies v.king v.hurdles e
 
+-- all but the king and a man on s
+pub record IsWholeBut (v : Siege) (s : ℕ) : Type 0 where
+  pub hurdles : (e : ℕ) → e < 64 → s ≢ e → IsHurdle v.own v.enemies v.king v.hurdles e
+
 -- the rook in the corner has moved, or a man of the colour stands on the square beside the king, or the word has it
 abbrev pub IsShut : Position → Colour → ℕ → ℕ → ℕ → Type 0
 IsShut p c w corner next =
@@ -188,6 +192,33 @@ pub record LeavesOne (w enemies critical : ℕ) (x : Man) (t : ℕ) : Type 0 whe
       → ((bit_at enemies t == 1) ≡ true → b ≡ t)
       → (f : ℕ) × IsLeft w x t f × (f ≢ b)
 
+-- once a man has left s, and the king k, the word has the hurdles, and the closed squares if an enemy stands on one
+pub record AreLaterHurdles (v : Siege) (k s w : ℕ) : Type 0 where
+  pub hurdles : (e : ℕ) → e < 64 → (bit_at v.hurdles e == 1) ≡ true → e ≢ s → e ≢ k
+      → (bit_at w e == 1) ≡ true
+  pub closed : (e q : ℕ) → e < 64 → (bit_at v.closed e == 1) ≡ true
+      → (bit_at v.enemies q == 1) ≡ true → (bit_at v.closed q == 1) ≡ true → e ≢ k
+      → (bit_at w e == 1) ≡ true
+
+-- nobody stands on k, and but for f and t on no square but those of the word, and b
+pub record AreStanding (men : List (Option Man)) (d k b t f : ℕ) : Type 0 where
+  pub stand : (h : ℕ) → h < 64 → h ≢ f → h ≢ t → is_some (man_on men h) ≡ true
+      → (h ≢ k) × (((bit_at d h == 1) ≡ true) ⊎ (h ≡ b))
+
+-- once x has come to t and the defender to b, f is left of the word: nobody stands there who came, and x doesn't reach it
+pub record IsUntaken (d k w : ℕ) (x : Man) (t b f : ℕ) : Type 0 where
+  pub small : f < 64
+  pub on : (bit_at w f == 1) ≡ true
+  pub off : f ≢ t
+  pub elsewhere : f ≢ b
+  pub unreached : (men : List (Option Man)) → AreStanding men d k b t f
+      → reaches_as men x.colour x.kind t f ≡ false
+
+-- so it is wherever the defender comes, critical squares apart, as above
+pub record LeavesUntaken (d k w enemies critical : ℕ) (x : Man) (t : ℕ) : Type 0 where
+  pub left : (b : ℕ) → b < 64 → (bit_at critical b == 1) ≡ false
+      → ((bit_at enemies t == 1) ≡ true → b ≡ t) → (f : ℕ) × IsUntaken d k w x t b f
+
 -- x may go from s to t, a piece that is no hopper over the hurdles
 pub record IsArrival (d : ℕ) (x : Man) (s t : ℕ) : Type 0 where
   pub small : t < 64
@@ -243,10 +274,11 @@ pub record IsFlight (v : Siege) (g : Field) (x : Man) (s a b t : ℕ) : Type 0 w
   pub plain : is_promoting x t ≡ false
   pub unsprung : (q : ℕ) (z : Man) → IsAttacker v.men z q → s ≢ q
       → is_hopper (gait_of z.kind) ≡ true → (bit_at g.hops t == 1) ≡ false
+  pub hurdles : ℕ
+  pub are : AreLaterHurdles v g.king s hurdles
   pub square : ℕ
-  pub left : IsLeft g.near x t square
+  pub left : IsUntaken hurdles g.king g.near x t b square
   pub unguarded : IsUnguarded v s a square
-  pub elsewhere : square ≢ b
 
 -- or the king captures x on t
 pub record IsCaptured (v : Siege) (g : Field) (s a t : ℕ) : Type 0 where
@@ -366,6 +398,7 @@ pub record IsLike (v w : Siege) : Type 0 where
 pub record IsLifted (v : Siege) (from : ℕ) (w : Siege) : Type 0 where
   pub like : IsLike v w
   pub off : (bit_at w.hurdles from == 1) ≡ false
+  pub whole : IsWholeBut w from
 
 -- the risk of the siege's king, told without a hurdle on this square
 pub record IsRiskBehind (v : Siege) (from : ℕ) (r : Risk) : Type 0 where
@@ -390,6 +423,7 @@ pub record IsShutAt (v : Siege) (a : ℕ) : Type 0 where
 pub record IsSafeMove (v : Siege) (s t : ℕ) : Type 0 where
   pub siege : Siege
   pub like : IsLike v siege
+  pub whole : IsWholeBut siege s
   pub risk : Risk
   pub at : IsRiskAt siege v.king risk
   pub off : IsOff siege.hurdles risk s t

@@ -17,16 +17,18 @@ returns c = λ a b t inside small off low on there.
     let at = unguarded_at c.args.siege.now g c.args.from o guards.result a guards.ensures off.lines in
     elim (cases_Bool (bit_at left.result t == 1)) [
       | inl left_on ↦
-          let one = (c.critical_after.ensures t low left_on).left b small off.critical there in
+          let going = c.critical_of_going.ensures t low left_on in
+          let one = going.2.left b small off.critical there in
           let f = one.0 in
           let near = on_first g.near _ f one.1.on in
           inr (inr (record {
             plain = c.may_promote_on.ensures c.if-may_promote_on.false t low left_on;
             unsprung = c.may_spring.ensures c.if-may_spring.false t low left_on;
+            hurdles = going.0;
+            are = going.1;
             square = f;
-            left = record { small = one.1.small; on = near; off = one.1.off; unreached = one.1.unreached };
+            left = record { small = one.1.small; on = near; off = one.1.off; elsewhere = one.1.elsewhere; unreached = one.1.unreached };
             unguarded = at f (on_left _ o f (on_left g.near g.captures f near)) (off_denied g.near seen f (omega arith) one.1.small one.1.on);
-            elsewhere = one.2;
           }))
       | inr free ↦ elim (cases_Bool (bit_at watched.result t == 1)) [
         | inl on ↦

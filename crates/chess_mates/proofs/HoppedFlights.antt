@@ -1,0 +1,123 @@
+-- Flights that a grasshopper takes over a hurdle next to them.
+use Rattle.chess_mates.proofs.Chess.{AreLaterHurdles, Bool, Colour, Direction, East, Grasshopper, Hop, IsUntaken, King, List, Man, None, Option, Siege, Some, Step, White, agree_below_at, all_at, along, ap, arith, bit_and, bit_at, bit_not, bit_or, cases_eq, eq-eqb, false, false_from_ne_true, false≢true, hop-found, hops, inl, inr, is_some, is_square, king-back, leaps, list_all, list_any, man_on, men_on, ne_eqb, no_reach_there, not, not-true, not_yet, occupied_squares, off_left, off_right, on_left, on_right, onward, ordered, passes, queen_steps, range_with_len, reaches_as, refl, step_of, sym, true, w64, word, word_has, ℕ, ◌-◌, ◌<◌, ◌==◌, ◌^◌, ◌∙◌, ◌≡◌, ◌≢◌, ◌≤◌}
+use Rattle.chess_rules.proofs.attacks.FairyLines.{queen_directions}
+use Rattle.chess_rules.proofs.rays.Ends.{stays}
+use Rattle.chess_rules.proofs.rays.Ways.{hop-made}
+use Rattle.chess_mates.proofs.Fleeing.{on_second}
+use Rattle.chess_mates.proofs.Hurdles.{empty_on, occupied_on, one_on}
+use Rattle.chess_mates.proofs.LastingFlights.{on_both}
+use Rattle.chess_mates.proofs.Risks.{denied_on, none_on}
+use Rattle.chess_mates.proofs.Springboards.{some_direction}
+use Rattle.std.proofs.lemmas.Nat.{and_le_l}
+
+-- no king's step leads back to a square that the line passed two steps before or earlier
+abbrev is_far : ℕ → Option ℕ → Bool
+is_far s None = true
+is_far s (Some t) = not (list_any (leaps t s) queen_steps)
+
+abbrev is_left_behind : Step → ℕ → Bool
+is_left_behind d s = list_all (λ n. is_far s (along s d n)) (range_with_len 2 6)
+
+left_behind : (x : Direction) (s : ℕ) → s < 64 → is_left_behind (step_of x) s ≡ true
+unfolding along leaps
+left_behind East s low = agree_below_at (is_left_behind (step_of East)) (λ _. true) 64 s refl low
+left_behind x s low = agree_below_at (is_left_behind (step_of x)) (λ _. true) 64 s refl low
+
+far : (x : Direction) (s t n : ℕ) → s < 64 → 2 ≤ n → n < 8 → along s (step_of x) n ≡ Some t → list_any (leaps t s) queen_steps ≡ false
+far x s t n low two eight at =
+    not-true _ (rw at at (all_at (λ n. is_far s (along s (step_of x) n)) 2 6 n (left_behind x s low) two (omega (arith, eight))))
+
+-- a hop from s to f on some board is one over the hurdles next to f alone, if who stands next to f stands on one
+module _ (men : List (Option Man)) (d f s n : ℕ) (near : n ≡ word (λ q. list_any (leaps f q) queen_steps)) (inside : f < 64) (low : s < 64)
+    (kept : (h : ℕ) → h < 64 → h ≢ s → list_any (leaps f h) queen_steps ≡ true → is_some (man_on men h) ≡ true → (bit_at d h == 1) ≡ true) where
+  abbrev Over : List (Option Man)
+  Over = men_on (bit_and d n)
+
+  hop_at : (x : Direction) → ((g : Step → Bool) → g (step_of x) ≡ true → list_any g queen_steps ≡ true) → (k : ℕ) → Hop men s f (step_of x) k
+      → Hop Over s f (step_of x) k
+  unfolding leaps
+  hop_at x some k r =
+      let e = step_of x in
+      let end : (j q : ℕ) → j < k → along s e j ≡ Some q → along q e (k - j) ≡ Some f = λ j q lt at.
+      onward s q e j (k - j) at ∙ ap (along s e) (omega (arith, lt)) ∙ r.at in
+      record {
+        low = r.low;
+        high = r.high;
+        at = r.at;
+        hurdle =
+            let p = passes s f e k (k - 1) low (omega arith) r.at in
+            let q = p.0 in
+            let one : k - (k - 1) ≡ 1 = omega (arith, r.low) in
+            let step : along q e 1 ≡ Some f = ap (along q e) (sym one) ∙ end (k - 1) q (omega (arith, r.low)) p.1.at in
+            let beside : list_any (leaps f q) queen_steps ≡ true =
+            sym (king-back q f p.1.small inside) ∙ some (leaps q f) (rw step (eq-eqb f f refl)) in
+            let apart : q ≢ s = λ same. not_yet s q e (k - 1) 0 (ordered x) p.1.at (omega (arith, r.low)) (stays s e low ∙ ap Some (sym same)) in
+            rw p.1.at (one_on (bit_and d n) q p.1.small ∙ on_both d n q (kept q p.1.small apart beside (rw p.1.at at r.hurdle))
+            (word_has (λ q. list_any (leaps f q) queen_steps) n q near p.1.small ∙ beside));
+        free = λ j lo hi.
+            let p = passes s f e k j low (omega (arith, hi)) r.at in
+            let q = p.0 in
+            let off = far x q f (k - j) p.1.small (omega (arith, hi)) (omega (arith, r.high, lo)) (end j q (omega (arith, hi)) p.1.at) in
+            rw p.1.at (empty_on (bit_and d n) men q (λ on small. false≢true (sym off
+            ∙ sym (word_has (λ q. list_any (leaps f q) queen_steps) n q near p.1.small) ∙ on_second d n q on)));
+      }
+
+  hop_over : list_any (hops men s f) queen_steps ≡ true → list_any (hops Over s f) queen_steps ≡ true
+  hop_over h =
+      let w = some_direction (hops men s f) queen_directions h in
+      let x = w.0 in
+      let r = hop-found men s f (step_of x) w.1.0 in
+      w.1.1 (hops Over s f) (hop-made Over s f (step_of x) r.0 (hop_at x w.1.1 r.0 r.1))
+
+-- for `taking_squares`
+pub untaken : (d f n o e : ℕ) → f < 64 → n ≡ word (λ q. list_any (leaps f q) queen_steps) → o ≡ word (λ q. is_square (Some f) q) → d < 2 ^ 64
+    → ((men : List (Option Man)) → bit_and d n ≡ occupied_squares men → e ≡ word (λ s. reaches_as men White Grasshopper s f))
+    → (c : Colour) (k w s b : ℕ) → s < 64 → (bit_at w f == 1) ≡ true → (bit_at (bit_or o e) s == 1) ≡ false → f ≢ b
+    → (list_any (leaps f b) queen_steps ≡ true → b ≡ k) → IsUntaken d k w (record { colour = c; kind = Grasshopper }) s b f
+unfolding reaches_as
+untaken d f n o e inside near only fits comes c k w s b low on off ne beside = record {
+  small = inside;
+  on = on;
+  off = λ same. false≢true (sym (off_left o e s off) ∙ word_has (λ q. is_square (Some f) q) o s only low ∙ eq-eqb f s same);
+  elsewhere = ne;
+  unreached = λ men r. false_from_ne_true _ (λ h. false≢true (sym (off_right o e s off)
+      ∙ word_has (λ s. reaches_as (men_on (bit_and d n)) White Grasshopper s f) e s (comes _ (occupied_on (bit_and d n) (omega (arith, fits, and_le_l d n)))) low
+      ∙ hop_over men d f s n near inside low (λ h small apart next some.
+      let p = r.stand h small (λ same. false≢true (sym (no_reach_there men White King f inside) ∙ (rw same at next))) apart some in
+      elim p.1 [ inl stays ↦ stays | inr came ↦ absurd (p.0 (came ∙ beside (rw came at next))) ]) h));
+}
+
+-- for `squares_beside`
+pub off_beside : (k f o p n : ℕ) → o ≡ word (λ q. is_square (Some f) q) → n ≡ word (λ q. list_any (leaps f q) queen_steps)
+    → p ≡ word (λ q. is_square (Some k) q) → p < 2 ^ 64 → (b : ℕ) → b < 64 → (bit_at (bit_or o (bit_and n (bit_not w64 p))) b == 1) ≡ false
+    → (f ≢ b) × (list_any (leaps f b) queen_steps ≡ true → b ≡ k)
+off_beside k f o p n only near king fits b small off = (
+  λ same. false≢true (sym (off_left o _ b off) ∙ word_has (λ q. is_square (Some f) q) o b only small ∙ eq-eqb f b same),
+  λ next. elim (cases_eq b k) [
+    | inl e ↦ e
+    | inr ne ↦ absurd (false≢true (sym (off_right o _ b off) ∙ denied_on n p b fits small
+        (word_has (λ q. list_any (leaps f q) queen_steps) n b near small ∙ next)
+        (word_has (λ q. is_square (Some k) q) p b king small ∙ ne_eqb k b (λ same. ne (sym same)))))
+  ],
+)
+
+-- for `later_hurdles`
+module _ (v : Siege) (k s o : ℕ) (only : o ≡ word (λ q. is_square (Some s) q)) (fits : o < 2 ^ 64) where
+  stays_on : (e : ℕ) → e < 64 → (bit_at v.hurdles e == 1) ≡ true → e ≢ s → (bit_at (bit_and v.hurdles (bit_not w64 o)) e == 1) ≡ true
+  stays_on e small on apart = denied_on v.hurdles o e fits small on (word_has (λ q. is_square (Some s) q) o e only small ∙ ne_eqb s e (λ same. apart (sym same)))
+
+  pub hurdles_later : (bit_and v.closed v.enemies == 0) ≡ true → AreLaterHurdles v k s (bit_and v.hurdles (bit_not w64 o))
+  hurdles_later none = record {
+    hurdles = λ e small on apart king. stays_on e small on apart;
+    closed = λ e q small on enemy shut king. absurd (none_on _ q none (on_both v.closed v.enemies q shut enemy));
+  }
+
+  pub closed_later : (p : ℕ) → p ≡ word (λ q. is_square (Some k) q) → p < 2 ^ 64
+      → AreLaterHurdles v k s (bit_and (bit_or (bit_and v.hurdles (bit_not w64 o)) v.closed) (bit_not w64 p))
+  closed_later p king fit =
+      let off = λ (e : ℕ) (small : e < 64) (apart : e ≢ k).
+      word_has (λ q. is_square (Some k) q) p e king small ∙ ne_eqb k e (λ same. apart (sym same)) in
+      record {
+        hurdles = λ e small on apart ne. denied_on _ p e fit small (on_left _ v.closed e (stays_on e small on apart)) (off e small ne);
+        closed = λ e q small on enemy shut ne. denied_on _ p e fit small (on_right _ v.closed e on) (off e small ne);
+      }

@@ -1,0 +1,84 @@
+//! The flights of a besieged king that a grasshopper takes once he has come: he hops to one only over a man next to it.
+ghost use Rattle.std.specs.Prelude.{◌≡◌, ◌≢◌, ◌<◌, ◌==◌, ℕ, true, false};
+ghost use Rattle.std.specs.Int.{bit_at};
+ghost use Rattle.std.specs.List.{list_any};
+ghost use Rattle.chess_core.specs.Steps.{queen_steps};
+ghost use Rattle.chess_core.specs.declared.man.Colour.{Colour};
+ghost use Rattle.chess_core.specs.declared.man.Kind.TheVariants.{Grasshopper};
+ghost use Rattle.chess_mates.specs.ties.Siege.{AreLaterHurdles, IsUntaken, LeavesUntaken};
+ghost use Rattle.chess_rules.specs.Reaches.{leaps};
+
+use crate::siege::Siege;
+use chess_core::man::{Colour, Kind};
+use chess_core::square::{Square, Squares};
+use chess_rules::leaps::king_leaps;
+use chess_rules::outward::comes_as;
+use chess_rules::words::{next_bit, only};
+
+// The squares on which a man may stand, where none arrived, once the attacker has left `from` and the king `king`: the
+// hurdles, and in Circe, where attackers stand on closed squares, those too.
+#[tactic(auto, using(crate::proofs::HoppedFlights::closed_later, crate::proofs::HoppedFlights::hurdles_later))]
+pub(crate) fn later_hurdles(siege: &Siege, king: Square, from: Square) -> Squares
+    ensures { AreLaterHurdles siege.now king from result }
+{
+    let kept = siege.hurdles & !only(Some(from));
+    if siege.closed & siege.enemies == 0 {
+        return kept;
+    }
+    (kept | siege.closed) & !only(Some(king))
+}
+
+// The squares from which a grasshopper takes the flight: that square itself, and those from which he hops there over a hurdle
+// next to it, whoever else stands on the line.
+fn taking_squares(hurdles: Squares, flight: Square) -> Squares
+    ensures { (c : Colour) (k near t b : ℕ) → t < 64 → (bit_at near flight == 1) ≡ true
+        → (bit_at result t == 1) ≡ false → flight ≢ b
+        → (list_any (leaps flight b) queen_steps ≡ true → b ≡ k)
+        → IsUntaken hurdles k near (record { colour = c; kind = Grasshopper }) t b flight }
+{
+    // For the proof: a square's number is below 64.
+    let _small = flight.index();
+    let over = hurdles & king_leaps(flight);
+    only(Some(flight)) | comes_as(over, Colour::White, Kind::Grasshopper, flight)
+}
+
+// The flight and the squares next to it, where a man who arrives blocks it or is a hurdle. The king does neither: he leaves
+// his square for the flight.
+fn squares_beside(king: Square, flight: Square) -> Squares
+    ensures { (b : ℕ) → b < 64 → (bit_at result b == 1) ≡ false → (flight ≢ b)
+        × (list_any (leaps flight b) queen_steps ≡ true → b ≡ king) }
+{
+    only(Some(flight)) | king_leaps(flight) & !only(Some(king))
+}
+
+// The squares that a defender mustn't come to lest a grasshopper who comes to one of the targets leaves none of the flights
+// `near`. To a square where another attacker stands he comes only if he recaptures there.
+pub(crate) fn critical_of_hops(
+    king: Square,
+    near: Squares,
+    enemies: Squares,
+    hurdles: Squares,
+    targets: Squares,
+) -> Squares
+    ensures { (c : Colour) (t : ℕ) → t < 64 → (bit_at targets t == 1) ≡ true
+        → LeavesUntaken hurdles king near enemies result
+        (record { colour = c; kind = Grasshopper }) t }
+{
+    let mut critical = 0u64;
+    let mut taking = targets;
+    let mut number = 0u8;
+    while let Some(flight) = next_bit(near, number) {
+        if taking == 0 {
+            return critical;
+        }
+        let taken = taking_squares(hurdles, flight);
+        let beside = squares_beside(king, flight);
+        taking &= taken;
+        critical |= beside;
+        number = flight.index() + 1;
+    }
+    if taking & !enemies != 0 {
+        return !0;
+    }
+    critical | taking
+}
