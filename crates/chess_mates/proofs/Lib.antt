@@ -27,4 +27,5 @@ pub mod QuietCastling
 pub mod Sparing
 pub mod Barring
 pub mod Ways
+pub mod Aiming
 pub mod Excluded
