@@ -30,4 +30,5 @@ pub mod Sparing
 pub mod Barring
 pub mod ExactSteps
 pub mod Ways
+pub mod Aiming
 pub mod Excluded

@@ -1,11 +1,33 @@
 //! Moves that aim at the enemy's king.
-ghost use Rattle.std.specs.Prelude.{◌≡◌};
-ghost use Rattle.chess_mates.specs.ties.Aims.{aims_at_king};
+ghost use Rattle.std.specs.Prelude.{◌≡◌, ◌<◌, ◌∷◌, [], filter, IfSome, MatchOption, true};
+ghost use Rattle.chess_core.specs.Position.{man_on};
+ghost use Rattle.chess_core.specs.WellFormed.{IsWellFormed};
+ghost use Rattle.chess_core.specs.ties.Words.{word};
+ghost use Rattle.chess_mates.specs.ties.Aims.{aims_at_king, aims_with};
+ghost use Rattle.chess_rules.specs.Legal.{is_legal};
+ghost use Rattle.chess_rules.specs.ties.Places.{IsPlaceIn, moves_behind, place_of};
 
 use crate::checks::check_squares_of;
 use chess_core::board::Board;
 use chess_core::man::Move;
+use chess_core::square::{Square, Squares};
+use chess_rules::legal_moves::{Known, LegalMoves};
+use chess_rules::moves::{Moves, triple};
+use chess_rules::rules::Rules;
+use chess_rules::sought::{Sought, next_passing};
+use chess_rules::targets::{Kept, TRIPLES};
 use chess_rules::words::contains;
+
+// The squares on which the man on `from`, if one stands there, would see the enemy's king on the board as it stands.
+#[tactic(auto, using(chess_rules::proofs::Bits::word_empty))]
+fn aimed_squares(board: &Board, from: Square) -> Squares
+    ensures { result ≡ word (aims_with board.now (man_on board.now.men from)) }
+{
+    match board.man_at(from) {
+        Some(man) => check_squares_of(board, board.turn().other(), man.kind),
+        None => 0,
+    }
+}
 
 /// Whether the man who moves arrives where he would see the enemy's king on the board as it stands. It
 /// tells good moves from others, and no clause of a search hangs on it.
@@ -15,11 +37,78 @@ pub fn aims_at_king(board: &Board, m: &Move) -> bool
 {
     // For the proof: a square's number is below 64.
     let _small = m.to.index();
-    match board.man_at(m.from) {
-        Some(man) => contains(
-            check_squares_of(board, board.turn().other(), man.kind),
-            m.to,
-        ),
-        None => false,
+    contains(aimed_squares(board, m.from), m.to)
+}
+
+// What is known of a position where legal moves that aim at the enemy's king are looked for.
+#[derive(Clone, Copy)]
+struct Aimed {
+    known: Known,
+}
+
+impl Sought for Aimed {
+    ghost use Rattle.chess_mates.specs.ties.Aims.{aims_at_king};
+    ghost use Rattle.chess_rules.specs.ties.Counting.{IsKnownIn};
+    ghost use Rattle.chess_rules.specs.ties.Idle.{is_wanted-idle};
+    ghost use Rattle.chess_rules.specs.ties.Sifting.{is_wanted};
+
+    ghost test = { λ rule p. is_wanted rule p (aims_at_king p) };
+
+    ghost found = { λ rule p. is_wanted rule p (aims_at_king p) };
+
+    ghost fits = { λ s rule p. IsKnownIn rule p s.known };
+
+    #[tactic(auto, using(chess_rules::proofs::listing_moves::Sifting::wanted_origins))]
+    fn origins<R: Rules>(&self, board: &Board) -> Squares {
+        self.known.origins::<R>(board)
     }
+
+    #[tactic(auto, using(crate::proofs::Aiming::aimed_candidates), unfolding(crate::specs::ties::Aims::aims_at_king))]
+    fn candidates<R: Rules>(&self, board: &Board, from: Square) -> Squares {
+        let squares = aimed_squares(board, from);
+        if squares == 0 {
+            return 0;
+        }
+        self.known.candidates::<R>(board, from) & squares
+    }
+
+    fn is_found<R: Rules>(&self, board: &mut Board, m: Move) -> bool {
+        self.known.is_found::<R>(board, m) && aims_at_king(board, &m)
+    }
+
+    ghost idle = { λ rule p m h. is_wanted-idle rule p (aims_at_king p) m h };
+}
+
+/// The first legal move behind the place that aims at the enemy's king, on which the place then stands. Where there
+/// is none: `None`, and the place stands behind all triples. The board is unchanged. The place must be one in the
+/// board's position.
+#[tactic(auto, using(crate::proofs::Aiming::next_aimed))]
+pub fn next_aimed<R: Rules>(moves: &mut LegalMoves<R>, board: &mut Board) -> Option<Move>
+    requires well_formed { IsWellFormed board.old }
+    requires place { IsPlaceIn R.rule board.old moves.old }
+    ensures place { moves.new ≡ record moves.old { place = place_of result } }
+    ensures within { IsPlaceIn R.rule board.old moves.new }
+    ensures rest { MatchOption result
+        (filter (aims_at_king board.old) (moves_behind R.rule board.old moves.old.place) ≡ [])
+        (λ m. filter (aims_at_king board.old) (moves_behind R.rule board.old moves.old.place)
+        ≡ m ∷ filter (aims_at_king board.old) (moves_behind R.rule board.old moves.new.place)) }
+    ensures legal { IfSome result (λ m. is_legal R.rule board.old m ≡ true) }
+    ensures onward { IfSome result (λ m. moves.old.place < moves.new.place) }
+    ensures board { board.new ≡ board.old }
+{
+    let aimed = Aimed {
+        known: moves.known(),
+    };
+    let mut kept = Kept {
+        origin: None,
+        squares: 0,
+    };
+    let start = moves.place().number();
+    let number = next_passing::<R, Aimed>(board, &aimed, &mut kept, start, TRIPLES);
+    if number < TRIPLES {
+        moves.go_to(Moves::at(number + 1));
+        return Some(triple(number));
+    }
+    moves.go_to(Moves::at(TRIPLES));
+    None
 }

@@ -24,6 +24,6 @@ mod siege;
 mod steps;
 pub mod threats;
 
-pub use crate::aims::aims_at_king;
+pub use crate::aims::{aims_at_king, next_aimed};
 pub use crate::every_move::every_move_mates;
 pub use crate::mating_moves::{MatingMoves, next_mate};

@@ -98,8 +98,8 @@ impl<R: Rules> LegalMoves<R> {
         Moves::at(self.number)
     }
 
-    // What is known of the position.
-    pub(crate) fn known(&self) -> Known
+    /// What is known of the position.
+    pub fn known(&self) -> Known
         ensures { result ≡ record {
           shield_squares = self.now.shield_squares;
           evasion_squares = self.now.evasion_squares;
@@ -262,7 +262,7 @@ pub(crate) fn next_legal<R: Rules>(
 /// What is known of a position where legal moves are looked for: the squares from which one may expose the
 /// mover's king, and those to which one may go that ends a check.
 #[derive(Clone, Copy)]
-pub(crate) struct Known {
+pub struct Known {
     pub(crate) shield_squares: Squares,
     pub(crate) evasion_squares: Squares,
 }

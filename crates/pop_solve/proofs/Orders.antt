@@ -1,6 +1,7 @@
 -- The moves of a position, stretch by stretch, are all its moves in another order.
-use Rattle.pop_solve.proofs.Words.{Bool, Earlier, Killer, List, Move, Order, Others, Position, RuleSet, [], all_moves_of, ap, append-nil, arith, belongs, between-here, between-none, between-past, between-skip, cases_Bool, cases_lt, comes_early, cond, eqb, false, filter, filter_agree, inl, inr, is_at, moves_ahead, moves_behind, moves_behind-end, moves_behind-here, moves_behind-skip, moves_between, moves_here, moves_later, nat_tests, not, place_of_triple, refl, rules, suc, sym, true, zero, ℕ, ◌&&◌, ◌++◌, ◌+◌, ◌-◌, ◌<◌, ◌∙◌, ◌∷◌, ◌≡◌, ◌≤◌, append_assoc, all_triples, legal_moves}
-use Rattle.pop_solve.specs.declared.frame.Early.TheVariants.{NoMoves}
+use Rattle.pop_solve.proofs.Words.{Aimed, Bool, Earlier, Killer, List, Move, Order, Others, Position, RuleSet, [], all_moves_of, ap, append-nil, arith, belongs, between-here, between-none, between-past, between-skip, cases_Bool, cases_lt, comes_early, cond, eqb, false, filter, filter_agree, inl, inr, is_at, moves_ahead, moves_behind, moves_behind-end, moves_behind-here, moves_behind-skip, moves_between, moves_here, moves_later, nat_tests, not, place_of_triple, refl, rules, suc, sym, true, zero, ℕ, ◌&&◌, ◌||◌, ◌++◌, ◌+◌, ◌-◌, ◌<◌, ◌∙◌, ◌∷◌, ◌≡◌, ◌≤◌, append_assoc, all_triples, legal_moves}
+use Rattle.chess_mates.specs.ties.Aims.{aims_at_king}
+use Rattle.pop_solve.specs.declared.frame.Early.TheVariants.{AimedMoves, NoMoves}
 use Rattle.pop_solve.proofs.Boards.{behind_start}
 
 -- a list parted by three tests
@@ -81,6 +82,13 @@ module _ (rule : RuleSet) (p : Position) (order : Order) where
   unfolding moves_later belongs
   same_start step g cons swap = ap (λ ms. g (ms ++ moves_later rule p order Killer)) (before_killer (order.killer - 1) refl)
       ∙ same_parted step g cons swap (is_at order.killer) (is_at order.earlier) (comes_early order.early p) (legal_moves rule p)
+
+-- the aimed moves of a list, where these come first, are those that aim at the king and are no killers
+pub aimed_filtered : (p : Position) (order : Order) → order.early ≡ AimedMoves → (ms : List Move)
+    → filter (belongs p order Aimed) ms ≡ filter (λ m. not (is_at order.killer m || is_at order.earlier m)) (filter (aims_at_king p) ms)
+unfolding belongs
+aimed_filtered p order early [] = refl
+aimed_filtered p order early (m ∷ ms) = search (rules, aimed_filtered p order early ms, cases_Bool)
 
 -- for `place_before`: what is ahead at the start of each stretch
 pub ruleset first_place = (before_killer, before_earlier, behind_earlier, behind_start)

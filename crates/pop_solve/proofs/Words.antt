@@ -54,7 +54,7 @@ pub use Rattle.pop_events.specs.declared.event.Event.{Event}
 pub use Rattle.pop_events.specs.declared.event.Event.TheVariants.{Line, Node, Total}
 pub use Rattle.pop_events.specs.declared.event.Phase.{Phase}
 pub use Rattle.pop_events.specs.declared.event.Phase.TheVariants.{Play, Set}
-pub use Rattle.pop_solve.specs.declared.frame.Stretch.TheVariants.{Earlier, Killer, Others}
+pub use Rattle.pop_solve.specs.declared.frame.Stretch.TheVariants.{Aimed, Earlier, Killer, Others}
 pub use Rattle.pop_solve.specs.declared.phases.Stage.{Stage}
 pub use Rattle.pop_solve.specs.declared.phases.Walk.{Walk}
 pub use Rattle.pop_solve.specs.declared.phases.Stage.TheVariants.{Barred, Before, Behind, Within}

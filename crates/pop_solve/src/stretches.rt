@@ -3,9 +3,11 @@
 ghost use Rattle.chess_core.specs.Position.{Position};
 ghost use Rattle.chess_core.specs.WellFormed.{IsWellFormed};
 ghost use Rattle.chess_rules.specs.ties.Places.{IsPlaceIn, moves_behind, place_of};
+ghost use Rattle.pop_solve.specs.declared.frame.Early.TheVariants.{AimedMoves};
+ghost use Rattle.pop_solve.specs.declared.frame.Stretch.TheVariants.{Aimed};
 ghost use Rattle.pop_solve.specs.ties.Calls.{Finds};
 ghost use Rattle.pop_solve.specs.ties.Frames.{all_moves_of, belongs, comes_early, moves_ahead, moves_here, moves_later, stretches_behind};
-ghost use Rattle.std.specs.Prelude.{◌≡◌, ◌<◌, [], ◌++◌, filter, IfSome, MatchOption, Some};
+ghost use Rattle.std.specs.Prelude.{◌≡◌, ◌==◌, ◌||◌, ◌<◌, [], ◌++◌, filter, IfSome, MatchOption, Some};
 
 use crate::aim::Battle;
 use crate::chess::{next_behind, next_until};
@@ -13,7 +15,7 @@ use crate::frame::{Early, Order, Stretch};
 use crate::killers::Killers;
 use chess_core::board::Board;
 use chess_core::man::Move;
-use chess_mates::aims::aims_at_king;
+use chess_mates::aims::{aims_at_king, next_aimed};
 use chess_rules::legal_moves::LegalMoves;
 use chess_rules::moves::Moves;
 use chess_rules::rules::Rules;
@@ -94,6 +96,36 @@ fn next_of_stretch<R: Rules>(
     None
 }
 
+/// Whether the place is one of the killers'.
+fn is_killer<R: Rules>(order: Order<R>, place: Moves<R>) -> bool
+    ensures { result ≡ (place == order.killer || place == order.earlier) }
+{
+    place.is(order.killer) || place.is(order.earlier)
+}
+
+/// The next move behind the place that belongs to the stretch of aimed moves: it aims at the king and is no killer.
+#[tactic(auto, using(crate::proofs::Orders::aimed_filtered))]
+fn next_early<R: Rules>(
+    order: Order<R>,
+    moves: &mut LegalMoves<R>,
+    board: &mut Board,
+) -> Option<Move>
+    requires well_formed { IsWellFormed board.old }
+    requires known { IsPlaceIn R.rule board.old moves.old }
+    requires early { order.early ≡ AimedMoves }
+    ensures { Finds R.rule board.old board.new moves.new result
+        (filter (belongs board.old order Aimed) (moves_behind R.rule board.old moves.old.place))
+        (filter (belongs board.old order Aimed)
+        (moves_behind R.rule board.old moves.new.place)) }
+{
+    while let Some(by) = next_aimed::<R>(moves, board) {
+        if !is_killer::<R>(order, moves.place()) {
+            return Some(by);
+        }
+    }
+    None
+}
+
 /// The next move of the stretch on which the place stands.
 #[tactic(auto, unfolding(crate::specs::ties::Frames::moves_here))]
 fn next_here<R: Rules>(
@@ -108,10 +140,13 @@ fn next_here<R: Rules>(
         (moves_here R.rule board.old order stretch moves.old.place)
         (moves_here R.rule board.old order stretch moves.new.place) }
 {
-    match stretch {
-        Stretch::Killer => next_until::<R>(moves, order.killer, board),
-        Stretch::Earlier => next_until::<R>(moves, order.earlier, board),
-        Stretch::Aimed | Stretch::Others => { next_of_stretch::<R>(order, stretch, moves, board) }
+    match (stretch, order.early) {
+        (Stretch::Killer, _) => next_until::<R>(moves, order.killer, board),
+        (Stretch::Earlier, _) => next_until::<R>(moves, order.earlier, board),
+        (Stretch::Aimed, Early::AimedMoves) => next_early::<R>(order, moves, board),
+        (Stretch::Aimed, Early::NoMoves) | (Stretch::Others, _) => {
+            next_of_stretch::<R>(order, stretch, moves, board)
+        }
     }
 }
 
