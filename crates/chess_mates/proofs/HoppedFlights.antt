@@ -1,12 +1,11 @@
 -- Flights that a grasshopper takes over a hurdle next to them.
-use Rattle.chess_mates.proofs.Chess.{AreLaterHurdles, Bool, Colour, Direction, East, Grasshopper, Hop, IsUntaken, King, List, Man, None, Option, Siege, Some, Step, White, agree_below_at, all_at, along, ap, arith, bit_and, bit_at, bit_not, bit_or, cases_eq, eq-eqb, false, false_from_ne_true, false≢true, hop-found, hops, inl, inr, is_some, is_square, king-back, leaps, list_all, list_any, man_on, men_on, ne_eqb, no_reach_there, not, not-true, not_yet, occupied_squares, off_left, off_right, on_left, on_right, onward, ordered, passes, queen_steps, range_with_len, reaches_as, refl, step_of, sym, true, w64, word, word_has, ℕ, ◌-◌, ◌<◌, ◌==◌, ◌^◌, ◌∙◌, ◌≡◌, ◌≢◌, ◌≤◌}
+use Rattle.chess_mates.proofs.Chess.{Bool, Colour, Direction, East, Grasshopper, Hop, IsApart, IsUntaken, King, List, Man, None, Option, Some, Step, White, agree_below_at, all_at, along, ap, arith, bit_and, bit_at, bit_or, eq-eqb, false, false_from_ne_true, false≢true, hop-found, hops, inl, inr, is_some, is_square, king-back, leaps, list_all, list_any, man_on, men_on, no_reach_there, not, not-true, not_yet, occupied_squares, off_left, off_right, onward, ordered, passes, queen_steps, range_with_len, reaches_as, refl, step_of, sym, true, word, word_has, ℕ, ◌-◌, ◌<◌, ◌==◌, ◌^◌, ◌∙◌, ◌≡◌, ◌≢◌, ◌≤◌}
 use Rattle.chess_rules.proofs.attacks.FairyLines.{queen_directions}
 use Rattle.chess_rules.proofs.rays.Ends.{stays}
 use Rattle.chess_rules.proofs.rays.Ways.{hop-made}
 use Rattle.chess_mates.proofs.Fleeing.{on_second}
 use Rattle.chess_mates.proofs.Hurdles.{empty_on, occupied_on, one_on}
 use Rattle.chess_mates.proofs.LastingFlights.{on_both}
-use Rattle.chess_mates.proofs.Risks.{denied_on, none_on}
 use Rattle.chess_mates.proofs.Springboards.{some_direction}
 use Rattle.std.proofs.lemmas.Nat.{and_le_l}
 
@@ -72,52 +71,18 @@ module _ (men : List (Option Man)) (d f s n : ℕ) (near : n ≡ word (λ q. lis
 -- for `taking_squares`
 pub untaken : (d f n o e : ℕ) → f < 64 → n ≡ word (λ q. list_any (leaps f q) queen_steps) → o ≡ word (λ q. is_square (Some f) q) → d < 2 ^ 64
     → ((men : List (Option Man)) → bit_and d n ≡ occupied_squares men → e ≡ word (λ s. reaches_as men White Grasshopper s f))
-    → (c : Colour) (k w s b : ℕ) → s < 64 → (bit_at w f == 1) ≡ true → (bit_at (bit_or o e) s == 1) ≡ false → f ≢ b
-    → (list_any (leaps f b) queen_steps ≡ true → b ≡ k) → IsUntaken d k w (record { colour = c; kind = Grasshopper }) s b f
+    → (c : Colour) (k w s b : ℕ) → s < 64 → (bit_at w f == 1) ≡ true → (bit_at (bit_or o e) s == 1) ≡ false
+    → IsApart k f b → IsUntaken d k w (record { colour = c; kind = Grasshopper }) s b f
 unfolding reaches_as
-untaken d f n o e inside near only fits comes c k w s b low on off ne beside = record {
+untaken d f n o e inside near only fits comes c k w s b low on off apart = record {
   small = inside;
   on = on;
   off = λ same. false≢true (sym (off_left o e s off) ∙ word_has (λ q. is_square (Some f) q) o s only low ∙ eq-eqb f s same);
-  elsewhere = ne;
+  elsewhere = apart.elsewhere;
   unreached = λ men r. false_from_ne_true _ (λ h. false≢true (sym (off_right o e s off)
-      ∙ word_has (λ s. reaches_as (men_on (bit_and d n)) White Grasshopper s f) e s (comes _ (occupied_on (bit_and d n) (omega (arith, fits, and_le_l d n)))) low
-      ∙ hop_over men d f s n near inside low (λ h small apart next some.
-      let p = r.stand h small (λ same. false≢true (sym (no_reach_there men White King f inside) ∙ (rw same at next))) apart some in
-      elim p.1 [ inl stays ↦ stays | inr came ↦ absurd (p.0 (came ∙ beside (rw came at next))) ]) h));
+      ∙ word_has (λ s. reaches_as (men_on (bit_and d n)) White Grasshopper s f) e s
+      (comes _ (occupied_on (bit_and d n) (omega (arith, fits, and_le_l d n)))) low
+      ∙ hop_over men d f s n near inside low (λ h small ne next some.
+      let p = r.stand h small (λ same. false≢true (sym (no_reach_there men White King f inside) ∙ (rw same at next))) ne some in
+      elim p.1 [ inl stays ↦ stays | inr came ↦ absurd (p.0 (came ∙ apart.beside (rw came at next))) ]) h));
 }
-
--- for `squares_beside`
-pub off_beside : (k f o p n : ℕ) → o ≡ word (λ q. is_square (Some f) q) → n ≡ word (λ q. list_any (leaps f q) queen_steps)
-    → p ≡ word (λ q. is_square (Some k) q) → p < 2 ^ 64 → (b : ℕ) → b < 64 → (bit_at (bit_or o (bit_and n (bit_not w64 p))) b == 1) ≡ false
-    → (f ≢ b) × (list_any (leaps f b) queen_steps ≡ true → b ≡ k)
-off_beside k f o p n only near king fits b small off = (
-  λ same. false≢true (sym (off_left o _ b off) ∙ word_has (λ q. is_square (Some f) q) o b only small ∙ eq-eqb f b same),
-  λ next. elim (cases_eq b k) [
-    | inl e ↦ e
-    | inr ne ↦ absurd (false≢true (sym (off_right o _ b off) ∙ denied_on n p b fits small
-        (word_has (λ q. list_any (leaps f q) queen_steps) n b near small ∙ next)
-        (word_has (λ q. is_square (Some k) q) p b king small ∙ ne_eqb k b (λ same. ne (sym same)))))
-  ],
-)
-
--- for `later_hurdles`
-module _ (v : Siege) (k s o : ℕ) (only : o ≡ word (λ q. is_square (Some s) q)) (fits : o < 2 ^ 64) where
-  stays_on : (e : ℕ) → e < 64 → (bit_at v.hurdles e == 1) ≡ true → e ≢ s → (bit_at (bit_and v.hurdles (bit_not w64 o)) e == 1) ≡ true
-  stays_on e small on apart = denied_on v.hurdles o e fits small on (word_has (λ q. is_square (Some s) q) o e only small ∙ ne_eqb s e (λ same. apart (sym same)))
-
-  pub hurdles_later : (bit_and v.closed v.enemies == 0) ≡ true → AreLaterHurdles v k s (bit_and v.hurdles (bit_not w64 o))
-  hurdles_later none = record {
-    hurdles = λ e small on apart king. stays_on e small on apart;
-    closed = λ e q small on enemy shut king. absurd (none_on _ q none (on_both v.closed v.enemies q shut enemy));
-  }
-
-  pub closed_later : (p : ℕ) → p ≡ word (λ q. is_square (Some k) q) → p < 2 ^ 64
-      → AreLaterHurdles v k s (bit_and (bit_or (bit_and v.hurdles (bit_not w64 o)) v.closed) (bit_not w64 p))
-  closed_later p king fit =
-      let off = λ (e : ℕ) (small : e < 64) (apart : e ≢ k).
-      word_has (λ q. is_square (Some k) q) p e king small ∙ ne_eqb k e (λ same. apart (sym same)) in
-      record {
-        hurdles = λ e small on apart ne. denied_on _ p e fit small (on_left _ v.closed e (stays_on e small on apart)) (off e small ne);
-        closed = λ e q small on enemy shut ne. denied_on _ p e fit small (on_right _ v.closed e on) (off e small ne);
-      }

@@ -3,6 +3,7 @@ use Rattle.chess_mates.proofs.Chess.{AreFree, AreLaterHurdles, Colour, Field, Is
 use Rattle.chess_mates.proofs.Rebirths.{after_is}
 use Rattle.chess_mates.proofs.Hurdles.{later, later_but}
 use Rattle.chess_mates.proofs.HomeSquares.{some_of}
+use Rattle.chess_mates.proofs.LastingFlights.{on_both}
 use Rattle.chess_mates.proofs.Risks.{none_at}
 use Rattle.chess_mates.proofs.KingsApart.{kings_apart}
 use Rattle.chess_mates.proofs.Fleeing.{IsKingOn, no_king_free, no_mate_with_flight, step_to}
@@ -286,7 +287,10 @@ module _ (rule : RuleSet) (p : Position) (m : Move) (x : Man) (v : Siege) (k : �
             | inl same ↦ inl same
             | inr new ↦
                 let who : new.1.0 ≡ (b s new.0).man = same_man _ _ (sym new.1.1.0 ∙ (b s new.0).who) in
-                inr (rw (moved_plainly q y n plain_n) at (b s new.0).empty, (new.1.0, (new.1.1.1, (rw who (defends s new.0), (closed_s s new.0, circe s new.0)))))
+                inr (
+                  rw (moved_plainly q y n plain_n) at (b s new.0).empty,
+                  (new.1.0, (new.1.1.1, (rw who (defends s new.0), (closed_s s new.0, circe s new.0)))),
+                )
           ])
 
       king_r : king_square r.men p.turn ≡ Some k
@@ -365,7 +369,8 @@ module _ (rule : RuleSet) (p : Position) (m : Move) (x : Man) (v : Siege) (k : �
       standing : (d h : ℕ) (z : Man) → AreLaterHurdles v k n.from d → h < 64 → h ≢ k → h ≢ n.to → man_on r.men h ≡ Some z
           → ((bit_at d h == 1) ≡ true) ⊎ (h ≡ m.to)
       standing d h z are low apart off there = elim (stood_r h z there) [
-        | inr new ↦ inl (are.closed h n.from low new.1.0 enemy_from (i.fits.closed.others new.1.1 n.from from_small (rw stood_y refl)) apart)
+        | inr new ↦ inl (are.closed h low new.1.0 apart (λ none. none_at _ n.from none
+            (on_both v.closed v.enemies n.from (i.fits.closed.others new.1.1 n.from from_small (rw stood_y refl)) enemy_from)))
         | inl old ↦ search (rules, or_cases, old, off, stood_q h z, somebody h low, i.whole h low, are.hurdles h low)
       ]
 

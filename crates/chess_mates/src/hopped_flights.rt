@@ -1,12 +1,9 @@
 //! The flights of a besieged king that a grasshopper takes once he has come: he hops to one only over a man next to it.
-ghost use Rattle.std.specs.Prelude.{◌≡◌, ◌≢◌, ◌<◌, ◌==◌, ℕ, true, false};
+ghost use Rattle.std.specs.Prelude.{◌≡◌, ◌<◌, ◌==◌, ℕ, true, false};
 ghost use Rattle.std.specs.Int.{bit_at};
-ghost use Rattle.std.specs.List.{list_any};
-ghost use Rattle.chess_core.specs.Steps.{queen_steps};
 ghost use Rattle.chess_core.specs.declared.man.Colour.{Colour};
 ghost use Rattle.chess_core.specs.declared.man.Kind.TheVariants.{Grasshopper};
-ghost use Rattle.chess_mates.specs.ties.Siege.{AreLaterHurdles, IsUntaken, LeavesUntaken};
-ghost use Rattle.chess_rules.specs.Reaches.{leaps};
+ghost use Rattle.chess_mates.specs.ties.Siege.{AreLaterHurdles, IsApart, IsUntaken, LeavesUntaken};
 
 use crate::siege::Siege;
 use chess_core::man::{Colour, Kind};
@@ -17,7 +14,7 @@ use chess_rules::words::{next_bit, only};
 
 // The squares on which a man may stand, where none arrived, once the attacker has left `from` and the king `king`: the
 // hurdles, and in Circe, where attackers stand on closed squares, those too.
-#[tactic(auto, using(crate::proofs::HoppedFlights::closed_later, crate::proofs::HoppedFlights::hurdles_later))]
+#[tactic(auto, using(chess_rules::proofs::Bits::on_left, chess_rules::proofs::Bits::on_right, chess_rules::proofs::Bits::word_has, crate::proofs::Risks::denied_on, std::proofs::lemmas::Bool::ne_eqb))]
 pub(crate) fn later_hurdles(siege: &Siege, king: Square, from: Square) -> Squares
     ensures { AreLaterHurdles siege.now king from result }
 {
@@ -28,12 +25,11 @@ pub(crate) fn later_hurdles(siege: &Siege, king: Square, from: Square) -> Square
     (kept | siege.closed) & !only(Some(king))
 }
 
-// The squares from which a grasshopper takes the flight: that square itself, and those from which he hops there over a hurdle
-// next to it, whoever else stands on the line.
+// The squares from which a grasshopper takes the flight: that square, and those from which he hops there over a hurdle next
+// to it, whoever else stands on the line.
 fn taking_squares(hurdles: Squares, flight: Square) -> Squares
     ensures { (c : Colour) (k near t b : ℕ) → t < 64 → (bit_at near flight == 1) ≡ true
-        → (bit_at result t == 1) ≡ false → flight ≢ b
-        → (list_any (leaps flight b) queen_steps ≡ true → b ≡ k)
+        → (bit_at result t == 1) ≡ false → IsApart k flight b
         → IsUntaken hurdles k near (record { colour = c; kind = Grasshopper }) t b flight }
 {
     // For the proof: a square's number is below 64.
@@ -45,8 +41,7 @@ fn taking_squares(hurdles: Squares, flight: Square) -> Squares
 // The flight and the squares next to it, where a man who arrives blocks it or is a hurdle. The king does neither: he leaves
 // his square for the flight.
 fn squares_beside(king: Square, flight: Square) -> Squares
-    ensures { (b : ℕ) → b < 64 → (bit_at result b == 1) ≡ false → (flight ≢ b)
-        × (list_any (leaps flight b) queen_steps ≡ true → b ≡ king) }
+    ensures { (b : ℕ) → b < 64 → (bit_at result b == 1) ≡ false → IsApart king flight b }
 {
     only(Some(flight)) | king_leaps(flight) & !only(Some(king))
 }

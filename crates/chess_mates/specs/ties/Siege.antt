@@ -1,6 +1,7 @@
 -- A king's siege, told over hurdles: the squares of all men but the king (own).
 use Rattle.std.specs.Prelude.{◌≡◌, ◌≢◌, ◌<◌, ◌==◌, ◌⊎◌, ◌+◌, ◌-◌, ℕ, Bool, true, false, List, Option, Some, None, is_some, map, if◌then◌else◌}
 use Rattle.std.specs.Int.{bit_at}
+use Rattle.std.specs.Int.Bits.{bit_and}
 use Rattle.std.specs.List.{list_any}
 use Rattle.chess_core.specs.Castling.{has_unmoved}
 use Rattle.chess_core.specs.Position.{Position, is_fairy, is_man, is_of_colour, king_square, man_on, other, same_kind}
@@ -196,14 +197,18 @@ pub record LeavesOne (w enemies critical : ℕ) (x : Man) (t : ℕ) : Type 0 whe
 pub record AreLaterHurdles (v : Siege) (k s w : ℕ) : Type 0 where
   pub hurdles : (e : ℕ) → e < 64 → (bit_at v.hurdles e == 1) ≡ true → e ≢ s → e ≢ k
       → (bit_at w e == 1) ≡ true
-  pub closed : (e q : ℕ) → e < 64 → (bit_at v.closed e == 1) ≡ true
-      → (bit_at v.enemies q == 1) ≡ true → (bit_at v.closed q == 1) ≡ true → e ≢ k
-      → (bit_at w e == 1) ≡ true
+  pub closed : (e : ℕ) → e < 64 → (bit_at v.closed e == 1) ≡ true → e ≢ k
+      → bit_and v.closed v.enemies ≢ 0 → (bit_at w e == 1) ≡ true
 
 -- nobody stands on k, and but for f and t on no square but those of the word, and b
 pub record AreStanding (men : List (Option Man)) (d k b t f : ℕ) : Type 0 where
   pub stand : (h : ℕ) → h < 64 → h ≢ f → h ≢ t → is_some (man_on men h) ≡ true
       → (h ≢ k) × (((bit_at d h == 1) ≡ true) ⊎ (h ≡ b))
+
+-- f is neither b nor, unless that is k, next to it
+pub record IsApart (k f b : ℕ) : Type 0 where
+  pub elsewhere : f ≢ b
+  pub beside : list_any (leaps f b) queen_steps ≡ true → b ≡ k
 
 -- once x has come to t and the defender to b, f is left of the word: nobody stands there who came, and x doesn't reach it
 pub record IsUntaken (d k w : ℕ) (x : Man) (t b f : ℕ) : Type 0 where

@@ -1,6 +1,6 @@
-use Rattle.chess_mates.proofs.Chess.{arith}
-use Rattle.chess_mates.proofs.HoppedFlights.{off_beside}
+use Rattle.chess_mates.proofs.Chess.{arith, cases_eq, eq-eqb, ne_eqb, off_left, off_right, word_has}
+use Rattle.chess_mates.proofs.Risks.{denied_on}
 use Rattle.chess_mates.proofs.hopped_flights.squares_beside.Goals as goal
 
 pub returns : goal.returns
-returns c = off_beside c.args.king c.args.flight _ _ _ c.only.ensures c.king_leaps.ensures c.only-2.ensures (omega arith)
+returns c = λ b small off. grind (arith, cases_eq b c.args.king, denied_on, eq-eqb, ne_eqb, off_left, off_right, word_has, c.king_leaps.ensures, c.only.ensures, c.only-2.ensures)
