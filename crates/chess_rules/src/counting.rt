@@ -83,7 +83,7 @@ fn unsure_squares<R: Rules>(board: &Board, man: Man) -> Squares
         | promoting_squares(man)
 }
 
-// Whether each move of the man on `from` to one of these squares is surely legal, without a promotion.
+// Whether each move of the man on `from` to one of these squares, if there is one, is surely legal, without a promotion.
 // `shield_squares` are those from which a move may expose the mover's king.
 #[tactic(auto, using(crate::proofs::listing_moves::SurelyLegal::surely_legal))]
 fn are_surely_legal<R: Rules>(
@@ -102,6 +102,9 @@ fn are_surely_legal<R: Rules>(
     let Some(man) = board.man_at(from) else {
         return false;
     };
+    if squares == 0 {
+        return true;
+    }
     if man.kind.is(Kind::King) {
         return false;
     }

@@ -73,9 +73,11 @@ fn keep<R: Rules, S: Sought>(board: &Board, sought: &S, kept: Kept, from: Square
     }
 }
 
+// It and the two below are parts of each search: apart they cost more than they save.
 // The first triple of the pawn on `from` that is found, of those that go to one of the squares, from the one
 // numbered `start` on and before the one numbered `end`, each counted from the origin's first; `end` where there is
 // none. The board is unchanged.
+#[inline(always)]
 fn next_of_pawn<R: Rules, S: Sought>(
     board: &mut Board,
     sought: &S,
@@ -111,6 +113,7 @@ fn next_of_pawn<R: Rules, S: Sought>(
 
 // The first triple of the man on `from`, who is no pawn, as above: he goes to each square by one, that without a
 // promotion.
+#[inline(always)]
 #[tactic(auto, using(crate::proofs::Tests::find_first, crate::proofs::listing_moves::Walks::plain_aimed, crate::proofs::Chess::cases_eq, crate::proofs::Chess::cases_lt), unfolding(crate::specs::ties::Places::triple_at))]
 fn next_of_piece<R: Rules, S: Sought>(
     board: &mut Board,
@@ -155,6 +158,7 @@ fn next_of_piece<R: Rules, S: Sought>(
 }
 
 // The first triple of the man on `from`, as above, whoever he is.
+#[inline(always)]
 #[tactic(auto, using(crate::proofs::Bits::word_has), unfolding(chess_core::specs::ties::Words::squares_of))]
 pub(crate) fn next_of_man<R: Rules, S: Sought>(
     board: &mut Board,
