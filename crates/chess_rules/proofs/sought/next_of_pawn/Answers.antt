@@ -23,5 +23,5 @@ loop-at-preserved g c =
       high = next.high;
       named = next.named;
       none = none-onward _ _ _ (λ m h. and_right _ _ (idle m h)) _ _ _ _ _ next.high c.requires.squares c.loop-at.invariant.none
-          (and_right _ _ (fails c.if-is_found.false)) next.barren;
+          (and_right _ _ (fails c.if-is_found.false)) (search (rules, next.barren));
     }

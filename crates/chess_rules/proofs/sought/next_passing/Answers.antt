@@ -26,12 +26,13 @@ loop-from-preserved g c =
     let found = sym c.next_bit.ensures.value ∙ c.in-Some.is in
     let kept = rw c.loop-from.invariant.board at c.keep.ensures.kept in
     let all : c.next_of_man-at.result ≡ per_origin = omega (arith, c.next_of_man-at.ensures.high, c.min-limit.ensures) in
+    let past = none-origin _ _ _ idle _ _ _ _ _ _ _ c.origins-origins.ensures c.loop-from.invariant.none found first c.saturating_sub-begin.ensures
+    (none-to _ _ _ _ _ _ _ _ (omega arith) (kept.are _ c.keep.ensures.origin) (λ m h. h)
+    (rw (all, c.loop-from.invariant.board) at c.next_of_man-at.ensures.none)) in
     record {
       board = c.next_of_man-at.ensures.board ∙ c.loop-from.invariant.board;
       low = omega (arith, c.loop-from.invariant.low, (find_first (λ q. bit_at c.origins-origins.result q == 1) _ _ _ found).low, first);
-      none = none-origin _ _ _ idle _ _ _ _ _ _ _ c.origins-origins.ensures c.loop-from.invariant.none found first c.saturating_sub-begin.ensures
-          (none-to _ _ _ _ _ _ _ _ (omega arith) (kept.are _ c.keep.ensures.origin) (λ m h. h)
-          (rw (all, c.loop-from.invariant.board) at c.next_of_man-at.ensures.none));
+      none = search (rules, past);
       kept = kept;
     }
 
