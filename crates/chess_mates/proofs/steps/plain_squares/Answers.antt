@@ -1,6 +1,8 @@
-use Rattle.chess_mates.proofs.Chess.{arith}
+use Rattle.chess_mates.proofs.Chess.{arith, rules, ◌<◌, ◌^◌}
 use Rattle.chess_mates.proofs.ExactSteps.{empty_step}
 use Rattle.chess_mates.proofs.steps.plain_squares.Goals as goal
 
 pub returns-then-captures_do_more : goal.returns-then-captures_do_more
-returns-then-captures_do_more g c = λ t small on. empty_step _ _ _ t (omega arith) c.king_leaps-near.ensures small on
+returns-then-captures_do_more g c =
+    let fits : c.args.siege.now.hurdles < 2 ^ 64 = omega arith in
+    search (rules, empty_step, c.king_leaps-near.ensures)
