@@ -313,12 +313,12 @@ goes_simply rule p x m o q c crossed special captures small off =
     }
 
 -- for a step that is left
-pub step_left : (p : Position) (v : _) (w a o t f : ℕ) (x : Man) → f < 64 → t < 64 → (bit_at w f == 1) ≡ true → AreApproached x f a
-    → o ≡ word (is_square (Some f)) → ((men : List (Option Man)) → AreSeen p.men men p.turn v → is_reached men f p.turn ≡ false)
+pub step_left : (p : Position) (v : _) (w a o t f : ℕ) (x : Man) (c : Colour) → c ≡ p.turn → f < 64 → t < 64 → (bit_at w f == 1) ≡ true → AreApproached x f a
+    → o ≡ word (is_square (Some f)) → ((men : List (Option Man)) → AreSeen p.men men c v → is_reached men f c ≡ false)
     → (bit_at (bit_or a o) t == 1) ≡ false → IsStepLeft p v w x t f
-step_left p v w a o t f x flight small on are only safe off =
+step_left p v w a o t f x c mover flight small on are only safe off =
     let apart : f ≢ t = λ e. grind (arith, off_right a o t off, word_has _ o t only small, eq-eqb) in
-    record { left = search (rules, apart, are.inside, off_left a o t off, false_from_ne_true, false≢true, flight, on); others = safe }
+    record { left = search (rules, apart, are.inside, off_left a o t off, false_from_ne_true, false≢true, flight, on); others = rw (← mover) safe }
 
 -- where nothing is told no square is left out
 pub all_left : {P : Type 0} (t : ℕ) → t < 64 → (bit_at 18446744073709551615 t == 1) ≡ false → P

@@ -7,7 +7,7 @@ returns-then-is c = λ m from small off. pawn_arrivals _ m (search rules) small 
 
 pub returns-then-is-2 : goal.returns-then-is-2
 returns-then-is-2 c = λ m from small off.
-    king_arrivals _ m _ (search rules) (omega arith) small (rw from c.king_leaps.ensures) (omega arith) off
+    king_arrivals _ m c.king_leaps.result (search rules) (omega arith) small (rw from c.king_leaps.ensures) (omega arith) off
 
 pub returns : goal.returns
 returns c = λ m from small off. other_arrivals _ m (search rules) (search rules)

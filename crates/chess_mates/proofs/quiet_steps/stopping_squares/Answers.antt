@@ -7,5 +7,5 @@ returns-then-is_attacker_seen c = λ w t on small off. all_left t small off
 
 pub returns : goal.returns
 returns c = λ w t on small off.
-    step_left _ _ w _ _ t _ _ (search rules) small on c.open_approaches.ensures c.only.ensures
-    (λ men are. sym ((rw c.turn.ensures at c.is_attacker_seen.ensures) men are) ∙ c.if-is_attacker_seen.false) off
+    step_left _ _ w _ _ t _ _ _ c.turn.ensures (search rules) small on c.open_approaches.ensures c.only.ensures
+    (λ men are. sym (c.is_attacker_seen.ensures men are) ∙ c.if-is_attacker_seen.false) off
