@@ -1,5 +1,5 @@
 -- Flights that a grasshopper takes over a hurdle next to them.
-use Rattle.chess_mates.proofs.Chess.{Bool, Colour, Direction, East, Grasshopper, Hop, IsApart, IsUntaken, King, List, Man, None, Option, Some, Step, White, agree_below_at, all_at, along, ap, arith, bit_and, bit_at, bit_or, eq-eqb, false, false_from_ne_true, false≢true, hop-found, hops, inl, inr, is_some, is_square, king-back, leaps, list_all, list_any, man_on, men_on, no_reach_there, not, not-true, not_yet, occupied_squares, off_left, off_right, onward, ordered, passes, queen_steps, range_with_len, reaches_as, refl, step_of, sym, true, word, word_has, ℕ, ◌-◌, ◌<◌, ◌==◌, ◌^◌, ◌∙◌, ◌≡◌, ◌≢◌, ◌≤◌}
+use Rattle.chess_mates.proofs.Chess.{Bool, Direction, East, Grasshopper, Hop, IsApart, IsUntaken, King, List, Man, None, Option, Some, Step, White, agree_below_at, all_at, along, ap, arith, bit_and, bit_at, bit_or, eq-eqb, false, false_from_ne_true, false≢true, hop-found, hops, inl, inr, is_some, is_square, king-back, leaps, list_all, list_any, man_on, men_on, no_reach_there, not, not-true, not_yet, occupied_squares, off_left, off_right, onward, ordered, passes, queen_steps, range_with_len, reaches_as, refl, same_kind, same_kind-true, step_of, sym, true, word, word_has, ℕ, ◌-◌, ◌<◌, ◌==◌, ◌^◌, ◌∙◌, ◌≡◌, ◌≢◌, ◌≤◌}
 use Rattle.chess_rules.proofs.attacks.FairyLines.{queen_directions}
 use Rattle.chess_rules.proofs.rays.Ends.{stays}
 use Rattle.chess_rules.proofs.rays.Ways.{hop-made}
@@ -71,10 +71,10 @@ module _ (men : List (Option Man)) (d f s n : ℕ) (near : n ≡ word (λ q. lis
 -- for `taking_squares`
 pub untaken : (d f n o e : ℕ) → f < 64 → n ≡ word (λ q. list_any (leaps f q) queen_steps) → o ≡ word (λ q. is_square (Some f) q) → d < 2 ^ 64
     → ((men : List (Option Man)) → bit_and d n ≡ occupied_squares men → e ≡ word (λ s. reaches_as men White Grasshopper s f))
-    → (c : Colour) (k w s b : ℕ) → s < 64 → (bit_at w f == 1) ≡ true → (bit_at (bit_or o e) s == 1) ≡ false
-    → IsApart k f b → IsUntaken d k w (record { colour = c; kind = Grasshopper }) s b f
+    → (x : Man) (k w s b : ℕ) → same_kind x.kind Grasshopper ≡ true → s < 64 → (bit_at w f == 1) ≡ true → (bit_at (bit_or o e) s == 1) ≡ false
+    → IsApart k f b → IsUntaken d k w x s b f
 unfolding reaches_as
-untaken d f n o e inside near only fits comes c k w s b low on off apart = record {
+untaken d f n o e inside near only fits comes x k w s b hop low on off apart = record {
   small = inside;
   on = on;
   off = λ same. false≢true (sym (off_left o e s off) ∙ word_has (λ q. is_square (Some f) q) o s only low ∙ eq-eqb f s same);
@@ -84,5 +84,5 @@ untaken d f n o e inside near only fits comes c k w s b low on off apart = recor
       (comes _ (occupied_on (bit_and d n) (omega (arith, fits, and_le_l d n)))) low
       ∙ hop_over men d f s n near inside low (λ h small ne next some.
       let p = r.stand h small (λ same. false≢true (sym (no_reach_there men White King f inside) ∙ (rw same at next))) ne some in
-      elim p.1 [ inl stays ↦ stays | inr came ↦ absurd (p.0 (came ∙ apart.beside (rw came at next))) ]) h));
+      elim p.1 [ inl stays ↦ stays | inr came ↦ absurd (p.0 (came ∙ apart.beside (rw came at next))) ]) (rw (same_kind-true x.kind Grasshopper hop) at h)));
 }

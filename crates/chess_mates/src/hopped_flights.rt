@@ -1,8 +1,9 @@
 //! The flights of a besieged king that a grasshopper takes once he has come: he hops to one only over a man next to it.
 ghost use Rattle.std.specs.Prelude.{◌≡◌, ◌<◌, ◌==◌, ℕ, true, false};
 ghost use Rattle.std.specs.Int.{bit_at};
-ghost use Rattle.chess_core.specs.declared.man.Colour.{Colour};
+ghost use Rattle.chess_core.specs.Position.{same_kind};
 ghost use Rattle.chess_core.specs.declared.man.Kind.TheVariants.{Grasshopper};
+ghost use Rattle.chess_core.specs.declared.man.Man.{Man};
 ghost use Rattle.chess_mates.specs.ties.Siege.{AreLaterHurdles, IsApart, IsUntaken, LeavesUntaken};
 
 use crate::siege::Siege;
@@ -28,9 +29,9 @@ pub(crate) fn later_hurdles(siege: &Siege, king: Square, from: Square) -> Square
 // The squares from which a grasshopper takes the flight: that square, and those from which he hops there over a hurdle next
 // to it, whoever else stands on the line.
 fn taking_squares(hurdles: Squares, flight: Square) -> Squares
-    ensures { (c : Colour) (k near t b : ℕ) → t < 64 → (bit_at near flight == 1) ≡ true
-        → (bit_at result t == 1) ≡ false → IsApart k flight b
-        → IsUntaken hurdles k near (record { colour = c; kind = Grasshopper }) t b flight }
+    ensures { (x : Man) (k near t b : ℕ) → same_kind x.kind Grasshopper ≡ true → t < 64
+        → (bit_at near flight == 1) ≡ true → (bit_at result t == 1) ≡ false
+        → IsApart k flight b → IsUntaken hurdles k near x t b flight }
 {
     // For the proof: a square's number is below 64.
     let _small = flight.index();
@@ -55,9 +56,8 @@ pub(crate) fn critical_of_hops(
     hurdles: Squares,
     targets: Squares,
 ) -> Squares
-    ensures { (c : Colour) (t : ℕ) → t < 64 → (bit_at targets t == 1) ≡ true
-        → LeavesUntaken hurdles king near enemies result
-        (record { colour = c; kind = Grasshopper }) t }
+    ensures { (x : Man) (t : ℕ) → same_kind x.kind Grasshopper ≡ true → t < 64
+        → (bit_at targets t == 1) ≡ true → LeavesUntaken hurdles king near enemies result x t }
 {
     let mut critical = 0u64;
     let mut taking = targets;

@@ -1,12 +1,8 @@
-use Rattle.chess_mates.proofs.Chess.{Grasshopper, refl, rules, same_kind-true, sym, ◌∙◌}
-use Rattle.chess_mates.proofs.KindByKind.{man_is}
+use Rattle.chess_mates.proofs.Chess.{rules}
 use Rattle.chess_mates.proofs.risk.critical_of_going.Goals as goal
 
 pub returns-then-is : goal.returns-then-is
-returns-then-is c = λ t low on.
-    let x = c.args.man in
-    let grasshopper = man_is x x.colour Grasshopper refl (same_kind-true x.kind Grasshopper (sym c.is.ensures ∙ c.if-is.true)) in
-    (_, c.later_hurdles-hurdles.ensures, rw grasshopper at (c.critical_of_hops.ensures x.colour t low on))
+returns-then-is c = λ t low on. (_, c.later_hurdles-hurdles.ensures, search (rules, c.critical_of_hops.ensures c.args.man, c.is.ensures, c.if-is.true))
 
 pub returns : goal.returns
 returns c = λ t low on. (
