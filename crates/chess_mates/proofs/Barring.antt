@@ -1,7 +1,8 @@
 -- A king's step to an empty square that an attacker reaches over the hurdles is illegal.
 use Rattle.chess_mates.proofs.Chess.{Colour, IsAttackedOver, IsBarred, IsMade, IsMereMove, IsPlainMove, IsSiege, IsSiegeOf, IsWellFormed, IsWhole, King, List, Man, Move, None, Option, Position, RuleSet, Siege, Some, StandAlike, after_well_formed, and_from, and_left, ap, arith, arrived, bit_and, bit_at, bit_not, bit_or, captures_do_more, cases_eq, cases_lt, cond-true, faced_men_stand_still, false, false_by, false≢true, in_check, inl, inr, is_attacked, is_attacked_at, is_attacker, is_legal, is_of_colour, is_paralysed, is_pseudo_legal, is_some, king_is_after, king_square, length, made, man_on, men_on, not, off_left, off_right, off_second, on_board, or_lt, other, position_after, reached_over, reaches, reaches_alike, reaches_as, refl, rules, same_Bool, same_colour, same_colour-refl, same_kind, side_of, simple_after, some_square_true, sym, true, w64, word_has, ℕ, ◌<◌, ◌==◌, ◌^◌, ◌∙◌, ◌≡◌, ◌≢◌}
 use Rattle.chess_mates.proofs.HomeSquares.{some_of}
-use Rattle.chess_mates.proofs.Hurdles.{on_one, one_on, size_on}
+use Rattle.chess_mates.proofs.Hurdles.{on_one}
+use Rattle.chess_rules.proofs.rays.OnSquares.{one_on, size_on}
 use Rattle.chess_mates.proofs.Passing.{on_denied}
 use Rattle.chess_mates.proofs.Standing.{not_mine_enemy, some_side, stays_there, stood, unfree}
 
