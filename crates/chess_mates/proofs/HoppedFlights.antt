@@ -4,7 +4,7 @@ use Rattle.chess_rules.proofs.attacks.FairyLines.{queen_directions}
 use Rattle.chess_rules.proofs.rays.Ends.{stays}
 use Rattle.chess_rules.proofs.rays.Ways.{hop-made}
 use Rattle.chess_mates.proofs.Fleeing.{on_second}
-use Rattle.chess_mates.proofs.Hurdles.{empty_on, occupied_on, one_on}
+use Rattle.chess_rules.proofs.rays.OnSquares.{empty_on, occupied_on, one_on}
 use Rattle.chess_mates.proofs.LastingFlights.{on_both}
 use Rattle.chess_mates.proofs.Springboards.{some_direction}
 use Rattle.std.proofs.lemmas.Nat.{and_le_l}

@@ -1,7 +1,6 @@
 -- What men reach over hurdles, the squares of a word, and later on the board.
-use Rattle.chess_mates.proofs.Chess.{AreReached, Attackers, Bishop, Bool, Colour, Grasshopper, IsAttackedOver, IsNear, IsReached, IsReachedFrom, Kind, King, Knight, List, Man, Nightrider, None, Option, Pawn, Queen, Rook, Some, Step, White, [], along, any_kept, ap, arith, bit_at, bit_at-lt, bit_at_or, bit_or, cases_Bool, cases_eq, cases_lt, diagonal_steps, eq-eqb, eqb-true, false, false≢true, find, find_first, gait_of, get_or-map-range_with_len, hop-found, hops, if◌then◌else◌, inl, inr, is_hopper, is_leaper, is_occupied, is_rider, is_some, is_vacant_at, knight_steps, leaps, length, length-map-range_with_len, list_any, man_on, men_on, not, not-true, occupied_squares, off_zero, on_board, on_left, on_right, or_cases, or_left, or_right, other, queen_steps, range_with_len, reached_over, reaches_as, refl, ride-found, ride-made, rides, rules, same_kind, same_kind-true, squares, squares_for, straight_steps, suc, sym, true, word, word_has, zero, ℕ, ◌-◌, ◌<◌, ◌==◌, ◌^◌, ◌||◌, ◌∙◌, ◌∷◌, ◌≡◌, ◌≢◌, ◌≤◌, ◌⊎◌}
-use Rattle.chess_core.proofs.Words.{square_word}
-use Rattle.chess_core.specs.ties.Words.{bit_of}
+use Rattle.chess_mates.proofs.Chess.{AreReached, Attackers, Bishop, Bool, Colour, Grasshopper, IsAttackedOver, IsNear, IsReached, IsReachedFrom, Kind, King, Knight, List, Man, Nightrider, None, Option, Pawn, Queen, Rook, Some, Step, [], along, arith, bit_at, bit_at-lt, bit_at_or, bit_or, cases_Bool, cases_eq, diagonal_steps, eq-eqb, eqb-true, false, false≢true, find, find_first, gait_of, inl, inr, is_hopper, is_leaper, is_rider, is_some, is_vacant_at, knight_steps, leaps, list_any, man_on, men_on, not, not-true, occupied_squares, on_left, on_right, or_cases, or_left, or_right, other, queen_steps, range_with_len, reached_over, reaches_as, refl, ride-found, ride-made, rides, rules, same_kind, same_kind-true, squares_for, straight_steps, suc, sym, true, word, word_has, zero, ℕ, ◌-◌, ◌<◌, ◌==◌, ◌^◌, ◌||◌, ◌∙◌, ◌∷◌, ◌≡◌, ◌≢◌, ◌≤◌, ◌⊎◌}
+use Rattle.chess_rules.proofs.rays.OnSquares.{empty_on, occupied_on}
 use Rattle.chess_mates.proofs.KindByKind.{of_kind}
 
 -- for words that are joined: the first has what it reached
@@ -23,27 +22,6 @@ on_either a b i h off = grind (arith, eqb-true, bit_at_or, unset, bit_at-lt, eq-
 -- a square of two words joined is one of the first or of the second
 pub on_one : (a b i : ℕ) → (bit_at (bit_or a b) i == 1) ≡ true → ((bit_at a i == 1) ≡ true) ⊎ ((bit_at b i == 1) ≡ true)
 on_one a b i h = search (rules, cases_Bool, on_either)
-
--- men on the squares of a word
-bit_small : (d s : ℕ) → bit_at d s ≡ bit_of (bit_at d s == 1)
-bit_small d s = grind (arith, bit_at-lt d s)
-
-abbrev placed : ℕ → ℕ → Option Man
-placed d s = if bit_at d s == 1 then Some (record { colour = White; kind = Pawn }) else None
-
--- on such a board a man stands on a square exactly where it is one of the word
-pub one_on : (d s : ℕ) → s < 64 → is_some (man_on (men_on d) s) ≡ (bit_at d s == 1)
-unfolding squares
-one_on d s small = grind (arith, get_or-map-range_with_len (placed d) 0 64 s s None small (omega arith))
-
--- the squares of men on the squares of a word are that word
-pub occupied_on : (d : ℕ) → d < 2 ^ 64 → d ≡ occupied_squares (men_on d)
-occupied_on d fits = square_word (λ s. is_some (man_on (men_on d) s)) d fits (λ s small. bit_small d s ∙ ap bit_of (sym (one_on d s small)))
-
--- the board has 64 squares
-pub size_on : (d : ℕ) → length (men_on d) ≡ 64
-unfolding squares
-size_on d = length-map-range_with_len (placed d) 0 64
 
 -- for reach told over a word of hurdles
 pub reached_is : (d : ℕ) (x : Man) (s r : ℕ) → d < 2 ^ 64 → ((men : List (Option Man)) → d ≡ occupied_squares men → r ≡ word (reaches_as men x.colour x.kind s))
@@ -102,10 +80,6 @@ module _ (d : ℕ) (a : Attackers) where
 
 -- on a board where each hurdle that a man reaches over the hurdles still stands, he reaches no more than over them
 module _ (d : ℕ) (men : List (Option Man)) where
-  -- a square off the word is empty over the hurdles
-  pub empty_on : (q : ℕ) → ((bit_at d q == 1) ≡ true → q < 64 → ⊥) → is_vacant_at (men_on d) (Some q) ≡ true
-  empty_on q none = search (rules, on_board, one_on, size_on)
-
   -- the hurdles that a step from s leads to still stand
   abbrev Stand : ℕ → Step → Type 0
   Stand s st = (b : ℕ) → b < 64 → (bit_at d b == 1) ≡ true → rides (men_on d) s b st ≡ true → is_some (man_on men b) ≡ true
@@ -114,7 +88,7 @@ module _ (d : ℕ) (men : List (Option Man)) where
   vacant_at : (st : Step) (s m : ℕ) (o : Option ℕ) → Stand s st → 1 ≤ m → m < 8 → along s st m ≡ o
       → ((j : ℕ) → 1 ≤ j → j < m → is_vacant_at (men_on d) (along s st j) ≡ true) → is_vacant_at men o ≡ true → is_vacant_at (men_on d) o ≡ true
   vacant_at st s m None stand low high at before vacant = absurd (false≢true vacant)
-  vacant_at st s m (Some q) stand low high at before vacant = empty_on q (λ on small. false≢true (sym (not-true _ vacant)
+  vacant_at st s m (Some q) stand low high at before vacant = empty_on d q (λ on small. false≢true (sym (not-true _ vacant)
       ∙ stand q small on (ride-made (men_on d) s q st m (record { low = low; high = high; at = at; free = before }))))
 
   vacant_over : (st : Step) (s n : ℕ) → Stand s st → n ≤ 8 → ((j : ℕ) → 1 ≤ j → j < n → is_vacant_at men (along s st j) ≡ true) → (j : ℕ) → 1 ≤ j → j < n
@@ -154,21 +128,3 @@ module _ (d : ℕ) (men : List (Option Man)) where
       → (is_rider k ≡ true → (bit_at d o == 1) ≡ true → reaches_as (men_on d) c k s o ≡ true → ⊥)
       → reaches_as men c k s t ≡ true → reaches_as (men_on d) c k s t ≡ true
   later_but a o c k s t plain stays one other h = search (rules, cases_eq, later)
-
--- on the empty board
-module _ (men : List (Option Man)) where
-  -- a man who is no hopper reaches there what he does on any
-  pub openly : (c : Colour) (k : Kind) (s t : ℕ) → is_hopper (gait_of k) ≡ false → reaches_as men c k s t ≡ true → reaches_as (men_on 0) c k s t ≡ true
-  openly c k s t plain h = later 0 men c k s t plain (λ rider b small on reach. absurd (false≢true (sym (off_zero b) ∙ on))) h
-
-  on_line : (o : Option ℕ) → (is_vacant_at men o || is_occupied men o) ≡ true → is_vacant_at (men_on 0) o ≡ true
-  on_line o h = grind (arith, empty_on 0 men, off_zero)
-
-  -- where a man hops on some board, he could ride
-  pub hop_openly : (s t : ℕ) (st : Step) → hops men s t st ≡ true → rides (men_on 0) s t st ≡ true
-  hop_openly s t st h = search (rules, cases_lt, hop-found, on_line, or_left, or_right, ride-made)
-
-  -- and a grasshopper what a queen does
-  pub hops_openly : (b c : Colour) (s t : ℕ) → reaches_as men b Grasshopper s t ≡ true → reaches_as (men_on 0) c Queen s t ≡ true
-  unfolding reaches_as
-  hops_openly b c s t h = any_kept (hops men s t) (rides (men_on 0) s t) queen_steps (hop_openly s t) h

@@ -1,5 +1,4 @@
 pub mod Chess
-pub mod OpenBoard
 pub mod Approaches
 pub mod Checking
 pub mod Rebirths

@@ -4,7 +4,8 @@ use Rattle.chess_mates.proofs.Barring.{beyond}
 use Rattle.chess_mates.proofs.CalmSteps.{apart, calm, seen_from}
 use Rattle.chess_mates.proofs.CheckTargets.{last_rank_on}
 use Rattle.chess_mates.proofs.Fleeing.{IsKingOn, after_seen, is_made, is_step, king_on, king_seen, men_stepped, on_second, reached_near, step_legal_is, step_taken, step_to, unseen_bit}
-use Rattle.chess_mates.proofs.Hurdles.{later_but, one_on, size_on}
+use Rattle.chess_mates.proofs.Hurdles.{later_but}
+use Rattle.chess_rules.proofs.rays.OnSquares.{one_on, size_on}
 use Rattle.chess_mates.proofs.Standing.{captured_there, free_man, king_reaches, no_hopper, not_mine_enemy, unnamed}
 use Rattle.chess_mates.proofs.Stepping.{IsStep, on_flight, on_left, on_others, stands}
 use Rattle.chess_mates.specs.ties.QuietSteps.{AreQuiet, GoesSimply, IsStepLeft, NoneHops, must_reply_with_mate, sight_without}

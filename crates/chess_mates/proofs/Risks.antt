@@ -1,12 +1,12 @@
 -- The words of risks: what a defender must avoid lest a reply may mate.
-use Rattle.chess_mates.proofs.Chess.{AreApproaches, AreArrivals, AreGuardsWithout, AreWeak, Bishop, Colour, Field, Grasshopper, IsCheckWord, IsHarmless, IsLeft, IsNear, IsNoCheck, IsReached, IsUnguarded, IsWeak, Kind, King, Knight, List, Man, Nightrider, Option, Pawn, Position, Queen, Risk, Rook, Siege, and_parts, ap, arith, bit_and, bit_at, bit_at-lt, bit_at_not, bit_not, bit_or, eq-eqb, eqb-true, false, false_by, false≢true, gait_of, inl, is_hopper, king_is_no_pawn, may_go, no_pawn_arrives, not, occupied_squares, off_left, off_right, off_zero, other, reaches_as, refl, rules, same_kind, same_kind-true, squares, squares_for, sym, true, true_from_ne_false, w64, word, ℕ, ◌<◌, ◌==◌, ◌^◌, ◌∙◌, ◌≡◌}
+use Rattle.chess_mates.proofs.Chess.{AreApproached, AreApproaches, AreArrivals, AreGuardsWithout, AreWeak, Bishop, Colour, Field, Grasshopper, IsCheckWord, IsHarmless, IsNear, IsNoCheck, IsReached, IsUnguarded, IsWeak, Kind, King, Knight, List, Man, Nightrider, Option, Pawn, Position, Queen, Risk, Rook, Siege, and_parts, ap, arith, bit_and, bit_at, bit_at-lt, bit_at_not, bit_not, bit_or, eq-eqb, eqb-true, false, false_by, false≢true, gait_of, inl, is_hopper, king_is_no_pawn, may_go, no_pawn_arrives, not, occupied_squares, off_left, off_right, off_zero, other, reaches_as, refl, rules, same_kind, same_kind-true, squares, squares_for, sym, true, true_from_ne_false, w64, word, ℕ, ◌<◌, ◌==◌, ◌^◌, ◌∙◌, ◌≡◌}
 use Rattle.chess_mates.specs.declared.guards.Guards.{Guards}
 use Rattle.chess_mates.proofs.Hurdles.{on_one, reached_is}
 use Rattle.chess_mates.proofs.KindByKind.{man_is, of_all}
 use Rattle.chess_mates.proofs.CheckTargets.{last_rank_on}
 use Rattle.chess_mates.proofs.LastingFlights.{on_both}
 use Rattle.chess_mates.proofs.Standing.{no_hopper}
-use Rattle.chess_mates.specs.ties.LastingFlights as Flights
+use Rattle.chess_rules.specs.ties.Targets.{AreReached}
 
 -- no square is one of none
 pub none_at : (w s : ℕ) → w ≡ 0 → (bit_at w s == 1) ≡ true → ⊥
@@ -77,7 +77,7 @@ abbrev Both : Risk → Risk → Risk
 Both q r = record { critical = bit_or q.critical r.critical; lines = bit_or q.lines r.lines }
 
 -- a man who doesn't reach the region on the empty board
-pub not_near : (x : Man) (s o region : ℕ) → Flights.AreReached x s o → bit_and o region ≡ 0 → IsNear x s region → ⊥
+pub not_near : (x : Man) (s o region : ℕ) → AreReached x s o → bit_and o region ≡ 0 → IsNear x s region → ⊥
 not_near x s o region reached none near =
     none_at (bit_and o region) near.square none (on_both o region near.square (reached.inside near.men near.square near.small near.reaches) near.on)
 
@@ -108,7 +108,7 @@ check_lines d k w x j kind plain h = record {
 }
 
 -- of a grasshopper by those from which he might come
-pub check_hops : (d k w : ℕ) (x : Man) → same_kind x.kind Grasshopper ≡ true → Flights.AreApproached x k w → IsCheckWord d k x w
+pub check_hops : (d k w : ℕ) (x : Man) → same_kind x.kind Grasshopper ≡ true → AreApproached x k w → IsCheckWord d k x w
 check_hops d k w x kind are = search (rules, same_kind-true)
 
 -- each attacker, kind by kind

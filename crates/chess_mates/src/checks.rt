@@ -12,13 +12,13 @@ ghost use Rattle.chess_rules.specs.Legal.{is_legal, is_pseudo_legal};
 ghost use Rattle.chess_rules.specs.Play.{position_after};
 ghost use Rattle.chess_rules.specs.RuleSet.{captures_do_more};
 
-use crate::open_board::open_targets;
 use chess_core::board::Board;
 use chess_core::man::{Colour, Kind, Man, Move};
 use chess_core::square::{Square, Squares};
 use chess_rules::evasions::eventful_captures;
 use chess_rules::leaps::squares_aside;
 use chess_rules::lines::occupied;
+use chess_rules::open_board::open_targets;
 use chess_rules::outward::comes_as;
 use chess_rules::rules::{Orthodox, Rules};
 use chess_rules::shields::{cannot_expose, fairy_lines, safety_seen};

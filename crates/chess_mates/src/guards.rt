@@ -6,10 +6,10 @@ ghost use Rattle.chess_mates.specs.ties.Attackers.{IsAttacker};
 ghost use Rattle.chess_mates.specs.ties.Siege.{AreGuardsWithout, AreReached, IsAttackedOver, IsNear, IsReached, IsReachedFrom, is_leaper, is_rider, reached_over};
 
 use crate::attackers::Attackers;
-use crate::open_board::open_reach;
 use crate::siege::Siege;
 use chess_core::man::{Colour, Kind, Man};
 use chess_core::square::{Square, Squares};
+use chess_rules::open_board::open_reach;
 use chess_rules::reach::reach_over;
 use chess_rules::words::{next_bit, only};
 
@@ -21,7 +21,7 @@ pub(crate) struct Guards {
 }
 
 // The squares that the man on `from` reaches over the hurdles.
-#[tactic(auto, using(crate::proofs::Hurdles::occupied_on, crate::proofs::Hurdles::reached_is, chess_rules::proofs::Bits::word_has), unfolding(crate::specs::ties::Siege::reached_over))]
+#[tactic(auto, using(chess_rules::proofs::rays::OnSquares::occupied_on, crate::proofs::Hurdles::reached_is, chess_rules::proofs::Bits::word_has), unfolding(crate::specs::ties::Siege::reached_over))]
 pub(crate) fn reach_from(hurdles: Squares, man: Man, from: Square) -> Squares
     ensures all { IsReached hurdles man from result }
     ensures alone { (t : ℕ) → t < 64 → (bit_at result t == 1) ≡ true

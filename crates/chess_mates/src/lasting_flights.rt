@@ -6,16 +6,16 @@ ghost use Rattle.chess_core.specs.Position.{same_kind};
 ghost use Rattle.chess_core.specs.SquareNames.{e1, e8};
 ghost use Rattle.chess_core.specs.declared.man.Kind.TheVariants.{King};
 ghost use Rattle.chess_core.specs.declared.man.Man.{Man};
-ghost use Rattle.chess_mates.specs.ties.LastingFlights.{AreApproached, AreGuarded, AreReached, IsLeft, KeepsOne, LeaveOne, LeavesOne};
+ghost use Rattle.chess_mates.specs.ties.LastingFlights.{AreApproached, AreGuarded, IsLeft, KeepsOne, LeaveOne, LeavesOne};
 ghost use Rattle.chess_rules.specs.ties.Sight.{king_after};
-ghost use Rattle.chess_rules.specs.ties.Targets.{is_promoting};
+ghost use Rattle.chess_rules.specs.ties.Targets.{AreReached, is_promoting};
 
 use crate::attackers::Attackers;
-use crate::open_board::{open_reach, open_targets};
 use chess_core::board::Board;
 use chess_core::man::{Colour, Kind, Man, Move};
 use chess_core::square::{Square, Squares};
 use chess_rules::words::{contains, highest, next_bit, only};
+use chess_rules::open_board::{open_reach, open_targets};
 
 // Those that the men of this kind reach so, who stand on the squares of a word.
 #[tactic(auto, using(chess_rules::proofs::HoldBelow::hold_all, chess_rules::proofs::HoldBelow::hold_none, crate::proofs::Risks::none_on))]

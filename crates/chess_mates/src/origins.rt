@@ -8,10 +8,11 @@ ghost use Rattle.chess_core.specs.declared.man.Kind.TheVariants.{King};
 ghost use Rattle.chess_mates.specs.ties.CheckSquares.{AreCheckOrigins, AreCheckSquares, AreCheckTargets, own_man};
 
 use crate::checks::{CheckSquares, may_check_from_everywhere, targets_off_shields};
-use crate::open_board::{open_targets, pawns_before};
+use crate::pawn_approaches::pawns_before;
 use chess_core::board::Board;
 use chess_core::man::{Kind, Man};
 use chess_core::square::{Square, Squares};
+use chess_rules::open_board::open_targets;
 use chess_rules::rules::Rules;
 use chess_rules::words::{next_bit, only};
 

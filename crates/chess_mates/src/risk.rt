@@ -18,10 +18,11 @@ use crate::field::{
 use crate::guards::{Guards, guards_without, reach_from, ridden_squares};
 use crate::hopped_flights::{critical_of_hops, later_hurdles};
 use crate::lasting_flights::open_approaches;
-use crate::open_board::{open_reach, open_targets, pawns_before};
+use crate::pawn_approaches::pawns_before;
 use crate::siege::{Siege, lifted_from};
 use chess_core::man::{Colour, Kind, Man};
 use chess_core::square::{Square, Squares};
+use chess_rules::open_board::{open_reach, open_targets};
 use chess_rules::reach::reach_over;
 use chess_rules::words::{contains, next_bit, only};
 

@@ -14,7 +14,7 @@ ghost use Rattle.chess_rules.specs.RuleSet.{captures_do_more};
 ghost use Rattle.chess_rules.specs.ties.Targets.{may_go};
 
 use crate::field::{needed_squares, open_guards};
-use crate::open_board::capturers_before;
+use crate::pawn_approaches::capturers_before;
 use crate::risk::{LAST_RANKS, Risk, RiskBehind, critical_from, kept_risk};
 use crate::siege::{Siege, is_of, siege_of};
 use crate::steps::{ToldSteps, exact_steps, kept_risky_steps};

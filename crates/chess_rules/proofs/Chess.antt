@@ -43,7 +43,7 @@ pub use Rattle.chess_rules.specs.declared.lines.Direction.TheVariants.{East, Eas
 pub use Rattle.chess_rules.specs.declared.shields.RiderLines.TheVariants.{Diagonal, Straight}
 pub use Rattle.chess_rules.specs.ties.Evasions.{AreEvasions, AreEvasionsFrom, has_fairy_lines_of, is_evasion, IsNoEvasion}
 pub use Rattle.chess_rules.specs.ties.Idle.{is_legal-idle, is_wanted-idle}
-pub use Rattle.chess_rules.specs.ties.Lines.{IsStop, direction_number, flat_steps, is_advance, is_two_files_aside, occupied_squares, place, passing_order_by, steep_steps, step_of}
+pub use Rattle.chess_rules.specs.ties.Lines.{IsStop, direction_number, flat_steps, is_advance, is_two_files_aside, men_on, occupied_squares, place, passing_order_by, steep_steps, step_of}
 unfoldable pub use Rattle.chess_rules.specs.ties.Lines.{is_ahead, is_on_some, ray, rises}
 unfoldable pub use Rattle.chess_rules.specs.ties.Outward.{hopped_from, rides_on, is_met}
 pub use Rattle.chess_rules.specs.ties.Outward.{is_fairy_man, is_leaping_man}
@@ -54,7 +54,7 @@ pub use Rattle.chess_rules.specs.ties.Shields.{has_fairy_lines, is_fairy, AreRid
 unfoldable pub use Rattle.chess_rules.specs.ties.Shields.{has_fairy, is_behind, is_checker, is_on_fairy_line, is_plain, is_reached, is_shut, may_expose, may_stand_between, cannot_expose}
 pub use Rattle.chess_rules.specs.ties.Sifting.{AreSifted, IsSifted, is_of_others, is_wanted}
 pub use Rattle.chess_rules.specs.ties.Sight.{AreArrived, AreOthers, AreSeen, is_arriving_as, is_simple, king_after, own_after, sight_after}
-pub use Rattle.chess_rules.specs.ties.Targets.{AreCandidates, AreKept, AreOrigins, IsAimed, is_promoting, is_arrival_of, passes_to, pawn_goes}
+pub use Rattle.chess_rules.specs.ties.Targets.{AreCandidates, AreKept, AreOrigins, IsAimed, is_promoting, is_arrival_of, passes_to, pawn_goes, AreReached}
 unfoldable pub use Rattle.chess_rules.specs.ties.Targets.{is_arrival, may_go, steps_to}
 pub use Rattle.chess_rules.specs.ties.Undoing.{CanReturn, leaving_man, return_square}
 unfoldable pub use Rattle.chess_rules.specs.ties.Undoing.{before_by, returned_men, uncastled_men}

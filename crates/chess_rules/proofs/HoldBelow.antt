@@ -1,5 +1,5 @@
 -- Loops over the squares of a word.
-use Rattle.chess_rules.proofs.Basics.{None, Option, Some, arith, bit_at, cases_eq, cases_lt, false≢true, find, inl, inr, range_with_len, subst, sym, true, ℕ, ◌+◌, ◌-◌, ◌<◌, ◌==◌, ◌∙◌, ◌≡◌}
+use Rattle.chess_rules.proofs.Basics.{None, Option, Some, arith, bit_at, cases_eq, cases_lt, false≢true, find, inl, inr, range_with_len, sym, true, ℕ, ◌+◌, ◌-◌, ◌<◌, ◌==◌, ◌∙◌, ◌≡◌}
 use Rattle.chess_rules.proofs.Chess.{find_first}
 use Rattle.chess_rules.proofs.Tests.{find_no}
 

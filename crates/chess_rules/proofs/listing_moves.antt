@@ -4,6 +4,7 @@ pub mod Members
 pub mod Places
 pub mod Walks
 pub mod Arrivals
+pub mod OpenBoard
 pub mod Calls
 pub mod Between
 pub mod Counting

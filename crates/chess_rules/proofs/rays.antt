@@ -2,6 +2,7 @@
 pub mod HopWords
 pub mod Ends
 pub mod Ways
+pub mod OnSquares
 pub mod Ahead
 pub mod Computed
 pub mod Stopping

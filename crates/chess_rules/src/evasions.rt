@@ -12,6 +12,7 @@ ghost use Rattle.chess_rules.specs.RuleSet.{captures_do_more};
 
 use crate::exposure::exposes;
 use crate::lines::occupied;
+use crate::open_board::open_targets;
 use crate::reach::reach_as;
 use crate::rules::Rules;
 use crate::shields::{cannot_expose, has_fairy_lines, is_plain};
@@ -89,8 +90,9 @@ pub fn eventful_captures<R: Rules>(board: &Board) -> Squares
     }
 }
 
-// The squares to which the man on `from` must go to leave no check to its king: all of them where none is
-// seen. `evasion_squares` are those to which another man than the king may go that ends it.
+// The squares to which the man on `from` must go to leave no check to its king, and to which he might go, were
+// the others gone: all squares where no check is seen, and for the king. `evasion_squares` are those to which
+// another man than the king may go that ends it.
 #[tactic(auto, using(crate::proofs::attacks::EvasionTargets::evasions_from_all, crate::proofs::attacks::EvasionTargets::evasions_from_some, crate::proofs::listing_moves::Targeting::nobody_moves))]
 pub(crate) fn evasions_from<R: Rules>(
     board: &Board,
@@ -112,7 +114,8 @@ pub(crate) fn evasions_from<R: Rules>(
     if man.kind.is(Kind::King) {
         return !0;
     }
-    evasion_squares | only(board.crossed()) | eventful_captures::<R>(board)
+    open_targets(man, from)
+        & (evasion_squares | only(board.crossed()) | eventful_captures::<R>(board))
 }
 
 // Whether the mover isn't in check after the move; `squares` are those from which one may expose its

@@ -312,5 +312,9 @@ pub(crate) fn candidates<R: Rules>(board: &Board, evasion_squares: Squares, from
     requires evasion_squares { AreEvasions R.rule board.now.men board.now.turn evasion_squares }
     ensures { AreCandidates R.rule board.now (is_legal R.rule board.now) from result }
 {
-    arrivals::<R>(board, from) & evasions_from::<R>(board, evasion_squares, from)
+    let evasions = evasions_from::<R>(board, evasion_squares, from);
+    if evasions == 0 {
+        return 0;
+    }
+    arrivals::<R>(board, from) & evasions
 }

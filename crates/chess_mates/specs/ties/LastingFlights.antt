@@ -12,15 +12,9 @@ use Rattle.chess_core.specs.declared.man.Move.{Move}
 use Rattle.chess_mates.specs.declared.attackers.Attackers.{Attackers}
 use Rattle.chess_mates.specs.ties.Attackers.{IsAttacker}
 use Rattle.chess_rules.specs.Reaches.{leaps, reaches_as}
-use Rattle.chess_rules.specs.ties.Targets.{is_promoting, may_go}
+use Rattle.chess_rules.specs.ties.Targets.{AreReached, is_promoting, may_go}
 
--- the word has each square that x on s reaches, whoever else stands on the board
-pub record AreReached (x : Man) (s w : ℕ) : Type 0 where
-  pub inside : (men : List (Option Man)) (t : ℕ) → t < 64
-      → reaches_as men x.colour x.kind s t ≡ true
-      → (bit_at w t == 1) ≡ true
-
--- it has each square from which x reaches t, whoever else stands on the board
+-- the word has each square from which x reaches t, whoever else stands on the board
 pub record AreApproached (x : Man) (t w : ℕ) : Type 0 where
   pub inside : (men : List (Option Man)) (s : ℕ) → s < 64
       → reaches_as men x.colour x.kind s t ≡ true

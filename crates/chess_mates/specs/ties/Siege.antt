@@ -1,14 +1,13 @@
 -- A king's siege, told over hurdles: the squares of all men but the king (own).
-use Rattle.std.specs.Prelude.{◌≡◌, ◌≢◌, ◌<◌, ◌==◌, ◌⊎◌, ◌+◌, ◌-◌, ℕ, Bool, true, false, List, Option, Some, None, is_some, map, if◌then◌else◌}
+use Rattle.std.specs.Prelude.{◌≡◌, ◌≢◌, ◌<◌, ◌==◌, ◌⊎◌, ◌+◌, ◌-◌, ℕ, Bool, true, false, List, Option, Some, is_some}
 use Rattle.std.specs.Int.{bit_at}
 use Rattle.std.specs.Int.Bits.{bit_and}
 use Rattle.std.specs.List.{list_any}
 use Rattle.chess_core.specs.Castling.{has_unmoved}
 use Rattle.chess_core.specs.Position.{Position, is_fairy, is_man, is_of_colour, king_square, man_on, other, same_kind}
-use Rattle.chess_core.specs.Squares.{file_of, squares}
+use Rattle.chess_core.specs.Squares.{file_of}
 use Rattle.chess_core.specs.Steps.{gait_of, is_hopper, queen_steps, straight_steps}
 use Rattle.chess_core.specs.declared.man.Colour.{Colour}
-use Rattle.chess_core.specs.declared.man.Colour.TheVariants.{White}
 use Rattle.chess_core.specs.declared.man.Kind.{Kind}
 use Rattle.chess_core.specs.declared.man.Kind.TheVariants.{King, Queen, Rook, Bishop, Knight, Pawn, Nightrider}
 use Rattle.chess_core.specs.declared.man.Man.{Man}
@@ -25,16 +24,10 @@ use Rattle.chess_mates.specs.ties.LastingFlights.{AreApproached, IsLeft, KeepsOn
 use Rattle.chess_rules.specs.Play.{rebirth}
 use Rattle.chess_rules.specs.Reaches.{leaps, reaches_as}
 use Rattle.chess_rules.specs.RuleSet.{RuleSet, captures_do_more, faced_men_stand_still}
-use Rattle.chess_rules.specs.ties.Lines.{is_on_some}
+use Rattle.chess_rules.specs.ties.Lines.{is_on_some, men_on}
 use Rattle.chess_rules.specs.ties.Targets.{is_promoting, may_go}
 
--- a man on each square of the word, and on no other
-abbrev pub men_on : ℕ → List (Option Man)
-men_on d =
-    map (λ s. if bit_at d s == 1 then Some (record { colour = White; kind = Pawn }) else None)
-    squares
-
--- x on s reaches t over such men
+-- x on s reaches t over men on the squares of the word alone
 unfoldable pub reached_over : ℕ → Man → ℕ → ℕ → Bool
 reached_over d x s t = reaches_as (men_on d) x.colour x.kind s t
 

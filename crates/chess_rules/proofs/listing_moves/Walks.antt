@@ -134,4 +134,4 @@ unfolding is_legal
 evasions_elsewhere rule p s w h m at small may off = and_right (is_pseudo_legal rule p m) _ (ap not (h.elsewhere m at small may off))
 
 -- for the candidates of one origin
-pub ruleset legal_candidates = (candidates, evasions_elsewhere, is_legal-idle)
+pub ruleset legal_candidates = (candidates, no_candidates, evasions_elsewhere, is_legal-idle)

@@ -1,13 +1,15 @@
 -- Lines on the empty board, and the order in which they pass squares (own).
-use Rattle.std.specs.Prelude.{ℕ, ◌+◌, ◌-◌, ◌*◌, ◌≡◌, ◌<◌, ◌≤◌, Bool, true, false, ◌||◌, nat_le, List, [], ◌∷◌, Option, is_some}
+use Rattle.std.specs.Prelude.{ℕ, ◌+◌, ◌-◌, ◌*◌, ◌≡◌, ◌<◌, ◌≤◌, ◌==◌, Bool, true, false, ◌||◌, nat_le, List, [], ◌∷◌, Option, Some, None, is_some, map, if◌then◌else◌}
 use Rattle.std.specs.Int.{bit_at}
 use Rattle.std.specs.List.{list_any, range_with_len}
 use Rattle.chess_core.specs.Position.{man_on}
-use Rattle.chess_core.specs.Squares.{is_square}
+use Rattle.chess_core.specs.Squares.{is_square, squares}
 use Rattle.chess_core.specs.Steps.{along, step_by}
 use Rattle.chess_core.specs.ties.Words.{word}
 use Rattle.chess_core.specs.declared.step.Step.{Step}
 use Rattle.chess_core.specs.declared.man.Colour.{Colour}
+use Rattle.chess_core.specs.declared.man.Colour.TheVariants.{White}
+use Rattle.chess_core.specs.declared.man.Kind.TheVariants.{Pawn}
 use Rattle.chess_core.specs.declared.man.Man.{Man}
 use Rattle.chess_rules.specs.Legal.{forward}
 use Rattle.chess_rules.specs.declared.lines.Direction.{Direction}
@@ -35,6 +37,12 @@ step_of WestSouthWest = step_by 0 2 0 1
 -- the squares on which men stand
 abbrev pub occupied_squares : List (Option Man) → ℕ
 occupied_squares men = word (λ s. is_some (man_on men s))
+
+-- a man on each square of the word, and on no other
+abbrev pub men_on : ℕ → List (Option Man)
+men_on d =
+    map (λ s. if bit_at d s == 1 then Some (record { colour = White; kind = Pawn }) else None)
+    squares
 
 -- the knight's steps of two ranks
 abbrev pub steep_steps : List Step

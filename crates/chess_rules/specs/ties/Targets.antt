@@ -1,5 +1,5 @@
 -- Where a man may go, and stretches of triples in which no move is found (own).
-use Rattle.std.specs.Prelude.{◌≡◌, ℕ, ◌<◌, Bool, false, true, not, ◌&&◌, ◌||◌, ◌==◌, Option, Some, None, is_some, if◌then◌else◌}
+use Rattle.std.specs.Prelude.{◌≡◌, ℕ, ◌<◌, Bool, false, true, not, ◌&&◌, ◌||◌, ◌==◌, List, Option, Some, None, is_some, if◌then◌else◌}
 use Rattle.std.specs.Int.{bit_at}
 use Rattle.chess_core.specs.Castling.{has_unmoved}
 use Rattle.chess_core.specs.Position.{Position, man_on, same_colour, same_kind}
@@ -33,6 +33,12 @@ may_go p x s t =
     if same_kind x.kind Pawn then (reaches_as p.men x.colour x.kind s t
     && (is_some (man_on p.men t) || is_square p.crossed t)) || pawn_goes p x s t
     else reaches_as p.men x.colour x.kind s t || (has_unmoved p.unmoved s && steps_to x s t)
+
+-- the word has each square that x on s reaches, whoever else stands on the board
+pub record AreReached (x : Man) (s w : ℕ) : Type 0 where
+  pub inside : (men : List (Option Man)) (t : ℕ) → t < 64
+      → reaches_as men x.colour x.kind s t ≡ true
+      → (bit_at w t == 1) ≡ true
 
 -- this man, if there is one, is the mover's, isn't paralysed and goes to t, where no man of the mover and
 -- no king stands

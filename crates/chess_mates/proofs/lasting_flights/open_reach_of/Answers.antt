@@ -1,6 +1,6 @@
 use Rattle.chess_mates.proofs.Chess.{Man, hold_map, hold_on}
 use Rattle.chess_mates.proofs.LastingFlights.{reached_left, reached_right}
-use Rattle.chess_mates.specs.ties.LastingFlights.{AreReached}
+use Rattle.chess_rules.specs.ties.Targets.{AreReached}
 use Rattle.chess_mates.proofs.lasting_flights.open_reach_of.Goals as goal
 
 pub loop-from-preserved : goal.loop-from-preserved

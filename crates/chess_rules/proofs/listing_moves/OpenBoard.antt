@@ -1,7 +1,8 @@
 -- Where a man goes, he might go whoever else stood on the board.
-use Rattle.chess_mates.proofs.Chess.{Bool, Grasshopper, Kind, King, Leaper, List, Man, Nightrider, Option, Pawn, Position, Queen, Rider, and_parts, arith, bit_at, bit_or, cond-false, cond-true, diagonal_steps, false, false≢true, gait_of, goes_on, inl, inr, is_advance, is_on_some, kind_steps, leaps, list_any, list_any-append, may_go, men_on, no_steps, occupied_squares, on_left, on_right, or_cases, reached_over, reaches_as, refl, rides, rules, same_kind, steps_to, straight_steps, sym, true, word, word_has, ℕ, ◌&&◌, ◌<◌, ◌==◌, ◌||◌, ◌∙◌, ◌≡◌}
-use Rattle.chess_mates.proofs.Hurdles.{hops_openly, openly, reached_is}
-use Rattle.chess_mates.specs.ties.LastingFlights.{AreReached}
+use Rattle.chess_rules.proofs.Chess.{Bool, Grasshopper, Kind, King, Leaper, List, Man, Nightrider, Option, Pawn, Position, Queen, Rider, and_parts, arith, bit_at, bit_or, cond-false, cond-true, diagonal_steps, false, false≢true, gait_of, inl, inr, is_advance, is_on_some, kind_steps, leaps, list_any, list_any-append, may_go, men_on, AreReached, occupied_squares, on_left, on_right, or_cases, reaches_as, refl, rides, rules, same_kind, steps_to, straight_steps, sym, true, word, word_has, ℕ, ◌&&◌, ◌<◌, ◌==◌, ◌||◌, ◌∙◌, ◌≡◌}
+use Rattle.chess_rules.proofs.attacks.Attacking.{goes_on}
+use Rattle.chess_rules.proofs.listing_moves.Arrivals.{no_steps}
+use Rattle.chess_rules.proofs.rays.OnSquares.{hops_openly, occupied_on, rides_openly}
 
 -- who rides to a square is on a line with it
 pub rides_on : (men : List (Option Man)) (s t : ℕ) (ds : List _) → list_any (rides men s t) ds ≡ true → is_on_some ds s t ≡ true
@@ -38,10 +39,10 @@ module _ (x : Man) (s : ℕ) where
   -- a nightrider's, over no hurdle
   pub nightrider_reach : (w : ℕ) → x.kind ≡ Nightrider
       → ((men : List (Option Man)) → 0 ≡ occupied_squares men → w ≡ word (reaches_as men x.colour Nightrider s)) → AreReached x s w
-  unfolding reached_over
-  nightrider_reach w kind h =
-      let over = reached_is 0 (record { colour = x.colour; kind = Nightrider }) s w (omega arith) h in
-      search (rules, over.inside, openly)
+  nightrider_reach w kind h = record {
+    inside = λ men t small reached. word_has (reaches_as (men_on 0) x.colour Nightrider s) w t (h (men_on 0) (occupied_on 0 (omega arith))) small
+        ∙ rides_openly men x.colour s t (rw kind at reached);
+  }
 
 -- a grasshopper's, a queen's
 pub grasshopper_reach : (x : Man) (s l d : ℕ) → x.kind ≡ Grasshopper → l ≡ word (is_on_some straight_steps s) → d ≡ word (is_on_some diagonal_steps s)
