@@ -57,7 +57,7 @@ module _ (men : List (Option Man)) (d f s n : ℕ) (near : n ≡ word (λ q. lis
             let p = passes s f e k j low (omega (arith, hi)) r.at in
             let q = p.0 in
             let off = far x q f (k - j) p.1.small (omega (arith, hi)) (omega (arith, r.high, lo)) (end j q (omega (arith, hi)) p.1.at) in
-            rw p.1.at (empty_on (bit_and d n) men q (λ on small. false≢true (sym off
+            rw p.1.at (empty_on (bit_and d n) q (λ on small. false≢true (sym off
             ∙ sym (word_has (λ q. list_any (leaps f q) queen_steps) n q near p.1.small) ∙ on_second d n q on)));
       }
 
