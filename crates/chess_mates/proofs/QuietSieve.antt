@@ -1,12 +1,11 @@
 -- Quiet steps of the enemy king told for all moves of a man: the others reach no more than with both lifted.
-use Rattle.chess_mates.proofs.Chess.{AreApproached, AreOpen, AreSeen, Black, Colour, Grasshopper, IsSeenFrom, IsWellFormed, Kind, King, List, Man, Move, None, Option, Pawn, Position, RuleSet, Some, StandAlike, White, after_well_formed, and_from, and_left, and_parts, and_right, ap, arith, arrived, arriving_man, attacked_plainly, bit_and, bit_at, bit_not, bit_or, capture_square, captures_do_more, cases_Bool, cases_eq, cases_lt, cond-false, cond-true, eq-eqb, eqb-true, every_square_on, false, false_by, false_from_ne_true, false≢true, gait_of, in_check, inl, inr, is_hopper, is_legal, is_man, is_of_colour, is_open, is_promoting, is_reached, is_simple, is_some, is_square, kept_now, king_after, king_is_after, king_is_no_pawn, king_square, leaps, left_now, legal_moves_are_triples, length, list_any, man_on, man_on-without_other, man_on-without_same, men_on, no_pawn_arrives, no_reach_there, not, not_attacked, occupied_now, occupied_squares, off_left, off_right, off_zero, on_first, or_cases, or_parts, other, other_twice, pawn_is_no_king, position_after, queen_steps, reaches, reaches_alike, reaches_as, refl, rules, same_colour, same_kind, side_of, some_square_false, some_square_true, square_is, squares_both, squares_either, squares_not, squares_of, sym, there_now, true, w64, ways, without_man, word, word_has, ℕ, ◌&&◌, ◌<◌, ◌==◌, ◌^◌, ◌||◌, ◌∙◌, ◌≡◌, ◌≢◌, ◌⊎◌}
+use Rattle.chess_mates.proofs.Chess.{AreApproached, AreOpen, AreSeen, Black, Colour, Grasshopper, IsSeenFrom, IsWellFormed, Kind, King, List, Man, Move, None, Option, Position, RuleSet, Some, StandAlike, White, after_well_formed, and_from, and_right, ap, arith, arrived, arriving_man, attacked_plainly, bit_and, bit_at, bit_not, bit_or, capture_square, captures_do_more, cases_Bool, cases_eq, cases_lt, cond-false, cond-true, eq-eqb, eqb-true, every_square_on, false, false_from_ne_true, false≢true, gait_of, in_check, inl, inr, is_hopper, is_legal, is_man, is_of_colour, is_open, is_promoting, is_reached, is_simple, is_some, is_square, kept_now, king_after, king_is_after, king_is_no_pawn, king_square, leaps, left_now, legal_moves_are_triples, length, list_any, man_on, man_on-without_other, man_on-without_same, men_on, no_pawn_arrives, no_reach_there, not, not_attacked, occupied_now, occupied_squares, off_left, off_right, off_zero, on_first, or_cases, or_parts, other, other_twice, position_after, queen_steps, reaches, reaches_alike, reaches_as, refl, rules, same_colour, same_kind, side_of, some_square_false, some_square_true, squares_both, squares_either, squares_not, squares_of, sym, there_now, true, w64, ways, without_man, word, word_has, ℕ, ◌&&◌, ◌<◌, ◌==◌, ◌^◌, ◌||◌, ◌∙◌, ◌≡◌, ◌≢◌, ◌⊎◌}
 use Rattle.chess_mates.proofs.Barring.{beyond}
 use Rattle.chess_mates.proofs.CalmSteps.{apart, calm, seen_from}
-use Rattle.chess_mates.proofs.CheckTargets.{last_rank_on}
 use Rattle.chess_mates.proofs.Fleeing.{IsKingOn, after_seen, is_made, is_step, king_on, king_seen, men_stepped, on_second, reached_near, step_legal_is, step_taken, step_to, unseen_bit}
 use Rattle.chess_mates.proofs.Hurdles.{later_but}
 use Rattle.chess_rules.proofs.rays.OnSquares.{one_on, size_on}
-use Rattle.chess_mates.proofs.Standing.{captured_there, free_man, king_reaches, no_hopper, not_mine_enemy, unnamed}
+use Rattle.chess_mates.proofs.Standing.{captured_there, free_man, king_reaches, no_hopper, not_mine_enemy, some_stays, stays_there, unnamed}
 use Rattle.chess_mates.proofs.Stepping.{IsStep, on_flight, on_left, on_others, stands}
 use Rattle.chess_mates.specs.ties.QuietSteps.{AreQuiet, GoesSimply, IsStepLeft, NoneHops, must_reply_with_mate, sight_without}
 use Rattle.chess_mates.proofs.Passing.{on_denied}
@@ -106,13 +105,37 @@ module _ (rule : RuleSet) (p : Position) (m : Move) (x : Man) (k : ℕ) (i : IsS
   arrives : arriving_man x m.promo ≡ x
   arrives = grind (arith, unnamed p x m m.promo simply.unpromoted (is_made rule p m x k i).promotion)
 
+  nobody_left : is_some (man_on few k) ≡ true → ⊥
+  nobody_left some = grind (arith, lifted_here p.men m.from k k, eq-eqb)
+
+  -- before the king's step
+  abbrev after : List (Option Man)
+  after = arrived p x m
+
+  size_after : length after ≡ 64
+  size_after = rw (← after_seen rule p m x k i) ((after_well_formed rule p m i.well_formed i.pseudo).size)
+
+  stays_after : (q : ℕ) → is_some (man_on few q) ≡ true → is_some (man_on after q) ≡ true
+  stays_after q h =
+      grind (
+        arith,
+        some_stays p x m q simply.captures step.arrival,
+        lifted_here p.men m.from k q,
+        lifted_there p.men m.from k q,
+        cases_Bool (m.from == q || k == q),
+        or_parts,
+        eq-eqb,
+      )
+
+  stays_stepped : (q : ℕ) → q ≢ k → is_some (man_on after q) ≡ true → is_some (man_on now q) ≡ true
+  stays_stepped q off h =
+      let before = occupied_now p.men m.from caught m.to (arriving_man x m.promo) q step.arrival in
+      let stands = stands p.men m.from caught m.to (arriving_man x m.promo) k then f y q step.arrival step.flight step.taken in
+      grind (arith, stands, before, eqb-true k q, cases_Bool (k == q))
+
   -- on each square where a man still stands one stands then
   stays : (q : ℕ) → is_some (man_on few q) ≡ true → is_some (man_on now q) ≡ true
-  stays q h =
-      let here = lifted_here p.men m.from k q in
-      let same = lifted_there p.men m.from k q in
-      let stands = stands p.men m.from caught m.to (arriving_man x m.promo) k then f y q step.arrival step.flight step.taken in
-      grind (arith, stands, here, same, cases_Bool (m.from == q || k == q), cases_Bool (is_square caught q), simply.captures q, square_is, or_parts)
+  stays q h = stays_stepped q (λ e. nobody_left (rw e at h)) (stays_after q h)
 
   -- who stands somewhere has come there or stood there
   stood_then : (q : ℕ) (z : Man) → man_on now q ≡ Some z
@@ -135,9 +158,6 @@ module _ (rule : RuleSet) (p : Position) (m : Move) (x : Man) (k : ℕ) (i : IsS
   size_few : length few ≡ 64
   size_few = search (rules, i.well_formed.size)
 
-  nobody_left : is_some (man_on few k) ≡ true → ⊥
-  nobody_left some = grind (arith, lifted_here p.men m.from k k, eq-eqb)
-
   -- who stood before reaches no more
   no_more : (c : Colour) (e s : ℕ) (z : Man) → is_reached few e c ≡ false → s < 64 → man_on few s ≡ Some z → same_colour z.colour c ≡ true
       → reaches_as now z.colour z.kind s e ≡ false
@@ -151,43 +171,15 @@ module _ (rule : RuleSet) (p : Position) (m : Move) (x : Man) (k : ℕ) (i : IsS
   abbrev NoneReaches : Colour → ℕ → Type 0
   NoneReaches c e = (s : ℕ) (z : Man) → s < 64 → man_on few s ≡ Some z → same_colour z.colour c ≡ true → reaches_as now z.colour z.kind s e ≡ false
 
-  none_strikes : (c : Colour) (e s : ℕ) → NoneReaches c e → (same_colour y.colour c ≡ true → reaches now f e ≡ false)
-      → (same_colour x.colour c ≡ true → reaches_as now x.colour x.kind m.to e ≡ false) → s < 64 → (is_of_colour (man_on now s) c && reaches now s e) ≡ false
-  unfolding reaches
-  none_strikes c e s others apart_y apart_x lt = grind (arith, stood_then s, others s)
-
   -- whom neither he nor the king reaches now, nor who stood before, nobody reaches
   reached : (c : Colour) (e : ℕ) → NoneReaches c e → (same_colour y.colour c ≡ true → reaches now f e ≡ false)
       → (same_colour x.colour c ≡ true → reaches_as now x.colour x.kind m.to e ≡ false) → is_reached now e c ≡ false
-  unfolding is_reached
-  reached c e others apart_y apart_x = some_square_false _ 64 (omega arith) (record { fails = λ s lt. none_strikes c e s others apart_y apart_x lt })
-
-  -- before the king's step
-  abbrev after : List (Option Man)
-  after = arrived p x m
-
-  size_after : length after ≡ 64
-  size_after = rw (← after_seen rule p m x k i) ((after_well_formed rule p m i.well_formed i.pseudo).size)
-
-  stays_after : (q : ℕ) → is_some (man_on few q) ≡ true → is_some (man_on after q) ≡ true
-  stays_after q h =
-      let here = lifted_here p.men m.from k q in
-      let same = lifted_there p.men m.from k q in
-      let stands = occupied_now p.men m.from caught m.to (arriving_man x m.promo) q step.arrival in
-      grind (arith, stands, here, same, cases_Bool (m.from == q || k == q), cases_Bool (is_square caught q), simply.captures q, square_is, or_parts)
-
-  stays_stepped : (q : ℕ) → q ≢ k → is_some (man_on after q) ≡ true → is_some (man_on now q) ≡ true
-  stays_stepped q off h =
-      let before = occupied_now p.men m.from caught m.to (arriving_man x m.promo) q step.arrival in
-      let stands = stands p.men m.from caught m.to (arriving_man x m.promo) k then f y q step.arrival step.flight step.taken in
-      grind (arith, stands, before, eqb-true k q, cases_Bool (k == q))
+  unfolding is_reached reaches
+  reached c e others apart_y apart_x = some_square_false _ 64 (omega arith) (record { fails = λ s lt. grind (arith, stood_then s, others s) })
 
   stands_after : (q : ℕ) (z : Man) → man_on few q ≡ Some z → q ≢ m.to → man_on after q ≡ Some z
   stands_after q z h off =
-      let here = lifted_here p.men m.from k q in
-      let same = lifted_there p.men m.from k q in
-      let gone = cases_Bool (m.from == q || is_square caught q) in
-      grind (arith, here, same, cases_Bool (m.from == q || k == q), gone, kept_now, simply.captures q, square_is, or_parts, or_cases)
+      stays_there p x m q simply.captures (λ e. grind (arith, lifted_here p.men m.from k q, eq-eqb)) off ∙ stood_before q z h
 
   -- where men don't stand still no check is uncovered by who doesn't reach the square that the king leaves
   none_uncovers : faced_men_stand_still rule ≡ false → is_legal rule p m ≡ true → king_after p x m ≡ Some m.to
@@ -275,11 +267,7 @@ no_grasshopper men w b white black empty = record {
       no_hopper x.kind plain;
 }
 
--- for the squares to which a man castles or is promoted
-pub pawn_arrivals : (x : Man) (m : Move) → same_kind x.kind Pawn ≡ true → m.to < 64 → (bit_at 18374686479671623935 m.to == 1) ≡ false
-    → (is_castling x m ≡ false) × (is_promoting x m.to ≡ false)
-pawn_arrivals x m pawn small off = search (rules, and_left, pawn_is_no_king, false_by, and_parts, last_rank_on, false≢true)
-
+-- for the squares to which a king castles
 pub king_arrivals : (x : Man) (m : Move) (n : ℕ) → same_kind x.kind King ≡ true → m.from < 64 → m.to < 64
     → n ≡ word (λ t. list_any (leaps m.from t) queen_steps) → n < 2 ^ 64 → (bit_at (bit_not w64 n) m.to == 1) ≡ false
     → (is_castling x m ≡ false) × (is_promoting x m.to ≡ false)
@@ -288,10 +276,6 @@ king_arrivals x m n king from small near fits off =
       grind (arith, steps, on_denied n m.to fits small off, king_step_is_no_castling m.from m.to from small),
       no_pawn_arrives x m.to (king_is_no_pawn x.kind king),
     )
-
-pub other_arrivals : (x : Man) (m : Move) → same_kind x.kind Pawn ≡ false → same_kind x.kind King ≡ false
-    → (is_castling x m ≡ false) × (is_promoting x m.to ≡ false)
-other_arrivals x m piece mortal = search (rules, and_left, no_pawn_arrives)
 
 -- for those to which a man may not simply go
 pub goes_simply : (rule : RuleSet) (p : Position) (x : Man) (m : Move) (o q c : ℕ) → o ≡ word (is_square p.crossed)
