@@ -32,33 +32,38 @@ module _ (men : List (Option Man)) (d f s n : ℕ) (near : n ≡ word (λ q. lis
   abbrev Over : List (Option Man)
   Over = men_on (bit_and d n)
 
+  next_has : (h : ℕ) → h < 64 → (bit_at n h == 1) ≡ list_any (leaps f h) queen_steps
+  next_has h small = word_has (λ q. list_any (leaps f q) queen_steps) n h near small
+
   hop_at : (x : Direction) → ((g : Step → Bool) → g (step_of x) ≡ true → list_any g queen_steps ≡ true) → (k : ℕ) → Hop men s f (step_of x) k
       → Hop Over s f (step_of x) k
   unfolding leaps
   hop_at x some k r =
       let e = step_of x in
-      let end : (j q : ℕ) → j < k → along s e j ≡ Some q → along q e (k - j) ≡ Some f = λ j q lt at.
-      onward s q e j (k - j) at ∙ ap (along s e) (omega (arith, lt)) ∙ r.at in
+      let p = λ (j : ℕ) (lt : j < k). passes s f e k j low (omega (arith, lt)) r.at in
       record {
         low = r.low;
         high = r.high;
         at = r.at;
         hurdle =
-            let p = passes s f e k (k - 1) low (omega arith) r.at in
-            let q = p.0 in
-            let one : k - (k - 1) ≡ 1 = omega (arith, r.low) in
-            let step : along q e 1 ≡ Some f = ap (along q e) (sym one) ∙ end (k - 1) q (omega (arith, r.low)) p.1.at in
-            let beside : list_any (leaps f q) queen_steps ≡ true =
-            sym (king-back q f p.1.small inside) ∙ some (leaps q f) (rw step (eq-eqb f f refl)) in
-            let apart : q ≢ s = λ same. not_yet s q e (k - 1) 0 (ordered x) p.1.at (omega (arith, r.low)) (stays s e low ∙ ap Some (sym same)) in
-            rw p.1.at (one_on (bit_and d n) q p.1.small ∙ on_both d n q (kept q p.1.small apart beside (rw p.1.at at r.hurdle))
-            (word_has (λ q. list_any (leaps f q) queen_steps) n q near p.1.small ∙ beside));
+            let q = p (k - 1) (omega (arith, r.low)) in
+            let step : along q.0 e 1 ≡ Some f = grind (arith, onward s q.0 e (k - 1) 1 q.1.at, r.at, r.low) in
+            let beside = sym (king-back q.0 f q.1.small inside) ∙ some (leaps q.0 f) (rw step (eq-eqb f f refl)) in
+            let apart = λ (same : q.0 ≡ s). not_yet s q.0 e (k - 1) 0 (ordered x) q.1.at (omega (arith, r.low)) (stays s e low ∙ ap Some (sym same)) in
+            rw q.1.at (one_on (bit_and d n) q.0 q.1.small
+            ∙ on_both d n q.0 (kept q.0 q.1.small apart beside (rw q.1.at at r.hurdle)) (next_has q.0 q.1.small ∙ beside));
         free = λ j lo hi.
+<<<<<<< ours
             let p = passes s f e k j low (omega (arith, hi)) r.at in
             let q = p.0 in
             let off = far x q f (k - j) p.1.small (omega (arith, hi)) (omega (arith, r.high, lo)) (end j q (omega (arith, hi)) p.1.at) in
             rw p.1.at (empty_on (bit_and d n) q (λ on small. false≢true (sym off
             ∙ sym (word_has (λ q. list_any (leaps f q) queen_steps) n q near p.1.small) ∙ on_second d n q on)));
+=======
+            let q = p j (omega (arith, hi)) in
+            let off = far x q.0 f (k - j) q.1.small (omega (arith, hi)) (omega (arith, r.high, lo)) (grind (arith, onward s q.0 e j (k - j) q.1.at, r.at, hi)) in
+            rw q.1.at (empty_on (bit_and d n) men q.0 (λ on small. false≢true (sym off ∙ sym (next_has q.0 small) ∙ on_second d n q.0 on)));
+>>>>>>> theirs
       }
 
   hop_over : list_any (hops men s f) queen_steps ≡ true → list_any (hops Over s f) queen_steps ≡ true

@@ -9,6 +9,8 @@ returns c = λ t low on. (
   _,
   c.later_hurdles-hurdles.ensures,
   record {
-    left = λ b small off there. let f = (c.critical_after.ensures t low on).left b small off there in (f.0, search (rules, f.1, f.1.unreached, f.2));
+    left = λ b small off there.
+        let f = (c.critical_after.ensures t low on).left b small off (search (rules, there)) in
+        (f.0, search (rules, f.1, f.1.unreached, f.2));
   },
 )

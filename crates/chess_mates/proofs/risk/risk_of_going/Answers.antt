@@ -1,4 +1,4 @@
-use Rattle.chess_mates.proofs.Chess.{Some, ap, arith, bit_at, cases_Bool, eq-eqb, every_square_on, false, false_by, false≢true, inl, inr, is_square, on_first, on_left, on_right, refl, sym, word_has, ℕ, ◌<◌, ◌==◌, ◌∙◌, ◌≡◌}
+use Rattle.chess_mates.proofs.Chess.{Some, ap, arith, bit_at, cases_Bool, eq-eqb, every_square_on, false, false_by, false≢true, inl, inr, is_square, on_first, on_left, on_right, refl, rules, sym, true, word_has, ℕ, ◌<◌, ◌==◌, ◌∙◌, ◌≡◌}
 use Rattle.chess_mates.proofs.FarMen.{off_denied}
 use Rattle.chess_mates.proofs.Risks.{unguarded_at}
 use Rattle.chess_mates.proofs.risk.risk_of_going.Goals as goal
@@ -20,7 +20,7 @@ returns c = λ a b t inside small off low on there.
           let going = c.critical_of_going.ensures t low left_on in
           let one = going.2.left b small off.critical there in
           let f = one.0 in
-          let near = on_first g.near _ f one.1.on in
+          let near : (bit_at g.near f == 1) ≡ true = search (rules, on_first, one.1.on) in
           inr (inr (record {
             plain = c.may_promote_on.ensures c.if-may_promote_on.false t low left_on;
             unsprung = c.may_spring.ensures c.if-may_spring.false t low left_on;
@@ -28,7 +28,7 @@ returns c = λ a b t inside small off low on there.
             are = going.1;
             square = f;
             left = record { small = one.1.small; on = near; off = one.1.off; elsewhere = one.1.elsewhere; unreached = one.1.unreached };
-            unguarded = at f (on_left _ o f (on_left g.near g.captures f near)) (off_denied g.near seen f (omega arith) one.1.small one.1.on);
+            unguarded = at f (on_left _ o f (on_left g.near g.captures f near)) (search (rules, off_denied, one.1.small, one.1.on));
           }))
       | inr free ↦ elim (cases_Bool (bit_at watched.result t == 1)) [
         | inl on ↦
