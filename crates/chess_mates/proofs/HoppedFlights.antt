@@ -53,17 +53,9 @@ module _ (men : List (Option Man)) (d f s n : ℕ) (near : n ≡ word (λ q. lis
             rw q.1.at (one_on (bit_and d n) q.0 q.1.small
             ∙ on_both d n q.0 (kept q.0 q.1.small apart beside (rw q.1.at at r.hurdle)) (next_has q.0 q.1.small ∙ beside));
         free = λ j lo hi.
-<<<<<<< ours
-            let p = passes s f e k j low (omega (arith, hi)) r.at in
-            let q = p.0 in
-            let off = far x q f (k - j) p.1.small (omega (arith, hi)) (omega (arith, r.high, lo)) (end j q (omega (arith, hi)) p.1.at) in
-            rw p.1.at (empty_on (bit_and d n) q (λ on small. false≢true (sym off
-            ∙ sym (word_has (λ q. list_any (leaps f q) queen_steps) n q near p.1.small) ∙ on_second d n q on)));
-=======
             let q = p j (omega (arith, hi)) in
             let off = far x q.0 f (k - j) q.1.small (omega (arith, hi)) (omega (arith, r.high, lo)) (grind (arith, onward s q.0 e j (k - j) q.1.at, r.at, hi)) in
-            rw q.1.at (empty_on (bit_and d n) men q.0 (λ on small. false≢true (sym off ∙ sym (next_has q.0 small) ∙ on_second d n q.0 on)));
->>>>>>> theirs
+            rw q.1.at (empty_on (bit_and d n) q.0 (λ on small. false≢true (sym off ∙ sym (next_has q.0 small) ∙ on_second d n q.0 on)));
       }
 
   hop_over : list_any (hops men s f) queen_steps ≡ true → list_any (hops Over s f) queen_steps ≡ true
