@@ -25,8 +25,7 @@ module _ (rule : RuleSet) (p : Position) (x : Man) (f : ℕ) (well : IsWellForme
   evasions_from_some = record {
     elsewhere = λ m at small may off.
         let stands = ap (man_on p.men) at ∙ here in
-        let near = targets p m.to small (rw (← at) (may_go_aimed rule p x m stands (arrival_needed rule p m small may))) in
-        let none = off_second d _ m.to off near in
+        let none = off_second d _ m.to off (targets p m.to small (rw (← at) (may_go_aimed rule p x m stands (arrival_needed rule p m small may)))) in
         check_unmet rule p x m a m.to well may stands refl small
         (search (rules, plain_elsewhere, off_left, off_right, false_by, and_parts)) piece evasion_squares (search (rules, off_left));
   }

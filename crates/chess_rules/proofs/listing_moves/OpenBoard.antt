@@ -39,10 +39,7 @@ module _ (x : Man) (s : ℕ) where
   -- a nightrider's, over no hurdle
   pub nightrider_reach : (w : ℕ) → x.kind ≡ Nightrider
       → ((men : List (Option Man)) → 0 ≡ occupied_squares men → w ≡ word (reaches_as men x.colour Nightrider s)) → AreReached x s w
-  nightrider_reach w kind h = record {
-    inside = λ men t small reached. word_has (reaches_as (men_on 0) x.colour Nightrider s) w t (h (men_on 0) (occupied_on 0 (omega arith))) small
-        ∙ rides_openly men x.colour s t (rw kind at reached);
-  }
+  nightrider_reach w kind h = search (rules, h (men_on 0) (occupied_on 0 (omega arith)), rides_openly, word_has)
 
 -- a grasshopper's, a queen's
 pub grasshopper_reach : (x : Man) (s l d : ℕ) → x.kind ≡ Grasshopper → l ≡ word (is_on_some straight_steps s) → d ≡ word (is_on_some diagonal_steps s)
