@@ -135,6 +135,7 @@ fn are_known_legal<R: Rules>(
 // How many legal moves the man on `from` has among his triples numbered from `start` on and below `end`, each
 // counted from the origin's first; each is looked at. `squares` are those to which he may go. The board is
 // unchanged.
+#[inline(never)]
 #[tactic(auto, using(crate::proofs::listing_moves::Counting::by_triples))]
 fn count_one_by_one<R: Rules>(
     board: &mut Board,
@@ -164,7 +165,8 @@ fn count_one_by_one<R: Rules>(
     count
 }
 
-// The same, where all are surely legal without looking at them.
+// The same, where all are surely legal without looking at them: mostly, so the loop above stands apart.
+#[inline(always)]
 #[tactic(auto, using(crate::proofs::listing_moves::Counting::count_by_word))]
 pub(crate) fn count_origin<R: Rules>(
     board: &mut Board,
