@@ -14,8 +14,8 @@ use crate::attackers::Attackers;
 use chess_core::board::Board;
 use chess_core::man::{Colour, Kind, Man, Move};
 use chess_core::square::{Square, Squares};
-use chess_rules::words::{contains, highest, next_bit, only};
 use chess_rules::open_board::{open_reach, open_targets};
+use chess_rules::words::{contains, highest, next_bit, only};
 
 // Those that the men of this kind reach so, who stand on the squares of a word.
 #[tactic(auto, using(chess_rules::proofs::HoldBelow::hold_all, chess_rules::proofs::HoldBelow::hold_none, crate::proofs::Risks::none_on))]
