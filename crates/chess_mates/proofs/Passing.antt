@@ -6,7 +6,7 @@ pub use Rattle.chess_mates.proofs.FarMen.{on_denied}
 use Rattle.chess_mates.proofs.KindByKind.{man_is}
 use Rattle.chess_mates.proofs.LastingFlights.{on_both}
 use Rattle.chess_mates.proofs.CheckTargets.{last_rank_on}
-use Rattle.chess_mates.proofs.Risks.{bit_denied, none_at}
+use Rattle.chess_mates.proofs.Risks.{none_at}
 use Rattle.chess_mates.proofs.Standing.{captured_there}
 
 module _ (p : Position) (x : Man) (m : Move) (from : m.from < 64) (to : m.to < 64) where

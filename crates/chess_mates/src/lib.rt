@@ -20,6 +20,7 @@ mod origins;
 pub mod quiet_steps;
 mod risk;
 mod siege;
+mod standing_flights;
 mod steps;
 pub mod threats;
 

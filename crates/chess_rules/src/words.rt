@@ -48,8 +48,8 @@ pub(crate) fn lowest(word: Squares) -> Square
     Square::numbered(word.trailing_zeros() as u8)
 }
 
-// The square of the highest bit.
-pub(crate) fn highest(word: Squares) -> Square
+/// The square of the highest bit.
+pub fn highest(word: Squares) -> Square
     requires { 0 < word }
     ensures low { 2 ^ result ≤ word }
     ensures high { word < 2 * 2 ^ result }
