@@ -1,4 +1,4 @@
-use Rattle.chess_mates.proofs.Chess.{sym, ◌∙◌}
+use Rattle.chess_mates.proofs.Chess.{rules}
 use Rattle.chess_mates.proofs.QuietSieve.{all_left}
 use Rattle.chess_mates.proofs.quiet_steps.stopping_squares.Goals as goal
 
@@ -8,5 +8,5 @@ returns-then-is_attacker_seen c = λ w t on small off. all_left t small off
 pub returns : goal.returns
 returns c = λ w t on small off. record {
   left = c.barring_squares.ensures w t on small off;
-  others = λ men are. sym ((rw c.turn.ensures at c.is_attacker_seen.ensures) men are) ∙ c.if-is_attacker_seen.false;
+  others = λ men are. search (rules, c.is_attacker_seen.ensures men);
 }
