@@ -4,7 +4,7 @@ use Rattle.chess_mates.proofs.FarMen.{off_denied}
 use Rattle.chess_mates.proofs.Fleeing.{no_mate_with_flight}
 use Rattle.chess_mates.proofs.Hurdles.{all_reach, later_but}
 use Rattle.chess_mates.proofs.Mating.{no_mate_quietly}
-use Rattle.chess_mates.proofs.QuietSieve.{flight_then, lifted, lifted_here, lifted_there}
+use Rattle.chess_mates.proofs.QuietSieve.{flight_then, lifted, lifted_stood, lifted_there}
 use Rattle.chess_mates.proofs.Standing.{reach_none}
 use Rattle.chess_mates.specs.ties.QuietSteps.{GoesSimply}
 use Rattle.chess_mates.specs.ties.StandingFlights.{AreStandingFlights, IsFlightBut, NoneHops}
@@ -26,13 +26,10 @@ module _ (p : Position) (k n d r l o : ℕ) (v : Attackers) (none : NoneHops p.m
       let king = sym (word_has (is_square (Some k)) o e only small) ∙ off_denied all o e fits small both in
       grind (arith, lifted_there p.men a k e, cases_Bool (a == e || k == e), eqb-true, some, king)
 
-  stood_before : (q : ℕ) (z : Man) → man_on few q ≡ Some z → man_on p.men q ≡ Some z
-  stood_before q z h = grind (arith, lifted_here p.men a k q, lifted_there p.men a k q, cases_Bool (a == q || k == q))
-
   strikes : (q : ℕ) (z : Man) → q < 64 → man_on few q ≡ Some z → z.colour ≡ p.turn → reaches_as few z.colour z.kind q f ≡ true → ⊥
   unfolding reached_over
   strikes q z small here mine reach =
-      let before = stood_before q z here in
+      let before = lifted_stood p.men a k q z here in
       let plain = none.none q z small before in
       let is = men.stand q z small before (mine ∙ sym colour) in
       let may : IsNear z q n = record { square = f; small = flight; on = near; men = few; reaches = reach } in

@@ -46,11 +46,15 @@ abbrev pub lifted : List (Option Man) → ℕ → ℕ → List (Option Man)
 lifted men a k = without_man (without_man men k) a
 
 module _ (men : List (Option Man)) (a k : ℕ) where
-  pub lifted_here : (q : ℕ) → (a == q || k == q) ≡ true → man_on (lifted men a k) q ≡ None
+  lifted_here : (q : ℕ) → (a == q || k == q) ≡ true → man_on (lifted men a k) q ≡ None
   lifted_here q h = grind (arith, or_cases, eqb-true, man_on-without_same, stays_empty (without_man men k) (Some a) q)
 
   pub lifted_there : (q : ℕ) → (a == q || k == q) ≡ false → man_on (lifted men a k) q ≡ man_on men q
   lifted_there q h = grind (arith, or_parts, eq-eqb, false≢true, man_on-without_other)
+
+  -- who stands then stood before
+  pub lifted_stood : (q : ℕ) (z : Man) → man_on (lifted men a k) q ≡ Some z → man_on men q ≡ Some z
+  lifted_stood q z h = grind (arith, lifted_here q, lifted_there q, cases_Bool (a == q || k == q))
 
   is_still : (c : Colour) (j : Kind) (q : ℕ) → (is_man (man_on men q) c j && not (a == q || k == q)) ≡ is_man (man_on (lifted men a k) q) c j
   is_still c j q = grind (arith, cases_Bool (a == q || k == q), lifted_here q, lifted_there q, and_right)
@@ -129,9 +133,6 @@ module _ (rule : RuleSet) (p : Position) (m : Move) (x : Man) (k : ℕ) (i : IsS
     ]
   ]
 
-  stood_before : (q : ℕ) (z : Man) → man_on few q ≡ Some z → man_on p.men q ≡ Some z
-  stood_before q z h = grind (arith, lifted_here p.men m.from k q, lifted_there p.men m.from k q, cases_Bool (m.from == q || k == q))
-
   size_few : length few ≡ 64
   size_few = search (rules, i.well_formed.size)
 
@@ -143,7 +144,7 @@ module _ (rule : RuleSet) (p : Position) (m : Move) (x : Man) (k : ℕ) (i : IsS
       → reaches_as now z.colour z.kind s e ≡ false
   unfolding is_reached reaches
   no_more c e s z before lt at mine = false_from_ne_true _ (λ strikes.
-      let plain = none.none s z lt (stood_before s z at) in
+      let plain = none.none s z lt (lifted_stood p.men m.from k s z at) in
       let once = fewer_but few now z.colour z.kind s e k size_few king.small plain (λ q _. stays q) (λ some _. nobody_left some) strikes in
       false≢true (sym before ∙ some_square_true (λ q. is_of_colour (man_on few q) c && reaches few q e) s lt (rw at (and_from _ _ mine once))))
 
@@ -195,7 +196,7 @@ module _ (rule : RuleSet) (p : Position) (m : Move) (x : Man) (k : ℕ) (i : IsS
   unfolding is_reached reaches is_legal in_check
   none_uncovers able lawful at untouched q z lt there mine = false_from_ne_true _ (λ strikes.
       let off : q ≢ m.to = λ e. false≢true (sym (no_reach_there now z.colour z.kind m.to small) ∙ rw e at strikes) in
-      let plain = none.none q z lt (stood_before q z there) in
+      let plain = none.none q z lt (lifted_stood p.men m.from k q z there) in
       let strike = λ (men : List (Option Man)) (e : ℕ) (stand : man_on men q ≡ Some z) (r : reaches_as men z.colour z.kind q e ≡ true).
       some_square_true (λ v. is_of_colour (man_on men v) (other p.turn) && reaches men v e) q lt (rw stand (and_from _ _ mine r)) in
       let apart : reaches_as after z.colour z.kind q k ≡ true → ⊥ = λ r. false≢true (sym untouched ∙ strike few k there

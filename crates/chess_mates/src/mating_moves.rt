@@ -253,6 +253,7 @@ fn mating_origins<R: Rules>(board: &Board, squares: &CheckSquares) -> Squares
 
 // The squares to which the man on `from` must go to mate, and perhaps more: elsewhere he gives no check, or one of the
 // flights is left.
+#[tactic(auto, using(chess_rules::proofs::listing_moves::Walks::off_zero, crate::proofs::Mating::no_mate_quietly))]
 fn mate_targets<R: Rules>(board: &Board, clues: &MateClues, from: Square) -> Squares
     requires well_formed { IsWellFormed board.now }
     requires clues { AreMateClues R.rule board.now clues.now }
