@@ -23,6 +23,7 @@ pub mod HoppedFlights
 pub mod Sieges
 pub mod Standing
 pub mod QuietSieve
+pub mod KeptFlights
 pub mod Passing
 pub mod QuietCastling
 pub mod Sparing

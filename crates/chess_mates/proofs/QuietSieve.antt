@@ -1,13 +1,14 @@
 -- Quiet steps of the enemy king told for all moves of a man: the others reach no more than with both lifted.
-use Rattle.chess_mates.proofs.Chess.{AreApproached, AreOpen, AreSeen, Black, Colour, Grasshopper, IsSeenFrom, IsWellFormed, Kind, King, List, Man, Move, None, Option, Position, RuleSet, Some, StandAlike, White, after_well_formed, and_from, and_right, ap, arith, arrived, arriving_man, attacked_plainly, bit_and, bit_at, bit_not, bit_or, capture_square, captures_do_more, cases_Bool, cases_eq, cases_lt, cond-false, cond-true, eq-eqb, eqb-true, every_square_on, false, false_from_ne_true, false≢true, gait_of, in_check, inl, inr, is_hopper, is_legal, is_man, is_of_colour, is_open, is_promoting, is_reached, is_simple, is_some, is_square, kept_now, king_after, king_is_after, king_is_no_pawn, king_square, leaps, left_now, legal_moves_are_triples, length, list_any, man_on, man_on-without_other, man_on-without_same, men_on, no_pawn_arrives, no_reach_there, not, not_attacked, occupied_now, occupied_squares, off_left, off_right, off_zero, on_first, or_cases, or_parts, other, other_twice, position_after, queen_steps, reaches, reaches_alike, reaches_as, refl, rules, same_colour, same_kind, side_of, some_square_false, some_square_true, squares_both, squares_either, squares_not, squares_of, sym, there_now, true, w64, ways, without_man, word, word_has, ℕ, ◌&&◌, ◌<◌, ◌==◌, ◌^◌, ◌||◌, ◌∙◌, ◌≡◌, ◌≢◌, ◌⊎◌}
+use Rattle.chess_mates.proofs.Chess.{AreApproached, AreOpen, AreSeen, Black, Colour, Grasshopper, IsSeenFrom, IsWellFormed, Kind, King, List, Man, Move, None, Option, Position, RuleSet, Some, StandAlike, White, after_well_formed, and_from, and_right, ap, arith, arrived, arriving_man, attacked_plainly, bit_and, bit_at, bit_not, bit_or, capture_square, captures_do_more, cases_Bool, cases_eq, cases_lt, cond-false, cond-true, eq-eqb, eqb-true, every_square_on, false, false_from_ne_true, false≢true, gait_of, in_check, inl, inr, is_hopper, is_legal, is_man, is_of_colour, is_open, is_promoting, is_reached, is_simple, is_some, is_square, kept_now, king_after, king_is_after, king_is_no_pawn, king_square, leaps, left_now, legal_moves_are_triples, length, list_any, man_on, man_on-without_other, man_on-without_same, men_on, no_pawn_arrives, no_reach_there, not, not_attacked, occupied_now, occupied_squares, off_left, off_right, off_zero, on_first, or_cases, or_parts, other, other_twice, position_after, queen_steps, reaches, reaches_alike, reaches_as, refl, rules, same_colour, same_kind, side_of, some_square_false, some_square_true, squares_both, squares_either, squares_not, squares_of, sym, there_now, true, w64, ways, without_man, word, word_has, ℕ, ◌&&◌, ◌<◌, ◌==◌, ◌^◌, ◌||◌, ◌∙◌, ◌≡◌, ◌≢◌, ◌⊎◌, IsLeft, and_left, and_parts, false_by, has_flight, is_flight, pawn_is_no_king, square_is}
 use Rattle.chess_mates.proofs.Barring.{beyond}
 use Rattle.chess_mates.proofs.CalmSteps.{apart, calm, seen_from}
-use Rattle.chess_mates.proofs.Fleeing.{IsKingOn, after_seen, is_made, is_step, king_on, king_seen, men_stepped, on_second, reached_near, step_legal_is, step_taken, step_to, unseen_bit}
+use Rattle.chess_mates.proofs.Fleeing.{IsKingOn, after_seen, is_made, is_step, king_on, king_seen, men_stepped, on_second, reached_near, step_legal_is, step_taken, step_to, turn_is, unseen_bit}
 use Rattle.chess_mates.proofs.Hurdles.{later_but}
 use Rattle.chess_rules.proofs.rays.OnSquares.{one_on, size_on}
 use Rattle.chess_mates.proofs.Standing.{captured_there, free_man, king_reaches, no_hopper, not_mine_enemy, some_stays, stays_there, unnamed}
 use Rattle.chess_mates.proofs.Stepping.{IsStep, on_flight, on_left, on_others, stands}
-use Rattle.chess_mates.specs.ties.QuietSteps.{AreQuiet, GoesSimply, IsStepLeft, NoneHops, must_reply_with_mate, sight_without}
+use Rattle.chess_mates.specs.ties.QuietSteps.{AreQuiet, GoesSimply, IsStepLeft, must_reply_with_mate, sight_without}
+use Rattle.chess_mates.specs.ties.StandingFlights.{NoneHops}
 use Rattle.chess_mates.proofs.Passing.{on_denied}
 use Rattle.chess_rules.proofs.making_moves.Plays.{stays_empty}
 use Rattle.chess_rules.proofs.rays.Tables.{king_step_is_no_castling}
@@ -48,8 +49,12 @@ module _ (men : List (Option Man)) (a k : ℕ) where
   lifted_here : (q : ℕ) → (a == q || k == q) ≡ true → man_on (lifted men a k) q ≡ None
   lifted_here q h = grind (arith, or_cases, eqb-true, man_on-without_same, stays_empty (without_man men k) (Some a) q)
 
-  lifted_there : (q : ℕ) → (a == q || k == q) ≡ false → man_on (lifted men a k) q ≡ man_on men q
+  pub lifted_there : (q : ℕ) → (a == q || k == q) ≡ false → man_on (lifted men a k) q ≡ man_on men q
   lifted_there q h = grind (arith, or_parts, eq-eqb, false≢true, man_on-without_other)
+
+  -- who stands then stood before
+  pub lifted_stood : (q : ℕ) (z : Man) → man_on (lifted men a k) q ≡ Some z → man_on men q ≡ Some z
+  lifted_stood q z h = grind (arith, lifted_here q, lifted_there q, cases_Bool (a == q || k == q))
 
   is_still : (c : Colour) (j : Kind) (q : ℕ) → (is_man (man_on men q) c j && not (a == q || k == q)) ≡ is_man (man_on (lifted men a k) q) c j
   is_still c j q = grind (arith, cases_Bool (a == q || k == q), lifted_here q, lifted_there q, and_right)
@@ -152,9 +157,6 @@ module _ (rule : RuleSet) (p : Position) (m : Move) (x : Man) (k : ℕ) (i : IsS
     ]
   ]
 
-  stood_before : (q : ℕ) (z : Man) → man_on few q ≡ Some z → man_on p.men q ≡ Some z
-  stood_before q z h = grind (arith, lifted_here p.men m.from k q, lifted_there p.men m.from k q, cases_Bool (m.from == q || k == q))
-
   size_few : length few ≡ 64
   size_few = search (rules, i.well_formed.size)
 
@@ -163,7 +165,7 @@ module _ (rule : RuleSet) (p : Position) (m : Move) (x : Man) (k : ℕ) (i : IsS
       → reaches_as now z.colour z.kind s e ≡ false
   unfolding is_reached reaches
   no_more c e s z before lt at mine = false_from_ne_true _ (λ strikes.
-      let plain = none.none s z lt (stood_before s z at) in
+      let plain = none.none s z lt (lifted_stood p.men m.from k s z at) in
       let once = fewer_but few now z.colour z.kind s e k size_few king.small plain (λ q _. stays q) (λ some _. nobody_left some) strikes in
       false≢true (sym before ∙ some_square_true (λ q. is_of_colour (man_on few q) c && reaches few q e) s lt (rw at (and_from _ _ mine once))))
 
@@ -187,7 +189,7 @@ module _ (rule : RuleSet) (p : Position) (m : Move) (x : Man) (k : ℕ) (i : IsS
   unfolding is_reached reaches is_legal in_check
   none_uncovers able lawful at untouched q z lt there mine = false_from_ne_true _ (λ strikes.
       let off : q ≢ m.to = λ e. false≢true (sym (no_reach_there now z.colour z.kind m.to small) ∙ rw e at strikes) in
-      let plain = none.none q z lt (stood_before q z there) in
+      let plain = none.none q z lt (lifted_stood p.men m.from k q z there) in
       let strike = λ (men : List (Option Man)) (e : ℕ) (stand : man_on men q ≡ Some z) (r : reaches_as men z.colour z.kind q e ≡ true).
       some_square_true (λ v. is_of_colour (man_on men v) (other p.turn) && reaches men v e) q lt (rw stand (and_from _ _ mine r)) in
       let apart : reaches_as after z.colour z.kind q k ≡ true → ⊥ = λ r. false≢true (sym untouched ∙ strike few k there
@@ -204,15 +206,20 @@ module _ (rule : RuleSet) (p : Position) (m : Move) (x : Man) (k : ℕ) (i : IsS
       let same = king_reaches p.men (arrived p x m) (other p.turn) King k f refl in
       rw (after_seen rule p m x k i) (grind (arith, same, cases_Bool (m.from == f || is_square caught f), left_now, kept_now, or_parts, before))
 
-  -- not each reply mates where the step is left and nobody of his side reaches the mover's king
+  -- the step is legal where it is left
+  lawful_then : is_open rule p.men (other p.turn) k f ≡ true → is_reached few f p.turn ≡ false → reaches_as now x.colour x.kind m.to f ≡ false
+      → is_legal rule (position_after rule p m) (step_to k f) ≡ true
+  lawful_then before safe apart_x =
+      let safe_now = reached p.turn f (λ q z. no_more p.turn f q z safe) (λ own. absurd (false≢true (sym step.king ∙ own))) (λ own. apart_x) in
+      step_legal_is rule p m x k i small y f there king (open_then before) ∙ ap not (not_attacked rule now p.turn f safe_now)
+
+  -- not each reply mates then where nobody of his side reaches the mover's king
   stepped_quietly : (s : ℕ) → king_after p x m ≡ Some s → is_open rule p.men (other p.turn) k f ≡ true → is_reached few f p.turn ≡ false
       → reaches_as now x.colour x.kind m.to f ≡ false → NoneReaches (other p.turn) s → must_reply_with_mate rule p m ≡ false
   stepped_quietly s at before safe apart_x quiet =
       let way = open_then before in
       let mine = (is_made rule p m x k i).mine in
-      let safe_now = reached p.turn f (λ q z. no_more p.turn f q z safe) (λ own. absurd (false≢true (sym step.king ∙ own))) (λ own. apart_x) in
-      let lawful : is_legal rule (position_after rule p m) (step_to k f) ≡ true =
-      step_legal_is rule p m x k i small y f there king way ∙ ap not (not_attacked rule now p.turn f safe_now) in
+      let lawful = lawful_then before safe apart_x in
       let next = apart rule p m x k i small y f s there king way lawful at in
       calm rule p m x k i small y f s there king way lawful at
       (reached (other p.turn) s quiet (λ own. next) (λ own. absurd (false≢true (sym (not_mine_enemy x p.turn mine) ∙ own))))
@@ -252,6 +259,19 @@ settled rule p m x k v w well lawful here at none simply quiet ways (f, told) =
     let king = king_on (position_after rule p m).men (other p.turn) k (king_seen rule p m x k i small) in
     left_quietly rule p m x k i small f told.left.small none simply told.left.off king.0 king.1 lawful quiet
     (ways.inside f told.left.small (on_second v w f told.left.on)) (told.others _ (seen_lifted p.men m.from k p.turn)) (told.left.unreached _)
+
+-- for a legal move after which a flight is left
+pub flight_then : (rule : RuleSet) (p : Position) (m : Move) (x : Man) (k f w : ℕ) → IsWellFormed p → is_legal rule p m ≡ true
+    → man_on p.men m.from ≡ Some x → king_square p.men (other p.turn) ≡ Some k → NoneHops p.men → GoesSimply rule p x m → IsLeft w x m.to f
+    → is_open rule p.men (other p.turn) k f ≡ true → is_reached (lifted p.men m.from k) f p.turn ≡ false → has_flight rule (position_after rule p m) ≡ true
+unfolding has_flight is_flight
+flight_then rule p m x k f w well lawful here at none simply left before safe =
+    let small = small_arrival rule p m well lawful in
+    let i = seen_from rule p x m k well lawful here (simple_then rule p x m simply) at in
+    let seen = king_seen rule p m x k i small in
+    let king = king_on (position_after rule p m).men (other p.turn) k seen in
+    let step = lawful_then rule p m x k i small f left.small none simply left.off king.0 king.1 before safe (left.unreached _) in
+    search (rules, some_square_true (is_flight rule (position_after rule p m)) f left.small, turn_is rule p m x k i small, seen, step)
 
 -- for words of grasshoppers
 pub no_grasshopper : (men : List (Option Man)) (w b : ℕ) → w ≡ squares_of men White Grasshopper → b ≡ squares_of men Black Grasshopper
@@ -298,12 +318,11 @@ goes_simply rule p x m o q c crossed special captures small off =
     }
 
 -- for a step that is left
-pub step_left : (p : Position) (v : _) (w a o t f : ℕ) (x : Man) (c : Colour) → c ≡ p.turn → f < 64 → t < 64 → (bit_at w f == 1) ≡ true → AreApproached x f a
-    → o ≡ word (is_square (Some f)) → ((men : List (Option Man)) → AreSeen p.men men c v → is_reached men f c ≡ false)
-    → (bit_at (bit_or a o) t == 1) ≡ false → IsStepLeft p v w x t f
-step_left p v w a o t f x c mover flight small on are only safe off =
+pub step_left : (w a o t f : ℕ) (x : Man) → f < 64 → t < 64 → (bit_at w f == 1) ≡ true → AreApproached x f a
+    → o ≡ word (is_square (Some f)) → (bit_at (bit_or a o) t == 1) ≡ false → IsLeft w x t f
+step_left w a o t f x flight small on are only off =
     let apart : f ≢ t = λ e. grind (arith, off_right a o t off, word_has _ o t only small, eq-eqb) in
-    record { left = search (rules, apart, are.inside, off_left a o t off, false_from_ne_true, false≢true, flight, on); others = rw (← mover) safe }
+    search (rules, apart, are.inside, off_left a o t off, false_from_ne_true, false≢true, flight, on)
 
 -- where nothing is told no square is left out
 pub all_left : {P : Type 0} (t : ℕ) → t < 64 → (bit_at 18446744073709551615 t == 1) ≡ false → P

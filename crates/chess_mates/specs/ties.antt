@@ -6,5 +6,6 @@ pub mod Idle
 pub mod LastingFlights
 pub mod QuietSteps
 pub mod Siege
+pub mod StandingFlights
 pub mod Threats
 pub mod Mates

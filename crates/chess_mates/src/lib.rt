@@ -21,6 +21,7 @@ mod pawn_approaches;
 pub mod quiet_steps;
 mod risk;
 mod siege;
+mod standing_flights;
 mod steps;
 pub mod threats;
 

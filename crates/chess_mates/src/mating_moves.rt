@@ -1,12 +1,14 @@
 //! The moves of one position that mate, most of the others passed over without being played.
-ghost use Rattle.std.specs.Prelude.{◌≡◌, ⊤, ℕ, ◌≤◌, ◌<◌, ◌∷◌, [], ◌&&◌, IfSome, MatchOption, None, Some, not, true};
+ghost use Rattle.std.specs.Prelude.{◌≡◌, ⊤, ℕ, ◌≤◌, ◌<◌, ◌∷◌, [], ◌&&◌, IfSome, MatchOption, None, Some, ◌==◌, false, not, true};
 ghost use Rattle.chess_core.specs.Position.{other};
 ghost use Rattle.chess_core.specs.WellFormed.{IsWellFormed};
 ghost use Rattle.chess_rules.specs.Attacks.{in_check};
 ghost use Rattle.chess_mates.specs.ties.CheckSquares.{AreCheckSquares};
 ghost use Rattle.chess_mates.specs.ties.Flights.{IsTold};
 ghost use Rattle.chess_rules.specs.Legal.{is_legal, is_mate, is_nil, is_pseudo_legal, moves};
-ghost use Rattle.chess_mates.specs.ties.Mates.{IsMatingPlaceIn, IsNextMate, mates, mates_behind, mates_between};
+ghost use Rattle.chess_core.specs.declared.man.Move.{Move};
+ghost use Rattle.std.specs.Int.{bit_at};
+ghost use Rattle.chess_mates.specs.ties.Mates.{AreMateClues, IsMatingPlaceIn, IsNextMate, mates, mates_behind, mates_between};
 ghost use Rattle.chess_rules.specs.ties.Places.{HaveNone, all_triples, place_of, place_onto, triple_at};
 ghost use Rattle.chess_rules.specs.Play.{position_after};
 ghost use Rattle.chess_rules.specs.ties.Targets.{AreCandidates, AreKept, AreOrigins, IsAimed};
@@ -14,6 +16,7 @@ ghost use Rattle.chess_rules.specs.ties.Targets.{AreCandidates, AreKept, AreOrig
 use crate::checks::{CheckSquares, check_squares, may_check, near_check_targets};
 use crate::flights::{Flights, flights_after};
 use crate::origins::check_origins;
+use crate::standing_flights::{StandingFlights, standing_flights};
 use chess_core::board::Board;
 use chess_core::man::{Colour, Move};
 use chess_core::square::{Square, Squares};
@@ -26,12 +29,20 @@ use chess_rules::targets::{Kept, TRIPLES, arrivals};
 use std::alloc::AllocError;
 use std::marker::{Model, PhantomData};
 
-/// A place among all triples, as in `Moves`, in one position: with it are kept the squares from which a
-/// move of that position may give check, and the targets of the origin on which the place stands.
+/// What tells of a move that it doesn't mate: the squares from which one may give check, and the flights of the
+/// enemy king.
+#[derive(Clone, Copy)]
+pub(crate) struct MateClues {
+    checks: CheckSquares,
+    flights: StandingFlights,
+}
+
+/// A place among all triples, as in `Moves`, in one position: with it are kept the clues of that position,
+/// and the targets of the origin on which the place stands.
 #[derive_where(Copy)]
 pub struct MatingMoves<R> {
     number: u16,
-    checks: CheckSquares,
+    clues: MateClues,
     targets: Kept,
     rules: PhantomData<R>,
 }
@@ -41,11 +52,11 @@ impl<R> Model for MatingMoves<R> {
 
     ghost Value = { MatingPlace };
 
-    ghost view = { λ m. record { place = m.number; checks = m.checks; kept = m.targets } };
+    ghost view = { λ m. record { place = m.number; clues = m.clues; kept = m.targets } };
 
     ghost inverse = { λ v. record {
       number = v.place;
-      checks = v.checks;
+      clues = v.clues;
       targets = v.kept;
       rules = record {};
     } };
@@ -59,7 +70,7 @@ impl<R> Clone for MatingMoves<R> {
     fn clone(&self) -> Result<Self, AllocError> {
         Ok(MatingMoves {
             number: self.number,
-            checks: self.checks,
+            clues: self.clues,
             targets: self.targets,
             rules: PhantomData,
         })
@@ -74,7 +85,10 @@ impl<R: Rules> MatingMoves<R> {
     {
         MatingMoves {
             number: 0,
-            checks: check_squares(board, board.turn().other()),
+            clues: MateClues {
+                checks: check_squares(board, board.turn().other()),
+                flights: standing_flights::<R>(board),
+            },
             targets: Kept {
                 origin: None,
                 squares: 0,
@@ -119,7 +133,7 @@ impl<R: Rules> MatingMoves<R> {
         ensures onward { IfSome result (λ m. self.old.place < self.new.place) }
         ensures board { board.new ≡ board.old }
     {
-        let number = next_mating::<R>(board, &self.checks, &mut self.targets, self.number, TRIPLES);
+        let number = next_mating::<R>(board, &self.clues, &mut self.targets, self.number, TRIPLES);
         if number < TRIPLES {
             self.number = number + 1;
             return Some(triple(number));
@@ -151,7 +165,7 @@ impl<R: Rules> MatingMoves<R> {
         if self.number >= last {
             return None;
         }
-        let number = next_mating::<R>(board, &self.checks, &mut self.targets, self.number, last);
+        let number = next_mating::<R>(board, &self.clues, &mut self.targets, self.number, last);
         if number < last {
             self.number = number + 1;
             return Some(triple(number));
@@ -183,13 +197,13 @@ pub fn next_mate<R: Rules>(place: &mut Moves<R>, board: &mut Board) -> Option<Mo
 // `end`; `end` where there is none.
 pub(crate) fn next_mating<R: Rules>(
     board: &mut Board,
-    squares: &CheckSquares,
+    clues: &MateClues,
     kept: &mut Kept,
     start: u16,
     end: u16,
 ) -> u16
     requires well_formed { IsWellFormed board.old }
-    requires squares { AreCheckSquares board.old.men (other board.old.turn) squares.now }
+    requires clues { AreMateClues R.rule board.old clues.now }
     requires kept { AreKept R.rule board.old (mates R.rule board.old) kept.old }
     requires end { end ≤ all_triples }
     ensures low { result < end → start ≤ result }
@@ -199,23 +213,21 @@ pub(crate) fn next_mating<R: Rules>(
     ensures kept { AreKept R.rule board.old (mates R.rule board.old) kept.new }
     ensures board { board.new ≡ board.old }
 {
-    next_passing::<R, CheckSquares>(board, squares, kept, start, end)
+    next_passing::<R, MateClues>(board, clues, kept, start, end)
 }
 
-impl Sought for CheckSquares {
-    ghost use Rattle.chess_core.specs.Position.{other};
-    ghost use Rattle.chess_mates.specs.ties.CheckSquares.{AreCheckSquares};
-    ghost use Rattle.chess_mates.specs.ties.Mates.{mates};
+impl Sought for MateClues {
+    ghost use Rattle.chess_mates.specs.ties.Mates.{AreMateClues, mates};
     ghost use Rattle.chess_mates.specs.ties.Idle.{mates-idle};
 
     ghost test = { mates };
 
     ghost found = { mates };
 
-    ghost fits = { λ s rule p. AreCheckSquares p.men (other p.turn) s };
+    ghost fits = { λ clues rule p. AreMateClues rule p clues };
 
     fn origins<R: Rules>(&self, board: &Board) -> Squares {
-        mating_origins::<R>(board, self)
+        mating_origins::<R>(board, &self.checks)
     }
 
     fn candidates<R: Rules>(&self, board: &Board, from: Square) -> Squares {
@@ -223,7 +235,7 @@ impl Sought for CheckSquares {
     }
 
     fn is_found<R: Rules>(&self, board: &mut Board, m: Move) -> bool {
-        is_mating::<R>(board, self, m)
+        is_mating::<R>(board, &self.checks, m)
     }
 
     ghost idle = { λ rule p m h. mates-idle rule p m h };
@@ -239,14 +251,30 @@ fn mating_origins<R: Rules>(board: &Board, squares: &CheckSquares) -> Squares
     check_origins::<R>(board, squares)
 }
 
-// The squares to which the man on `from` may go with check, and perhaps more.
-#[tactic(auto, using(chess_rules::proofs::listing_moves::Walks::candidates, chess_rules::proofs::listing_moves::Walks::no_candidates, crate::proofs::Mating::no_mate_quietly, crate::proofs::Mating::not_mating))]
-fn candidates<R: Rules>(board: &Board, squares: &CheckSquares, from: Square) -> Squares
+// The squares to which the man on `from` must go to mate, and perhaps more: elsewhere he gives no check, or one of the
+// flights is left.
+#[tactic(auto, using(chess_rules::proofs::listing_moves::Walks::off_zero, crate::proofs::Mating::no_mate_quietly))]
+fn mate_targets<R: Rules>(board: &Board, clues: &MateClues, from: Square) -> Squares
     requires well_formed { IsWellFormed board.now }
-    requires squares { AreCheckSquares board.now.men (other board.now.turn) squares.now }
+    requires clues { AreMateClues R.rule board.now clues.now }
+    ensures { (m : Move) → m.from ≡ from → m.to < 64 → (bit_at result m.to == 1) ≡ false
+        → mates R.rule board.now m ≡ false }
+{
+    let checks = near_check_targets::<R>(board, &clues.checks, from);
+    if checks == 0 {
+        return 0;
+    }
+    checks & clues.flights.mating_squares::<R>(board, from)
+}
+
+// Those of them to which he may go.
+#[tactic(auto, using(chess_rules::proofs::listing_moves::Walks::candidates, chess_rules::proofs::listing_moves::Walks::no_candidates, crate::proofs::Mating::not_mating))]
+fn candidates<R: Rules>(board: &Board, clues: &MateClues, from: Square) -> Squares
+    requires well_formed { IsWellFormed board.now }
+    requires clues { AreMateClues R.rule board.now clues.now }
     ensures { AreCandidates R.rule board.now (mates R.rule board.now) from result }
 {
-    let word = near_check_targets::<R>(board, squares, from);
+    let word = mate_targets::<R>(board, clues, from);
     if word == 0 {
         return 0;
     }

@@ -6,8 +6,10 @@ ghost use Rattle.chess_core.specs.Position.{other};
 ghost use Rattle.chess_core.specs.WellFormed.{IsWellFormed};
 ghost use Rattle.chess_core.specs.declared.man.Move.{Move};
 ghost use Rattle.chess_mates.specs.ties.Flights.{AreOpen, IsQuietTo, IsSeenFrom, sight_stepped};
+ghost use Rattle.chess_mates.specs.ties.LastingFlights.{IsLeft};
 ghost use Rattle.chess_mates.specs.ties.Mates.{is_mating};
-ghost use Rattle.chess_mates.specs.ties.QuietSteps.{AreQuiet, GoesSimply, IsStepLeft, NoneHops, must_reply_with_mate, sight_without};
+ghost use Rattle.chess_mates.specs.ties.QuietSteps.{AreQuiet, GoesSimply, IsStepLeft, must_reply_with_mate, sight_without};
+ghost use Rattle.chess_mates.specs.ties.StandingFlights.{NoneHops};
 ghost use Rattle.chess_rules.specs.Legal.{is_legal, moves};
 ghost use Rattle.chess_rules.specs.Play.{capture_square, is_castling, position_after};
 ghost use Rattle.chess_rules.specs.ties.Targets.{is_promoting};
@@ -103,7 +105,7 @@ fn steps_now(board: &Board, king: Square) -> Squares {
 
 // Whether no grasshopper stands on the board.
 #[tactic(auto, using(crate::proofs::QuietSieve::no_grasshopper))]
-fn none_hops(board: &Board) -> bool
+pub(crate) fn none_hops(board: &Board) -> bool
     ensures { result ≡ true → NoneHops board.now.men }
 {
     board.squares(Colour::White, Kind::Grasshopper)
@@ -125,7 +127,7 @@ fn sight_without(board: &Board, from: Square, king: Square) -> Sight
 // The squares to which the enemy king on `king` may step, attacks apart: next to him, where neither a man of his own nor
 // a king stands, and in Circe nobody.
 #[tactic(auto, using(crate::proofs::QuietSieve::open_in_circe, crate::proofs::QuietSieve::open_elsewhere))]
-fn free_steps<R: Rules>(board: &Board, king: Square) -> Squares
+pub(crate) fn free_steps<R: Rules>(board: &Board, king: Square) -> Squares
     ensures { AreOpen R.rule board.now.men (other board.now.turn) king result }
 {
     let near = king_leaps(king);
@@ -153,7 +155,7 @@ fn special_arrivals(man: Man, from: Square) -> Squares
 }
 
 // Those to which he may not simply go: so, or by capturing en passant, and in Circe by capturing.
-fn unsimple_squares<R: Rules>(board: &Board, man: Man, from: Square) -> Squares
+pub(crate) fn unsimple_squares<R: Rules>(board: &Board, man: Man, from: Square) -> Squares
     ensures { (m : Move) → m.from ≡ from → m.to < 64 → (bit_at result m.to == 1) ≡ false
         → GoesSimply R.rule board.now man m }
 {
@@ -180,18 +182,27 @@ fn are_quiet<R: Rules>(board: &Board, sight: Sight, man: Man, king: Square) -> b
     }
 }
 
+// The squares to which the man must go lest `to` is left: there he stands on it, or reaches it on some board.
+#[tactic(auto, using(crate::proofs::QuietSieve::step_left))]
+pub(crate) fn barring_squares(man: Man, to: Square) -> Squares
+    ensures { (w t : ℕ) → (bit_at w to == 1) ≡ true → t < 64 → (bit_at result t == 1) ≡ false
+        → IsLeft w man t to }
+{
+    // For the proof: a square's number is below 64.
+    let _small = to.index();
+    open_approaches(man, to) | only(Some(to))
+}
+
 // The squares to which the man who is lifted must go lest the enemy king's step to `to` is left: all where another man
 // reaches it.
 fn stopping_squares(board: &Board, sight: Sight, man: Man, to: Square) -> Squares
     ensures { (w t : ℕ) → (bit_at w to == 1) ≡ true → t < 64 → (bit_at result t == 1) ≡ false
         → IsStepLeft board.now sight w man t to }
 {
-    // For the proof: a square's number is below 64.
-    let _small = to.index();
     if is_attacker_seen(board, sight, to, board.turn()) {
         return !0;
     }
-    open_approaches(man, to) | only(Some(to))
+    barring_squares(man, to)
 }
 
 // Those to which he must go lest one of the steps is left.

@@ -8,8 +8,9 @@ use Rattle.chess_rules.specs.Play.{position_after}
 use Rattle.chess_rules.specs.ties.Places.{moves_behind, moves_between}
 use Rattle.chess_rules.specs.ties.Targets.{AreKept}
 use Rattle.chess_rules.specs.declared.targets.Kept.{Kept}
-use Rattle.chess_mates.specs.declared.checks.CheckSquares.{CheckSquares}
+use Rattle.chess_mates.specs.declared.mating_moves.MateClues.{MateClues}
 use Rattle.chess_mates.specs.ties.CheckSquares.{AreCheckSquares}
+use Rattle.chess_mates.specs.ties.StandingFlights.{AreStandingFlights}
 
 -- the move mates
 abbrev pub is_mating : RuleSet → Position → Move → Bool
@@ -39,14 +40,18 @@ pub record IsNextMate (rule : RuleSet) (p : Position) (old new : ℕ) (m : Move)
 unfoldable pub mates : RuleSet → Position → Move → Bool
 mates rule p m = is_legal rule p m && is_mate rule (position_after rule p m)
 
--- a place in a position, with the words of the squares from which a move may give check, and with what
--- is kept of one origin
+-- the clues are of this position
+pub record AreMateClues (rule : RuleSet) (p : Position) (v : MateClues) : Type 0 where
+  pub checks : AreCheckSquares p.men (other p.turn) v.checks
+  pub flights : AreStandingFlights rule p v.flights
+
+-- a place in a position, with what tells of a move there that it doesn't mate, and with what is kept of one origin
 pub record MatingPlace : Type 0 where
   pub place : ℕ
-  pub checks : CheckSquares
+  pub clues : MateClues
   pub kept : Kept
 
 -- the place is one in this position
 pub record IsMatingPlaceIn (rule : RuleSet) (p : Position) (v : MatingPlace) : Type 0 where
-  pub checks : AreCheckSquares p.men (other p.turn) v.checks
+  pub clues : AreMateClues rule p v.clues
   pub kept : AreKept rule p (mates rule p) v.kept

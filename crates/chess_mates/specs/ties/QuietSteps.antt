@@ -1,11 +1,10 @@
 -- Steps of the enemy king that give no check, told for all moves of one man (own).
-use Rattle.std.specs.Prelude.{◌≡◌, ◌<◌, ℕ, Bool, true, false, List, Option, Some, None}
+use Rattle.std.specs.Prelude.{◌≡◌, ℕ, Bool, true, false, List, Option, Some, None}
 use Rattle.std.specs.Int.{bit_not, w64}
 use Rattle.std.specs.Int.Bits.{bit_and, bit_or}
 use Rattle.std.specs.List.{list_all}
-use Rattle.chess_core.specs.Position.{Position, king_square, man_on, other, same_kind}
+use Rattle.chess_core.specs.Position.{Position, king_square, other, same_kind}
 use Rattle.chess_core.specs.Squares.{is_square}
-use Rattle.chess_core.specs.Steps.{gait_of, is_hopper}
 use Rattle.chess_core.specs.ties.Words.{word}
 use Rattle.chess_core.specs.declared.man.Kind.TheVariants.{King}
 use Rattle.chess_core.specs.declared.man.Man.{Man}
@@ -25,11 +24,6 @@ use Rattle.chess_rules.specs.ties.Targets.{is_promoting}
 abbrev pub must_reply_with_mate : RuleSet → Position → Move → Bool
 must_reply_with_mate rule p m =
     list_all (is_mating rule (position_after rule p m)) (moves rule (position_after rule p m))
-
--- no man hops
-pub record NoneHops (men : List (Option Man)) : Type 0 where
-  pub none : (s : ℕ) (x : Man) → s < 64 → man_on men s ≡ Some x
-      → is_hopper (gait_of x.kind) ≡ false
 
 -- the words of the men but for those on two squares
 abbrev pub sight_without : List (Option Man) → ℕ → ℕ → Sight

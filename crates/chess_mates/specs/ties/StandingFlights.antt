@@ -1,0 +1,28 @@
+-- Flights of the enemy king as the men stand, and who leaves them (own).
+use Rattle.std.specs.Prelude.{◌≡◌, ◌<◌, ◌==◌, ℕ, true, false, List, Option, Some}
+use Rattle.std.specs.Int.{bit_at}
+use Rattle.chess_core.specs.Position.{Position, king_square, man_on, other, without_man}
+use Rattle.chess_core.specs.Steps.{gait_of, is_hopper}
+use Rattle.chess_core.specs.declared.man.Man.{Man}
+use Rattle.chess_mates.specs.declared.standing_flights.StandingFlights.{StandingFlights}
+use Rattle.chess_mates.specs.ties.Flights.{is_open}
+use Rattle.chess_rules.specs.RuleSet.{RuleSet}
+use Rattle.chess_rules.specs.ties.Shields.{is_reached}
+
+-- no man hops
+pub record NoneHops (men : List (Option Man)) : Type 0 where
+  pub none : (s : ℕ) (x : Man) → s < 64 → man_on men s ≡ Some x
+      → is_hopper (gait_of x.kind) ≡ false
+
+-- nobody hops, and the enemy king may step to f, attacks apart, where no man of the mover but the one on a reaches him
+pub record IsFlightBut (rule : RuleSet) (p : Position) (a f : ℕ) : Type 0 where
+  pub king : ℕ
+  pub stands : king_square p.men (other p.turn) ≡ Some king
+  pub plain : NoneHops p.men
+  pub way : is_open rule p.men (other p.turn) king f ≡ true
+  pub unreached : is_reached (without_man (without_man p.men king) a) f p.turn ≡ false
+
+-- so is each of the flights for who stands on no ridden square
+pub record AreStandingFlights (rule : RuleSet) (p : Position) (v : StandingFlights) : Type 0 where
+  pub left : (a f : ℕ) → a < 64 → (bit_at v.ridden a == 1) ≡ false → f < 64
+      → (bit_at v.flights f == 1) ≡ true → IsFlightBut rule p a f
