@@ -25,6 +25,7 @@ pub mod Standing
 pub mod Passing
 pub mod QuietCastling
 pub mod Sparing
+pub mod Parrying
 pub mod Barring
 pub mod Ways
 pub mod Excluded

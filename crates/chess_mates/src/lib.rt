@@ -17,6 +17,7 @@ mod lasting_flights;
 pub mod mating_moves;
 mod open_board;
 mod origins;
+mod parries;
 pub mod quiet_steps;
 mod risk;
 mod siege;

@@ -1,0 +1,95 @@
+//! Checks that another man than the king parries, told before they are given: he captures the man who gives it.
+ghost use Rattle.std.specs.Prelude.{◌≡◌, ◌&&◌, ℕ, List, Option, true, false};
+ghost use Rattle.chess_core.specs.Position.{Position, is_of_colour, man_on, other};
+ghost use Rattle.chess_core.specs.Squares.{some_square};
+ghost use Rattle.chess_core.specs.WellFormed.{IsWellFormed};
+ghost use Rattle.chess_core.specs.declared.man.Man.{Man};
+ghost use Rattle.chess_core.specs.declared.man.Move.{Move};
+ghost use Rattle.chess_core.specs.ties.Words.{word};
+ghost use Rattle.chess_mates.specs.ties.CheckSquares.{AreCheckSquares};
+ghost use Rattle.chess_mates.specs.ties.Mates.{mates};
+ghost use Rattle.chess_mates.specs.ties.Parries.{AreParriesTold, is_unpinned};
+ghost use Rattle.chess_rules.specs.Legal.{is_pseudo_legal};
+ghost use Rattle.chess_rules.specs.Reaches.{reaches};
+ghost use Rattle.chess_rules.specs.ties.Sight.{AreSeen};
+
+use crate::checks::CheckSquares;
+use chess_core::board::Board;
+use chess_core::man::{Colour, Kind, Man, Move};
+use chess_core::square::{Square, Squares};
+use chess_rules::lines::{diagonal_lines, straight_lines};
+use chess_rules::outward::attackers_seen;
+use chess_rules::play::capture_square;
+use chess_rules::rules::Rules;
+use chess_rules::shields::cannot_expose;
+use chess_rules::sight::{Sight, sight_after};
+use chess_rules::words::contains;
+
+// Whether it is told who parries after the man's move: no king goes and nobody is promoted, no line to the enemy
+// king opens, nobody is reborn, and no man stands still.
+fn are_parries_told<R: Rules>(board: &Board, squares: &CheckSquares, man: Man, m: &Move) -> bool
+    requires { AreCheckSquares board.now.men (other board.now.turn) squares.now }
+    ensures { result ≡ true → AreParriesTold R.rule board.now man m.now }
+{
+    !man.kind.is(Kind::King)
+        && m.promo.is_none()
+        && !R::captures_do_more()
+        && !R::faced_men_stand_still()
+        && cannot_expose::<R>(board, board.turn().other(), squares.shields(), m)
+}
+
+// The squares whose men the enemy king on `king` can spare after the move: none shuts a line to him, alone or with
+// the man that leaves one.
+#[tactic(auto, using(crate::proofs::Parrying::unpinned_beside))]
+fn unpinned_squares(board: &Board, squares: &CheckSquares, m: &Move, king: Square) -> Squares
+    requires { AreCheckSquares board.now.men (other board.now.turn) squares.now }
+    ensures { result ≡ word (is_unpinned board.now m.now king) }
+{
+    // For the proof: a square's number is below 64.
+    let _small = m.from.index();
+    let lines = straight_lines(king) | diagonal_lines(king);
+    if contains(lines, m.from) {
+        return !(squares.shields() | lines);
+    }
+    !squares.shields()
+}
+
+// Whether a man of the colour reaches the square from one of the unpinned ones.
+fn is_reached_from(
+    board: &Board,
+    sight: Sight,
+    square: Square,
+    colour: Colour,
+    unpinned: Squares,
+) -> bool
+    ensures { (men : List (Option Man)) → (p : Position) (m : Move) (k : ℕ)
+        → AreSeen board.now.men men colour sight → unpinned ≡ word (is_unpinned p m k)
+        → result ≡ some_square (λ s. is_of_colour (man_on men s) colour
+        && reaches men s square && is_unpinned p m k s) }
+{
+    attackers_seen(board, sight, square, colour) & unpinned != 0
+}
+
+// Whether an unpinned man captures the one that moves, so that it doesn't mate.
+pub(crate) fn is_parried<R: Rules>(board: &Board, squares: &CheckSquares, m: &Move) -> bool
+    requires well_formed { IsWellFormed board.now }
+    requires pseudo { is_pseudo_legal R.rule board.now m.now ≡ true }
+    requires squares { AreCheckSquares board.now.men (other board.now.turn) squares.now }
+    ensures { result ≡ true → mates R.rule board.now m.now ≡ false }
+{
+    let Some(man) = board.man_at(m.from) else {
+        return false;
+    };
+    if !are_parries_told::<R>(board, squares, man, m) {
+        return false;
+    }
+    let enemy = board.turn().other();
+    let Some(king) = board.king_of(enemy) else {
+        return false;
+    };
+    // For the proof: a square's number is below 64.
+    let _small = m.to.index();
+    let sight = sight_after(board, m.from, capture_square(board, man, m), m.to);
+    let unpinned = unpinned_squares(board, squares, m, king);
+    is_reached_from(board, sight, m.to, enemy, unpinned)
+}
