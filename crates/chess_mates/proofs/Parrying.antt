@@ -1,12 +1,14 @@
 -- Another man than the king parries a check: he leaves no line to the king open.
-use Rattle.chess_mates.proofs.Chess.{AreSeen, Bishop, Bool, Colour, Grasshopper, IsCovered, IsMade, IsShift, IsSimple, IsWellFormed, Kind, King, List, Man, Move, Nightrider, None, Option, Pawn, Position, Queen, Rook, RuleSet, Some, Step, after_well_formed, and_from, and_left, and_parts, any_kept, any_range_cases, any_range_false, ap, arith, arrived, arriving_colour, arriving_man, bit_and, bit_at, bit_not, bit_or, cannot_expose_parts, capture_square, captures_arrival, captures_do_more, cases_Bool, cases_eq, check_is, cond-false, cond-true, covered_parts, diagonal_steps, differs, eq-eqb, faced_men_stand_still, false, false_from_ne_true, false≢true, goes_on, gone_shift, gone_to, if◌then◌else◌, inl, inr, is_ahead, is_arrival_free, is_legal, is_lined, is_man, is_of_colour, is_on_fairy_line, is_on_fairy_line_at, is_on_some, is_paralysed, is_promoting, is_promotion_right, is_pseudo_legal, is_reached, is_shut, kept_now, king_is, king_square, king_there, knight_steps, left_now, length, made, man_on, man_there, mates, may_expose, may_expose_at, may_stand_between, not, not-true, not_attacked, not_zero, or_cases, or_left, or_parts, or_right, other, other_differs, other_twice, position_after, queen_steps, reaches, refl, rules, same_colour, same_colour-refl, same_kind, sight_after, simple_after, some_square, some_square_true, squares, squares_both, squares_either, squares_not, squares_same, stood, straight_steps, sym, there_now, true, unreached, w64, word, word_has, ℕ, ◌&&◌, ◌<◌, ◌==◌, ◌||◌, ◌∙◌, ◌≡◌, ◌≢◌}
+use Rattle.chess_mates.proofs.Chess.{AreSeen, Bishop, Bool, Colour, Grasshopper, IsCovered, IsMade, IsShift, IsSimple, IsWellFormed, Kind, King, List, Man, Move, Nightrider, None, Option, Pawn, Position, Queen, Rook, RuleSet, Some, StandAlike, Step, after_well_formed, and_from, and_left, and_parts, and_right, any_kept, any_range_cases, any_range_false, ap, arith, arrived, arriving_colour, arriving_man, bit_and, bit_at, bit_not, bit_or, cannot_expose_parts, capture_of_piece, capture_square, captures_arrival, captures_do_more, cases_Bool, cases_eq, check_is, cond-false, cond-true, covered_parts, diagonal_steps, differs, eq-eqb, faced_men_stand_still, false, false_from_ne_true, false≢true, goes_on, gone_shift, gone_to, if◌then◌else◌, inl, inr, is_ahead, is_arrival_free, is_legal, is_lined, is_man, is_of_colour, is_on_fairy_line, is_on_fairy_line_at, is_on_some, is_paralysed, is_promoting, is_promotion_right, is_pseudo_legal, is_reached, is_shut, is_some, is_square, kept_now, king_is, king_square, king_there, knight_steps, left_now, length, length-set, made, man_on, man_on-with_other, man_on-with_same, man_there, mates, may_expose, may_expose_at, may_stand_between, no_capture, not, not-true, not_attacked, occupied_now, occupied_squares, on_board, on_first, or_cases, or_left, or_parts, or_right, other, other_differs, other_twice, position_after, queen_steps, reaches, refl, rules, same_colour, same_colour-refl, same_kind, sight_after, simple_after, some_square, some_square_false, some_square_true, squares, squares_both, squares_either, squares_not, squares_of, squares_same, stood, straight_steps, sym, there_now, true, unreached, w64, with_man, word, word_has, ℕ, ◌&&◌, ◌<◌, ◌==◌, ◌||◌, ◌∙◌, ◌≡◌, ◌≢◌}
 use Rattle.chess_rules.proofs.attacks.Shielding.{CannotExpose, IsQuiet}
-use Rattle.chess_mates.proofs.Fleeing.{king_waits}
+use Rattle.chess_mates.proofs.Fleeing.{king_waits, reaches_alike_of, unseen_bit}
 use Rattle.chess_rules.proofs.attacks.Seeing.{seen_after}
 use Rattle.chess_mates.proofs.Mating.{turn_after}
 use Rattle.chess_mates.proofs.Standing.{captured_there, stays_there, stood as stands_after}
-use Rattle.chess_mates.specs.ties.Parries.{AreParriesTold, is_on_line, is_unpinned}
+use Rattle.chess_mates.specs.ties.Parries.{AreParriesTold, IsInterposed, IsShutBy, is_on_line, is_unpinned}
 use Rattle.chess_rules.proofs.theorems.Moves.{mate_is}
+use Rattle.chess_core.proofs.Words.{some_square_told}
+use Rattle.chess_rules.proofs.making_moves.Plays.{length-without_at}
 use Rattle.chess_rules.specs.Legal.{can_go}
 
 -- a man who stands on neither of two squares
@@ -78,6 +80,37 @@ module _ (men after : List (Option Man)) (a b s t k : ℕ) (z : Man) (c : Colour
   -- nobody reaches the king, once one man has gone from a to b and another from s, which is off his lines, to t
   pub unreached_after : is_reached after k (other c) ≡ false
   unreached_after = unreached mid after s t z shift_second c k covered small (unlined_before men mid (other c) k t fairy_stood too) (quiet mid s t)
+
+-- whoever stands on b, if he doesn't reach k, the others reach it or not
+unreached_in_place : (men : List (Option Man)) (b k : ℕ) (z : Man) (c : Colour) → b < length men → is_some (man_on men b) ≡ true
+    → (is_of_colour (man_on men b) c && reaches men b k) ≡ false → is_reached (with_man men b z) k c ≡ false → is_reached men k c ≡ false
+unfolding is_reached reaches
+unreached_in_place men b k z c size some harmless none =
+    let alike : StandAlike (with_man men b z) men k = record { alike = λ q ne. grind (arith, cases_eq q b, man_on-with_other, man_on-with_same, size, some) } in
+    let reached = some_square_true (λ s. is_of_colour (man_on (with_man men b z) s) c && reaches (with_man men b z) s k) in
+    some_square_false (λ s. is_of_colour (man_on men s) c && reaches men s k) 64 (omega arith) (record {
+      fails = λ s lt. false_from_ne_true _ (λ h. grind (
+        arith,
+        cases_eq s b,
+        harmless,
+        h,
+        none,
+        reached s lt,
+        man_on-with_other men b s z,
+        reaches_alike_of (with_man men b z) men (man_on men s) s k alike,
+        and_parts,
+        and_from,
+        false≢true,
+      ));
+    })
+
+-- the squares that are occupied once a man has gone to an empty one
+occupied_between : (men : List (Option Man)) (a : ℕ) (o : Option ℕ) (b : ℕ) (z : Man) → o ≡ None → b < length men
+    → bit_or (bit_and (occupied_squares men) (bit_not w64 (word (is_square (Some a))))) (word (is_square (Some b))) ≡ occupied_squares (gone_to men a o b z)
+occupied_between men a o b z none size =
+    let words : bit_or (bit_and (occupied_squares men) (bit_not w64 (word (is_square (Some a))))) (word (is_square (Some b)))
+    ≡ word (λ i. (is_some (man_on men i) && not (is_square (Some a) i)) || is_square (Some b) i) = search (rules, squares_both, squares_either, squares_not) in
+    words ∙ squares_same _ _ (λ i lt. grind (arith, occupied_now men a o b z i size, none))
 
 -- a pawn that arrives on the last rank is made a queen
 abbrev named : Man → ℕ → Option Kind
@@ -154,75 +187,135 @@ module _ (rule : RuleSet) (p : Position) (m : Move) (x : Man) (k : ℕ) (well : 
     mortal : same_kind y.kind King ≡ false
     mortal = false_from_ne_true _ (λ h. grind (arith, king_is p.men (other p.turn) s well.kings inside, stood_y, and_from, enemy, h, king, covered_y.apart, eq-eqb))
 
-    -- he takes the man that has come
-    module _ (takes : reaches q.men s m.to ≡ true) where
+    -- he goes to a square where nobody is captured elsewhere, and the man that has come is taken or doesn't reach the king
+    module _ (t : ℕ) (lt : t < 64) (takes_there : (j : ℕ) → capture_square q y (reply y s t) ≡ Some j → j ≡ t)
+        (goes : can_go rule q y (reply y s t) ≡ true) (free : is_arrival_free q.turn (man_on q.men t) ≡ true)
+        (off : is_on_fairy_line p.men (other (other p.turn)) k t ≡ false)
+        (harmless : (is_of_colour (man_on (arrived q y (reply y s t)) m.to) (other (other p.turn)) && reaches (arrived q y (reply y s t)) m.to k) ≡ false) where
       abbrev n : Move
-      n = reply y s m.to
+      n = reply y s t
 
-      arrives : man_on q.men m.to ≡ Some (arriving_man x m.promo)
-      arrives = grind (arith, men_q, there_now, small, well.size)
+      abbrev z : Man
+      z = arriving_man y n.promo
+
+      -- the men then, one of his side in place of the one that has come
+      abbrev replaced : List (Option Man)
+      replaced = with_man (arrived q y n) m.to z
 
       well_q : IsWellFormed q
       well_q = after_well_formed rule p m well may
 
-      takes_there : (i : ℕ) → capture_square q y n ≡ Some i → i ≡ m.to
-      unfolding capture_square
-      takes_there i h = grind (arith, arrives, cond-true)
+      size_r : m.to < length (arrived q y n)
+      size_r = let size : m.to < length q.men = omega (arith, small, well_q.size) in grind (arith, length-set, length-without_at, size)
 
-      gone : AreGone p.men (arrived q y n) m.from m.to s m.to (arriving_man y n.promo)
+      gone : AreGone p.men replaced m.from m.to s t z
       gone = record {
         vacated = λ i none from ne. grind (
           arith,
           cases_eq i m.to,
+          cases_eq i t,
+          man_on-with_same,
+          man_on-with_other,
           there_now,
           stays_there q y n i takes_there,
           stays_there p x m i,
           captured_there p x m,
           parts.plain.crossed,
           men_q,
-          small,
+          lt,
+          size_r,
           well_q.size,
         );
-        others = λ i v now to _. grind (arith, stands_after q y n i v, stands_after p x m i v, men_q, small, well.size, well_q.size);
-        first = there_now q.men s (capture_square q y n) m.to (arriving_man y n.promo) (omega (arith, small, well_q.size));
-        second = there_now q.men s (capture_square q y n) m.to (arriving_man y n.promo) (omega (arith, small, well_q.size));
+        others = λ i v now to ne. grind (
+          arith,
+          man_on-with_other (arrived q y n) m.to i z to,
+          stands_after q y n i v,
+          stands_after p x m i v,
+          men_q,
+          small,
+          lt,
+          well.size,
+          well_q.size,
+        );
+        first = search (rules, man_on-with_same, size_r);
+        second = grind (arith, cases_eq t m.to, man_on-with_same, man_on-with_other, there_now, lt, size_r, well_q.size);
       }
 
-      unreached_king : is_reached (arrived q y n) k (other (other p.turn)) ≡ false
-      unreached_king =
-          let z = arriving_man y n.promo in
-          let size : m.to < length p.men = omega (arith, small, well.size) in
+      arrives_still : is_some (man_on (arrived q y n) m.to) ≡ true
+      arrives_still = grind (arith, cases_eq t m.to, there_now, stays_there q y n m.to takes_there, stood_y, men_q, small, lt, well.size, well_q.size)
+
+      unreached_replaced : is_reached replaced k (other (other p.turn)) ≡ false
+      unreached_replaced =
+          let size : (m.to < length p.men) × (t < length p.men) = (omega (arith, small, well.size), omega (arith, lt, well.size)) in
           let side : same_colour z.colour (other (other p.turn)) ≡ false = grind (arith, arriving_colour, enemy, other_twice) in
           let apart : m.from ≢ m.to = grind (arith, here, is_m, false≢true, and_parts, not-true, same_colour-refl) in
           let low = (king_there p.men (other p.turn) k king).0 in
-          let back : AreGone p.men (arrived q y n) s m.to m.from m.to z = record {
+          let moves : s ≢ t = grind (arith, there, free, enemy, turn_after rule p m may, false≢true, and_parts, not-true) in
+          let back : AreGone p.men replaced s t m.from m.to z = record {
             vacated = λ i none from ne. gone.vacated i none ne from;
-            others = λ i v now to ne. let w = gone.others i v now to ne in (w.1.0, (w.0, w.1.1));
-            first = gone.first;
+            others = λ i v now to ne. let w = gone.others i v now ne to in (w.1.0, (w.0, w.1.1));
+            first = gone.second;
             second = gone.first;
           } in
           elim (cases_Bool (is_on_line k s)) [
-            | inl on ↦ unreached_after p.men (arrived q y n) s m.to m.from m.to k z (other p.turn) back size stood_y.0 side low covered_y
-                (covered_from m.from parts.origin) (grind (arith, unpinned, on, and_parts, not-true, cases_Bool (is_on_line k m.from))) aside aside
-            | inr off ↦ unreached_after p.men (arrived q y n) m.from m.to s m.to k z (other p.turn) gone size apart side low (covered_from m.from parts.origin)
-                covered_y off aside aside
+            | inl on ↦ unreached_after p.men replaced s t m.from m.to k z (other p.turn) back size.1 moves side low covered_y
+                (covered_from m.from parts.origin) (grind (arith, unpinned, on, and_parts, not-true, cases_Bool (is_on_line k m.from))) off aside
+            | inr off_line ↦ unreached_after p.men replaced m.from m.to s t k z (other p.turn) gone size.0 apart side low (covered_from m.from parts.origin)
+                covered_y off_line aside off
           ]
 
       -- so it is no mate
-      no_mate_where_taken : mates rule p m ≡ false
-      no_mate_where_taken =
+      no_mate_where_parried : mates rule p m ≡ false
+      no_mate_where_parried =
           let turn = turn_after rule p m may in
           let mine : same_colour y.colour q.turn ≡ true = ap (same_colour y.colour) turn ∙ enemy in
-          let free : is_arrival_free q.turn (man_on q.men m.to) ≡ true =
-          grind (arith, arrives, turn, arriving_colour, is_m.mine, other_differs, told.unpromoted, told.mortal) in
-          let goes : can_go rule q y n ≡ true = grind (arith, takes, arrives, cases_Bool (same_kind y.kind Pawn), cond-true, cond-false, or_left, and_from) in
-          no_mate_with_reply rule p m n well_q (reply_is_legal rule q y s m.to k well_q there mine told.able told.reborn mortal small free goes king_q
-          (ap (λ (c : Colour). is_reached (arrived q y n) k (other c)) turn ∙ unreached_king))
+          no_mate_with_reply rule p m n well_q (reply_is_legal rule q y s t k well_q there mine told.able told.reborn mortal lt free goes king_q
+          (ap (λ (c : Colour). is_reached (arrived q y n) k (other c)) turn
+          ∙ unreached_in_place (arrived q y n) m.to k z (other (other p.turn)) size_r arrives_still harmless unreached_replaced))
 
+  arrives : man_on q.men m.to ≡ Some (arriving_man x m.promo)
+  arrives = grind (arith, men_q, there_now, small, well.size)
+
+  -- he takes the man that has come
   taken_from : (s : ℕ) (o : Option Man) → man_on q.men s ≡ o → s < 64 → is_of_colour o (other p.turn) ≡ true → reaches q.men s m.to ≡ true
       → is_unpinned p m k s ≡ true → mates rule p m ≡ false
+  unfolding capture_square
   taken_from s None at inside side takes unpinned = absurd (false≢true side)
-  taken_from s (Some y) at inside side takes unpinned = no_mate_where_taken s y inside at side unpinned takes
+  taken_from s (Some y) at inside side takes unpinned =
+      let free : is_arrival_free q.turn (man_on q.men m.to) ≡ true =
+      grind (arith, arrives, turn_after rule p m may, arriving_colour, is_m.mine, other_differs, told.unpromoted, told.mortal) in
+      let goes : can_go rule q y (reply y s m.to) ≡ true =
+      grind (arith, takes, arrives, cases_Bool (same_kind y.kind Pawn), cond-true, cond-false, or_left, and_from) in
+      let size : m.to < length q.men = omega (arith, small, (after_well_formed rule p m well may).size) in
+      no_mate_where_parried s y inside at side unpinned m.to small (λ j h. grind (arith, arrives, cond-true, h)) goes free aside
+      (grind (arith, there_now q.men s (capture_square q y (reply y s m.to)) m.to (arriving_man y (named y m.to)) size, arriving_colour, side, other_twice, and_left))
+
+  -- he comes between, and the man that has come doesn't reach the king any more
+  between_from : (i : IsInterposed q.men p x m k) (o : Option Man) → man_on q.men i.from ≡ o → mates rule p m ≡ false
+  unfolding reaches may_stand_between
+  between_from i None at = absurd (false≢true (grind (arith, i.comes, at, and_parts)))
+  between_from i (Some y) at =
+      let both = and_parts (is_of_colour (man_on q.men i.from) (other p.turn) && reaches q.men i.from i.square) (is_unpinned p m k i.from) i.comes in
+      let parts = and_parts (is_of_colour (man_on q.men i.from) (other p.turn)) (reaches q.men i.from i.square) both.0 in
+      let inside = on_board q.men i.from y (after_well_formed rule p m well may).size at in
+      let side : same_colour y.colour (other p.turn) ≡ true = grind (arith, parts.0, at) in
+      let stood = stood_y i.from y inside at side both.1 in
+      let piece : same_kind y.kind Pawn ≡ false = grind (arith, i.piece, stood, side, cases_Bool (same_kind y.kind Pawn), and_from) in
+      let goes : can_go rule q y (reply y i.from i.square) ≡ true = grind (arith, parts.1, piece, cond-false, or_left) in
+      let nobody : capture_square q y (reply y i.from i.square) ≡ None = search (rules, no_capture, i.vacant, and_left, piece) in
+      let size : i.square < length q.men = omega (arith, i.small, (after_well_formed rule p m well may).size) in
+      let words = occupied_between q.men i.from (capture_square q y (reply y i.from i.square)) i.square (arriving_man y (named y i.square)) nobody size in
+      let stays : man_on (arrived q y (reply y i.from i.square)) m.to ≡ Some x =
+      grind (arith, stays_there q y (reply y i.from i.square) m.to, capture_of_piece, piece, arrives, told.unpromoted, stood, i.vacant) in
+      let unharmed : reaches (arrived q y (reply y i.from i.square)) m.to k ≡ false =
+      grind (arith, stays, i.shut (arrived q y (reply y i.from i.square)) words) in
+      no_mate_where_parried i.from y inside at side both.1 i.square i.small (λ j h. capture_of_piece q y (reply y i.from i.square) j piece h) goes
+      (grind (arith, i.vacant)) (ap (λ (o : Option ℕ). is_on_fairy_line_at p.men o (other p.turn) i.square) (sym king) ∙ i.aside)
+      (and_right (is_of_colour (man_on (arrived q y (reply y i.from i.square)) m.to) (other (other p.turn))) _ unharmed)
+
+  -- for `is_parried`: somebody comes between
+  pub no_mate_where_interposed : IsInterposed q.men p x m k → mates rule p m ≡ false
+  no_mate_where_interposed i = between_from i _ refl
 
   -- the men that an attack sees after it
   pub seen_q : AreSeen p.men q.men (other p.turn) (sight_after p.men m.from (capture_square p x m) m.to)
@@ -239,17 +332,17 @@ module _ (rule : RuleSet) (p : Position) (m : Move) (x : Man) (k : ℕ) (well : 
       )
 
   -- for `is_parried`: somebody takes the man that has come
-  pub no_mate_where_some_take : some_square (λ s. is_of_colour (man_on q.men s) (other p.turn) && reaches q.men s m.to && is_unpinned p m k s) ≡ true
-      → mates rule p m ≡ false
+  pub no_mate_where_some_take : (w : ℕ) → w ≡ word (λ s. is_of_colour (man_on q.men s) (other p.turn) && reaches q.men s m.to && is_unpinned p m k s)
+      → not (w == 0) ≡ true → mates rule p m ≡ false
   unfolding some_square squares
-  no_mate_where_some_take h =
+  no_mate_where_some_take w are some =
       let takes = λ (s : ℕ). is_of_colour (man_on q.men s) (other p.turn) && reaches q.men s m.to && is_unpinned p m k s in
       elim (any_range_cases takes 0 64) [
         | inl w ↦
             let both = and_parts _ (is_unpinned p m k w.0) w.3 in
             let parts = and_parts _ (reaches q.men w.0 m.to) both.0 in
             taken_from w.0 _ refl w.2 parts.0 parts.1 both.1
-        | inr none ↦ absurd (false≢true (sym (any_range_false takes 0 64 none) ∙ h))
+        | inr none ↦ absurd (false≢true (sym (any_range_false takes 0 64 none) ∙ (sym (some_square_told takes w are) ∙ some)))
       ]
 
 beside_is : (a b o : Bool) → o ≡ true → not (a || b) ≡ (not a && not (o && b))
@@ -277,6 +370,23 @@ module _ (p : Position) (m : Move) (k w l d : ℕ) (shields : w ≡ word (may_ex
       let words : bit_not w64 w ≡ word (λ s. not (may_expose p.men (other p.turn) s)) = search (rules, shields, squares_not) in
       words ∙ squares_same _ _ (λ s b. alone_is (may_expose p.men (other p.turn) s) (is_on_line k s) (is_on_line k m.from) (sym on_line_is ∙ off))
 
--- for `is_reached_from`
-pub some_of_both : (f g : ℕ → Bool) (r u : ℕ) → r ≡ word f → u ≡ word g → not (bit_and r u == 0) ≡ some_square (λ s. f s && g s)
-some_of_both f g r u first second = search (rules, squares_both, not_zero)
+-- for `is_interposed`
+pub interposed : (men : List (Option Man)) (p : Position) (x : Man) (m : Move) (k a o f c w t : ℕ) → o ≡ occupied_squares men
+    → f ≡ word (may_stand_between p.men (other p.turn)) → c ≡ word (λ s. is_of_colour (man_on men s) (other p.turn) && reaches men s t && is_unpinned p m k s)
+    → w ≡ squares_of p.men (other p.turn) Pawn → t < 64 → (bit_at (bit_and a (bit_not w64 (bit_or o f))) t == 1) ≡ true
+    → IsShutBy o (bit_and c (bit_not w64 w)) x m.to k t → IsInterposed men p x m k
+unfolding squares_of
+interposed men p x m k a o f c w t occupied lines comers pawns lt on by =
+    let held : bit_or o f ≡ word (λ s. is_some (man_on men s) || may_stand_between p.men (other p.turn) s) =
+    search (rules, occupied, lines, squares_either) in
+    let off = or_parts _ (may_stand_between p.men (other p.turn) t) (sym (word_has _ (bit_or o f) t held lt) ∙ unseen_bit _ a (bit_or o f) t held lt on) in
+    record {
+      from = by.from;
+      square = t;
+      small = lt;
+      comes = sym (word_has _ c by.from comers by.small) ∙ on_first c _ by.from by.here;
+      piece = sym (word_has _ w by.from pawns by.small) ∙ unseen_bit _ c w by.from pawns by.small by.here;
+      vacant = grind (arith, off.0);
+      aside = off.1;
+      shut = λ l words. by.shut l (ap (λ (n : ℕ). bit_or (bit_and n (bit_not w64 (word (is_square (Some by.from))))) (word (is_square (Some t)))) occupied ∙ words);
+    }
