@@ -1,15 +1,16 @@
 -- Another man than the king parries a check: he leaves no line to the king open.
-use Rattle.chess_mates.proofs.Chess.{AreSeen, Bishop, Bool, Colour, Grasshopper, IsCovered, IsMade, IsShift, IsSimple, IsWellFormed, Kind, King, List, Man, Move, Nightrider, None, Option, Pawn, Position, Queen, Rook, RuleSet, Some, StandAlike, Step, after_well_formed, and_from, and_left, and_parts, and_right, any_kept, any_range_cases, any_range_false, ap, arith, arrived, arriving_colour, arriving_man, bit_and, bit_at, bit_not, bit_or, cannot_expose_parts, capture_of_piece, capture_square, captures_arrival, captures_do_more, cases_Bool, cases_eq, check_is, cond-false, cond-true, covered_parts, diagonal_steps, differs, eq-eqb, faced_men_stand_still, false, false_from_ne_true, false≢true, goes_on, gone_shift, gone_to, if◌then◌else◌, inl, inr, is_ahead, is_arrival_free, is_legal, is_lined, is_man, is_of_colour, is_on_fairy_line, is_on_fairy_line_at, is_on_some, is_paralysed, is_promoting, is_promotion_right, is_pseudo_legal, is_reached, is_shut, is_some, is_square, kept_now, king_is, king_square, king_there, knight_steps, left_now, length, length-set, made, man_on, man_on-with_other, man_on-with_same, man_there, mates, may_expose, may_expose_at, may_stand_between, no_capture, not, not-true, not_attacked, occupied_now, occupied_squares, on_board, on_first, or_cases, or_left, or_parts, or_right, other, other_differs, other_twice, position_after, queen_steps, reaches, refl, rules, same_colour, same_colour-refl, same_kind, sight_after, simple_after, some_square, some_square_false, some_square_true, squares, squares_both, squares_either, squares_not, squares_of, squares_same, stood, straight_steps, sym, there_now, true, unreached, w64, with_man, word, word_has, ℕ, ◌&&◌, ◌<◌, ◌==◌, ◌||◌, ◌∙◌, ◌≡◌, ◌≢◌}
+use Rattle.chess_mates.proofs.Chess.{AreSeen, Bishop, Black, Bool, Colour, Grasshopper, IsCovered, IsMade, IsShift, IsSimple, IsWellFormed, Kind, King, List, Man, Move, Nightrider, None, Option, Pawn, Position, Queen, Rook, RuleSet, Some, StandAlike, Step, White, after_well_formed, agree_below_at, along, and_from, and_left, and_parts, and_right, any_kept, any_range_cases, any_range_false, ap, arith, arrived, arriving_colour, arriving_man, back, bit_and, bit_at, bit_not, bit_or, cannot_expose, cannot_expose_parts, capture_square, captures_arrival, captures_do_more, cases_Bool, cases_eq, check_is, circe, cond-false, cond-true, covered_parts, diagonal_steps, differs, enemy, eq-eqb, faced_men_stand_still, false, false_from_ne_true, false≢true, forward, goes_on, gone_shift, gone_to, if◌then◌else◌, inl, inr, is_advance, is_ahead, is_arrival_free, is_legal, is_lined, is_man, is_of_colour, is_on_fairy_line, is_on_fairy_line_at, is_on_some, is_paralysed, is_promoting, is_promotion_right, is_pseudo_legal, is_reached, is_shut, is_some, is_square, kept_now, king_is, king_square, king_there, knight_steps, leaps, left_now, length, length-set, list_any, made, man_on, man_on-with_other, man_on-with_same, man_there, mates, may_expose, may_expose_at, may_stand_between, moves, no_capture, not, not-true, not_attacked, occupied_now, occupied_squares, on_board, on_first, or_cases, or_left, or_parts, or_right, other, other_differs, other_twice, pawn_goes, position_after, queen_steps, reaches, rebirth, refl, return_square, rules, same_colour, same_colour-refl, same_colour-true, same_kind, sight_after, simple_after, some_square, some_square_false, some_square_true, square_is, squares, squares_both, squares_either, squares_not, squares_of, squares_same, stood, straight_steps, sym, there_now, true, unreached, w64, with_man, word, word_has, ℕ, ◌&&◌, ◌<◌, ◌==◌, ◌||◌, ◌∙◌, ◌≡◌, ◌≢◌}
 use Rattle.chess_rules.proofs.attacks.Shielding.{CannotExpose, IsQuiet}
-use Rattle.chess_mates.proofs.Fleeing.{king_waits, reaches_alike_of, unseen_bit}
+use Rattle.chess_mates.proofs.Fleeing.{king_waits, on_second, reaches_alike_of, unseen_bit}
 use Rattle.chess_rules.proofs.attacks.Seeing.{seen_after}
 use Rattle.chess_mates.proofs.Mating.{turn_after}
 use Rattle.chess_mates.proofs.Standing.{captured_there, stays_there, stood as stands_after}
-use Rattle.chess_mates.specs.ties.Parries.{AreParriesTold, IsInterposed, IsShutBy, is_on_line, is_unpinned}
+use Rattle.chess_mates.specs.ties.Parries.{AreParriesTold, IsInterposed, IsShutBy, IsWayBetween, is_on_line, is_unpinned}
 use Rattle.chess_rules.proofs.theorems.Moves.{mate_is}
 use Rattle.chess_core.proofs.Words.{some_square_told}
 use Rattle.chess_rules.proofs.making_moves.Plays.{length-without_at}
-use Rattle.chess_rules.specs.Legal.{can_go}
+use Rattle.chess_rules.specs.Legal.{can_go, is_pawn_step}
+use Rattle.chess_mates.proofs.Hurdles.{on_one}
 
 -- a man who stands on neither of two squares
 pub record AreGone (men after : List (Option Man)) (a b s t : ℕ) (z : Man) : Type 0 where
@@ -291,27 +292,41 @@ module _ (rule : RuleSet) (p : Position) (m : Move) (x : Man) (k : ℕ) (well : 
       (grind (arith, there_now q.men s (capture_square q y (reply y s m.to)) m.to (arriving_man y (named y m.to)) size, arriving_colour, side, other_twice, and_left))
 
   -- he comes between, and the man that has come doesn't reach the king any more
+  module _ (i : IsInterposed q.men p x m k) (y : Man) (at : man_on q.men i.from ≡ Some y) (side : same_colour y.colour (other p.turn) ≡ true)
+      (nobody : capture_square q y (reply y i.from i.square) ≡ None) (goes : can_go rule q y (reply y i.from i.square) ≡ true) where
+    comes_between : mates rule p m ≡ false
+    unfolding reaches may_stand_between
+    comes_between =
+        let well_q = after_well_formed rule p m well may in
+        let inside = on_board q.men i.from y well_q.size at in
+        let stood = stood_y i.from y inside at side i.unpinned in
+        let words = occupied_between q.men i.from (capture_square q y (reply y i.from i.square)) i.square (arriving_man y (named y i.square)) nobody
+        (omega (arith, i.small, well_q.size)) in
+        let nowhere : (j : ℕ) → capture_square q y (reply y i.from i.square) ≡ Some j → j ≡ i.square = λ j h. grind (arith, nobody, h) in
+        let stays : man_on (arrived q y (reply y i.from i.square)) m.to ≡ Some x =
+        grind (arith, stays_there q y (reply y i.from i.square) m.to nowhere, arrives, told.unpromoted, stood, i.vacant) in
+        let unharmed : reaches (arrived q y (reply y i.from i.square)) m.to k ≡ false =
+        grind (arith, stays, i.shut (arrived q y (reply y i.from i.square)) words) in
+        no_mate_where_parried i.from y inside at side i.unpinned i.square i.small nowhere goes (grind (arith, i.vacant))
+        (ap (λ (o : Option ℕ). is_on_fairy_line_at p.men o (other p.turn) i.square) (sym king) ∙ i.aside)
+        (and_right (is_of_colour (man_on (arrived q y (reply y i.from i.square)) m.to) (other (other p.turn))) _ unharmed)
+
   between_from : (i : IsInterposed q.men p x m k) (o : Option Man) → man_on q.men i.from ≡ o → mates rule p m ≡ false
-  unfolding reaches may_stand_between
-  between_from i None at = absurd (false≢true (grind (arith, i.comes, at, and_parts)))
-  between_from i (Some y) at =
-      let both = and_parts (is_of_colour (man_on q.men i.from) (other p.turn) && reaches q.men i.from i.square) (is_unpinned p m k i.from) i.comes in
-      let parts = and_parts (is_of_colour (man_on q.men i.from) (other p.turn)) (reaches q.men i.from i.square) both.0 in
-      let inside = on_board q.men i.from y (after_well_formed rule p m well may).size at in
-      let side : same_colour y.colour (other p.turn) ≡ true = grind (arith, parts.0, at) in
-      let stood = stood_y i.from y inside at side both.1 in
-      let piece : same_kind y.kind Pawn ≡ false = grind (arith, i.piece, stood, side, cases_Bool (same_kind y.kind Pawn), and_from) in
-      let goes : can_go rule q y (reply y i.from i.square) ≡ true = grind (arith, parts.1, piece, cond-false, or_left) in
-      let nobody : capture_square q y (reply y i.from i.square) ≡ None = search (rules, no_capture, i.vacant, and_left, piece) in
-      let size : i.square < length q.men = omega (arith, i.small, (after_well_formed rule p m well may).size) in
-      let words = occupied_between q.men i.from (capture_square q y (reply y i.from i.square)) i.square (arriving_man y (named y i.square)) nobody size in
-      let stays : man_on (arrived q y (reply y i.from i.square)) m.to ≡ Some x =
-      grind (arith, stays_there q y (reply y i.from i.square) m.to, capture_of_piece, piece, arrives, told.unpromoted, stood, i.vacant) in
-      let unharmed : reaches (arrived q y (reply y i.from i.square)) m.to k ≡ false =
-      grind (arith, stays, i.shut (arrived q y (reply y i.from i.square)) words) in
-      no_mate_where_parried i.from y inside at side both.1 i.square i.small (λ j h. capture_of_piece q y (reply y i.from i.square) j piece h) goes
-      (grind (arith, i.vacant)) (ap (λ (o : Option ℕ). is_on_fairy_line_at p.men o (other p.turn) i.square) (sym king) ∙ i.aside)
-      (and_right (is_of_colour (man_on (arrived q y (reply y i.from i.square)) m.to) (other (other p.turn))) _ unharmed)
+  between_from i None at = absurd (false≢true (grind (arith, i.way, at)))
+  between_from i (Some y) at = elim i.way [
+    | inl w ↦
+        let parts = and_parts (is_of_colour (man_on q.men i.from) (other p.turn)) (reaches q.men i.from i.square) w.0 in
+        let side : same_colour y.colour (other p.turn) ≡ true = grind (arith, parts.0, at) in
+        let piece : same_kind y.kind Pawn ≡ false = grind (arith, w.1, at, side, cases_Bool (same_kind y.kind Pawn), and_from) in
+        comes_between i y at side (search (rules, no_capture, i.vacant, and_left, piece)) (grind (arith, parts.1, piece, cond-false, or_left))
+    | inr w ↦
+        let both = and_parts (same_colour y.colour (other p.turn)) (same_kind y.kind Pawn) (grind (arith, w.0, at)) in
+        let colour : y.colour ≡ other p.turn = same_colour-true _ _ both.0 in
+        let step : is_pawn_step q y (reply y i.from i.square) ≡ true = grind (arith, i.vacant, w.1, colour, or_left, and_from) in
+        let ahead = (pawn_goes q y (reply y i.from i.square) step).ahead in
+        comes_between i y at both.0 (no_capture q y (reply y i.from i.square) i.vacant (grind (arith, ahead, eq-eqb, and_right)))
+        (grind (arith, step, both.1, cond-true, or_right))
+  ]
 
   -- for `is_parried`: somebody comes between
   pub no_mate_where_interposed : IsInterposed q.men p x m k → mates rule p m ≡ false
@@ -370,23 +385,58 @@ module _ (p : Position) (m : Move) (k w l d : ℕ) (shields : w ≡ word (may_ex
       let words : bit_not w64 w ≡ word (λ s. not (may_expose p.men (other p.turn) s)) = search (rules, shields, squares_not) in
       words ∙ squares_same _ _ (λ s b. alone_is (may_expose p.men (other p.turn) s) (is_on_line k s) (is_on_line k m.from) (sym on_line_is ∙ off))
 
+-- a square two ahead isn't next to a pawn's
+abbrev is_far_at : ℕ → Option ℕ → Bool
+is_far_at t None = true
+is_far_at t (Some s) = not (list_any (leaps t s) queen_steps)
+
+two_far : (c : Colour) (t : ℕ) → t < 64 → is_far_at t (along t (forward c) 2) ≡ true
+unfolding along leaps
+two_far White t p = agree_below_at (λ t. is_far_at t (along t (forward White) 2)) (λ _. true) 64 t refl p
+two_far Black t p = agree_below_at (λ t. is_far_at t (along t (forward Black) 2)) (λ _. true) 64 t refl p
+
+one_ahead : (c : Colour) (t s : ℕ) → t < 64 → is_advance c t s ≡ true → list_any (leaps t s) queen_steps ≡ true
+    → is_square (along t (forward c) 1) s ≡ true
+one_ahead c t s p advance near = elim (or_cases (is_square (along t (forward c) 1) s) (is_square (along t (forward c) 2) s) advance) [
+  | inl y ↦ y
+  | inr y ↦ absurd (false≢true (sym (not-true _ (ap (is_far_at t) (sym (square_is (along t (forward c) 2) s y)) ∙ two_far c t p)) ∙ near))
+]
+
+-- for `pawn_origins`
+pub pawns_behind : (c : Colour) (t a k s : ℕ) → t < 64 → s < 64 → a ≡ word (is_advance (other c) t) → k ≡ word (λ s. list_any (leaps t s) queen_steps)
+    → (bit_at (bit_and a k) s == 1) ≡ true → is_square (along s (forward c) 1) t ≡ true
+pawns_behind c t a k s p q ahead near on =
+    let step = one_ahead (other c) t s p (sym (word_has _ a s ahead q) ∙ on_first a k s on) (sym (word_has _ k s near q) ∙ on_second a k s on) in
+    grind (arith, return_square t s (forward (other c)) 1 p step)
+
 -- for `is_interposed`
-pub interposed : (men : List (Option Man)) (p : Position) (x : Man) (m : Move) (k a o f c w t : ℕ) → o ≡ occupied_squares men
+pub interposed : (men : List (Option Man)) (p : Position) (x : Man) (m : Move) (k a o f c w u b t : ℕ) → o ≡ occupied_squares men
     → f ≡ word (may_stand_between p.men (other p.turn)) → c ≡ word (λ s. is_of_colour (man_on men s) (other p.turn) && reaches men s t && is_unpinned p m k s)
-    → w ≡ squares_of p.men (other p.turn) Pawn → t < 64 → (bit_at (bit_and a (bit_not w64 (bit_or o f))) t == 1) ≡ true
-    → IsShutBy o (bit_and c (bit_not w64 w)) x m.to k t → IsInterposed men p x m k
+    → w ≡ squares_of men (other p.turn) Pawn → u ≡ word (is_unpinned p m k)
+    → ((s : ℕ) → s < 64 → (bit_at b s == 1) ≡ true → is_square (along s (forward (other p.turn)) 1) t ≡ true) → t < 64
+    → (bit_at (bit_and a (bit_not w64 (bit_or o f))) t == 1) ≡ true
+    → IsShutBy o (bit_or (bit_and c (bit_not w64 w)) (bit_and (bit_and w u) b)) x m.to k t → IsInterposed men p x m k
 unfolding squares_of
-interposed men p x m k a o f c w t occupied lines comers pawns lt on by =
+interposed men p x m k a o f c w u b t occupied lines comers pawns loose behind lt on by =
     let held : bit_or o f ≡ word (λ s. is_some (man_on men s) || may_stand_between p.men (other p.turn) s) =
     search (rules, occupied, lines, squares_either) in
     let off = or_parts _ (may_stand_between p.men (other p.turn) t) (sym (word_has _ (bit_or o f) t held lt) ∙ unseen_bit _ a (bit_or o f) t held lt on) in
-    record {
+    let made : is_unpinned p m k by.from ≡ true → IsWayBetween men p by.from t → IsInterposed men p x m k = λ free way. record {
       from = by.from;
       square = t;
       small = lt;
-      comes = sym (word_has _ c by.from comers by.small) ∙ on_first c _ by.from by.here;
-      piece = sym (word_has _ w by.from pawns by.small) ∙ unseen_bit _ c w by.from pawns by.small by.here;
+      unpinned = free;
+      way = way;
       vacant = grind (arith, off.0);
       aside = off.1;
       shut = λ l words. by.shut l (ap (λ (n : ℕ). bit_or (bit_and n (bit_not w64 (word (is_square (Some by.from))))) (word (is_square (Some t)))) occupied ∙ words);
-    }
+    } in
+    elim (on_one (bit_and c (bit_not w64 w)) (bit_and (bit_and w u) b) by.from by.here) [
+      | inl y ↦
+          let both = and_parts _ (is_unpinned p m k by.from) (sym (word_has _ c by.from comers by.small) ∙ on_first c _ by.from y) in
+          made both.1 (inl (both.0, sym (word_has _ w by.from pawns by.small) ∙ unseen_bit _ c w by.from pawns by.small y))
+      | inr y ↦
+          let first = on_first (bit_and w u) b by.from y in
+          made (sym (word_has _ u by.from loose by.small) ∙ on_second w u by.from first)
+          (inr (sym (word_has _ w by.from pawns by.small) ∙ on_first w u by.from first, behind by.from by.small (on_second (bit_and w u) b by.from y)))
+    ]

@@ -1,7 +1,9 @@
 //! Checks that another man than the king parries, told before they are given: he captures the man who
 //! gives it, or comes between.
-ghost use Rattle.std.specs.Prelude.{◌≡◌, ◌&&◌, ℕ, List, Option, true, false};
+ghost use Rattle.std.specs.Prelude.{◌≡◌, ◌&&◌, ◌<◌, ◌==◌, ℕ, List, Option, true, false};
 ghost use Rattle.chess_core.specs.Position.{Position, is_of_colour, man_on, other};
+ghost use Rattle.chess_core.specs.Squares.{is_square};
+ghost use Rattle.chess_core.specs.Steps.{along};
 ghost use Rattle.chess_core.specs.WellFormed.{IsWellFormed};
 ghost use Rattle.chess_core.specs.declared.man.Man.{Man};
 ghost use Rattle.chess_core.specs.declared.man.Move.{Move};
@@ -9,7 +11,8 @@ ghost use Rattle.chess_core.specs.ties.Words.{word};
 ghost use Rattle.chess_mates.specs.ties.CheckSquares.{AreCheckSquares};
 ghost use Rattle.chess_mates.specs.ties.Mates.{mates};
 ghost use Rattle.chess_mates.specs.ties.Parries.{AreParriesTold, IsInterposed, IsShutBy, is_unpinned};
-ghost use Rattle.chess_rules.specs.Legal.{is_pseudo_legal};
+ghost use Rattle.chess_rules.specs.Legal.{forward, is_pseudo_legal};
+ghost use Rattle.std.specs.Int.{bit_at};
 ghost use Rattle.chess_rules.specs.Reaches.{reaches};
 ghost use Rattle.chess_rules.specs.ties.Sight.{AreSeen};
 
@@ -17,6 +20,7 @@ use crate::checks::CheckSquares;
 use chess_core::board::Board;
 use chess_core::man::{Colour, Kind, Man, Move};
 use chess_core::square::{Square, Squares};
+use chess_rules::leaps::{king_leaps, pawn_advances};
 use chess_rules::lines::{diagonal_lines, straight_lines};
 use chess_rules::outward::attackers_seen;
 use chess_rules::play::capture_square;
@@ -107,7 +111,18 @@ fn shuts(
     !contains(reach_over(then, man.colour, man.kind, to), king)
 }
 
-// Whether an unpinned piece comes between the man that has come and the king on `king`.
+// The squares from which a pawn of this colour comes to the square by one step.
+#[tactic(auto, using(crate::proofs::Parrying::pawns_behind))]
+fn pawn_origins(colour: Colour, square: Square) -> Squares
+    ensures { (s : ℕ) → s < 64 → (bit_at result s == 1) ≡ true
+        → is_square (along s (forward colour) 1) square ≡ true }
+{
+    // For the proof: a square's number is below 64.
+    let _small = square.index();
+    pawn_advances(colour.other(), square) & king_leaps(square)
+}
+
+// Whether an unpinned man comes between the man that has come and the king on `king`.
 fn is_interposed(
     board: &Board,
     sight: Sight,
@@ -127,8 +142,9 @@ fn is_interposed(
     let mut number = 0u8;
     while let Some(square) = next_bit(between, number) {
         let comers = reached_from(board, sight, square, enemy, unpinned);
-        let pieces = comers & !board.squares(enemy, Kind::Pawn);
-        if shuts(sight.occupied, man, m.to, king, square, pieces) {
+        let pawns = board.squares(enemy, Kind::Pawn) & sight.standing;
+        let those = comers & !pawns | pawns & unpinned & pawn_origins(enemy, square);
+        if shuts(sight.occupied, man, m.to, king, square, those) {
             return true;
         }
         number = square.index() + 1;

@@ -1,10 +1,11 @@
 -- Checks that another man than the king parries, told before they are given (own).
-use Rattle.std.specs.Prelude.{◌≡◌, ◌<◌, ◌==◌, ℕ, Bool, true, false, List, Option, None, Some, not, ◌&&◌, ◌||◌}
+use Rattle.std.specs.Prelude.{◌≡◌, ◌<◌, ◌==◌, ℕ, Bool, true, false, List, Option, None, Some, not, ◌&&◌, ◌||◌, ◌⊎◌}
 use Rattle.std.specs.Int.{bit_at, bit_not, w64}
 use Rattle.std.specs.Int.Bits.{bit_and, bit_or}
 use Rattle.chess_core.specs.Position.{Position, is_man, is_of_colour, man_on, other, same_kind}
 use Rattle.chess_core.specs.Squares.{is_square}
-use Rattle.chess_core.specs.Steps.{diagonal_steps, straight_steps}
+use Rattle.chess_rules.specs.Legal.{forward}
+use Rattle.chess_core.specs.Steps.{along, diagonal_steps, straight_steps}
 use Rattle.chess_core.specs.declared.man.Kind.TheVariants.{King, Pawn}
 use Rattle.chess_core.specs.declared.man.Man.{Man}
 use Rattle.chess_core.specs.declared.man.Move.{Move}
@@ -33,15 +34,22 @@ abbrev pub is_unpinned : Position → Move → ℕ → ℕ → Bool
 is_unpinned p m k s =
     not (may_expose p.men (other p.turn) s) && not (is_on_line k m.from && is_on_line k s)
 
--- once the man of x has come by m, another comes from one square to another, empty and on no fairy line: he is no
--- pawn and unpinned, and x doesn't reach the king on k then
+-- a man of those comes from s to t: a piece reaches it, or a pawn steps there
+abbrev pub IsWayBetween : List (Option Man) → Position → ℕ → ℕ → Type 0
+IsWayBetween men p s t =
+    (((is_of_colour (man_on men s) (other p.turn) && reaches men s t) ≡ true)
+    × (is_man (man_on men s) (other p.turn) Pawn ≡ false))
+    ⊎ ((is_man (man_on men s) (other p.turn) Pawn ≡ true)
+    × (is_square (along s (forward (other p.turn)) 1) t ≡ true))
+
+-- once the man of x has come by m, another, who is unpinned, comes from one square to another, empty and on no
+-- fairy line, and x doesn't reach the king on k then
 pub record IsInterposed (men : List (Option Man)) (p : Position) (x : Man) (m : Move) (k : ℕ) : Type 0 where
   pub from : ℕ
   pub square : ℕ
   pub small : square < 64
-  pub comes : (is_of_colour (man_on men from) (other p.turn) && reaches men from square
-      && is_unpinned p m k from) ≡ true
-  pub piece : is_man (man_on p.men from) (other p.turn) Pawn ≡ false
+  pub unpinned : is_unpinned p m k from ≡ true
+  pub way : IsWayBetween men p from square
   pub vacant : man_on men square ≡ None
   pub aside : may_stand_between p.men (other p.turn) square ≡ false
   pub shut : (l : List (Option Man)) → bit_or (bit_and (occupied_squares men)
