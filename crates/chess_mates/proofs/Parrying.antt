@@ -2,7 +2,7 @@
 use Rattle.chess_mates.proofs.Chess.{AreSeen, Bishop, Black, Bool, Colour, Grasshopper, IsCovered, IsMade, IsShift, IsSimple, IsWellFormed, Kind, King, List, Man, Move, Nightrider, None, Option, Pawn, Position, Queen, Rook, RuleSet, Some, StandAlike, Step, White, after_well_formed, agree_below_at, along, and_from, and_left, and_parts, and_right, any_kept, any_range_cases, any_range_false, ap, arith, arrived, arriving_colour, arriving_man, back, bit_and, bit_at, bit_not, bit_or, cannot_expose, cannot_expose_parts, capture_square, captures_arrival, captures_do_more, cases_Bool, cases_eq, check_is, circe, cond-false, cond-true, covered_parts, diagonal_steps, differs, enemy, eq-eqb, faced_men_stand_still, false, false_from_ne_true, false≢true, forward, goes_on, gone_shift, gone_to, if◌then◌else◌, inl, inr, is_advance, is_ahead, is_arrival_free, is_legal, is_lined, is_man, is_of_colour, is_on_fairy_line, is_on_fairy_line_at, is_on_some, is_paralysed, is_promoting, is_promotion_right, is_pseudo_legal, is_reached, is_shut, is_some, is_square, kept_now, king_is, king_square, king_there, knight_steps, leaps, left_now, length, length-set, list_any, made, man_on, man_on-with_other, man_on-with_same, man_there, mates, may_expose, may_expose_at, may_stand_between, moves, no_capture, not, not-true, not_attacked, occupied_now, occupied_squares, on_board, on_first, or_cases, or_left, or_parts, or_right, other, other_differs, other_twice, pawn_goes, position_after, queen_steps, reaches, rebirth, refl, return_square, rules, same_colour, same_colour-refl, same_colour-true, same_kind, sight_after, simple_after, some_square, some_square_false, some_square_true, square_is, squares, squares_both, squares_either, squares_not, squares_of, squares_same, stood, straight_steps, sym, there_now, true, unreached, w64, with_man, word, word_has, ℕ, ◌&&◌, ◌<◌, ◌==◌, ◌||◌, ◌∙◌, ◌≡◌, ◌≢◌}
 use Rattle.chess_rules.proofs.attacks.Shielding.{CannotExpose, IsQuiet}
 use Rattle.chess_mates.proofs.Fleeing.{king_waits, on_second, reaches_alike_of, unseen_bit}
-use Rattle.chess_rules.proofs.attacks.Seeing.{seen_after}
+use Rattle.chess_rules.proofs.attacks.Seeing.{IsCapture, seen_after}
 use Rattle.chess_mates.proofs.Mating.{turn_after}
 use Rattle.chess_mates.proofs.Standing.{captured_there, stays_there, stood as stands_after}
 use Rattle.chess_mates.specs.ties.Parries.{AreParriesTold, IsInterposed, IsShutBy, IsWayBetween, is_on_line, is_unpinned}
@@ -37,15 +37,9 @@ unlined_before men mid e k t stood off =
     let lined : (j : Kind) (d : Step) → is_lined mid e j k t d ≡ true → is_lined men e j k t d ≡ true =
     λ j d h. and_from _ _ (and_parts _ _ h).0 (some_before (λ q. is_man (man_on mid q) e j && is_ahead k d q) (λ q. is_man (man_on men q) e j && is_ahead k d q)
     (λ q on. and_from _ _ (stood j q (and_parts _ _ on).0) (and_parts _ _ on).1) (and_parts _ _ h).1) in
-    false_from_ne_true _ (λ h. grind (
-      arith,
-      or_cases,
-      or_left,
-      or_right,
-      false≢true,
-      any_kept (is_lined mid e Grasshopper k t) (is_lined men e Grasshopper k t) queen_steps (lined Grasshopper),
-      any_kept (is_lined mid e Nightrider k t) (is_lined men e Nightrider k t) knight_steps (lined Nightrider),
-    ))
+    let hop = any_kept (is_lined mid e Grasshopper k t) (is_lined men e Grasshopper k t) queen_steps (lined Grasshopper) in
+    let ride = any_kept (is_lined mid e Nightrider k t) (is_lined men e Nightrider k t) knight_steps (lined Nightrider) in
+    false_from_ne_true _ (λ h. grind (arith, or_cases, or_left, or_right, false≢true, hop, ride))
 
 module _ (men after : List (Option Man)) (a b s t k : ℕ) (z : Man) (c : Colour) (g : AreGone men after a b s t z) (inside : b < length men) (apart : a ≢ b)
     (side : same_colour z.colour (other c) ≡ false) (small : k < 64) (first : IsCovered men c a k) (second : IsCovered men c s k)
@@ -88,21 +82,10 @@ unreached_in_place : (men : List (Option Man)) (b k : ℕ) (z : Man) (c : Colour
 unfolding is_reached reaches
 unreached_in_place men b k z c size some harmless none =
     let alike : StandAlike (with_man men b z) men k = record { alike = λ q ne. grind (arith, cases_eq q b, man_on-with_other, man_on-with_same, size, some) } in
+    let same = λ (s : ℕ). reaches_alike_of (with_man men b z) men (man_on men s) s k alike in
     let reached = some_square_true (λ s. is_of_colour (man_on (with_man men b z) s) c && reaches (with_man men b z) s k) in
     some_square_false (λ s. is_of_colour (man_on men s) c && reaches men s k) 64 (omega arith) (record {
-      fails = λ s lt. false_from_ne_true _ (λ h. grind (
-        arith,
-        cases_eq s b,
-        harmless,
-        h,
-        none,
-        reached s lt,
-        man_on-with_other men b s z,
-        reaches_alike_of (with_man men b z) men (man_on men s) s k alike,
-        and_parts,
-        and_from,
-        false≢true,
-      ));
+      fails = λ s lt. false_from_ne_true _ (λ h. grind (arith, cases_eq s b, reached s lt, man_on-with_other men b s z, same s, and_parts, and_from, false≢true));
     })
 
 -- the squares that are occupied once a man has gone to an empty one
@@ -112,6 +95,9 @@ occupied_between men a o b z none size =
     let words : bit_or (bit_and (occupied_squares men) (bit_not w64 (word (is_square (Some a))))) (word (is_square (Some b)))
     ≡ word (λ i. (is_some (man_on men i) && not (is_square (Some a) i)) || is_square (Some b) i) = search (rules, squares_both, squares_either, squares_not) in
     words ∙ squares_same _ _ (λ i lt. grind (arith, occupied_now men a o b z i size, none))
+
+-- who stands where once one has come
+ruleset put = (man_on-with_other, man_on-with_same, there_now)
 
 -- a pawn that arrives on the last rank is made a queen
 abbrev named : Man → ℕ → Option Kind
@@ -211,35 +197,12 @@ module _ (rule : RuleSet) (p : Position) (m : Move) (x : Man) (k : ℕ) (well : 
 
       gone : AreGone p.men replaced m.from m.to s t z
       gone = record {
-        vacated = λ i none from ne. grind (
-          arith,
-          cases_eq i m.to,
-          cases_eq i t,
-          man_on-with_same,
-          man_on-with_other,
-          there_now,
-          stays_there q y n i takes_there,
-          stays_there p x m i,
-          captured_there p x m,
-          parts.plain.crossed,
-          men_q,
-          lt,
-          size_r,
-          well_q.size,
-        );
-        others = λ i v now to ne. grind (
-          arith,
-          man_on-with_other (arrived q y n) m.to i z to,
-          stands_after q y n i v,
-          stands_after p x m i v,
-          men_q,
-          small,
-          lt,
-          well.size,
-          well_q.size,
-        );
+        vacated = λ i none from ne.
+            let stays = stays_there q y n i takes_there in
+            grind (arith, cases_eq i m.to, cases_eq i t, put, stays, stays_there p x m i, captured_there p x m, parts.plain.crossed, men_q, lt, size_r, well_q.size);
+        others = λ i v now to ne. grind (arith, put, stands_after q y n i v, stands_after p x m i v, men_q, small, lt, well.size, well_q.size);
         first = search (rules, man_on-with_same, size_r);
-        second = grind (arith, cases_eq t m.to, man_on-with_same, man_on-with_other, there_now, lt, size_r, well_q.size);
+        second = grind (arith, cases_eq t m.to, put, lt, size_r, well_q.size);
       }
 
       arrives_still : is_some (man_on (arrived q y n) m.to) ≡ true
@@ -335,16 +298,9 @@ module _ (rule : RuleSet) (p : Position) (m : Move) (x : Man) (k : ℕ) (well : 
   -- the men that an attack sees after it
   pub seen_q : AreSeen p.men q.men (other p.turn) (sight_after p.men m.from (capture_square p x m) m.to)
   seen_q =
-      search (
-        rules,
-        men_q,
-        seen_after p.men m.from (capture_square p x m) m.to (arriving_man x m.promo) p.turn (record {
-          small = omega (arith, small, well.size);
-          own = grind (arith, here, is_m.mine, other_differs);
-          arriving_man = grind (arith, arriving_colour, is_m.mine, other_differs);
-          captured = captures_arrival p x m;
-        }),
-      )
+      let goes : IsCapture p.men m.from (capture_square p x m) m.to (arriving_man x m.promo) p.turn =
+      grind (arith, here, is_m.mine, arriving_colour, other_differs, captures_arrival p x m, small, well.size) in
+      search (rules, men_q, seen_after p.men m.from (capture_square p x m) m.to (arriving_man x m.promo) p.turn goes)
 
   -- for `is_parried`: somebody takes the man that has come
   pub no_mate_where_some_take : (w : ℕ) → w ≡ word (λ s. is_of_colour (man_on q.men s) (other p.turn) && reaches q.men s m.to && is_unpinned p m k s)
