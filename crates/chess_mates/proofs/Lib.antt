@@ -27,6 +27,7 @@ pub mod KeptFlights
 pub mod Passing
 pub mod QuietCastling
 pub mod Sparing
+pub mod Parrying
 pub mod Barring
 pub mod ExactSteps
 pub mod Ways

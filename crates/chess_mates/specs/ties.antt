@@ -4,6 +4,7 @@ pub mod CheckSquares
 pub mod Flights
 pub mod Idle
 pub mod LastingFlights
+pub mod Parries
 pub mod QuietSteps
 pub mod Siege
 pub mod StandingFlights

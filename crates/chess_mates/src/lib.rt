@@ -17,6 +17,7 @@ mod hopped_flights;
 mod lasting_flights;
 pub mod mating_moves;
 mod origins;
+mod parries;
 mod pawn_approaches;
 pub mod quiet_steps;
 mod risk;

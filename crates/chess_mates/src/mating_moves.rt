@@ -16,6 +16,7 @@ ghost use Rattle.chess_rules.specs.ties.Targets.{AreCandidates, AreKept, AreOrig
 use crate::checks::{CheckSquares, check_squares, may_check, near_check_targets};
 use crate::flights::{Flights, flights_after};
 use crate::origins::check_origins;
+use crate::parries::is_parried;
 use crate::standing_flights::{StandingFlights, standing_flights};
 use chess_core::board::Board;
 use chess_core::man::{Colour, Move};
@@ -298,6 +299,7 @@ fn is_mating<R: Rules>(board: &mut Board, squares: &CheckSquares, m: Move) -> bo
     }
     match flights_after::<R>(board, &m) {
         Flights::Left => false,
+        _ if is_parried::<R>(board, squares, &m) => false,
         flights => gives_mate::<R>(board, m, flights),
     }
 }

@@ -1,0 +1,398 @@
+-- Another man than the king parries a check: he leaves no line to the king open.
+use Rattle.chess_mates.proofs.Chess.{AreSeen, Bishop, Black, Bool, Colour, Grasshopper, IsCovered, IsMade, IsShift, IsSimple, IsWellFormed, Kind, King, List, Man, Move, Nightrider, None, Option, Pawn, Position, Queen, Rook, RuleSet, Some, StandAlike, Step, White, after_well_formed, agree_below_at, along, and_from, and_left, and_parts, and_right, any_kept, any_range_cases, any_range_false, ap, arith, arrived, arriving_colour, arriving_man, back, bit_and, bit_at, bit_not, bit_or, cannot_expose, cannot_expose_parts, capture_square, captures_arrival, captures_do_more, cases_Bool, cases_eq, check_is, circe, cond-false, cond-true, covered_parts, diagonal_steps, differs, enemy, eq-eqb, faced_men_stand_still, false, false_from_ne_true, false≢true, forward, goes_on, gone_shift, gone_to, if◌then◌else◌, inl, inr, is_advance, is_ahead, is_arrival_free, is_legal, is_lined, is_man, is_of_colour, is_on_fairy_line, is_on_fairy_line_at, is_on_some, is_paralysed, is_promoting, is_promotion_right, is_pseudo_legal, is_reached, is_shut, is_some, is_square, kept_now, king_is, king_square, king_there, knight_steps, leaps, left_now, length, length-set, list_any, made, man_on, man_on-with_other, man_on-with_same, man_there, mates, may_expose, may_expose_at, may_stand_between, moves, no_capture, not, not-true, not_attacked, occupied_now, occupied_squares, on_board, on_first, or_cases, or_left, or_parts, or_right, other, other_differs, other_twice, pawn_goes, position_after, queen_steps, reaches, rebirth, refl, return_square, rules, same_colour, same_colour-refl, same_colour-true, same_kind, sight_after, simple_after, some_square, some_square_false, some_square_true, square_is, squares, squares_both, squares_either, squares_not, squares_of, squares_same, stood, straight_steps, sym, there_now, true, unreached, w64, with_man, word, word_has, ℕ, ◌&&◌, ◌<◌, ◌==◌, ◌||◌, ◌∙◌, ◌≡◌, ◌≢◌}
+use Rattle.chess_rules.proofs.attacks.Shielding.{CannotExpose, IsQuiet}
+use Rattle.chess_mates.proofs.Fleeing.{king_waits, on_second, reaches_alike_of, unseen_bit}
+use Rattle.chess_rules.proofs.attacks.Seeing.{IsCapture, seen_after}
+use Rattle.chess_mates.proofs.Mating.{turn_after}
+use Rattle.chess_mates.proofs.Standing.{captured_there, stays_there, stood as stands_after}
+use Rattle.chess_mates.specs.ties.Parries.{AreParriesTold, IsInterposed, IsShutBy, IsWayBetween, is_on_line, is_unpinned}
+use Rattle.chess_rules.proofs.theorems.Moves.{mate_is}
+use Rattle.chess_core.proofs.Words.{some_square_told}
+use Rattle.chess_rules.proofs.making_moves.Plays.{length-without_at}
+use Rattle.chess_rules.specs.Legal.{can_go, is_pawn_step}
+use Rattle.chess_mates.proofs.Hurdles.{on_one}
+
+-- a man who stands on neither of two squares
+pub record AreGone (men after : List (Option Man)) (a b s t : ℕ) (z : Man) : Type 0 where
+  pub vacated : (q : ℕ) → man_on after q ≡ None → q ≢ a → q ≢ s → man_on men q ≡ None
+  pub others : (q : ℕ) (v : Man) → man_on after q ≡ Some v → q ≢ b → q ≢ t → (q ≢ a) × ((q ≢ s) × (man_on men q ≡ Some v))
+  pub first : man_on after b ≡ Some z
+  pub second : man_on after t ≡ Some z
+
+-- a square off the lines shuts none of them
+off_unshut : (men : List (Option Man)) (e : Colour) (j : Kind) (ds : List Step) (k a : ℕ) → is_on_some ds k a ≡ false → is_shut men e j ds k a ≡ false
+unfolding is_shut is_on_some
+off_unshut men e j ds k a off = false_from_ne_true _ (λ h. false≢true (sym off ∙ goes_on men k a ds (and_parts _ _ h).0))
+
+-- where fewer men stand, fewer squares pass a test on them
+some_before : (f g : ℕ → Bool) → ((q : ℕ) → f q ≡ true → g q ≡ true) → some_square f ≡ true → some_square g ≡ true
+unfolding some_square squares
+some_before f g each h = grind (arith, any_range_cases f 0 64, any_range_false f 0 64, some_square_true g, false≢true)
+
+-- and fewer squares lie on fairy lines
+unlined_before : (men mid : List (Option Man)) (e : Colour) (k t : ℕ) → ((j : Kind) (q : ℕ) → is_man (man_on mid q) e j ≡ true
+    → is_man (man_on men q) e j ≡ true) → is_on_fairy_line men e k t ≡ false → is_on_fairy_line mid e k t ≡ false
+unfolding is_on_fairy_line
+unlined_before men mid e k t stood off =
+    let lined : (j : Kind) (d : Step) → is_lined mid e j k t d ≡ true → is_lined men e j k t d ≡ true =
+    λ j d h. and_from _ _ (and_parts _ _ h).0 (some_before (λ q. is_man (man_on mid q) e j && is_ahead k d q) (λ q. is_man (man_on men q) e j && is_ahead k d q)
+    (λ q on. and_from _ _ (stood j q (and_parts _ _ on).0) (and_parts _ _ on).1) (and_parts _ _ h).1) in
+    let hop = any_kept (is_lined mid e Grasshopper k t) (is_lined men e Grasshopper k t) queen_steps (lined Grasshopper) in
+    let ride = any_kept (is_lined mid e Nightrider k t) (is_lined men e Nightrider k t) knight_steps (lined Nightrider) in
+    false_from_ne_true _ (λ h. grind (arith, or_cases, or_left, or_right, false≢true, hop, ride))
+
+module _ (men after : List (Option Man)) (a b s t k : ℕ) (z : Man) (c : Colour) (g : AreGone men after a b s t z) (inside : b < length men) (apart : a ≢ b)
+    (side : same_colour z.colour (other c) ≡ false) (small : k < 64) (first : IsCovered men c a k) (second : IsCovered men c s k)
+    (beside : is_on_line k s ≡ false) (come : is_on_fairy_line men (other c) k b ≡ false) (too : is_on_fairy_line men (other c) k t ≡ false) where
+  abbrev mid : List (Option Man)
+  mid = gone_to men a None b z
+
+  shift_first : IsShift men mid a b z
+  shift_first = gone_shift men a None b z inside (λ s h. absurd (false≢true h))
+
+  shift_second : IsShift mid after s t z
+  shift_second = record {
+    vacated = λ q none ne. grind (arith, g, cases_eq q a, cases_eq q b, left_now men a None b z q, kept_now men a None b z q, or_parts, eq-eqb, differs);
+    others = λ q v there ne. grind (arith, g, cases_eq q b, there_now men a None b z inside, kept_now men a None b z q, differs);
+    arrived = λ y there. grind (arith, g);
+  }
+
+  quiet : (l : List (Option Man)) (i j : ℕ) → IsQuiet l c i j k z
+  quiet l i j = record { quiet = λ h. absurd (false≢true (sym side ∙ h)); stood = λ h. absurd (false≢true (sym side ∙ h)) }
+
+  fairy_stood : (j : Kind) (q : ℕ) → is_man (man_on mid q) (other c) j ≡ true → is_man (man_on men q) (other c) j ≡ true
+  fairy_stood j q h = grind (arith, man_there (man_on mid q) (other c) j h, shift_first.others q, cases_eq q b, there_now men a None b z inside, and_parts, side, false≢true)
+
+  covered : IsCovered mid c s k
+  covered = record {
+    safe = unreached men mid a b z shift_first c k first small come (quiet men a b);
+    apart = second.apart;
+    straight = off_unshut mid (other c) Rook straight_steps k s (or_parts _ _ beside).0;
+    diagonal = off_unshut mid (other c) Bishop diagonal_steps k s (or_parts _ _ beside).1;
+    unlined = unlined_before men mid (other c) k s fairy_stood second.unlined;
+  }
+
+  -- nobody reaches the king, once one man has gone from a to b and another from s, which is off his lines, to t
+  pub unreached_after : is_reached after k (other c) ≡ false
+  unreached_after = unreached mid after s t z shift_second c k covered small (unlined_before men mid (other c) k t fairy_stood too) (quiet mid s t)
+
+-- whoever stands on b, if he doesn't reach k, the others reach it or not
+unreached_in_place : (men : List (Option Man)) (b k : ℕ) (z : Man) (c : Colour) → b < length men → is_some (man_on men b) ≡ true
+    → (is_of_colour (man_on men b) c && reaches men b k) ≡ false → is_reached (with_man men b z) k c ≡ false → is_reached men k c ≡ false
+unfolding is_reached reaches
+unreached_in_place men b k z c size some harmless none =
+    let alike : StandAlike (with_man men b z) men k = record { alike = λ q ne. grind (arith, cases_eq q b, man_on-with_other, man_on-with_same, size, some) } in
+    let same = λ (s : ℕ). reaches_alike_of (with_man men b z) men (man_on men s) s k alike in
+    let reached = some_square_true (λ s. is_of_colour (man_on (with_man men b z) s) c && reaches (with_man men b z) s k) in
+    some_square_false (λ s. is_of_colour (man_on men s) c && reaches men s k) 64 (omega arith) (record {
+      fails = λ s lt. false_from_ne_true _ (λ h. grind (arith, cases_eq s b, reached s lt, man_on-with_other men b s z, same s, and_parts, and_from, false≢true));
+    })
+
+-- the squares that are occupied once a man has gone to an empty one
+occupied_between : (men : List (Option Man)) (a : ℕ) (o : Option ℕ) (b : ℕ) (z : Man) → o ≡ None → b < length men
+    → bit_or (bit_and (occupied_squares men) (bit_not w64 (word (is_square (Some a))))) (word (is_square (Some b))) ≡ occupied_squares (gone_to men a o b z)
+occupied_between men a o b z none size =
+    let words : bit_or (bit_and (occupied_squares men) (bit_not w64 (word (is_square (Some a))))) (word (is_square (Some b)))
+    ≡ word (λ i. (is_some (man_on men i) && not (is_square (Some a) i)) || is_square (Some b) i) = search (rules, squares_both, squares_either, squares_not) in
+    words ∙ squares_same _ _ (λ i lt. grind (arith, occupied_now men a o b z i size, none))
+
+-- who stands where once one has come
+ruleset put = (man_on-with_other, man_on-with_same, there_now)
+
+-- a pawn that arrives on the last rank is made a queen
+abbrev named : Man → ℕ → Option Kind
+named y t = if is_promoting y t then Some Queen else None
+
+-- the move of y from s to t
+abbrev reply : Man → ℕ → ℕ → Move
+reply y s t = record { from = s; to = t; promo = named y t }
+
+promotes_right : (q : Position) (y : Man) (s t : ℕ) → is_promotion_right q y (reply y s t) (named y t) ≡ true
+promotes_right q y s t = elim (cases_Bool (is_promoting y t)) [
+  | inl on ↦ grind (arith, on, cond-true, and_from)
+  | inr off ↦ grind (arith, off, cond-false)
+]
+
+-- a reply that may be made and leaves no line open is legal
+module _ (rule : RuleSet) (q : Position) (y : Man) (s t k : ℕ) (well : IsWellFormed q) (stands : man_on q.men s ≡ Some y) (mine : same_colour y.colour q.turn ≡ true)
+    (able : faced_men_stand_still rule ≡ false) (circe : captures_do_more rule ≡ false) (mortal : same_kind y.kind King ≡ false) (small : t < 64)
+    (free : is_arrival_free q.turn (man_on q.men t) ≡ true) (goes : can_go rule q y (reply y s t) ≡ true) (king : king_square q.men q.turn ≡ Some k) where
+  may_reply : is_pseudo_legal rule q (reply y s t) ≡ true
+  unfolding is_pseudo_legal is_paralysed
+  may_reply = grind (arith, stands, mine, able, free, goes, promotes_right q y s t, and_left, and_from)
+
+  reply_simple : IsSimple rule q y (reply y s t)
+  reply_simple = record { castling = search (rules, and_left, mortal); rebirth = λ h. absurd (false≢true (sym circe ∙ h)) }
+
+  reply_is_legal : is_reached (arrived q y (reply y s t)) k (other q.turn) ≡ false → is_legal rule q (reply y s t) ≡ true
+  unfolding is_legal
+  reply_is_legal none =
+      let check = check_is rule q y (reply y s t) (Some k) well (made rule q (reply y s t) y may_reply stands) small reply_simple (cond-false _ _ _ mortal ∙ king) in
+      and_from _ _ may_reply (ap not (check ∙ not_attacked rule (arrived q y (reply y s t)) (other q.turn) k none))
+
+-- where a reply is legal there is no mate
+no_mate_with_reply : (rule : RuleSet) (p : Position) (m n : Move) → IsWellFormed (position_after rule p m) → is_legal rule (position_after rule p m) n ≡ true
+    → mates rule p m ≡ false
+unfolding mates
+no_mate_with_reply rule p m n well legal =
+    false_from_ne_true _ (λ h. false≢true (sym (((mate_is rule (position_after rule p m) well).0 (and_parts _ _ h).1).1 n) ∙ legal))
+
+-- after a move of which parries are told
+module _ (rule : RuleSet) (p : Position) (m : Move) (x : Man) (k : ℕ) (well : IsWellFormed p) (may : is_pseudo_legal rule p m ≡ true)
+    (here : man_on p.men m.from ≡ Some x) (told : AreParriesTold rule p x m) (small : m.to < 64) (king : king_square p.men (other p.turn) ≡ Some k) where
+  abbrev q : Position
+  q = position_after rule p m
+
+  is_m : IsMade rule p x m
+  is_m = made rule p m x may here
+
+  parts : CannotExpose rule p x (other p.turn) m
+  parts = cannot_expose_parts rule p x (other p.turn) m here told.cannot_expose
+
+  men_q : q.men ≡ arrived p x m
+  men_q = simple_after rule p x m here parts.plain.castling parts.plain.rebirth
+
+  king_q : king_square q.men q.turn ≡ Some k
+  king_q = search (rules, men_q, turn_after rule p m may, king_waits rule p x m (other p.turn) well is_m small refl, king)
+
+  covered_from : (s : ℕ) → may_expose p.men (other p.turn) s ≡ false → IsCovered p.men (other p.turn) s k
+  unfolding may_expose
+  covered_from s h = covered_parts p.men (other p.turn) s k (ap (λ (o : Option ℕ). may_expose_at p.men o (other p.turn) s) (sym king) ∙ h)
+
+  aside : is_on_fairy_line p.men (other (other p.turn)) k m.to ≡ false
+  unfolding may_stand_between
+  aside = ap (λ (o : Option ℕ). is_on_fairy_line_at p.men o (other p.turn) m.to) (sym king) ∙ parts.aside
+
+  module _ (s : ℕ) (y : Man) (inside : s < 64) (there : man_on q.men s ≡ Some y) (enemy : same_colour y.colour (other p.turn) ≡ true)
+      (unpinned : is_unpinned p m k s ≡ true) where
+    stood_y : (s ≢ m.to) × ((s ≢ m.from) × (man_on p.men s ≡ Some y))
+    stood_y = grind (arith, stands_after p x m s y, men_q, small, well.size, arriving_colour, is_m.mine, other_differs, false≢true, there)
+
+    covered_y : IsCovered p.men (other p.turn) s k
+    covered_y = covered_from s (not-true _ (and_parts _ _ unpinned).0)
+
+    mortal : same_kind y.kind King ≡ false
+    mortal = false_from_ne_true _ (λ h. grind (arith, king_is p.men (other p.turn) s well.kings inside, stood_y, and_from, enemy, h, king, covered_y.apart, eq-eqb))
+
+    -- he goes to a square where nobody is captured elsewhere, and the man that has come is taken or doesn't reach the king
+    module _ (t : ℕ) (lt : t < 64) (takes_there : (j : ℕ) → capture_square q y (reply y s t) ≡ Some j → j ≡ t)
+        (goes : can_go rule q y (reply y s t) ≡ true) (free : is_arrival_free q.turn (man_on q.men t) ≡ true)
+        (off : is_on_fairy_line p.men (other (other p.turn)) k t ≡ false)
+        (harmless : (is_of_colour (man_on (arrived q y (reply y s t)) m.to) (other (other p.turn)) && reaches (arrived q y (reply y s t)) m.to k) ≡ false) where
+      abbrev n : Move
+      n = reply y s t
+
+      abbrev z : Man
+      z = arriving_man y n.promo
+
+      -- the men then, one of his side in place of the one that has come
+      abbrev replaced : List (Option Man)
+      replaced = with_man (arrived q y n) m.to z
+
+      well_q : IsWellFormed q
+      well_q = after_well_formed rule p m well may
+
+      size_r : m.to < length (arrived q y n)
+      size_r = let size : m.to < length q.men = omega (arith, small, well_q.size) in grind (arith, length-set, length-without_at, size)
+
+      gone : AreGone p.men replaced m.from m.to s t z
+      gone = record {
+        vacated = λ i none from ne.
+            let stays = stays_there q y n i takes_there in
+            grind (arith, cases_eq i m.to, cases_eq i t, put, stays, stays_there p x m i, captured_there p x m, parts.plain.crossed, men_q, lt, size_r, well_q.size);
+        others = λ i v now to ne. grind (arith, put, stands_after q y n i v, stands_after p x m i v, men_q, small, lt, well.size, well_q.size);
+        first = search (rules, man_on-with_same, size_r);
+        second = grind (arith, cases_eq t m.to, put, lt, size_r, well_q.size);
+      }
+
+      arrives_still : is_some (man_on (arrived q y n) m.to) ≡ true
+      arrives_still = grind (arith, cases_eq t m.to, there_now, stays_there q y n m.to takes_there, stood_y, men_q, small, lt, well.size, well_q.size)
+
+      unreached_replaced : is_reached replaced k (other (other p.turn)) ≡ false
+      unreached_replaced =
+          let size : (m.to < length p.men) × (t < length p.men) = (omega (arith, small, well.size), omega (arith, lt, well.size)) in
+          let side : same_colour z.colour (other (other p.turn)) ≡ false = grind (arith, arriving_colour, enemy, other_twice) in
+          let apart : m.from ≢ m.to = grind (arith, here, is_m, false≢true, and_parts, not-true, same_colour-refl) in
+          let low = (king_there p.men (other p.turn) k king).0 in
+          let moves : s ≢ t = grind (arith, there, free, enemy, turn_after rule p m may, false≢true, and_parts, not-true) in
+          let back : AreGone p.men replaced s t m.from m.to z = record {
+            vacated = λ i none from ne. gone.vacated i none ne from;
+            others = λ i v now to ne. let w = gone.others i v now ne to in (w.1.0, (w.0, w.1.1));
+            first = gone.second;
+            second = gone.first;
+          } in
+          elim (cases_Bool (is_on_line k s)) [
+            | inl on ↦ unreached_after p.men replaced s t m.from m.to k z (other p.turn) back size.1 moves side low covered_y
+                (covered_from m.from parts.origin) (grind (arith, unpinned, on, and_parts, not-true, cases_Bool (is_on_line k m.from))) off aside
+            | inr off_line ↦ unreached_after p.men replaced m.from m.to s t k z (other p.turn) gone size.0 apart side low (covered_from m.from parts.origin)
+                covered_y off_line aside off
+          ]
+
+      -- so it is no mate
+      no_mate_where_parried : mates rule p m ≡ false
+      no_mate_where_parried =
+          let turn = turn_after rule p m may in
+          let mine : same_colour y.colour q.turn ≡ true = ap (same_colour y.colour) turn ∙ enemy in
+          no_mate_with_reply rule p m n well_q (reply_is_legal rule q y s t k well_q there mine told.able told.reborn mortal lt free goes king_q
+          (ap (λ (c : Colour). is_reached (arrived q y n) k (other c)) turn
+          ∙ unreached_in_place (arrived q y n) m.to k z (other (other p.turn)) size_r arrives_still harmless unreached_replaced))
+
+  arrives : man_on q.men m.to ≡ Some (arriving_man x m.promo)
+  arrives = grind (arith, men_q, there_now, small, well.size)
+
+  -- he takes the man that has come
+  taken_from : (s : ℕ) (o : Option Man) → man_on q.men s ≡ o → s < 64 → is_of_colour o (other p.turn) ≡ true → reaches q.men s m.to ≡ true
+      → is_unpinned p m k s ≡ true → mates rule p m ≡ false
+  unfolding capture_square
+  taken_from s None at inside side takes unpinned = absurd (false≢true side)
+  taken_from s (Some y) at inside side takes unpinned =
+      let free : is_arrival_free q.turn (man_on q.men m.to) ≡ true =
+      grind (arith, arrives, turn_after rule p m may, arriving_colour, is_m.mine, other_differs, told.unpromoted, told.mortal) in
+      let goes : can_go rule q y (reply y s m.to) ≡ true =
+      grind (arith, takes, arrives, cases_Bool (same_kind y.kind Pawn), cond-true, cond-false, or_left, and_from) in
+      let size : m.to < length q.men = omega (arith, small, (after_well_formed rule p m well may).size) in
+      no_mate_where_parried s y inside at side unpinned m.to small (λ j h. grind (arith, arrives, cond-true, h)) goes free aside
+      (grind (arith, there_now q.men s (capture_square q y (reply y s m.to)) m.to (arriving_man y (named y m.to)) size, arriving_colour, side, other_twice, and_left))
+
+  -- he comes between, and the man that has come doesn't reach the king any more
+  module _ (i : IsInterposed q.men p x m k) (y : Man) (at : man_on q.men i.from ≡ Some y) (side : same_colour y.colour (other p.turn) ≡ true)
+      (nobody : capture_square q y (reply y i.from i.square) ≡ None) (goes : can_go rule q y (reply y i.from i.square) ≡ true) where
+    comes_between : mates rule p m ≡ false
+    unfolding reaches may_stand_between
+    comes_between =
+        let well_q = after_well_formed rule p m well may in
+        let inside = on_board q.men i.from y well_q.size at in
+        let stood = stood_y i.from y inside at side i.unpinned in
+        let words = occupied_between q.men i.from (capture_square q y (reply y i.from i.square)) i.square (arriving_man y (named y i.square)) nobody
+        (omega (arith, i.small, well_q.size)) in
+        let nowhere : (j : ℕ) → capture_square q y (reply y i.from i.square) ≡ Some j → j ≡ i.square = λ j h. grind (arith, nobody, h) in
+        let stays : man_on (arrived q y (reply y i.from i.square)) m.to ≡ Some x =
+        grind (arith, stays_there q y (reply y i.from i.square) m.to nowhere, arrives, told.unpromoted, stood, i.vacant) in
+        let unharmed : reaches (arrived q y (reply y i.from i.square)) m.to k ≡ false =
+        grind (arith, stays, i.shut (arrived q y (reply y i.from i.square)) words) in
+        no_mate_where_parried i.from y inside at side i.unpinned i.square i.small nowhere goes (grind (arith, i.vacant))
+        (ap (λ (o : Option ℕ). is_on_fairy_line_at p.men o (other p.turn) i.square) (sym king) ∙ i.aside)
+        (and_right (is_of_colour (man_on (arrived q y (reply y i.from i.square)) m.to) (other (other p.turn))) _ unharmed)
+
+  between_from : (i : IsInterposed q.men p x m k) (o : Option Man) → man_on q.men i.from ≡ o → mates rule p m ≡ false
+  between_from i None at = absurd (false≢true (grind (arith, i.way, at)))
+  between_from i (Some y) at = elim i.way [
+    | inl w ↦
+        let parts = and_parts (is_of_colour (man_on q.men i.from) (other p.turn)) (reaches q.men i.from i.square) w.0 in
+        let side : same_colour y.colour (other p.turn) ≡ true = grind (arith, parts.0, at) in
+        let piece : same_kind y.kind Pawn ≡ false = grind (arith, w.1, at, side, cases_Bool (same_kind y.kind Pawn), and_from) in
+        comes_between i y at side (search (rules, no_capture, i.vacant, and_left, piece)) (grind (arith, parts.1, piece, cond-false, or_left))
+    | inr w ↦
+        let both = and_parts (same_colour y.colour (other p.turn)) (same_kind y.kind Pawn) (grind (arith, w.0, at)) in
+        let colour : y.colour ≡ other p.turn = same_colour-true _ _ both.0 in
+        let step : is_pawn_step q y (reply y i.from i.square) ≡ true = grind (arith, i.vacant, w.1, colour, or_left, and_from) in
+        let ahead = (pawn_goes q y (reply y i.from i.square) step).ahead in
+        comes_between i y at both.0 (no_capture q y (reply y i.from i.square) i.vacant (grind (arith, ahead, eq-eqb, and_right)))
+        (grind (arith, step, both.1, cond-true, or_right))
+  ]
+
+  -- for `is_parried`: somebody comes between
+  pub no_mate_where_interposed : IsInterposed q.men p x m k → mates rule p m ≡ false
+  no_mate_where_interposed i = between_from i _ refl
+
+  -- the men that an attack sees after it
+  pub seen_q : AreSeen p.men q.men (other p.turn) (sight_after p.men m.from (capture_square p x m) m.to)
+  seen_q =
+      let goes : IsCapture p.men m.from (capture_square p x m) m.to (arriving_man x m.promo) p.turn =
+      grind (arith, here, is_m.mine, arriving_colour, other_differs, captures_arrival p x m, small, well.size) in
+      search (rules, men_q, seen_after p.men m.from (capture_square p x m) m.to (arriving_man x m.promo) p.turn goes)
+
+  -- for `is_parried`: somebody takes the man that has come
+  pub no_mate_where_some_take : (w : ℕ) → w ≡ word (λ s. is_of_colour (man_on q.men s) (other p.turn) && reaches q.men s m.to && is_unpinned p m k s)
+      → not (w == 0) ≡ true → mates rule p m ≡ false
+  unfolding some_square squares
+  no_mate_where_some_take w are some =
+      let takes = λ (s : ℕ). is_of_colour (man_on q.men s) (other p.turn) && reaches q.men s m.to && is_unpinned p m k s in
+      elim (any_range_cases takes 0 64) [
+        | inl w ↦
+            let both = and_parts _ (is_unpinned p m k w.0) w.3 in
+            let parts = and_parts _ (reaches q.men w.0 m.to) both.0 in
+            taken_from w.0 _ refl w.2 parts.0 parts.1 both.1
+        | inr none ↦ absurd (false≢true (sym (any_range_false takes 0 64 none) ∙ (sym (some_square_told takes w are) ∙ some)))
+      ]
+
+beside_is : (a b o : Bool) → o ≡ true → not (a || b) ≡ (not a && not (o && b))
+beside_is a b o e = grind arith
+
+alone_is : (a b o : Bool) → o ≡ false → not a ≡ (not a && not (o && b))
+alone_is a b o e = grind arith
+
+-- the words of the squares of men who aren't pinned
+module _ (p : Position) (m : Move) (k w l d : ℕ) (shields : w ≡ word (may_expose p.men (other p.turn))) (straight : l ≡ word (is_on_some straight_steps k))
+    (diagonal : d ≡ word (is_on_some diagonal_steps k)) (small : m.from < 64) where
+  on_line_is : (bit_at (bit_or l d) m.from == 1) ≡ is_on_line k m.from
+  on_line_is = search (rules, straight, diagonal, squares_either, word_has)
+
+  -- for `unpinned_squares`: beside a move from a line of the king
+  pub unpinned_beside : (bit_at (bit_or l d) m.from == 1) ≡ true → bit_not w64 (bit_or w (bit_or l d)) ≡ word (is_unpinned p m k)
+  unpinned_beside on =
+      let words : bit_not w64 (bit_or w (bit_or l d)) ≡ word (λ s. not (may_expose p.men (other p.turn) s || is_on_line k s)) =
+      search (rules, shields, straight, diagonal, squares_either, squares_not) in
+      words ∙ squares_same _ _ (λ s b. beside_is (may_expose p.men (other p.turn) s) (is_on_line k s) (is_on_line k m.from) (sym on_line_is ∙ on))
+
+  -- and beside one from elsewhere
+  pub unpinned_alone : (bit_at (bit_or l d) m.from == 1) ≡ false → bit_not w64 w ≡ word (is_unpinned p m k)
+  unpinned_alone off =
+      let words : bit_not w64 w ≡ word (λ s. not (may_expose p.men (other p.turn) s)) = search (rules, shields, squares_not) in
+      words ∙ squares_same _ _ (λ s b. alone_is (may_expose p.men (other p.turn) s) (is_on_line k s) (is_on_line k m.from) (sym on_line_is ∙ off))
+
+-- a square two ahead isn't next to a pawn's
+abbrev is_far_at : ℕ → Option ℕ → Bool
+is_far_at t None = true
+is_far_at t (Some s) = not (list_any (leaps t s) queen_steps)
+
+two_far : (c : Colour) (t : ℕ) → t < 64 → is_far_at t (along t (forward c) 2) ≡ true
+unfolding along leaps
+two_far White t p = agree_below_at (λ t. is_far_at t (along t (forward White) 2)) (λ _. true) 64 t refl p
+two_far Black t p = agree_below_at (λ t. is_far_at t (along t (forward Black) 2)) (λ _. true) 64 t refl p
+
+one_ahead : (c : Colour) (t s : ℕ) → t < 64 → is_advance c t s ≡ true → list_any (leaps t s) queen_steps ≡ true
+    → is_square (along t (forward c) 1) s ≡ true
+one_ahead c t s p advance near = elim (or_cases (is_square (along t (forward c) 1) s) (is_square (along t (forward c) 2) s) advance) [
+  | inl y ↦ y
+  | inr y ↦ absurd (false≢true (sym (not-true _ (ap (is_far_at t) (sym (square_is (along t (forward c) 2) s y)) ∙ two_far c t p)) ∙ near))
+]
+
+-- for `pawn_origins`
+pub pawns_behind : (c : Colour) (t a k s : ℕ) → t < 64 → s < 64 → a ≡ word (is_advance (other c) t) → k ≡ word (λ s. list_any (leaps t s) queen_steps)
+    → (bit_at (bit_and a k) s == 1) ≡ true → is_square (along s (forward c) 1) t ≡ true
+pawns_behind c t a k s p q ahead near on =
+    let step = one_ahead (other c) t s p (sym (word_has _ a s ahead q) ∙ on_first a k s on) (sym (word_has _ k s near q) ∙ on_second a k s on) in
+    grind (arith, return_square t s (forward (other c)) 1 p step)
+
+-- for `is_interposed`
+pub interposed : (men : List (Option Man)) (p : Position) (x : Man) (m : Move) (k a o f c w u b t : ℕ) → o ≡ occupied_squares men
+    → f ≡ word (may_stand_between p.men (other p.turn)) → c ≡ word (λ s. is_of_colour (man_on men s) (other p.turn) && reaches men s t && is_unpinned p m k s)
+    → w ≡ squares_of men (other p.turn) Pawn → u ≡ word (is_unpinned p m k)
+    → ((s : ℕ) → s < 64 → (bit_at b s == 1) ≡ true → is_square (along s (forward (other p.turn)) 1) t ≡ true) → t < 64
+    → (bit_at (bit_and a (bit_not w64 (bit_or o f))) t == 1) ≡ true
+    → IsShutBy o (bit_or (bit_and c (bit_not w64 w)) (bit_and (bit_and w u) b)) x m.to k t → IsInterposed men p x m k
+unfolding squares_of
+interposed men p x m k a o f c w u b t occupied lines comers pawns loose behind lt on by =
+    let held : bit_or o f ≡ word (λ s. is_some (man_on men s) || may_stand_between p.men (other p.turn) s) =
+    search (rules, occupied, lines, squares_either) in
+    let off = or_parts _ (may_stand_between p.men (other p.turn) t) (sym (word_has _ (bit_or o f) t held lt) ∙ unseen_bit _ a (bit_or o f) t held lt on) in
+    let made : is_unpinned p m k by.from ≡ true → IsWayBetween men p by.from t → IsInterposed men p x m k = λ free way. record {
+      from = by.from;
+      square = t;
+      small = lt;
+      unpinned = free;
+      way = way;
+      vacant = grind (arith, off.0);
+      aside = off.1;
+      shut = λ l words. by.shut l (ap (λ (n : ℕ). bit_or (bit_and n (bit_not w64 (word (is_square (Some by.from))))) (word (is_square (Some t)))) occupied ∙ words);
+    } in
+    elim (on_one (bit_and c (bit_not w64 w)) (bit_and (bit_and w u) b) by.from by.here) [
+      | inl y ↦
+          let both = and_parts _ (is_unpinned p m k by.from) (sym (word_has _ c by.from comers by.small) ∙ on_first c _ by.from y) in
+          made both.1 (inl (both.0, sym (word_has _ w by.from pawns by.small) ∙ unseen_bit _ c w by.from pawns by.small y))
+      | inr y ↦
+          let first = on_first (bit_and w u) b by.from y in
+          made (sym (word_has _ u by.from loose by.small) ∙ on_second w u by.from first)
+          (inr (sym (word_has _ w by.from pawns by.small) ∙ on_first w u by.from first, behind by.from by.small (on_second (bit_and w u) b by.from y)))
+    ]

@@ -1,0 +1,66 @@
+-- Checks that another man than the king parries, told before they are given (own).
+use Rattle.std.specs.Prelude.{◌≡◌, ◌<◌, ◌==◌, ℕ, Bool, true, false, List, Option, None, Some, not, ◌&&◌, ◌||◌, ◌⊎◌}
+use Rattle.std.specs.Int.{bit_at, bit_not, w64}
+use Rattle.std.specs.Int.Bits.{bit_and, bit_or}
+use Rattle.chess_core.specs.Position.{Position, is_man, is_of_colour, man_on, other, same_kind}
+use Rattle.chess_core.specs.Squares.{is_square}
+use Rattle.chess_rules.specs.Legal.{forward}
+use Rattle.chess_core.specs.Steps.{along, diagonal_steps, straight_steps}
+use Rattle.chess_core.specs.declared.man.Kind.TheVariants.{King, Pawn}
+use Rattle.chess_core.specs.declared.man.Man.{Man}
+use Rattle.chess_core.specs.declared.man.Move.{Move}
+use Rattle.chess_core.specs.ties.Words.{word}
+use Rattle.chess_rules.specs.Reaches.{reaches, reaches_as}
+use Rattle.chess_rules.specs.RuleSet.{RuleSet, captures_do_more, faced_men_stand_still}
+use Rattle.chess_rules.specs.ties.Lines.{is_on_some, occupied_squares}
+use Rattle.chess_rules.specs.ties.Shields.{cannot_expose, may_expose, may_stand_between}
+
+-- parries of the move m of x are told: no king goes and nobody is promoted, the move opens no line to the enemy
+-- king, nobody is reborn, and no man stands still
+pub record AreParriesTold (rule : RuleSet) (p : Position) (x : Man) (m : Move) : Type 0 where
+  pub mortal : same_kind x.kind King ≡ false
+  pub unpromoted : m.promo ≡ None
+  pub reborn : captures_do_more rule ≡ false
+  pub able : faced_men_stand_still rule ≡ false
+  pub cannot_expose : cannot_expose rule p (other p.turn) m ≡ true
+
+-- s lies on a file, rank or diagonal of k
+abbrev pub is_on_line : ℕ → ℕ → Bool
+is_on_line k s = is_on_some straight_steps k s || is_on_some diagonal_steps k s
+
+-- who goes from s after m opens no line to his king on k: he shuts none alone, and none together with the man that
+-- m takes away
+abbrev pub is_unpinned : Position → Move → ℕ → ℕ → Bool
+is_unpinned p m k s =
+    not (may_expose p.men (other p.turn) s) && not (is_on_line k m.from && is_on_line k s)
+
+-- a man of those comes from s to t: a piece reaches it, or a pawn steps there
+abbrev pub IsWayBetween : List (Option Man) → Position → ℕ → ℕ → Type 0
+IsWayBetween men p s t =
+    (((is_of_colour (man_on men s) (other p.turn) && reaches men s t) ≡ true)
+    × (is_man (man_on men s) (other p.turn) Pawn ≡ false))
+    ⊎ ((is_man (man_on men s) (other p.turn) Pawn ≡ true)
+    × (is_square (along s (forward (other p.turn)) 1) t ≡ true))
+
+-- once the man of x has come by m, another, who is unpinned, comes from one square to another, empty and on no
+-- fairy line, and x doesn't reach the king on k then
+pub record IsInterposed (men : List (Option Man)) (p : Position) (x : Man) (m : Move) (k : ℕ) : Type 0 where
+  pub from : ℕ
+  pub square : ℕ
+  pub small : square < 64
+  pub unpinned : is_unpinned p m k from ≡ true
+  pub way : IsWayBetween men p from square
+  pub vacant : man_on men square ≡ None
+  pub aside : may_stand_between p.men (other p.turn) square ≡ false
+  pub shut : (l : List (Option Man)) → bit_or (bit_and (occupied_squares men)
+      (bit_not w64 (word (is_square (Some from))))) (word (is_square (Some square)))
+      ≡ occupied_squares l → reaches_as l x.colour x.kind m.to k ≡ false
+
+-- one of these men goes to t, and x on b doesn't reach k then
+pub record IsShutBy (occupied comers : ℕ) (x : Man) (b k t : ℕ) : Type 0 where
+  pub from : ℕ
+  pub small : from < 64
+  pub here : (bit_at comers from == 1) ≡ true
+  pub shut : (l : List (Option Man)) → bit_or (bit_and occupied
+      (bit_not w64 (word (is_square (Some from))))) (word (is_square (Some t)))
+      ≡ occupied_squares l → reaches_as l x.colour x.kind b k ≡ false
