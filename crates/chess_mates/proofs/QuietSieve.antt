@@ -181,7 +181,7 @@ module _ (rule : RuleSet) (p : Position) (m : Move) (x : Man) (k : ℕ) (i : IsS
 
   stands_after : (q : ℕ) (z : Man) → man_on few q ≡ Some z → q ≢ m.to → man_on after q ≡ Some z
   stands_after q z h off =
-      stays_there p x m q simply.captures (λ e. grind (arith, lifted_here p.men m.from k q, eq-eqb)) off ∙ stood_before q z h
+      stays_there p x m q simply.captures (λ e. grind (arith, lifted_here p.men m.from k q, eq-eqb)) off ∙ lifted_stood p.men m.from k q z h
 
   -- where men don't stand still no check is uncovered by who doesn't reach the square that the king leaves
   none_uncovers : faced_men_stand_still rule ≡ false → is_legal rule p m ≡ true → king_after p x m ≡ Some m.to
