@@ -1,5 +1,5 @@
 -- Another man than the king parries a check: he leaves no line to the king open.
-use Rattle.chess_mates.proofs.Chess.{AreSeen, Bishop, Black, Bool, Colour, Grasshopper, IsCovered, IsMade, IsShift, IsSimple, IsWellFormed, Kind, King, List, Man, Move, Nightrider, None, Option, Pawn, Position, Queen, Rook, RuleSet, Some, StandAlike, Step, White, after_well_formed, agree_below_at, along, and_from, and_left, and_parts, and_right, any_kept, any_range_cases, any_range_false, ap, arith, arrived, arriving_colour, arriving_man, back, bit_and, bit_at, bit_not, bit_or, cannot_expose, cannot_expose_parts, capture_square, captures_arrival, captures_do_more, cases_Bool, cases_eq, check_is, circe, cond-false, cond-true, covered_parts, diagonal_steps, differs, enemy, eq-eqb, faced_men_stand_still, false, false_from_ne_true, false≢true, forward, goes_on, gone_shift, gone_to, if◌then◌else◌, inl, inr, is_advance, is_ahead, is_arrival_free, is_legal, is_lined, is_man, is_of_colour, is_on_fairy_line, is_on_fairy_line_at, is_on_some, is_paralysed, is_promoting, is_promotion_right, is_pseudo_legal, is_reached, is_shut, is_some, is_square, kept_now, king_is, king_square, king_there, knight_steps, leaps, left_now, length, length-set, list_any, made, man_on, man_on-with_other, man_on-with_same, man_there, mates, may_expose, may_expose_at, may_stand_between, moves, no_capture, not, not-true, not_attacked, occupied_now, occupied_squares, on_board, on_first, or_cases, or_left, or_parts, or_right, other, other_differs, other_twice, pawn_goes, position_after, queen_steps, reaches, rebirth, refl, return_square, rules, same_colour, same_colour-refl, same_colour-true, same_kind, sight_after, simple_after, some_square, some_square_false, some_square_true, square_is, squares, squares_both, squares_either, squares_not, squares_of, squares_same, stood, straight_steps, sym, there_now, true, unreached, w64, with_man, word, word_has, ℕ, ◌&&◌, ◌<◌, ◌==◌, ◌||◌, ◌∙◌, ◌≡◌, ◌≢◌}
+use Rattle.chess_mates.proofs.Chess.{AreSeen, Bishop, Black, Bool, Colour, Grasshopper, IsCovered, IsMade, IsShift, IsSimple, IsWellFormed, Kind, King, List, Man, Move, Nightrider, None, Option, Pawn, Position, Queen, Rook, RuleSet, Some, StandAlike, Step, White, after_well_formed, agree_below_at, along, and_from, and_left, and_parts, and_right, any_kept, any_range_cases, any_range_false, ap, arith, arrived, arriving_colour, arriving_man, bit_and, bit_at, bit_not, bit_or, cannot_expose_parts, capture_square, captures_arrival, captures_do_more, cases_Bool, cases_eq, check_is, cond-false, cond-true, covered_parts, diagonal_steps, differs, eq-eqb, faced_men_stand_still, false, false_from_ne_true, false≢true, forward, goes_on, gone_shift, gone_to, if◌then◌else◌, inl, inr, is_advance, is_ahead, is_arrival_free, is_legal, is_lined, is_man, is_of_colour, is_on_fairy_line, is_on_fairy_line_at, is_on_some, is_paralysed, is_promoting, is_promotion_right, is_pseudo_legal, is_reached, is_shut, is_some, is_square, kept_now, king_is, king_square, king_there, knight_steps, leaps, left_now, length, length-set, list_any, made, man_on, man_on-with_other, man_on-with_same, man_there, mates, may_expose, may_expose_at, may_stand_between, no_capture, not, not-true, not_attacked, occupied_now, occupied_squares, on_board, on_first, or_cases, or_left, or_parts, or_right, other, other_differs, other_twice, pawn_goes, position_after, queen_steps, reaches, refl, return_square, rules, same_colour, same_colour-refl, same_colour-true, same_kind, sight_after, simple_after, some_square, some_square_false, some_square_true, square_is, squares, squares_both, squares_either, squares_not, squares_of, squares_same, stood, straight_steps, sym, there_now, true, unreached, w64, with_man, word, word_has, ℕ, ◌&&◌, ◌<◌, ◌==◌, ◌||◌, ◌∙◌, ◌≡◌, ◌≢◌}
 use Rattle.chess_rules.proofs.attacks.Shielding.{CannotExpose, IsQuiet}
 use Rattle.chess_mates.proofs.Fleeing.{king_waits, on_second, reaches_alike_of, unseen_bit}
 use Rattle.chess_rules.proofs.attacks.Seeing.{IsCapture, seen_after}
@@ -12,8 +12,8 @@ use Rattle.chess_rules.proofs.making_moves.Plays.{length-without_at}
 use Rattle.chess_rules.specs.Legal.{can_go, is_pawn_step}
 use Rattle.chess_mates.proofs.Hurdles.{on_one}
 
--- a man who stands on neither of two squares
-pub record AreGone (men after : List (Option Man)) (a b s t : ℕ) (z : Man) : Type 0 where
+-- one man has gone from a to b and another from s to t: there stands z, and nothing else has changed
+record AreGone (men after : List (Option Man)) (a b s t : ℕ) (z : Man) : Type 0 where
   pub vacated : (q : ℕ) → man_on after q ≡ None → q ≢ a → q ≢ s → man_on men q ≡ None
   pub others : (q : ℕ) (v : Man) → man_on after q ≡ Some v → q ≢ b → q ≢ t → (q ≢ a) × ((q ≢ s) × (man_on men q ≡ Some v))
   pub first : man_on after b ≡ Some z
@@ -73,7 +73,7 @@ module _ (men after : List (Option Man)) (a b s t k : ℕ) (z : Man) (c : Colour
   }
 
   -- nobody reaches the king, once one man has gone from a to b and another from s, which is off his lines, to t
-  pub unreached_after : is_reached after k (other c) ≡ false
+  unreached_after : is_reached after k (other c) ≡ false
   unreached_after = unreached mid after s t z shift_second c k covered small (unlined_before men mid (other c) k t fairy_stood too) (quiet mid s t)
 
 -- whoever stands on b, if he doesn't reach k, the others reach it or not
@@ -316,12 +316,6 @@ module _ (rule : RuleSet) (p : Position) (m : Move) (x : Man) (k : ℕ) (well : 
         | inr none ↦ absurd (false≢true (sym (any_range_false takes 0 64 none) ∙ (sym (some_square_told takes w are) ∙ some)))
       ]
 
-beside_is : (a b o : Bool) → o ≡ true → not (a || b) ≡ (not a && not (o && b))
-beside_is a b o e = grind arith
-
-alone_is : (a b o : Bool) → o ≡ false → not a ≡ (not a && not (o && b))
-alone_is a b o e = grind arith
-
 -- the words of the squares of men who aren't pinned
 module _ (p : Position) (m : Move) (k w l d : ℕ) (shields : w ≡ word (may_expose p.men (other p.turn))) (straight : l ≡ word (is_on_some straight_steps k))
     (diagonal : d ≡ word (is_on_some diagonal_steps k)) (small : m.from < 64) where
@@ -333,13 +327,13 @@ module _ (p : Position) (m : Move) (k w l d : ℕ) (shields : w ≡ word (may_ex
   unpinned_beside on =
       let words : bit_not w64 (bit_or w (bit_or l d)) ≡ word (λ s. not (may_expose p.men (other p.turn) s || is_on_line k s)) =
       search (rules, shields, straight, diagonal, squares_either, squares_not) in
-      words ∙ squares_same _ _ (λ s b. beside_is (may_expose p.men (other p.turn) s) (is_on_line k s) (is_on_line k m.from) (sym on_line_is ∙ on))
+      words ∙ squares_same _ _ (λ s b. grind (arith, on_line_is, on))
 
   -- and beside one from elsewhere
   pub unpinned_alone : (bit_at (bit_or l d) m.from == 1) ≡ false → bit_not w64 w ≡ word (is_unpinned p m k)
   unpinned_alone off =
       let words : bit_not w64 w ≡ word (λ s. not (may_expose p.men (other p.turn) s)) = search (rules, shields, squares_not) in
-      words ∙ squares_same _ _ (λ s b. alone_is (may_expose p.men (other p.turn) s) (is_on_line k s) (is_on_line k m.from) (sym on_line_is ∙ off))
+      words ∙ squares_same _ _ (λ s b. grind (arith, on_line_is, off))
 
 -- a square two ahead isn't next to a pawn's
 abbrev is_far_at : ℕ → Option ℕ → Bool

@@ -107,8 +107,8 @@ fn shuts(
     let Some(from) = next_bit(comers, 0) else {
         return false;
     };
-    let then = occupied & !only(Some(from)) | only(Some(square));
-    !contains(reach_over(then, man.colour, man.kind, to), king)
+    let occupied_after = occupied & !only(Some(from)) | only(Some(square));
+    !contains(reach_over(occupied_after, man.colour, man.kind, to), king)
 }
 
 // The squares from which a pawn of this colour comes to the square by one step.
@@ -141,10 +141,10 @@ fn is_interposed(
     let between = squares_between(sight.occupied, m.to, king) & !held;
     let mut number = 0u8;
     while let Some(square) = next_bit(between, number) {
-        let comers = reached_from(board, sight, square, enemy, unpinned);
+        let reaching = reached_from(board, sight, square, enemy, unpinned);
         let pawns = board.squares(enemy, Kind::Pawn) & sight.standing;
-        let those = comers & !pawns | pawns & unpinned & pawn_origins(enemy, square);
-        if shuts(sight.occupied, man, m.to, king, square, those) {
+        let comers = reaching & !pawns | pawns & unpinned & pawn_origins(enemy, square);
+        if shuts(sight.occupied, man, m.to, king, square, comers) {
             return true;
         }
         number = square.index() + 1;
