@@ -15,7 +15,7 @@ use chess_core::board::Board;
 use chess_core::man::{Colour, Kind, Man, Move};
 use chess_core::square::{Square, Squares};
 use chess_rules::open_board::{open_reach, open_targets};
-use chess_rules::words::{contains, highest, next_bit, only};
+use chess_rules::words::{contains, highest, next_bit, only, take_first};
 
 // Those that the men of this kind reach so, who stand on the squares of a word.
 #[tactic(auto, using(chess_rules::proofs::HoldBelow::hold_all, chess_rules::proofs::HoldBelow::hold_none, crate::proofs::Risks::none_on))]
@@ -109,17 +109,16 @@ fn taking_squares(man: Man, flight: Square) -> Squares
 }
 
 // Whether one of the squares is left wherever the man comes to a square of the word.
-#[tactic(auto, using(chess_rules::proofs::HoldBelow::hold_all, chess_rules::proofs::HoldBelow::hold_none))]
+#[tactic(auto, using(chess_rules::proofs::HoldTaken::taken_all, chess_rules::proofs::HoldTaken::taken_none, chess_rules::proofs::HoldTaken::rest_falls))]
 fn leaves_one_each(squares: Squares, man: Man, targets: Squares) -> bool
     ensures { result ≡ true → (t : ℕ) → t < 64 → (bit_at targets t == 1) ≡ true
         → (f : ℕ) × IsLeft squares man t f }
 {
-    let mut number = 0u8;
-    while let Some(to) = next_bit(targets, number) {
+    let mut rest = targets;
+    while let Some(to) = take_first(&mut rest) {
         let Some(_left) = first_left(squares, man, to) else {
             return false;
         };
-        number = to.index() + 1;
     }
     true
 }

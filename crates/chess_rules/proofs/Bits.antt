@@ -1,5 +1,5 @@
 -- Bits of words: the first from a place on, one alone, words that are not 0, and words of several lines joined.
-use Rattle.chess_rules.proofs.Basics.{Bool, List, None, Some, [], ap, arith, bit_and, bit_at, bit_at-lt, bit_at-pow_other, bit_at-pow_same, bit_at-trailing_zeros, bit_at-zero, bit_at_and, bit_at_mask_below, bit_at_mask_inside, bit_at_or, bit_not, bit_or, cases_eq, cases_lt, eq-eqb, eqb-true, false, false_from_ne_true, find, list_any, list_any-append, not, one_shl, ones_shl, range_with_len, refl, rules, sym, trailing_zeros, true, true_from_ne_false, w64, ℕ, ◌%◌, ◌*◌, ◌++◌, ◌-◌, ◌<◌, ◌==◌, ◌^◌, ◌||◌, ◌∙◌, ◌∷◌, ◌≡◌, ◌≤◌}
+use Rattle.chess_rules.proofs.Basics.{Bool, List, None, Some, [], ap, arith, bit_and, bit_at, bit_at-lt, bit_at-pow_other, bit_at-pow_same, bit_at-trailing_zeros, bit_at-zero, bit_at_and, bit_at_mask_below, bit_at_mask_inside, bit_at_or, bit_not, bit_or, cases_eq, cases_lt, eq-eqb, eqb-true, false, false_from_ne_true, find, list_any, list_any-append, nat_le, not, one_shl, ones_shl, range_with_len, refl, rules, sym, trailing_zeros, true, true_from_ne_false, w64, ℕ, ◌%◌, ◌*◌, ◌++◌, ◌-◌, ◌<◌, ◌==◌, ◌^◌, ◌&&◌, ◌||◌, ◌∙◌, ◌∷◌, ◌≡◌, ◌≤◌}
 use Rattle.chess_core.proofs.Ranges.{find_range_none, find_range_some}
 use Rattle.chess_core.proofs.Words.{square_bit, square_word, squares_either, squares_none, squares_not, squares_same, squares_some}
 use Rattle.chess_core.specs.Squares.{is_square, some_square}
@@ -38,6 +38,14 @@ next_some word from p pos fits =
     let lo = next_low word from p pos fits in
     find_range_some (λ s. bit_at word s == 1) from (64 - from) _ lo (omega (arith, w.0)) (grind (arith, bit_from_on word from, w, lo))
     (λ j a b. grind (arith, w.2 j b, bit_from_on word from j a, w.0))
+
+-- the squares from a place on
+pub kept_from : (word from t : ℕ) → from < 64 → t < 64 → (bit_at (from_on word from) t == 1) ≡ (nat_le from t && bit_at word t == 1)
+kept_from word from t p q = grind (arith, cases_lt t from, bit_from_on word from t, bit_below word from t)
+
+-- none of them lies behind the last square
+pub none_from : (word from t : ℕ) → 64 ≤ from → t < 64 → (bit_at 0 t == 1) ≡ (nat_le from t && bit_at word t == 1)
+none_from word from t p q = grind (arith, bit_at-zero t)
 
 is_bit : (b : Bool) → (bit_of b == 1) ≡ b
 is_bit b = grind arith

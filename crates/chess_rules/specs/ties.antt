@@ -9,5 +9,6 @@ pub mod Playing
 pub mod Shields
 pub mod Sifting
 pub mod Sight
+pub mod Taking
 pub mod Targets
 pub mod Undoing

@@ -1,9 +1,10 @@
 //! Sets of squares as words of 64 bits, and their squares in order.
-ghost use Rattle.std.specs.Prelude.{◌≡◌, ℕ, ◌<◌, ◌≤◌, ◌-◌, ◌*◌, ◌^◌, ◌==◌, IfSome, find};
+ghost use Rattle.std.specs.Prelude.{◌≡◌, ℕ, ◌<◌, ◌≤◌, ◌-◌, ◌*◌, ◌^◌, ◌==◌, ◌&&◌, IfSome, None, find, nat_le};
 ghost use Rattle.std.specs.Int.{bit_at, trailing_zeros, w64};
 ghost use Rattle.std.specs.List.{range_with_len};
 ghost use Rattle.chess_core.specs.Squares.{is_square};
 ghost use Rattle.chess_core.specs.ties.Words.{word};
+ghost use Rattle.chess_rules.specs.ties.Taking.{IsTaken};
 
 use chess_core::square::{Square, Squares};
 
@@ -38,6 +39,33 @@ pub fn next_bit(word: Squares, from: u8) -> Option<Square>
         return None;
     }
     Some(lowest(rest))
+}
+
+/// The squares of the word from the one with this number on.
+#[tactic(auto, using(crate::proofs::Bits::none_from, crate::proofs::Bits::kept_from))]
+pub(crate) fn squares_from(word: Squares, from: u8) -> Squares
+    ensures { (t : ℕ) → t < 64 → (bit_at result t == 1) ≡ (nat_le from t && bit_at word t == 1) }
+{
+    if from >= 64 {
+        return 0;
+    }
+    let behind = u64::MAX << from;
+    word & behind
+}
+
+/// The first square of the word, which is taken from it, if there is one: a loop takes them all in order.
+#[inline(always)]
+#[tactic(auto, using(crate::proofs::LowestBit::lowest_goes))]
+pub fn take_first(word: &mut Squares) -> Option<Square>
+    ensures none { result ≡ None → word.old ≡ 0 }
+    ensures taken { IfSome result (λ s. IsTaken word.old s word.new) }
+{
+    let squares = *word;
+    if squares == 0 {
+        return None;
+    }
+    *word = squares & (squares - 1);
+    Some(lowest(squares))
 }
 
 // The square of the lowest bit.
