@@ -1,6 +1,5 @@
 -- Tests joined, and tests over ranges of numbers.
-use Rattle.chess_rules.proofs.Basics.{Bool, List, None, Some, [], and_from, and_left, and_parts, arith, cases_Bool, cases_eq, cases_lt, false, false≢true, find, inr, list_all, list_any, not, or_cases, or_left, or_right, range_with_len, refl, rules, suc, true, zero, ℕ, ◌&&◌, ◌+◌, ◌-◌, ◌<◌, ◌==◌, ◌||◌, ◌∷◌, ◌≡◌, ◌≤◌, ◌⊎◌}
-use Rattle.chess_core.proofs.Ranges.{NoneBelow}
+use Rattle.chess_rules.proofs.Basics.{Bool, List, None, Some, [], and_from, and_parts, arith, cases_Bool, cases_eq, false, false≢true, find, inr, list_all, list_any, not, or_cases, or_left, or_right, range_with_len, refl, rules, suc, true, zero, ℕ, ◌&&◌, ◌+◌, ◌<◌, ◌==◌, ◌||◌, ◌∷◌, ◌≡◌, ◌≤◌, ◌⊎◌}
 
 -- where two tests both pass, the first does
 pub first_of_and : (a b : Bool) → (a && b) ≡ true → a ≡ true
@@ -67,11 +66,3 @@ find_first p a (suc n) k h = grind (arith, cases_Bool (p a), find_first p (a + 1
 pub find_no : (p : ℕ → Bool) (a n k : ℕ) → find p (range_with_len a n) ≡ None → a ≤ k → k < a + n → p k ≡ false
 find_no p a zero k h lo hi = absurd (omega arith)
 find_no p a (suc n) k h lo hi = grind (arith, cases_Bool (p a), cases_eq k a, find_no p (a + 1) n k)
-
--- what fails the first test fails both
-pub skipped : (p r : ℕ → Bool) (a n k : ℕ) → NoneBelow (λ s. p s && r s) a → IsFirst p a n k → NoneBelow (λ s. p s && r s) k
-skipped p r a n k past f = search rules
-
--- where none of the rest passes the first test, none of the 64 passes both
-pub skipped_all : (p r : ℕ → Bool) (a : ℕ) → NoneBelow (λ s. p s && r s) a → find p (range_with_len a (64 - a)) ≡ None → NoneBelow (λ s. p s && r s) 64
-skipped_all p r a past h = grind (arith, cases_lt, past.fails, and_left, find_no p a (64 - a))

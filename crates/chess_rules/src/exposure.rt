@@ -16,7 +16,7 @@ use crate::outward::{attackers_seen, is_attacker_seen, those_reaching};
 use crate::play::{arriving_man, capture_square, is_castling};
 use crate::rules::{Rules, in_check};
 use crate::sight::{Sight, sight_after};
-use crate::words::{next_bit, only};
+use crate::words::{only, take_first};
 use chess_core::board::Board;
 use chess_core::man::{Kind, Man, Move};
 use chess_core::square::{Square, Squares};
@@ -101,17 +101,17 @@ fn is_paralysed_after<R: Rules>(
 }
 
 // Whether an enemy man on one of the word's squares isn't paralysed then.
+#[tactic(auto, using(crate::proofs::HoldTaken::is_taken, crate::proofs::HoldTaken::none_fails, crate::proofs::HoldTaken::one_fails, crate::proofs::HoldTaken::pass_next, crate::proofs::HoldTaken::rest_falls))]
 fn some_free_after<R: Rules>(board: &Board, sight: Sight, man: Man, m: &Move, word: Squares) -> bool
     ensures { (men : List (Option Man)) → AreArrived board.now.men men man m.now sight
         → AreOthers men man.colour word
         → result ≡ some_square (λ s. bit_at word s == 1 && not (is_paralysed R.rule men s)) }
 {
-    let mut number = 0u8;
-    while let Some(square) = next_bit(word, number) {
+    let mut rest = word;
+    while let Some(square) = take_first(&mut rest) {
         if !is_paralysed_after::<R>(board, sight, man, m, square) {
             return true;
         }
-        number = square.index() + 1;
     }
     false
 }

@@ -7,7 +7,7 @@ ghost use Rattle.chess_core.specs.Squares.{some_square};
 ghost use Rattle.chess_core.specs.declared.man.Colour.{Colour};
 ghost use Rattle.chess_core.specs.declared.man.Kind.TheVariants.{Grasshopper, Nightrider};
 ghost use Rattle.chess_core.specs.ties.Words.{squares_of, word};
-ghost use Rattle.chess_rules.specs.ties.Lines.{IsStop, direction_number, flat_steps, is_ahead, is_on_some, occupied_squares, ray, rises, steep_steps, step_of};
+ghost use Rattle.chess_rules.specs.ties.Lines.{IsStop, IsUpTo, direction_number, flat_steps, is_ahead, is_on_some, occupied_squares, ray, rises, steep_steps, step_of};
 ghost use Rattle.chess_rules.specs.ties.Outward.{hopped_from};
 ghost use Rattle.chess_rules.specs.ties.Shields.{is_lined};
 ghost use Rattle.chess_rules.specs.Reaches.{hops, rides};
@@ -86,6 +86,18 @@ impl Direction {
         }
     }
 
+    // The squares that the line doesn't pass behind the first of the word: all, where the word has none.
+    #[tactic(auto, using(crate::proofs::rays::Firsts::falling_up_to, crate::proofs::rays::Firsts::rising_up_to))]
+    fn up_to_first(self, word: Squares) -> Squares
+        ensures { IsUpTo (step_of self) word result }
+    {
+        if self.rises() {
+            word ^ word.wrapping_sub(1)
+        } else {
+            u64::MAX << highest(word | 1).index()
+        }
+    }
+
     // The next square of the line, if it has one.
     #[tactic(auto, using(crate::proofs::rays::HopWords::next_none, crate::proofs::rays::HopWords::next_some))]
     fn next(self, from: Square) -> Option<Square>
@@ -117,8 +129,7 @@ fn ride(occupied: Squares, from: Square, direction: Direction) -> Squares
     // For the proof: a square's number is below 64.
     let _small = from.index();
     let ray = direction.ray(from);
-    let stop = direction.first(ray & occupied);
-    ray & !direction.ray(stop)
+    ray & direction.up_to_first(ray & occupied)
 }
 
 /// The squares of the file and the rank of `from`, itself apart.

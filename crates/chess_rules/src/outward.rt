@@ -20,7 +20,7 @@ use crate::lines::{
 use crate::reach::reach_over;
 use crate::rules::Rules;
 use crate::sight::{Sight, sight_now, squares_seen};
-use crate::words::next_bit;
+use crate::words::take_first;
 use chess_core::board::Board;
 use chess_core::man::{Colour, Gait, Kind};
 use chess_core::square::{Square, Squares};
@@ -204,16 +204,16 @@ pub(crate) fn is_reached(board: &Board, square: Square, colour: Colour) -> bool
 }
 
 // Whether a man on one of the word's squares isn't paralysed, or no man stands there.
+#[tactic(auto, using(crate::proofs::HoldTaken::is_taken, crate::proofs::HoldTaken::none_fails, crate::proofs::HoldTaken::one_fails, crate::proofs::HoldTaken::pass_next, crate::proofs::HoldTaken::rest_falls))]
 pub(crate) fn some_free<R: Rules>(board: &Board, word: Squares) -> bool
     ensures { result ≡ some_square (λ s. bit_at word s == 1
         && not (is_paralysed R.rule board.now.men s)) }
 {
-    let mut number = 0u8;
-    while let Some(square) = next_bit(word, number) {
+    let mut rest = word;
+    while let Some(square) = take_first(&mut rest) {
         if !R::is_paralysed(board, square) {
             return true;
         }
-        number = square.index() + 1;
     }
     false
 }

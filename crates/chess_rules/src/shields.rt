@@ -22,7 +22,7 @@ use crate::outward::{fairy_attackers, leapers_seen};
 use crate::play::is_castling;
 use crate::rules::Rules;
 use crate::sight::sight_now;
-use crate::words::{contains, next_bit, only};
+use crate::words::{contains, only, take_first};
 use chess_core::board::Board;
 use chess_core::man::{Colour, Kind, Man, Move};
 use chess_core::square::{Square, Squares};
@@ -109,16 +109,16 @@ impl RiderLines {
 }
 
 // The squares to which the riders on these squares get along the lines.
+#[tactic(auto, using(crate::proofs::HoldTaken::is_taken, crate::proofs::HoldTaken::rest_falls, crate::proofs::rays::Riding::ridden_all, crate::proofs::rays::Riding::ridden_more))]
 fn ridden_squares(occupied: Squares, riders: Squares, lines: RiderLines) -> Squares
     ensures { (men : List (Option Man)) → occupied ≡ occupied_squares men
         → result ≡ word (λ s. some_square
         (λ q. bit_at riders q == 1 && list_any (rides men q s) (steps_along lines))) }
 {
     let mut ridden = 0u64;
-    let mut number = 0u8;
-    while let Some(rider) = next_bit(riders, number) {
+    let mut rest = riders;
+    while let Some(rider) = take_first(&mut rest) {
         ridden |= lines.rides(occupied, rider);
-        number = rider.index() + 1;
     }
     ridden
 }

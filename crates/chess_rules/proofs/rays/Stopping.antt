@@ -1,7 +1,8 @@
 -- A ride: the line as far as the first man on it.
-use Rattle.chess_rules.proofs.Chess.{Bool, IsStop, List, Man, Option, Some, Step, along, and_from, any_range_cases, any_range_false, any_range_true, ap, arith, bit_and, bit_at, bit_not, eq-eqb, eqb-true, false, false_from_ne_true, false≢true, first_of_and, inl, inr, is_ahead, is_some, is_square, is_vacant_at, man_on, not, not-true, passing_order_by, place, ray, refl, rides, rises, rules, same_Bool, second_of_and, squares_both, squares_not, squares_same, sym, true, w64, word, word_has, ℕ, ◌&&◌, ◌-◌, ◌<◌, ◌∙◌, ◌≡◌, ◌≤◌}
-use Rattle.chess_rules.proofs.rays.Ahead.{Ordered, earlier, not_later, onward, passes}
-use Rattle.chess_rules.proofs.rays.Ends.{square_is, stays}
+use Rattle.chess_rules.proofs.Chess.{Bool, IsStop, IsUpTo, List, Man, Option, Some, Step, along, and_from, any_range_cases, any_range_false, any_range_true, ap, arith, bit_and, bit_at, cases_lt, eq-eqb, eqb-true, false, false_from_ne_true, false≢true, first_of_and, inl, inr, is_ahead, is_some, is_square, is_vacant_at, le-leb, leb-true, man_on, not, passing_order_by, place, ray, refl, rides, rises, rules, same_Bool, second_of_and, squares_both, squares_same, sym, true, word, word_has, ℕ, ◌&&◌, ◌<◌, ◌∙◌, ◌≡◌, ◌≤◌}
+use Rattle.chess_rules.proofs.rays.Ahead.{Ordered, earlier, passes}
+use Rattle.chess_rules.proofs.rays.Ends.{square_is}
+use Rattle.std.specs.Prelude.{nat_le}
 use Rattle.chess_rules.proofs.rays.Ways.{Ride, ride-found, ride-made}
 
 -- b is the first square ahead of s with a man on it, or a square behind which no line goes on
@@ -56,44 +57,41 @@ ahead_at s d t k lo hi at = any_range_true (λ k. is_square (along s d k) t) 1 7
 pub occupied_not_vacant : (men : List (Option Man)) (o : Option ℕ) (q : ℕ) → o ≡ Some q → is_some (man_on men q) ≡ true → is_vacant_at men o ≡ false
 occupied_not_vacant men o q at man = rw at (ap not man)
 
--- what lies ahead of the stop isn't reached
-blocked : (men : List (Option Man)) (s : ℕ) (d : Step) (b t k : ℕ) → Ordered d → Stops men s d b → t < 64 → Ride 1 men s t d k → is_ahead b d t ≡ true → ⊥
+-- what is passed behind the stop isn't reached
+blocked : (men : List (Option Man)) (s : ℕ) (d : Step) (b t k : ℕ) → Ordered d → Stops men s d b → t < 64 → Ride 1 men s t d k → place d b < place d t → ⊥
 blocked men s d b t k line stop p ride behind =
-    let man = second_of_and (is_ahead s d b) in
-    let from_stop = stays b d stop.small in
-    let on = steps_on b d t behind in
-    let end = place_le (rises d) t p in
-    grind (arith, on, line.in_order b 0, from_stop, stop.here, end, steps_on s d b, first_of_and, occupied_not_vacant, man, ride.free, earlier)
+    let here = stop.here (omega (arith, behind, place_le (rises d) t p)) in
+    let to = steps_on s d b (first_of_and _ _ here) in
+    let man = second_of_and (is_ahead s d b) _ here in
+    grind (arith, to, earlier s to.0 k b t d line, ride.at, ride.free to.0, occupied_not_vacant men (along s d to.0) b, man)
 
 -- up to the stop the line is empty
-nobody : (men : List (Option Man)) (s : ℕ) (d : Step) (b t k i q : ℕ) → Ordered d → Stops men s d b → t < 64 → 1 ≤ i → i < k → k < 8 → along s d k ≡ Some t
-    → along s d i ≡ Some q → q < 64 → is_ahead b d t ≡ false → is_some (man_on men q) ≡ true → ⊥
-nobody men s d b t k i q line stop p lo lt hi at here small not_behind man =
-    let le : place d b ≤ place d q = stop.first q small (ahead_at s d q i lo (omega arith) here) man in
-    let past : place d q < place d t = line.in_order s i k q t here at lt in
-    let to = steps_on s d b (first_of_and _ _ (stop.here (omega (arith, le, past, place_le (rises d) t p)))) in
-    grind (arith, not_later s to.0 i b q d line to.1.at here le, onward s b d to.0 (k - to.0) to.1.at, ahead_at b d t (k - to.0))
+nobody : (men : List (Option Man)) (s : ℕ) (d : Step) (b t k i q : ℕ) → Ordered d → Stops men s d b → 1 ≤ i → i < k → k < 8 → along s d k ≡ Some t
+    → along s d i ≡ Some q → q < 64 → place d t ≤ place d b → is_some (man_on men q) ≡ true → ⊥
+nobody men s d b t k i q line stop lo lt hi at here small le man =
+    omega (arith, stop.first q small (ahead_at s d q i lo (omega arith) here) man, line.in_order s i k q t here at lt, le)
 
--- a ride gets to what is ahead and not ahead of the stop
+-- a ride gets to what is ahead and not passed behind the stop
 ridden : (men : List (Option Man)) (s : ℕ) (d : Step) (b t : ℕ) → Ordered d → Stops men s d b → s < 64 → t < 64
-    → (is_ahead s d t && not (is_ahead b d t)) ≡ rides men s t d
+    → (is_ahead s d t && nat_le (place d t) (place d b)) ≡ rides men s t d
 ridden men s d b t line stop p q =
     same_Bool _ _ (λ h.
     let on = steps_on s d t (first_of_and _ _ h) in
-    let free = not-true _ (second_of_and (is_ahead s d t) _ h) in
     ride-made men s t d on.0 (record {
       low = on.1.low;
       high = on.1.high;
       at = on.1.at;
       free = λ i lo lt.
           let w = passes s t d on.0 i p (omega (arith, lt)) on.1.at in
-          grind (arith, nobody men s d b t on.0 i w.0 line stop q lo lt on.1.high on.1.at w.1.at w.1.small free, false_from_ne_true);
+          let le : place d t ≤ place d b = leb-true _ _ (second_of_and (is_ahead s d t) _ h) in
+          grind (arith, nobody men s d b t on.0 i w.0 line stop lo lt on.1.high on.1.at w.1.at w.1.small le, false_from_ne_true);
     })) (λ h.
     let w = ride-found men s t d h in
-    and_from _ _ (ahead_at s d t w.0 w.1.low w.1.high w.1.at) (ap not (false_from_ne_true _ (blocked men s d b t w.0 line stop q w.1))))
+    let ahead = ahead_at s d t w.0 w.1.low w.1.high w.1.at in
+    and_from _ _ ahead (grind (arith, cases_lt (place d b) (place d t), le-leb, blocked men s d b t w.0 line stop q w.1)))
 
--- a ride gets to what is ahead, without what is ahead of the first man
-pub ride_is : (men : List (Option Man)) (s : ℕ) (d : Step) (r o b n : ℕ) → Ordered d → s < 64 → r ≡ ray s d → o ≡ word (λ q. is_some (man_on men q))
-    → IsStop d (bit_and r o) b → n ≡ ray b d → bit_and r (bit_not w64 n) ≡ word (λ t. rides men s t d)
+-- a ride gets to what is ahead, without what is passed behind the first man
+pub ride_is : (men : List (Option Man)) (s : ℕ) (d : Step) (r o n : ℕ) → Ordered d → s < 64 → r ≡ ray s d → o ≡ word (λ q. is_some (man_on men q))
+    → IsUpTo d (bit_and r o) n → bit_and r n ≡ word (λ t. rides men s t d)
 unfolding ray
-ride_is men s d r o b n line p h i stop k = search (rules, squares_not, squares_both, squares_same, ridden, stops, line, p, h, i, stop, k)
+ride_is men s d r o n line p h held first = search (rules, squares_both, squares_same, ridden, stops, line, p, h, held, first.stop, first.squares)

@@ -112,3 +112,9 @@ pub record IsStop (d : Step) (w b : ℕ) : Type 0 where
   pub small : b < 64
   pub first : (q : ℕ) → q < 64 → bit_at w q ≡ 1 → place d b ≤ place d q
   pub here : place d b < 63 → bit_at w b ≡ 1
+
+-- r has the squares that aren't passed behind that square
+pub record IsUpTo (d : Step) (w r : ℕ) : Type 0 where
+  pub last : ℕ
+  pub stop : IsStop d w last
+  pub squares : r ≡ word (λ t. nat_le (place d t) (place d last))

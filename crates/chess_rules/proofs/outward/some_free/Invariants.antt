@@ -1,8 +1,9 @@
-use Rattle.chess_rules.proofs.Chess.{NoneBelow, bit_at, is_paralysed, not, ◌&&◌, ◌-◌, ◌==◌}
+use Rattle.chess_rules.proofs.Chess.{is_paralysed}
+use Rattle.chess_rules.proofs.HoldTaken.{PassTaken}
 use Rattle.chess_rules.proofs.outward.some_free.Given as goal
 
 abbrev pub invariant-loop-square : goal.invariant-loop-square
-invariant-loop-square g l = NoneBelow (λ s. bit_at l.word s == 1 && not (is_paralysed g.R.Rules.rule l.board.men s)) l.number
+invariant-loop-square g l = PassTaken l.word l.rest (is_paralysed g.R.Rules.rule l.board.men)
 
 abbrev pub decreases-loop-square : goal.decreases-loop-square
-decreases-loop-square g l = 64 - l.number
+decreases-loop-square g l = l.rest
