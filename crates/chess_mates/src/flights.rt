@@ -27,7 +27,7 @@ use chess_rules::play::{arriving_man, capture_square};
 use chess_rules::reach::reach_over;
 use chess_rules::rules::Rules;
 use chess_rules::sight::{Sight, sight_after};
-use chess_rules::words::{next_bit, only};
+use chess_rules::words::{only, take_first};
 
 /// What is told of the flights of the side that is to move.
 #[derive(Clone, Copy)]
@@ -112,7 +112,7 @@ pub(crate) fn open_squares<R: Rules>(board: &Board, sight: Sight, king: Square) 
 
 // The first of the squares that no man of the colour attacks once the enemy king stands there, the man that
 // moved apart.
-#[tactic(auto, using(chess_rules::proofs::HoldBelow::hold_all, chess_rules::proofs::HoldBelow::hold_none))]
+#[tactic(auto, using(chess_rules::proofs::HoldTaken::taken_all, chess_rules::proofs::HoldTaken::taken_none, chess_rules::proofs::HoldTaken::rest_falls))]
 #[inline(always)]
 pub(crate) fn first_safe(
     board: &Board,
@@ -123,12 +123,11 @@ pub(crate) fn first_safe(
     ensures safe { IfSome result (λ t. IsSafe board.now.men colour sight squares t) }
     ensures guarded { IfNone result (AreUnsafe board.now.men colour sight squares) }
 {
-    let mut number = 0u8;
-    while let Some(square) = next_bit(squares, number) {
+    let mut rest = squares;
+    while let Some(square) = take_first(&mut rest) {
         if !is_attacker_seen(board, sight_with(sight, square), square, colour) {
             return Some(square);
         }
-        number = square.index() + 1;
     }
     None
 }

@@ -11,7 +11,7 @@ use chess_core::man::{Colour, Kind, Man};
 use chess_core::square::{Square, Squares};
 use chess_rules::open_board::open_reach;
 use chess_rules::reach::reach_over;
-use chess_rules::words::{next_bit, only};
+use chess_rules::words::{only, take_first};
 
 // The squares that attackers reach, and those that their riders do.
 #[derive(Clone, Copy)]
@@ -44,7 +44,7 @@ fn reach_towards(hurdles: Squares, man: Man, from: Square, region: Squares) -> S
 }
 
 // Those that such men on the squares of a word reach.
-#[tactic(auto, using(chess_rules::proofs::HoldBelow::hold_none, chess_rules::proofs::listing_moves::Walks::off_zero))]
+#[tactic(auto, using(chess_rules::proofs::HoldTaken::taken_all, chess_rules::proofs::HoldTaken::taken_none, chess_rules::proofs::HoldTaken::rest_falls, chess_rules::proofs::listing_moves::Walks::off_zero))]
 fn reach_together(hurdles: Squares, man: Man, squares: Squares, region: Squares) -> Squares
     ensures all { (s : ℕ) → s < 64 → (bit_at squares s == 1) ≡ true
         → IsNear man s region → IsReached hurdles man s result }
@@ -52,11 +52,10 @@ fn reach_together(hurdles: Squares, man: Man, squares: Squares, region: Squares)
         → IsReachedFrom hurdles man squares t }
 {
     let mut reached = 0u64;
-    let mut number = 0u8;
-    while let Some(from) = next_bit(squares, number) {
+    let mut rest = squares;
+    while let Some(from) = take_first(&mut rest) {
         let more = reach_towards(hurdles, man, from, region);
         reached |= more;
-        number = from.index() + 1;
     }
     reached
 }

@@ -12,7 +12,7 @@ use chess_core::board::Board;
 use chess_core::man::{Colour, Kind};
 use chess_core::square::{Square, Squares};
 use chess_rules::rules::Rules;
-use chess_rules::words::{next_bit, only};
+use chess_rules::words::{only, take_first};
 
 // The squares on which a man of the kind, who is no pawn, may be reborn.
 #[tactic(auto, using(crate::proofs::HomeSquares::home_on))]
@@ -48,17 +48,16 @@ fn pawn_home(colour: Colour, from: Square) -> Squares
 }
 
 // The squares on which the pawns may be reborn.
-#[tactic(auto, using(chess_rules::proofs::HoldBelow::hold_all, chess_rules::proofs::HoldBelow::hold_none))]
+#[tactic(auto, using(chess_rules::proofs::HoldTaken::taken_all, chess_rules::proofs::HoldTaken::taken_none, chess_rules::proofs::HoldTaken::rest_falls))]
 fn pawn_homes(colour: Colour, pawns: Squares) -> Squares
     ensures { (s : ℕ) → s < 64 → (bit_at pawns s == 1) ≡ true → (t r : ℕ) → file_of t ≡ file_of s
         → rebirth colour Pawn t ≡ Some r → (bit_at result r == 1) ≡ true }
 {
     let mut homes = 0u64;
-    let mut number = 0u8;
-    while let Some(from) = next_bit(pawns, number) {
+    let mut rest = pawns;
+    while let Some(from) = take_first(&mut rest) {
         let home = pawn_home(colour, from);
         homes |= home;
-        number = from.index() + 1;
     }
     homes
 }

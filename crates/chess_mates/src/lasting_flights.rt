@@ -18,7 +18,7 @@ use chess_rules::open_board::{open_reach, open_targets};
 use chess_rules::words::{contains, highest, next_bit, only, take_first};
 
 // Those that the men of this kind reach so, who stand on the squares of a word.
-#[tactic(auto, using(chess_rules::proofs::HoldBelow::hold_all, chess_rules::proofs::HoldBelow::hold_none, crate::proofs::Risks::none_on))]
+#[tactic(auto, using(chess_rules::proofs::HoldTaken::taken_all, chess_rules::proofs::HoldTaken::taken_none, chess_rules::proofs::HoldTaken::rest_falls, crate::proofs::Risks::none_on))]
 #[inline(always)]
 fn open_reach_of(colour: Colour, kind: Kind, squares: Squares) -> Squares
     ensures { (s : ℕ) → s < 64 → (bit_at squares s == 1) ≡ true
@@ -29,11 +29,10 @@ fn open_reach_of(colour: Colour, kind: Kind, squares: Squares) -> Squares
     }
     let man = Man { colour, kind };
     let mut reached = 0u64;
-    let mut number = 0u8;
-    while let Some(from) = next_bit(squares, number) {
+    let mut rest = squares;
+    while let Some(from) = take_first(&mut rest) {
         let more = open_reach(man, from);
         reached |= more;
-        number = from.index() + 1;
     }
     reached
 }
@@ -150,7 +149,7 @@ fn leaves_one(squares: Squares, man: Man, from: Square) -> bool
 }
 
 // Whether each man of this kind leaves one so, who stands on a square of the word.
-#[tactic(auto, using(chess_rules::proofs::HoldBelow::hold_all, chess_rules::proofs::HoldBelow::hold_none, crate::proofs::Risks::none_on))]
+#[tactic(auto, using(chess_rules::proofs::HoldTaken::taken_all, chess_rules::proofs::HoldTaken::taken_none, chess_rules::proofs::HoldTaken::rest_falls, crate::proofs::Risks::none_on))]
 #[inline(always)]
 fn each_leaves_one(squares: Squares, colour: Colour, kind: Kind, men: Squares) -> bool
     ensures { result ≡ true → (s : ℕ) → s < 64 → (bit_at men s == 1) ≡ true
@@ -160,12 +159,11 @@ fn each_leaves_one(squares: Squares, colour: Colour, kind: Kind, men: Squares) -
         return true;
     }
     let man = Man { colour, kind };
-    let mut number = 0u8;
-    while let Some(from) = next_bit(men, number) {
+    let mut rest = men;
+    while let Some(from) = take_first(&mut rest) {
         if !leaves_one(squares, man, from) {
             return false;
         }
-        number = from.index() + 1;
     }
     true
 }

@@ -14,7 +14,7 @@ use crate::siege::Siege;
 use chess_core::square::{Square, Squares};
 use chess_rules::leaps::king_leaps;
 use chess_rules::rules::Rules;
-use chess_rules::words::{contains, next_bit, only};
+use chess_rules::words::{contains, only, take_first};
 
 // Steps of the king, and those of them that he mustn't make, if they are legal, under rules by which faced men stand still
 // or don't, and captures do more or don't.
@@ -67,18 +67,17 @@ fn risky_step<R: Rules>(siege: &Siege, guarded: Squares, to: Square) -> Squares
 }
 
 // Those of the squares to which he mustn't step.
-#[tactic(auto, using(chess_rules::proofs::HoldBelow::hold_none, chess_rules::proofs::HoldBelow::hold_all))]
+#[tactic(auto, using(chess_rules::proofs::HoldTaken::taken_all, chess_rules::proofs::HoldTaken::taken_none, chess_rules::proofs::HoldTaken::rest_falls))]
 fn risky_among<R: Rules>(siege: &Siege, guarded: Squares, steps: Squares) -> Squares
     requires { AreGuarded siege.now.men guarded }
     ensures { (t : ℕ) → t < 64 → (bit_at steps t == 1) ≡ true → (bit_at result t == 1) ≡ false
         → IsSparedStep R.rule siege.now t }
 {
     let mut risky = 0u64;
-    let mut number = 0u8;
-    while let Some(to) = next_bit(steps, number) {
+    let mut rest = steps;
+    while let Some(to) = take_first(&mut rest) {
         let more = risky_step::<R>(siege, guarded, to);
         risky |= more;
-        number = to.index() + 1;
     }
     risky
 }

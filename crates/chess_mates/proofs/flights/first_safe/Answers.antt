@@ -1,17 +1,10 @@
-use Rattle.chess_mates.proofs.Chess.{hold_on, sym, ◌∙◌}
-use Rattle.chess_mates.proofs.Hurdles.{found_on}
+use Rattle.chess_mates.proofs.Chess.{rules, taken_on}
+use Rattle.chess_mates.proofs.Hurdles.{rest_here, rest_on}
 use Rattle.chess_mates.proofs.flights.first_safe.Goals as goal
 
 pub loop-square-preserved : goal.loop-square-preserved
 loop-square-preserved c =
-    hold_on _ _ _ _ _ _ c.loop-square.invariant c.next_bit.ensures.value c.in-Some.is c.index-number.ensures.value
-    (λ men are. sym (c.is_attacker_seen.ensures men (rw c.sight_with.ensures are)) ∙ c.if-not-is_attacker_seen.false)
+    search (rules, rest_on, taken_on, c.take_first.ensures.taken, c.in-Some.ensures.taken, c.is_attacker_seen.ensures, c.sight_with.ensures)
 
 pub returns-then-not-is_attacker_seen-clause-safe : goal.returns-then-not-is_attacker_seen-clause-safe
-returns-then-not-is_attacker_seen-clause-safe c =
-    let found = found_on c.args.squares c.loop-square.number c.in-Some.square (sym c.next_bit.ensures.value ∙ c.in-Some.is) in
-    record {
-      small = found.0;
-      here = found.1;
-      unreached = λ men are. sym (c.is_attacker_seen.ensures men (rw c.sight_with.ensures are)) ∙ c.if-not-is_attacker_seen.true;
-    }
+returns-then-not-is_attacker_seen-clause-safe c = search (rules, rest_here, c.in-Some.ensures.taken, c.is_attacker_seen.ensures, c.sight_with.ensures)

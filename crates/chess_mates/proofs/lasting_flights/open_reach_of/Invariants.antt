@@ -1,9 +1,9 @@
-use Rattle.chess_mates.proofs.Chess.{HoldBelow, ◌-◌}
+use Rattle.chess_mates.proofs.Chess.{HoldTaken}
 use Rattle.chess_rules.specs.ties.Targets.{AreReached}
 use Rattle.chess_mates.proofs.lasting_flights.open_reach_of.Given as goal
 
 abbrev pub invariant-loop-from : goal.invariant-loop-from
-invariant-loop-from l = HoldBelow l.squares (λ s. AreReached (record { colour = l.fn.colour; kind = l.fn.kind }) s l.reached) l.number
+invariant-loop-from l = HoldTaken l.squares l.rest (λ s. AreReached (record { colour = l.fn.colour; kind = l.fn.kind }) s l.reached)
 
 abbrev pub decreases-loop-from : goal.decreases-loop-from
-decreases-loop-from l = 64 - l.number
+decreases-loop-from l = l.rest

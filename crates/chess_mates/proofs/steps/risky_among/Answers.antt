@@ -1,9 +1,7 @@
-use Rattle.chess_mates.proofs.Chess.{hold_map, hold_next, off_left, off_right, sym, ◌∙◌}
+use Rattle.chess_mates.proofs.Chess.{off_left, off_right, rules, taken_map, taken_on}
 use Rattle.chess_mates.proofs.steps.risky_among.Goals as goal
 
 pub loop-to-preserved : goal.loop-to-preserved
 loop-to-preserved g c =
-    let more = c.risky_step-more in
-    rw c.index-number.ensures.value
-    (hold_next _ _ _ _ (hold_map _ _ _ _ (λ t h off. h (off_left c.loop-to.risky more.result t off)) c.loop-to.invariant)
-    (sym c.next_bit.ensures.value ∙ c.in-Some.is) (λ off. more.ensures (off_right c.loop-to.risky more.result _ off)))
+    taken_on _ _ _ _ _ _ (taken_map _ _ _ _ (λ t h off. h (search (rules, off_left))) c.loop-to.invariant)
+    c.take_first.ensures.taken c.in-Some.is (λ off. search (rules, off_right, c.risky_step-more.ensures))
