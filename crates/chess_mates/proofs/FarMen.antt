@@ -1,6 +1,6 @@
 -- Men who couldn't come to a check square give no check.
-use Rattle.chess_mates.proofs.Chess.{AreApproaches, AreCheckOrigins, AreCheckTargets, Colour, Kind, King, Man, Move, None, Option, Position, RuleSet, Some, arith, bit_and, bit_at, bit_at-lt, bit_at_and, bit_at_not, bit_not, bit_or, cases_Bool, eq-eqb, eqb-true, false, false_by, false≢true, find, is_legal, is_pseudo_legal-from_legal, is_square, man_on, may_go, off_second, off_zero, on_first, own_man, own_moves, range_with_len, refl, rules, same_colour-true, same_kind, same_kind-true, side_of, squares_of, sym, true, w64, word, word_has, ℕ, ◌-◌, ◌<◌, ◌==◌, ◌^◌, ◌∙◌, ◌≡◌}
-use Rattle.chess_mates.proofs.Hurdles.{found_on, on_either}
+use Rattle.chess_mates.proofs.Chess.{AreApproaches, AreCheckOrigins, AreCheckTargets, Colour, Kind, King, Man, Move, None, Option, Position, RuleSet, Some, arith, bit_and, bit_at, bit_at-lt, bit_at_and, bit_at_not, bit_not, bit_or, cases_Bool, eq-eqb, eqb-true, false, false_by, false≢true, is_legal, is_pseudo_legal-from_legal, is_square, man_on, may_go, off_second, off_zero, on_first, own_man, own_moves, refl, rules, same_colour-true, same_kind, same_kind-true, side_of, squares_of, sym, true, w64, word, word_has, ℕ, ◌<◌, ◌==◌, ◌^◌, ◌∙◌, ◌≡◌}
+use Rattle.chess_mates.proofs.Hurdles.{on_either}
 use Rattle.chess_mates.proofs.CheckTargets.{targets_lack}
 
 -- for men who are told by the word of their kind
@@ -46,11 +46,10 @@ module _ (rule : RuleSet) (p : Position) (j : Kind) (m h w : ℕ) (stands : (s :
       let far = targets_lack rule p (own_man p j) s w 0 in
       grind (arith, far, stands s small, off s small, targets s (own_man p j) small, on_first m, off_denied m n s fits small on, come.approach p s, false_by)
 
-  -- the first of them, and his targets
-  pub found : (n s : ℕ) (o king : Option ℕ) (c : Colour) → c ≡ p.turn → o ≡ find (λ s. bit_at m s == 1) (range_with_len n (64 - n)) → o ≡ Some s
-      → (same_kind j King ≡ true → king ≡ Some s) → AreTargetsOff rule p j king h w
-      → (man_on p.men s ≡ Some (record { colour = c; kind = j })) × AreCheckTargets rule p s w
-  found n s o king c turn first is same targets = grind (arith, found_on m n s, stands s, off s, targets s (own_man p j))
+  -- one of them, and his targets
+  pub found : (s : ℕ) (king : Option ℕ) (c : Colour) → c ≡ p.turn → (s < 64) × ((bit_at m s == 1) ≡ true) → (same_kind j King ≡ true → king ≡ Some s)
+      → AreTargetsOff rule p j king h w → (man_on p.men s ≡ Some (record { colour = c; kind = j })) × AreCheckTargets rule p s w
+  found s king c turn here same targets = grind (arith, stands s, off s, targets s (own_man p j))
 
 -- a square that isn't one of the others is one of the word
 pub on_denied : (w i : ℕ) → w < 2 ^ 64 → i < 64 → (bit_at (bit_not w64 w) i == 1) ≡ false → (bit_at w i == 1) ≡ true

@@ -24,7 +24,7 @@ use chess_rules::play::capture_square;
 use chess_rules::rules::Rules;
 use chess_rules::sight::sight_after;
 use chess_rules::targets::arrivals;
-use chess_rules::words::{contains, next_bit};
+use chess_rules::words::{contains, take_first};
 
 /// Whether the side to move has a legal move and each of its legal moves mates: one that can't give check
 /// says no without being played. The board is unchanged.
@@ -78,16 +78,16 @@ fn is_unreached(board: &Board, king: Man, from: Square, to: Square) -> bool
 }
 
 // The first of the squares on which no enemy reaches him then.
+#[tactic(auto, using(chess_rules::proofs::HoldTaken::rest_falls, crate::proofs::Hurdles::rest_here, crate::proofs::Hurdles::rest_on))]
 fn first_unreached(board: &Board, king: Man, from: Square, squares: Squares) -> Option<Square>
     ensures within { IfSome result (λ t. (t < 64) × ((bit_at squares t == 1) ≡ true)) }
     ensures unreached { IfSome result (λ t. IsUnreached board.now king from t) }
 {
-    let mut number = 0u8;
-    while let Some(to) = next_bit(squares, number) {
+    let mut rest = squares;
+    while let Some(to) = take_first(&mut rest) {
         if is_unreached(board, king, from, to) {
             return Some(to);
         }
-        number = to.index() + 1;
     }
     None
 }

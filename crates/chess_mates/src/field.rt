@@ -17,7 +17,7 @@ use chess_rules::leaps::king_leaps;
 use chess_rules::lines::{diagonal_lines, straight_lines};
 use chess_rules::reach::reach_over;
 use chess_rules::rules::Rules;
-use chess_rules::words::{next_bit, only};
+use chess_rules::words::{only, take_first};
 
 // A king's square, the squares next to it to which he might go, attacks apart, those on which he might capture who comes
 // there, and those of the lines from there: the straight ones, the diagonals, and all; the springboards of his square, and
@@ -130,7 +130,7 @@ fn landing_on(siege: &Siege, king: Square, to: Square) -> Landings
 }
 
 // Such squares of a word.
-#[tactic(auto, using(crate::proofs::Risks::none_at, crate::proofs::Springboards::landing_anywhere))]
+#[tactic(auto, using(chess_rules::proofs::HoldTaken::rest_falls, crate::proofs::Risks::none_at, crate::proofs::Springboards::landing_anywhere))]
 fn landings_among(siege: &Siege, king: Square, squares: Squares) -> Landings
     ensures { (f : ℕ) → f < 64 → (bit_at result.squares f == 1) ≡ true
         → IsUnsprung siege.now king f result.springboards }
@@ -143,12 +143,11 @@ fn landings_among(siege: &Siege, king: Square, squares: Squares) -> Landings
     }
     let mut found = 0u64;
     let mut springboards = 0u64;
-    let mut number = 0u8;
-    while let Some(to) = next_bit(squares, number) {
+    let mut rest = squares;
+    while let Some(to) = take_first(&mut rest) {
         let more = landing_on(siege, king, to);
         found |= more.squares;
         springboards |= more.springboards;
-        number = to.index() + 1;
     }
     Landings {
         squares: found,

@@ -11,7 +11,7 @@ use chess_core::man::{Colour, Kind};
 use chess_core::square::{Square, Squares};
 use chess_rules::leaps::king_leaps;
 use chess_rules::outward::comes_as;
-use chess_rules::words::{next_bit, only};
+use chess_rules::words::{only, take_first};
 
 // The squares on which a man may stand, where none arrived, once the attacker has left `from` and the king `king`: the
 // hurdles, and in Circe, where attackers stand on closed squares, those too.
@@ -49,6 +49,7 @@ fn squares_beside(king: Square, flight: Square) -> Squares
 
 // The squares that a defender mustn't come to lest a grasshopper who comes to one of the targets leaves none of the flights
 // `near`. To a square where another attacker stands he comes only if he recaptures there.
+#[tactic(auto, using(chess_rules::proofs::HoldTaken::rest_falls, chess_rules::proofs::listing_moves::Targeting::every_square_on))]
 pub(crate) fn critical_of_hops(
     king: Square,
     near: Squares,
@@ -61,8 +62,8 @@ pub(crate) fn critical_of_hops(
 {
     let mut critical = 0u64;
     let mut taking = targets;
-    let mut number = 0u8;
-    while let Some(flight) = next_bit(near, number) {
+    let mut rest = near;
+    while let Some(flight) = take_first(&mut rest) {
         if taking == 0 {
             return critical;
         }
@@ -70,7 +71,6 @@ pub(crate) fn critical_of_hops(
         let beside = squares_beside(king, flight);
         taking &= taken;
         critical |= beside;
-        number = flight.index() + 1;
     }
     if taking & !enemies != 0 {
         return !0;

@@ -14,7 +14,7 @@ use chess_core::man::{Kind, Man};
 use chess_core::square::{Square, Squares};
 use chess_rules::open_board::open_targets;
 use chess_rules::rules::Rules;
-use chess_rules::words::{next_bit, only};
+use chess_rules::words::{next_bit, only, take_first};
 
 // The squares of the mover's men of this kind from which no move exposes the enemy's king.
 #[inline(always)]
@@ -54,7 +54,7 @@ fn is_far<R: Rules>(board: &Board, man: Man, from: Square, targets: Squares) -> 
 // The squares of the mover's men of this kind, no kings, who couldn't come to a check square on an empty
 // board.
 #[inline(always)]
-#[tactic(auto, using(crate::proofs::FarMen::far_either, chess_rules::proofs::listing_moves::Walks::off_zero, crate::proofs::FarMen::far_one))]
+#[tactic(auto, using(chess_rules::proofs::HoldTaken::rest_falls, crate::proofs::Hurdles::rest_on, crate::proofs::FarMen::far_either, chess_rules::proofs::listing_moves::Walks::off_zero, crate::proofs::FarMen::far_one))]
 fn far_men<R: Rules>(board: &Board, squares: &CheckSquares, kind: Kind) -> Squares
     requires well_formed { IsWellFormed board.now }
     requires squares { AreCheckSquares board.now.men (other board.now.turn) squares.now }
@@ -72,12 +72,11 @@ fn far_men<R: Rules>(board: &Board, squares: &CheckSquares, kind: Kind) -> Squar
     }
     let targets = targets_off_shields::<R>(board, squares, kind, None);
     let mut far = 0u64;
-    let mut number = 0u8;
-    while let Some(from) = next_bit(men, number) {
+    let mut rest = men;
+    while let Some(from) = take_first(&mut rest) {
         if is_far::<R>(board, man, from, targets) {
             far |= only(Some(from));
         }
-        number = from.index() + 1;
     }
     far
 }

@@ -28,7 +28,7 @@ use chess_rules::reach::reach_over;
 use chess_rules::rules::Rules;
 use chess_rules::shields::{cannot_expose, fairy_lines};
 use chess_rules::sight::{Sight, sight_after};
-use chess_rules::words::{contains, next_bit, only};
+use chess_rules::words::{contains, next_bit, only, take_first};
 
 // Whether it is told who parries after the man's move: no king goes and nobody is promoted, no line to the enemy
 // king opens, nobody is reborn, and no man stands still.
@@ -123,6 +123,7 @@ fn pawn_origins(colour: Colour, square: Square) -> Squares
 }
 
 // Whether an unpinned man comes between the man that has come and the king on `king`.
+#[tactic(auto, using(chess_rules::proofs::HoldTaken::rest_falls, crate::proofs::Hurdles::rest_on))]
 fn is_interposed(
     board: &Board,
     sight: Sight,
@@ -139,15 +140,14 @@ fn is_interposed(
     let enemy = board.turn().other();
     let held = sight.occupied | fairy_lines(board, enemy);
     let between = squares_between(sight.occupied, m.to, king) & !held;
-    let mut number = 0u8;
-    while let Some(square) = next_bit(between, number) {
+    let mut rest = between;
+    while let Some(square) = take_first(&mut rest) {
         let reaching = reached_from(board, sight, square, enemy, unpinned);
         let pawns = board.squares(enemy, Kind::Pawn) & sight.standing;
         let comers = reaching & !pawns | pawns & unpinned & pawn_origins(enemy, square);
         if shuts(sight.occupied, man, m.to, king, square, comers) {
             return true;
         }
-        number = square.index() + 1;
     }
     false
 }

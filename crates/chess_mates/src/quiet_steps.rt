@@ -30,7 +30,7 @@ use chess_rules::play::capture_square;
 use chess_rules::rules::Rules;
 use chess_rules::sift::Sift;
 use chess_rules::sight::Sight;
-use chess_rules::words::{next_bit, only};
+use chess_rules::words::{only, take_first};
 
 // The men once the enemy king, lifted from `king`, stands on `to`: of his side the others count.
 fn sight_stepped(sight: Sight, king: Square, to: Square) -> Sight
@@ -84,6 +84,7 @@ fn steps_quietly<R: Rules>(
 }
 
 // The squares to which the enemy king on `king` could step if it were his move.
+#[tactic(auto, using(chess_rules::proofs::HoldTaken::rest_falls))]
 fn steps_now(board: &Board, king: Square) -> Squares {
     let mover = board.turn();
     let men = board.side(Colour::White) | board.side(Colour::Black);
@@ -93,12 +94,11 @@ fn steps_now(board: &Board, king: Square) -> Squares {
     };
     let near = king_leaps(king) & !held_squares(board, sight.standing);
     let mut steps = 0u64;
-    let mut number = 0u8;
-    while let Some(to) = next_bit(near, number) {
+    let mut rest = near;
+    while let Some(to) = take_first(&mut rest) {
         if !is_attacker_seen(board, sight_with(sight, to), to, mover) {
             steps |= only(Some(to));
         }
-        number = to.index() + 1;
     }
     steps
 }
@@ -206,18 +206,18 @@ fn stopping_squares(board: &Board, sight: Sight, man: Man, to: Square) -> Square
 }
 
 // Those to which he must go lest one of the steps is left.
+#[tactic(auto, using(chess_rules::proofs::HoldTaken::rest_falls, chess_rules::proofs::listing_moves::Targeting::every_square_on))]
 fn holding_squares(board: &Board, sight: Sight, man: Man, steps: Squares) -> Squares
     ensures { (t : ℕ) → t < 64 → (bit_at result t == 1) ≡ false
         → (f : ℕ) × IsStepLeft board.now sight steps man t f }
 {
     let mut squares = !0u64;
-    let mut number = 0u8;
-    while let Some(to) = next_bit(steps, number) {
+    let mut rest = steps;
+    while let Some(to) = take_first(&mut rest) {
         if squares == 0 {
             return squares;
         }
         squares &= stopping_squares(board, sight, man, to);
-        number = to.index() + 1;
     }
     squares
 }

@@ -24,7 +24,7 @@ use chess_core::man::{Colour, Kind, Man};
 use chess_core::square::{Square, Squares};
 use chess_rules::open_board::{open_reach, open_targets};
 use chess_rules::reach::reach_over;
-use chess_rules::words::{contains, next_bit, only};
+use chess_rules::words::{contains, next_bit, only, take_first};
 
 // The squares that a defender mustn't come to lest a reply may mate, and those of all lines on which hurdles count.
 #[derive(Clone, Copy)]
@@ -68,17 +68,16 @@ fn critical_with(near: Squares, enemies: Squares, man: Man, to: Square) -> Squar
 }
 
 // The same wherever the man comes to a square of the word.
-#[tactic(auto, using(chess_rules::proofs::HoldBelow::hold_none))]
+#[tactic(auto, using(chess_rules::proofs::HoldTaken::rest_falls, chess_rules::proofs::HoldTaken::taken_all, chess_rules::proofs::HoldTaken::taken_none))]
 fn critical_after(near: Squares, enemies: Squares, man: Man, targets: Squares) -> Squares
     ensures { (t : ℕ) → t < 64 → (bit_at targets t == 1) ≡ true
         → LeavesOne near enemies result man t }
 {
     let mut critical = 0u64;
-    let mut number = 0u8;
-    while let Some(to) = next_bit(targets, number) {
+    let mut rest = targets;
+    while let Some(to) = take_first(&mut rest) {
         let more = critical_with(near, enemies, man, to);
         critical |= more;
-        number = to.index() + 1;
     }
     critical
 }
@@ -238,7 +237,7 @@ fn risk_from(siege: &Siege, field: &Field, man: Man, from: Square, checks: Squar
 }
 
 // The same of such men on the squares of a word.
-#[tactic(auto, using(chess_rules::proofs::HoldBelow::hold_none))]
+#[tactic(auto, using(chess_rules::proofs::HoldTaken::rest_falls, chess_rules::proofs::HoldTaken::taken_all, chess_rules::proofs::HoldTaken::taken_none))]
 #[inline(always)]
 fn risk_together(siege: &Siege, field: &Field, man: Man, squares: Squares, checks: Squares) -> Risk
     ensures { (s : ℕ) → s < 64 → (bit_at squares s == 1) ≡ true
@@ -246,12 +245,11 @@ fn risk_together(siege: &Siege, field: &Field, man: Man, squares: Squares, check
 {
     let mut critical = 0u64;
     let mut lines = 0u64;
-    let mut number = 0u8;
-    while let Some(from) = next_bit(squares, number) {
+    let mut rest = squares;
+    while let Some(from) = take_first(&mut rest) {
         let more = risk_from(siege, field, man, from, checks);
         critical |= more.critical;
         lines |= more.lines;
-        number = from.index() + 1;
     }
     Risk { critical, lines }
 }

@@ -1,8 +1,8 @@
-use Rattle.chess_mates.proofs.Chess.{◌-◌, ◌≤◌}
+use Rattle.chess_mates.proofs.Hurdles.{IsRest}
 use Rattle.chess_mates.proofs.every_move.first_unreached.Given as goal
 
 abbrev pub invariant-loop-to : goal.invariant-loop-to
-invariant-loop-to l = l.number ≤ 64
+invariant-loop-to l = IsRest l.squares l.rest
 
 abbrev pub decreases-loop-to : goal.decreases-loop-to
-decreases-loop-to l = 64 - l.number
+decreases-loop-to l = l.rest

@@ -1,33 +1,32 @@
-use Rattle.chess_mates.proofs.Chess.{bit_at, cases_Bool, every_square_on, false_by, false≢true, inl, inr, off_left, off_right, off_second, rules, sym, ◌==◌, ◌∙◌}
-use Rattle.chess_mates.proofs.Hurdles.{found_on}
+use Rattle.chess_mates.proofs.Chess.{bit_at, cases_Bool, false_by, false≢true, inl, inr, off_left, off_right, off_second, rules, sym, ◌==◌, ◌∙◌}
+use Rattle.chess_mates.proofs.Hurdles.{rest_here, rest_on}
 use Rattle.chess_mates.proofs.Risks.{denied_on, none_at}
 use Rattle.chess_mates.proofs.hopped_flights.critical_of_hops.Goals as goal
 
 pub loop-flight-preserved : goal.loop-flight-preserved
-loop-flight-preserved c = λ x t hop low on off. record {
-  left = λ b small free there.
-      let found = found_on c.args.near _ c.in-Some.flight (sym c.next_bit.ensures.value ∙ c.in-Some.is) in
-      elim (cases_Bool (bit_at c.loop-flight.taking t == 1)) [
-        | inr left ↦ (c.loop-flight.invariant x t hop low on left).left b small (search (rules, off_left, free)) there
-        | inl taking ↦ (
-          _,
-          c.taking_squares-taken.ensures x _ _ t b hop low (search (rules, found)) (search (rules, off_second, off, taking))
-              (search (rules, off_right, free, c.squares_beside-beside.ensures b small)),
-        )
-      ];
-}
+loop-flight-preserved c = (
+  search (rules, rest_on),
+  λ x t hop low on off. record {
+    left = λ b small free there.
+        elim (cases_Bool (bit_at c.loop-flight.taking t == 1)) [
+          | inr left ↦ (c.loop-flight.invariant.1 x t hop low on left).left b small (search (rules, off_left, free)) there
+          | inl taking ↦ (
+            _,
+            c.taking_squares-taken.ensures x _ _ t b hop low (search (rules, rest_here))
+                (search (rules, off_second, off, taking)) (search (rules, off_right, free, c.squares_beside-beside.ensures b small)),
+          )
+        ];
+  },
+)
 
 pub returns-then-taking-eq0 : goal.returns-then-taking-eq0
-returns-then-taking-eq0 c = λ x t hop low on. c.loop-flight.invariant x t hop low on (false_by _ (none_at _ t c.if-taking-eq0.true))
-
-pub returns-then-taking-enemies-ne0 : goal.returns-then-taking-enemies-ne0
-returns-then-taking-enemies-ne0 c = λ x t hop low on. search (rules, every_square_on)
+returns-then-taking-eq0 c = λ x t hop low on. c.loop-flight.invariant.1 x t hop low on (false_by _ (none_at _ t c.if-taking-eq0.true))
 
 pub returns : goal.returns
 returns c = λ x t hop low on. record {
   left = λ b small off there.
       let free = off_right c.loop-flight.critical c.loop-flight.taking b off in
-      (c.loop-flight.invariant x t hop low on (false_by _ (λ taking. none_at _ t c.if-taking-enemies-ne0.false (search (
+      (c.loop-flight.invariant.1 x t hop low on (false_by _ (λ taking. none_at _ t c.if-taking-enemies-ne0.false (search (
         rules,
         denied_on,
         low,

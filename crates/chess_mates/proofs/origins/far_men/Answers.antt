@@ -1,9 +1,11 @@
+use Rattle.chess_mates.proofs.Chess.{rules}
 use Rattle.chess_mates.proofs.FarMen.{found}
+use Rattle.chess_mates.proofs.Hurdles.{rest_here}
 use Rattle.chess_mates.proofs.origins.far_men.Goals as goal
 
 pub is_far-requires : goal.is_far-requires
 is_far-requires g c =
     let men = c.men_off_shields-men.ensures in
     let targets = c.targets_off_shields-targets.ensures in
-    let first = found _ _ _ _ _ _ men.stands men.unshielding _ _ _ _ _ c.turn.ensures c.next_bit.ensures.value c.in-Some.is (λ king. cc) targets in
-    record { here = first.0; targets = first.1 }
+    let one = found _ _ _ _ _ _ men.stands men.unshielding _ _ _ c.turn.ensures (search (rules, rest_here)) (λ king. cc) targets in
+    record { here = one.0; targets = one.1 }

@@ -1,9 +1,9 @@
-use Rattle.chess_mates.proofs.Chess.{◌-◌, ◌≤◌}
 use Rattle.chess_mates.proofs.FarMen.{AreFar}
+use Rattle.chess_mates.proofs.Hurdles.{IsRest}
 use Rattle.chess_mates.proofs.origins.far_men.Given as goal
 
 abbrev pub invariant-loop-from : goal.invariant-loop-from
-invariant-loop-from g l = record { small : l.number ≤ 64; far : AreFar g.R.Rules.rule l.board l.far }
+invariant-loop-from g l = record { rest : IsRest l.men l.rest; far : AreFar g.R.Rules.rule l.board l.far }
 
 abbrev pub decreases-loop-from : goal.decreases-loop-from
-decreases-loop-from g l = 64 - l.number
+decreases-loop-from g l = l.rest

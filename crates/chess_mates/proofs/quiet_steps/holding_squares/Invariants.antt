@@ -1,10 +1,11 @@
-use Rattle.chess_mates.proofs.Chess.{bit_at, false, ℕ, ◌-◌, ◌<◌, ◌==◌, ◌≡◌, ◌≤◌}
+use Rattle.chess_mates.proofs.Chess.{bit_at, false, ℕ, ◌<◌, ◌==◌, ◌≡◌}
+use Rattle.chess_mates.proofs.Hurdles.{IsRest}
 use Rattle.chess_mates.specs.ties.QuietSteps.{IsStepLeft}
 use Rattle.chess_mates.proofs.quiet_steps.holding_squares.Given as goal
 
 abbrev pub invariant-loop-to : goal.invariant-loop-to
-invariant-loop-to l = (l.number ≤ 64)
+invariant-loop-to l = IsRest l.steps l.rest
     × ((t : ℕ) → t < 64 → (bit_at l.squares t == 1) ≡ false → (f : ℕ) × IsStepLeft l.board l.sight l.steps l.man t f)
 
 abbrev pub decreases-loop-to : goal.decreases-loop-to
-decreases-loop-to l = 64 - l.number
+decreases-loop-to l = l.rest
