@@ -83,6 +83,7 @@ pub(crate) fn reach_of(
 
 // The squares that riders reach.
 #[tactic(auto, using(crate::proofs::Hurdles::riders_reach))]
+#[inline(always)]
 pub(crate) fn ridden_squares(hurdles: Squares, men: &Attackers, region: Squares) -> Squares
     ensures all { AreReached hurdles men.now region is_rider result }
     ensures alone { (t : ℕ) → t < 64 → (bit_at result t == 1) ≡ true

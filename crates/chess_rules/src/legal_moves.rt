@@ -307,6 +307,7 @@ pub(crate) fn own_origins<R: Rules>(board: &Board) -> Squares
 
 // The squares to which the man on `from` may go by a legal move, and perhaps more.
 #[tactic(auto, using(crate::proofs::listing_moves::Walks::legal_candidates))]
+#[inline(always)]
 pub(crate) fn candidates<R: Rules>(board: &Board, evasion_squares: Squares, from: Square) -> Squares
     requires well_formed { IsWellFormed board.now }
     requires evasion_squares { AreEvasions R.rule board.now.men board.now.turn evasion_squares }

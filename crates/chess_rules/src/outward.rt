@@ -154,6 +154,7 @@ pub(crate) fn leapers_seen(board: &Board, sight: Sight, square: Square, colour: 
 }
 
 /// The squares of the men of this colour that reach the square.
+#[inline(always)]
 pub fn attackers_seen(board: &Board, sight: Sight, square: Square, colour: Colour) -> Squares
     ensures { (men : List (Option Man)) → AreSeen board.now.men men colour sight
         → result ≡ word (λ s. is_of_colour (man_on men s) colour && reaches men s square) }

@@ -226,6 +226,7 @@ pub struct KingSafety {
 
 /// How safe the colour's king is, told by the squares to which a rook and a bishop get from his, if an enemy
 /// rider stands on those lines, and by the fairy lines to him.
+#[inline(always)]
 pub fn safety_seen(
     board: &Board,
     colour: Colour,

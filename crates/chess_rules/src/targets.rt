@@ -97,6 +97,7 @@ fn free_squares(board: &Board, colour: Colour) -> Squares
 
 /// The squares to which the man on `from` may go, most tests of castling apart.
 #[tactic(auto, using(crate::proofs::listing_moves::Arrivals::arrivals_nobody, crate::proofs::listing_moves::Arrivals::arrivals_other, crate::proofs::listing_moves::Arrivals::arrivals_paralysed))]
+#[inline(always)]
 pub fn arrivals<R: Rules>(board: &Board, from: Square) -> Squares
     ensures { result ≡ word (is_arrival R.rule board.now from) }
 {

@@ -53,6 +53,7 @@ fn lets_mate<R: Rules>(by: Move, board: &mut Board, history: &mut History<R>) ->
 
 /// The value of a position with two half-moves left of a direct mate: Black's moves are tried in the order of a test. It is
 /// counted if it has a legal move, and so is each position after a move that is tried.
+#[inline(always)]
 pub(crate) fn value_of_last_defence<R: Rules>(board: &mut Board, history: &mut History<R>) -> bool
     requires well_formed { IsWellFormed board.old }
     ensures unchanged { board.new ≡ board.old }
