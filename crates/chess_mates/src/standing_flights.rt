@@ -19,7 +19,7 @@ use chess_rules::rules::Rules;
 use chess_rules::words::{contains, highest, next_bit, only};
 
 // Against more men than these a king seldom has flights that are left: such flights are not looked for.
-const MOST_MEN: u32 = 8;
+const MOST_MEN: u32 = 12;
 
 /// The flights, and the squares that the mover's riders reach: a man who stands on none of these opens no line as he goes.
 #[derive(Clone, Copy)]

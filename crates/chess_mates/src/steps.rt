@@ -6,6 +6,7 @@ ghost use Rattle.chess_mates.specs.declared.siege.Siege.{Siege};
 ghost use Rattle.chess_mates.specs.ties.LastingFlights.{AreGuarded};
 ghost use Rattle.chess_mates.specs.ties.Siege.{AreExactSteps, AreReached, AreToldSteps, AreUnhopping, IsAttackedOver, IsBarred, IsPlainStep, IsSettledStep, IsSparedStep, KeepsFlight};
 
+use crate::attackers::MOST_ATTACKERS;
 use crate::field::adjacent_squares;
 use crate::guards::{leapt_squares, ridden_squares};
 use crate::lasting_flights::keeps_one;
@@ -85,9 +86,6 @@ fn risky_among<R: Rules>(siege: &Siege, guarded: Squares, steps: Squares) -> Squ
 // Whether fewer steps are legal isn't asked: they are told at once.
 const FEW_STEPS: u32 = 3;
 
-// Against more men steps aren't told by the squares that these reach.
-const FEW_MEN: u32 = 7;
-
 // The squares that the attackers reach, grasshoppers apart, those who may reach the region.
 #[tactic(auto, using(crate::proofs::Hurdles::all_reach))]
 fn reached_squares(siege: &Siege, region: Squares) -> Squares
@@ -105,7 +103,7 @@ fn reached_squares(siege: &Siege, region: Squares) -> Squares
 fn tells_steps(siege: &Siege) -> bool
     ensures { result ≡ true → AreUnhopping siege.now.men }
 {
-    siege.men.grasshoppers == 0 && siege.enemies.count_ones() <= FEW_MEN
+    siege.men.grasshoppers == 0 && siege.enemies.count_ones() <= MOST_ATTACKERS
 }
 
 // The squares next to the king; where captures do more the empty ones alone.
