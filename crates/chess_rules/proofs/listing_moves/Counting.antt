@@ -130,5 +130,9 @@ module _ (rule : RuleSet) (p : Position) where
           → between (per_origin * s + a) (per_origin * s + b) + count_ones (w / 2 ^ arrival_from b) ≡ count_ones (w / 2 ^ arrival_from a)
       count_by_word a b le hi = counted (b - a) a b (omega (arith, le)) hi
 
+      -- those of a whole origin are all of them
+      pub count_whole : (a b : ℕ) → w < 2 ^ 64 → a ≡ 0 → b ≡ per_origin → between (per_origin * s + a) (per_origin * s + b) ≡ count_ones w
+      count_whole a b fits first last = grind (arith, count_by_word a b, none_from w 64 fits)
+
 -- for that from triple to triple
 pub ruleset by_triples = (count_barren, count_here, few_between, none_left)
