@@ -107,19 +107,20 @@ promoted_idle : (rule : RuleSet) (p : Position) (m : Move) → is_man (man_on p.
 promoted_idle rule p m none h some =
     grind (arith, plain_aimed rule p (record { from = m.from; to = m.to; promo = None }) none h refl, no_promotion_here, named_by)
 
--- no triple to a square of the word passes, if none without a promotion does below m, and it has no square from m to b
+-- no triple to a square of the word passes below b, if none without a promotion does to a square that isn't in the rest, and this has none below b
 pub none-plain : (rule : RuleSet) (p : Position) (test : Move → Bool) → ((m : Move) → is_pseudo_legal rule p m ≡ false → test m ≡ false)
-    → (s w a m b n : ℕ) → AreCandidates rule p (passes_to w test) s w → is_man (man_on p.men s) p.turn Pawn ≡ false
-    → ((t : ℕ) → arrival_from a ≤ t → t < m → (bit_at w t == 1) ≡ true → test (record { from = s; to = t; promo = None }) ≡ false)
-    → ((t : ℕ) → m ≤ t → t < b → (bit_at w t == 1) ≡ false) → n ≤ per_arrival * b → b ≤ 64
+    → (s w rest a b n : ℕ) → AreCandidates rule p (passes_to w test) s w → is_man (man_on p.men s) p.turn Pawn ≡ false
+    → ((t : ℕ) → t < 64 → (bit_at w t == 1) ≡ true → (bit_at rest t == 1) ≡ false → arrival_from a ≤ t
+    → test (record { from = s; to = t; promo = None }) ≡ false)
+    → ((t : ℕ) → t < b → (bit_at rest t == 1) ≡ false) → n ≤ per_arrival * b → b ≤ 64
     → HaveNone (passes_to w test) (per_origin * s + a) (per_origin * s + n)
-none-plain rule p test needs s w a m b n are none fails off up small = record {
+none-plain rule p test needs s w rest a b n are none fails off up small = record {
   fails = λ k lo hi.
       let c : ℕ = k - per_origin * s in
       let t : ℕ = c / per_arrival in
       let at : per_origin * s + c ≡ k = omega (arith, lo) in
       rw (← at, triple_of s c (omega (arith, hi, up, small)))
-      (grind (arith, cases_Bool (bit_at w t == 1), cases_eq (c % per_arrival) 0, cases_lt t m, fails t, off t, needs, promoted_idle, some_named, are.inside t));
+      (grind (arith, cases_Bool (bit_at w t == 1), cases_eq (c % per_arrival) 0, fails t, off t, needs, promoted_idle, some_named, are.inside t));
 }
 
 -- the triple that is found
