@@ -10,7 +10,7 @@ ghost use Rattle.chess_rules.specs.ties.Targets.{AreCandidates, AreKept, AreOrig
 use crate::moves::triple;
 use crate::rules::Rules;
 use crate::targets::{Kept, PER_ARRIVAL, PER_ORIGIN, next_from};
-use crate::words::{contains, next_bit, squares_from, take_first};
+use crate::words::{contains, squares_from, take_first};
 use chess_core::board::Board;
 use chess_core::man::{Kind, Move};
 use chess_core::square::{Square, Squares};
@@ -212,20 +212,19 @@ pub fn next_passing<R: Rules, S: Sought>(
     ensures board { board.new ≡ board.old }
 {
     let origins = sought.origins::<R>(board);
-    let mut number = start;
-    while let Some(from) = next_bit(origins, (number / PER_ORIGIN) as u8) {
+    let mut rest = squares_from(origins, (start / PER_ORIGIN) as u8);
+    while let Some(from) = take_first(&mut rest) {
         let first = u16::from(from.index()) * PER_ORIGIN;
         if first >= end {
             return end;
         }
         *kept = keep::<R, S>(board, sought, *kept, from);
-        let begin = number.saturating_sub(first);
+        let begin = start.saturating_sub(first);
         let limit = (end - first).min(PER_ORIGIN);
         let at = next_of_man::<R, S>(board, sought, from, kept.squares, begin, limit);
         if at < PER_ORIGIN {
             return first + at;
         }
-        number = first + PER_ORIGIN;
     }
     end
 }
