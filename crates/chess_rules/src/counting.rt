@@ -167,7 +167,7 @@ fn count_one_by_one<R: Rules>(
 
 // The same, where all are surely legal without looking at them: mostly, so the loop above stands apart.
 #[inline(always)]
-#[tactic(auto, using(crate::proofs::listing_moves::Counting::count_by_word))]
+#[tactic(auto, using(crate::proofs::listing_moves::Counting::count_by_word, crate::proofs::listing_moves::Counting::count_whole))]
 pub(crate) fn count_origin<R: Rules>(
     board: &mut Board,
     known: Known,
@@ -187,6 +187,10 @@ pub(crate) fn count_origin<R: Rules>(
 {
     let squares = given.squares;
     if are_known_legal::<R>(board, known.shield_squares, from, given) {
+        // Mostly the whole origin is asked for: then there is nothing to divide.
+        if start == 0 && end == PER_ORIGIN {
+            return squares.count_ones() as u16;
+        }
         let ahead = count_from(squares, ((start + PER_ARRIVAL - 1) / PER_ARRIVAL) as u8);
         let behind = count_from(squares, ((end + PER_ARRIVAL - 1) / PER_ARRIVAL) as u8);
         return ahead.saturating_sub(behind);

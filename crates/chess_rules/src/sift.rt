@@ -12,7 +12,7 @@ use crate::legal_moves::{Known, candidates, own_origins};
 use crate::rules::Rules;
 use crate::sought::next_of_man;
 use crate::targets::{PER_ORIGIN, TRIPLES};
-use crate::words::next_bit;
+use crate::words::{squares_from, take_first};
 use chess_core::board::Board;
 use chess_core::man::Move;
 use chess_core::square::{Square, Squares};
@@ -111,7 +111,7 @@ fn wanted_squares<R: Rules, S: Sift>(
 
 // The number of the first legal move that the sieve leaves, from the triple numbered `start` on; 28,672 where there is
 // none. The legal moves before it, which it takes, are counted. The board is unchanged.
-#[tactic(auto, using(crate::proofs::Tests::find_first, crate::proofs::listing_moves::Counting::few_between, crate::proofs::listing_moves::Counting::none_left))]
+#[tactic(auto, using(crate::proofs::listing_moves::Counting::few_between, crate::proofs::listing_moves::Counting::none_left))]
 pub(crate) fn next_left<R: Rules, S: Sift>(
     board: &mut Board,
     known: Known,
@@ -132,18 +132,17 @@ pub(crate) fn next_left<R: Rules, S: Sift>(
     ensures board { board.new ≡ board.old }
 {
     let origins = own_origins::<R>(board);
-    let mut number = start;
-    while let Some(from) = next_bit(origins, (number / PER_ORIGIN) as u8) {
+    let mut rest = squares_from(origins, (start / PER_ORIGIN) as u8);
+    while let Some(from) = take_first(&mut rest) {
         let first = u16::from(from.index()) * PER_ORIGIN;
         let given = given_candidates::<R, S>(board, sift, known, from);
         let wanted = wanted_squares::<R, S>(board, sift, from, given.squares);
-        let begin = number.saturating_sub(first);
+        let begin = start.saturating_sub(first);
         let at = next_of_man::<R, Known>(board, &known, from, wanted, begin, PER_ORIGIN);
         *passed += count_origin::<R>(board, known, given, from, begin, at);
         if at < PER_ORIGIN {
             return first + at;
         }
-        number = first + PER_ORIGIN;
     }
     TRIPLES
 }

@@ -10,7 +10,7 @@ ghost use Rattle.chess_rules.specs.ties.Targets.{AreCandidates, AreKept, AreOrig
 use crate::moves::triple;
 use crate::rules::Rules;
 use crate::targets::{Kept, PER_ARRIVAL, PER_ORIGIN, next_from};
-use crate::words::{contains, next_bit};
+use crate::words::{contains, squares_from, take_first};
 use chess_core::board::Board;
 use chess_core::man::{Kind, Move};
 use chess_core::square::{Square, Squares};
@@ -114,7 +114,7 @@ fn next_of_pawn<R: Rules, S: Sought>(
 // The first triple of the man on `from`, who is no pawn, as above: he goes to each square by one, that without a
 // promotion.
 #[inline(always)]
-#[tactic(auto, using(crate::proofs::Tests::find_first, crate::proofs::listing_moves::Walks::plain_aimed, crate::proofs::Chess::cases_eq, crate::proofs::Chess::cases_lt), unfolding(crate::specs::ties::Places::triple_at))]
+#[tactic(auto, using(crate::proofs::listing_moves::Walks::plain_aimed, crate::proofs::Chess::cases_eq, crate::proofs::Chess::cases_lt), unfolding(crate::specs::ties::Places::triple_at))]
 fn next_of_piece<R: Rules, S: Sought>(
     board: &mut Board,
     sought: &S,
@@ -138,8 +138,8 @@ fn next_of_piece<R: Rules, S: Sought>(
         → S.found R.rule board.old (triple_at (per_origin * from + result)) ≡ true }
     ensures board { board.new ≡ board.old }
 {
-    let mut arrival = ((start + PER_ARRIVAL - 1) / PER_ARRIVAL) as u8;
-    while let Some(to) = next_bit(squares, arrival) {
+    let mut rest = squares_from(squares, ((start + PER_ARRIVAL - 1) / PER_ARRIVAL) as u8);
+    while let Some(to) = take_first(&mut rest) {
         let number = u16::from(to.index()) * PER_ARRIVAL;
         if number >= end {
             return end;
@@ -152,7 +152,6 @@ fn next_of_piece<R: Rules, S: Sought>(
         if sought.is_found::<R>(board, m) {
             return number;
         }
-        arrival = to.index() + 1;
     }
     end
 }
@@ -213,20 +212,19 @@ pub fn next_passing<R: Rules, S: Sought>(
     ensures board { board.new ≡ board.old }
 {
     let origins = sought.origins::<R>(board);
-    let mut number = start;
-    while let Some(from) = next_bit(origins, (number / PER_ORIGIN) as u8) {
+    let mut rest = squares_from(origins, (start / PER_ORIGIN) as u8);
+    while let Some(from) = take_first(&mut rest) {
         let first = u16::from(from.index()) * PER_ORIGIN;
         if first >= end {
             return end;
         }
         *kept = keep::<R, S>(board, sought, *kept, from);
-        let begin = number.saturating_sub(first);
+        let begin = start.saturating_sub(first);
         let limit = (end - first).min(PER_ORIGIN);
         let at = next_of_man::<R, S>(board, sought, from, kept.squares, begin, limit);
         if at < PER_ORIGIN {
             return first + at;
         }
-        number = first + PER_ORIGIN;
     }
     end
 }

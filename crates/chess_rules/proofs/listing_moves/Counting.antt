@@ -2,10 +2,11 @@
 use Rattle.std.proofs.lemmas.List.Sums.{count_by-le-length, length-filter}
 use Rattle.std.specs.Int.Count.{ones_step}
 use Rattle.std.specs.Prelude.{count_ones, min}
-use Rattle.chess_rules.proofs.Chess.{AreCandidates, AreLegal, AreOrigins, Bool, HaveNone, IsBarrenFrom, Move, None, Position, RuleSet, Some, all_triples, ap, arith, bit_at, bit_at-lt, cases_Bool, cases_eq, cases_lt, differs, false, find, find_first, find_no, from_bool, inl, inr, is_legal, is_legal-idle, length, length-append, length-take, moves_between, ones-le, per_arrival, per_origin, pow_mono, promotion_at, range_with_len, refl, rules, shr-shr, shr_below, suc, sym, triple_at, zero, ℕ, ◌%◌, ◌&&◌, ◌*◌, ◌+◌, ◌-◌, ◌/◌, ◌<◌, ◌==◌, ◌^◌, ◌∙◌, ◌≡◌, ◌≤◌}
+use Rattle.chess_rules.proofs.Chess.{AreCandidates, AreLegal, Bool, HaveNone, IsBarrenFrom, Move, None, Position, RuleSet, Some, all_triples, ap, arith, bit_at, bit_at-lt, cases_Bool, cases_eq, cases_lt, differs, from_bool, inl, inr, is_legal, is_legal-idle, length, length-append, length-take, moves_between, ones-le, per_arrival, per_origin, pow_mono, promotion_at, refl, rules, shr-shr, shr_below, suc, sym, triple_at, true, zero, ℕ, ◌%◌, ◌&&◌, ◌*◌, ◌+◌, ◌-◌, ◌/◌, ◌<◌, ◌==◌, ◌^◌, ◌∙◌, ◌≡◌, ◌≤◌}
 use Rattle.chess_rules.proofs.listing_moves.Between.{between-here, between-none, between-none-is_legal, between-past, between-skip, between_cut}
 use Rattle.chess_rules.proofs.listing_moves.Targeting.{arrival_from, named_by, no_promotion_here, some_named}
-use Rattle.chess_rules.proofs.listing_moves.Walks.{none-from, none-missed, triple_of}
+use Rattle.chess_rules.proofs.listing_moves.Walks.{IsWalked, none-from, off_zero, triple_of, walk_before}
+use Rattle.chess_rules.specs.ties.Taking.{IsTaken}
 
 bit_is : (n : ℕ) → n < 2 → n ≡ from_bool (n == 1)
 bit_is n less = grind arith
@@ -19,6 +20,14 @@ pub none_from : (w t : ℕ) → w < 2 ^ 64 → 64 ≤ t → 0 ≡ count_ones (w 
 none_from w t fits past =
     let le : 2 ^ 64 ≤ 2 ^ t = pow_mono past in
     grind (arith, le, ones-le 0 (w / 2 ^ t), shr_below w 0 t)
+
+-- of such a walk the legal moves from the origins that were taken are counted
+pub record IsCounted (rule : RuleSet) (p : Position) (start rest count : ℕ) : Type 0 where
+  pub reached : ℕ
+  pub low : start ≤ reached
+  pub begin : (s : ℕ) → s < 64 → (bit_at rest s == 1) ≡ true → reached - per_origin * s ≡ start - per_origin * s
+  pub walked : IsWalked (is_legal rule p) reached rest
+  pub counted : count ≡ length (moves_between rule p start reached)
 
 module _ (rule : RuleSet) (p : Position) where
   -- how many lie between two places
@@ -37,53 +46,63 @@ module _ (rule : RuleSet) (p : Position) where
   pub none_left : (a e : ℕ) → e ≤ a → between a e ≡ 0
   none_left a e le = ap length (between-none rule p a e le)
 
-  module _ (o : ℕ) (own : AreOrigins (is_legal rule p) o) where
-    missed : (a b : ℕ) → b ≤ all_triples → ((s : ℕ) → a / per_origin ≤ s → per_origin * s < b → (bit_at o s == 1) ≡ false) → HaveNone (is_legal rule p) a b
-    missed a b le none = none-missed rule p (is_legal rule p) (is_legal-idle rule p) a b o own le none
+  -- where no move was taken yet
+  pub counted_none : (start rest count : ℕ) → IsWalked (is_legal rule p) start rest → count ≡ 0 → IsCounted rule p start rest count
+  counted_none start rest count w none = record {
+    reached = start;
+    low = omega arith;
+    begin = λ s small on. refl;
+    walked = w;
+    counted = none ∙ sym (none_left start start (omega arith));
+  }
 
-    -- where no origin is left there is no move
-    no_origin : (a e : ℕ) → find (λ q. bit_at o q == 1) (range_with_len (a / per_origin) (64 - a / per_origin)) ≡ None → between a e ≡ 0
-    no_origin a e none =
-        let off = find_no (λ q. bit_at o q == 1) (a / per_origin) (64 - a / per_origin) in
-        let free = missed a all_triples (omega arith) (λ q lo hi. off q none lo (omega (arith, hi))) in
-        grind (arith, between-none-is_legal rule p a all_triples e, free, between-past rule p all_triples e)
-
-    -- else those of the next one come first, as far as they lie before the end, and then those of later ones
-    by_origin : (a e s n z m : ℕ) → find (λ q. bit_at o q == 1) (range_with_len (a / per_origin) (64 - a / per_origin)) ≡ Some s
-        → n ≡ per_origin * s → z ≡ a - n → m ≡ min (e - n) per_origin
-        → between a e ≡ between (per_origin * s + z) (per_origin * s + m) + between (n + per_origin) e
-    by_origin a e s n z m found first from to =
-        let f = find_first (λ q. bit_at o q == 1) (a / per_origin) (64 - a / per_origin) s found in
-        let b : ℕ = per_origin * s + z in
-        let h = missed a (per_origin * s) (omega (arith, f.high, f.low)) (λ q lo hi. f.before q lo (omega (arith, hi))) in
-        let onward = ap length (between-none-is_legal rule p a b e (λ lt. omega (arith, first, from)) (omega (arith, first, from, f.high, f.low))
-        (record { fails = λ k lo hi. h.fails k lo (omega (arith, first, from, lo, hi)) })) in
-        let next : ℕ = n + per_origin in
-        let none = none_left b (per_origin * s + m) in
-        grind (arith, onward, cases_lt e next, cases_lt e n, f.low, count_cut b next e, none_left b e, none, none_left next e)
+  module _ (start rest count s left n z : ℕ) (h : IsCounted rule p start rest count) (next : IsTaken rest s left) (first : n ≡ per_origin * s)
+      (begin : z ≡ start - n) where
+    abbrev same : h.reached - n ≡ z
+    same = grind (arith, h.begin s, next.small, next.here)
 
     -- those up to a triple of the next origin are those so far and its own before that one
-    pub passed_on : (start number s a n z : ℕ) → start ≤ number
-        → find (λ q. bit_at o q == 1) (range_with_len (number / per_origin) (64 - number / per_origin)) ≡ Some s → n ≡ per_origin * s → z ≡ number - n → z ≤ a
-        → a ≤ per_origin → between start (n + a) ≡ between start number + between (per_origin * s + z) (per_origin * s + a)
-    passed_on start number s a n z low found first from more few =
-        grind (arith, count_cut start number (n + a), by_origin number (n + a) s n z a found first from, none_left (n + per_origin) (n + a))
+    pub counted_to : (a : ℕ) → z ≤ a → between start (n + a) ≡ count + between (per_origin * s + z) (per_origin * s + a)
+    counted_to a more =
+        let before = walk_before (is_legal rule p) h.reached rest s n h.walked next.first (omega (arith, next.small)) (omega (arith, first)) in
+        let free : HaveNone (is_legal rule p) h.reached (n + z) = record { fails = λ k lo hi. grind (arith, same, cases_lt k n, before.fails k) } in
+        grind (arith, same, h.low, h.counted, count_cut start h.reached (n + a), between-none-is_legal rule p h.reached (n + z) (n + a), free, next.small)
 
-    -- where no origin is left those so far are all
-    pub passed_all : (start number : ℕ) → start ≤ number → find (λ q. bit_at o q == 1) (range_with_len (number / per_origin) (64 - number / per_origin)) ≡ None
-        → between start all_triples ≡ between start number
-    passed_all start number low none =
-        let behind = between-past rule p in
-        grind (
-          arith,
-          cases_lt number all_triples,
-          count_cut start number all_triples,
-          no_origin number all_triples,
-          count_cut start all_triples number,
-          ap length (behind all_triples number (omega arith)),
-          behind start all_triples,
-          behind start number,
-        )
+    -- past it
+    pub counted_on : (k : ℕ) → k ≡ between (per_origin * s + z) (per_origin * s + per_origin) → IsCounted rule p start left (count + k)
+    counted_on k own =
+        let ahead = h.walked.ahead s next.small next.here in
+        let later : (t : ℕ) → (bit_at left t == 1) ≡ true → s < t = λ t on. grind (arith, cases_lt s t, cases_eq s t, next.first t, next.gone, next.others t) in
+        record {
+          reached = n + per_origin;
+          low = omega (arith, h.low, ahead, first);
+          begin = λ t small on. omega (arith, later t on, h.low, ahead, first);
+          walked = record {
+            ahead = λ t small on. omega (arith, later t on, first);
+            none = λ k lo hi off. h.walked.none k (omega (arith, lo, ahead, first)) hi (grind (arith, next.others (k / per_origin)));
+          };
+          counted = omega (arith, own, counted_to per_origin (omega (arith, same, ahead)));
+        }
+
+  -- where no origin is left those so far are all
+  pub counted_all : (start rest count : ℕ) → IsCounted rule p start rest count → rest ≡ 0 → count ≡ between start all_triples
+  counted_all start rest count h none =
+      let behind = between-past rule p in
+      let free = walk_before (is_legal rule p) h.reached rest 64 all_triples h.walked (λ t lt. rw none (off_zero t)) (omega arith) (omega arith) in
+      grind (
+        arith,
+        h.low,
+        h.counted,
+        cases_lt h.reached all_triples,
+        count_cut start h.reached all_triples,
+        between-none-is_legal rule p h.reached all_triples all_triples,
+        free,
+        count_cut start all_triples h.reached,
+        ap length (behind all_triples h.reached (omega arith)),
+        ap length (behind all_triples all_triples (omega arith)),
+        behind start all_triples,
+        behind start h.reached,
+      )
 
   module _ (s w : ℕ) (small : s < 64) (are : AreCandidates rule p (is_legal rule p) s w) where
     -- triples that are no moves don't count
@@ -129,6 +148,10 @@ module _ (rule : RuleSet) (p : Position) where
       pub count_by_word : (a b : ℕ) → a ≤ b → b ≤ per_origin
           → between (per_origin * s + a) (per_origin * s + b) + count_ones (w / 2 ^ arrival_from b) ≡ count_ones (w / 2 ^ arrival_from a)
       count_by_word a b le hi = counted (b - a) a b (omega (arith, le)) hi
+
+      -- those of a whole origin are all of them
+      pub count_whole : (a b : ℕ) → w < 2 ^ 64 → a ≡ 0 → b ≡ per_origin → between (per_origin * s + a) (per_origin * s + b) ≡ count_ones w
+      count_whole a b fits first last = grind (arith, count_by_word a b, none_from w 64 fits)
 
 -- for that from triple to triple
 pub ruleset by_triples = (count_barren, count_here, few_between, none_left)

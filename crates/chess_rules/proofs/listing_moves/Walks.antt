@@ -1,5 +1,7 @@
 -- No move is missed by walking from candidate to candidate.
-use Rattle.chess_rules.proofs.Chess.{AreCandidates, AreEvasionsFrom, AreOrigins, Bool, HaveNone, IsAimed, IsBarrenFrom, IsNamed, Man, Move, None, Option, Pawn, Position, RuleSet, Some, all_triples, and_left, and_parts, and_right, ap, arith, bit_and, bit_at, bit_at-lt, bit_at-zero, bit_at_and, cases_Bool, cases_eq, cases_lt, eq-eqb, eqb-true, false, false≢true, find, find_first, find_no, inl, inr, is_arrival, is_arrival_of, is_legal, is_legal-idle, is_man, is_pseudo_legal, is_some, man_on, not, passes_to, per_arrival, per_origin, promotion_at, range_with_len, refl, rules, same_kind, side_of, subst, sym, triple_at, true, word, word_has, ℕ, ◌%◌, ◌*◌, ◌+◌, ◌-◌, ◌/◌, ◌<◌, ◌==◌, ◌≡◌, ◌≤◌}
+use Rattle.chess_rules.proofs.Chess.{AreCandidates, AreEvasionsFrom, AreOrigins, Bool, HaveNone, IsAimed, IsBarrenFrom, IsNamed, Man, Move, None, Option, Pawn, Position, RuleSet, Some, all_triples, and_left, and_parts, and_right, ap, arith, bit_and, bit_at, bit_at-lt, bit_at-zero, bit_at_and, cases_Bool, cases_eq, cases_lt, eq-eqb, eqb-true, false, false≢true, find, find_first, find_no, inl, inr, is_arrival, is_arrival_of, is_legal, is_legal-idle, is_man, is_pseudo_legal, is_some, man_on, not, passes_to, per_arrival, per_origin, promotion_at, range_with_len, refl, rules, same_kind, side_of, subst, sym, triple_at, true, word, word_has, ℕ, ◌%◌, ◌&&◌, ◌*◌, ◌+◌, ◌-◌, ◌/◌, ◌<◌, ◌==◌, ◌≡◌, ◌≤◌}
+use Rattle.chess_rules.proofs.Basics.{nat_le}
+use Rattle.chess_rules.specs.ties.Taking.{IsTaken}
 use Rattle.chess_rules.proofs.listing_moves.Targeting.{arrival_from, arrival_needed, false_by, named_by, no_pawn_arrives, no_promotion_here, own_moves, some_named}
 
 -- squares of two words
@@ -50,9 +52,6 @@ module _ (rule : RuleSet) (p : Position) (test : Move → Bool) (needs : (m : Mo
       → ((m : Move) → m.from ≡ s → m.to < 64 → is_pseudo_legal rule p m ≡ true → (bit_at w m.to == 1) ≡ false → test m ≡ false) → AreCandidates rule p test s 0
   no_candidates s w zero h = search (rules, cases_Bool, off_zero)
 
-  none-join : (a b c : ℕ) → HaveNone test a b → HaveNone test b c → HaveNone test a c
-  none-join a b c x y = search (rules, cases_lt)
-
   none-move : (s w : ℕ) (m : Move) → AreCandidates rule p test s w → m.from ≡ s → m.to < 64 → ((bit_at w m.to == 1) ≡ true → is_pseudo_legal rule p m ≡ false)
       → test m ≡ false
   none-move s w m are at small h = search (rules, cases_Bool)
@@ -71,35 +70,44 @@ module _ (rule : RuleSet) (p : Position) (test : Move → Bool) (needs : (m : Mo
       → test (triple_at (per_origin * s + a)) ≡ false → IsBarrenFrom p s w (a + 1) b → HaveNone test (per_origin * s + z) (per_origin * s + b)
   none-onward s w z a b le are past fails here = search (rules, none-from, cases_lt, cases_eq, le, are, past, fails, here)
 
-  -- up to an earlier end
-  pub none-until : (a b c : ℕ) → b ≤ c → HaveNone test a c → HaveNone test a b
-  none-until a b c le h = search rules
-
   -- the squares of the side to move are all its origins
   pub own-origins : (o : ℕ) → o ≡ side_of p.men p.turn → AreOrigins test o
   unfolding side_of
   own-origins o h = grind (arith, own_moves, word_has)
 
-  -- none of the squares from the first one on and before the next origin is in the word
-  pub none-missed : (a b o : ℕ) → AreOrigins test o → b ≤ all_triples → ((s : ℕ) → a / per_origin ≤ s → per_origin * s < b → (bit_at o s == 1) ≡ false)
-      → HaveNone test a b
+-- a walk over origins, from a place on: no move from one that isn't in the rest passes, and this has none before the place
+pub record IsWalked (test : Move → Bool) (start rest : ℕ) : Type 0 where
+  pub ahead : (s : ℕ) → s < 64 → (bit_at rest s == 1) ≡ true → start / per_origin ≤ s
+  pub none : (k : ℕ) → start ≤ k → k < all_triples → (bit_at rest (k / per_origin) == 1) ≡ false → test (triple_at k) ≡ false
+
+module _ (test : Move → Bool) where
+  pub walk_begins : (start o rest : ℕ) → AreOrigins test o
+      → ((t : ℕ) → t < 64 → (bit_at rest t == 1) ≡ (nat_le (start / per_origin) t && bit_at o t == 1)) → IsWalked test start rest
   unfolding triple_at
-  none-missed a b o h le none = grind arith
+  walk_begins start o rest own from = record {
+    ahead = λ s small on. grind (arith, from s small);
+    none = λ k lo hi off. grind (arith, from (k / per_origin), own.elsewhere (triple_at k));
+  }
 
-  -- up to a triple of the next origin
-  pub none-origin : (start number s a o n z : ℕ) → AreOrigins test o → HaveNone test start number
-      → find (λ q. bit_at o q == 1) (range_with_len (number / per_origin) (64 - number / per_origin)) ≡ Some s → n ≡ per_origin * s → z ≡ number - n
-      → HaveNone test (per_origin * s + z) (per_origin * s + a) → HaveNone test start (n + a)
-  none-origin start number s a o n z h past found at off here =
-      let f = find_first (λ q. bit_at o q == 1) (number / per_origin) (64 - number / per_origin) s found in
-      grind (arith, cases_lt (per_origin * s) number, none-join, none-missed number (per_origin * s) o h, f.before)
+  -- up to the next origin, or to the end, where there is none
+  pub walk_before : (start rest s e : ℕ) → IsWalked test start rest → ((t : ℕ) → t < s → (bit_at rest t == 1) ≡ false) → s ≤ 64 → e ≤ per_origin * s
+      → HaveNone test start e
+  walk_before start rest s e w off small le = record {
+    fails = λ k lo hi. w.none k lo (omega (arith, hi, le, small)) (off (k / per_origin) (omega (arith, hi, le)));
+  }
 
-  -- up to the end, where there is none
-  pub none-end : (start number o : ℕ) → AreOrigins test o → HaveNone test start number
-      → find (λ q. bit_at o q == 1) (range_with_len (number / per_origin) (64 - number / per_origin)) ≡ None → HaveNone test start all_triples
-  none-end start number o h past none =
-      none-join start number all_triples past (none-missed number all_triples o h (omega arith)
-      (λ q lo hi. find_no (λ q. bit_at o q == 1) (number / per_origin) (64 - number / per_origin) q none lo (omega (arith, hi))))
+  module _ (start rest s left n z a : ℕ) (w : IsWalked test start rest) (next : IsTaken rest s left) (first : n ≡ per_origin * s) (begin : z ≡ start - n)
+      (here : HaveNone test (per_origin * s + z) (per_origin * s + a)) where
+    -- up to one of its triples
+    pub walk_to : HaveNone test start (n + a)
+    walk_to = grind (arith, cases_lt, walk_before start rest s n w next.first, next.small)
+
+    -- and past it
+    pub walk_on : a ≡ per_origin → IsWalked test start left
+    walk_on all = record {
+      ahead = λ t small on. w.ahead t small (grind (arith, cases_eq s t, next.gone, next.others t));
+      none = λ k lo hi off. grind (arith, cases_eq s (k / per_origin), next.others (k / per_origin), w.none k, here.fails k);
+    }
 
 -- where no pawn of the side to move stands, none is made with a promotion
 promoted_idle : (rule : RuleSet) (p : Position) (m : Move) → is_man (man_on p.men m.from) p.turn Pawn ≡ false → is_arrival rule p m.from m.to ≡ true
@@ -107,19 +115,20 @@ promoted_idle : (rule : RuleSet) (p : Position) (m : Move) → is_man (man_on p.
 promoted_idle rule p m none h some =
     grind (arith, plain_aimed rule p (record { from = m.from; to = m.to; promo = None }) none h refl, no_promotion_here, named_by)
 
--- no triple to a square of the word passes, if none without a promotion does below m, and it has no square from m to b
+-- no triple to a square of the word passes below b, if none without a promotion does to a square that isn't in the rest, and this has none below b
 pub none-plain : (rule : RuleSet) (p : Position) (test : Move → Bool) → ((m : Move) → is_pseudo_legal rule p m ≡ false → test m ≡ false)
-    → (s w a m b n : ℕ) → AreCandidates rule p (passes_to w test) s w → is_man (man_on p.men s) p.turn Pawn ≡ false
-    → ((t : ℕ) → arrival_from a ≤ t → t < m → (bit_at w t == 1) ≡ true → test (record { from = s; to = t; promo = None }) ≡ false)
-    → ((t : ℕ) → m ≤ t → t < b → (bit_at w t == 1) ≡ false) → n ≤ per_arrival * b → b ≤ 64
+    → (s w rest a b n : ℕ) → AreCandidates rule p (passes_to w test) s w → is_man (man_on p.men s) p.turn Pawn ≡ false
+    → ((t : ℕ) → t < 64 → (bit_at w t == 1) ≡ true → (bit_at rest t == 1) ≡ false → arrival_from a ≤ t
+    → test (record { from = s; to = t; promo = None }) ≡ false)
+    → ((t : ℕ) → t < b → (bit_at rest t == 1) ≡ false) → n ≤ per_arrival * b → b ≤ 64
     → HaveNone (passes_to w test) (per_origin * s + a) (per_origin * s + n)
-none-plain rule p test needs s w a m b n are none fails off up small = record {
+none-plain rule p test needs s w rest a b n are none fails off up small = record {
   fails = λ k lo hi.
       let c : ℕ = k - per_origin * s in
       let t : ℕ = c / per_arrival in
       let at : per_origin * s + c ≡ k = omega (arith, lo) in
       rw (← at, triple_of s c (omega (arith, hi, up, small)))
-      (grind (arith, cases_Bool (bit_at w t == 1), cases_eq (c % per_arrival) 0, cases_lt t m, fails t, off t, needs, promoted_idle, some_named, are.inside t));
+      (grind (arith, cases_Bool (bit_at w t == 1), cases_eq (c % per_arrival) 0, fails t, off t, needs, promoted_idle, some_named, are.inside t));
 }
 
 -- the triple that is found
