@@ -96,22 +96,9 @@ module _ (rule : RuleSet) (p : Position) where
   -- where no origin is left those so far are all
   pub counted_all : (start rest count : ℕ) → IsCounted rule p start rest count → rest ≡ 0 → count ≡ between start all_triples
   counted_all start rest count h none =
-      let behind = between-past rule p in
       let free = walk_before (is_legal rule p) h.reached rest 64 all_triples h.walked (λ t lt. rw none (off_zero t)) (omega arith) (omega arith) in
-      grind (
-        arith,
-        h.low,
-        h.counted,
-        cases_lt h.reached all_triples,
-        count_cut start h.reached all_triples,
-        between-none-is_legal rule p h.reached all_triples all_triples,
-        free,
-        count_cut start all_triples h.reached,
-        ap length (behind all_triples h.reached (omega arith)),
-        ap length (behind all_triples all_triples (omega arith)),
-        behind start all_triples,
-        behind start h.reached,
-      )
+      let cut = count_cut start in
+      grind (arith, cases_lt h.reached all_triples, cut h.reached all_triples, cut all_triples h.reached, between-none-is_legal, none_left, free, between-past)
 
   module _ (s w : ℕ) (small : s < 64) (are : AreCandidates rule p (is_legal rule p) s w) where
     -- triples that are no moves don't count
