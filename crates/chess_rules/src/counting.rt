@@ -1,7 +1,9 @@
 //! How many legal moves of one origin lie between two triples, most of them counted by words of squares.
-ghost use Rattle.std.specs.Prelude.{◌≡◌, ◌*◌, ◌+◌, ◌/◌, ◌^◌, ◌<◌, ◌≤◌, ◌==◌, ℕ, count_ones, length, true};
+ghost use Rattle.std.specs.Prelude.{◌≡◌, ◌*◌, ◌+◌, ◌/◌, ◌^◌, ◌<◌, ◌≤◌, ◌==◌, ℕ, count_ones, false, length, true};
 ghost use Rattle.std.specs.Int.{bit_at};
+ghost use Rattle.chess_core.specs.Position.{is_man, man_on};
 ghost use Rattle.chess_core.specs.WellFormed.{IsWellFormed};
+ghost use Rattle.chess_core.specs.declared.man.Kind.TheVariants.{Pawn};
 ghost use Rattle.chess_core.specs.ties.Words.{word};
 ghost use Rattle.chess_core.specs.Squares.{rank_of};
 ghost use Rattle.chess_rules.specs.Legal.{is_legal, last_rank};
@@ -17,9 +19,9 @@ use crate::moves::triple;
 use crate::rules::Rules;
 use crate::shields::fairy_lines;
 use crate::targets::{PER_ARRIVAL, PER_ORIGIN, next_from};
-use crate::words::{contains, only};
+use crate::words::{contains, only, squares_from, take_first};
 use chess_core::board::Board;
-use chess_core::man::{Colour, Kind, Man};
+use chess_core::man::{Colour, Kind, Man, Move};
 use chess_core::square::{Square, Squares};
 
 // Whether the moves to the squares are known to be legal, or each is to be looked at.
@@ -132,12 +134,13 @@ fn are_known_legal<R: Rules>(
     }
 }
 
-// How many legal moves the man on `from` has among his triples numbered from `start` on and below `end`, each
+// It and the one below are parts of the count: apart they cost more than they save.
+// How many legal moves the pawn on `from` has among his triples numbered from `start` on and below `end`, each
 // counted from the origin's first; each is looked at. `squares` are those to which he may go. The board is
 // unchanged.
-#[inline(never)]
+#[inline(always)]
 #[tactic(auto, using(crate::proofs::listing_moves::Counting::by_triples))]
-fn count_one_by_one<R: Rules>(
+fn count_of_pawn<R: Rules>(
     board: &mut Board,
     known: Known,
     squares: Squares,
@@ -165,7 +168,72 @@ fn count_one_by_one<R: Rules>(
     count
 }
 
-// The same, where all are surely legal without looking at them: mostly, so the loop above stands apart.
+// The same for a man who is no pawn: he goes to each square by one triple, that without a promotion.
+#[inline(always)]
+#[tactic(auto, using(crate::proofs::listing_moves::Counting::few_between, crate::proofs::listing_moves::Walks::plain_aimed))]
+fn count_of_piece<R: Rules>(
+    board: &mut Board,
+    known: Known,
+    squares: Squares,
+    from: Square,
+    start: u16,
+    end: u16,
+) -> u16
+    requires well_formed { IsWellFormed board.old }
+    requires known { IsKnownIn R.rule board.old known }
+    requires squares { AreCandidates R.rule board.old (is_legal R.rule board.old) from squares }
+    requires no_pawn { is_man (man_on board.old.men from) board.old.turn Pawn ≡ false }
+    requires start { start ≤ end }
+    requires end { end ≤ per_origin }
+    ensures count { result ≡ length (moves_between R.rule board.old (per_origin * from + start)
+        (per_origin * from + end)) }
+    ensures board { board.new ≡ board.old }
+{
+    let mut count = 0u16;
+    let mut rest = squares_from(squares, ((start + PER_ARRIVAL - 1) / PER_ARRIVAL) as u8);
+    while let Some(to) = take_first(&mut rest) {
+        if u16::from(to.index()) * PER_ARRIVAL >= end {
+            return count;
+        }
+        let m = Move {
+            from,
+            to,
+            promo: None,
+        };
+        let legal = is_legal::<R>(board, known.shield_squares, known.evasion_squares, m);
+        count += u16::from(legal);
+    }
+    count
+}
+
+// The same, whoever the man is.
+#[inline(never)]
+#[tactic(auto, using(crate::proofs::Bits::word_has), unfolding(chess_core::specs::ties::Words::squares_of))]
+fn count_one_by_one<R: Rules>(
+    board: &mut Board,
+    known: Known,
+    squares: Squares,
+    from: Square,
+    start: u16,
+    end: u16,
+) -> u16
+    requires well_formed { IsWellFormed board.old }
+    requires known { IsKnownIn R.rule board.old known }
+    requires squares { AreCandidates R.rule board.old (is_legal R.rule board.old) from squares }
+    requires start { start ≤ end }
+    requires end { end ≤ per_origin }
+    ensures count { result ≡ length (moves_between R.rule board.old (per_origin * from + start)
+        (per_origin * from + end)) }
+    ensures board { board.new ≡ board.old }
+{
+    if contains(board.squares(board.turn(), Kind::Pawn), from) {
+        count_of_pawn::<R>(board, known, squares, from, start, end)
+    } else {
+        count_of_piece::<R>(board, known, squares, from, start, end)
+    }
+}
+
+// The same, where all are surely legal without looking at them: mostly, so the loops above stand apart.
 #[inline(always)]
 #[tactic(auto, using(crate::proofs::listing_moves::Counting::count_by_word, crate::proofs::listing_moves::Counting::count_whole))]
 pub(crate) fn count_origin<R: Rules>(

@@ -1,11 +1,12 @@
 -- How many legal moves lie between two places.
 use Rattle.std.proofs.lemmas.List.Sums.{count_by-le-length, length-filter}
 use Rattle.std.specs.Int.Count.{ones_step}
-use Rattle.std.specs.Prelude.{count_ones, min}
-use Rattle.chess_rules.proofs.Chess.{AreCandidates, AreLegal, Bool, HaveNone, IsBarrenFrom, Move, None, Position, RuleSet, Some, all_triples, ap, arith, bit_at, bit_at-lt, cases_Bool, cases_eq, cases_lt, differs, from_bool, inl, inr, is_legal, is_legal-idle, length, length-append, length-take, moves_between, ones-le, per_arrival, per_origin, pow_mono, promotion_at, refl, rules, shr-shr, shr_below, suc, sym, triple_at, true, zero, ℕ, ◌%◌, ◌&&◌, ◌*◌, ◌+◌, ◌-◌, ◌/◌, ◌<◌, ◌==◌, ◌^◌, ◌∙◌, ◌≡◌, ◌≤◌}
+use Rattle.std.specs.Prelude.{count_ones}
+use Rattle.chess_rules.proofs.Chess.{AreCandidates, AreLegal, Bool, HaveNone, IsBarrenFrom, Move, None, Pawn, Position, RuleSet, all_triples, ap, arith, bit_at, bit_at-lt, cases_Bool, cases_eq, cases_lt, differs, false, from_bool, inl, inr, is_legal, is_legal-idle, is_man, length, length-append, length-take, man_on, moves_between, ones-le, passes_to, per_arrival, per_origin, pow_mono, promotion_at, refl, rules, shr-shr, shr_below, suc, sym, triple_at, true, zero, ℕ, ◌%◌, ◌&&◌, ◌*◌, ◌+◌, ◌-◌, ◌/◌, ◌<◌, ◌==◌, ◌^◌, ◌∙◌, ◌≡◌, ◌≤◌}
 use Rattle.chess_rules.proofs.listing_moves.Between.{between-here, between-none, between-none-is_legal, between-past, between-skip, between_cut}
 use Rattle.chess_rules.proofs.listing_moves.Targeting.{arrival_from, named_by, no_promotion_here, some_named}
-use Rattle.chess_rules.proofs.listing_moves.Walks.{IsWalked, none-from, off_zero, triple_of, walk_before}
+use Rattle.chess_rules.proofs.listing_moves.Walks.{IsWalked, none-from, none-plain, none-to, off_zero, triple_of, walk_before}
+use Rattle.chess_rules.proofs.Basics.{nat_le}
 use Rattle.chess_rules.specs.ties.Taking.{IsTaken}
 
 bit_is : (n : ℕ) → n < 2 → n ≡ from_bool (n == 1)
@@ -28,6 +29,14 @@ pub record IsCounted (rule : RuleSet) (p : Position) (start rest count : ℕ) : 
   pub begin : (s : ℕ) → s < 64 → (bit_at rest s == 1) ≡ true → reached - per_origin * s ≡ start - per_origin * s
   pub walked : IsWalked (is_legal rule p) reached rest
   pub counted : count ≡ length (moves_between rule p start reached)
+
+-- of the moves of one origin those to the squares of a word that were taken are counted, from a place on and before an end
+pub record IsCountedTo (rule : RuleSet) (p : Position) (s w start end rest count : ℕ) : Type 0 where
+  pub at : ℕ
+  pub few : at ≤ per_origin
+  pub left : (t : ℕ) → t < 64 → (bit_at rest t == 1) ≡ (nat_le (arrival_from at) t && bit_at w t == 1)
+  pub all : count + length (moves_between rule p (per_origin * s + at) (per_origin * s + end))
+      ≡ length (moves_between rule p (per_origin * s + start) (per_origin * s + end))
 
 module _ (rule : RuleSet) (p : Position) where
   -- how many lie between two places
@@ -87,22 +96,9 @@ module _ (rule : RuleSet) (p : Position) where
   -- where no origin is left those so far are all
   pub counted_all : (start rest count : ℕ) → IsCounted rule p start rest count → rest ≡ 0 → count ≡ between start all_triples
   counted_all start rest count h none =
-      let behind = between-past rule p in
       let free = walk_before (is_legal rule p) h.reached rest 64 all_triples h.walked (λ t lt. rw none (off_zero t)) (omega arith) (omega arith) in
-      grind (
-        arith,
-        h.low,
-        h.counted,
-        cases_lt h.reached all_triples,
-        count_cut start h.reached all_triples,
-        between-none-is_legal rule p h.reached all_triples all_triples,
-        free,
-        count_cut start all_triples h.reached,
-        ap length (behind all_triples h.reached (omega arith)),
-        ap length (behind all_triples all_triples (omega arith)),
-        behind start all_triples,
-        behind start h.reached,
-      )
+      let cut = count_cut start in
+      grind (arith, cases_lt h.reached all_triples, cut h.reached all_triples, cut all_triples h.reached, between-none-is_legal, none_left, free, between-past)
 
   module _ (s w : ℕ) (small : s < 64) (are : AreCandidates rule p (is_legal rule p) s w) where
     -- triples that are no moves don't count
@@ -113,6 +109,40 @@ module _ (rule : RuleSet) (p : Position) where
     pub count_here : (a n e : ℕ) (legal : Bool) → a < per_origin → n ≡ per_origin * s + a → n < e → is_legal rule p (triple_at n) ≡ legal
         → between n e ≡ from_bool legal + between (per_origin * s + (a + 1)) e
     count_here a n e legal inside at before h = search (rules, between-here, between-skip, inside, at, before, h)
+
+    module _ (start end rest count : ℕ) (h : IsCountedTo rule p s w start end rest count) (none : is_man (man_on p.men s) p.turn Pawn ≡ false) where
+      -- up to a square before which the rest has none
+      skip : (b : ℕ) → ((t : ℕ) → t < b → (bit_at rest t == 1) ≡ false) → b ≤ 64 → h.at ≤ per_arrival * b
+          → between (per_origin * s + h.at) (per_origin * s + end) ≡ between (per_origin * s + per_arrival * b) (per_origin * s + end)
+      skip b off small le =
+          let passing : AreCandidates rule p (passes_to w (is_legal rule p)) s w = record { inside = are.inside; outside = λ m at to out. grind (arith, out) } in
+          let plain = none-plain rule p (is_legal rule p) (is_legal-idle rule p) s w rest h.at b (per_arrival * b) passing none
+          (λ t lt on out from. grind (arith, h.left t lt)) off (omega arith) small in
+          grind (arith, between-none-is_legal, none-to rule p (is_legal rule p) (is_legal rule p) s w h.at (per_arrival * b), are, plain)
+
+      -- up to the end
+      pub counted_end : (b : ℕ) → ((t : ℕ) → t < b → (bit_at rest t == 1) ≡ false) → b ≤ 64 → end ≤ per_arrival * b
+          → count ≡ between (per_origin * s + start) (per_origin * s + end)
+      counted_end b off small past = grind (arith, h.all, cases_lt (per_arrival * b) h.at, skip b off small, none_left)
+
+      -- past the next square
+      pub counted_past : (t left : ℕ) (legal : Bool) → IsTaken rest t left → per_arrival * t < end
+          → is_legal rule p (record { from = s; to = t; promo = None }) ≡ legal → IsCountedTo rule p s w start end left (count + from_bool legal)
+      counted_past t left legal next before answer =
+          let from : h.at ≤ per_arrival * t = grind (arith, h.left t next.small, next.here) in
+          let skipped = skip t next.first (omega (arith, next.small)) from in
+          record {
+            at = per_arrival * t + 1;
+            few = omega (arith, next.small);
+            left = λ u lt. grind (arith, h.left u lt, cases_eq t u, cases_lt t u, next.first u, next.gone, next.others u);
+            all = omega (
+              arith,
+              h.all,
+              skipped,
+              count_here (per_arrival * t) (per_origin * s + per_arrival * t) (per_origin * s + end) legal (omega (arith, next.small))
+                  refl (omega (arith, before)) (grind (arith, triple_of s (per_arrival * t), answer)),
+            );
+          }
 
     module _ (legal : AreLegal rule p s w) where
       legal_to : (t k : ℕ) → t < 64 → k < per_arrival → is_legal rule p (record { from = s; to = t; promo = promotion_at k }) ≡ (k == 0 && bit_at w t == 1)

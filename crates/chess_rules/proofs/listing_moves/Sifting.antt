@@ -2,7 +2,7 @@
 use Rattle.chess_rules.proofs.Chess.{AreCandidates, AreOrigins, AreSifted, Bool, HaveNone, IsSifted, Move, Position, RuleSet, [], all_triples, and_left, ap, append-nil, append_assoc, append_cancel_right, arith, bit_and, cases_Bool, cases_lt, false, filter, filter-append, is_legal, is_wanted, length, moves_behind, moves_between, rules, second_fails, sym, triple_at, true, ℕ, ◌++◌, ◌+◌, ◌<◌, ◌∙◌, ◌∷◌, ◌≡◌, ◌≤◌}
 use Rattle.chess_rules.proofs.listing_moves.Between.{behind_cut, between-past}
 use Rattle.chess_rules.proofs.listing_moves.Places.{moves_behind-end, moves_behind-here, moves_behind-skip, over, place_of_none, place_of_triple}
-use Rattle.chess_rules.proofs.listing_moves.Walks.{IsWalked, off_second, on_first}
+use Rattle.chess_rules.proofs.listing_moves.Walks.{off_second, on_first}
 
 -- for callers whose place has moved on, or stands behind all triples
 pub moved_on : (rule : RuleSet) (p : Position) (a b : ℕ) → (b < all_triples → a ≤ b) → moves_behind rule p a ≡ moves_between rule p a b ++ moves_behind rule p b
@@ -17,10 +17,6 @@ module _ (rule : RuleSet) (p : Position) (test : Move → Bool) where
   -- who has no legal move has none that is wanted
   pub wanted_origins : (o : ℕ) → AreOrigins (is_legal rule p) o → AreOrigins (is_wanted rule p test) o
   wanted_origins o own = record { elsewhere = λ m from to off. and_left _ (test m) (own.elsewhere m from to off) }
-
-  -- nor has he in a walk
-  pub wanted_walk : (start rest : ℕ) → IsWalked (is_legal rule p) start rest → IsWalked (is_wanted rule p test) start rest
-  wanted_walk start rest w = record { ahead = w.ahead; none = λ k lo hi off. and_left _ _ (w.none k lo hi off) }
 
   wanted-skip : (n : ℕ) → n < all_triples → is_wanted rule p test (triple_at n) ≡ false
       → filter test (moves_behind rule p n) ≡ filter test (moves_behind rule p (n + 1))

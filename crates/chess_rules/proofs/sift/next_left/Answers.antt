@@ -1,11 +1,13 @@
 use Rattle.chess_rules.proofs.Chess.{and_left, arith, per_origin, refl, rules, ◌*◌, ◌∙◌, ◌≡◌}
 use Rattle.chess_rules.proofs.listing_moves.Counting.{counted_all, counted_none, counted_on, counted_to}
-use Rattle.chess_rules.proofs.listing_moves.Sifting.{wanted_walk}
+use Rattle.chess_rules.proofs.listing_moves.Sifting.{wanted_origins}
 use Rattle.chess_rules.proofs.listing_moves.Walks.{none-to, walk_begins, walk_on, walk_to}
 use Rattle.chess_rules.proofs.sift.next_left.Goals as goal
 
 pub loop-from-init : goal.loop-from-init
-loop-from-init g c = search (rules, counted_none, walk_begins, wanted_walk)
+loop-from-init g c =
+    let own = wanted_origins _ _ (g.S.Sift.test g.R.Rules.rule c.args.board.now) _ c.own_origins-origins.ensures in
+    search (rules, counted_none, walk_begins, own)
 
 pub returns-then-at-lt-PER_ORIGIN-clause-passed : goal.returns-then-at-lt-PER_ORIGIN-clause-passed
 returns-then-at-lt-PER_ORIGIN-clause-passed g c =

@@ -1,5 +1,5 @@
 use Rattle.chess_rules.proofs.Chess.{IsNamed, length, moves_between, per_origin, ◌*◌, ◌+◌, ◌-◌, ◌<◌, ◌≡◌, ◌≤◌}
-use Rattle.chess_rules.proofs.counting.count_one_by_one.Given as goal
+use Rattle.chess_rules.proofs.counting.count_of_pawn.Given as goal
 
 -- those counted and those still to come are all
 abbrev pub invariant-loop-at : goal.invariant-loop-at

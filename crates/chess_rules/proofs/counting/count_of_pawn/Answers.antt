@@ -1,7 +1,7 @@
 use Rattle.chess_rules.proofs.Chess.{arith, is_legal, per_origin, refl, sym, ◌*◌, ◌+◌, ◌∙◌, ◌≡◌}
 use Rattle.chess_rules.proofs.listing_moves.Counting.{count_barren, count_here}
 use Rattle.chess_rules.proofs.listing_moves.Walks.{aimed_from}
-use Rattle.chess_rules.proofs.counting.count_one_by_one.Goals as goal
+use Rattle.chess_rules.proofs.counting.count_of_pawn.Goals as goal
 
 pub is_legal-requires-clause-aimed : goal.is_legal-requires-clause-aimed
 is_legal-requires-clause-aimed g c =
