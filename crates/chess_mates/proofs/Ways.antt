@@ -1,5 +1,6 @@
 -- The ways of a defender to a square that isn't risky: his king goes, or another man, who may leave a line.
-use Rattle.chess_mates.proofs.Chess.{AreAdjacent, AreMere, ArePlain, AreRisky, AreThreatsOf, IsLike, IsMereMove, IsPlainMove, IsSafeMove, IsSafeStep, IsSettledStep, IsSiegeOf, IsSparedStep, IsWellFormed, KeepsFlight, KeepsFlightBeside, KeepsOne, King, Man, Move, Position, RuleSet, Siege, Some, ToldThreats, [], agree_below_at, along, and_from, and_parts, ap, arith, arrival_needed, bit_and, bit_at, bit_at_above, bit_not, bit_or, captures_do_more, cases_Bool, cases_lt, cond-false, cond-true, false, false_by, false≢true, inl, inr, is_castling, is_legal, is_man, is_pseudo_legal, is_pseudo_legal-from_legal, king_after, king_is, leaps, list_any, made, man_on, mates_behind, may_go_aimed, off_left, off_right, off_second, position_after, queen_steps, refl, rules, same_colour-refl, same_kind, some_is, sym, true, w64, ℕ, ◌<◌, ◌==◌, ◌^◌, ◌∙◌, ◌≡◌, ◌≢◌}
+use Rattle.chess_mates.proofs.Chess.{AreAdjacent, AreMere, ArePlain, AreRisky, AreThreatsOf, IsLike, IsMereMove, IsPlainMove, IsSafeMove, IsSafeStep, IsSettledStep, IsSiegeOf, IsSparedStep, IsWellFormed, KeepsFlight, KeepsFlightBeside, KeepsOne, King, Man, Move, Position, RuleSet, Siege, Some, ToldThreats, [], agree_below_at, along, and_from, and_parts, ap, arith, arrival_needed, bit_and, bit_at, bit_at_above, bit_not, bit_or, captures_do_more, cases_Bool, cases_lt, cond-false, cond-true, eqb-true, false, false_by, false≢true, inl, inr, is_castling, is_legal, is_man, is_pseudo_legal, is_pseudo_legal-from_legal, king_after, king_is, leaps, list_any, made, maker, man_on, mates_behind, may_go_aimed, off_left, off_right, off_second, off_zero, position_after, queen_steps, refl, rules, same_colour-refl, same_kind, some_is, sym, true, w64, ℕ, ◌<◌, ◌==◌, ◌^◌, ◌∙◌, ◌≡◌, ◌≢◌}
+use Rattle.chess_mates.specs.ties.Siege.{AreNeeded}
 use Rattle.chess_mates.proofs.Risks.{denied_on}
 use Rattle.chess_mates.proofs.LastingFlights.{no_mate_behind as flight_behind}
 use Rattle.chess_mates.proofs.Barring.{barred_is_illegal}
@@ -38,17 +39,18 @@ module _ (rule : RuleSet) (p : Position) (x : Man) (v : ToldThreats) (well : IsW
         (cond-false (same_kind x.kind King) _ _ mortal ∙ sym threats.fits.king) kept.adjacent
         (λ f low on same. false≢true (sym kept.off ∙ (rw same at on))) kept.keeps
 
-  module _ (m : Move) (may : is_pseudo_legal rule p m ≡ true) (here : man_on p.men m.from ≡ Some x) (small : m.to < 64) (from : m.from < 64)
-      (plain : IsPlainMove p x m) (mere : captures_do_more rule ≡ true → IsMereMove p x m) where
-    at_king : same_kind x.kind King ≡ true → v.siege.king ≡ m.from
-    at_king king =
+    -- the king's own step begins on his square
+    at_king : m.from < 64 → same_kind x.kind King ≡ true → v.siege.king ≡ m.from
+    at_king from king =
         let is : is_man (man_on p.men m.from) p.turn King ≡ true = rw (here, (made rule p m x may here).mine) (and_from _ _ (same_colour-refl p.turn) king) in
         some_is v.siege.king m.from (threats.fits.king ∙ king_is p.men p.turn m.from well.kings from is)
 
+  module _ (m : Move) (may : is_pseudo_legal rule p m ≡ true) (here : man_on p.men m.from ≡ Some x) (small : m.to < 64) (from : m.from < 64)
+      (plain : IsPlainMove p x m) (mere : captures_do_more rule ≡ true → IsMereMove p x m) where
     king_safe : same_kind x.kind King ≡ true → IsSafeStep v.siege m.to → mates_behind rule (position_after rule p m) 0 ≡ []
     king_safe king safe =
         let siege = threats.siege in
-        let same = at_king king in
+        let same = at_king m may here small from king in
         no_mate_behind rule p m x v.siege m.to safe.risk well may here small from (cond-true (same_kind x.kind King) _ _ king) (record {
           plain = plain;
           mere = mere;
@@ -130,7 +132,7 @@ module _ (rule : RuleSet) (p : Position) (x : Man) (v : ToldThreats) (well : IsW
           elim (safe m.to small (denied_on w u m.to fits_u small on off) none) [
             | inl calm ↦ king_spared m may there small (rw origin from) plain mere king calm
             | inr barred ↦ absurd (barred_is_illegal rule p m x v.siege well may there small plain mere king
-                (at_king m may there small (rw origin from) plain mere king) threats.siege threats.whole threats.fits barred legal)
+                (at_king m may there small (rw origin from) king) threats.siege threats.whole threats.fits barred legal)
           ])
 
       -- for another man's moves
@@ -140,3 +142,16 @@ module _ (rule : RuleSet) (p : Position) (x : Man) (v : ToldThreats) (well : IsW
       moves_are_risky mortal safe = risky_by (λ m legal may origin small on off none plain mere.
           man_spared m may (ap (man_on p.men) origin ∙ here) small (rw origin from) plain mere mortal
           (rw origin (safe m.to (denied_on w u m.to fits_u small on off) none)))
+
+-- for `keep_flights`: another man comes to none of the squares off which the king keeps no flight
+pub kept_are_risky : (rule : RuleSet) (v : ToldThreats) (s w n : ℕ) → s < 64 → w < 2 ^ 64 → captures_do_more rule ≡ false → AreNeeded v.siege n
+    → (bit_and w n == 0) ≡ true → s ≢ v.siege.king → (p : Position) → IsWellFormed p → AreThreatsOf rule p v → AreRisky rule p s w 0
+kept_are_risky rule v s w n low fits circe needed none apart p well threats = record {
+  settled = λ m legal origin on off.
+      let may = is_pseudo_legal-from_legal rule p m legal in
+      let made = maker rule p m may in
+      let small = inside rule p made.0 v well threats w m.to fits on in
+      man_keeps rule p made.0 v well threats m may made.1 small
+      (false_by _ (λ king. apart (sym origin ∙ sym (at_king rule p made.0 v well threats m may made.1 small (rw origin low) king)))) circe
+      (needed.keeps m.to small (off_second w n m.to (search (rules, off_zero, eqb-true, none)) on));
+}

@@ -4,6 +4,7 @@ ghost use Rattle.std.specs.Prelude.{◌≡◌, ◌≢◌, ◌<◌, ◌==◌, ℕ
 ghost use Rattle.std.specs.Int.{bit_at};
 ghost use Rattle.chess_core.specs.declared.man.Kind.TheVariants.{Nightrider};
 ghost use Rattle.chess_core.specs.declared.man.Colour.{Colour};
+ghost use Rattle.chess_mates.specs.declared.siege.Siege.{Siege};
 ghost use Rattle.chess_mates.specs.ties.LastingFlights.{AreGuarded};
 ghost use Rattle.chess_mates.specs.ties.Siege.{AreAdjacent, AreFree, AreNeeded, AreSpringboards, AreSprings, IsCastlingHarmless, IsField, IsReached, IsUnsprung, AreCaptureSquares};
 
@@ -17,7 +18,7 @@ use chess_rules::leaps::king_leaps;
 use chess_rules::lines::{diagonal_lines, straight_lines};
 use chess_rules::reach::reach_over;
 use chess_rules::rules::Rules;
-use chess_rules::words::{only, take_first};
+use chess_rules::words::{highest, next_bit, only, take_first};
 
 // A king's square, the squares next to it to which he might go, attacks apart, those on which he might capture who comes
 // there, and those of the lines from there: the straight ones, the diagonals, and all; the springboards of his square, and
@@ -230,15 +231,31 @@ pub(crate) fn open_guards<R: Rules>(siege: &Siege) -> Squares
     guarded_squares(&siege.men)
 }
 
+// Two of the squares next to a king, the first and the last, or the only one; of none none. That it is these two costs time
+// alone.
+#[tactic(auto, using(crate::proofs::Sieges::fewer_adjacent))]
+fn ends_of(squares: Squares) -> Squares
+    ensures { (v : Siege) (k : ℕ) → AreAdjacent v k squares → AreAdjacent v k result }
+{
+    if squares == 0 {
+        return 0;
+    }
+    squares & (only(next_bit(squares, 0)) | only(Some(highest(squares))))
+}
+
 // The squares to which no other man may come lest the king, who stays, keeps no flight whatever is played: those that no
-// attacker reaches, were all others gone, if they can't all be taken with one move.
+// attacker reaches, were all others gone, if they can't all be taken with one move; two of them, if these can't.
 #[tactic(auto, using(chess_rules::proofs::listing_moves::Targeting::every_square_on, crate::proofs::Sieges::fewer_adjacent))]
 pub(crate) fn needed_squares(siege: &Siege, guarded: Squares) -> Squares
     requires { AreGuarded siege.now.men guarded }
     ensures { AreNeeded siege.now result }
 {
     let flights = adjacent_squares(siege, siege.king) & !guarded;
-    if keeps_one(&siege.men, guarded, flights) {
+    let ends = ends_of(flights);
+    if keeps_one(&siege.men, guarded, ends) {
+        return ends;
+    }
+    if ends != flights && keeps_one(&siege.men, guarded, flights) {
         return flights;
     }
     !0

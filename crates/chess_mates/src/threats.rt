@@ -1,7 +1,7 @@
 //! Threats of mate, told before the defender's move: the squares that his men mustn't come to lest a reply may mate.
 ghost use Rattle.std.specs.Prelude.{◌≡◌, ◌<◌, ◌==◌, [], ℕ, IfSome, Some, true, false};
 ghost use Rattle.std.specs.Int.{bit_at};
-ghost use Rattle.chess_core.specs.Position.{king_square};
+ghost use Rattle.chess_core.specs.Position.{Position, king_square};
 ghost use Rattle.chess_core.specs.WellFormed.{IsWellFormed};
 ghost use Rattle.chess_core.specs.declared.man.Move.{Move};
 ghost use Rattle.chess_mates.specs.ties.Mates.{mates_behind};
@@ -179,6 +179,20 @@ impl Threats {
         }
     }
 
+    /// Tells the threats to the king of the side to move, who stands on the square, in place of these.
+    pub fn retell<R: Rules>(&mut self, board: &Board, king: Square)
+        ensures { IsWellFormed board.now → IsTold R.rule
+            → king_square board.now.men board.now.turn ≡ Some king
+            → AreThreatsOf R.rule board.now self.new }
+    {
+        self.siege = siege_of::<R>(board, king);
+        self.guarded = open_guards::<R>(&self.siege);
+        self.needed = needed_squares(&self.siege, self.guarded);
+        self.risk = None;
+        self.behind = None;
+        self.steps = ToldSteps::none();
+    }
+
     /// Whether they are told at all: not where captures do more than that men are reborn.
     pub fn are_told<R: Rules>() -> bool
         ensures { result ≡ true → IsTold R.rule }
@@ -227,6 +241,21 @@ impl Threats {
         left & (unplain | critical)
     }
 
+    // Whether the man on `from`, who isn't the king, may come to each of the squares: the king keeps a flight whatever is
+    // played. `false` says nothing.
+    #[inline(always)]
+    fn keep_flights<R: Rules>(&self, from: Square, squares: Squares) -> bool
+        ensures { result ≡ true → (p : Position) → IsWellFormed p → AreThreatsOf R.rule p self.now
+            → AreRisky R.rule p from squares 0 }
+    {
+        // For the proof: a square's number is below 64.
+        let _small = from.index();
+        if from == self.siege.king {
+            return false;
+        }
+        !R::captures_do_more() && squares & self.needed == 0
+    }
+
     /// Whether the move doesn't come to such a square, so that no reply mates. `false` says nothing.
     #[tactic(auto, using(crate::proofs::Sparing::one_square))]
     pub fn rule_out_mate<R: Rules>(&mut self, board: &Board, m: &Move) -> bool
@@ -252,6 +281,9 @@ impl Sift for Threats {
     ghost fits = { λ t rule p. AreThreatsOf rule p t };
 
     fn sift<R: Rules>(&mut self, board: &Board, from: Square, squares: Squares) -> Squares {
+        if self.keep_flights::<R>(from, squares) {
+            return 0;
+        }
         self.risky_squares::<R>(board, from, squares)
     }
 

@@ -84,8 +84,8 @@ impl<R: Rules> Killers<R> {
         }
     }
 
-    /// Keeps the threats in the board's position, if they are told, and else none.
-    pub(crate) fn tell_threats(&mut self, board: &Board)
+    /// Tells the threats in the board's position, if they are told at all, in place of those that were kept.
+    pub(crate) fn renew_threats(&mut self, board: &Board)
         requires well_formed { IsWellFormed board.now }
         ensures { IfSome self.new.threats (λ t. AreThreatsOf R.rule board.now t) }
     {
@@ -97,12 +97,23 @@ impl<R: Rules> Killers<R> {
             self.threats = None;
             return;
         }
+        match &mut self.threats {
+            Some(threats) => threats.retell::<R>(board, king),
+            None => self.threats = Some(Threats::of::<R>(board, king)),
+        }
+    }
+
+    /// Keeps the threats in the board's position, if they are told, and else none.
+    pub(crate) fn tell_threats(&mut self, board: &Board)
+        requires well_formed { IsWellFormed board.now }
+        ensures { IfSome self.new.threats (λ t. AreThreatsOf R.rule board.now t) }
+    {
         if let Some(threats) = &self.threats {
             if threats.are_of::<R>(board) {
                 return;
             }
         }
-        self.threats = Some(Threats::of::<R>(board, king));
+        self.renew_threats(board);
     }
 
     /// Whether no reply to this move mates, told by the threats in the board's position, which are kept for its other moves.

@@ -321,7 +321,11 @@ fn next_unsettled<R: Rules>(
 {
     // For the proof: the count is below 2^64.
     let _counted = history.opened;
-    history.killers.tell_threats(board);
+    if known.is_none() {
+        history.killers.renew_threats(board);
+    } else {
+        history.killers.tell_threats(board);
+    }
     let opened = &mut history.opened;
     match &mut history.killers.threats {
         Some(threats) => next_risky::<R>(threats, known, place, board, opened),
