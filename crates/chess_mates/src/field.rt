@@ -84,6 +84,7 @@ pub(crate) fn nightrider_lines(siege: &Siege, king: Square) -> Squares
 
 // The springboards of a square: those next to it on the lines to it from grasshoppers farther off.
 #[tactic(auto, using(crate::proofs::Springboards::none_sprung, crate::proofs::Springboards::springboards_are))]
+#[inline(always)]
 fn springboards_of(men: &Attackers, to: Square) -> Squares
     ensures { AreSpringboards men.now to result }
 {

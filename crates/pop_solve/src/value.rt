@@ -97,6 +97,7 @@ fn value_of_two<R: Rules>(battle: Battle, board: &mut Board, history: &mut Histo
 /// The last half-moves need none where mate is the goal, and are counted as if they had: three of a direct mate, two of a
 /// selfmate.
 #[tactic(auto, using(crate::proofs::Boards::settling, crate::proofs::SmallestTrees::shortest, crate::proofs::Values::free_moves))]
+#[inline(always)]
 fn value_at_once<R: Rules>(
     aim: Aim,
     left: usize,
