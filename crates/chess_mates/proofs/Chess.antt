@@ -30,7 +30,6 @@ pub use Rattle.chess_rules.proofs.making_moves.Stays.{IsReborn, after_well_forme
 pub use Rattle.chess_rules.proofs.rays.Ends.{square_is, back, return_square}
 pub use Rattle.chess_rules.proofs.rays.Flips.{diagonal-back, king-back, straight-back, reaches_back}
 pub use Rattle.chess_rules.proofs.Basics.{Bool, List, None, Option, Some, [], agree_below, agree_below_at, and_from, and_left, and_parts, and_right, ap, append_cancel_right, arith, bit_and, bit_at, bit_at-lt, bit_at_and, bit_at_or, bit_not, bit_or, cases_Bool, cases_eq, cases_lt, cond-false, cond-true, eq-eqb, eqb-true, false, false_from_ne_true, false≢true, filter, filter-append, find, get_or-map-range_with_len, if◌then◌else◌, inl, inr, is_some, length, length-map-range_with_len, length-set, list_all, list_any, list_any-append, map, ne_eqb, not, not-true, or_cases, or_from, or_left, or_lt, or_parts, or_right, range_with_len, refl, rules, subst, suc, sym, true, true_from_ne_false, w64, zero, ℕ, ◌%◌, ◌&&◌, ◌*◌, ◌++◌, ◌+◌, ◌-◌, ◌/◌, ◌<◌, ◌==◌, ◌^◌, ◌||◌, ◌∙◌, ◌∷◌, ◌≡◌, ◌≢◌, ◌≤◌, ◌⊎◌}
-pub use Rattle.chess_rules.proofs.HoldBelow.{HoldBelow, hold_all, hold_map, hold_next, hold_on}
 pub use Rattle.chess_rules.proofs.HoldTaken.{HoldTaken, rest_falls, taken_all, taken_map, taken_next, taken_none, taken_on}
 pub use Rattle.chess_mates.specs.ties.Siege.{AreAdjacent, AreArrivals, AreCaptureSquares, AreCastlingSquares, AreClosed, AreFree, AreGuardsWithout, AreHomes, AreHomesOf, AreHurdles, AreLaterHurdles, AreReached, AreSpringboards, AreSprings, AreStanding, AreThreats, AreWeak, IsApart, IsArrival, IsAttackedOver, IsBarred, IsCaptured, IsCastlingHarmless, IsCheckWord, IsField, IsFlight, IsHarmless, IsHome, IsHurdle, IsLike, IsNear, IsNoCheck, IsOff, IsQuiet, IsReached, IsReachedFrom, IsRiskAt, IsSafeMove, IsSafeStep, IsSettledStep, IsShut, IsShutAt, IsSiege, IsSiegeOf, IsSparedStep, IsSprung, IsUnguarded, IsUnsprung, IsUntaken, IsWeak, IsWeakAt, IsWhole, KeepsFlight, KeepsFlightBeside, LeavesOne, LeavesUntaken, MayRide, is_leaper, is_rider}
 unfoldable pub use Rattle.chess_mates.specs.ties.Siege.{reached_over}

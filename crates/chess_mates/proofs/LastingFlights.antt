@@ -1,5 +1,5 @@
 -- Flights that one move can't take.
-use Rattle.chess_mates.proofs.Chess.{AreApproached, AreAttackers, AreGuarded, AreNear, Attackers, Bishop, Grasshopper, IfSome, IsAttacker, IsLeft, IsMade, IsWellFormed, KeepsOne, King, Knight, LeaveOne, Man, Move, Nightrider, None, Option, Pawn, Position, Queen, Rook, RuleSet, Some, [], after_well_formed, all_triples, and_parts, arith, arrival_needed, arrived, arriving_colour, bit_and, bit_at, bit_at_and, bit_not, bit_or, captures_do_more, cases_Bool, castle_of, eq-eqb, eqb-true, every_square_on, false, false_by, false_from_ne_true, false≢true, find, find_first, is_arrival_free, is_castling, is_promoting, is_pseudo_legal, is_square, king_after, king_is_after, king_square, length, made, maker, man_on, mates, mates_behind, may_go_aimed, men_on, not, off_left, off_right, off_zero, on_board, on_first, on_left, on_right, or_lt, other, other_twice, position_after, range_with_len, reaches_as, reaches_back, rules, same_colour-refl, same_kind, same_kind-true, simple_after, sym, triple_at, true, w64, word, word_has, ℕ, ◌<◌, ◌==◌, ◌^◌, ◌∙◌, ◌≡◌, ◌≢◌, off_second}
+use Rattle.chess_mates.proofs.Chess.{AreApproached, AreAttackers, AreGuarded, AreNear, Attackers, Bishop, Grasshopper, IfSome, IsAttacker, IsLeft, IsMade, IsWellFormed, KeepsOne, King, Knight, LeaveOne, Man, Move, Nightrider, None, Option, Pawn, Position, Queen, Rook, RuleSet, Some, [], after_well_formed, all_triples, and_parts, arith, arrival_needed, arrived, arriving_colour, bit_and, bit_at, bit_at_and, bit_not, bit_or, captures_do_more, cases_Bool, castle_of, eq-eqb, eqb-true, every_square_on, false, false_by, false_from_ne_true, false≢true, find, find_first, is_arrival_free, is_castling, is_promoting, is_pseudo_legal, is_square, king_after, king_is_after, king_square, length, made, maker, man_on, mates, mates_behind, may_go_aimed, men_on, not, off_left, off_right, off_zero, on_board, on_first, on_left, on_right, or_lt, other, other_twice, position_after, range_with_len, reaches_as, reaches_back, rules, same_colour-refl, same_kind, same_kind-true, simple_after, sym, triple_at, true, w64, word, word_has, ℕ, ◌<◌, ◌==◌, ◌^◌, ◌∙◌, ◌≡◌, ◌≢◌}
 use Rattle.chess_mates.proofs.KindByKind.{HoldsOf, of_all}
 use Rattle.chess_mates.specs.ties.LastingFlights.{LeavesOne}
 use Rattle.chess_rules.specs.ties.Targets.{AreReached}

@@ -157,7 +157,6 @@ const LAST_RANKS: Squares = 0xff00_0000_0000_00ff;
 // and perhaps more.
 #[inline(never)]
 #[tactic(auto, using(crate::proofs::CastlingChecks::castling_targets_are))]
-#[inline(always)]
 fn castling_targets(squares: &CheckSquares, from: Square) -> Squares
     ensures { AreCastlingTargets squares.now from result }
 {

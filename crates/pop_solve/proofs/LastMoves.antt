@@ -1,5 +1,5 @@
 -- The last half-moves where mate is the goal, tried without frames: their value, and how many positions they take.
-use Rattle.pop_solve.proofs.Words.{AreTaken, Battle, Bool, Direct, HasCounted, IfSome, Killer, LegalPlace, List, Mate, Move, None, Option, Order, Passes, Position, RuleSet, Selfmate, Some, [], ap, arith, can_move, chess, cond, eqb, false, filter, is_goal_reached, is_legal, is_mating, is_some, joined_value, length, list_all, list_any, mates_behind, min, moves, moves_ahead, moves_behind, must_reply_with_mate, nat_tests, not, position_after, refl, rules, seeks, smallest_below, smallest_tree, true, value, walk_count, ℕ, ◌&&◌, ◌++◌, ◌+◌, ◌-◌, ◌<◌, ◌^◌, ◌∷◌, ◌≡◌, ◌≤◌, suc, sym, walk_among, ◌∙◌, Aim}
+use Rattle.pop_solve.proofs.Words.{AreTaken, Battle, Bool, Direct, HasCounted, IfSome, Killer, LegalPlace, List, Mate, Move, None, Option, Order, Passes, Position, RuleSet, Selfmate, Some, [], arith, can_move, chess, cond, eqb, false, filter, is_goal_reached, is_legal, is_mating, is_some, joined_value, length, list_all, list_any, mates_behind, min, moves, moves_ahead, moves_behind, must_reply_with_mate, nat_tests, not, position_after, refl, rules, seeks, smallest_below, smallest_tree, true, value, walk_count, ℕ, ◌&&◌, ◌++◌, ◌+◌, ◌-◌, ◌<◌, ◌^◌, ◌∷◌, ◌≡◌, ◌≤◌, suc, sym, walk_among, ◌∙◌, Aim}
 use Rattle.pop_solve.proofs.Boards.{behind_start, each_one, unreached, walk_count-some}
 use Rattle.pop_solve.proofs.SmallestTrees.{tree-one, trees-end, trees-next, trees-start}
 use Rattle.pop_solve.proofs.Tests.{any-start, fewest-start, first, rest-start, walk-next, walk_count-start}
