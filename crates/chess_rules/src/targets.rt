@@ -1,8 +1,7 @@
 //! Where a man may go, and the triples that name it.
-ghost use Rattle.std.specs.Prelude.{◌≡◌, ℕ, ◌<◌, ◌≤◌, ◌&&◌, ◌||◌, None, Some, false};
+ghost use Rattle.std.specs.Prelude.{◌≡◌, ℕ, ◌<◌, ◌≤◌, ◌&&◌};
 ghost use Rattle.chess_core.specs.Castling.{has_unmoved};
-ghost use Rattle.chess_core.specs.Position.{man_on, same_kind};
-ghost use Rattle.chess_core.specs.declared.man.Kind.TheVariants.{Pawn};
+ghost use Rattle.chess_core.specs.Position.{man_on};
 ghost use Rattle.chess_core.specs.ties.Words.{word};
 ghost use Rattle.chess_rules.specs.Legal.{is_arrival_free};
 ghost use Rattle.chess_rules.specs.ties.Places.{IsBarrenFrom, IsNamed, per_origin};
@@ -120,24 +119,6 @@ fn is_promoting(man: Man, to: Square) -> bool
     man.kind.is(Kind::Pawn) && to.rank() == last_rank(man.colour)
 }
 
-// The first triple of a man that is no pawn, as below: he goes to each square by one, that without a
-// promotion.
-#[inline(always)]
-fn next_unpromoted(board: &Board, man: Man, from: Square, word: Squares, start: u16) -> u16
-    requires start { start ≤ per_origin }
-    requires here { man_on board.now.men from ≡ Some man }
-    requires no_pawn { same_kind man.kind Pawn ≡ false }
-    ensures low { start ≤ result }
-    ensures high { result ≤ per_origin }
-    ensures barren { IsBarrenFrom board.now from word start result }
-    ensures named { result < per_origin → IsNamed board.now from word result }
-{
-    match next_bit(word, ((start + PER_ARRIVAL - 1) / PER_ARRIVAL) as u8) {
-        Some(to) => u16::from(to.index()) * PER_ARRIVAL,
-        None => PER_ORIGIN,
-    }
-}
-
 // The first triple with this origin that goes to one of the word's squares, with a promotion where a pawn
 // arrives on its last rank and none elsewhere, from the one numbered `start` on, each counted from the
 // origin's first; PER_ORIGIN where there is none.
@@ -151,9 +132,6 @@ pub(crate) fn next_from(board: &Board, from: Square, word: Squares, start: u16) 
     let Some(man) = board.man_at(from) else {
         return PER_ORIGIN;
     };
-    if !man.kind.is(Kind::Pawn) {
-        return next_unpromoted(board, man, from, word, start);
-    }
     let mut at = start;
     while let Some(to) = next_bit(word, (at / PER_ARRIVAL) as u8) {
         let first = u16::from(to.index()) * PER_ARRIVAL;

@@ -1,5 +1,5 @@
 -- Where a man may go, and no move is missed by going from one such square to the next.
-use Rattle.chess_rules.proofs.Chess.{Bool, IsBarrenFrom, IsFirst, IsNamed, Kind, King, List, Man, Move, None, Option, Pawn, Position, RuleSet, Some, agree_below_at, along, and_from, and_parts, ap, arith, bit_at, bit_not, can_castle, cases_Bool, cases_eq, cond-false, cond-true, false, file_of, find, find_first, find_no, is_advance, is_arrival, is_castling, is_of_colour, is_promoting, is_promotion_right, is_pseudo_legal, is_pseudo_legal_of, is_some, is_square, is_two_files_aside, man_on, may_castle, may_go, or_left, or_right, per_arrival, per_origin, promotion_at, range_with_len, rank_of, reaches, reaches_as, refl, rules, same_colour-refl, same_kind, square_at, squares_same, steps_to, sym, true, w64, word, word_empty, ℕ, ◌%◌, ◌*◌, ◌+◌, ◌-◌, ◌/◌, ◌<◌, ◌==◌, ◌∙◌, ◌≡◌, ◌≤◌}
+use Rattle.chess_rules.proofs.Chess.{Bool, IsBarrenFrom, IsFirst, IsNamed, Kind, King, List, Man, Move, None, Option, Pawn, Position, RuleSet, Some, agree_below_at, along, and_from, and_parts, ap, arith, bit_at, bit_not, can_castle, cases_Bool, cond-false, cond-true, false, file_of, find, find_first, find_no, is_advance, is_arrival, is_castling, is_of_colour, is_promoting, is_promotion_right, is_pseudo_legal, is_pseudo_legal_of, is_some, is_square, is_two_files_aside, man_on, may_castle, may_go, or_left, or_right, per_arrival, per_origin, promotion_at, range_with_len, rank_of, reaches, reaches_as, refl, rules, same_colour-refl, same_kind, square_at, squares_same, steps_to, sym, true, w64, word, word_empty, ℕ, ◌%◌, ◌*◌, ◌+◌, ◌-◌, ◌/◌, ◌<◌, ◌==◌, ◌∙◌, ◌≡◌, ◌≤◌}
 use Rattle.chess_rules.proofs.making_moves.Pseudo.{made}
 
 -- the words of a pawn's steps, of a king's in castling, and of the others
@@ -77,11 +77,7 @@ own_moves p rule m (Some x) e h = false_by (is_pseudo_legal rule p m) (λ y. gri
 abbrev pub arrival_from : ℕ → ℕ
 arrival_from a = (a + per_arrival - 1) / per_arrival
 
--- stretches of one origin
-from-empty : (p : Position) (s z a : ℕ) → IsBarrenFrom p s z a a
-from-empty p s z a = record { fails = λ rule k lo hi on. absurd (omega (arith, lo, hi)) }
-
--- two stretches without a move, one behind the other, are one
+-- two stretches of one origin without a move, one behind the other, are one
 pub from-join : (p : Position) (s z a b c : ℕ) → IsBarrenFrom p s z a b → IsBarrenFrom p s z b c → IsBarrenFrom p s z a c
 from-join p s z a b c x y = search rules
 
@@ -135,24 +131,6 @@ from-none p s start at w past none = grind (arith, from-join p s w start at per_
 -- another man than a pawn never arrives as one
 pub no_pawn_arrives : (x : Man) (t : ℕ) → same_kind x.kind Pawn ≡ false → is_promoting x t ≡ false
 no_pawn_arrives x t h = rw h refl
-
--- a man that is no pawn has no other triple to a square than that without a promotion
-from-plain : (p : Position) (x : Man) (s a w : ℕ) → man_on p.men s ≡ Some x → same_kind x.kind Pawn ≡ false
-    → IsBarrenFrom p s w a (per_arrival * arrival_from a)
-from-plain p x s a w here h =
-    let none = no_pawn_arrives x (a / per_arrival) h in
-    grind (arith, cases_eq (a % per_arrival) 0, from-empty p s w a, from-unpromoted p x s w (a / per_arrival) a here none)
-
--- for another man than a pawn, up to the next target
-pub plain-target : (p : Position) (x : Man) (s start t w n : ℕ) → man_on p.men s ≡ Some x → same_kind x.kind Pawn ≡ false
-    → find (λ q. bit_at w q == 1) (range_with_len (arrival_from start) (64 - arrival_from start)) ≡ Some t → n ≡ per_arrival * t → IsBarrenFrom p s w start n
-plain-target p x s start t w n here h found e =
-    rw e (grind (arith, find_first _ (arrival_from start) (64 - arrival_from start) t found, from-target, from-plain p x s start w here h))
-
--- or to the end, where there is none
-pub plain-none : (p : Position) (x : Man) (s start w : ℕ) → man_on p.men s ≡ Some x → same_kind x.kind Pawn ≡ false
-    → find (λ q. bit_at w q == 1) (range_with_len (arrival_from start) (64 - arrival_from start)) ≡ None → IsBarrenFrom p s w start per_origin
-plain-none p x s start w here h none = search (rules, from-none, from-plain p x s start w here h)
 
 -- the triple that is found
 pub named_at : (p : Position) (x : Man) (s t n w : ℕ) → man_on p.men s ≡ Some x → (bit_at w t == 1) ≡ true → n / per_arrival ≡ t

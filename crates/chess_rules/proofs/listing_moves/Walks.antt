@@ -1,5 +1,5 @@
 -- No move is missed by walking from candidate to candidate.
-use Rattle.chess_rules.proofs.Chess.{AreCandidates, AreEvasionsFrom, AreOrigins, Bool, HaveNone, IsAimed, IsBarrenFrom, IsNamed, Man, Move, None, Option, Pawn, Position, RuleSet, all_triples, and_left, and_parts, and_right, ap, arith, bit_and, bit_at, bit_at-lt, bit_at-zero, bit_at_and, cases_Bool, cases_eq, cases_lt, eq-eqb, eqb-true, false, false≢true, inl, inr, is_arrival, is_arrival_of, is_legal, is_legal-idle, is_man, is_pseudo_legal, is_some, man_on, not, passes_to, per_arrival, per_origin, promotion_at, refl, rules, same_kind, side_of, subst, sym, triple_at, true, word, word_has, ℕ, ◌%◌, ◌&&◌, ◌*◌, ◌+◌, ◌-◌, ◌/◌, ◌<◌, ◌==◌, ◌≡◌, ◌≤◌}
+use Rattle.chess_rules.proofs.Chess.{AreCandidates, AreEvasionsFrom, AreOrigins, Bool, HaveNone, IsAimed, IsBarrenFrom, IsNamed, Move, None, Pawn, Position, RuleSet, all_triples, and_parts, and_right, ap, arith, bit_and, bit_at, bit_at-lt, bit_at-zero, bit_at_and, cases_Bool, cases_eq, cases_lt, eq-eqb, eqb-true, false, false≢true, is_arrival, is_legal, is_legal-idle, is_man, is_pseudo_legal, is_some, man_on, not, passes_to, per_arrival, per_origin, promotion_at, refl, rules, side_of, triple_at, true, word, word_has, ℕ, ◌%◌, ◌&&◌, ◌*◌, ◌+◌, ◌-◌, ◌/◌, ◌<◌, ◌==◌, ◌≡◌, ◌≤◌}
 use Rattle.chess_rules.proofs.Basics.{nat_le}
 use Rattle.chess_rules.specs.ties.Taking.{IsTaken}
 use Rattle.chess_rules.proofs.listing_moves.Targeting.{arrival_from, arrival_needed, false_by, named_by, no_pawn_arrives, no_promotion_here, own_moves, some_named}
