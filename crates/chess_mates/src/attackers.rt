@@ -8,7 +8,8 @@ use chess_core::board::Board;
 use chess_core::man::{Colour, Kind};
 use chess_core::square::Squares;
 
-// Against more attackers than these a king seldom keeps a flight whatever is played: such flights are not looked for.
+// Against more attackers than these a king seldom keeps a flight whatever is played, and his steps seldom save him: neither
+// is looked for.
 pub(crate) const MOST_ATTACKERS: u32 = 7;
 
 // The squares of a side's men kind by kind.

@@ -80,6 +80,7 @@ impl<R> Clone for MatingMoves<R> {
 
 impl<R: Rules> MatingMoves<R> {
     /// The place before all triples, in the board's position.
+    #[inline(always)]
     pub fn of(board: &Board) -> MatingMoves<R>
         ensures start { result.place ≡ 0 }
         ensures place { IsMatingPlaceIn R.rule board.now result }

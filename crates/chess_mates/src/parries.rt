@@ -124,6 +124,7 @@ fn pawn_origins(colour: Colour, square: Square) -> Squares
 
 // Whether an unpinned man comes between the man that has come and the king on `king`.
 #[tactic(auto, using(chess_rules::proofs::HoldTaken::rest_falls, crate::proofs::Hurdles::rest_on))]
+#[inline(always)]
 fn is_interposed(
     board: &Board,
     sight: Sight,

@@ -88,6 +88,7 @@ fn hurdles_of(own: Squares, enemies: Squares, king: Square, lifted: Option<Squar
 }
 
 // The siege by the board's men of the king of the side to move, who stands on the square.
+#[inline(always)]
 pub(crate) fn siege_of<R: Rules>(board: &Board, king: Square) -> Siege
     ensures siege { IsSiege result }
     ensures whole { IsWhole result }

@@ -70,6 +70,7 @@ pub(crate) fn standing_flights<R: Rules>(board: &Board) -> StandingFlights
 }
 
 // The squares to which the man must go lest the first of the flights or the last is left.
+#[inline(always)]
 fn taking_squares(flights: Squares, man: Man) -> Squares
     ensures { (t : ℕ) → t < 64 → (bit_at result t == 1) ≡ false → (f : ℕ) × IsLeft flights man t f }
 {

@@ -88,6 +88,7 @@ const FEW_STEPS: u32 = 3;
 
 // The squares that the attackers reach, grasshoppers apart, those who may reach the region.
 #[tactic(auto, using(crate::proofs::Hurdles::all_reach))]
+#[inline(always)]
 fn reached_squares(siege: &Siege, region: Squares) -> Squares
     ensures all { AreReached siege.now.hurdles siege.now.men region
         (λ k. not (is_hopper (gait_of k))) result }

@@ -134,10 +134,9 @@ fn are_known_legal<R: Rules>(
     }
 }
 
-// It and the one below are parts of the count: apart they cost more than they save.
 // How many legal moves the pawn on `from` has among his triples numbered from `start` on and below `end`, each
 // counted from the origin's first; each is looked at. `squares` are those to which he may go. The board is
-// unchanged.
+// unchanged. This and the one below are parts of the count: apart they cost more than they save.
 #[inline(always)]
 #[tactic(auto, using(crate::proofs::listing_moves::Counting::by_triples))]
 fn count_of_pawn<R: Rules>(

@@ -94,6 +94,7 @@ pub fn eventful_captures<R: Rules>(board: &Board) -> Squares
 // the others gone: all squares where no check is seen, and for the king. `evasion_squares` are those to which
 // another man than the king may go that ends it.
 #[tactic(auto, using(crate::proofs::attacks::EvasionTargets::evasions_from_all, crate::proofs::attacks::EvasionTargets::evasions_from_some, crate::proofs::listing_moves::Targeting::nobody_moves))]
+#[inline(always)]
 pub(crate) fn evasions_from<R: Rules>(
     board: &Board,
     evasion_squares: Squares,

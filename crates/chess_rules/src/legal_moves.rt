@@ -286,6 +286,7 @@ impl Sought for Known {
         own_origins::<R>(board)
     }
 
+    #[inline(always)]
     fn candidates<R: Rules>(&self, board: &Board, from: Square) -> Squares {
         candidates::<R>(board, self.evasion_squares, from)
     }

@@ -27,6 +27,7 @@ use chess_core::square::{Square, Squares};
 
 /// The squares from which a man of this colour and kind could go to `to` if an enemy stood there: those to which
 /// one of the other colour could from there, but for a hopper.
+#[inline(always)]
 pub fn comes_as(occupied: Squares, colour: Colour, kind: Kind, to: Square) -> Squares
     ensures { (men : List (Option Man)) → occupied ≡ occupied_squares men
         → result ≡ word (λ s. reaches_as men colour kind s to) }
@@ -89,6 +90,7 @@ fn straight_attackers(board: &Board, sight: Sight, square: Square, colour: Colou
 
 // The squares of its queens and bishops that such a rider gets to along the diagonals.
 #[tactic(auto, using(crate::proofs::attacks::Attacking::met, crate::proofs::attacks::Attacking::met_none))]
+#[inline(always)]
 fn diagonal_attackers(board: &Board, sight: Sight, square: Square, colour: Colour) -> Squares
     ensures { (men : List (Option Man)) → AreSeen board.now.men men colour sight
         → result ≡ word (is_met men colour Bishop diagonal_steps square) }
@@ -198,6 +200,7 @@ pub(crate) fn attackers(board: &Board, square: Square, colour: Colour) -> Square
 }
 
 // Whether some man of this colour reaches the square, be it paralysed or not.
+#[inline(always)]
 pub(crate) fn is_reached(board: &Board, square: Square, colour: Colour) -> bool
     ensures { result ≡ is_reached board.now.men square colour }
 {

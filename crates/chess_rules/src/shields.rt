@@ -173,6 +173,7 @@ fn shut_squares(
 
 // The square of the colour's king, and those that shut a line between it and an enemy rider; `straight` and
 // `diagonal` are those to which a rook and a bishop get from there.
+#[inline(always)]
 fn shields_of(
     board: &Board,
     colour: Colour,

@@ -4,10 +4,9 @@ use Rattle.std.proofs.Math.Seq.{drop-nil}
 use Rattle.pop_input.specs.declared.stipulation.Goal.{Goal}
 use Rattle.pop_solve.proofs.Boards.{behind_start}
 use Rattle.pop_solve.proofs.Outcomes.{CameFrom-deep, walking-close, walking-learned, walking-moved}
-use Rattle.pop_solve.proofs.Tests.{learned, moved}
+use Rattle.pop_solve.specs.ties.Frames.{learned, moved, opened_frame}
 use Rattle.pop_solve.proofs.Walking.{popped}
 use Rattle.pop_solve.proofs.ToCome.{map-path, steps-start, work_behind-next}
-use Rattle.pop_solve.specs.ties.Frames.{opened_frame}
 use Rattle.pop_parts.specs.ties.Beginnings.{FindsNumbered, IsSeeking, Seeks, are_idle, beginnings_by, beginnings_to_come}
 
 deeper : (L : List Move) (m : Move) (xs ys rest : List (List Move))

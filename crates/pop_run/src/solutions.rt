@@ -78,10 +78,14 @@ fn print_solutions<R: Rules, W: Sink>(sink: &mut W, problem: &Problem) -> Result
     ensures counted { W.failures sink.new ≡ count_after result (W.failures sink.old) }
 {
     let mut search = start_search::<R>(problem);
-    while let Some(event) = search.next() {
-        print_event(sink, &event)?;
+    // The event is lent where it stands: taken out of its `Some` it would be copied.
+    loop {
+        let next = search.next();
+        let Some(event) = &next else {
+            return Ok(());
+        };
+        print_event(sink, event)?;
     }
-    Ok(())
 }
 
 // A search with a frame for each half-move of the longest stipulation, and one behind the last.

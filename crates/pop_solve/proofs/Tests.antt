@@ -4,15 +4,7 @@ use Rattle.pop_solve.proofs.Orders.{same_start}
 use Rattle.pop_solve.specs.declared.frame.Stretch.{Stretch}
 use Rattle.pop_solve.proofs.SmallestTrees.{trees-next, trees-end, trees-start}
 
--- the frame with its place moved on
-abbrev pub moved : Frame → ℕ → Frame
-moved f place = record f { place = place }
-
--- the frame once something is known of its position's moves
-abbrev pub learned : Frame → Option LegalPlace → Frame
-learned f known = record f { known = known }
-
--- the same in a test
+-- the frame of a test, moved on
 abbrev pub passed : Frame → ℕ → Stretch → Option LegalPlace → Frame
 passed f place s known = record f { place = place; stretch = s; known = known }
 

@@ -1,6 +1,6 @@
 -- The outcomes of a step for frames listed from the bottom up, as the code holds them, and what its calls hand on.
-use Rattle.pop_solve.proofs.Words.{all_triples, AreKnown, Bool, CameFrom, CameFromAt, Counts, Frame, GoesTo, IfSome, IsNextMate, IsNextOf, IsPlaceIn, IsRoomy, IsWalking, LegalPlace, List, MatchOption, Mate, Option, Plan, Position, RuleSet, Steps, [], ap, append-nil, arith, chess, eqb, false, is_followed, is_given, walk_length, inl, inr, is_legal, length, length-reverse, mates_behind, nat_tests, moves_behind, moves_behind-end, position, refl, reverse, reverse-append, rules, seeks_last, suc, true, undo_of, has_variations, ℕ, ◌++◌, ◌+◌, ◌-◌, ◌<◌, ◌∙◌, ◌∷◌, ◌≡◌, ◌≤◌, ◌⊎◌, Move, position_after, opened_frame, nil_from_length}
-use Rattle.pop_solve.proofs.Tests.{learned, moved}
+use Rattle.pop_solve.proofs.Words.{all_triples, AreKnown, Bool, CameFrom, CameFromAt, Counts, Frame, GoesTo, IfSome, IsNextMate, IsNextOf, IsPlaceIn, IsRoomy, IsWalking, LegalPlace, List, MatchOption, Mate, Option, Plan, Position, RuleSet, Steps, [], ap, append-nil, arith, chess, eqb, false, is_followed, is_given, walk_length, inl, inr, is_legal, length, length-append, length-reverse, mates_behind, nat_tests, moves_behind, moves_behind-end, position, refl, reverse, reverse-append, rules, seeks_last, suc, sym, true, undo_of, has_variations, ℕ, ◌++◌, ◌+◌, ◌-◌, ◌<◌, ◌∙◌, ◌∷◌, ◌≡◌, ◌≤◌, ◌⊎◌, Move, position_after, opened_frame, nil_from_length}
+use Rattle.pop_solve.specs.ties.Frames.{learned, moved}
 use Rattle.pop_solve.proofs.GoingOn.{cases}
 use Rattle.pop_solve.proofs.Outcomes.{CameFrom-deep, walking-close, walking-learned, steps-learned, skips-close, steps-pass, steps-enter, walking-moved}
 use Rattle.pop_solve.proofs.ToCome.{steps-skip}
@@ -12,6 +12,17 @@ reverse-push xs x = reverse-append xs (x ∷ [])
 -- the top frame is the last one of the code's list
 pub popped : (old new : List Frame) (x : Frame) → old ≡ new ++ x ∷ [] → reverse old ≡ x ∷ reverse new
 popped old new x e = ap reverse e ∙ reverse-push new x
+
+-- one frame is the last
+pub same_top : (xs ys : List Frame) (x y : Frame) → xs ++ x ∷ [] ≡ ys ++ y ∷ [] → x ≡ y
+same_top xs ys x y e = let turned : x ∷ reverse xs ≡ y ∷ reverse ys = sym (reverse-push xs x) ∙ ap reverse e ∙ reverse-push ys y in grind (arith, turned)
+
+-- the depth of the frames below it
+pub below_top : (old new : List Frame) (x : Frame) → old ≡ new ++ x ∷ [] → length old ≡ length new + 1
+below_top old new x e = rw e (length-append new (x ∷ []))
+
+pub depth_below : (old new : List Frame) (x : Frame) (n : ℕ) → old ≡ new ++ x ∷ [] → n ≡ length old → n - 1 ≡ length new
+depth_below old new x n e all = omega (arith, all, below_top old new x e)
 
 -- the frames of the first position's moves
 pub at_root : (n depth : ℕ) → n ≡ depth + 1 → eqb n 1 ≡ eqb depth 0
@@ -38,6 +49,9 @@ module _ (rule : RuleSet) (plan : Plan) (h : ℕ) (top : Frame) (old new : List 
   pub room_left : (p board : Position) → IsWalking rule h p (reverse old) board → top.left + length new ≤ h
   unfolding IsRoomy
   room_left p board r = omega (arith, (walking_top p board board r refl).roomy.0, depth_is)
+
+  pub room_with_it : (p board : Position) → IsWalking rule h p (reverse old) board → top.left + length old ≤ h + 1
+  room_with_it p board r = omega (arith, room_left p board r, below_top old new top taken)
 
   -- what it knows is of the board's position
   pub top_known : (p board : Position) → IsWalking rule h p (reverse old) board → IfSome top.known (IsPlaceIn rule board)

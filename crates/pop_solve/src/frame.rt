@@ -78,18 +78,20 @@ impl<R: Rules> Order<R> {
 /// of the same fields.
 #[derive(Copy)]
 pub struct Frame<R: Rules> {
-    /// The moves up to here have been tried.
-    pub place: Moves<R>,
-    /// The move that led here, and what it destroyed.
-    pub by: Move,
+    // The largest fields first, as they stand in memory as they are written here.
+    /// What the move that led here destroyed.
     pub undo: Undo,
     /// The half-moves that are tried from here.
     pub left: usize,
+    /// What is known of the legal moves of the position, once they have been looked for.
+    pub known: Option<LegalMoves<R>>,
+    /// The move that led here.
+    pub by: Move,
+    /// The moves up to here have been tried.
+    pub place: Moves<R>,
     /// In a test: the order of the moves, and the stretch on which `place` stands.
     pub order: Order<R>,
     pub stretch: Stretch,
-    /// What is known of the legal moves of the position, once they have been looked for.
-    pub known: Option<LegalMoves<R>>,
 }
 
 impl<R: Rules> Model for Frame<R> {

@@ -4,11 +4,11 @@ ghost use Rattle.arrayvec.specs.ArrayVec.{array_vec_len};
 ghost use Rattle.chess_core.specs.Position.{Position};
 ghost use Rattle.pop_input.specs.Posed.{IsSound};
 ghost use Rattle.pop_input.specs.Stipulations.{half_moves, is_help};
-ghost use Rattle.pop_solve.specs.Events.{first_phase, play_start, phase_half_moves as half_moves_of_phase, phase_start, phase_half as half_of_phase, event_of, is_barred, path_event, is_set, opening};
+ghost use Rattle.pop_solve.specs.Events.{first_phase, moves_shown, play_start, phase_half_moves as half_moves_of_phase, phase_start, phase_half as half_of_phase, event_of, is_barred, path_event, is_set, opening};
 ghost use Rattle.pop_solve.specs.ties.Walk.{IsEnded, IsWalking, Opens, Tries, path};
 ghost use Rattle.pop_solve.specs.ties.Plans.{is_help_play, plan_of, walk_of};
 ghost use Rattle.pop_solve.specs.ties.Phases.{left_of, IsStanding, Walks, Gives, OpensOn};
-ghost use Rattle.pop_events.specs.declared.event.Event.TheVariants.{Total};
+ghost use Rattle.pop_events.specs.declared.event.Event.TheVariants.{Line, Total};
 ghost use Rattle.pop_events.specs.declared.event.Phase.TheVariants.{Play};
 ghost use Rattle.pop_solve.specs.declared.phases.Stage.TheVariants.{Before, Within, Behind};
 
@@ -25,6 +25,7 @@ use chess_rules::moves::Moves;
 use chess_rules::rules::Rules;
 use pop_events::event::{Event, Phase};
 use pop_input::problem::Problem;
+use pop_input::stipulation::Goal;
 
 /// How a phase is walked: what is walked of the problem, and with how many half-moves.
 #[derive(Clone, Copy)]
@@ -146,6 +147,24 @@ fn close_all<R: Rules, const N: usize>(board: &mut Board, frames: &mut ArrayVec<
     }
 }
 
+/// The solution of help play that leads to the top frame; its first move is the half-move `half`. Apart from `event_at`,
+/// whose other events would else pay for the room of its moves.
+fn line_at<R: Rules>(goal: Goal, half: u32, frames: &[Frame<R>], board: &mut Board) -> Event
+    requires shallow { length frames.now ≤ 33 }
+    requires walking { (h : ℕ) × (p : Position)
+        × IsWalking R.rule h p (reverse frames.now) board.old }
+    ensures unchanged { board.new ≡ board.old }
+    ensures line { (h : ℕ) (p : Position) → IsWalking R.rule h p (reverse frames.now) board.old
+        → result ≡ Line half (record {
+            items = moves_shown goal R.rule p (path (reverse frames.now));
+        }) }
+{
+    Event::Line {
+        half,
+        moves: line::<R>(goal, frames, board),
+    }
+}
+
 /// The event of the path to the top frame, where the board stands.
 pub fn event_at<R: Rules>(
     problem: &Problem,
@@ -165,10 +184,7 @@ pub fn event_at<R: Rules>(
 {
     let half = phase_half(problem, walk.phase);
     if problem.stipulation().form.is_help() {
-        return Event::Line {
-            half,
-            moves: line::<R>(walk.plan.goal, frames, board),
-        };
+        return line_at::<R>(walk.plan.goal, half, frames, board);
     }
     let depth = (frames.len() - 2) as u32;
     Event::Node {
@@ -256,40 +272,6 @@ pub fn end<R: Rules, const N: usize>(
     }
 }
 
-/// Goes on within a phase, of which `count` solutions have begun. Answers the stage behind the event and the event.
-#[tactic(auto, unfolding(crate::specs::ties::Phases::IsStanding))]
-fn go_on<R: Rules, const N: usize>(
-    problem: &Problem,
-    walk: Walk,
-    count: u32,
-    board: &mut Board,
-    frames: &mut ArrayVec<Frame<R>, N>,
-    history: &mut History<R>,
-) -> (Stage, Event)
-    requires sound { IsSound problem.now }
-    requires room { half_moves problem.now.stipulation < N }
-    requires standing { IsStanding R.rule problem.now (Within walk count)
-        (reverse frames.old.items) board.old }
-    ensures standing { IsStanding R.rule problem.now result.0 (reverse frames.new.items)
-        board.new }
-    ensures gives { Gives R.rule problem.now
-        (left_of R.rule problem.now (Within walk count) (reverse frames.old.items))
-        (left_of R.rule problem.now result.0 (reverse frames.new.items))
-        result.1 board.new (array_vec_len frames.new) }
-    ensures opens { OpensOn R.rule problem.now (Within walk count) result.0
-        (reverse frames.old.items)
-        (reverse frames.new.items) history.old.opened history.new.opened
-        (left_of R.rule problem.now (Within walk count) (reverse frames.old.items)) }
-{
-    if walk_on::<R, N>(problem, walk, count, board, frames, history) {
-        let count = count_with(problem, frames.len(), count);
-        let event = event_at::<R>(problem, walk, frames.as_slice(), board);
-        return (Stage::Within { walk, count }, event);
-    }
-    let stage = end::<R, N>(problem, walk.phase, board, frames);
-    (stage, total(problem, count))
-}
-
 /// How many solutions of a phase may still begin, once `count` have begun.
 pub fn still_to_begin(problem: &Problem, count: u32) -> u32
     requires { count ≤ problem.now.max_solutions }
@@ -362,9 +344,13 @@ pub(crate) fn advance<R: Rules, const N: usize>(
             Some(Event::Impossible)
         }
         Stage::Within { walk, count } => {
-            let (next, event) = go_on::<R, N>(problem, walk, count, board, frames, history);
-            *stage = next;
-            Some(event)
+            if walk_on::<R, N>(problem, walk, count, board, frames, history) {
+                let count = count_with(problem, frames.len(), count);
+                *stage = Stage::Within { walk, count };
+                return Some(event_at::<R>(problem, walk, frames.as_slice(), board));
+            }
+            *stage = end::<R, N>(problem, walk.phase, board, frames);
+            Some(total(problem, count))
         }
         Stage::Behind => None,
     }

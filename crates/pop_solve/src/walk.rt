@@ -1,7 +1,7 @@
 //! The walk over the moves of a phase, on frames.
 ghost use Rattle.chess_rules.specs.Play.{position_after};
 ghost use Rattle.chess_rules.specs.Legal.{moves as legal_moves};
-ghost use Rattle.std.specs.Prelude.{◌≡◌, ◌↔◌, ◌+◌, ◌<◌, ◌≤◌, ◌/◌, [], ◌∷◌, ◌++◌, length, reverse, IsTrue, true, false, IfSome, MatchOption, ◌⊎◌, not, ◌&&◌, ◌||◌, ◌==◌, ◌-◌, ◌^◌, min};
+ghost use Rattle.std.specs.Prelude.{◌≡◌, ◌↔◌, ◌+◌, ◌<◌, ◌≤◌, ◌/◌, [], ◌∷◌, ◌++◌, length, reverse, take, List, IsTrue, true, false, IfSome, MatchOption, ◌⊎◌, not, ◌&&◌, ◌||◌, ◌==◌, ◌-◌, ◌^◌, min};
 ghost use Rattle.chess_core.specs.Position.{Position};
 ghost use Rattle.chess_core.specs.WellFormed.{IsWellFormed};
 ghost use Rattle.chess_rules.specs.Legal.{is_legal, is_mate};
@@ -12,7 +12,7 @@ ghost use Rattle.pop_solve.specs.declared.aim.Battle.{Battle};
 ghost use Rattle.pop_solve.specs.declared.aim.Play.TheVariants.{Help as HelpPlay, Battle as BattlePlay};
 ghost use Rattle.pop_solve.specs.ties.Calls.{Counts, Evaluates, Restores};
 ghost use Rattle.pop_solve.specs.ties.Plans.{has_variations};
-ghost use Rattle.pop_solve.specs.ties.Frames.{CameFrom, CameFromAt, opened_frame};
+ghost use Rattle.pop_solve.specs.ties.Frames.{CameFrom, CameFromAt, Frame as Level, learned, moved, opened_frame};
 ghost use Rattle.pop_solve.specs.Chess.{chess};
 ghost use Rattle.chess_mates.specs.ties.Threats.{AreThreatsOf};
 ghost use Rattle.pop_input.specs.declared.stipulation.Goal.TheVariants.{Mate};
@@ -376,6 +376,32 @@ pub fn step_back<R: Rules>(depth: usize, top: Frame<R>, board: &mut Board)
     }
 }
 
+/// The top frame.
+fn top_of<R: Rules, const N: usize>(frames: &ArrayVec<Frame<R>, N>) -> &Frame<R>
+    requires { 0 < array_vec_len frames.now }
+    ensures { frames.now.items
+        ≡ take (array_vec_len frames.now - 1) frames.now.items ++ result.now ∷ [] }
+{
+    &frames.as_slice()[frames.len() - 1]
+}
+
+/// Moves the top frame on, where it stands: taken off and put back it would be copied twice.
+fn move_on<R: Rules, const N: usize>(
+    frames: &mut ArrayVec<Frame<R>, N>,
+    place: Moves<R>,
+    known: Option<LegalMoves<R>>,
+)
+    requires { 0 < array_vec_len frames.old }
+    ensures top { (below : List Level) (top : Level) → frames.old.items ≡ below ++ top ∷ []
+        → frames.new.items ≡ below ++ moved (learned top known) place ∷ [] }
+    ensures len { array_vec_len frames.new ≡ array_vec_len frames.old }
+{
+    let last = frames.len() - 1;
+    let top = &mut frames.as_mut_slice()[last];
+    top.place = place;
+    top.known = known;
+}
+
 /// One step of the walk: the next move of the top frame is played, or the frame is closed. Answers whether the path
 /// to the new top frame is given.
 #[tactic(auto, using(crate::proofs::Walking::top_frame))]
@@ -396,20 +422,17 @@ pub(crate) fn step<R: Rules, const N: usize>(
         → Steps R.rule plan half_moves p (reverse frames.old.items) (reverse frames.new.items)
         board.new history.old.opened history.new.opened result }
 {
-    let Some(top) = frames.pop() else {
-        return false;
-    };
-    let depth = frames.len();
+    let depth = frames.len() - 1;
+    let top = top_of(frames);
+    let left = top.left;
     let mut place = top.place;
     let mut known = top.known;
-    let Some(by) = next_of::<R>(plan, top.left, &mut known, &mut place, board, history) else {
-        step_back::<R>(depth, top, board);
+    let Some(by) = next_of::<R>(plan, left, &mut known, &mut place, board, history) else {
+        if let Some(top) = frames.pop() {
+            step_back::<R>(depth, top, board);
+        }
         return false;
     };
-    frames.push(Frame {
-        place,
-        known,
-        ..top
-    });
-    enter::<R, N>(plan, top.left - 1, by, board, frames, history)
+    move_on(frames, place, known);
+    enter::<R, N>(plan, left - 1, by, board, frames, history)
 }

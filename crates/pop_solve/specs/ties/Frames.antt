@@ -57,6 +57,14 @@ no_frame = record {
   known = None;
 }
 
+-- the frame with its place moved on
+abbrev pub moved : Frame → ℕ → Frame
+moved f place = record f { place = place }
+
+-- the frame once something is known of its position's moves
+abbrev pub learned : Frame → Option LegalPlace → Frame
+learned f known = record f { known = known }
+
 -- Frames are listed from the top down. The position on the top frame, the lowest being at p
 unfoldable pub position : RuleSet → Position → List Frame → Position
 position rule p [] = p

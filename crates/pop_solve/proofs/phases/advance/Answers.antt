@@ -1,4 +1,7 @@
-use Rattle.pop_solve.proofs.Words.{IsNarrow, IsStanding, left_of, rest_fewest, rest_open, rules}
+use Rattle.pop_solve.proofs.Words.{IsNarrow, IsStanding, left_of, length-reverse, nat_tests, refl, rest_fewest, rest_open, rules}
+use Rattle.pop_solve.proofs.Paths.{path_end-path, path-length}
+use Rattle.pop_solve.proofs.Events as events
+use Rattle.pop_solve.proofs.Opened as opened
 use Rattle.pop_solve.proofs.phases.advance.Goals as goal
 
 pub returns-in-Barred-clause-opens : goal.returns-in-Barred-clause-opens
@@ -8,3 +11,48 @@ returns-in-Barred-clause-opens g c = search rules
 pub returns-in-Barred-clause-gives : goal.returns-in-Barred-clause-gives
 unfolding IsStanding left_of
 returns-in-Barred-clause-gives g c = search rules
+
+pub count_with-count-requires-clause-begins : goal.count_with-count-requires-clause-begins
+unfolding IsStanding
+count_with-count-requires-clause-begins g c =
+    let is = (rw c.in-Within.is at c.requires.standing).2 in
+    let w = events.walks-are c.args.problem.now c.in-Within.walk is _ _ _ _ _ _ _ c.if-walk_on.ensures.walks in
+    search (rules, events.room-given, w)
+
+pub event_at-requires : goal.event_at-requires
+unfolding IsStanding
+event_at-requires g c =
+    let is = (rw c.in-Within.is at c.requires.standing).2 in
+    let w = events.walks-are c.args.problem.now c.in-Within.walk is _ _ _ _ _ _ _ c.if-walk_on.ensures.walks in
+    search (rules, events.plan-is, events.deep-given, events.shallow-given, w)
+
+pub returns-then-walk_on : goal.returns-then-walk_on
+unfolding IsStanding left_of
+returns-then-walk_on g c =
+    let stands = rw c.in-Within.is at c.requires.standing in
+    let walk = c.in-Within.walk in
+    let w = events.walks-are c.args.problem.now walk stands.2 _ _ _ _ _ _ _ c.if-walk_on.ensures.walks in
+    let plan = events.plan-is c.args.problem.now walk stands.2 in
+    let half_moves = events.half_moves-are c.args.problem.now walk stands.2 in
+    record {
+      standing = search (rules, events.room-given, w);
+      gives = rw c.in-Within.is (search (rules, events.deep-given, path_end-path, path-length, length-reverse, nat_tests, w));
+      opens = rw c.in-Within.is (opened.opens-given g.R.Rules.rule c.args.problem.now walk _ _ _ _ _ (rw plan at c.walk_on.ensures.opens)
+          (rw (plan, half_moves) at c.walk_on.ensures.tries) _ _ _ (search rules));
+    }
+
+pub returns-else-walk_on : goal.returns-else-walk_on
+unfolding IsStanding left_of
+returns-else-walk_on g c =
+    let stands = rw c.in-Within.is at c.requires.standing in
+    let walk = c.in-Within.walk in
+    let w = events.walks-are c.args.problem.now walk stands.2 _ _ _ _ _ _ _ c.if-walk_on.ensures.walks in
+    let plan = events.plan-is c.args.problem.now walk stands.2 in
+    let half_moves = events.half_moves-are c.args.problem.now walk stands.2 in
+    record {
+      standing = search rules;
+      gives = rw c.in-Within.is (search (rules, w));
+      opens = rw (c.in-Within.is, events.left-ended g.R.Rules.rule c.args.problem.now walk _ _ _ _ w) (opened.opens-ended g.R.Rules.rule
+          c.args.problem.now walk _ _ _ _ _ (rw plan at c.walk_on.ensures.opens) (rw (plan, half_moves) at c.walk_on.ensures.tries) _ _ _ c.end.ensures.stage
+          stands.1 (w.over refl));
+    }
