@@ -1,5 +1,5 @@
 -- What was read of an input, item by item.
-use Rattle.pop_parts.proofs.Words.{Entry, FaultyEntry, IfSome, Input, IsSeen, Item, List, NextItem, None, Open, Option, Reads, ReadsItems, ReadsUpTo, Some, SoundEntry, Standing, Stopped, UsesEntry, UsesItem, [], all_to_come, ap, append-nil, arith, closings, entries_in, entries_left, entry_in, failures_after, false, first_standing, grew_broken, grew_more, grew_same, has_grown, input_met, length, limit, reads_then, refl, still_more, stopped_reads, stopped_reads_words, sym, taken_of, true, ℕ, ◌++◌, ◌+◌, ◌∙◌, ◌∷◌, ◌≡◌, ◌≤◌}
+use Rattle.pop_parts.proofs.Words.{Entry, FaultyEntry, IfSome, Input, IsSeen, Item, List, NextItem, None, Open, Option, Reads, ReadsItems, ReadsUpTo, Some, SoundEntry, Standing, Stopped, UsesEntry, UsesItem, [], all_to_come, ap, append-nil, arith, closings, entries_in, entries_left, entry_in, failures_after, false, first_standing, grew_broken, grew_more, grew_same, has_grown, input_met, length, reads_then, refl, still_more, stopped_reads, stopped_reads_words, sym, taken_of, true, ℕ, ◌++◌, ◌+◌, ◌∙◌, ◌∷◌, ◌≡◌, ◌≤◌}
 use Rattle.pop_input.proofs.Taking.{some_rest}
 use Rattle.pop_input.specs.declared.item.Item.TheVariants.{Sound, Faulty, End as NoItem}
 use Rattle.pop_input.specs.declared.reader.Next.TheVariants.{Nothing}
