@@ -78,14 +78,11 @@ fn print_solutions<R: Rules, W: Sink>(sink: &mut W, problem: &Problem) -> Result
     ensures counted { W.failures sink.new ≡ count_after result (W.failures sink.old) }
 {
     let mut search = start_search::<R>(problem);
-    // The event is lent where it stands: taken out of its `Some` it would be copied.
-    loop {
-        let next = search.next();
-        let Some(event) = &next else {
-            return Ok(());
-        };
+    // An event is lent from where it stands: taken out of its `Some` it would be copied.
+    while let Some(event) = &search.next() {
         print_event(sink, event)?;
     }
+    Ok(())
 }
 
 // A search with a frame for each half-move of the longest stipulation, and one behind the last.

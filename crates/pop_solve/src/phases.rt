@@ -156,7 +156,7 @@ fn line_at<R: Rules>(goal: Goal, half: u32, frames: &[Frame<R>], board: &mut Boa
     ensures unchanged { board.new ≡ board.old }
     ensures line { (h : ℕ) (p : Position) → IsWalking R.rule h p (reverse frames.now) board.old
         → result ≡ Line half (record {
-            items = moves_shown goal R.rule p (path (reverse frames.now));
+          items = moves_shown goal R.rule p (path (reverse frames.now));
         }) }
 {
     Event::Line {
@@ -306,7 +306,7 @@ pub fn count_with(problem: &Problem, depth: usize, count: u32) -> u32
     }
 }
 
-/// The next event of a search, whose stage moves on.
+/// Puts the next event of a search in its place, and moves the stage on. Answered it would be copied by each caller.
 #[tactic(auto, unfolding(crate::specs::ties::Phases::IsStanding, crate::specs::ties::Phases::left_of))]
 pub(crate) fn advance<R: Rules, const N: usize>(
     problem: &Problem,
@@ -314,14 +314,15 @@ pub(crate) fn advance<R: Rules, const N: usize>(
     board: &mut Board,
     frames: &mut ArrayVec<Frame<R>, N>,
     history: &mut History<R>,
-) -> Option<Event>
+    event: &mut Option<Event>,
+)
     requires sound { IsSound problem.now }
     requires room { half_moves problem.now.stipulation < N }
     requires standing { IsStanding R.rule problem.now stage.old (reverse frames.old.items)
         board.old }
     ensures standing { IsStanding R.rule problem.now stage.new (reverse frames.new.items)
         board.new }
-    ensures gives { MatchOption result
+    ensures gives { MatchOption event.new
         ((left_of R.rule problem.now stage.old (reverse frames.old.items) ≡ [])
         × (board.new ≡ play_start problem.now)
         × (left_of R.rule problem.now stage.new (reverse frames.new.items) ≡ []))
@@ -337,21 +338,22 @@ pub(crate) fn advance<R: Rules, const N: usize>(
     match *stage {
         Stage::Before { phase } => {
             *stage = begin::<R, N>(problem, phase, board, frames, history);
-            Some(Event::Phase(phase))
+            *event = Some(Event::Phase(phase));
         }
         Stage::Barred => {
             *stage = Stage::Before { phase: Phase::Play };
-            Some(Event::Impossible)
+            *event = Some(Event::Impossible);
         }
         Stage::Within { walk, count } => {
             if walk_on::<R, N>(problem, walk, count, board, frames, history) {
                 let count = count_with(problem, frames.len(), count);
                 *stage = Stage::Within { walk, count };
-                return Some(event_at::<R>(problem, walk, frames.as_slice(), board));
+                *event = Some(event_at::<R>(problem, walk, frames.as_slice(), board));
+                return;
             }
             *stage = end::<R, N>(problem, walk.phase, board, frames);
-            Some(total(problem, count))
+            *event = Some(total(problem, count));
         }
-        Stage::Behind => None,
+        Stage::Behind => *event = None,
     }
 }

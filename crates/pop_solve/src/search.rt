@@ -97,12 +97,14 @@ impl<R: Rules, const N: usize> Search<R, N> {
     {
         // For the proof: the count is below 2^64.
         let _count = self.history.opened;
-        let event = advance::<R, N>(
+        let mut event = None;
+        advance::<R, N>(
             &self.problem,
             &mut self.stage,
             &mut self.board,
             &mut self.frames,
             &mut self.history,
+            &mut event,
         );
         if event.is_some() {
             self.given = self.given.saturating_add(1);

@@ -18,10 +18,10 @@ loop-event-preserved g c =
     let i = c.loop-event.invariant in
     let rule = g.R.Rules.rule in
     let posed = c.args.problem.now in
-    let first = first_shown (event_of rule posed) c.loop-event.search.left c.next-next.new.self.left c.in-Some.event
-    (rw i.problem at (sym c.in-Some.is ∙ c.next-next.ensures.event)) c.next-next.ensures.left in
+    let first = first_shown (event_of rule posed) c.loop-event.search.left c.next.new.self.left c.in-Some.event
+    (rw i.problem at (sym c.in-Some.is ∙ c.next.ensures.event)) c.next.ensures.left in
     record {
-      problem = c.next-next.ensures.problem ∙ i.problem;
+      problem = c.next.ensures.problem ∙ i.problem;
       printing = printing_goes_on event_text (events_of posed) _ c.in-Some.event _ _ _ (rw first at i.printing) (c.in_ok-print_event.ensures.bytes);
       counted = c.in_ok-print_event.ensures.counted ∙ i.counted;
     }
@@ -31,7 +31,7 @@ returns-in_err-print_event-clause-bytes g c =
     let i = c.loop-event.invariant in
     let rule = g.R.Rules.rule in
     let posed = c.args.problem.now in
-    let first = first_shown (event_of rule posed) c.loop-event.search.left c.next-next.new.self.left c.in-Some.event
-    (rw i.problem at (sym c.in-Some.is ∙ c.next-next.ensures.event)) c.next-next.ensures.left in
+    let first = first_shown (event_of rule posed) c.loop-event.search.left c.next.new.self.left c.in-Some.event
+    (rw i.problem at (sym c.in-Some.is ∙ c.next.ensures.event)) c.next.ensures.left in
     let p = err_from_is_err_and c.from_residual.result c.from_residual.ensures.1 in
     rw p.1 (printing_breaks_off event_text (events_of posed) _ c.in-Some.event _ _ _ (rw first at i.printing) c.in_err-print_event.ensures.bytes)

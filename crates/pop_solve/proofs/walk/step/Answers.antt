@@ -31,5 +31,8 @@ returns g c = record {
 }
 
 pub enter-requires : goal.enter-requires
-enter-requires g c = search (rules, walking.room_with_it g.R.Rules.rule c.args.plan c.args.half_moves _ _ _ c.top_of-top.ensures _ _ c.requires.walking.1,
-    c.move_on.ensures.len)
+enter-requires g c = search (
+  rules,
+  walking.room_with_it g.R.Rules.rule c.args.plan c.args.half_moves _ _ _ c.top_of-top.ensures _ _ c.requires.walking.1,
+  c.move_on.ensures.len,
+)
