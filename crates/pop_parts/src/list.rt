@@ -4,7 +4,6 @@ ghost use Rattle.pop_text.specs.Bytes.{Writes, count_after, greatest_count};
 ghost use Rattle.pop_input.specs.Blocks.{Sound as SoundEntry};
 ghost use Rattle.pop_input.specs.Posed.{rule_of};
 ghost use Rattle.pop_solve.specs.Events.{is_barred as barred};
-ghost use Rattle.pop_print.specs.ties.Room.{room};
 ghost use Rattle.pop_run.specs.Run.{FailsOnce, ReadsUpTo, has_grown, input_met, taken_of};
 ghost use Rattle.pop_parts.specs.Parts.{count_of, count_text, parts_line, set_text, told_count};
 ghost use Rattle.pop_parts.specs.Runs.{Lists};
@@ -20,7 +19,7 @@ use pop_input::condition::Condition;
 use pop_input::item::Item;
 use pop_input::problem::Problem;
 use pop_input::reader::Reader;
-use pop_print::line::LineBuffer;
+use pop_print::line::{LONGEST, LineBuffer};
 use pop_run::status::Status;
 use pop_text::sink::{Sink, SinkFault};
 use pop_text::source::Source;
@@ -76,16 +75,16 @@ fn print_item<W: Sink>(
         (parts_line_if number depth (entry_in item.now)) result }
     ensures counted { W.failures sink.new ≡ count_after result (W.failures sink.old) }
 {
-    let mut line = LineBuffer::new();
+    let mut line = LineBuffer::<LONGEST>::new();
     add_item(&mut line, number, depth, item);
     line.put(sink)
 }
 
 // Adds the line of an item.
 #[tactic(auto, unfolding(crate::specs::Parts::parts_line))]
-fn add_item(line: &mut LineBuffer, number: u64, depth: usize, item: &Item)
+fn add_item<const N: usize>(line: &mut LineBuffer<N>, number: u64, depth: usize, item: &Item)
     requires depth { 1 ≤ depth }
-    requires room { length line.old + 100 ≤ room }
+    requires room { length line.old + 100 ≤ N }
     ensures { line.new ≡ line.old ++ parts_line_if number depth (entry_in item.now) }
 {
     match item {
@@ -100,9 +99,9 @@ fn add_item(line: &mut LineBuffer, number: u64, depth: usize, item: &Item)
 
 // Adds the line of a sound problem.
 #[tactic(auto, unfolding(crate::specs::Parts::parts_line))]
-fn add_sound(line: &mut LineBuffer, number: u64, depth: usize, problem: &Problem)
+fn add_sound<const N: usize>(line: &mut LineBuffer<N>, number: u64, depth: usize, problem: &Problem)
     requires depth { 1 ≤ depth }
-    requires room { length line.old + 100 ≤ room }
+    requires room { length line.old + 100 ≤ N }
     ensures { line.new ≡ line.old ++ parts_line number depth (SoundEntry problem.now) }
 {
     line.add_number(number);
@@ -114,9 +113,9 @@ fn add_sound(line: &mut LineBuffer, number: u64, depth: usize, problem: &Problem
 }
 
 // Adds what is said of set play, where the problem has it.
-fn add_set(line: &mut LineBuffer, depth: usize, problem: &Problem)
+fn add_set<const N: usize>(line: &mut LineBuffer<N>, depth: usize, problem: &Problem)
     requires depth { 1 ≤ depth }
-    requires room { length line.old + 26 ≤ room }
+    requires room { length line.old + 26 ≤ N }
     ensures text { line.new ≡ line.old ++ set_text problem.now depth }
     ensures short { length line.new ≤ length line.old + 26 }
 {
@@ -128,8 +127,8 @@ fn add_set(line: &mut LineBuffer, depth: usize, problem: &Problem)
 }
 
 // Adds what is said of a phase that has so many parts.
-fn add_count(line: &mut LineBuffer, count: Option<u64>)
-    requires { length line.old + 20 ≤ room }
+fn add_count<const N: usize>(line: &mut LineBuffer<N>, count: Option<u64>)
+    requires { length line.old + 20 ≤ N }
     ensures text { line.new ≡ line.old ++ count_text count }
     ensures short { length line.new ≤ length line.old + 20 }
 {

@@ -3,4 +3,3 @@ pub mod Heads
 pub mod Moves
 pub mod Events
 pub mod Faults
-pub mod ties

@@ -1,15 +1,17 @@
 //! Events as they are written.
 ghost use Rattle.std.specs.Prelude.{◌≡◌, ◌<◌, ◌≤◌, ◌+◌, ◌++◌, [], ◌∷◌, ◌^◌, length, replicate, codes, true};
 ghost use Rattle.pop_text.specs.Bytes.{Writes, count_after, greatest_count};
-ghost use Rattle.pop_print.specs.ties.Room.{room};
 ghost use Rattle.pop_print.specs.Moves.{move_text};
 ghost use Rattle.pop_print.specs.Notation.{blank};
 ghost use Rattle.pop_print.specs.Events.{event_text, lead_text, line_text, moves_text, node_text, prefix_text, stopped_text as text_of_stopped, total_text};
 
-use crate::line::LineBuffer;
+use crate::line::{LONGEST, LineBuffer};
 use pop_events::event::{Event, Phase};
 use pop_events::shown::Shown;
 use pop_text::sink::{Sink, SinkFault, put_all};
+
+// Room for a node of battle play, with the blanks before it, or for a total (own).
+const NODE: usize = 128;
 
 /// Writes an event: one line, in one write.
 #[tactic(auto, unfolding(crate::specs::Events::event_text))]
@@ -35,7 +37,7 @@ fn print_line<W: Sink>(sink: &mut W, half: u32, moves: &[Shown]) -> Result<(), S
     ensures bytes { Writes (W.taken sink.old) (W.taken sink.new) (line_text half moves.now) result }
     ensures counted { W.failures sink.new ≡ count_after result (W.failures sink.old) }
 {
-    let mut line = LineBuffer::new();
+    let mut line = LineBuffer::<LONGEST>::new();
     line.add_line(half, moves);
     line.put(sink)
 }
@@ -50,7 +52,7 @@ fn print_node<W: Sink>(sink: &mut W, depth: u32, half: u32, shown: &Shown) -> Re
     let blanks = 2 * u64::from(depth);
     let apart = blanks.saturating_sub(64);
     put_blanks(sink, apart)?;
-    let mut line = LineBuffer::new();
+    let mut line = LineBuffer::<NODE>::new();
     line.add_node(blanks - apart, half, shown);
     line.put(sink)
 }
@@ -71,7 +73,7 @@ fn print_total<W: Sink>(sink: &mut W, count: u32, stopped: bool) -> Result<(), S
     ensures bytes { Writes (W.taken sink.old) (W.taken sink.new) (total_text count stopped) result }
     ensures counted { W.failures sink.new ≡ count_after result (W.failures sink.old) }
 {
-    let mut line = LineBuffer::new();
+    let mut line = LineBuffer::<NODE>::new();
     line.add_total(count, stopped);
     line.put(sink)
 }
@@ -83,10 +85,10 @@ fn stopped_text(stopped: bool) -> &'static [u8]
     if stopped { b", stopped\n" } else { b"\n" }
 }
 
-impl LineBuffer {
+impl<const N: usize> LineBuffer<N> {
     // Adds the number of a half-move.
     fn add_prefix(&mut self, half: u64)
-        requires room { length self.old + 23 ≤ room }
+        requires room { length self.old + 23 ≤ N }
         requires half { half < 2 ^ 33 }
         ensures text { self.new ≡ self.old ++ prefix_text half }
         ensures short { length self.new ≤ length self.old + 23 }
@@ -102,7 +104,7 @@ impl LineBuffer {
 
     // Adds what stands before a move of a line.
     fn add_lead(&mut self, first: bool, half: u64)
-        requires room { length self.old + 24 ≤ room }
+        requires room { length self.old + 24 ≤ N }
         requires half { half < 2 ^ 33 }
         ensures text { self.new ≡ self.old ++ lead_text first half }
         ensures short { length self.new ≤ length self.old + 24 }
@@ -119,7 +121,7 @@ impl LineBuffer {
 
     // Adds the moves of a line, the first of which is the half-move `half`.
     fn add_moves(&mut self, half: u64, moves: &[Shown])
-        requires room { length self.old + 1408 ≤ room }
+        requires room { length self.old + 1408 ≤ N }
         requires moves { length moves.now ≤ 32 }
         requires half { half < 2 ^ 32 }
         ensures text { self.new ≡ self.old ++ moves_text true half moves.now }
@@ -137,7 +139,7 @@ impl LineBuffer {
 
     // Adds a line of help play.
     fn add_line(&mut self, half: u32, moves: &[Shown])
-        requires room { length self.old + 1409 ≤ room }
+        requires room { length self.old + 1409 ≤ N }
         requires moves { length moves.now ≤ 32 }
         ensures { self.new ≡ self.old ++ line_text half moves.now }
     {
@@ -147,7 +149,7 @@ impl LineBuffer {
 
     // Adds a node of battle play behind so many blanks.
     fn add_node(&mut self, blanks: u64, half: u32, shown: &Shown)
-        requires { length self.old + blanks + 44 ≤ room }
+        requires { length self.old + blanks + 44 ≤ N }
         ensures { self.new ≡ self.old ++ (replicate blanks blank ++ prefix_text half
             ++ move_text shown.now ++ codes "\n") }
     {
@@ -158,7 +160,7 @@ impl LineBuffer {
     }
 
     fn add_total(&mut self, count: u32, stopped: bool)
-        requires { length self.old + 41 ≤ room }
+        requires { length self.old + 41 ≤ N }
         ensures { self.new ≡ self.old ++ total_text count stopped }
     {
         self.add(b"solutions: ");
@@ -167,7 +169,7 @@ impl LineBuffer {
     }
 
     fn add_blanks(&mut self, count: u64)
-        requires { length self.old + count ≤ room }
+        requires { length self.old + count ≤ N }
         ensures { self.new ≡ self.old ++ replicate count blank }
     {
         for _blank in 0..count {

@@ -1,10 +1,9 @@
 //! Faults as they are written.
 ghost use Rattle.std.specs.Prelude.{◌≡◌, ◌<◌, ◌≤◌, ◌+◌, ◌++◌, length};
 ghost use Rattle.pop_text.specs.Bytes.{Writes, count_after, greatest_count};
-ghost use Rattle.pop_print.specs.ties.Room.{room};
 ghost use Rattle.pop_print.specs.Faults.{fault_text, message_if as text_if, message_of as text_of_kind};
 
-use crate::line::LineBuffer;
+use crate::line::{LONGEST, LineBuffer};
 use pop_input::fault_kind::FaultKind;
 use pop_input::item::Fault;
 use pop_text::sink::{Sink, SinkFault};
@@ -17,7 +16,7 @@ pub fn print_fault<W: Sink>(sink: &mut W, number: u64, fault: &Fault) -> Result<
         result }
     ensures counted { W.failures sink.new ≡ count_after result (W.failures sink.old) }
 {
-    let mut lines = LineBuffer::new();
+    let mut lines = LineBuffer::<LONGEST>::new();
     lines.add_fault(number, fault);
     lines.put(sink)
 }
@@ -63,10 +62,10 @@ fn message_if(kind: Option<FaultKind>) -> &'static [u8]
     }
 }
 
-impl LineBuffer {
+impl<const N: usize> LineBuffer<N> {
     #[tactic(auto, unfolding(crate::specs::Faults::fault_text))]
     fn add_fault(&mut self, number: u64, fault: &Fault)
-        requires { length self.old + 140 ≤ room }
+        requires { length self.old + 140 ≤ N }
         ensures { self.new ≡ self.old ++ fault_text number fault.now }
     {
         self.add_item_line(number);

@@ -2,10 +2,9 @@
 ghost use Rattle.std.specs.Prelude.{◌≡◌, ◌<◌, ◌≤◌, ◌+◌, ◌++◌, ◌||◌, List, ℕ, [], length, codes, if◌then◌else◌};
 ghost use Rattle.chess_core.specs.Position.{man_on};
 ghost use Rattle.pop_text.specs.Bytes.{Writes, count_after, greatest_count};
-ghost use Rattle.pop_print.specs.ties.Room.{room};
 ghost use Rattle.pop_print.specs.Heads.{board_text, cell_of as letter_on, condition_text as text_of_condition, form_text as text_of_form, goal_text as text_of_goal, checked_text, half_text as text_of_half, head_text, item_line, labelled_text, names_text, rank_text, stipulation_text, task_line};
 
-use crate::line::LineBuffer;
+use crate::line::{LONGEST, LineBuffer};
 use crate::notation::letter_of;
 use chess_core::diagram::Diagram;
 use chess_core::man::{Colour, Man};
@@ -29,7 +28,7 @@ pub fn print_head<W: Sink>(
         (head_text number problem.now no_board) result }
     ensures counted { W.failures sink.new ≡ count_after result (W.failures sink.old) }
 {
-    let mut lines = LineBuffer::new();
+    let mut lines = LineBuffer::<LONGEST>::new();
     lines.add_head(number, problem, no_board);
     lines.put(sink)
 }
@@ -46,15 +45,15 @@ pub fn print_checked<W: Sink>(
         (checked_text number problem.now no_board) result }
     ensures counted { W.failures sink.new ≡ count_after result (W.failures sink.old) }
 {
-    let mut lines = LineBuffer::new();
+    let mut lines = LineBuffer::<LONGEST>::new();
     lines.add_checked(number, problem, no_board);
     lines.put(sink)
 }
 
-impl LineBuffer {
+impl<const N: usize> LineBuffer<N> {
     #[tactic(auto, unfolding(crate::specs::Heads::head_text))]
     fn add_head(&mut self, number: u64, problem: &Problem, no_board: bool)
-        requires { length self.old + 600 ≤ room }
+        requires { length self.old + 600 ≤ N }
         ensures text { self.new ≡ self.old ++ head_text number problem.now no_board }
         ensures short { length self.new ≤ length self.old + 600 }
     {
@@ -66,7 +65,7 @@ impl LineBuffer {
 
     // Adds the head, that the problem is sound, and an empty line.
     fn add_checked(&mut self, number: u64, problem: &Problem, no_board: bool)
-        requires { length self.old + 700 ≤ room }
+        requires { length self.old + 700 ≤ N }
         ensures { self.new ≡ self.old ++ checked_text number problem.now no_board }
     {
         self.add_head(number, problem, no_board);
@@ -77,7 +76,7 @@ impl LineBuffer {
     // Adds the first line of an item.
     #[tactic(auto, unfolding(crate::specs::Heads::item_line))]
     pub(crate) fn add_item_line(&mut self, number: u64)
-        requires { length self.old + 29 ≤ room }
+        requires { length self.old + 29 ≤ N }
         ensures text { self.new ≡ self.old ++ item_line number }
         ensures short { length self.new ≤ length self.old + 29 }
     {
@@ -89,7 +88,7 @@ impl LineBuffer {
     // Adds title and author.
     #[tactic(auto, unfolding(crate::specs::Heads::names_text))]
     fn add_names(&mut self, problem: &Problem)
-        requires { length self.old + 417 ≤ room }
+        requires { length self.old + 417 ≤ N }
         ensures text { self.new ≡ self.old ++ names_text problem.now }
         ensures short { length self.new ≤ length self.old + 417 }
     {
@@ -100,7 +99,7 @@ impl LineBuffer {
     // Adds the line of the stipulation.
     #[tactic(auto, unfolding(crate::specs::Heads::task_line))]
     fn add_task(&mut self, problem: &Problem)
-        requires { length self.old + 33 ≤ room }
+        requires { length self.old + 33 ≤ N }
         ensures text { self.new ≡ self.old ++ task_line problem.now }
         ensures short { length self.new ≤ length self.old + 33 }
     {
@@ -111,7 +110,7 @@ impl LineBuffer {
 
     // Adds a title or an author, where there is one.
     fn add_labelled(&mut self, label: &[u8], text: &Text)
-        requires { length self.old + length label.now + 201 ≤ room }
+        requires { length self.old + length label.now + 201 ≤ N }
         ensures text { self.new ≡ self.old ++ labelled_text label.now text.now }
         ensures short { length self.new ≤ length self.old + length label.now + 201 }
     {
@@ -124,7 +123,7 @@ impl LineBuffer {
     }
 
     fn add_board_unless(&mut self, left_out: bool, diagram: &Diagram)
-        requires { length self.old + 99 ≤ room }
+        requires { length self.old + 99 ≤ N }
         ensures text { self.new ≡ self.old
             ++ (if left_out then [] else board_text diagram.now.men) }
         ensures short { length self.new ≤ length self.old + 99 }
@@ -136,7 +135,7 @@ impl LineBuffer {
 
     // Adds the board, rank 8 first.
     fn add_board(&mut self, diagram: &Diagram)
-        requires { length self.old + 99 ≤ room }
+        requires { length self.old + 99 ≤ N }
         ensures text { self.new ≡ self.old ++ board_text diagram.now.men }
         ensures short { length self.new ≤ length self.old + 99 }
     {
@@ -153,7 +152,7 @@ impl LineBuffer {
 
     // Adds a rank, counted from 0.
     fn add_rank(&mut self, diagram: &Diagram, rank: u8)
-        requires room { length self.old + 11 ≤ room }
+        requires room { length self.old + 11 ≤ N }
         requires rank { rank < 8 }
         ensures text { self.new ≡ self.old ++ rank_text diagram.now.men rank }
         ensures short { length self.new ≤ length self.old + 11 }
@@ -163,7 +162,7 @@ impl LineBuffer {
 
     // Adds the stipulation's word.
     fn add_stipulation(&mut self, stipulation: Stipulation)
-        requires { length self.old + 24 ≤ room }
+        requires { length self.old + 24 ≤ N }
         ensures text { self.new ≡ self.old ++ stipulation_text stipulation }
         ensures short { length self.new ≤ length self.old + 24 }
     {

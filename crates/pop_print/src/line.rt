@@ -1,20 +1,22 @@
 //! Fixed room in which lines are put together.
 ghost use Rattle.std.specs.Prelude.{◌≡◌, ◌<◌, ◌≤◌, ◌+◌, ◌++◌, [], ◌∷◌, length, decimal};
 ghost use Rattle.pop_text.specs.Bytes.{Writes, count_after, greatest_count};
-ghost use Rattle.pop_print.specs.ties.Room.{room};
 
 use arrayvec::ArrayVec;
 use itoa::Buffer;
 use pop_text::sink::{Sink, SinkFault, put_all};
 use std::marker::Model;
 
-/// Text that is put together piece by piece and then written at once. Contracts see its bytes, at most 1,536.
+/// Room for the longest line or head of any problem (own).
+pub const LONGEST: usize = 1536;
+
+/// Text of at most N bytes that is put together piece by piece and then written at once. Contracts see the bytes.
 #[derive(Drop)]
-pub struct LineBuffer {
-    text: ArrayVec<u8, 1536>,
+pub struct LineBuffer<const N: usize> {
+    text: ArrayVec<u8, N>,
 }
 
-impl Model for LineBuffer {
+impl<const N: usize> Model for LineBuffer<N> {
     ghost use Rattle.std.specs.Prelude.{ℕ, List};
 
     ghost Value = { List ℕ };
@@ -22,9 +24,9 @@ impl Model for LineBuffer {
     ghost view = { λ b. b.text.items };
 }
 
-impl LineBuffer {
+impl<const N: usize> LineBuffer<N> {
     /// Room without text.
-    pub fn new() -> LineBuffer
+    pub fn new() -> LineBuffer<N>
         ensures { result ≡ [] }
     {
         LineBuffer {
@@ -34,7 +36,7 @@ impl LineBuffer {
 
     /// Adds bytes.
     pub fn add(&mut self, piece: &[u8])
-        requires { length self.old + length piece.now ≤ room }
+        requires { length self.old + length piece.now ≤ N }
         ensures { self.new ≡ self.old ++ piece.now }
     {
         // It always fits: the call asks for the room.
@@ -43,7 +45,7 @@ impl LineBuffer {
 
     /// Adds one byte.
     pub fn add_byte(&mut self, byte: u8)
-        requires { length self.old < room }
+        requires { length self.old < N }
         ensures { self.new ≡ self.old ++ byte ∷ [] }
     {
         self.text.push(byte);
@@ -51,7 +53,7 @@ impl LineBuffer {
 
     /// Adds a number in decimal digits, at most twenty.
     pub fn add_number(&mut self, number: u64)
-        requires { length self.old + 20 ≤ room }
+        requires { length self.old + 20 ≤ N }
         ensures text { self.new ≡ self.old ++ decimal number }
         ensures short { length self.new ≤ length self.old + 20 }
     {

@@ -1,6 +1,5 @@
 //! Moves as they are written.
 ghost use Rattle.std.specs.Prelude.{◌≡◌, ◌≤◌, ◌+◌, ◌++◌, [], ◌∷◌, length};
-ghost use Rattle.pop_print.specs.ties.Room.{room};
 ghost use Rattle.pop_print.specs.Moves.{castling_text as text_of_castling, en_passant_text as text_of_en_passant, mark_text as text_of_mark, move_text, promotion_text, rebirth_text, step_text as text_of_step, going_text};
 
 use crate::line::LineBuffer;
@@ -44,11 +43,11 @@ fn en_passant_text(ep: bool) -> &'static [u8]
     if ep { b" ep." } else { b"" }
 }
 
-impl LineBuffer {
+impl<const N: usize> LineBuffer<N> {
     /// Adds a move, in at most twenty bytes, as `Ra1*a8[+bBc8]`.
     #[tactic(auto, unfolding(crate::specs::Moves::move_text))]
     pub(crate) fn add_move(&mut self, shown: &Shown)
-        requires { length self.old + 20 ≤ room }
+        requires { length self.old + 20 ≤ N }
         ensures text { self.new ≡ self.old ++ move_text shown.now }
         ensures short { length self.new ≤ length self.old + 20 }
     {
@@ -61,7 +60,7 @@ impl LineBuffer {
 
     // Adds a move that isn't castling, without its mark.
     fn add_way(&mut self, shown: &Shown)
-        requires { length self.old + 19 ≤ room }
+        requires { length self.old + 19 ≤ N }
         ensures text { self.new ≡ self.old ++ going_text shown.now }
         ensures short { length self.new ≤ length self.old + 19 }
     {
@@ -75,7 +74,7 @@ impl LineBuffer {
     }
 
     fn add_promotion(&mut self, promo: Option<Kind>)
-        requires { length self.old + 2 ≤ room }
+        requires { length self.old + 2 ≤ N }
         ensures text { self.new ≡ self.old ++ promotion_text promo }
         ensures short { length self.new ≤ length self.old + 2 }
     {
@@ -86,7 +85,7 @@ impl LineBuffer {
     }
 
     fn add_rebirth(&mut self, rebirth: Option<(Man, Square)>)
-        requires { length self.old + 7 ≤ room }
+        requires { length self.old + 7 ≤ N }
         ensures text { self.new ≡ self.old ++ rebirth_text rebirth }
         ensures short { length self.new ≤ length self.old + 7 }
     {

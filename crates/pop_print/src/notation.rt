@@ -1,6 +1,5 @@
 //! Squares and men as they are written.
 ghost use Rattle.std.specs.Prelude.{◌≡◌, ◌<◌, ◌≤◌, ◌+◌, ◌++◌, [], ◌∷◌, length};
-ghost use Rattle.pop_print.specs.ties.Room.{room};
 ghost use Rattle.pop_print.specs.Notation.{colour_letter as letter_of_colour, letter_of as letter_of_kind, man_text, square_text};
 
 use crate::line::LineBuffer;
@@ -33,10 +32,10 @@ pub(crate) fn colour_letter(colour: Colour) -> u8
     }
 }
 
-impl LineBuffer {
+impl<const N: usize> LineBuffer<N> {
     /// Adds a square, as `a1`.
     pub(crate) fn add_square(&mut self, square: Square)
-        requires { length self.old + 2 ≤ room }
+        requires { length self.old + 2 ≤ N }
         ensures text { self.new ≡ self.old ++ square_text square }
         ensures short { length self.new ≤ length self.old + 2 }
     {
@@ -45,7 +44,7 @@ impl LineBuffer {
 
     /// Adds the letter of a man that moves: none for a pawn.
     pub(crate) fn add_man(&mut self, kind: Kind)
-        requires { length self.old + 1 ≤ room }
+        requires { length self.old + 1 ≤ N }
         ensures text { self.new ≡ self.old ++ man_text kind }
         ensures short { length self.new ≤ length self.old + 1 }
     {

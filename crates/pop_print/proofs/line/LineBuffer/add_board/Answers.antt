@@ -3,7 +3,7 @@ use Rattle.std.proofs.lemmas.List.{append-nil}
 use Rattle.pop_print.proofs.line.LineBuffer.add_board.Goals as goal
 
 pub returns-clause-text : goal.returns-clause-text
-returns-clause-text c = rw (
+returns-clause-text g c = rw (
   c.add.ensures,
   c.add_rank-8.ensures.text,
   c.add_rank-7.ensures.text,
