@@ -1,6 +1,8 @@
 -- The outcomes of a step for frames listed from the bottom up, as the code holds them, and what its calls hand on.
-use Rattle.pop_solve.proofs.Words.{all_triples, AreKnown, Bool, CameFrom, CameFromAt, Counts, Frame, GoesTo, IfSome, IsNextMate, IsNextOf, IsPlaceIn, IsRoomy, IsWalking, LegalPlace, List, MatchOption, Mate, Option, Plan, Position, RuleSet, Steps, [], ap, append-nil, arith, chess, eqb, false, is_followed, is_given, walk_length, inl, inr, is_legal, length, length-append, length-reverse, mates_behind, nat_tests, moves_behind, moves_behind-end, position, refl, reverse, reverse-append, rules, seeks_last, suc, sym, true, undo_of, has_variations, ℕ, ◌++◌, ◌+◌, ◌-◌, ◌<◌, ◌∙◌, ◌∷◌, ◌≡◌, ◌≤◌, ◌⊎◌, Move, position_after, opened_frame, nil_from_length}
+use Rattle.pop_solve.proofs.Words.{all_triples, AreKnown, Bool, CameFrom, CameFromAt, Counts, Frame, GoesTo, IfSome, IsNextMate, IsNextOf, IsPlaceIn, IsRoomy, IsWalking, LegalPlace, List, MatchOption, Mate, Option, Plan, Position, RuleSet, Steps, [], ap, append-nil, arith, chess, eqb, false, is_followed, is_given, walk_length, inl, inr, is_legal, length, length-append, length-reverse, get_or, take, mates_behind, nat_tests, moves_behind, moves_behind-end, position, refl, reverse, reverse-append, rules, seeks_last, suc, sym, true, undo_of, has_variations, ℕ, ◌++◌, ◌+◌, ◌-◌, ◌<◌, ◌∙◌, ◌∷◌, ◌≡◌, ◌≤◌, ◌⊎◌, Move, position_after, opened_frame, nil_from_length}
+use Rattle.std.proofs.lemmas.List.{same_from_push, take_all, take_more}
 use Rattle.pop_solve.specs.ties.Frames.{learned, moved}
+use Rattle.pop_solve.specs.ties.Walk.{MovesOn}
 use Rattle.pop_solve.proofs.GoingOn.{cases}
 use Rattle.pop_solve.proofs.Outcomes.{CameFrom-deep, walking-close, walking-learned, steps-learned, skips-close, steps-pass, steps-enter, walking-moved}
 use Rattle.pop_solve.proofs.ToCome.{steps-skip}
@@ -13,9 +15,13 @@ reverse-push xs x = reverse-append xs (x ∷ [])
 pub popped : (old new : List Frame) (x : Frame) → old ≡ new ++ x ∷ [] → reverse old ≡ x ∷ reverse new
 popped old new x e = ap reverse e ∙ reverse-push new x
 
--- one frame is the last
-pub same_top : (xs ys : List Frame) (x y : Frame) → xs ++ x ∷ [] ≡ ys ++ y ∷ [] → x ≡ y
-same_top xs ys x y e = let turned : x ∷ reverse xs ≡ y ∷ reverse ys = sym (reverse-push xs x) ∙ ap reverse e ∙ reverse-push ys y in grind (arith, turned)
+-- the last frame on all others
+pub last_on_top : (frames : List Frame) (x : Frame) → x ≡ get_or frames (length frames - 1) x → 0 < length frames
+    → frames ≡ take (length frames - 1) frames ++ x ∷ []
+last_on_top frames x at some =
+    let n = length frames - 1 in
+    let long : length frames ≡ n + 1 = omega (arith, some) in
+    sym (take_all (n + 1) frames (omega (arith, long))) ∙ take_more frames n x (omega (arith, some)) ∙ ap (λ y. take n frames ++ y ∷ []) (sym at)
 
 -- the depth of the frames below it
 pub below_top : (old new : List Frame) (x : Frame) → old ≡ new ++ x ∷ [] → length old ≡ length new + 1
@@ -129,6 +135,18 @@ pub walking_back : (rule : RuleSet) (h : ℕ) (p board : Position) (frames : Lis
     → board ≡ p
 unfolding position
 walking_back rule h p board frames r none = grind (arith, nil_from_length, length-reverse)
+
+-- the top frame that has moved on is taken off
+pub taken_off : (rule : RuleSet) (plan : Plan) (board : Position) (old mid new : List Frame) (before after : ℕ) (o : Option Move) (x : Frame)
+    → (on : MovesOn rule plan board old mid before after o) → mid ≡ new ++ x ∷ []
+    → (old ≡ new ++ on.top ∷ []) × (x ≡ moved (learned on.top on.known) on.place)
+taken_off rule plan board old mid new before after o x on e =
+    let same = same_from_push on.below new _ x (sym on.stands ∙ e) in (rw same.0 at on.stood, sym same.1)
+
+-- it has as many half-moves left as the last frame
+pub left_is : (rule : RuleSet) (plan : Plan) (board : Position) (old mid below : List Frame) (before after : ℕ) (o : Option Move)
+    → (on : MovesOn rule plan board old mid before after o) (x : Frame) → old ≡ below ++ x ∷ [] → x.left ≡ on.top.left
+left_is rule plan board old mid below before after o on x e = ap (λ f. f.left) (same_from_push below on.below x on.top (sym e ∙ on.stood)).1
 
 -- for `step`: what holds of the frame taken off
 pub ruleset top_frame = (top_known, room_left)

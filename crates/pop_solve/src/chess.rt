@@ -77,10 +77,15 @@ pub fn next_move<R: Rules>(
         × (is_legal R.rule board.old m ≡ true)) }
     ensures place { place.new ≡ place_of result }
 {
-    let mut moves = moves_at::<R>(*known, *place, board);
-    let found = next_behind::<R>(&mut moves, board);
+    if known.is_none() {
+        *known = Some(LegalMoves::<R>::of(board));
+    }
+    let Some(moves) = known else {
+        return None;
+    };
+    moves.go_to(*place);
+    let found = next_behind::<R>(moves, board);
     *place = moves.place();
-    *known = Some(moves);
     found
 }
 

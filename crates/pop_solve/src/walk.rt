@@ -18,7 +18,7 @@ ghost use Rattle.chess_mates.specs.ties.Threats.{AreThreatsOf};
 ghost use Rattle.pop_input.specs.declared.stipulation.Goal.TheVariants.{Mate};
 ghost use Rattle.pop_solve.specs.ties.Marks.{is_for_mate};
 ghost use Rattle.pop_solve.specs.ties.Values.{seeks, value};
-ghost use Rattle.pop_solve.specs.ties.Walk.{fewest_half_moves, least_length_from, shown_length, is_followed, is_given, walk_length, IsMatedAtLast, IsNextOf, IsNextUnsettled, IsWalking, seeks_last, Steps};
+ghost use Rattle.pop_solve.specs.ties.Walk.{MovesOn, fewest_half_moves, least_length_from, shown_length, is_followed, is_given, walk_length, IsMatedAtLast, IsNextOf, IsNextUnsettled, IsWalking, seeks_last, Steps};
 
 use crate::aim::{Aim, Battle, Play};
 use crate::chess::{is_for_mate, moves_at, next_mate, next_move, reaches_goal, retract};
@@ -296,11 +296,16 @@ fn next_risky<R: Rules>(
     ensures next { IsNextUnsettled R.rule board.old place.old place.new opened.old opened.new
         result }
 {
-    let mut moves = moves_at::<R>(*known, *place, board);
+    if known.is_none() {
+        *known = Some(LegalMoves::<R>::of(board));
+    }
+    let Some(moves) = known else {
+        return None;
+    };
+    moves.go_to(*place);
     let sifted = moves.next_sifted(threats, board);
     *opened = opened.saturating_add(u64::from(sifted.passed));
     *place = moves.place();
-    *known = Some(moves);
     sifted.found
 }
 
@@ -385,21 +390,32 @@ fn top_of<R: Rules, const N: usize>(frames: &ArrayVec<Frame<R>, N>) -> &Frame<R>
     &frames.as_slice()[frames.len() - 1]
 }
 
-/// Moves the top frame on, where it stands: taken off and put back it would be copied twice.
-fn move_on<R: Rules, const N: usize>(
+/// The next move of the top frame, which moves on to it where it stands: taken off and put back it would be copied twice.
+fn next_of_top<R: Rules, const N: usize>(
+    plan: Plan,
+    board: &mut Board,
     frames: &mut ArrayVec<Frame<R>, N>,
-    place: Moves<R>,
-    known: Option<LegalMoves<R>>,
-)
-    requires { 0 < array_vec_len frames.old }
-    ensures top { (below : List Level) (top : Level) → frames.old.items ≡ below ++ top ∷ []
-        → frames.new.items ≡ below ++ moved (learned top known) place ∷ [] }
+    history: &mut History<R>,
+) -> Option<Move>
+    requires well_formed { IsWellFormed board.old }
+    requires open { 0 < array_vec_len frames.old }
+    requires known { (below : List Level) (top : Level) → frames.old.items ≡ below ++ top ∷ []
+        → IfSome top.known (λ k. IsPlaceIn R.rule board.old k) }
+    ensures unchanged { board.new ≡ board.old }
+    ensures top { MovesOn R.rule plan board.old frames.old.items frames.new.items
+        history.old.opened history.new.opened result }
     ensures len { array_vec_len frames.new ≡ array_vec_len frames.old }
 {
     let last = frames.len() - 1;
     let top = &mut frames.as_mut_slice()[last];
-    top.place = place;
-    top.known = known;
+    next_of::<R>(
+        plan,
+        top.left,
+        &mut top.known,
+        &mut top.place,
+        board,
+        history,
+    )
 }
 
 /// One step of the walk: the next move of the top frame is played, or the frame is closed. Answers whether the path
@@ -425,14 +441,11 @@ pub(crate) fn step<R: Rules, const N: usize>(
     let depth = frames.len() - 1;
     let top = top_of(frames);
     let left = top.left;
-    let mut place = top.place;
-    let mut known = top.known;
-    let Some(by) = next_of::<R>(plan, left, &mut known, &mut place, board, history) else {
+    let Some(by) = next_of_top::<R, N>(plan, board, frames, history) else {
         if let Some(top) = frames.pop() {
             step_back::<R>(depth, top, board);
         }
         return false;
     };
-    move_on(frames, place, known);
     enter::<R, N>(plan, left - 1, by, board, frames, history)
 }

@@ -3,12 +3,13 @@ use Rattle.pop_solve.specs.Events.{Path}
 use Rattle.pop_solve.specs.declared.aim.Battle.{Battle}
 use Rattle.pop_solve.specs.declared.aim.Battle.TheVariants.{Direct, Selfmate}
 use Rattle.pop_input.specs.declared.stipulation.Goal.TheVariants.{Mate}
-use Rattle.std.specs.Prelude.{◌≡◌, ℕ, zero, suc, ◌+◌, ◌-◌, ◌/◌, ◌≤◌, ◌<◌, ◌^◌, min, ◌==◌, Bool, true, false, not, ◌&&◌, ◌||◌, if◌then◌else◌, List, [], ◌∷◌, ◌++◌, map, length, filter, Option, MatchOption, ◌⊎◌}
+use Rattle.std.specs.Prelude.{◌≡◌, ℕ, zero, suc, ◌+◌, ◌-◌, ◌/◌, ◌≤◌, ◌<◌, ◌^◌, min, ◌==◌, Bool, true, false, not, ◌&&◌, ◌||◌, if◌then◌else◌, List, [], ◌∷◌, ◌++◌, map, length, filter, Option, IfSome, MatchOption, ◌⊎◌}
 use Rattle.std.specs.List.{flat_map, list_all, sum_by}
 use Rattle.chess_core.specs.Position.{Position}
 use Rattle.chess_core.specs.declared.man.Move.{Move}
 use Rattle.chess_core.specs.WellFormed.{IsWellFormed}
-use Rattle.chess_rules.specs.ties.Places.{moves_behind}
+use Rattle.chess_rules.specs.Play.{position_after}
+use Rattle.chess_rules.specs.ties.Places.{IsPlaceIn, LegalPlace, moves_behind}
 use Rattle.chess_mates.specs.ties.Mates.{allows_mate, is_mating}
 use Rattle.chess_rules.specs.Legal.{is_legal, is_mate}
 use Rattle.chess_rules.specs.RuleSet.{RuleSet}
@@ -18,7 +19,7 @@ use Rattle.pop_solve.specs.Game.{Game}
 use Rattle.pop_solve.specs.ties.Counts.{smallest_tree}
 use Rattle.pop_solve.specs.ties.Values.{seeks, value}
 use Rattle.pop_solve.specs.Chess.{chess}
-use Rattle.pop_solve.specs.ties.Frames.{AreKnown, Frame, position, IsLinked, work_behind, to_open, left_at_top}
+use Rattle.pop_solve.specs.ties.Frames.{AreKnown, Frame, learned, moved, position, IsLinked, work_behind, to_open, left_at_top}
 use Rattle.pop_solve.specs.declared.plan.Plan.{Plan}
 use Rattle.pop_solve.specs.ties.Marks.{is_for_mate}
 use Rattle.pop_solve.specs.ties.Plans.{has_variations}
@@ -231,6 +232,19 @@ IsNextOf rule plan left p place next before after found =
     (λ m. (0 < left)
     × GoesTo rule plan left p place (m ∷ moves_behind rule p next) before after
     × (is_legal rule p m ≡ true))
+
+-- the top frame moves on to its next move, in the board's position p
+pub record MovesOn (rule : RuleSet) (plan : Plan) (p : Position) (old new : List Frame)
+    (before after : ℕ) (found : Option Move) : Type 0 where
+  pub below : List Frame
+  pub top : Frame
+  pub place : ℕ
+  pub known : Option LegalPlace
+  pub stood : old ≡ below ++ top ∷ []
+  pub stands : new ≡ below ++ moved (learned top known) place ∷ []
+  pub within : IfSome known (IsPlaceIn rule p)
+  pub next : IsNextOf rule plan top.left p top.place place before after found
+  pub mated : IfSome found (λ m. IsMatedAtLast rule plan (top.left - 1) (position_after rule p m))
 
 -- whether a variation ends at a frame with `left` half-moves: in direct play with variations, where the goal is reached
 abbrev pub ends_variation : Play → Bool → ℕ → Bool

@@ -2,37 +2,66 @@ use Rattle.pop_solve.proofs.Words.{arith, rules, sym, ◌∙◌}
 use Rattle.pop_solve.proofs.Walking as walking
 use Rattle.pop_solve.proofs.walk.step.Goals as goal
 
-pub next_of-requires : goal.next_of-requires
-next_of-requires g c = search (rules, walking.top_known g.R.Rules.rule c.args.plan c.args.half_moves _ _ _ c.top_of-top.ensures _ _ c.requires.walking.1)
+pub next_of_top-requires : goal.next_of_top-requires
+next_of_top-requires g c = (
+  search rules,
+  (
+    search rules,
+    (
+      c.requires.well_formed,
+      (
+        c.requires.«open»,
+        λ below top stood. walking.top_known g.R.Rules.rule c.args.plan c.args.half_moves top _ below stood _ _ c.requires.walking.1,
+      ),
+    ),
+  ),
+)
 
 pub step_back-requires : goal.step_back-requires
-step_back-requires g c = λ deep. rw c.next_of.ensures.unchanged
-    (walking.back_asks g.R.Rules.rule c.args.half_moves _ _ _ c.in-Some-pop.ensures.items _ _ _ c.requires.walking.1
-    (walking.depth_below _ _ _ _ c.in-Some-pop.ensures.items c.len-depth.ensures.value) deep)
+step_back-requires g c = λ deep.
+    let off = walking.taken_off _ _ _ _ _ _ _ _ _ _ c.next_of_top.ensures.top c.in-Some-pop.ensures.items in
+    rw (off.1, c.next_of_top.ensures.unchanged)
+    (walking.back_asks g.R.Rules.rule c.args.half_moves _ _ _ off.0 _ _ _ c.requires.walking.1
+    (walking.depth_below _ _ _ _ off.0 c.len-depth.ensures.value) deep)
 
 pub returns-in-Some-pop : goal.returns-in-Some-pop
 returns-in-Some-pop g c =
-    let same = walking.same_top _ _ _ _ (sym c.in-Some-pop.ensures.items ∙ (rw (← c.top.view_is) at c.top_of-top.ensures)) in
+    let on = c.next_of_top.ensures.top in
+    let off = walking.taken_off _ _ _ _ _ _ _ _ _ _ on c.in-Some-pop.ensures.items in
+    let before = rw off.1 at c.step_back.ensures.before in
     record {
-      steps = λ p r. walking.close_steps g.R.Rules.rule c.args.plan c.args.half_moves _ _ _ c.in-Some-pop.ensures.items _ _ _ _ _ _ _ r
-          c.next_of.ensures.unchanged (walking.depth_below _ _ _ _ c.in-Some-pop.ensures.items c.len-depth.ensures.value)
-          (rw same (search (rules, c.in_default.ensures.next))) c.step_back.ensures.lowest c.step_back.ensures.before;
+      steps = λ p r. walking.close_steps g.R.Rules.rule c.args.plan c.args.half_moves _ _ _ off.0 _ _ _ _ _ _ _ r
+          c.next_of_top.ensures.unchanged (walking.depth_below _ _ _ _ off.0 c.len-depth.ensures.value)
+          (rw c.in_default.is at on.next) c.step_back.ensures.lowest before;
     }
 
 pub returns : goal.returns
 returns g c = record {
   steps =
-      let taken = rw (← c.top.view_is) at c.top_of-top.ensures in
-      let depth = walking.depth_below _ _ _ _ taken c.len-depth.ensures.value in
-      walking.enter_steps g.R.Rules.rule c.args.plan c.args.half_moves _ _ _ taken _ _ _ _ _ _ _ _ _ _ c.next_of.ensures.unchanged
-      depth c.in-Some.ensures.next c.next_of.ensures.within (c.move_on.ensures.top _ _ taken) _ _ _ _
-      (walking.at_root _ _ (omega (arith, c.move_on.ensures.len, c.len-depth.ensures.value, c.requires.open))) c.enter.ensures.passes c.enter.ensures.enters
-      c.enter.ensures.counts;
+      let on = c.next_of_top.ensures.top in
+      let left = walking.left_is _ _ _ _ _ _ _ _ _ on _ (rw (← c.top.view_is) at c.top_of-top.ensures) in
+      let depth = walking.depth_below _ _ _ _ on.stood c.len-depth.ensures.value in
+      walking.enter_steps g.R.Rules.rule c.args.plan c.args.half_moves _ _ _ on.stood _ _ _ _ _ _ _ _ _ _ c.next_of_top.ensures.unchanged
+      depth (rw c.in-Some.is at on.next) on.within on.stands _ _ _ _
+      (walking.at_root _ _ (omega (arith, c.next_of_top.ensures.len, c.len-depth.ensures.value, c.requires.«open»)))
+      (rw left at c.enter.ensures.passes) (rw left at c.enter.ensures.enters) (rw left at c.enter.ensures.counts);
 }
 
 pub enter-requires : goal.enter-requires
-enter-requires g c = search (
-  rules,
-  walking.room_with_it g.R.Rules.rule c.args.plan c.args.half_moves _ _ _ c.top_of-top.ensures _ _ c.requires.walking.1,
-  c.move_on.ensures.len,
-)
+enter-requires g c =
+    let on = c.next_of_top.ensures.top in
+    let left = walking.left_is _ _ _ _ _ _ _ _ _ on _ (rw (← c.top.view_is) at c.top_of-top.ensures) in
+    let next = rw c.in-Some.is at on.next in
+    let room = walking.room_with_it g.R.Rules.rule c.args.plan c.args.half_moves _ _ _ on.stood _ _ c.requires.walking.1 in (
+      search rules,
+      (
+        search rules,
+        (
+          search rules,
+          (
+            omega (arith, room, left, next.0, c.requires.room, c.next_of_top.ensures.len),
+            (search (rules, next), search (rules, left, rw c.in-Some.is at on.mated)),
+          ),
+        ),
+      ),
+    )
