@@ -28,6 +28,7 @@ pub mod Passing
 pub mod QuietCastling
 pub mod Sparing
 pub mod Parrying
+pub mod Promoting
 pub mod Barring
 pub mod ExactSteps
 pub mod Ways

@@ -77,7 +77,7 @@ module _ (men after : List (Option Man)) (a b s t k : ℕ) (z : Man) (c : Colour
   unreached_after = unreached mid after s t z shift_second c k covered small (unlined_before men mid (other c) k t fairy_stood too) (quiet mid s t)
 
 -- whoever stands on b, if he doesn't reach k, the others reach it or not
-unreached_in_place : (men : List (Option Man)) (b k : ℕ) (z : Man) (c : Colour) → b < length men → is_some (man_on men b) ≡ true
+pub unreached_in_place : (men : List (Option Man)) (b k : ℕ) (z : Man) (c : Colour) → b < length men → is_some (man_on men b) ≡ true
     → (is_of_colour (man_on men b) c && reaches men b k) ≡ false → is_reached (with_man men b z) k c ≡ false → is_reached men k c ≡ false
 unfolding is_reached reaches
 unreached_in_place men b k z c size some harmless none =

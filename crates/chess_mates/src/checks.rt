@@ -12,6 +12,7 @@ ghost use Rattle.chess_rules.specs.Legal.{is_legal, is_pseudo_legal};
 ghost use Rattle.chess_rules.specs.Play.{position_after};
 ghost use Rattle.chess_rules.specs.RuleSet.{captures_do_more};
 
+use crate::flights::covered_squares;
 use chess_core::board::Board;
 use chess_core::man::{Colour, Kind, Man, Move};
 use chess_core::square::{Square, Squares};
@@ -22,6 +23,7 @@ use chess_rules::open_board::open_targets;
 use chess_rules::outward::comes_as;
 use chess_rules::rules::{Orthodox, Rules};
 use chess_rules::shields::{cannot_expose, fairy_lines, safety_seen};
+use chess_rules::sight::sight_after;
 use chess_rules::words::{contains, only};
 
 /// The squares from which a move may give check in a position: by exposing the king, or by a man of
@@ -256,8 +258,30 @@ fn keeps_its_kind(m: &Move) -> bool
     m.promo.is_none()
 }
 
-// Whether the move may give check, if it is legal: where it answers `false`, it gives none. A promoted man
-// may see through the square that the pawn left, so a promotion always may.
+// Whether this man's move may give check, told by what he sees from where he arrives, as what he is then: a
+// promoted man sees through the square that the pawn left.
+#[inline(never)]
+fn may_check_promoted<R: Rules>(board: &Board, squares: &CheckSquares, man: Man, m: &Move) -> bool
+    requires well_formed { IsWellFormed board.now }
+    requires pseudo { is_pseudo_legal R.rule board.now m.now ≡ true }
+    requires squares { AreCheckSquares board.now.men (other board.now.turn) squares.now }
+    requires here { man_on board.now.men m.now.from ≡ Some man }
+    ensures { result ≡ false → in_check R.rule (position_after R.rule board.now m.now).men
+        (other board.now.turn) ≡ false }
+{
+    let enemy = board.turn().other();
+    let Some(king) = board.king_of(enemy) else {
+        return true;
+    };
+    // For the proof: a square's number is below 64.
+    let _small = m.to.index();
+    // Whom he captures, he captures where he arrives.
+    let sight = sight_after(board, m.from, None, m.to);
+    let seen = covered_squares(sight.occupied, man, m.promo, m.to);
+    contains(seen, king) || !cannot_expose::<R>(board, enemy, squares.shield_squares, m)
+}
+
+// Whether the move may give check, if it is legal: where it answers `false`, it gives none.
 #[inline(always)]
 pub(crate) fn may_check<R: Rules>(board: &Board, squares: &CheckSquares, m: &Move) -> bool
     requires well_formed { IsWellFormed board.now }
@@ -271,7 +295,7 @@ pub(crate) fn may_check<R: Rules>(board: &Board, squares: &CheckSquares, m: &Mov
         return true;
     };
     if !keeps_its_kind(m) {
-        return true;
+        return may_check_promoted::<R>(board, squares, man, m);
     }
     // For the proof: a square's number is below 64.
     let _small = m.to.index();

@@ -1,8 +1,8 @@
 //! Steps of the enemy king after a move, told without playing it: if one gives no check not every reply mates.
-ghost use Rattle.std.specs.Prelude.{◌≡◌, ◌<◌, ◌==◌, ℕ, Option, false, true};
+ghost use Rattle.std.specs.Prelude.{◌≡◌, ◌<◌, ◌==◌, ℕ, IfSome, Option, Some, false, true};
 ghost use Rattle.std.specs.Int.{bit_at};
 ghost use Rattle.std.specs.List.{list_all};
-ghost use Rattle.chess_core.specs.Position.{other};
+ghost use Rattle.chess_core.specs.Position.{king_square, other};
 ghost use Rattle.chess_core.specs.WellFormed.{IsWellFormed};
 ghost use Rattle.chess_core.specs.declared.man.Move.{Move};
 ghost use Rattle.chess_mates.specs.ties.Flights.{AreOpen, IsQuietTo, IsSeenFrom, sight_stepped};
@@ -12,13 +12,18 @@ ghost use Rattle.chess_mates.specs.ties.QuietSteps.{AreQuiet, GoesSimply, IsStep
 ghost use Rattle.chess_mates.specs.ties.StandingFlights.{NoneHops};
 ghost use Rattle.chess_rules.specs.Legal.{is_legal, moves};
 ghost use Rattle.chess_rules.specs.Play.{capture_square, is_castling, position_after};
-ghost use Rattle.chess_rules.specs.ties.Targets.{is_promoting};
+ghost use Rattle.chess_rules.specs.ties.Counting.{AreExact};
+ghost use Rattle.chess_rules.specs.ties.Targets.{AreCandidates, is_promoting};
 
+use crate::attackers::attackers_on;
 use crate::flights::{
     covered_squares, first_safe, held_squares, open_squares, sight_lifted, sight_with,
 };
+use crate::guards::{leapt_squares, ridden_squares};
 use crate::lasting_flights::{king_after, open_approaches};
 use crate::risk::LAST_RANKS;
+use crate::siege::siege_of;
+use crate::steps::exact_steps;
 use chess_core::board::Board;
 use chess_core::man::{Colour, Kind, Man, Move};
 use chess_core::square::{Square, Squares};
@@ -83,24 +88,13 @@ fn steps_quietly<R: Rules>(
     }
 }
 
-// The squares to which the enemy king on `king` could step if it were his move.
-#[tactic(auto, using(chess_rules::proofs::HoldTaken::rest_falls))]
+// The squares to which the enemy king on `king` could step if it were his move, and beside grasshoppers perhaps more: where
+// steps are looked for costs time alone.
 fn steps_now(board: &Board, king: Square) -> Squares {
-    let mover = board.turn();
-    let men = board.side(Colour::White) | board.side(Colour::Black);
-    let sight = Sight {
-        occupied: men & !only(Some(king)),
-        standing: !0,
-    };
-    let near = king_leaps(king) & !held_squares(board, sight.standing);
-    let mut steps = 0u64;
-    let mut rest = near;
-    while let Some(to) = take_first(&mut rest) {
-        if !is_attacker_seen(board, sight_with(sight, to), to, mover) {
-            steps |= only(Some(to));
-        }
-    }
-    steps
+    let near = king_leaps(king) & !held_squares(board, !0);
+    let hurdles = occupied(board) & !only(Some(king));
+    let men = attackers_on(board, board.turn());
+    near & !(ridden_squares(hurdles, &men, near) | leapt_squares(hurdles, &men, near))
 }
 
 // Whether no grasshopper stands on the board.
@@ -222,6 +216,20 @@ fn holding_squares(board: &Board, sight: Sight, man: Man, steps: Squares) -> Squ
     squares
 }
 
+// Those of the squares to which the mover's king on `king` steps by a legal move, if they are told. Other men are asked for
+// more often: apart, it keeps their question short.
+#[inline(never)]
+#[tactic(auto, using(crate::proofs::ExactSteps::told_exactly))]
+fn king_steps<R: Rules>(board: &Board, king: Square, squares: Squares) -> Option<Squares>
+    requires well_formed { IsWellFormed board.now }
+    requires king { king_square board.now.men board.now.turn ≡ Some king }
+    requires squares { AreCandidates R.rule board.now (is_legal R.rule board.now) king squares }
+    ensures { IfSome result (λ w. AreExact R.rule board.now king w) }
+{
+    let siege = siege_of::<R>(board, king);
+    exact_steps::<R>(&siege, squares)
+}
+
 /// Steps of the enemy king that give no check, for the moves of one position.
 #[derive(Clone, Copy)]
 pub struct QuietSteps {
@@ -311,10 +319,13 @@ impl Sift for QuietSteps {
 
     fn legal_squares<R: Rules>(
         &self,
-        _board: &Board,
-        _from: Square,
-        _squares: Squares,
+        board: &Board,
+        from: Square,
+        squares: Squares,
     ) -> Option<Squares> {
-        None
+        if board.king_of(board.turn()) != Some(from) {
+            return None;
+        }
+        king_steps::<R>(board, from, squares)
     }
 }
