@@ -223,7 +223,7 @@ module _ (rule : RuleSet) (problem : Posed) (sound : IsSound problem) (phase : P
   begun-entered opened true g followed c =
       let e : part_paths rule problem phase First entered ≡ come =
       rw (path-more _ old deep) (sym (come-entered followed ∙ rw (← g) refl)) in
-      let ended = ended-reached game plan.play (has_variations plan.tree) root left q followed in
+      let ended = ended-reached game plan.play (has_variations plan.tree) root left q followed (sym g) in
       search (rules, in-part, events-begun, e, walking-entered, opens-entered, ended, deep)
   begun-entered opened false g followed c =
       let e : part_paths rule problem phase (Within 0) entered ≡ come = sym (come-entered followed ∙ rw (← g) refl) in

@@ -1,5 +1,5 @@
 -- How many half-moves a line goes on below a move, and what is reached where it ends.
-use Rattle.pop_solve.proofs.Words.{Battle, BattlePlay, Bool, Game, HelpPlay, Plan, PlayOfSides, arith, cond, ends_variation, eqb, false, fewest_half_moves, least_length_from, is_followed, walk_length, inl, inr, nat_tests, shown_length, refl, rules, seeks, suc, true, value, has_variations, zero, ℕ, ◌*◌, ◌+◌, ◌-◌, ◌/◌, ◌||◌, ◌≡◌, ◌≤◌, ◌⊎◌, is_given}
+use Rattle.pop_solve.proofs.Words.{Battle, BattlePlay, Bool, Game, HelpPlay, Plan, PlayOfSides, arith, cond, ends_at_goal, eqb, false, fewest_half_moves, least_length_from, is_followed, walk_length, inl, inr, nat_tests, shown_length, refl, rules, seeks, suc, true, value, has_variations, zero, ℕ, ◌*◌, ◌+◌, ◌-◌, ◌/◌, ◌||◌, ◌≡◌, ◌≤◌, ◌⊎◌, is_given}
 
 -- a test by its two answers
 pub cases : (b : Bool) → (b ≡ false) ⊎ (b ≡ true)
@@ -37,11 +37,11 @@ module _ {P M : Type 0} (game : Game P M) where
   least_length_from-least battle q zero a = search rules
   least_length_from-least battle q (suc n) a = search (rules, least_length_from-least battle q n (a + 2))
 
-  -- where a variation ends that is followed, the goal is reached
+  -- where a path that is given ends with the goal, it is reached
   pub ended-reached : (play : PlayOfSides) (variation root : Bool) (t : ℕ) (q : P) → is_followed play game root t q ≡ true
-      → ends_variation play variation (walk_length play variation game t q) ≡ true → game.goal q ≡ true
-  unfolding is_followed value walk_length shown_length
-  ended-reached play variation root t q f e = search (rules, nat_tests, least_length_from-least)
+      → is_given play game t q ≡ true → ends_at_goal play variation (walk_length play variation game t q) ≡ true → game.goal q ≡ true
+  unfolding is_followed is_given value walk_length shown_length
+  ended-reached play variation root t q f g e = search (rules, nat_tests, least_length_from-least)
 
 module _ {P M : Type 0} (plan : Plan) (game : Game P M) where
   -- in a battle each path is given

@@ -92,7 +92,7 @@ module _ (rule : RuleSet) (plan : Plan) (h : ℕ) (p : Position) (f : Frame) (be
           come = rw after_here (come-enter rule plan h p f next m below _ t fuel left here u (rw (← after_here) b));
           deep = λ g. omega arith;
           ended = λ g e. rw at
-              (ended-reached (chess plan.goal rule) plan.play (has_variations plan.tree) (eqb (length below) 0) t (position_after rule board m) b e);
+              (ended-reached (chess plan.goal rule) plan.play (has_variations plan.tree) (eqb (length below) 0) t (position_after rule board m) b g e);
           falls = turns-enter rule plan h p f next m below _ t fuel left here u tried;
           opens = grind (arith, walk_length-keys, after_here, counted_by, no_zero);
           tries = search (rules, after_here, x.tries, more);

@@ -1,5 +1,5 @@
 -- The path to the top frame, and what is shown of it.
-use Rattle.pop_solve.proofs.Words.{CameFrom, CameFromAt, Frame, Goal, IsEnded, IsLinked, IsWalking, List, Move, Plan, Position, RuleSet, [], ap, arith, chess, cond, drop, ends_variation, get_or, is_legal, length, length-append, length-reverse, length-take, path, path_end, position, refl, reverse, reverse-append, rules, moves_shown, last_shown, shown_move, subst, sym, take, take-append-drop, take_all, take_more, true, has_variations, ℕ, ◌++◌, ◌+◌, ◌-◌, ◌<◌, ◌∙◌, ◌∷◌, ◌≡◌, ◌≤◌, position_after}
+use Rattle.pop_solve.proofs.Words.{CameFrom, CameFromAt, Frame, Goal, IsEnded, IsLinked, IsWalking, List, Move, Plan, Position, RuleSet, [], ap, arith, chess, cond, drop, ends_at_goal, get_or, is_legal, left_at_top, length, length-append, length-reverse, length-take, path, path_end, position, refl, reverse, reverse-append, rules, moves_shown, last_shown, shown_move, subst, sym, take, take-append-drop, take_all, take_more, true, has_variations, ℕ, ◌++◌, ◌+◌, ◌-◌, ◌<◌, ◌∙◌, ◌∷◌, ◌≡◌, ◌≤◌, position_after}
 use Rattle.pop_solve.proofs.Outcomes.{CameFrom-deep, walking-close}
 use Rattle.pop_solve.specs.declared.chess.Reached.{Reached}
 use Rattle.pop_solve.specs.declared.chess.Reached.TheVariants.{Perhaps, Surely}
@@ -40,6 +40,11 @@ pub topped-last : (frames : List Frame) (f : Frame) → f ≡ get_or frames (len
     → IsTopped frames (take (length frames - 1) frames) f
 topped-last frames f at deep = subst (λ fs. IsTopped fs (take (length frames - 1) frames) f) (take_all (length frames) frames (omega arith))
     (topped-at frames (length frames) (length frames - 1) f at (omega arith) (omega arith) (omega arith))
+
+-- the half-moves left at the last
+pub left_last : (frames : List Frame) (k : ℕ) (f : Frame) → f ≡ get_or frames k f → k + 1 ≡ length frames → left_at_top (reverse frames) ≡ f.left
+left_last frames k f at last = ap left_at_top (popped frames (take k frames) f
+    (sym (take_all (k + 1) frames (omega (arith, last))) ∙ cut-at frames (k + 1) k f refl at (omega (arith, last))))
 
 module _ (goal : Goal) (rule : RuleSet) where
   -- one more move leads on from the end of a path
@@ -99,6 +104,11 @@ module _ (rule : RuleSet) where
     pub forth-position : (p : Position) → position rule p (reverse upper) ≡ position_after rule (position rule p (reverse lower)) f.by
     forth-position p = grind (arith, stacked, position-more, length-reverse)
 
+    -- where the board stands
+    pub forth-again : (h : ℕ) (p board before : Position) (frames : List Frame) → upper ≡ frames → IsWalking rule h p (reverse frames) board
+        → before ≡ position rule p (reverse lower) → position_after rule before f.by ≡ board
+    forth-again h p board before frames e r at = search (rules, forth-position)
+
     -- it is the last of the moves that are shown
     pub forth-along : (goal : Goal) (p : Position) → moves_shown goal rule p (path (reverse upper))
         ≡ moves_shown goal rule p (path (reverse lower)) ++ shown_move goal rule (position rule p (reverse lower)) f.by ∷ []
@@ -117,11 +127,11 @@ module _ (rule : RuleSet) where
 
       -- it leads back
       pub back-again : position_after rule after f.by ≡ board
-      back-again = ap (λ b. position_after rule b f.by) back-walking.board_at ∙ sym (r.board_at ∙ forth-position p)
+      back-again = forth-again h p board after upper refl r back-walking.board_at
 
-      -- and to the goal, where it ends a variation
+      -- and to the goal, where it ends with that
       pub back-ended : (plan : Plan) → IsEnded rule plan (reverse upper) board → (b : Reached)
-          → b ≡ cond (ends_variation plan.play (has_variations plan.tree) f.left) Surely Perhaps → b ≡ Surely
+          → b ≡ cond (ends_at_goal plan.play (has_variations plan.tree) f.left) Surely Perhaps → b ≡ Surely
           → (chess plan.goal rule).goal (position_after rule after f.by) ≡ true
       back-ended plan ended b e here = search (rules, back-again, stacked)
 

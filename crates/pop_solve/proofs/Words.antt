@@ -71,7 +71,7 @@ pub use Rattle.pop_solve.specs.ties.Plans.{is_help_play, plan_of, has_variations
 pub use Rattle.pop_solve.specs.ties.Seen.{StandsOn, fewest_from, is_stop, is_unstopped, is_walked_once, phase_fewest, phase_walk, walk_from}
 pub use Rattle.pop_solve.specs.ties.Values.{decides, join, seeks}
 unfoldable pub use Rattle.pop_solve.specs.ties.Values.{joined_value, value}
-pub use Rattle.pop_solve.specs.ties.Walk.{AreSettled, AreTaken, GoesTo, HaveNoPaths, IsCounted, IsEnded, IsNextLeft, IsNextOf, IsNextUnsettled, IsWalking, Passes, Opens, Steps, Tries, ends_variation, fewest_half_moves, fewest_for, seeks_last}
+pub use Rattle.pop_solve.specs.ties.Walk.{AreSettled, AreTaken, GoesTo, HaveNoPaths, IsCounted, IsEnded, IsNextLeft, IsNextOf, IsNextUnsettled, IsWalking, Passes, Opens, Steps, Tries, ends_at_goal, fewest_half_moves, fewest_for, seeks_last}
 unfoldable pub use Rattle.pop_solve.specs.ties.Walk.{IsRoomy, are_whites, fewest_left, fewest_walked, least_length_from, is_followed, is_given, walk_length, shown_length, path, shown_paths, to_come, walk_work}
 pub use Rattle.chess_rules.proofs.listing_moves.Between.{behind_cut}
 pub use Rattle.chess_rules.proofs.listing_moves.Members.{from_range}

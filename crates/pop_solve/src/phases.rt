@@ -25,7 +25,6 @@ use chess_rules::moves::Moves;
 use chess_rules::rules::Rules;
 use pop_events::event::{Event, Phase};
 use pop_input::problem::Problem;
-use pop_input::stipulation::Goal;
 
 /// How a phase is walked: what is walked of the problem, and with how many half-moves.
 #[derive(Clone, Copy)]
@@ -149,19 +148,20 @@ fn close_all<R: Rules, const N: usize>(board: &mut Board, frames: &mut ArrayVec<
 
 /// The solution of help play that leads to the top frame; its first move is the half-move `half`. Apart from `event_at`,
 /// whose other events would else pay for the room of its moves.
-fn line_at<R: Rules>(goal: Goal, half: u32, frames: &[Frame<R>], board: &mut Board) -> Event
+fn line_at<R: Rules>(plan: Plan, half: u32, frames: &[Frame<R>], board: &mut Board) -> Event
     requires shallow { length frames.now ≤ 33 }
     requires walking { (h : ℕ) × (p : Position)
         × IsWalking R.rule h p (reverse frames.now) board.old }
+    requires ended { IsEnded R.rule plan (reverse frames.now) board.old }
     ensures unchanged { board.new ≡ board.old }
     ensures line { (h : ℕ) (p : Position) → IsWalking R.rule h p (reverse frames.now) board.old
         → result ≡ Line half (record {
-          items = moves_shown goal R.rule p (path (reverse frames.now));
+          items = moves_shown plan.goal R.rule p (path (reverse frames.now));
         }) }
 {
     Event::Line {
         half,
-        moves: line::<R>(goal, frames, board),
+        moves: line::<R>(plan, frames, board),
     }
 }
 
@@ -184,7 +184,7 @@ pub fn event_at<R: Rules>(
 {
     let half = phase_half(problem, walk.phase);
     if problem.stipulation().form.is_help() {
-        return line_at::<R>(walk.plan.goal, half, frames, board);
+        return line_at::<R>(walk.plan, half, frames, board);
     }
     let depth = (frames.len() - 2) as u32;
     Event::Node {

@@ -7,11 +7,11 @@ ghost use Rattle.chess_rules.specs.Play.{position_after};
 ghost use Rattle.pop_solve.specs.Chess.{chess};
 ghost use Rattle.pop_events.specs.Shown.{shown_move};
 ghost use Rattle.pop_solve.specs.Events.{moves_shown, last_shown};
-ghost use Rattle.pop_solve.specs.ties.Frames.{CameFrom, CameFromAt};
+ghost use Rattle.pop_solve.specs.ties.Frames.{CameFrom, CameFromAt, left_at_top};
 ghost use Rattle.pop_solve.specs.ties.Plans.{has_variations};
-ghost use Rattle.pop_solve.specs.ties.Walk.{ends_variation, IsEnded, IsWalking, path};
+ghost use Rattle.pop_solve.specs.ties.Walk.{ends_at_goal, IsEnded, IsWalking, path};
 ghost use Rattle.pop_solve.specs.declared.chess.Reached.TheVariants.{Perhaps, Surely};
-ghost use Rattle.std.specs.Prelude.{◌≡◌, ◌≤◌, ℕ, if◌then◌else◌, length, reverse, true};
+ghost use Rattle.std.specs.Prelude.{◌≡◌, ◌+◌, ◌<◌, ◌≤◌, ℕ, if◌then◌else◌, length, reverse, true};
 
 use crate::aim::Play;
 use crate::chess::{Reached, mark_after, retract, shown_of};
@@ -32,16 +32,32 @@ fn take_back<R: Rules>(frame: &Frame<R>, board: &mut Board)
     retract::<R>(board, frame.by, frame.undo);
 }
 
-/// What is known of the goal at the frame: in direct play with variations it is reached where a variation ends.
+/// What is known of the goal at the frame that a given path leads to: in help play it is reached, and in direct play with
+/// variations where a variation ends.
 fn reached_at<R: Rules>(plan: Plan, frame: &Frame<R>) -> Reached
-    ensures { result ≡ if ends_variation plan.play (has_variations plan.tree) frame.now.left
+    ensures { result ≡ if ends_at_goal plan.play (has_variations plan.tree) frame.now.left
         then Surely else Perhaps }
 {
     match plan.play {
+        Play::Help => Reached::Surely,
         Play::Battle(battle) if frame.left == 0 && plan.tree.has_variations() && seeks(battle, 1) =>
             { Reached::Surely }
         _ => Reached::Perhaps,
     }
+}
+
+/// What is known of it at frame `k` of a given path: below the top frame nothing.
+#[tactic(auto, using(crate::proofs::Paths::left_last))]
+fn reached_along<R: Rules>(plan: Plan, frames: &[Frame<R>], k: usize) -> Reached
+    requires { k < length frames.now }
+    ensures { result ≡ Surely → (k + 1 ≡ length frames.now)
+        × (ends_at_goal plan.play (has_variations plan.tree) (left_at_top (reverse frames.now))
+        ≡ true) }
+{
+    if k + 1 < frames.len() {
+        return Reached::Perhaps;
+    }
+    reached_at::<R>(plan, &frames[k])
 }
 
 /// Plays the move of a frame again, and answers it as it is shown. It may be known that it reaches the goal.
@@ -78,23 +94,25 @@ fn take_all_back<R: Rules>(frames: &[Frame<R>], board: &mut Board)
     }
 }
 
-/// The moves that lead to the top frame.
+/// The moves that lead to the top frame, by a given path of help play.
 pub(crate) fn line<R: Rules>(
-    goal: Goal,
+    plan: Plan,
     frames: &[Frame<R>],
     board: &mut Board,
 ) -> ArrayVec<Shown, 32>
     requires shallow { length frames.now ≤ 33 }
     requires walking { (h : ℕ) × (p : Position)
         × IsWalking R.rule h p (reverse frames.now) board.old }
+    requires ended { IsEnded R.rule plan (reverse frames.now) board.old }
     ensures unchanged { board.new ≡ board.old }
     ensures line { (h : ℕ) (p : Position) → IsWalking R.rule h p (reverse frames.now) board.old
-        → result.items ≡ moves_shown goal R.rule p (path (reverse frames.now)) }
+        → result.items ≡ moves_shown plan.goal R.rule p (path (reverse frames.now)) }
 {
     take_all_back::<R>(frames, board);
     let mut line = ArrayVec::new();
     for k in 1..frames.len() {
-        line.push(play_shown::<R>(goal, Reached::Perhaps, &frames[k], board));
+        let reached = reached_along::<R>(plan, frames, k);
+        line.push(play_shown::<R>(plan.goal, reached, &frames[k], board));
     }
     line
 }

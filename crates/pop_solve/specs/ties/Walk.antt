@@ -246,14 +246,15 @@ pub record MovesOn (rule : RuleSet) (plan : Plan) (p : Position) (old new : List
   pub next : IsNextOf rule plan top.left p top.place place before after found
   pub mated : IfSome found (λ m. IsMatedAtLast rule plan (top.left - 1) (position_after rule p m))
 
--- whether a variation ends at a frame with `left` half-moves: in direct play with variations, where the goal is reached
-abbrev pub ends_variation : Play → Bool → ℕ → Bool
-ends_variation HelpPlay variation left = false
-ends_variation (BattlePlay battle) variation left = left == 0 && (variation && seeks battle 1)
+-- whether a path that is given ends with the goal, at a frame with `left` half-moves: in help play each does, and in direct
+-- play with variations each variation
+abbrev pub ends_at_goal : Play → Bool → ℕ → Bool
+ends_at_goal HelpPlay variation left = true
+ends_at_goal (BattlePlay battle) variation left = left == 0 && (variation && seeks battle 1)
 
--- where a variation ends at the top frame, the goal is reached on the board
+-- where it does so at the top frame, the goal is reached on the board
 abbrev pub IsEnded : RuleSet → Plan → List Frame → Position → Type 0
-IsEnded rule plan frames board = ends_variation plan.play (has_variations plan.tree)
+IsEnded rule plan frames board = ends_at_goal plan.play (has_variations plan.tree)
     (left_at_top frames) ≡ true
     → (chess plan.goal rule).goal board ≡ true
 

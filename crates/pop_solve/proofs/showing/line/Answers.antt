@@ -12,6 +12,15 @@ play_shown-requires-clause-legal g c =
     let at = c.loop-k.invariant.0 w.0 w.1 w.2 in
     rw at.1 (paths.forth-is_legal g.R.Rules.rule top w.1 (paths.linked-take g.R.Rules.rule w.1 c.args.frames.now (c.loop-k.k + 1) w.2.linked))
 
+pub play_shown-requires-clause-reached : goal.play_shown-requires-clause-reached
+play_shown-requires-clause-reached g c = λ here.
+    let w = c.requires.walking in
+    let top = paths.topped-at _ (c.loop-k.k + 1) _ _ c.index-frames-k.is refl c.loop-k.auto.k c.loop-k-test.true in
+    let at = c.loop-k.invariant.0 w.0 w.1 w.2 in
+    let last = c.reached_along-reached.ensures here in
+    let all = take_all (c.loop-k.k + 1) c.args.frames.now (omega (arith, last.0)) in
+    rw (paths.forth-again g.R.Rules.rule top w.0 w.1 _ _ _ all w.2 at.1) (c.requires.ended last.1)
+
 pub loop-k-preserved : goal.loop-k-preserved
 loop-k-preserved g c = (
   λ h p w.
