@@ -41,7 +41,7 @@ pub use Rattle.chess_rules.specs.RuleSet.{RuleSet, captures_are_reborn, captures
 pub use Rattle.chess_rules.specs.declared.lines.Direction.{Direction}
 pub use Rattle.chess_rules.specs.declared.lines.Direction.TheVariants.{East, EastNorthEast, EastSouthEast, North, NorthEast, NorthNorthEast, NorthNorthWest, NorthWest, South, SouthEast, SouthSouthEast, SouthSouthWest, SouthWest, West, WestNorthWest, WestSouthWest}
 pub use Rattle.chess_rules.specs.declared.shields.RiderLines.TheVariants.{Diagonal, Straight}
-pub use Rattle.chess_rules.specs.ties.Evasions.{AreEvasions, AreEvasionsFrom, has_fairy_lines_of, is_evasion, IsNoEvasion}
+pub use Rattle.chess_rules.specs.ties.Evasions.{AreEvasions, AreEvasionsFrom, has_fairy_lines_of, is_evasion, IsNoEvasion, may_be_paralysed, may_paralyse_anew}
 pub use Rattle.chess_rules.specs.ties.Idle.{is_legal-idle, is_wanted-idle}
 pub use Rattle.chess_rules.specs.ties.Lines.{IsStop, IsUpTo, direction_number, flat_steps, is_advance, is_two_files_aside, men_on, occupied_squares, place, passing_order_by, steep_steps, step_of}
 unfoldable pub use Rattle.chess_rules.specs.ties.Lines.{is_ahead, is_on_some, ray, rises}

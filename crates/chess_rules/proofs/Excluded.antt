@@ -1,8 +1,8 @@
 -- What the clauses of attack, of lines and of targets exclude: small positions in which the definitions say otherwise than a wrong body would.
-use Rattle.chess_rules.proofs.Chess.{AreEvasions, AreEvasionsFrom, Bishop, Black, Bool, Colour, Grasshopper, IsBarrenFrom, Kind, King, Knight, List, Man, Nightrider, Option, Pawn, Position, Queen, Rook, RuleSet, Some, White, [], agree_below_at, along, and_from, ap, arith, bit_at, can_castle, can_go, cannot_expose, cases_lt, drop, faces, faces_its_like, false, false≢true, filter, find, has_fairy, has_fairy_lines_of, hopped_from, hops, in_check, is_ahead, is_arrival_free, is_attacked, is_behind, is_checker, is_clear, is_evasion, is_legal, is_man, is_met, is_of_colour, is_on_fairy_line, is_on_some, is_paralysed, is_plain, is_pseudo_legal, is_reached, is_shut, king_square, leaps, madrasi, man_on, may_expose, may_go, may_promote, may_stand_between, moves_between, none_unmoved, not, orthodox, pawn_goes, per_arrival, per_origin, position_after, promotion_at, range_with_len, reaches, reaches_as, refl, rides, rides_on, rules, sight_after, some_square, squares, step_by, steps_to, straight_steps, sym, take, triple_at, triples, true, true_from_ne_false, true≢false, with_unmoved, without_man, word, word_of, ℕ, ◌%◌, ◌&&◌, ◌*◌, ◌+◌, ◌-◌, ◌/◌, ◌<◌, ◌==◌, ◌^◌, ◌∙◌, ◌∷◌, ◌≡◌, ◌≤◌}
+use Rattle.chess_rules.proofs.Chess.{AreEvasions, AreEvasionsFrom, Bishop, Black, Bool, Colour, Grasshopper, IsBarrenFrom, Kind, King, Knight, List, Man, Nightrider, Option, Pawn, Position, Queen, Rook, RuleSet, Some, White, [], agree_below_at, along, and_from, ap, arith, bit_at, can_castle, can_go, cannot_expose, cases_lt, drop, faces, faces_its_like, false, false≢true, filter, find, has_fairy, has_fairy_lines_of, hopped_from, hops, in_check, is_ahead, is_arrival_free, is_attacked, is_behind, is_checker, is_clear, is_evasion, is_legal, is_man, is_met, is_of_colour, is_on_fairy_line, is_on_some, is_paralysed, is_plain, is_pseudo_legal, is_reached, is_shut, king_square, leaps, madrasi, man_on, may_be_paralysed, may_expose, may_go, may_promote, may_stand_between, moves_between, none_unmoved, not, orthodox, pawn_goes, per_arrival, per_origin, position_after, promotion_at, range_with_len, reaches, reaches_as, refl, rides, rides_on, rules, sight_after, some_square, squares, step_by, steps_to, straight_steps, sym, take, triple_at, triples, true, true_from_ne_false, true≢false, with_unmoved, without_man, word, word_of, ℕ, ◌%◌, ◌&&◌, ◌*◌, ◌+◌, ◌-◌, ◌/◌, ◌<◌, ◌==◌, ◌^◌, ◌∙◌, ◌∷◌, ◌≡◌, ◌≤◌}
 use Rattle.chess_rules.proofs.making_moves.Pseudo.{on_board}
 use Rattle.chess_rules.proofs.attacks.StayingInCheck.{side_there}
-use Rattle.chess_rules.proofs.Typed.{go, man, on, position, set_up, a1, b1, c1, d1, e1, g1, h1, a2, b2, h2, a3, b3, c3, d3, h3, a4, d5, e4, a5, a6, b6, d6, e5, e7, a8, b8, e8, f8, g8, h8}
+use Rattle.chess_rules.proofs.Typed.{go, man, on, position, promoting, set_up, a1, b1, c1, d1, e1, g1, h1, a2, b2, h2, a3, b3, c3, d3, h3, a4, d5, e4, a5, a6, b6, d6, e5, e7, a8, b8, e8, f8, g8, h8}
 unfoldable pub use Rattle.chess_rules.proofs.Typed.{check_after_a_move}
 
 -- White rooks a1 and a8 see each other, and neither is faced by its like: only enemies paralyse
@@ -248,6 +248,40 @@ pub arriving_man_paralyses : (in_check madrasi rook_faces_rook.men White ≡ tru
     × (in_check orthodox (position_after orthodox rook_faces_rook (go d1 d3)).men White ≡ true)
 unfolding check_after_a_move
 arriving_man_paralyses = (refl, refl, refl, refl)
+
+-- a Black man who gives check, and of whose kind White has none: there is none
+abbrev moving_checker : ℕ → Bool
+moving_checker s = (is_of_colour (man_on rook_faces_rook.men s) Black && reaches rook_faces_rook.men s h1)
+    && not (may_be_paralysed madrasi rook_faces_rook.men White (man_on rook_faces_rook.men s))
+
+moving_checker_there : (s : ℕ) → s < 64 → moving_checker s ≡ false
+unfolding check_after_a_move
+moving_checker_there s lt = agree_below_at moving_checker (λ _. false) 64 s refl lt
+
+-- so a White man who goes to d3 may meet the check
+pub men_of_the_checkers_kind_may_meet_its_check : (w : ℕ) → AreEvasions madrasi rook_faces_rook.men White w → (bit_at w d3 == 1) ≡ true
+unfolding king_square squares
+men_of_the_checkers_kind_may_meet_its_check w are = true_from_ne_false _ (λ e.
+    let u = are.elsewhere d3 (omega arith) e in
+    let enemy = side_there (man_on rook_faces_rook.men u.checker) Black u.enemy in
+    let inside = on_board rook_faces_rook.men u.checker enemy.0 refl enemy.1.0 in
+    grind (arith, moving_checker_there u.checker inside, u.enemy, u.here, u.check, u.moving))
+
+-- Madrasi, White Kh1 Pe7, Black Ka3 Rh8, which gives check: on e8 a rook paralyses it, and a queen doesn't
+abbrev promotion_faces_rook : Position
+promotion_faces_rook = position (on White King h1 ∷ on White Pawn e7 ∷ on Black King a3 ∷ on Black Rook h8 ∷ []) White
+
+-- so the pawn's promotion may end the check
+pub promoted_man_paralyses : (in_check madrasi promotion_faces_rook.men White ≡ true)
+    × (is_pseudo_legal madrasi promotion_faces_rook (promoting e7 e8 Rook) ≡ true)
+    × (in_check madrasi (position_after madrasi promotion_faces_rook (promoting e7 e8 Rook)).men White ≡ false)
+    × (in_check madrasi (position_after madrasi promotion_faces_rook (promoting e7 e8 Queen)).men White ≡ true)
+unfolding check_after_a_move
+promoted_man_paralyses = (refl, refl, refl, refl)
+
+-- and the squares to which the pawn must go to leave no check hold e8
+pub promotion_may_meet_a_check : (w : ℕ) → AreEvasionsFrom madrasi promotion_faces_rook e7 w → (bit_at w e8 == 1) ≡ true
+promotion_may_meet_a_check w are = search (rules, true_from_ne_false, true≢false, promoted_man_paralyses, are)
 
 -- Madrasi, White Ka1, Black Kc3: on b2 White's king faces its like, which still attacks it
 abbrev king_faces_king : Position

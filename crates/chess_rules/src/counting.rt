@@ -5,12 +5,11 @@ ghost use Rattle.chess_core.specs.Position.{is_man, man_on};
 ghost use Rattle.chess_core.specs.WellFormed.{IsWellFormed};
 ghost use Rattle.chess_core.specs.declared.man.Kind.TheVariants.{Pawn};
 ghost use Rattle.chess_core.specs.ties.Words.{word};
-ghost use Rattle.chess_core.specs.Squares.{rank_of};
-ghost use Rattle.chess_rules.specs.Legal.{is_legal, last_rank};
+ghost use Rattle.chess_rules.specs.Legal.{is_legal};
 ghost use Rattle.chess_rules.specs.ties.Counting.{AreGiven, AreLegal, IsKnownIn, is_unsure};
 ghost use Rattle.chess_rules.specs.ties.Places.{moves_between, per_origin};
 ghost use Rattle.chess_rules.specs.ties.Shields.{may_expose};
-ghost use Rattle.chess_rules.specs.ties.Targets.{AreCandidates, is_promoting};
+ghost use Rattle.chess_rules.specs.ties.Targets.{AreCandidates};
 
 use crate::evasions::eventful_captures;
 use crate::legal::is_legal;
@@ -18,7 +17,7 @@ use crate::legal_moves::Known;
 use crate::moves::triple;
 use crate::rules::Rules;
 use crate::shields::fairy_lines;
-use crate::targets::{PER_ARRIVAL, PER_ORIGIN, next_from};
+use crate::targets::{PER_ARRIVAL, PER_ORIGIN, next_from, promoting_squares};
 use crate::words::{contains, only, squares_from, take_first};
 use chess_core::board::Board;
 use chess_core::man::{Colour, Kind, Man, Move};
@@ -48,29 +47,6 @@ fn count_from(word: Squares, from: u8) -> u16
         return 0;
     }
     (word >> from).count_ones() as u16
-}
-
-// The rank on which the colour's pawns are promoted.
-#[tactic(auto, unfolding(chess_core::specs::Squares::squares, chess_core::specs::ties::Words::word, chess_core::specs::ties::Words::word_of))]
-fn last_rank_squares(colour: Colour) -> Squares
-    ensures { result ≡ word (λ t. rank_of t == last_rank colour) }
-{
-    match colour {
-        Colour::White => 0xff00_0000_0000_0000,
-        Colour::Black => 0xff,
-    }
-}
-
-// The squares on which this man is promoted, if he is a pawn.
-#[tactic(auto, using(crate::proofs::listing_moves::SurelyLegal::promotion_words))]
-fn promoting_squares(man: Man) -> Squares
-    ensures { result ≡ word (is_promoting man) }
-{
-    if man.kind.is(Kind::Pawn) {
-        last_rank_squares(man.colour)
-    } else {
-        0
-    }
 }
 
 // The squares to which another man than the king may go by a move that has to be looked at: one that changes

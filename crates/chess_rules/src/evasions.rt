@@ -4,11 +4,12 @@ ghost use Rattle.chess_core.specs.Position.{man_on};
 ghost use Rattle.chess_core.specs.WellFormed.{IsWellFormed};
 ghost use Rattle.chess_core.specs.ties.Words.{word};
 ghost use Rattle.chess_rules.specs.Attacks.{in_check};
-ghost use Rattle.chess_rules.specs.ties.Evasions.{AreEvasionsFrom, AreEvasions, has_fairy_lines_of};
+ghost use Rattle.chess_rules.specs.ties.Evasions.{AreEvasionsFrom, AreEvasions, has_fairy_lines_of, has_like, may_be_paralysed, may_paralyse_anew};
 ghost use Rattle.chess_rules.specs.ties.Shields.{cannot_expose, is_checker, is_plain, may_expose};
 ghost use Rattle.chess_rules.specs.Legal.{is_pseudo_legal};
 ghost use Rattle.chess_rules.specs.Play.{position_after};
-ghost use Rattle.chess_rules.specs.RuleSet.{captures_do_more};
+ghost use Rattle.chess_rules.specs.RuleSet.{captures_do_more, faced_men_stand_still};
+ghost use Rattle.chess_rules.specs.ties.Targets.{is_promoting};
 
 use crate::exposure::exposes;
 use crate::lines::occupied;
@@ -16,9 +17,10 @@ use crate::open_board::open_targets;
 use crate::reach::reach_as;
 use crate::rules::Rules;
 use crate::shields::{cannot_expose, has_fairy_lines, is_plain};
+use crate::targets::promoting_squares;
 use crate::words::{contains, next_bit, only};
 use chess_core::board::Board;
-use chess_core::man::{Colour, Kind, Move};
+use chess_core::man::{Colour, Kind, Man, Move};
 use chess_core::square::{Square, Squares};
 
 // Whether a fairy man that goes along lines stands on the square.
@@ -31,9 +33,27 @@ fn has_fairy_lines_on(board: &Board, square: Square) -> bool
     }
 }
 
+// Whether the colour has a man of the kind of the one on the square.
+#[tactic(auto, using(crate::proofs::Bits::not_zero), unfolding(chess_core::specs::ties::Words::squares_of))]
+fn has_like(board: &Board, colour: Colour, square: Square) -> bool
+    ensures { result ≡ has_like board.now.men colour (man_on board.now.men square) }
+{
+    match board.man_at(square) {
+        Some(man) => board.squares(colour, man.kind) != 0,
+        None => false,
+    }
+}
+
+// Whether the colour has a man who might paralyse the one on the square: in Madrasi one of its kind.
+fn may_be_paralysed<R: Rules>(board: &Board, colour: Colour, square: Square) -> bool
+    ensures { result ≡ may_be_paralysed R.rule board.now.men colour (man_on board.now.men square) }
+{
+    R::faced_men_stand_still() && has_like(board, colour, square)
+}
+
 // The squares to which a move of another man than the king may go that ends a check to the colour's king,
-// unless it is no plain move: all of them where no check is seen. `checkers` are the squares of the enemies that
-// reach the king.
+// unless it is no plain move or, in Madrasi, a promotion: all of them where no check is seen. `checkers` are
+// the squares of the enemies that reach the king.
 #[tactic(auto, using(crate::proofs::listing_moves::Targeting::every_square_on))]
 pub(crate) fn evasion_squares<R: Rules>(board: &Board, colour: Colour, checkers: Squares) -> Squares
     requires { checkers ≡ word (is_checker board.now.men colour) }
@@ -45,7 +65,7 @@ pub(crate) fn evasion_squares<R: Rules>(board: &Board, colour: Colour, checkers:
     let Some(king) = board.king_of(colour) else {
         return !0;
     };
-    if R::faced_men_stand_still() {
+    if may_be_paralysed::<R>(board, colour, checker) {
         return !0;
     }
     if has_fairy_lines_on(board, checker) {
@@ -54,6 +74,24 @@ pub(crate) fn evasion_squares<R: Rules>(board: &Board, colour: Colour, checkers:
     only(Some(checker))
         | (reach_as(board, colour, Kind::Queen, king)
             & reach_as(board, colour, Kind::Queen, checker))
+}
+
+// Whether the move might paralyse a man of a kind that its side had none of: in Madrasi a promotion.
+fn may_paralyse_anew<R: Rules>(m: &Move) -> bool
+    ensures { result ≡ may_paralyse_anew R.rule m.now }
+{
+    R::faced_men_stand_still() && m.promo.is_some()
+}
+
+// The squares to which the man's moves might do so: in Madrasi those on which he is promoted, if he is a pawn.
+fn paralysing_squares<R: Rules>(man: Man) -> Squares
+    ensures { result ≡ (if faced_men_stand_still R.rule then word (is_promoting man) else 0) }
+{
+    if R::faced_men_stand_still() {
+        promoting_squares(man)
+    } else {
+        0
+    }
 }
 
 // Whether the move leaves its mover in check, as far as it can be told by the squares to which a move
@@ -70,6 +108,9 @@ fn leaves_check<R: Rules>(board: &Board, evasion_squares: Squares, m: &Move) -> 
     // For the proof: a square's number is below 64.
     let _small = m.to.index();
     if contains(evasion_squares, m.to) {
+        return false;
+    }
+    if may_paralyse_anew::<R>(m) {
         return false;
     }
     match board.man_at(m.from) {
@@ -116,7 +157,10 @@ pub(crate) fn evasions_from<R: Rules>(
         return !0;
     }
     open_targets(man, from)
-        & (evasion_squares | only(board.crossed()) | eventful_captures::<R>(board))
+        & (evasion_squares
+            | only(board.crossed())
+            | eventful_captures::<R>(board)
+            | paralysing_squares::<R>(man))
 }
 
 // Whether the mover isn't in check after the move; `squares` are those from which one may expose its

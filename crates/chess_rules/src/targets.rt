@@ -1,9 +1,10 @@
 //! Where a man may go, and the triples that name it.
-ghost use Rattle.std.specs.Prelude.{◌≡◌, ℕ, ◌<◌, ◌≤◌, ◌&&◌};
+ghost use Rattle.std.specs.Prelude.{◌≡◌, ◌==◌, ℕ, ◌<◌, ◌≤◌, ◌&&◌};
 ghost use Rattle.chess_core.specs.Castling.{has_unmoved};
 ghost use Rattle.chess_core.specs.Position.{man_on};
+ghost use Rattle.chess_core.specs.Squares.{rank_of};
 ghost use Rattle.chess_core.specs.ties.Words.{word};
-ghost use Rattle.chess_rules.specs.Legal.{is_arrival_free};
+ghost use Rattle.chess_rules.specs.Legal.{is_arrival_free, last_rank};
 ghost use Rattle.chess_rules.specs.ties.Places.{IsBarrenFrom, IsNamed, per_origin};
 ghost use Rattle.chess_rules.specs.ties.Targets.{is_promoting, is_arrival, may_go, pawn_goes, steps_to};
 
@@ -117,6 +118,29 @@ fn is_promoting(man: Man, to: Square) -> bool
     ensures { result ≡ is_promoting man to }
 {
     man.kind.is(Kind::Pawn) && to.rank() == last_rank(man.colour)
+}
+
+// The rank on which the colour's pawns are promoted.
+#[tactic(auto, unfolding(chess_core::specs::Squares::squares, chess_core::specs::ties::Words::word, chess_core::specs::ties::Words::word_of))]
+fn last_rank_squares(colour: Colour) -> Squares
+    ensures { result ≡ word (λ t. rank_of t == last_rank colour) }
+{
+    match colour {
+        Colour::White => 0xff00_0000_0000_0000,
+        Colour::Black => 0xff,
+    }
+}
+
+// The squares on which this man is promoted, if he is a pawn.
+#[tactic(auto, using(crate::proofs::listing_moves::SurelyLegal::promotion_words))]
+pub(crate) fn promoting_squares(man: Man) -> Squares
+    ensures { result ≡ word (is_promoting man) }
+{
+    if man.kind.is(Kind::Pawn) {
+        last_rank_squares(man.colour)
+    } else {
+        0
+    }
 }
 
 // The first triple with this origin that goes to one of the word's squares, with a promotion where a pawn

@@ -1,7 +1,7 @@
 -- A move that goes to no square at which a check is met is not legal.
-use Rattle.chess_rules.proofs.Chess.{AreEvasions, AreEvasionsFrom, IsWellFormed, King, Man, Move, Position, RuleSet, Some, and_left, and_parts, and_right, ap, bit_and, bit_at, bit_not, bit_or, captures_do_more, cases_Bool, false, is_castling, is_plain, is_some, is_square, man_on, may_go, off_left, off_right, refl, rules, same_kind, true, w64, word, word_has, ℕ, ◌<◌, ◌==◌, ◌∙◌, ◌≡◌}
+use Rattle.chess_rules.proofs.Chess.{AreEvasions, AreEvasionsFrom, IsWellFormed, King, Man, Move, Position, RuleSet, Some, and_left, and_parts, and_right, ap, arith, bit_and, bit_at, bit_not, bit_or, captures_do_more, cases_Bool, faced_men_stand_still, false, is_castling, is_plain, is_promoting, is_some, is_square, man_on, may_go, off_left, off_right, refl, rules, same_kind, true, w64, word, word_has, ℕ, ◌<◌, ◌==◌, ◌∙◌, ◌≡◌}
 use Rattle.chess_rules.proofs.attacks.StayingInCheck.{check_unmet}
-use Rattle.chess_rules.proofs.listing_moves.Targeting.{arrival_needed, every_square_on, false_by}
+use Rattle.chess_rules.proofs.listing_moves.Targeting.{arrival_needed, every_square_on, false_by, no_promotion_here}
 use Rattle.chess_rules.proofs.listing_moves.Arrivals.{may_go_aimed}
 use Rattle.chess_rules.proofs.listing_moves.Walks.{off_second}
 
@@ -17,15 +17,17 @@ pub evasions_from_all : (rule : RuleSet) (p : Position) (f : ℕ) → AreEvasion
 evasions_from_all rule p f = search (rules, every_square_on)
 
 module _ (rule : RuleSet) (p : Position) (x : Man) (f : ℕ) (well : IsWellFormed p) (here : man_on p.men f ≡ Some x) (piece : same_kind x.kind King ≡ false)
-    (d a b c : ℕ) (evasion_squares : AreEvasions rule p.men p.turn a) (crossed : b ≡ word (λ t. is_square p.crossed t))
+    (d a b c e : ℕ) (evasion_squares : AreEvasions rule p.men p.turn a) (crossed : b ≡ word (λ t. is_square p.crossed t))
     (reborn : captures_do_more rule ≡ true → c ≡ word (λ t. is_some (man_on p.men t)))
+    (promoted : faced_men_stand_still rule ≡ true → e ≡ word (is_promoting x))
     (targets : (q : Position) (t : ℕ) → t < 64 → may_go q x f t ≡ true → (bit_at d t == 1) ≡ true) where
-  -- another man than the king needs the evasions, the crossed square and in Circe those with men, of these where he might go
-  pub evasions_from_some : AreEvasionsFrom rule p f (bit_and d (bit_or (bit_or a b) c))
+  -- another man than the king needs the evasions, the crossed square, in Circe those with men and in Madrasi those of a promotion, if he might go there
+  pub evasions_from_some : AreEvasionsFrom rule p f (bit_and d (bit_or (bit_or (bit_or a b) c) e))
   evasions_from_some = record {
     elsewhere = λ m at small may off.
         let stands = ap (man_on p.men) at ∙ here in
         let none = off_second d _ m.to off (targets p m.to small (rw (← at) (may_go_aimed rule p x m stands (arrival_needed rule p m small may)))) in
         check_unmet rule p x m a m.to well may stands refl small
-        (search (rules, plain_elsewhere, off_left, off_right, false_by, and_parts)) piece evasion_squares (search (rules, off_left));
+        (search (rules, plain_elsewhere, off_left, off_right, false_by, and_parts)) piece
+        (grind (arith, off_right, word_has, no_promotion_here rule p x m)) evasion_squares (search (rules, off_left));
   }

@@ -1,7 +1,8 @@
 -- Squares to which a move may go that answers a check (own).
-use Rattle.std.specs.Prelude.{◌≡◌, ◌<◌, ℕ, Bool, true, false, ◌&&◌, ◌||◌, ◌==◌, List, Option, None, Some}
+use Rattle.std.specs.Prelude.{◌≡◌, ◌<◌, ℕ, Bool, true, false, ◌&&◌, ◌||◌, ◌==◌, List, Option, None, Some, is_some}
 use Rattle.std.specs.Int.{bit_at}
-use Rattle.chess_core.specs.Position.{Position, is_of_colour, king_square, man_on, other}
+use Rattle.chess_core.specs.Position.{Position, is_man, is_of_colour, king_square, man_on, other}
+use Rattle.chess_core.specs.Squares.{some_square}
 use Rattle.chess_core.specs.declared.man.Man.{Man}
 use Rattle.chess_core.specs.declared.man.Move.{Move}
 use Rattle.chess_core.specs.declared.man.Colour.{Colour}
@@ -23,19 +24,33 @@ abbrev pub has_fairy_lines_of : Option Man → Bool
 has_fairy_lines_of None = false
 has_fairy_lines_of (Some y) = has_fairy_lines y.kind
 
+-- colour c has a man of the kind of this man, if there is one
+abbrev pub has_like : List (Option Man) → Colour → Option Man → Bool
+has_like men c None = false
+has_like men c (Some y) = some_square (λ s. is_man (man_on men s) c y.kind)
+
+-- in Madrasi: colour c has a man who might paralyse this man, if there is one
+abbrev pub may_be_paralysed : RuleSet → List (Option Man) → Colour → Option Man → Bool
+may_be_paralysed rule men c o = faced_men_stand_still rule && has_like men c o
+
+-- in Madrasi: the move might paralyse a man of a kind that its side had none of
+abbrev pub may_paralyse_anew : RuleSet → Move → Bool
+may_paralyse_anew rule m = faced_men_stand_still rule && is_some m.promo
+
 -- a check of another man to the king of colour c that a move to t doesn't meet
 pub record IsNoEvasion (rule : RuleSet) (men : List (Option Man)) (c : Colour) (t : ℕ) : Type
     0 where
   pub king : ℕ
   pub checker : ℕ
   pub here : king_square men c ≡ Some king
-  pub moving : faced_men_stand_still rule ≡ false
+  pub moving : may_be_paralysed rule men c (man_on men checker) ≡ false
   pub plain : has_fairy_lines_of (man_on men checker) ≡ false
   pub enemy : is_of_colour (man_on men checker) (other c) ≡ true
   pub check : reaches men checker king ≡ true
   pub no_evasion : is_evasion men c king checker t ≡ false
 
--- a plain move of another man than the king leaves a check unanswered, if it goes to a square not in the word
+-- a plain move of another man than the king, in Madrasi no promotion, leaves a check unanswered, if it goes to a
+-- square not in the word
 pub record AreEvasions (rule : RuleSet) (men : List (Option Man)) (c : Colour) (w : ℕ) : Type
     0 where
   pub elsewhere : (t : ℕ) → t < 64 → (bit_at w t == 1) ≡ false → IsNoEvasion rule men c t
