@@ -12,7 +12,7 @@ ghost use Rattle.chess_rules.specs.ties.Outward.{is_fairy_man, is_leaping_man, i
 ghost use Rattle.chess_rules.specs.ties.Shields.{is_reached};
 ghost use Rattle.chess_rules.specs.Reaches.{reaches, reaches_as};
 ghost use Rattle.chess_core.specs.Steps.{diagonal_steps, straight_steps};
-ghost use Rattle.chess_core.specs.declared.man.Kind.TheVariants.{Bishop, Rook};
+ghost use Rattle.chess_core.specs.declared.man.Kind.TheVariants.{Bishop, Grasshopper, Nightrider, Rook};
 
 use crate::lines::{
     diagonal_lines, diagonal_rides, queen_hops_back, straight_lines, straight_rides,
@@ -119,6 +119,39 @@ fn leaping_attackers(
     squares_seen(board, sight, colour, kind) & comes_as(sight.occupied, colour, kind, square)
 }
 
+// Of the squares of all grasshoppers of this colour, those from which they reach the square. They hop along a
+// queen's lines alone. Mostly none stands on one to the square, and no line is looked along.
+fn hoppers_reaching(occupied: Squares, squares: Squares, square: Square, colour: Colour) -> Squares
+    ensures { (men : List (Option Man)) → occupied ≡ occupied_squares men
+        → squares ≡ squares_of men colour Grasshopper
+        → result ≡ word (λ s. is_man (man_on men s) colour Grasshopper && reaches men s square) }
+{
+    // For the proof: a square's number is below 64.
+    let _small = square.index();
+    if squares & (straight_lines(square) | diagonal_lines(square)) == 0 {
+        return 0;
+    }
+    those_reaching(occupied, squares, square, colour, Kind::Grasshopper)
+}
+
+// Of the squares of all fairy men of this colour, those from which they reach the square.
+#[inline(never)]
+fn fairy_men_reaching(
+    occupied: Squares,
+    hoppers: Squares,
+    nightriders: Squares,
+    square: Square,
+    colour: Colour,
+) -> Squares
+    ensures { (men : List (Option Man)) → occupied ≡ occupied_squares men
+        → hoppers ≡ squares_of men colour Grasshopper
+        → nightriders ≡ squares_of men colour Nightrider
+        → result ≡ word (λ s. is_fairy_man (man_on men s) colour && reaches men s square) }
+{
+    hoppers_reaching(occupied, hoppers, square, colour)
+        | those_reaching(occupied, nightriders, square, colour, Kind::Nightrider)
+}
+
 // The squares of its fairy men that reach the square. Mostly there is none.
 #[inline(always)]
 pub(crate) fn fairy_attackers(
@@ -135,14 +168,7 @@ pub(crate) fn fairy_attackers(
     if hoppers == 0 && nightriders == 0 {
         return 0;
     }
-    those_reaching(sight.occupied, hoppers, square, colour, Kind::Grasshopper)
-        | those_reaching(
-            sight.occupied,
-            nightriders,
-            square,
-            colour,
-            Kind::Nightrider,
-        )
+    fairy_men_reaching(sight.occupied, hoppers, nightriders, square, colour)
 }
 
 // The squares of its kings, knights and pawns that reach the square.

@@ -1,6 +1,7 @@
 -- Attack looked for outward from the square.
-use Rattle.chess_rules.proofs.Chess.{Bishop, Bool, Colour, Grasshopper, Hopper, Kind, King, Knight, List, Man, Nightrider, Option, Pawn, Queen, Rook, RuleSet, Step, [], and_left, any_kept, any_range_same, ap, arith, bit_and, bit_at, bit_or, diagonal_steps, differs, faced_men_stand_still, faces, faces_its_like, false, false_from_ne_true, false≢true, first_of_and, gait_of, hopped_from, hops, is_ahead, is_attacked, is_attacker, is_fairy_man, is_leaping_man, is_man, is_met, is_of_colour, is_on_some, is_paralysed, is_reached, list_any, list_any-append, man_on, not, not_zero, other, queen_steps, reaches, reaches_as, reaches_of, refl, rides, rules, same_colour-true, same_kind-true, second_of_and, some_square, squares, squares_both, squares_either, squares_of, squares_same, straight_steps, sym, true, word, word_empty, word_has, word_lacks, ℕ, ◌&&◌, ◌<◌, ◌==◌, ◌||◌, ◌∙◌, ◌∷◌, ◌≡◌}
+use Rattle.chess_rules.proofs.Chess.{Bishop, Bool, Colour, Grasshopper, Hopper, Kind, King, Knight, List, Man, Nightrider, Option, Pawn, Queen, Rook, RuleSet, Step, [], and_left, any_kept, any_range_same, any_range_true, ap, arith, bit_and, bit_at, bit_or, diagonal_steps, differs, eq-eqb, faced_men_stand_still, faces, faces_its_like, false, false_from_ne_true, false≢true, first_of_and, gait_of, hopped_from, hops, is_ahead, is_attacked, is_attacker, is_fairy_man, is_leaping_man, is_man, is_met, is_of_colour, is_on_some, is_paralysed, is_reached, list_any, list_any-append, man_on, not, not_zero, other, queen_steps, reaches, reaches_as, reaches_of, refl, rides, rules, same_colour-true, same_kind-true, second_of_and, some_square, squares, squares_both, squares_either, squares_of, squares_same, straight_steps, sym, true, word, word_empty, word_has, word_lacks, ℕ, ◌&&◌, ◌<◌, ◌==◌, ◌||◌, ◌∙◌, ◌∷◌, ◌≡◌}
 use Rattle.chess_rules.proofs.rays.Flips.{diagonal-back, hops-turned, queen_rides-back, reaches_back, straight-back}
+use Rattle.chess_rules.proofs.rays.Ways.{ride_on-found}
 
 -- tests that agree on the squares
 pub some_square_same : (p q : ℕ → Bool) → ((s : ℕ) → s < 64 → p s ≡ q s) → some_square p ≡ some_square q
@@ -151,6 +152,28 @@ pub diagonal_reaches : (men : List (Option Man)) (c : Colour) (t b : ℕ) → t 
 diagonal_reaches men c t b q h some =
     let reach = some_reach men c t (word (leaping_comer men c t)) (word (is_met men c Rook straight_steps t)) b (word (fairy_comer men c t)) in
     grind (arith, reach q refl refl h refl, differs b 0 some)
+
+-- where a hopper comes from, a line goes
+hopped_ahead : (men : List (Option Man)) (t s : ℕ) (d : Step) → hopped_from men t s d ≡ true → is_ahead t d s ≡ true
+unfolding hopped_from is_ahead
+hopped_ahead men t s d h = search (rules, any_range_true, eq-eqb, ride_on-found, second_of_and)
+
+-- on the square's file, its rank or its diagonals
+abbrev is_near : ℕ → ℕ → Bool
+is_near t s = is_on_some straight_steps t s || is_on_some diagonal_steps t s
+
+-- from elsewhere a grasshopper doesn't reach t
+hops_near : (men : List (Option Man)) (c : Colour) (t s : ℕ) → t < 64 → s < 64 → is_near t s ≡ false → reaches_as men c Grasshopper s t ≡ false
+unfolding reaches_as is_on_some
+hops_near men c t s q p h = search (rules, any_kept, false_from_ne_true, false≢true, hopped_ahead, hops-turned, list_any-append)
+
+-- where none stands there, none reaches t
+pub hoppers_none : (men : List (Option Man)) (c : Colour) (t g l d : ℕ) → t < 64 → g ≡ squares_of men c Grasshopper → l ≡ word (is_on_some straight_steps t)
+    → d ≡ word (is_on_some diagonal_steps t) → bit_and g (bit_or l d) ≡ 0 → 0 ≡ word (comer men c t Grasshopper)
+unfolding squares_of reaches
+hoppers_none men c t g l d q h i j z =
+    let lined : word (λ s. is_man (man_on men s) c Grasshopper && is_near t s) ≡ 0 = search (rules, squares_both, squares_either) in
+    word_empty _ (λ s b. grind (arith, hops_near, reaches_of_man, word_lacks _ lined s b))
 
 -- a fairy man is of one of the fairy kinds
 fairy_by_kind : (o : Option Man) (c : Colour) (r : Bool) → ((is_man o c Grasshopper && r) || (is_man o c Nightrider && r)) ≡ (is_fairy_man o c && r)

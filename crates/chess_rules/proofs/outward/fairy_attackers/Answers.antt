@@ -1,4 +1,4 @@
-use Rattle.chess_rules.proofs.attacks.Attacking.{fairy_are, fairy_none}
+use Rattle.chess_rules.proofs.attacks.Attacking.{fairy_none}
 use Rattle.chess_rules.proofs.outward.fairy_attackers.Goals as goal
 
 pub returns-then-nightriders-eq0 : goal.returns-then-nightriders-eq0
@@ -7,5 +7,4 @@ returns-then-nightriders-eq0 c = λ men seen.
 
 pub returns : goal.returns
 returns c = λ men seen.
-    fairy_are _ _ _ _ _ (c.those_reaching.ensures men seen.occupied (c.squares_seen-hoppers.ensures men seen))
-    (c.those_reaching-2.ensures men seen.occupied (c.squares_seen-nightriders.ensures men seen))
+    c.fairy_men_reaching.ensures men seen.occupied (c.squares_seen-hoppers.ensures men seen) (c.squares_seen-nightriders.ensures men seen)
