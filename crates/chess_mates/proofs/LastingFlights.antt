@@ -1,8 +1,10 @@
 -- Flights that one move can't take.
-use Rattle.chess_mates.proofs.Chess.{AreApproached, AreAttackers, AreGuarded, AreNear, Attackers, Bishop, Grasshopper, IfSome, IsAttacker, IsLeft, IsMade, IsWellFormed, KeepsOne, King, Knight, LeaveOne, Man, Move, Nightrider, None, Option, Pawn, Position, Queen, Rook, RuleSet, Some, [], after_well_formed, all_triples, and_parts, arith, arrival_needed, arrived, arriving_colour, bit_and, bit_at, bit_at_and, bit_not, bit_or, captures_do_more, cases_Bool, castle_of, eq-eqb, eqb-true, every_square_on, false, false_by, false_from_ne_true, false≢true, find, find_first, is_arrival_free, is_castling, is_promoting, is_pseudo_legal, is_square, king_after, king_is_after, king_square, length, made, maker, man_on, mates, mates_behind, may_go_aimed, men_on, not, off_left, off_right, off_zero, on_board, on_first, on_left, on_right, or_lt, other, other_twice, position_after, range_with_len, reaches_as, reaches_back, rules, same_colour-refl, same_kind, same_kind-true, simple_after, sym, triple_at, true, w64, word, word_has, ℕ, ◌<◌, ◌==◌, ◌^◌, ◌∙◌, ◌≡◌, ◌≢◌}
+use Rattle.chess_mates.proofs.Chess.{AreApproached, AreAttackers, AreGuarded, AreNear, Attackers, Bishop, Grasshopper, IfSome, IsAttacker, IsLeft, IsMade, IsWellFormed, KeepsOne, Kind, King, Knight, LeaveOne, Man, Move, Nightrider, None, Option, Pawn, Position, Queen, Rook, RuleSet, Some, [], after_well_formed, all_triples, and_parts, arith, arrival_needed, arrived, arriving_colour, bit_and, bit_at, bit_at_and, bit_not, bit_or, captures_do_more, cases_Bool, castle_of, eq-eqb, eqb-true, every_square_on, false, false_by, false_from_ne_true, false≢true, find, find_first, is_arrival_free, is_castling, is_promoting, is_pseudo_legal, is_square, king_after, king_is_after, king_square, length, made, maker, man_on, mates, mates_behind, may_go_aimed, men_on, off_left, off_right, off_zero, on_board, on_first, on_left, on_right, or_lt, other, other_twice, position_after, range_with_len, reaches_as, reaches_back, refl, rules, same_colour-refl, same_kind, same_kind-true, simple_after, squares_for, sym, triple_at, true, w64, word, word_has, ℕ, ◌<◌, ◌==◌, ◌^◌, ◌∙◌, ◌≡◌, ◌≢◌}
 use Rattle.chess_mates.proofs.KindByKind.{HoldsOf, of_all}
-use Rattle.chess_mates.specs.ties.LastingFlights.{LeavesOne}
-use Rattle.chess_rules.specs.ties.Targets.{AreReached}
+use Rattle.chess_mates.specs.declared.lasting_flights.OpenTargets.{OpenTargets}
+use Rattle.chess_mates.specs.ties.LastingFlights.{AreOpenTargets, AreTargets, LeavesOne, targets_for}
+use Rattle.chess_rules.proofs.listing_moves.OpenBoard.{piece_targets}
+use Rattle.chess_rules.specs.ties.Targets.{AreReached, may_go}
 use Rattle.chess_mates.proofs.CheckTargets.{last_rank_on}
 use Rattle.chess_mates.proofs.FarMen.{off_denied}
 use Rattle.chess_mates.proofs.Fleeing.{IsKingOn, king_waits, no_mate_with_flight, step_to}
@@ -18,7 +20,15 @@ reached_left x s a b h = record { inside = λ men t small r. on_left a b t (h.in
 pub reached_right : (x : Man) (s a b : ℕ) → AreReached x s b → AreReached x s (bit_or a b)
 reached_right x s a b h = record { inside = λ men t small r. on_right a b t (h.inside men t small r) }
 
--- for `guarded_squares`
+-- the same for targets
+pub targets_left : (x : Man) (s a b : ℕ) → AreTargets x s a → AreTargets x s (bit_or a b)
+targets_left x s a b h = record { inside = λ p t small may. on_left a b t (h.inside p t small may) }
+
+pub targets_right : (x : Man) (s a b : ℕ) → ((p : Position) (t : ℕ) → t < 64 → may_go p x s t ≡ true → (bit_at b t == 1) ≡ true)
+    → AreTargets x s (bit_or a b)
+targets_right x s a b h = record { inside = λ p t small may. on_right a b t (h p t small may) }
+
+-- for `all_open_targets`
 pub all_guard : (a : Attackers) (k q r b n p g y : ℕ) → HoldsOf a (λ x s. AreReached x s k) King → HoldsOf a (λ x s. AreReached x s q) Queen
     → HoldsOf a (λ x s. AreReached x s r) Rook → HoldsOf a (λ x s. AreReached x s b) Bishop → HoldsOf a (λ x s. AreReached x s n) Knight
     → HoldsOf a (λ x s. AreReached x s p) Pawn → HoldsOf a (λ x s. AreReached x s g) Grasshopper → HoldsOf a (λ x s. AreReached x s y) Nightrider
@@ -27,9 +37,48 @@ all_guard a k q r b n p g y kings queens rooks bishops knights pawns grasshopper
     let words = bit_or (bit_or (bit_or (bit_or (bit_or (bit_or (bit_or k q) r) b) n) p) g) y in
     record { guards = search (rules, of_all a (λ x s. AreReached x s words), reached_left, reached_right) depth 12 }
 
--- for `open_guards`: all squares
-pub all_guarded : (a : Attackers) → AreGuarded a (bit_not w64 0)
-all_guarded a = search (rules, every_square_on)
+module _ (a : Attackers) where
+  -- but for pawns and kings the targets are what they reach
+  piece_targets_of : (k : Kind) (w : ℕ) → same_kind k Pawn ≡ false → same_kind k King ≡ false → HoldsOf a (λ x s. AreReached x s w) k
+      → HoldsOf a (λ x s. AreTargets x s w) k
+  piece_targets_of k w none piece h s small on = record {
+    inside = λ p t low may. piece_targets p (record { colour = a.colour; kind = k }) s t w low may (h s small on) none piece;
+  }
+
+  pub are_open_targets : (o : OpenTargets) → AreGuarded a o.guarded → HoldsOf a (λ x s. AreTargets x s o.kings) King
+      → HoldsOf a (λ x s. AreReached x s o.queens) Queen → HoldsOf a (λ x s. AreReached x s o.rooks) Rook
+      → HoldsOf a (λ x s. AreReached x s o.bishops) Bishop → HoldsOf a (λ x s. AreReached x s o.knights) Knight
+      → HoldsOf a (λ x s. AreTargets x s o.pawns) Pawn → HoldsOf a (λ x s. AreReached x s o.grasshoppers) Grasshopper
+      → HoldsOf a (λ x s. AreReached x s o.nightriders) Nightrider → AreOpenTargets a o
+  are_open_targets o guards kings queens rooks bishops knights pawns grasshoppers nightriders = record {
+    guards = guards;
+    targets = of_all a (λ x s. AreTargets x s (targets_for o x.kind)) kings (piece_targets_of Queen _ refl refl queens)
+        (piece_targets_of Rook _ refl refl rooks) (piece_targets_of Bishop _ refl refl bishops) (piece_targets_of Knight _ refl refl knights) pawns
+        (piece_targets_of Grasshopper _ refl refl grasshoppers) (piece_targets_of Nightrider _ refl refl nightriders);
+  }
+
+-- for `untold`
+all_reached : (x : Man) (s : ℕ) → AreReached x s (bit_not w64 0)
+all_reached x s = search (rules, every_square_on)
+
+all_are_targets : (x : Man) (s : ℕ) → AreTargets x s (bit_not w64 0)
+all_are_targets x s = search (rules, every_square_on)
+
+pub untold_targets : (a : Attackers) (w : ℕ) → w ≡ bit_not w64 0 → AreOpenTargets a (record {
+  kings = w;
+  queens = w;
+  rooks = w;
+  bishops = w;
+  knights = w;
+  pawns = w;
+  grasshoppers = w;
+  nightriders = w;
+  guarded = w;
+})
+untold_targets a w all =
+    let reached : (k : Kind) → HoldsOf a (λ x s. AreReached x s w) k = search (rules, all_reached, all) in
+    are_open_targets a _ (search (rules, all_reached, all)) (search (rules, all_are_targets, all)) (reached Queen) (reached Rook) (reached Bishop)
+    (reached Knight) (search (rules, all_are_targets, all)) (reached Grasshopper) (reached Nightrider)
 
 -- a square of both words
 pub on_both : (a b t : ℕ) → (bit_at a t == 1) ≡ true → (bit_at b t == 1) ≡ true → (bit_at (bit_and a b) t == 1) ≡ true
@@ -40,9 +89,11 @@ pub no_last_rank : (x : Man) (w t : ℕ) → (bit_and w 18374686479671623935 == 
 no_last_rank x w t none small on =
     search (rules, false_by, false≢true, off_zero, eqb-true, on_both w 18374686479671623935 t, last_rank_on, and_parts)
 
--- for squares that aren't e1 or e8
-pub off_homes : (s : ℕ) → not (bit_at 1152921504606846992 s == 1) ≡ true → (s ≢ 4) × (s ≢ 60)
-off_homes s off = ((λ e. false≢true (rw e at off)), (λ e. false≢true (rw e at off)))
+-- for squares none of which is e1 or e8
+pub off_homes : (w s : ℕ) → (bit_and w 1152921504606846992 == 0) ≡ true → (bit_at w s == 1) ≡ true → (s ≢ 4) × (s ≢ 60)
+off_homes w s none on =
+    let off = λ (t : ℕ) (both : (bit_at (bit_and w 1152921504606846992) t == 1) ≡ true). false≢true (sym (rw (eqb-true _ 0 none) (off_zero t)) ∙ both) in
+    ((λ e. off 4 (on_both w 1152921504606846992 4 (rw e at on) refl)), (λ e. off 60 (on_both w 1152921504606846992 60 (rw e at on) refl)))
 
 -- a square that is left
 pub left_on : (squares r o t f : ℕ) (x : Man) → AreReached x t r → r < 2 ^ 64 → o < 2 ^ 64 → o ≡ word (λ q. is_square (Some t) q) → f < 64
@@ -73,6 +124,35 @@ pub untaken_left : (w a o f t : ℕ) (x : Man) → AreApproached x f a → o ≡
 untaken_left w a o f t x are only fits on small off =
     let apart : f ≢ t = λ e. grind (arith, off_right a o t off, word_has _ o t only small, eq-eqb) in
     search (rules, apart, are.inside, off_left a o t off, false_from_ne_true, false≢true)
+
+-- for `leave_one`: of men who go plainly and leave one wherever a kind's targets are
+module _ (a : Attackers) (o : OpenTargets) (w : ℕ) (are : AreOpenTargets a o) where
+  abbrev LeavesOneOf : Kind → Type 0
+  LeavesOneOf k = (t : ℕ) → t < 64 → (bit_at (targets_for o k) t == 1) ≡ true → (f : ℕ) × IsLeft w (record { colour = a.colour; kind = k }) t f
+
+  kind_leaves : (k : Kind) → LeavesOneOf k
+      → ((t : ℕ) → t < 64 → (bit_at (targets_for o k) t == 1) ≡ true → is_promoting (record { colour = a.colour; kind = k }) t ≡ false)
+      → ((s : ℕ) → (bit_at (squares_for a k) s == 1) ≡ true → same_kind k King ≡ true → (s ≢ 4) × (s ≢ 60)) → HoldsOf a (λ x s. LeavesOne w x s) k
+  kind_leaves k left unpromoted away s small on =
+      let goes = are.targets s (record { colour = a.colour; kind = k }) (record { small = small; mine = refl; on = on }) in
+      record {
+        left = λ p t low may. left t low (goes.inside p t low may);
+        unpromoted = λ p t low may. unpromoted t low (goes.inside p t low may);
+        away = away s on;
+      }
+
+  piece_leaves : (k : Kind) → same_kind k Pawn ≡ false → same_kind k King ≡ false → LeavesOneOf k → HoldsOf a (λ x s. LeavesOne w x s) k
+  piece_leaves k none piece left = kind_leaves k left (λ _ _ _. rw none refl) (λ _ _ e. absurd (false≢true (sym piece ∙ e)))
+
+  pub all_leave : ((x : Man) (t : ℕ) → t < 64 → (bit_at o.pawns t == 1) ≡ true → is_promoting x t ≡ false)
+      → ((s : ℕ) → (bit_at a.kings s == 1) ≡ true → (s ≢ 4) × (s ≢ 60)) → LeavesOneOf King → LeavesOneOf Queen → LeavesOneOf Rook → LeavesOneOf Bishop
+      → LeavesOneOf Knight → LeavesOneOf Pawn → LeavesOneOf Grasshopper → LeavesOneOf Nightrider → LeaveOne a w
+  all_leave unpromoted away kings queens rooks bishops knights pawns grasshoppers nightriders = record {
+    leaves = of_all a (λ x s. LeavesOne w x s) (kind_leaves King kings (λ _ _ _. refl) (λ s on _. away s on)) (piece_leaves Queen refl refl queens)
+        (piece_leaves Rook refl refl rooks) (piece_leaves Bishop refl refl bishops) (piece_leaves Knight refl refl knights)
+        (kind_leaves Pawn pawns (unpromoted (record { colour = a.colour; kind = Pawn })) (λ _ _ e. absurd (false≢true e)))
+        (piece_leaves Grasshopper refl refl grasshoppers) (piece_leaves Nightrider refl refl nightriders);
+  }
 
 -- for `keeps_one`: the squares that nobody guards can't all be taken
 pub keeps_one : (a : Attackers) (w g : ℕ) → g < 2 ^ 64 → AreGuarded a g → LeaveOne a (bit_and w (bit_not w64 g)) → KeepsOne a w

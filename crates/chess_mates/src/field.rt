@@ -5,12 +5,12 @@ ghost use Rattle.std.specs.Int.{bit_at};
 ghost use Rattle.chess_core.specs.declared.man.Kind.TheVariants.{Nightrider};
 ghost use Rattle.chess_core.specs.declared.man.Colour.{Colour};
 ghost use Rattle.chess_mates.specs.declared.siege.Siege.{Siege};
-ghost use Rattle.chess_mates.specs.ties.LastingFlights.{AreGuarded};
+ghost use Rattle.chess_mates.specs.ties.LastingFlights.{AreOpenTargets};
 ghost use Rattle.chess_mates.specs.ties.Siege.{AreAdjacent, AreFree, AreNeeded, AreSpringboards, AreSprings, IsCastlingHarmless, IsField, IsReached, IsUnsprung, AreCaptureSquares};
 
 use crate::attackers::{Attackers, MOST_ATTACKERS};
 use crate::guards::reach_of;
-use crate::lasting_flights::{guarded_squares, keeps_one};
+use crate::lasting_flights::{OpenTargets, all_open_targets, keeps_one};
 use crate::siege::Siege;
 use chess_core::man::{Colour, Kind};
 use chess_core::square::{Square, Squares};
@@ -220,16 +220,15 @@ pub(crate) fn castling_is_harmless(siege: &Siege, field: &Field) -> bool
     (siege.castled == 0) | ((rooks == 0) & (kings == 0) & (fairies == 0))
 }
 
-// The squares that the attackers reach, were all others gone. Where captures do more, or against many attackers, nothing is
-// told by them, and they are all.
-#[tactic(auto, using(crate::proofs::LastingFlights::all_guarded))]
-pub(crate) fn open_guards<R: Rules>(siege: &Siege) -> Squares
-    ensures { AreGuarded siege.now.men result }
+// Tells the targets of the attackers, were all others gone: where captures do more, or against many attackers, nothing.
+pub(crate) fn tell_targets<R: Rules>(siege: &Siege, targets: &mut OpenTargets)
+    ensures { AreOpenTargets siege.now.men targets.new }
 {
     if R::captures_do_more() || siege.enemies.count_ones() > MOST_ATTACKERS {
-        return !0;
+        *targets = OpenTargets::untold();
+        return;
     }
-    guarded_squares(&siege.men)
+    *targets = all_open_targets(&siege.men);
 }
 
 // Two of the squares next to a king, the first and the last, or the only one; of none none. That it is these two costs time
@@ -247,16 +246,16 @@ fn ends_of(squares: Squares) -> Squares
 // The squares to which no other man may come lest the king, who stays, keeps no flight whatever is played: those that no
 // attacker reaches, were all others gone, if they can't all be taken with one move; two of them, if these can't.
 #[tactic(auto, using(chess_rules::proofs::listing_moves::Targeting::every_square_on, crate::proofs::Sieges::fewer_adjacent))]
-pub(crate) fn needed_squares(siege: &Siege, guarded: Squares) -> Squares
-    requires { AreGuarded siege.now.men guarded }
+pub(crate) fn needed_squares(siege: &Siege, targets: &OpenTargets) -> Squares
+    requires { AreOpenTargets siege.now.men targets.now }
     ensures { AreNeeded siege.now result }
 {
-    let flights = adjacent_squares(siege, siege.king) & !guarded;
+    let flights = adjacent_squares(siege, siege.king) & !targets.guarded;
     let ends = ends_of(flights);
-    if keeps_one(&siege.men, guarded, ends) {
+    if keeps_one(&siege.men, targets, ends) {
         return ends;
     }
-    if ends != flights && keeps_one(&siege.men, guarded, flights) {
+    if ends != flights && keeps_one(&siege.men, targets, flights) {
         return flights;
     }
     !0

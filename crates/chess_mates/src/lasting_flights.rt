@@ -2,11 +2,10 @@
 //! stood on the board, so it doesn't matter who goes, captures or is captured.
 ghost use Rattle.std.specs.Prelude.{◌≡◌, ◌≢◌, ◌<◌, ◌==◌, ℕ, IfSome, true, false};
 ghost use Rattle.std.specs.Int.{bit_at};
-ghost use Rattle.chess_core.specs.Position.{same_kind};
 ghost use Rattle.chess_core.specs.SquareNames.{e1, e8};
-ghost use Rattle.chess_core.specs.declared.man.Kind.TheVariants.{King};
 ghost use Rattle.chess_core.specs.declared.man.Man.{Man};
-ghost use Rattle.chess_mates.specs.ties.LastingFlights.{AreApproached, AreGuarded, IsLeft, KeepsOne, LeaveOne, LeavesOne};
+ghost use Rattle.chess_mates.specs.declared.attackers.Attackers.{Attackers};
+ghost use Rattle.chess_mates.specs.ties.LastingFlights.{AreApproached, AreOpenTargets, AreTargets, IsLeft, KeepsOne, LeaveOne};
 ghost use Rattle.chess_rules.specs.ties.Sight.{king_after};
 ghost use Rattle.chess_rules.specs.ties.Targets.{AreReached, is_promoting};
 
@@ -15,9 +14,44 @@ use chess_core::board::Board;
 use chess_core::man::{Colour, Kind, Man, Move};
 use chess_core::square::{Square, Squares};
 use chess_rules::open_board::{open_reach, open_targets};
-use chess_rules::words::{contains, highest, next_bit, only, take_first};
+use chess_rules::words::{highest, next_bit, only, take_first};
 
-// Those that the men of this kind reach so, who stand on the squares of a word.
+// The squares to which a side's men of each kind might go, were the others gone, and those that one of them reaches so; and
+// perhaps more.
+#[derive(Clone, Copy)]
+pub(crate) struct OpenTargets {
+    pub(crate) kings: Squares,
+    pub(crate) queens: Squares,
+    pub(crate) rooks: Squares,
+    pub(crate) bishops: Squares,
+    pub(crate) knights: Squares,
+    pub(crate) pawns: Squares,
+    pub(crate) grasshoppers: Squares,
+    pub(crate) nightriders: Squares,
+    pub(crate) guarded: Squares,
+}
+
+impl OpenTargets {
+    // All squares, of men of whom nothing is told.
+    #[inline(always)]
+    pub(crate) fn untold() -> OpenTargets
+        ensures { (a : Attackers) → AreOpenTargets a result }
+    {
+        OpenTargets {
+            kings: !0,
+            queens: !0,
+            rooks: !0,
+            bishops: !0,
+            knights: !0,
+            pawns: !0,
+            grasshoppers: !0,
+            nightriders: !0,
+            guarded: !0,
+        }
+    }
+}
+
+// The squares that the men of this kind reach so, who stand on the squares of a word.
 #[tactic(auto, using(chess_rules::proofs::HoldTaken::taken_all, chess_rules::proofs::HoldTaken::taken_none, chess_rules::proofs::HoldTaken::rest_falls, crate::proofs::Risks::none_on))]
 #[inline(always)]
 fn open_reach_of(colour: Colour, kind: Kind, squares: Squares) -> Squares
@@ -37,20 +71,50 @@ fn open_reach_of(colour: Colour, kind: Kind, squares: Squares) -> Squares
     reached
 }
 
-// Those that some man reaches so.
-#[tactic(auto, using(crate::proofs::LastingFlights::all_guard))]
+// Those to which they might go, steps ahead and castlings among them.
+#[tactic(auto, using(chess_rules::proofs::HoldTaken::taken_all, chess_rules::proofs::HoldTaken::taken_none, chess_rules::proofs::HoldTaken::rest_falls, crate::proofs::Risks::none_on))]
 #[inline(always)]
-pub(crate) fn guarded_squares(men: &Attackers) -> Squares
-    ensures { AreGuarded men.now result }
+fn open_targets_of(colour: Colour, kind: Kind, squares: Squares) -> Squares
+    ensures { (s : ℕ) → s < 64 → (bit_at squares s == 1) ≡ true
+        → AreTargets (record { colour = colour; kind = kind }) s result }
 {
-    open_reach_of(men.colour, Kind::King, men.kings)
-        | open_reach_of(men.colour, Kind::Queen, men.queens)
-        | open_reach_of(men.colour, Kind::Rook, men.rooks)
-        | open_reach_of(men.colour, Kind::Bishop, men.bishops)
-        | open_reach_of(men.colour, Kind::Knight, men.knights)
-        | open_reach_of(men.colour, Kind::Pawn, men.pawns)
-        | open_reach_of(men.colour, Kind::Grasshopper, men.grasshoppers)
-        | open_reach_of(men.colour, Kind::Nightrider, men.nightriders)
+    if squares == 0 {
+        return 0;
+    }
+    let man = Man { colour, kind };
+    let mut targets = 0u64;
+    let mut rest = squares;
+    while let Some(from) = take_first(&mut rest) {
+        let more = open_targets(man, from);
+        targets |= more;
+    }
+    targets
+}
+
+// The targets of the men; but for pawns and kings they are what these reach.
+#[inline(always)]
+pub(crate) fn all_open_targets(men: &Attackers) -> OpenTargets
+    ensures { AreOpenTargets men.now result }
+{
+    let kings = open_reach_of(men.colour, Kind::King, men.kings);
+    let queens = open_reach_of(men.colour, Kind::Queen, men.queens);
+    let rooks = open_reach_of(men.colour, Kind::Rook, men.rooks);
+    let bishops = open_reach_of(men.colour, Kind::Bishop, men.bishops);
+    let knights = open_reach_of(men.colour, Kind::Knight, men.knights);
+    let pawns = open_reach_of(men.colour, Kind::Pawn, men.pawns);
+    let grasshoppers = open_reach_of(men.colour, Kind::Grasshopper, men.grasshoppers);
+    let nightriders = open_reach_of(men.colour, Kind::Nightrider, men.nightriders);
+    OpenTargets {
+        kings: open_targets_of(men.colour, Kind::King, men.kings),
+        queens,
+        rooks,
+        bishops,
+        knights,
+        pawns: open_targets_of(men.colour, Kind::Pawn, men.pawns),
+        grasshoppers,
+        nightriders,
+        guarded: kings | queens | rooks | bishops | knights | pawns | grasshoppers | nightriders,
+    }
 }
 
 // The first of the squares that is left once the man has come to `to`.
@@ -66,18 +130,16 @@ const LAST_RANKS: Squares = 0xff00_0000_0000_00ff;
 
 const KINGS_HOMES: Squares = 0x1000_0000_0000_0010;
 
-// Whether the man surely neither promotes nor castles; `targets` are the squares to which he may go.
-#[tactic(auto, using(crate::proofs::LastingFlights::no_last_rank, chess_rules::proofs::listing_moves::Targeting::no_pawn_arrives, crate::proofs::LastingFlights::off_homes))]
-fn goes_plainly(man: Man, from: Square, targets: Squares) -> bool
-    ensures unpromoted { result ≡ true → (t : ℕ) → t < 64 → (bit_at targets t == 1) ≡ true
-        → is_promoting man t ≡ false }
-    ensures away { result ≡ true → same_kind man.kind King ≡ true → (from ≢ e1) × (from ≢ e8) }
+// Whether surely no man is promoted or castles.
+#[tactic(auto, using(crate::proofs::LastingFlights::no_last_rank, crate::proofs::LastingFlights::off_homes))]
+#[inline(always)]
+fn go_plainly(men: &Attackers, targets: &OpenTargets) -> bool
+    ensures unpromoted { result ≡ true → (x : Man) (t : ℕ) → t < 64
+        → (bit_at targets.now.pawns t == 1) ≡ true → is_promoting x t ≡ false }
+    ensures away { result ≡ true → (s : ℕ) → (bit_at men.now.kings s == 1) ≡ true
+        → (s ≢ e1) × (s ≢ e8) }
 {
-    match man.kind {
-        Kind::Pawn => targets & LAST_RANKS == 0,
-        Kind::King => !contains(KINGS_HOMES, from),
-        _ => true,
-    }
+    targets.pawns & LAST_RANKS == 0 && men.kings & KINGS_HOMES == 0
 }
 
 // The squares from which the man reaches `to`, whoever else stands on the board: a grasshopper comes along a queen's lines.
@@ -139,62 +201,50 @@ fn leaves_one_among(squares: Squares, man: Man, targets: Squares) -> bool
     leaves_one_each(squares, man, taken & taking_squares(man, last))
 }
 
-// Whether one of the squares is left wherever the man on `from` may go, were the others gone.
+// The same for the targets of a kind, which may have no men.
+#[tactic(auto, using(crate::proofs::Risks::none_on))]
 #[inline(always)]
-fn leaves_one(squares: Squares, man: Man, from: Square) -> bool
-    ensures { result ≡ true → LeavesOne squares man from }
+fn kind_leaves_one(squares: Squares, colour: Colour, kind: Kind, targets: Squares) -> bool
+    ensures { result ≡ true → (t : ℕ) → t < 64 → (bit_at targets t == 1) ≡ true
+        → (f : ℕ) × IsLeft squares (record { colour = colour; kind = kind }) t f }
 {
-    let targets = open_targets(man, from);
-    goes_plainly(man, from, targets) && leaves_one_among(squares, man, targets)
-}
-
-// Whether each man of this kind leaves one so, who stands on a square of the word.
-#[tactic(auto, using(chess_rules::proofs::HoldTaken::taken_all, chess_rules::proofs::HoldTaken::taken_none, chess_rules::proofs::HoldTaken::rest_falls, crate::proofs::Risks::none_on))]
-#[inline(always)]
-fn each_leaves_one(squares: Squares, colour: Colour, kind: Kind, men: Squares) -> bool
-    ensures { result ≡ true → (s : ℕ) → s < 64 → (bit_at men s == 1) ≡ true
-        → LeavesOne squares (record { colour = colour; kind = kind }) s }
-{
-    if men == 0 {
+    if targets == 0 {
         return true;
     }
-    let man = Man { colour, kind };
-    let mut rest = men;
-    while let Some(from) = take_first(&mut rest) {
-        if !leaves_one(squares, man, from) {
-            return false;
-        }
-    }
-    true
+    leaves_one_among(squares, Man { colour, kind }, targets)
 }
 
-// Whether each man does.
+// Whether one is left wherever any of the men goes.
 #[inline(always)]
-fn leave_one(squares: Squares, men: &Attackers) -> bool
+fn leave_one(squares: Squares, men: &Attackers, targets: &OpenTargets) -> bool
+    requires { AreOpenTargets men.now targets.now }
     ensures { result ≡ true → LeaveOne men.now squares }
 {
-    if !each_leaves_one(squares, men.colour, Kind::Queen, men.queens) {
+    if !go_plainly(men, targets) {
         return false;
     }
-    if !each_leaves_one(squares, men.colour, Kind::Rook, men.rooks) {
+    if !kind_leaves_one(squares, men.colour, Kind::Queen, targets.queens) {
         return false;
     }
-    if !each_leaves_one(squares, men.colour, Kind::Bishop, men.bishops) {
+    if !kind_leaves_one(squares, men.colour, Kind::Rook, targets.rooks) {
         return false;
     }
-    if !each_leaves_one(squares, men.colour, Kind::Knight, men.knights) {
+    if !kind_leaves_one(squares, men.colour, Kind::Bishop, targets.bishops) {
         return false;
     }
-    if !each_leaves_one(squares, men.colour, Kind::Pawn, men.pawns) {
+    if !kind_leaves_one(squares, men.colour, Kind::Knight, targets.knights) {
         return false;
     }
-    if !each_leaves_one(squares, men.colour, Kind::Grasshopper, men.grasshoppers) {
+    if !kind_leaves_one(squares, men.colour, Kind::Pawn, targets.pawns) {
         return false;
     }
-    if !each_leaves_one(squares, men.colour, Kind::Nightrider, men.nightriders) {
+    if !kind_leaves_one(squares, men.colour, Kind::Grasshopper, targets.grasshoppers) {
         return false;
     }
-    each_leaves_one(squares, men.colour, Kind::King, men.kings)
+    if !kind_leaves_one(squares, men.colour, Kind::Nightrider, targets.nightriders) {
+        return false;
+    }
+    kind_leaves_one(squares, men.colour, Kind::King, targets.kings)
 }
 
 // The square of the mover's king after this man's move, castling apart.
@@ -210,10 +260,10 @@ pub(crate) fn king_after(board: &Board, man: Man, m: &Move) -> Option<Square>
 // Whether those of the squares that none of the men reaches, were the others gone, can't all be taken with one move.
 #[tactic(auto, using(crate::proofs::LastingFlights::keeps_one))]
 #[inline(always)]
-pub(crate) fn keeps_one(men: &Attackers, guarded: Squares, near: Squares) -> bool
-    requires { AreGuarded men.now guarded }
+pub(crate) fn keeps_one(men: &Attackers, targets: &OpenTargets, near: Squares) -> bool
+    requires { AreOpenTargets men.now targets.now }
     ensures { result ≡ true → KeepsOne men.now near }
 {
-    let squares = near & !guarded;
-    squares != 0 && leave_one(squares, men)
+    let squares = near & !targets.guarded;
+    squares != 0 && leave_one(squares, men, targets)
 }

@@ -3,13 +3,13 @@ ghost use Rattle.std.specs.Prelude.{◌≡◌, ◌<◌, ◌==◌, ℕ, IfSome, n
 ghost use Rattle.std.specs.Int.{bit_at};
 ghost use Rattle.chess_core.specs.Steps.{gait_of, is_hopper};
 ghost use Rattle.chess_mates.specs.declared.siege.Siege.{Siege};
-ghost use Rattle.chess_mates.specs.ties.LastingFlights.{AreGuarded};
+ghost use Rattle.chess_mates.specs.ties.LastingFlights.{AreOpenTargets};
 ghost use Rattle.chess_mates.specs.ties.Siege.{AreExactSteps, AreReached, AreToldSteps, AreUnhopping, IsAttackedOver, IsBarred, IsPlainStep, IsSettledStep, IsSparedStep, KeepsFlight};
 
 use crate::attackers::MOST_ATTACKERS;
 use crate::field::adjacent_squares;
 use crate::guards::{leapt_squares, ridden_squares};
-use crate::lasting_flights::keeps_one;
+use crate::lasting_flights::{OpenTargets, keeps_one};
 use crate::risk::risk_at;
 use crate::siege::Siege;
 use chess_core::square::{Square, Squares};
@@ -42,22 +42,22 @@ impl ToldSteps {
 }
 
 // Whether the king keeps a flight after the step, whatever is played then.
-fn keeps_flight_at<R: Rules>(siege: &Siege, guarded: Squares, to: Square) -> bool
-    requires { AreGuarded siege.now.men guarded }
+fn keeps_flight_at<R: Rules>(siege: &Siege, targets: &OpenTargets, to: Square) -> bool
+    requires { AreOpenTargets siege.now.men targets.now }
     ensures { result ≡ true → KeepsFlight R.rule siege.now to }
 {
-    !R::captures_do_more() && keeps_one(&siege.men, guarded, adjacent_squares(siege, to))
+    !R::captures_do_more() && keeps_one(&siege.men, targets, adjacent_squares(siege, to))
 }
 
 // The square, if the king mustn't step there: a reply may mate him there, or a man stands on it, unless he keeps a flight.
 #[tactic(auto, using(crate::proofs::Sparing::one_square))]
-fn risky_step<R: Rules>(siege: &Siege, guarded: Squares, to: Square) -> Squares
-    requires { AreGuarded siege.now.men guarded }
+fn risky_step<R: Rules>(siege: &Siege, targets: &OpenTargets, to: Square) -> Squares
+    requires { AreOpenTargets siege.now.men targets.now }
     ensures { (bit_at result to == 1) ≡ false → IsSparedStep R.rule siege.now to }
 {
     // For the proof: a square's number is below 64.
     let _small = to.index();
-    if keeps_flight_at::<R>(siege, guarded, to) {
+    if keeps_flight_at::<R>(siege, targets, to) {
         return 0;
     }
     let step = only(Some(to));
@@ -69,15 +69,15 @@ fn risky_step<R: Rules>(siege: &Siege, guarded: Squares, to: Square) -> Squares
 
 // Those of the squares to which he mustn't step.
 #[tactic(auto, using(chess_rules::proofs::HoldTaken::taken_all, chess_rules::proofs::HoldTaken::taken_none, chess_rules::proofs::HoldTaken::rest_falls))]
-fn risky_among<R: Rules>(siege: &Siege, guarded: Squares, steps: Squares) -> Squares
-    requires { AreGuarded siege.now.men guarded }
+fn risky_among<R: Rules>(siege: &Siege, targets: &OpenTargets, steps: Squares) -> Squares
+    requires { AreOpenTargets siege.now.men targets.now }
     ensures { (t : ℕ) → t < 64 → (bit_at steps t == 1) ≡ true → (bit_at result t == 1) ≡ false
         → IsSparedStep R.rule siege.now t }
 {
     let mut risky = 0u64;
     let mut rest = steps;
     while let Some(to) = take_first(&mut rest) {
-        let more = risky_step::<R>(siege, guarded, to);
+        let more = risky_step::<R>(siege, targets, to);
         risky |= more;
     }
     risky
@@ -152,23 +152,23 @@ fn unbarred_steps<R: Rules>(siege: &Siege, steps: Squares) -> Squares
 
 // Those of the squares to which he mustn't step, of legal steps.
 #[tactic(auto, using(chess_rules::proofs::Basics::cases_Bool))]
-fn risky_steps<R: Rules>(siege: &Siege, guarded: Squares, steps: Squares) -> Squares
-    requires { AreGuarded siege.now.men guarded }
+fn risky_steps<R: Rules>(siege: &Siege, targets: &OpenTargets, steps: Squares) -> Squares
+    requires { AreOpenTargets siege.now.men targets.now }
     ensures { (t : ℕ) → t < 64 → (bit_at steps t == 1) ≡ true → (bit_at result t == 1) ≡ false
         → IsSettledStep R.rule siege.now t }
 {
     let unbarred = unbarred_steps::<R>(siege, steps);
-    risky_among::<R>(siege, guarded, unbarred)
+    risky_among::<R>(siege, targets, unbarred)
 }
 
 // The same, as kept if they are those; they are kept for the next question.
 pub(crate) fn kept_risky_steps<R: Rules>(
     siege: &Siege,
-    guarded: Squares,
+    targets: &OpenTargets,
     kept: &mut ToldSteps,
     steps: Squares,
 ) -> Squares
-    requires guarded { AreGuarded siege.now.men guarded }
+    requires targets { AreOpenTargets siege.now.men targets.now }
     requires kept { AreToldSteps siege.now kept.old }
     ensures risky { (t : ℕ) → t < 64 → (bit_at steps t == 1) ≡ true
         → (bit_at result t == 1) ≡ false → IsSettledStep R.rule siege.now t }
@@ -179,7 +179,7 @@ pub(crate) fn kept_risky_steps<R: Rules>(
     if kept.steps == steps && kept.stand_still == stand_still && kept.do_more == do_more {
         return kept.risky;
     }
-    let risky = risky_steps::<R>(siege, guarded, steps);
+    let risky = risky_steps::<R>(siege, targets, steps);
     *kept = ToldSteps {
         steps,
         stand_still,

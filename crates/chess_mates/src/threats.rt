@@ -13,7 +13,8 @@ ghost use Rattle.chess_rules.specs.Play.{position_after};
 ghost use Rattle.chess_rules.specs.RuleSet.{captures_do_more};
 ghost use Rattle.chess_rules.specs.ties.Targets.{may_go};
 
-use crate::field::{needed_squares, open_guards};
+use crate::field::{needed_squares, tell_targets};
+use crate::lasting_flights::OpenTargets;
 use crate::pawn_approaches::capturers_before;
 use crate::risk::{LAST_RANKS, Risk, RiskBehind, critical_from, kept_risk};
 use crate::siege::{Siege, is_of, siege_of};
@@ -130,8 +131,8 @@ fn critical_of(
 #[derive(Drop)]
 pub struct Threats {
     siege: Siege,
-    // Those that the attackers reach, were all others gone, and perhaps more.
-    guarded: Squares,
+    // Of the attackers, were all others gone.
+    targets: OpenTargets,
     // Those to which another man than the king mustn't come, where captures do no more, lest the king keeps no flight.
     needed: Squares,
     // Told when it is first asked for.
@@ -144,7 +145,7 @@ pub struct Threats {
 
 impl Model for Threats {
     ghost use Rattle.std.specs.Prelude.{IfSome};
-    ghost use Rattle.chess_mates.specs.ties.LastingFlights.{AreGuarded};
+    ghost use Rattle.chess_mates.specs.ties.LastingFlights.{AreOpenTargets};
     ghost use Rattle.chess_mates.specs.ties.Siege.{AreNeeded, AreThreats, AreToldSteps, IsRiskBehind, IsSiege, IsWhole};
     ghost use Rattle.chess_mates.specs.ties.Threats.{ToldThreats};
 
@@ -153,7 +154,7 @@ impl Model for Threats {
     ghost view = { λ t. record { siege = t.siege } };
 
     ghost invariant = { λ t. IsSiege t.siege × IsWhole t.siege
-        × AreGuarded t.siege.men t.guarded
+        × AreOpenTargets t.siege.men t.targets
         × AreNeeded t.siege t.needed
         × IfSome t.risk (λ r. AreThreats t.siege r)
         × IfSome t.behind (λ b. IsRiskBehind t.siege b.from b.risk)
@@ -168,10 +169,11 @@ impl Threats {
             → AreThreatsOf R.rule board.now result }
     {
         let siege = siege_of::<R>(board, king);
-        let guarded = open_guards::<R>(&siege);
+        let mut targets = OpenTargets::untold();
+        tell_targets::<R>(&siege, &mut targets);
         Threats {
-            guarded,
-            needed: needed_squares(&siege, guarded),
+            needed: needed_squares(&siege, &targets),
+            targets,
             siege,
             risk: None,
             behind: None,
@@ -186,8 +188,8 @@ impl Threats {
             → AreThreatsOf R.rule board.now self.new }
     {
         self.siege = siege_of::<R>(board, king);
-        self.guarded = open_guards::<R>(&self.siege);
-        self.needed = needed_squares(&self.siege, self.guarded);
+        tell_targets::<R>(&self.siege, &mut self.targets);
+        self.needed = needed_squares(&self.siege, &self.targets);
         self.risk = None;
         self.behind = None;
         self.steps = ToldSteps::none();
@@ -232,7 +234,7 @@ impl Threats {
         let unplain = unplain_squares::<R>(board, man, from);
         if man.kind.is(Kind::King) {
             let steps = squares & !unplain;
-            let risky = kept_risky_steps::<R>(&self.siege, self.guarded, &mut self.steps, steps);
+            let risky = kept_risky_steps::<R>(&self.siege, &self.targets, &mut self.steps, steps);
             return squares & (unplain | risky);
         }
         let left = unkept_squares::<R>(self.needed, squares);

@@ -6,10 +6,12 @@ use Rattle.std.specs.List.{list_any}
 use Rattle.chess_core.specs.Position.{Position, is_man, is_of_colour, man_on, other, same_kind}
 use Rattle.chess_core.specs.SquareNames.{e1, e8}
 use Rattle.chess_core.specs.Steps.{queen_steps}
-use Rattle.chess_core.specs.declared.man.Kind.TheVariants.{King}
+use Rattle.chess_core.specs.declared.man.Kind.{Kind}
+use Rattle.chess_core.specs.declared.man.Kind.TheVariants.{King, Queen, Rook, Bishop, Knight, Pawn, Grasshopper, Nightrider}
 use Rattle.chess_core.specs.declared.man.Man.{Man}
 use Rattle.chess_core.specs.declared.man.Move.{Move}
 use Rattle.chess_mates.specs.declared.attackers.Attackers.{Attackers}
+use Rattle.chess_mates.specs.declared.lasting_flights.OpenTargets.{OpenTargets}
 use Rattle.chess_mates.specs.ties.Attackers.{IsAttacker}
 use Rattle.chess_rules.specs.Reaches.{leaps, reaches_as}
 use Rattle.chess_rules.specs.ties.Targets.{AreReached, is_promoting, may_go}
@@ -23,6 +25,27 @@ pub record AreApproached (x : Man) (t w : ℕ) : Type 0 where
 -- it has those that each of these men reaches
 pub record AreGuarded (a : Attackers) (w : ℕ) : Type 0 where
   pub guards : (s : ℕ) (x : Man) → IsAttacker a x s → AreReached x s w
+
+-- it has those to which x on s might go, by `may_go`
+pub record AreTargets (x : Man) (s w : ℕ) : Type 0 where
+  pub inside : (p : Position) (t : ℕ) → t < 64 → may_go p x s t ≡ true
+      → (bit_at w t == 1) ≡ true
+
+-- the squares to which a kind's men might go
+abbrev pub targets_for : OpenTargets → Kind → ℕ
+targets_for o King = o.kings
+targets_for o Queen = o.queens
+targets_for o Rook = o.rooks
+targets_for o Bishop = o.bishops
+targets_for o Knight = o.knights
+targets_for o Pawn = o.pawns
+targets_for o Grasshopper = o.grasshoppers
+targets_for o Nightrider = o.nightriders
+
+-- those of each of these men are among his kind's, and what they reach is guarded
+pub record AreOpenTargets (a : Attackers) (o : OpenTargets) : Type 0 where
+  pub guards : AreGuarded a o.guarded
+  pub targets : (s : ℕ) (x : Man) → IsAttacker a x s → AreTargets x s (targets_for o x.kind)
 
 -- once x has come to t, f is left of the word: he stands on another square, and doesn't reach f, whoever else
 -- stands on the board
