@@ -1,10 +1,12 @@
 -- A king in check whose steps are all guarded after a move has no legal move of his own.
-use Rattle.chess_mates.proofs.Chess.{AreSteps, AreUnsafe, Colour, IsFlightless, IsSeenFrom, IsWellFormed, King, List, Man, Move, None, Option, Position, RuleSet, Some, [], after_well_formed, and_left, and_parts, and_right, ap, arith, arriving_colour, arriving_man, attacked_plainly, bit_and, bit_at, bit_not, can_castle, capture_square, captures_do_more, cases_Bool, faced_men_stand_still, false, false_from_ne_true, false≢true, filter, in_check, inl, inr, is_legal, is_nil, is_open, is_pseudo_legal-from_legal, is_reached, king_is, king_is_no_pawn, king_square, legal_moves_are_triples, made, man_on, may_castle, moves, not, not-true, occupied_squares, other, position_after, reaches, reaches_as, refl, same_colour, same_colour-refl, same_kind, same_kind-true, sight_lifted, some_is, sym, triples, true, true_from_ne_false, w64, word, ℕ, ◌&&◌, ◌<◌, ◌==◌, ◌∙◌, ◌∷◌, ◌≡◌}
+use Rattle.chess_mates.proofs.Chess.{AreSteps, AreUnsafe, Colour, IsFlightless, IsSeenFrom, IsWellFormed, King, List, Man, Move, None, Option, Position, RuleSet, Some, [], after_well_formed, and_left, and_parts, and_right, ap, arith, arriving_colour, arriving_man, attacked_plainly, bit_and, bit_at, bit_not, can_castle, capture_square, captures_do_more, cases_Bool, faced_men_stand_still, false, false_from_ne_true, false≢true, filter, in_check, inl, inr, is_legal, is_mate, is_nil, is_open, is_pseudo_legal-from_legal, is_reached, king_is, king_is_no_pawn, king_square, legal_moves_are_triples, made, man_on, may_castle, moves, not, not-true, occupied_squares, other, position_after, reaches, reaches_as, refl, same_colour, same_colour-refl, same_kind, same_kind-true, sight_lifted, some_is, sym, triples, true, true_from_ne_false, w64, word, ℕ, ◌&&◌, ◌<◌, ◌==◌, ◌∙◌, ◌∷◌, ◌≡◌}
 use Rattle.chess_mates.proofs.Fleeing.{IsKingOn, arrived_strikes, is_made, king_on, king_seen, men_stepped, reached_alike, seen_bit, step_legal_is, step_seen, step_taken, step_to}
 use Rattle.chess_mates.proofs.Mating.{turn_after}
 use Rattle.chess_mates.proofs.Standing.{unnamed}
 use Rattle.chess_mates.proofs.Stepping.{occupied_lifted, seen_stepped}
 use Rattle.chess_rules.specs.ties.Sifting.{is_of_others}
+use Rattle.chess_mates.specs.ties.Parries.{IsParriless}
+use Rattle.chess_rules.proofs.theorems.Moves.{mate_is}
 
 -- how a king in check goes: by a step
 own_step : (rule : RuleSet) (q : Position) (n : Move) (k : ℕ) (y : Man) → IsWellFormed q → king_square q.men q.turn ≡ Some k → man_on q.men k ≡ Some y
@@ -67,3 +69,11 @@ others_are_all rule p check none = ap (λ (l : List Move). not (is_nil l)) (by t
   by : (ms : List Move) → filter (is_of_others p) (filter (is_legal rule p) ms) ≡ filter (is_legal rule p) ms
   by [] = refl
   by (m ∷ ms) = grind (arith, cases_Bool (is_legal rule p m), cases_Bool (is_of_others p m), none.stays check m, by ms)
+
+-- and where theirs aren't either, there are none
+pub none_are_left : (rule : RuleSet) (p : Position) → IsWellFormed p → in_check rule p.men p.turn ≡ true → IsFlightless rule p → IsParriless rule p
+    → false ≡ not (is_nil (moves rule p))
+unfolding is_mate
+none_are_left rule p well check king others =
+    let none : (m : Move) → is_legal rule p m ≡ false = λ m. grind (arith, cases_Bool (is_of_others p m), king.stays check m, others.idle m) in
+    ap not (sym (and_parts _ _ ((mate_is rule p well).1 (check, none))).1)

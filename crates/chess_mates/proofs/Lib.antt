@@ -27,6 +27,7 @@ pub mod KeptFlights
 pub mod Passing
 pub mod QuietCastling
 pub mod Sparing
+pub mod StayingChecks
 pub mod Parrying
 pub mod Promoting
 pub mod Barring

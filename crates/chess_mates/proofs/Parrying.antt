@@ -1,11 +1,15 @@
 -- Another man than the king parries a check: he leaves no line to the king open.
-use Rattle.chess_mates.proofs.Chess.{AreSeen, Bishop, Black, Bool, Colour, Grasshopper, IsCovered, IsMade, IsShift, IsSimple, IsWellFormed, Kind, King, List, Man, Move, Nightrider, None, Option, Pawn, Position, Queen, Rook, RuleSet, Some, StandAlike, Step, White, after_well_formed, agree_below_at, along, and_from, and_left, and_parts, and_right, any_kept, any_range_cases, any_range_false, ap, arith, arrived, arriving_colour, arriving_man, bit_and, bit_at, bit_not, bit_or, cannot_expose_parts, capture_square, captures_arrival, captures_do_more, cases_Bool, cases_eq, check_is, cond-false, cond-true, covered_parts, diagonal_steps, differs, eq-eqb, faced_men_stand_still, false, false_from_ne_true, false≢true, forward, goes_on, gone_shift, gone_to, if◌then◌else◌, inl, inr, is_advance, is_ahead, is_arrival_free, is_legal, is_lined, is_man, is_of_colour, is_on_fairy_line, is_on_fairy_line_at, is_on_some, is_paralysed, is_promoting, is_promotion_right, is_pseudo_legal, is_reached, is_shut, is_some, is_square, kept_now, king_is, king_square, king_there, knight_steps, leaps, left_now, length, length-set, list_any, made, man_on, man_on-with_other, man_on-with_same, man_there, mates, may_expose, may_expose_at, may_stand_between, no_capture, not, not-true, not_attacked, occupied_now, occupied_squares, on_board, on_first, or_cases, or_left, or_parts, or_right, other, other_differs, other_twice, pawn_goes, position_after, queen_steps, reaches, refl, return_square, rules, same_colour, same_colour-refl, same_colour-true, same_kind, sight_after, simple_after, some_square, some_square_false, some_square_true, square_is, squares, squares_both, squares_either, squares_not, squares_of, squares_same, stood, straight_steps, sym, there_now, true, unreached, w64, with_man, word, word_has, ℕ, ◌&&◌, ◌<◌, ◌==◌, ◌||◌, ◌∙◌, ◌≡◌, ◌≢◌}
-use Rattle.chess_rules.proofs.attacks.Shielding.{CannotExpose, IsQuiet}
-use Rattle.chess_mates.proofs.Fleeing.{king_waits, on_second, reaches_alike_of, unseen_bit}
+use Rattle.chess_mates.proofs.Chess.{AreSeen, Bishop, Black, Bool, Colour, Grasshopper, IsCovered, IsMade, IsShift, IsSimple, IsWellFormed, Kind, King, List, Man, Move, Nightrider, None, Option, Pawn, Position, Queen, Rook, RuleSet, Some, StandAlike, Step, White, after_well_formed, agree_below_at, along, and_from, and_left, and_parts, and_right, any_kept, any_range_cases, any_range_false, ap, arith, arrived, arriving_colour, arriving_man, attacked_plainly, bit_and, bit_at, bit_not, bit_or, can_castle, cannot_expose_parts, capture_square, captures_arrival, captures_do_more, cases_Bool, cases_eq, check_is, cond-false, cond-true, covered_parts, diagonal_steps, differs, eq-eqb, eqb-true, faced_men_stand_still, false, false_from_ne_true, false≢true, forward, goes_on, gone_shift, gone_to, if◌then◌else◌, in_check, inl, inr, is_advance, is_ahead, is_arrival_free, is_attacked_at, is_legal, is_lined, is_man, is_mate, is_of_colour, is_on_fairy_line, is_on_fairy_line_at, is_on_some, is_paralysed, is_promoting, is_promotion_right, is_pseudo_legal, is_pseudo_legal-from_legal, is_reached, is_shut, is_some, is_square, kept_now, king_is, king_square, king_there, knight_steps, leaps, left_now, legal_moves_are_triples, length, length-set, list_any, made, maker, man_on, man_on-with_other, man_on-with_same, man_there, mates, may_castle, may_expose, may_expose_at, may_stand_between, no_capture, not, not-true, not_attacked, occupied_now, occupied_squares, off_second, off_zero, on_board, on_first, or_cases, or_left, or_parts, or_right, other, other_differs, other_twice, pawn_goes, position_after, position_after_by, queen_steps, reaches, refl, return_square, rules, same_colour, same_colour-refl, same_colour-true, same_kind, sight_after, simple_after, some_square, some_square_false, some_square_true, square_is, squares, squares_both, squares_either, squares_not, squares_of, squares_same, stood, straight_steps, subst, sym, there_now, true, true_from_ne_false, unreached, w64, with_man, word, word_has, ℕ, ◌&&◌, ◌<◌, ◌==◌, ◌||◌, ◌∙◌, ◌≡◌, ◌≢◌}
+use Rattle.chess_rules.proofs.attacks.Shielding.{CannotExpose, IsPlain, IsQuiet, arrived_shift}
+use Rattle.chess_mates.proofs.Fleeing.{king_waits, on_second, reaches_alike_of, seen_bit, unseen_bit}
 use Rattle.chess_rules.proofs.attacks.Seeing.{IsCapture, seen_after}
 use Rattle.chess_mates.proofs.Mating.{turn_after}
 use Rattle.chess_mates.proofs.Standing.{captured_there, stays_there, stood as stands_after}
-use Rattle.chess_mates.specs.ties.Parries.{AreParriesTold, IsInterposed, IsShutBy, IsWayBetween, is_on_line, is_unpinned}
+use Rattle.chess_mates.specs.ties.Parries.{AreBetween, AreParriesTold, IsInterposed, IsParriless, IsShutBy, IsToldBetween, IsUntaken, IsWayBetween, NobodyComes, comes, is_on_line, is_unpinned}
+use Rattle.chess_mates.specs.declared.parries.Parries.{Parries}
+use Rattle.chess_mates.specs.declared.parries.Parries.TheVariants.{Impossible, Possible}
+use Rattle.chess_mates.proofs.StayingChecks.{advance_back, advances, frees_after, reaches_still}
+use Rattle.chess_rules.proofs.rays.Parting.{Frees}
 use Rattle.chess_rules.proofs.theorems.Moves.{mate_is}
 use Rattle.chess_core.proofs.Words.{some_square_told}
 use Rattle.chess_rules.proofs.making_moves.Plays.{length-without_at}
@@ -131,11 +135,13 @@ module _ (rule : RuleSet) (q : Position) (y : Man) (s t k : ℕ) (well : IsWellF
       and_from _ _ may_reply (ap not (check ∙ not_attacked rule (arrived q y (reply y s t)) (other q.turn) k none))
 
 -- where a reply is legal there is no mate
-no_mate_with_reply : (rule : RuleSet) (p : Position) (m n : Move) → IsWellFormed (position_after rule p m) → is_legal rule (position_after rule p m) n ≡ true
-    → mates rule p m ≡ false
+no_mate_with_reply : (rule : RuleSet) (q : Position) (n : Move) → IsWellFormed q → is_legal rule q n ≡ true → is_mate rule q ≡ false
+no_mate_with_reply rule q n well legal = false_from_ne_true _ (λ h. false≢true (sym (((mate_is rule q well).0 h).1 n) ∙ legal))
+
+-- for `is_mating`: so the move before doesn't mate
+pub no_mate_with_parry : (rule : RuleSet) (p : Position) (m : Move) → is_mate rule (position_after rule p m) ≡ false → false ≡ mates rule p m
 unfolding mates
-no_mate_with_reply rule p m n well legal =
-    false_from_ne_true _ (λ h. false≢true (sym (((mate_is rule (position_after rule p m) well).0 (and_parts _ _ h).1).1 n) ∙ legal))
+no_mate_with_parry rule p m parried = sym (and_right _ _ parried)
 
 -- after a move of which parries are told
 module _ (rule : RuleSet) (p : Position) (m : Move) (x : Man) (k : ℕ) (well : IsWellFormed p) (may : is_pseudo_legal rule p m ≡ true)
@@ -229,11 +235,11 @@ module _ (rule : RuleSet) (p : Position) (m : Move) (x : Man) (k : ℕ) (well : 
           ]
 
       -- so it is no mate
-      no_mate_where_parried : mates rule p m ≡ false
+      no_mate_where_parried : is_mate rule q ≡ false
       no_mate_where_parried =
           let turn = turn_after rule p m may in
           let mine : same_colour y.colour q.turn ≡ true = ap (same_colour y.colour) turn ∙ enemy in
-          no_mate_with_reply rule p m n well_q (reply_is_legal rule q y s t k well_q there mine told.able told.reborn mortal lt free goes king_q
+          no_mate_with_reply rule q n well_q (reply_is_legal rule q y s t k well_q there mine told.able told.reborn mortal lt free goes king_q
           (ap (λ (c : Colour). is_reached (arrived q y n) k (other c)) turn
           ∙ unreached_in_place (arrived q y n) m.to k z (other (other p.turn)) size_r arrives_still harmless unreached_replaced))
 
@@ -242,7 +248,7 @@ module _ (rule : RuleSet) (p : Position) (m : Move) (x : Man) (k : ℕ) (well : 
 
   -- he takes the man that has come
   taken_from : (s : ℕ) (o : Option Man) → man_on q.men s ≡ o → s < 64 → is_of_colour o (other p.turn) ≡ true → reaches q.men s m.to ≡ true
-      → is_unpinned p m k s ≡ true → mates rule p m ≡ false
+      → is_unpinned p m k s ≡ true → is_mate rule q ≡ false
   unfolding capture_square
   taken_from s None at inside side takes unpinned = absurd (false≢true side)
   taken_from s (Some y) at inside side takes unpinned =
@@ -257,7 +263,7 @@ module _ (rule : RuleSet) (p : Position) (m : Move) (x : Man) (k : ℕ) (well : 
   -- he comes between, and the man that has come doesn't reach the king any more
   module _ (i : IsInterposed q.men p x m k) (y : Man) (at : man_on q.men i.from ≡ Some y) (side : same_colour y.colour (other p.turn) ≡ true)
       (nobody : capture_square q y (reply y i.from i.square) ≡ None) (goes : can_go rule q y (reply y i.from i.square) ≡ true) where
-    comes_between : mates rule p m ≡ false
+    comes_between : is_mate rule q ≡ false
     unfolding reaches may_stand_between
     comes_between =
         let well_q = after_well_formed rule p m well may in
@@ -274,7 +280,7 @@ module _ (rule : RuleSet) (p : Position) (m : Move) (x : Man) (k : ℕ) (well : 
         (ap (λ (o : Option ℕ). is_on_fairy_line_at p.men o (other p.turn) i.square) (sym king) ∙ i.aside)
         (and_right (is_of_colour (man_on (arrived q y (reply y i.from i.square)) m.to) (other (other p.turn))) _ unharmed)
 
-  between_from : (i : IsInterposed q.men p x m k) (o : Option Man) → man_on q.men i.from ≡ o → mates rule p m ≡ false
+  between_from : (i : IsInterposed q.men p x m k) (o : Option Man) → man_on q.men i.from ≡ o → is_mate rule q ≡ false
   between_from i None at = absurd (false≢true (grind (arith, i.way, at)))
   between_from i (Some y) at = elim i.way [
     | inl w ↦
@@ -291,8 +297,8 @@ module _ (rule : RuleSet) (p : Position) (m : Move) (x : Man) (k : ℕ) (well : 
         (grind (arith, step, both.1, cond-true, or_right))
   ]
 
-  -- for `is_parried`: somebody comes between
-  pub no_mate_where_interposed : IsInterposed q.men p x m k → mates rule p m ≡ false
+  -- for `parries_after`: somebody comes between
+  pub no_mate_where_interposed : IsInterposed q.men p x m k → is_mate rule q ≡ false
   no_mate_where_interposed i = between_from i _ refl
 
   -- the men that an attack sees after it
@@ -302,19 +308,124 @@ module _ (rule : RuleSet) (p : Position) (m : Move) (x : Man) (k : ℕ) (well : 
       grind (arith, here, is_m.mine, arriving_colour, other_differs, captures_arrival p x m, small, well.size) in
       search (rules, men_q, seen_after p.men m.from (capture_square p x m) m.to (arriving_man x m.promo) p.turn goes)
 
-  -- for `is_parried`: somebody takes the man that has come
-  pub no_mate_where_some_take : (w : ℕ) → w ≡ word (λ s. is_of_colour (man_on q.men s) (other p.turn) && reaches q.men s m.to && is_unpinned p m k s)
-      → not (w == 0) ≡ true → mates rule p m ≡ false
+  -- for `parries_after`: somebody takes the man that has come
+  pub no_mate_where_some_take : (v w : ℕ) → v ≡ word (λ s. is_of_colour (man_on q.men s) (other p.turn) && reaches q.men s m.to)
+      → w ≡ word (is_unpinned p m k) → not (bit_and v w == 0) ≡ true → is_mate rule q ≡ false
   unfolding some_square squares
-  no_mate_where_some_take w are some =
+  no_mate_where_some_take v w takers unpinned some =
+      let are : bit_and v w ≡ word (λ s. is_of_colour (man_on q.men s) (other p.turn) && reaches q.men s m.to && is_unpinned p m k s) =
+      search (rules, squares_both, takers, unpinned) in
       let takes = λ (s : ℕ). is_of_colour (man_on q.men s) (other p.turn) && reaches q.men s m.to && is_unpinned p m k s in
       elim (any_range_cases takes 0 64) [
         | inl w ↦
             let both = and_parts _ (is_unpinned p m k w.0) w.3 in
             let parts = and_parts _ (reaches q.men w.0 m.to) both.0 in
             taken_from w.0 _ refl w.2 parts.0 parts.1 both.1
-        | inr none ↦ absurd (false≢true (sym (any_range_false takes 0 64 none) ∙ (sym (some_square_told takes w are) ∙ some)))
+        | inr none ↦ absurd (false≢true (sym (any_range_false takes 0 64 none) ∙ (sym (some_square_told takes (bit_and v w) are) ∙ some)))
       ]
+
+  -- nobody parries the check of a man who isn't taken, if nobody comes between
+  module _ (o w : ℕ) (i : IsUntaken o w x m.to k) (occupied : o ≡ occupied_squares q.men)
+      (takers : w ≡ word (λ s. is_of_colour (man_on q.men s) (other p.turn) && reaches q.men s m.to)) (u : NobodyComes q.men (other p.turn) m.to k) where
+    -- nor is anybody captured en passant
+    uncrossed : q.crossed ≡ None
+    unfolding position_after position_after_by
+    uncrossed = search (rules, here, i.piece, cond-false, and_left)
+
+    -- by the reply of another man than the king
+    module _ (n : Move) (y : Man) (is : IsMade rule q y n) (inside : n.from < 64) (lt : n.to < 64) (mortal : same_kind y.kind King ≡ false) where
+      enemy : same_colour y.colour (other p.turn) ≡ true
+      enemy = grind (arith, is.mine, turn_after rule p m may, same_colour-refl)
+
+      -- he isn't the man that has come
+      no_enemy : Some y ≡ Some (arriving_man x m.promo) → ⊥
+      no_enemy e =
+          let side = ap (λ (c : Colour). same_colour c (other p.turn)) (arriving_colour x m.promo ∙ is_m.mine) ∙ other_differs p.turn in
+          false≢true (sym side ∙ ap (λ (v : Option Man). is_of_colour v (other p.turn)) (sym e) ∙ enemy)
+
+      -- nor does he stand on the king's square
+      away : is_square (Some k) n.from ≡ false
+      away =
+          let there = king_there q.men q.turn k king_q in
+          false_from_ne_true _ (λ h. grind (arith, there.1, is.here, eqb-true k n.from h, mortal, and_parts, false≢true))
+
+      -- he doesn't take the man that has come
+      untaken : n.to ≢ m.to
+      unfolding can_castle may_castle
+      untaken e =
+          let goes : reaches q.men n.from m.to ≡ true =
+          grind (arith, is.can_go, e, arrives, cases_Bool (same_kind y.kind Pawn), cond-true, cond-false, and_left, and_parts, or_cases, mortal, false≢true) in
+          let side = ap (λ (v : Option Man). is_of_colour v (other p.turn)) is.here ∙ enemy in
+          let set : (bit_at w n.from == 1) ≡ true = word_has _ w n.from takers inside ∙ and_from _ _ side goes in
+          false≢true (sym away ∙ i.untaken n.from inside set)
+
+      -- nor does he come between
+      apart : (bit_at u.squares n.to == 1) ≡ false
+      unfolding can_castle may_castle
+      apart = false_from_ne_true _ (λ h.
+          let vacant = u.vacant n.to lt h in
+          let come : comes q.men (other p.turn) k n.to n.from ≡ true = elim (cases_Bool (same_kind y.kind Pawn)) [
+            | inl pawn ↦
+                let step : is_pawn_step q y n ≡ true = grind (arith, is.can_go, pawn, cond-true, vacant, uncrossed, and_parts, or_cases, false≢true) in
+                let ahead = advance_back y.colour n.from n.to inside (advances q y n step) in
+                grind (arith, is.here, enemy, pawn, same_colour-true y.colour (other p.turn) enemy, ahead, and_from, or_right)
+            | inr piece ↦
+                let goes : reaches q.men n.from n.to ≡ true = grind (arith, is.can_go, piece, cond-false, and_left, mortal, or_cases, false≢true) in
+                grind (arith, is.here, enemy, piece, goes, away, and_from, or_left)
+          ] in
+          false≢true (sym (u.none n.to lt h) ∙ some_square_true (comes q.men (other p.turn) k n.to) n.from inside come))
+
+      plain : IsPlain rule q y n
+      plain = record {
+        castling = search (rules, and_left, mortal);
+        crossed = rw uncrossed refl;
+        rebirth = λ h. absurd (false≢true (sym told.reborn ∙ h));
+      }
+
+      -- so the check stays
+      still : in_check rule (position_after rule q n).men q.turn ≡ true
+      unfolding is_reached reaches
+      still =
+          let well_q = after_well_formed rule p m well may in
+          let simple : IsSimple rule q y n = record { castling = plain.castling; rebirth = plain.rebirth } in
+          let shift = arrived_shift rule q y n well_q is lt plain in
+          let low = (king_there p.men (other p.turn) k king).0 in
+          let free : Frees q.men (arrived q y n) n.to = frees_after q.men (arrived q y n) n.from n.to (arriving_man y n.promo) shift in
+          let stays : man_on (arrived q y n) m.to ≡ Some x =
+          stays_there q y n m.to (λ s cap. captured_there q y n s plain.crossed cap) (λ e. no_enemy (sym is.here ∙ ap (man_on q.men) (sym e) ∙ arrives))
+          (λ e. untaken (sym e)) ∙ arrives ∙ ap (λ (r : Option Kind). Some (arriving_man x r)) told.unpromoted in
+          let holds = reaches_still q.men (arrived q y n) n.to k m.to u.squares free small low lt u.between apart x.colour x.kind i.orthodox
+          (i.check q.men occupied) in
+          let reached : is_reached (arrived q y n) k (other q.turn) ≡ true =
+          some_square_true (λ s. is_of_colour (man_on (arrived q y n) s) (other q.turn) && reaches (arrived q y n) s k) m.to small
+          (grind (arith, stays, turn_after rule p m may, other_twice, is_m.mine, same_colour-refl, holds, and_from)) in
+          check_is rule q y n (Some k) well_q is lt simple (cond-false _ _ _ mortal ∙ king_q)
+          ∙ sym (attacked_plainly rule (arrived q y n) k (other q.turn) true told.able (sym reached))
+
+    checked : in_check rule q.men q.turn ≡ true
+    unfolding in_check is_reached reaches
+    checked =
+        let holds = i.check q.men occupied in
+        let reached : is_reached q.men k (other q.turn) ≡ true =
+        some_square_true (λ s. is_of_colour (man_on q.men s) (other q.turn) && reaches q.men s k) m.to small
+        (grind (arith, arrives, told.unpromoted, turn_after rule p m may, other_twice, is_m.mine, same_colour-refl, holds, and_from)) in
+        ap (λ (v : Option ℕ). is_attacked_at rule q.men v (other q.turn)) king_q ∙ sym (attacked_plainly rule q.men k (other q.turn) true told.able (sym reached))
+
+    -- for `parries_after`
+    pub parriless : IsParriless rule q
+    unfolding is_legal
+    parriless = record {
+      check = checked;
+      idle = λ n others. false_from_ne_true _ (λ legal.
+          let well_q = after_well_formed rule p m well may in
+          let triple = legal_moves_are_triples rule q n well_q legal in
+          let pseudo = is_pseudo_legal-from_legal rule q n legal in
+          let y = maker rule q n pseudo in
+          let is = made rule q n y.0 pseudo y.1 in
+          let mortal : same_kind y.0.kind King ≡ false =
+          false_from_ne_true _ (λ h. grind (arith, others, y.1, is.mine, h, same_colour-refl, and_from, false≢true)) in
+          grind (arith, legal, still n y.0 is triple.0 triple.1 mortal, and_parts, false≢true));
+    }
 
 -- the words of the squares of men who aren't pinned
 module _ (p : Position) (m : Move) (k w l d : ℕ) (shields : w ≡ word (may_expose p.men (other p.turn))) (straight : l ≡ word (is_on_some straight_steps k))
@@ -359,7 +470,7 @@ pawns_behind c t a k s p q ahead near on =
     let step = one_ahead (other c) t s p (sym (word_has _ a s ahead q) ∙ on_first a k s on) (sym (word_has _ k s near q) ∙ on_second a k s on) in
     grind (arith, return_square t s (forward (other c)) 1 p step)
 
--- for `is_interposed`
+-- for `parries_between`: a man of these comes between
 pub interposed : (men : List (Option Man)) (p : Position) (x : Man) (m : Move) (k a o f c w u b t : ℕ) → o ≡ occupied_squares men
     → f ≡ word (may_stand_between p.men (other p.turn)) → c ≡ word (λ s. is_of_colour (man_on men s) (other p.turn) && reaches men s t && is_unpinned p m k s)
     → w ≡ squares_of men (other p.turn) Pawn → u ≡ word (is_unpinned p m k)
@@ -390,3 +501,35 @@ interposed men p x m k a o f c w u b t occupied lines comers pawns loose behind 
           made (sym (word_has _ u by.from loose by.small) ∙ on_second w u by.from first)
           (inr (sym (word_has _ w by.from pawns by.small) ∙ on_first w u by.from first, behind by.from by.small (on_second (bit_and w u) b by.from y)))
     ]
+
+-- for `parries_between`: nobody comes to a square between, and all of them are empty
+pub nobody_between : (men : List (Option Man)) (p : Position) (b k a o f : ℕ) → o ≡ occupied_squares men → f ≡ word (may_stand_between p.men (other p.turn))
+    → AreBetween men b k a → (bit_and a (bit_or o f) == 0) ≡ true
+    → ((t : ℕ) → t < 64 → (bit_at (bit_and a (bit_not w64 (bit_or o f))) t == 1) ≡ true → some_square (comes men (other p.turn) k t) ≡ false)
+    → NobodyComes men (other p.turn) b k
+nobody_between men p b k a o f occupied lines between free none =
+    let held : bit_or o f ≡ word (λ s. is_some (man_on men s) || may_stand_between p.men (other p.turn) s) = search (rules, occupied, lines, squares_either) in
+    let off : (t : ℕ) → (bit_at a t == 1) ≡ true → (bit_at (bit_or o f) t == 1) ≡ false =
+    λ t on. off_second a (bit_or o f) t (ap (λ n. bit_at n t == 1) (eqb-true _ 0 free) ∙ off_zero t) on in
+    record {
+      squares = a;
+      between = between;
+      vacant = λ t lt on. grind (arith, or_parts _ (may_stand_between p.men (other p.turn) t) (sym (word_has _ (bit_or o f) t held lt) ∙ off t on));
+      none = λ t lt on. none t lt (seen_bit _ a (bit_or o f) t held lt on (off t on));
+    }
+
+-- for `is_untaken`: of those who take him all stand on the king's square
+pub kings_alone : (w n k s : ℕ) → n ≡ word (is_square (Some k)) → (bit_and w (bit_not w64 n) == 0) ≡ true → s < 64 → (bit_at w s == 1) ≡ true
+    → is_square (Some k) s ≡ true
+kings_alone w n k s only none lt on =
+    true_from_ne_false _ (λ off. false≢true (sym (ap (λ v. bit_at v s == 1) (eqb-true _ 0 none) ∙ off_zero s)
+    ∙ seen_bit _ w n s only lt on (word_has _ n s only lt ∙ off)))
+
+-- for `parries_after`: what is told where it is told
+pub told_possible : (men : List (Option Man)) (p : Position) (x : Man) (m : Move) (k : ℕ) (r : Parries) → r ≡ Possible → IsToldBetween men p x m k r
+    → IsInterposed men p x m k
+told_possible men p x m k r e told = subst (IsToldBetween men p x m k) e told
+
+pub told_impossible : (men : List (Option Man)) (p : Position) (x : Man) (m : Move) (k : ℕ) (r : Parries) → r ≡ Impossible → IsToldBetween men p x m k r
+    → NobodyComes men (other p.turn) m.to k
+told_impossible men p x m k r e told = subst (IsToldBetween men p x m k) e told

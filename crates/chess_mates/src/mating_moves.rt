@@ -5,6 +5,7 @@ ghost use Rattle.chess_core.specs.WellFormed.{IsWellFormed};
 ghost use Rattle.chess_rules.specs.Attacks.{in_check};
 ghost use Rattle.chess_mates.specs.ties.CheckSquares.{AreCheckSquares};
 ghost use Rattle.chess_mates.specs.ties.Flights.{IsTold};
+ghost use Rattle.chess_mates.specs.ties.Parries.{AreParries};
 ghost use Rattle.chess_rules.specs.Legal.{is_legal, is_mate, is_nil, is_pseudo_legal, moves};
 ghost use Rattle.chess_core.specs.declared.man.Move.{Move};
 ghost use Rattle.std.specs.Int.{bit_at};
@@ -16,7 +17,7 @@ ghost use Rattle.chess_rules.specs.ties.Targets.{AreCandidates, AreKept, AreOrig
 use crate::checks::{CheckSquares, check_squares, may_check, near_check_targets};
 use crate::flights::{Flights, flights_after};
 use crate::origins::check_origins;
-use crate::parries::is_parried;
+use crate::parries::{Parries, parries_after};
 use crate::standing_flights::{StandingFlights, standing_flights};
 use chess_core::board::Board;
 use chess_core::man::{Colour, Move};
@@ -284,7 +285,7 @@ fn candidates<R: Rules>(board: &Board, clues: &MateClues, from: Square) -> Squar
 }
 
 // Whether the move is legal and mates. The board is unchanged after it.
-#[tactic(auto, using(crate::proofs::Mating::no_mate_quietly, crate::proofs::Mating::not_mating, crate::proofs::Fleeing::no_mate_with_flight))]
+#[tactic(auto, using(crate::proofs::Mating::no_mate_quietly, crate::proofs::Mating::not_mating, crate::proofs::Fleeing::no_mate_with_flight, crate::proofs::Parrying::no_mate_with_parry))]
 fn is_mating<R: Rules>(board: &mut Board, squares: &CheckSquares, m: Move) -> bool
     requires well_formed { IsWellFormed board.old }
     requires aimed { IsAimed R.rule board.old m }
@@ -300,54 +301,78 @@ fn is_mating<R: Rules>(board: &mut Board, squares: &CheckSquares, m: Move) -> bo
     }
     match flights_after::<R>(board, &m) {
         Flights::Left => false,
-        _ if is_parried::<R>(board, squares, &m) => false,
-        flights => gives_mate::<R>(board, m, flights),
+        flights => match parries_after::<R>(board, squares, &m) {
+            Parries::Possible => false,
+            parries => gives_mate::<R>(board, m, flights, parries),
+        },
     }
 }
 
-// Whether the move, which may be made, is legal and mates; `flights` is told of the position after it. The
-// board is unchanged after it.
+// Whether the move, which may be made, is legal and mates; `flights` and `parries` are told of the position after it.
+// The board is unchanged after it.
 #[tactic(auto, unfolding(crate::specs::ties::Mates::mates, chess_rules::specs::Legal::is_legal))]
-fn gives_mate<R: Rules>(board: &mut Board, m: Move, flights: Flights) -> bool
+fn gives_mate<R: Rules>(board: &mut Board, m: Move, flights: Flights, parries: Parries) -> bool
     requires well_formed { IsWellFormed board.old }
     requires pseudo { is_pseudo_legal R.rule board.old m ≡ true }
     requires told { IsTold R.rule (position_after R.rule board.old m) flights }
+    requires parries { AreParries R.rule (position_after R.rule board.old m) parries }
     ensures answer { result ≡ mates R.rule board.old m }
     ensures board { board.new ≡ board.old }
 {
     let mover = board.turn();
     let undo = R::play(board, m);
-    let mated = is_mated_by::<R>(board, mover, flights);
+    let mated = is_mated_by::<R>(board, mover, flights, parries);
     R::unplay(board, m, undo);
     mated
 }
 
 // Whether the side to move is mated and `mover` isn't in check. The board is unchanged.
 #[tactic(auto, unfolding(chess_rules::specs::Legal::is_mate))]
-fn is_mated_by<R: Rules>(board: &mut Board, mover: Colour, flights: Flights) -> bool
+fn is_mated_by<R: Rules>(
+    board: &mut Board,
+    mover: Colour,
+    flights: Flights,
+    parries: Parries,
+) -> bool
     requires well_formed { IsWellFormed board.old }
     requires told { IsTold R.rule board.old flights }
+    requires parries { AreParries R.rule board.old parries }
     ensures answer { result ≡ (not (in_check R.rule board.old.men mover)
         && is_mate R.rule board.old) }
     ensures board { board.new ≡ board.old }
 {
-    in_check::<R>(board, board.turn())
+    is_checked::<R>(board, parries)
         && !in_check::<R>(board, mover)
-        && !has_move_in_check::<R>(board, flights)
+        && !has_move_in_check::<R>(board, flights, parries)
+}
+
+// Whether the side to move is in check, as it is where it is told that nobody parries.
+fn is_checked<R: Rules>(board: &Board, parries: Parries) -> bool
+    requires { AreParries R.rule board.now parries }
+    ensures { result ≡ in_check R.rule board.now.men board.now.turn }
+{
+    match parries {
+        Parries::Impossible => true,
+        _ => in_check::<R>(board, board.turn()),
+    }
 }
 
 // Whether the side to move, which is in check, has a legal move. The king's are passed over where it is told
-// that he has none. The board is unchanged.
-#[tactic(auto, using(crate::proofs::Flightless::others_are_all))]
-fn has_move_in_check<R: Rules>(board: &mut Board, flights: Flights) -> bool
+// that he has none, and then the others' too where it is told of them. The board is unchanged.
+#[tactic(auto, using(crate::proofs::Flightless::others_are_all, crate::proofs::Flightless::none_are_left))]
+fn has_move_in_check<R: Rules>(board: &mut Board, flights: Flights, parries: Parries) -> bool
     requires well_formed { IsWellFormed board.old }
     requires checked { in_check R.rule board.old.men board.old.turn ≡ true }
     requires told { IsTold R.rule board.old flights }
+    requires parries { AreParries R.rule board.old parries }
     ensures answer { result ≡ not (is_nil (moves R.rule board.old)) }
     ensures board { board.new ≡ board.old }
 {
     match flights {
-        Flights::NoneLeft => others_have_move::<R>(board),
+        Flights::NoneLeft => match parries {
+            Parries::Impossible => false,
+            _ => others_have_move::<R>(board),
+        },
         _ => has_legal_move::<R>(board),
     }
 }

@@ -1,19 +1,21 @@
 //! Checks that another man than the king parries, told before they are given: he captures the man who
-//! gives it, or comes between.
+//! gives it, or comes between. Checks too that no other man can parry.
 ghost use Rattle.std.specs.Prelude.{◌≡◌, ◌&&◌, ◌<◌, ◌==◌, ℕ, List, Option, true, false};
 ghost use Rattle.chess_core.specs.Position.{Position, is_of_colour, man_on, other};
-ghost use Rattle.chess_core.specs.Squares.{is_square};
+ghost use Rattle.chess_core.specs.Squares.{is_square, some_square};
 ghost use Rattle.chess_core.specs.Steps.{along};
 ghost use Rattle.chess_core.specs.WellFormed.{IsWellFormed};
+ghost use Rattle.chess_core.specs.declared.man.Colour.TheVariants.{White};
+ghost use Rattle.chess_core.specs.declared.man.Kind.TheVariants.{Pawn};
 ghost use Rattle.chess_core.specs.declared.man.Man.{Man};
-ghost use Rattle.chess_core.specs.declared.man.Move.{Move};
-ghost use Rattle.chess_core.specs.ties.Words.{word};
+ghost use Rattle.chess_core.specs.ties.Words.{squares_of, word};
 ghost use Rattle.chess_mates.specs.ties.CheckSquares.{AreCheckSquares};
-ghost use Rattle.chess_mates.specs.ties.Mates.{mates};
-ghost use Rattle.chess_mates.specs.ties.Parries.{AreParriesTold, IsInterposed, IsShutBy, is_unpinned};
+ghost use Rattle.chess_mates.specs.ties.Parries.{AreBetween, AreParries, AreParriesTold, IsShutBy, IsToldBetween, IsUntaken, comes, is_unpinned};
 ghost use Rattle.chess_rules.specs.Legal.{forward, is_pseudo_legal};
+ghost use Rattle.chess_rules.specs.Play.{position_after};
 ghost use Rattle.std.specs.Int.{bit_at};
-ghost use Rattle.chess_rules.specs.Reaches.{reaches};
+ghost use Rattle.chess_rules.specs.Reaches.{reaches, reaches_as};
+ghost use Rattle.chess_rules.specs.ties.Lines.{occupied_squares};
 ghost use Rattle.chess_rules.specs.ties.Sight.{AreSeen};
 
 use crate::checks::CheckSquares;
@@ -29,6 +31,17 @@ use chess_rules::rules::Rules;
 use chess_rules::shields::{cannot_expose, fairy_lines};
 use chess_rules::sight::{Sight, sight_after};
 use chess_rules::words::{contains, next_bit, only, take_first};
+
+/// What is told of the parries of a check, which are legal moves of other men than the king.
+#[derive(Clone, Copy)]
+pub(crate) enum Parries {
+    /// There is one.
+    Possible,
+    /// There is none.
+    Impossible,
+    /// Nothing.
+    Unknown,
+}
 
 // Whether it is told who parries after the man's move: no king goes and nobody is promoted, no line to the enemy
 // king opens, nobody is reborn, and no man stands still.
@@ -60,35 +73,36 @@ fn unpinned_squares(board: &Board, squares: &CheckSquares, m: &Move, king: Squar
     !shields
 }
 
-// The squares of the unpinned men of the colour that reach the square.
+// The squares that a man of this kind sees from both, if the arrival is one of the lines' squares: those between.
 #[inline(always)]
-fn reached_from(
-    board: &Board,
-    sight: Sight,
-    square: Square,
-    colour: Colour,
-    unpinned: Squares,
+fn seen_from_both(
+    occupied: Squares,
+    lines: Squares,
+    kind: Kind,
+    to: Square,
+    king: Square,
 ) -> Squares
-    ensures { (men : List (Option Man)) → (p : Position) (m : Move) (k : ℕ)
-        → AreSeen board.now.men men colour sight → unpinned ≡ word (is_unpinned p m k)
-        → result ≡ word (λ s. is_of_colour (man_on men s) colour
-        && reaches men s square && is_unpinned p m k s) }
+    ensures { (men : List (Option Man)) → occupied ≡ occupied_squares men
+        → (bit_at lines to == 1) ≡ true
+        → result ≡ word (λ t. reaches_as men White kind to t && reaches_as men White kind king t) }
 {
-    attackers_seen(board, sight, square, colour) & unpinned
+    if !contains(lines, to) {
+        return 0;
+    }
+    reach_over(occupied, Colour::White, kind, to) & reach_over(occupied, Colour::White, kind, king)
 }
 
-// The squares between the arrival and the king, if a line joins them, and perhaps more.
+// The squares between the arrival and the king, if a line joins them.
 #[inline(always)]
-fn squares_between(occupied: Squares, to: Square, king: Square) -> Squares {
-    if contains(straight_lines(king), to) {
-        return reach_over(occupied, Colour::White, Kind::Rook, to)
-            & reach_over(occupied, Colour::White, Kind::Rook, king);
-    }
-    if contains(diagonal_lines(king), to) {
-        return reach_over(occupied, Colour::White, Kind::Bishop, to)
-            & reach_over(occupied, Colour::White, Kind::Bishop, king);
-    }
-    0
+fn squares_between(occupied: Squares, to: Square, king: Square) -> Squares
+    ensures { (men : List (Option Man)) → occupied ≡ occupied_squares men
+        → AreBetween men to king result }
+{
+    // For the proof: a square's number is below 64.
+    let _small = to.index();
+    let straight = seen_from_both(occupied, straight_lines(king), Kind::Rook, to, king);
+    let diagonal = seen_from_both(occupied, diagonal_lines(king), Kind::Bishop, to, king);
+    straight | diagonal
 }
 
 // Whether the man on `to` no longer reaches the king once the first of the others has come to the square.
@@ -122,60 +136,107 @@ fn pawn_origins(colour: Colour, square: Square) -> Squares
     pawn_advances(colour.other(), square) & king_leaps(square)
 }
 
-// Whether an unpinned man comes between the man that has come and the king on `king`.
+// Whether another man of the colour than the king comes to the empty square. `reaching` are the squares of those who
+// reach it, `pawns` those of the pawns.
+fn is_approached(
+    reaching: Squares,
+    pawns: Squares,
+    square: Square,
+    king: Square,
+    colour: Colour,
+) -> bool
+    ensures { (men : List (Option Man))
+        → reaching ≡ word (λ s. is_of_colour (man_on men s) colour && reaches men s square)
+        → pawns ≡ squares_of men colour Pawn
+        → result ≡ some_square (comes men colour king square) }
+{
+    let pieces = reaching & !pawns & !only(Some(king));
+    (pieces | pawns & pawn_advances(colour.other(), square)) != 0
+}
+
+// What is told of men who come between the man that has come and the king on `king`.
 #[tactic(auto, using(chess_rules::proofs::HoldTaken::rest_falls, crate::proofs::Hurdles::rest_on))]
 #[inline(always)]
-fn is_interposed(
+fn parries_between(
     board: &Board,
     sight: Sight,
     man: Man,
     m: &Move,
     king: Square,
     unpinned: Squares,
-) -> bool
-    ensures { result ≡ true → (men : List (Option Man))
-        → AreSeen board.now.men men (other board.now.turn) sight
+) -> Parries
+    ensures { (men : List (Option Man)) → AreSeen board.now.men men (other board.now.turn) sight
         → unpinned ≡ word (is_unpinned board.now m.now king)
-        → IsInterposed men board.now man m.now king }
+        → IsToldBetween men board.now man m.now king result }
 {
     let enemy = board.turn().other();
     let held = sight.occupied | fairy_lines(board, enemy);
-    let between = squares_between(sight.occupied, m.to, king) & !held;
+    let seen = squares_between(sight.occupied, m.to, king);
+    let between = seen & !held;
+    let mut nobody_comes = seen & held == 0;
     let mut rest = between;
     while let Some(square) = take_first(&mut rest) {
-        let reaching = reached_from(board, sight, square, enemy, unpinned);
+        let reaching = attackers_seen(board, sight, square, enemy);
         let pawns = board.squares(enemy, Kind::Pawn) & sight.standing;
-        let comers = reaching & !pawns | pawns & unpinned & pawn_origins(enemy, square);
+        let loose = reaching & unpinned;
+        let comers = loose & !pawns | pawns & unpinned & pawn_origins(enemy, square);
         if shuts(sight.occupied, man, m.to, king, square, comers) {
-            return true;
+            return Parries::Possible;
         }
+        nobody_comes &= !is_approached(reaching, pawns, square, king, enemy);
     }
-    false
+    if nobody_comes {
+        Parries::Impossible
+    } else {
+        Parries::Unknown
+    }
 }
 
-// Whether an unpinned man captures the one that moves or comes between, so that the move doesn't mate.
-pub(crate) fn is_parried<R: Rules>(board: &Board, squares: &CheckSquares, m: &Move) -> bool
+// Whether nobody but the king takes the man on `to`, who gives check and is no pawn, which might be captured en
+// passant, and no fairy man. `takers` are the men who reach him.
+fn is_untaken(occupied: Squares, takers: Squares, man: Man, to: Square, king: Square) -> bool
+    ensures { result ≡ true → IsUntaken occupied takers man to king }
+{
+    // For the proof: a square's number is below 64.
+    let _small = king.index();
+    takers & !only(Some(king)) == 0
+        && !man.kind.is(Kind::Pawn)
+        && !man.kind.is_fairy()
+        && contains(reach_over(occupied, man.colour, man.kind, to), king)
+}
+
+// What is told of the parries after the move: an unpinned man captures the one that moves or comes between, so that
+// it doesn't mate, or nobody can, be he pinned or not.
+pub(crate) fn parries_after<R: Rules>(board: &Board, squares: &CheckSquares, m: &Move) -> Parries
     requires well_formed { IsWellFormed board.now }
     requires pseudo { is_pseudo_legal R.rule board.now m.now ≡ true }
     requires squares { AreCheckSquares board.now.men (other board.now.turn) squares.now }
-    ensures { result ≡ true → mates R.rule board.now m.now ≡ false }
+    ensures { AreParries R.rule (position_after R.rule board.now m.now) result }
 {
     let Some(man) = board.man_at(m.from) else {
-        return false;
+        return Parries::Unknown;
     };
     if !are_parries_told::<R>(board, squares, man, m) {
-        return false;
+        return Parries::Unknown;
     }
     let enemy = board.turn().other();
     let Some(king) = board.king_of(enemy) else {
-        return false;
+        return Parries::Unknown;
     };
     // For the proof: a square's number is below 64.
     let _small = m.to.index();
     let sight = sight_after(board, m.from, capture_square(board, man, m), m.to);
     let unpinned = unpinned_squares(board, squares, m, king);
-    if reached_from(board, sight, m.to, enemy, unpinned) != 0 {
-        return true;
+    let takers = attackers_seen(board, sight, m.to, enemy);
+    let loose = takers & unpinned;
+    if loose != 0 {
+        return Parries::Possible;
     }
-    is_interposed(board, sight, man, m, king, unpinned)
+    match parries_between(board, sight, man, m, king, unpinned) {
+        Parries::Possible => Parries::Possible,
+        Parries::Impossible if is_untaken(sight.occupied, takers, man, m.to, king) => {
+            Parries::Impossible
+        }
+        _ => Parries::Unknown,
+    }
 }

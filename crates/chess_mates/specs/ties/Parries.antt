@@ -1,19 +1,25 @@
 -- Checks that another man than the king parries, told before they are given (own).
-use Rattle.std.specs.Prelude.{◌≡◌, ◌<◌, ◌==◌, ℕ, Bool, true, false, List, Option, None, Some, not, ◌&&◌, ◌||◌, ◌⊎◌}
+use Rattle.std.specs.Prelude.{◌≡◌, ⊤, ◌<◌, ◌==◌, ℕ, Bool, true, false, List, Option, None, Some, not, ◌&&◌, ◌||◌, ◌⊎◌}
 use Rattle.std.specs.Int.{bit_at, bit_not, w64}
 use Rattle.std.specs.Int.Bits.{bit_and, bit_or}
 use Rattle.chess_core.specs.Position.{Position, is_man, is_of_colour, man_on, other, same_kind}
-use Rattle.chess_core.specs.Squares.{is_square}
-use Rattle.chess_rules.specs.Legal.{forward}
+use Rattle.chess_core.specs.Squares.{is_square, some_square}
+use Rattle.chess_mates.specs.declared.parries.Parries.{Parries}
+use Rattle.chess_mates.specs.declared.parries.Parries.TheVariants.{Impossible, Possible, Unknown}
+use Rattle.chess_rules.specs.Attacks.{in_check}
+use Rattle.chess_rules.specs.Legal.{forward, is_legal, is_mate}
 use Rattle.chess_core.specs.Steps.{along, diagonal_steps, straight_steps}
-use Rattle.chess_core.specs.declared.man.Kind.TheVariants.{King, Pawn}
+use Rattle.chess_core.specs.declared.man.Colour.{Colour}
+use Rattle.chess_core.specs.declared.man.Colour.TheVariants.{White}
+use Rattle.chess_core.specs.declared.man.Kind.TheVariants.{Bishop, King, Pawn, Rook}
 use Rattle.chess_core.specs.declared.man.Man.{Man}
 use Rattle.chess_core.specs.declared.man.Move.{Move}
 use Rattle.chess_core.specs.ties.Words.{word}
 use Rattle.chess_rules.specs.Reaches.{reaches, reaches_as}
 use Rattle.chess_rules.specs.RuleSet.{RuleSet, captures_do_more, faced_men_stand_still}
-use Rattle.chess_rules.specs.ties.Lines.{is_on_some, occupied_squares}
-use Rattle.chess_rules.specs.ties.Shields.{cannot_expose, may_expose, may_stand_between}
+use Rattle.chess_rules.specs.ties.Lines.{is_advance, is_on_some, occupied_squares}
+use Rattle.chess_rules.specs.ties.Shields.{cannot_expose, is_fairy, may_expose, may_stand_between}
+use Rattle.chess_rules.specs.ties.Sifting.{is_of_others}
 
 -- parries of the move m of x are told: no king goes and nobody is promoted, the move opens no line to the enemy
 -- king, nobody is reborn, and no man stands still
@@ -64,3 +70,55 @@ pub record IsShutBy (occupied comers : ℕ) (x : Man) (b k t : ℕ) : Type 0 whe
   pub shut : (l : List (Option Man)) → bit_or (bit_and occupied
       (bit_not w64 (word (is_square (Some from))))) (word (is_square (Some t)))
       ≡ occupied_squares l → reaches_as l x.colour x.kind b k ≡ false
+
+-- the side to move is in check, and no other man than its king has a legal move
+pub record IsParriless (rule : RuleSet) (p : Position) : Type 0 where
+  pub check : in_check rule p.men p.turn ≡ true
+  pub idle : (m : Move) → is_of_others p m ≡ true → is_legal rule p m ≡ false
+
+-- it is so what is told of the parries of the side to move
+abbrev pub AreParries : RuleSet → Position → Parries → Type 0
+AreParries rule p Possible = is_mate rule p ≡ false
+AreParries rule p Impossible = IsParriless rule p
+AreParries rule p Unknown = ⊤
+
+-- the word has the squares that a rook on b and one on k see, if b lies on a file or rank of k, and the same of
+-- bishops and diagonals
+pub record AreBetween (men : List (Option Man)) (b k w : ℕ) : Type 0 where
+  pub straight : is_on_some straight_steps k b ≡ true → (t : ℕ) → t < 64
+      → (bit_at w t == 1) ≡ false
+      → (reaches_as men White Rook b t && reaches_as men White Rook k t) ≡ false
+  pub diagonal : is_on_some diagonal_steps k b ≡ true → (t : ℕ) → t < 64
+      → (bit_at w t == 1) ≡ false
+      → (reaches_as men White Bishop b t && reaches_as men White Bishop k t) ≡ false
+
+-- another man of colour c than the king on k comes from s to the empty square t: a piece reaches it, or a pawn
+-- goes there by one step or two
+abbrev pub comes : List (Option Man) → Colour → ℕ → ℕ → ℕ → Bool
+comes men c k t s =
+    (is_of_colour (man_on men s) c && reaches men s t && not (is_man (man_on men s) c Pawn)
+    && not (is_square (Some k) s))
+    || (is_man (man_on men s) c Pawn && is_advance (other c) t s)
+
+-- the squares between b and k are empty, and none of those men comes there
+pub record NobodyComes (men : List (Option Man)) (c : Colour) (b k : ℕ) : Type 0 where
+  pub squares : ℕ
+  pub between : AreBetween men b k squares
+  pub vacant : (t : ℕ) → t < 64 → (bit_at squares t == 1) ≡ true → man_on men t ≡ None
+  pub none : (t : ℕ) → t < 64 → (bit_at squares t == 1) ≡ true
+      → some_square (comes men c k t) ≡ false
+
+-- it is so what is told of men who come between, once the man of x has come by m
+abbrev pub IsToldBetween : List (Option Man) → Position → Man → Move → ℕ → Parries → Type 0
+IsToldBetween men p x m k Possible = IsInterposed men p x m k
+IsToldBetween men p x m k Impossible = NobodyComes men (other p.turn) m.to k
+IsToldBetween men p x m k Unknown = ⊤
+
+-- x, no pawn, which might be captured en passant, and no fairy man, gives check from b to the king on k, and nobody
+-- but this king takes him
+pub record IsUntaken (occupied takers : ℕ) (x : Man) (b k : ℕ) : Type 0 where
+  pub piece : same_kind x.kind Pawn ≡ false
+  pub orthodox : is_fairy x.kind ≡ false
+  pub untaken : (s : ℕ) → s < 64 → (bit_at takers s == 1) ≡ true → is_square (Some k) s ≡ true
+  pub check : (men : List (Option Man)) → occupied ≡ occupied_squares men
+      → reaches_as men x.colour x.kind b k ≡ true
