@@ -114,7 +114,7 @@ pub fn arrivals<R: Rules>(board: &Board, from: Square) -> Squares
 }
 
 // Whether a pawn arrives on its last rank.
-fn is_promoting(man: Man, to: Square) -> bool
+pub(crate) fn is_promoting(man: Man, to: Square) -> bool
     ensures { result ≡ is_promoting man to }
 {
     man.kind.is(Kind::Pawn) && to.rank() == last_rank(man.colour)

@@ -4,8 +4,7 @@ use Rattle.pop_solve.proofs.Boards.{behind_start, each_one, unreached, walk_coun
 use Rattle.pop_solve.proofs.SmallestTrees.{tree-one, trees-end, trees-next, trees-start}
 use Rattle.pop_solve.proofs.Tests.{any-start, fewest-start, first, rest-start, walk-next, walk_count-start}
 use Rattle.pop_solve.proofs.Values.{value-forced, value-open, value-stuck}
-use Rattle.pop_solve.specs.declared.frame.Stretch.{Stretch}
-use Rattle.pop_solve.specs.ties.Calls.{Finds}
+use Rattle.pop_solve.specs.ties.Calls.{Finds, FindsDefence}
 
 -- Black needn't mate where some move of his doesn't
 pub one_quiet : (rule : RuleSet) (q : Position) → list_all (is_mating rule q) (moves rule q) ≡ false → value Selfmate (chess Mate rule) 1 q ≡ false
@@ -135,6 +134,11 @@ module _ (battle : Battle) (rule : RuleSet) (p : Position) where
       begins t _ before counted (rest-start rule aim (suc t) p o ∙ sym all) (walk_count-start rule aim (suc t) p o (omega arith))
       (fewest-start rule aim (suc t) p o) few one
 
+-- a move that is found of those ahead is a defence
+pub found_defence : {rule : RuleSet} {p board : Position} {known : LegalPlace} {found : Option Move} {untried ahead later : List Move} → untried ≡ ahead
+    → Finds rule p board known found ahead later → FindsDefence rule p board (Some known) found untried later
+found_defence e f = record { unchanged = f.unchanged; within = f.within; next = rw e f.next }
+
 -- the defences from the one that was found on
 abbrev pub from_next : Option Move → List Move → List Move
 from_next None later = []
@@ -145,14 +149,13 @@ some_of : (ms : List Move) → list_any (λ m. true) ms ≡ not (eqb (length ms)
 some_of [] = refl
 some_of (m ∷ ms) = grind (arith, nat_tests)
 
-module _ (rule : RuleSet) (p board : Position) (known : LegalPlace) (next : Option Move) where
+module _ (rule : RuleSet) (p board : Position) (known : Option LegalPlace) (next : Option Move) where
   -- the next one found
-  pub from : (ahead later : List Move) → Finds rule p board known next ahead later → ahead ≡ from_next next later
+  pub from : (ahead later : List Move) → FindsDefence rule p board known next ahead later → ahead ≡ from_next next later
   from ahead later f = grind arith
 
   -- the search for the first defence in an order
-  module _ (o : Order) (s : Stretch) (place : ℕ) (later : List Move) (f : Finds rule p board known next (moves_ahead rule p o s place) later)
-      (begin : s ≡ Killer) (at : place ≡ o.killer - 1) where
+  module _ (o : Order) (later : List Move) (f : FindsDefence rule p board known next (moves_ahead rule p o Killer (o.killer - 1)) later) where
     -- finds one exactly where there is a move
     pub found_first : is_some next ≡ can_move (chess Mate rule) p
     found_first = grind (arith, some_of, from, any-start rule p o (λ m. true))
@@ -164,5 +167,5 @@ module _ (rule : RuleSet) (p board : Position) (known : LegalPlace) (next : Opti
         (smallest_tree Direct (chess Mate rule) 2 p) (before + walk_count (moves rule) (position_after rule) 2 p) opened
     begins_first before opened some few one = (
       grind arith,
-      rw (← from _ _ f, begin, at) (begins_ordered Direct rule p 1 o before opened (whole Direct rule p (search (rules, found_first))) few one),
+      rw (← from _ _ f) (begins_ordered Direct rule p 1 o before opened (whole Direct rule p (search (rules, found_first))) few one),
     )

@@ -76,6 +76,12 @@ module _ (rule : RuleSet) (p : Position) (order : Order) where
   unfolding moves_later belongs
   later_aimed none = search (rules, filter-none, append-nil)
 
+  -- before the earlier killer all moves are ahead but the killer
+  pub ahead_earlier : (place : ℕ) → moves_here rule p order Earlier place ≡ all_moves_of rule p order Earlier
+      → moves_later rule p order Killer ≡ moves_ahead rule p order Earlier place
+  unfolding moves_later
+  ahead_earlier place at = rw at refl
+
   -- to a frame that is opened all moves are left, in another order
   pub same_start : {C : Type 0} (step : Move → C → C) (g : List Move → C) → ((m : Move) (ms : List Move) → g (m ∷ ms) ≡ step m (g ms))
       → ((m n : Move) (c : C) → step m (step n c) ≡ step n (step m c)) → g (moves_ahead rule p order Killer (order.killer - 1)) ≡ g (legal_moves rule p)

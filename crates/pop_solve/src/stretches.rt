@@ -168,7 +168,7 @@ fn stretch_behind<R: Rules>(order: Order<R>, stretch: Stretch) -> Option<Stretch
 
 /// The place before the first move of a stretch: where both killers are one, the earlier has none.
 #[tactic(auto, using(crate::proofs::Orders::first_place), unfolding(crate::specs::ties::Frames::moves_here))]
-fn place_before<R: Rules>(order: Order<R>, stretch: Stretch) -> Moves<R>
+pub(crate) fn place_before<R: Rules>(order: Order<R>, stretch: Stretch) -> Moves<R>
     ensures { (p : Position) → moves_here R.rule p order stretch result
         ≡ all_moves_of R.rule p order stretch }
 {

@@ -71,3 +71,16 @@ pub ruleset until = (place_of_triple, until-end, until-is_legal)
 
 -- and where it begins at the end
 pub ruleset nothing_left = (between-none)
+
+-- the triple on which a place stands, if it is legal
+pub stands_on : (rule : RuleSet) (p : Position) (a b : ℕ) → a < all_triples → b ≡ a + 1 → is_legal rule p (triple_at a) ≡ true
+    → moves_between rule p a b ≡ triple_at a ∷ []
+stands_on rule p a b lt e h = search (rules, between-here, between-none)
+
+-- if it isn't
+pub stands_off : (rule : RuleSet) (p : Position) (a b : ℕ) → a < all_triples → b ≡ a + 1 → is_legal rule p (triple_at a) ≡ false
+    → moves_between rule p a b ≡ []
+stands_off rule p a b lt e h = search (rules, between-skip, between-none)
+
+-- for one move up to a place
+pub ruleset standing = (between-none, between-past, stands_off, stands_on)

@@ -1,6 +1,7 @@
 -- Where a man may go, and no move is missed by going from one such square to the next.
-use Rattle.chess_rules.proofs.Chess.{Bool, IsBarrenFrom, IsFirst, IsNamed, Kind, King, List, Man, Move, None, Option, Pawn, Position, RuleSet, Some, agree_below_at, along, and_from, and_parts, ap, arith, bit_at, bit_not, can_castle, cases_Bool, cond-false, cond-true, false, file_of, find, find_first, find_no, is_advance, is_arrival, is_castling, is_of_colour, is_promoting, is_promotion_right, is_pseudo_legal, is_pseudo_legal_of, is_some, is_square, is_two_files_aside, man_on, may_castle, may_go, or_left, or_right, per_arrival, per_origin, promotion_at, range_with_len, rank_of, reaches, reaches_as, refl, rules, same_colour-refl, same_kind, square_at, squares_same, steps_to, sym, true, w64, word, word_empty, ℕ, ◌%◌, ◌*◌, ◌+◌, ◌-◌, ◌/◌, ◌<◌, ◌==◌, ◌∙◌, ◌≡◌, ◌≤◌}
+use Rattle.chess_rules.proofs.Chess.{Bool, IsAimed, IsBarrenFrom, IsFirst, IsNamed, Kind, King, List, Man, Move, None, Option, Pawn, Position, RuleSet, Some, agree_below_at, along, and_from, and_parts, ap, arith, bit_at, bit_not, can_castle, cases_Bool, cond-false, cond-true, false, file_of, find, find_first, find_no, is_advance, is_arrival, is_castling, is_of_colour, is_promoting, is_promotion_right, is_pseudo_legal, is_pseudo_legal_of, is_some, is_square, is_two_files_aside, man_on, may_castle, may_go, or_left, or_right, per_arrival, per_origin, promotion_at, range_with_len, rank_of, reaches, reaches_as, refl, rules, same_colour-refl, same_kind, square_at, squares_same, steps_to, sym, true, w64, word, word_empty, ℕ, ◌%◌, ◌*◌, ◌+◌, ◌-◌, ◌/◌, ◌<◌, ◌==◌, ◌∙◌, ◌≡◌, ◌≤◌}
 use Rattle.chess_rules.proofs.making_moves.Pseudo.{made}
+use Rattle.std.proofs.Math.Bool.{beq}
 
 -- the words of a pawn's steps, of a king's in castling, and of the others
 pub pawn_word : (x : Man) (s n : ℕ) → same_kind x.kind Pawn ≡ true → n ≡ word (is_advance x.colour s) → n ≡ word (steps_to x s)
@@ -45,12 +46,28 @@ arrival_needed rule p m small h = arrival_by rule p m (man_on p.men m.from) smal
 pub false_by : (b : Bool) → (b ≡ true → ⊥) → b ≡ false
 false_by b h = grind arith
 
+-- where its man may not go there is none
+pub arrival_missing : (rule : RuleSet) (p : Position) (m : Move) → m.to < 64 → is_arrival rule p m.from m.to ≡ false → is_pseudo_legal rule p m ≡ false
+arrival_missing rule p m small off = false_by (is_pseudo_legal rule p m) (λ y. let h = arrival_needed rule p m small y in cc)
+
 -- a promotion is named exactly on the last rank
 promoted : (p : Position) (x : Man) (m : Move) (o : Option Kind) → is_promotion_right p x m o ≡ true → o ≡ None → is_promoting x m.to ≡ false
 promoted p x m o h e = grind (arith, cases_Bool)
 
 unpromoted : (p : Position) (x : Man) (m : Move) (o : Option Kind) (k : Kind) → is_promotion_right p x m o ≡ true → o ≡ Some k → is_promoting x m.to ≡ true
 unpromoted p x m o k h e = grind (arith, and_parts)
+
+-- a promotion that is named elsewhere, or missing there, makes no move
+pub promotion_amiss : (rule : RuleSet) (p : Position) (m : Move) (x : Man) → man_on p.men m.from ≡ Some x
+    → beq (is_some m.promo) (is_promoting x m.to) ≡ false → is_pseudo_legal rule p m ≡ false
+promotion_amiss rule p m x here amiss = false_by (is_pseudo_legal rule p m) (λ y.
+    let right = (made rule p m x y here).promotion in
+    grind (arith, promoted p x m m.promo right, unpromoted p x m m.promo))
+
+-- with the right one a move to an arrival is aimed
+pub aimed_by : (rule : RuleSet) (p : Position) (m : Move) (x : Man) → man_on p.men m.from ≡ Some x
+    → beq (is_some m.promo) (is_promoting x m.to) ≡ true → is_arrival rule p m.from m.to ≡ true → IsAimed rule p m
+aimed_by rule p m x here right h = record { man = x; here = here; arrival = h; promotion = grind arith }
 
 -- on another rank than the last none may be named
 pub no_promotion_here : (rule : RuleSet) (p : Position) (x : Man) (m : Move) (k : Kind) → man_on p.men m.from ≡ Some x → m.promo ≡ Some k

@@ -16,7 +16,7 @@ use Rattle.pop_solve.specs.declared.plan.Plan.{Plan}
 use Rattle.pop_solve.specs.ties.Plans.{has_variations}
 use Rattle.pop_solve.specs.ties.Walk.{fewest_for}
 use Rattle.pop_solve.specs.ties.Values.{seeks, value}
-use Rattle.std.specs.Prelude.{◌≡◌, ◌+◌, ◌-◌, ◌^◌, ◌<◌, ◌≤◌, min, ℕ, Bool, false, true, List, [], ◌∷◌, Option, Some, MatchOption}
+use Rattle.std.specs.Prelude.{◌≡◌, ◌+◌, ◌-◌, ◌^◌, ◌<◌, ◌≤◌, min, ℕ, Bool, false, true, List, [], ◌∷◌, Option, Some, IfSome, MatchOption}
 
 -- the first of some moves of p was looked for, which are `untried` before the call and `left` behind the move found: the
 -- board stands on p as before, and what is known is still of its moves
@@ -24,6 +24,14 @@ pub record Finds (rule : RuleSet) (p board : Position) (known : LegalPlace) (fou
     (untried left : List Move) : Type 0 where
   pub unchanged : board ≡ p
   pub within : IsPlaceIn rule p known
+  pub next : MatchOption found (untried ≡ [])
+      (λ m. (untried ≡ m ∷ left) × (is_legal rule p m ≡ true))
+
+-- the same where nothing may be known of its moves
+pub record FindsDefence (rule : RuleSet) (p board : Position) (known : Option LegalPlace)
+    (found : Option Move) (untried left : List Move) : Type 0 where
+  pub unchanged : board ≡ p
+  pub within : IfSome known (IsPlaceIn rule p)
   pub next : MatchOption found (untried ≡ [])
       (λ m. (untried ≡ m ∷ left) × (is_legal rule p m ≡ true))
 

@@ -123,6 +123,11 @@ moves_later rule p order Others = []
 abbrev pub moves_ahead : RuleSet → Position → Order → Stretch → ℕ → List Move
 moves_ahead rule p order s place = moves_here rule p order s place ++ moves_later rule p order s
 
+-- the same where nothing may be known of the moves yet: of those ahead the killer alone has been looked at then
+abbrev pub moves_unlooked : RuleSet → Position → Order → Stretch → Option LegalPlace → List Move
+moves_unlooked rule p order s None = moves_later rule p order Killer
+moves_unlooked rule p order s (Some known) = moves_ahead rule p order s known.place
+
 -- how many stretches lie behind one
 abbrev pub stretches_behind : Stretch → ℕ
 stretches_behind Killer = 3

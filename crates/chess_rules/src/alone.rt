@@ -1,0 +1,37 @@
+//! One move looked at alone, without the words that tell all moves of its position.
+ghost use Rattle.std.specs.Prelude.{◌≡◌, false, true};
+ghost use Rattle.chess_core.specs.WellFormed.{IsWellFormed};
+ghost use Rattle.chess_rules.specs.Legal.{is_legal, is_pseudo_legal};
+ghost use Rattle.chess_rules.specs.ties.Targets.{IsAimed};
+
+use crate::exposure::exposes;
+use crate::legal::is_pseudo_legal;
+use crate::rules::Rules;
+use crate::targets::{arrivals, is_promoting};
+use crate::words::contains;
+use chess_core::board::Board;
+use chess_core::man::Move;
+
+// Whether the move goes where the man on its origin may go, promoted exactly where a pawn arrives on its
+// last rank.
+fn is_aimed<R: Rules>(board: &Board, m: &Move) -> bool
+    ensures aimed { result ≡ true → IsAimed R.rule board.now m.now }
+    ensures idle { result ≡ false → is_pseudo_legal R.rule board.now m.now ≡ false }
+{
+    // For the proof: a square's number is below 64.
+    let _small = m.to.index();
+    let Some(man) = board.man_at(m.from) else {
+        return false;
+    };
+    m.promo.is_some() == is_promoting(man, m.to) && contains(arrivals::<R>(board, m.from), m.to)
+}
+
+// Whether the move is legal. The board is unchanged after it.
+#[tactic(auto, unfolding(crate::specs::Legal::is_legal))]
+pub(crate) fn is_legal_alone<R: Rules>(board: &mut Board, m: Move) -> bool
+    requires well_formed { IsWellFormed board.old }
+    ensures answer { result ≡ is_legal R.rule board.old m }
+    ensures board { board.new ≡ board.old }
+{
+    is_aimed::<R>(board, &m) && is_pseudo_legal::<R>(board, &m) && !exposes::<R>(board, m)
+}
