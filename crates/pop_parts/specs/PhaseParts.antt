@@ -6,9 +6,9 @@ use Rattle.chess_core.specs.MoveOrder.{order_number}
 use Rattle.chess_rules.specs.RuleSet.{RuleSet}
 use Rattle.pop_input.specs.Posed.{Posed}
 use Rattle.pop_input.specs.Stipulations.{is_help}
-use Rattle.pop_solve.specs.Chess.{chess}
+use Rattle.pop_battle.specs.Chess.{chess}
 use Rattle.pop_solve.specs.Events.{BareEvent, Path, Solution, is_barred, path_event, phase_half_moves, phase_start, solutions, total}
-use Rattle.pop_solve.specs.Game.{Game}
+use Rattle.pop_battle.specs.Game.{Game}
 use Rattle.pop_events.specs.declared.event.Phase.{Phase}
 
 module _ {P M : Type 0} where

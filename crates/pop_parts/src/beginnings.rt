@@ -8,10 +8,10 @@ ghost use Rattle.pop_input.specs.declared.stipulation.Goal.{Goal};
 ghost use Rattle.pop_input.specs.Posed.{IsSound, rule_of};
 ghost use Rattle.pop_input.specs.Stipulations.{half_moves};
 ghost use Rattle.pop_solve.specs.Events.{is_barred, phase_half_moves as half_moves_of_phase, phase_start, play_start};
-ghost use Rattle.pop_solve.specs.Chess.{chess};
+ghost use Rattle.pop_battle.specs.Chess.{chess};
 ghost use Rattle.pop_parts.specs.PhaseParts.{beginnings, part_depth as depth_of_parts, part_numbered, parts};
 ghost use Rattle.pop_parts.specs.ties.Beginnings.{beginnings_to_come, FindsNumbered, IsSeeking, Seeks};
-ghost use Rattle.pop_solve.specs.ties.Frames.{opened_frame};
+ghost use Rattle.pop_battle.specs.ties.Frames.{opened_frame};
 ghost use Rattle.pop_solve.specs.ties.Walk.{path};
 
 use arrayvec::ArrayVec;
@@ -22,8 +22,8 @@ use chess_rules::play::Undo;
 use chess_rules::rules::Rules;
 use pop_events::event::Phase;
 use pop_input::problem::Problem;
-use pop_solve::chess::next_move;
-use pop_solve::frame::{Frame, Order, Stretch};
+use pop_battle::chess::next_move;
+use pop_battle::frame::{Frame, Order, Stretch};
 use pop_solve::phases::{phase_half_moves, set_up};
 use pop_solve::walk::step_back;
 

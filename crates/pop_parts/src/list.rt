@@ -165,7 +165,7 @@ fn count_under<R: Rules>(problem: &Problem, phase: Phase, depth: usize) -> Optio
 }
 
 // Whether the phase can't stand: the side that isn't to move would be in check.
-#[tactic(auto, unfolding(pop_solve::specs::Chess::is_impossible, chess_core::specs::Diagrams::position_of))]
+#[tactic(auto, unfolding(pop_battle::specs::Chess::is_impossible, chess_core::specs::Diagrams::position_of))]
 fn is_barred<R: Rules>(problem: &Problem, phase: Phase) -> bool
     ensures { result ≡ barred R.rule problem.now phase }
 {

@@ -9,8 +9,8 @@ use chess_core::board::Board;
 use chess_rules::rules::Rules;
 use pop_events::event::Phase;
 use pop_input::problem::Problem;
-use pop_solve::frame::Frame;
-use pop_solve::killers::Killers;
+use pop_battle::frame::Frame;
+use pop_battle::killers::Killers;
 use std::marker::Model;
 
 /// The parts of a phase that are still to come. Contracts see the record `LeftSeen`.

@@ -25,7 +25,7 @@ use pop_input::item::{Fault, Item};
 use pop_input::problem::Problem;
 use pop_input::reader::Reader;
 use pop_print::print_event;
-use pop_solve::killers::Killers;
+use pop_battle::killers::Killers;
 use pop_text::sink::{Sink, SinkFault};
 use pop_text::source::Source;
 

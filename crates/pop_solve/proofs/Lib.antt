@@ -1,15 +1,8 @@
 pub mod Words
-pub mod Boards
-pub mod Values
-pub mod SmallestTrees
-pub mod Orders
-pub mod Tests
-pub mod LastMoves
 pub mod Battles
 pub mod Lengths
 pub mod Least
 pub mod GoingOn
-pub mod Passing
 pub mod ToCome
 pub mod Outcomes
 pub mod Walking

@@ -1,8 +1,8 @@
 -- The events of a problem: its phases, their solutions and their totals. Set play, the limit of solutions and the order
 -- of events are this project's own; half-moves are numbered as in the Popeye manual.
-use Rattle.pop_solve.specs.Plays.{play_of}
-use Rattle.pop_solve.specs.declared.aim.Play.{Play as PlayOfSides}
-use Rattle.pop_solve.specs.declared.aim.Play.TheVariants.{Help as HelpPlay, Battle as BattlePlay}
+use Rattle.pop_battle.specs.Plays.{play_of}
+use Rattle.pop_battle.specs.declared.aim.Play.{Play as PlayOfSides}
+use Rattle.pop_battle.specs.declared.aim.Play.TheVariants.{Help as HelpPlay, Battle as BattlePlay}
 use Rattle.pop_input.specs.declared.stipulation.Goal.{Goal}
 use Rattle.chess_rules.specs.Play.{position_after}
 use Rattle.std.specs.Prelude.{ℕ, ◌+◌, ◌-◌, ◌==◌, Bool, true, false, ◌&&◌, if◌then◌else◌, List, [], ◌∷◌, ◌++◌, map, take, length}
@@ -11,11 +11,11 @@ use Rattle.chess_core.specs.Diagrams.{position_of}
 use Rattle.chess_core.specs.Position.{Position}
 use Rattle.chess_core.specs.declared.man.Move.{Move}
 use Rattle.chess_rules.specs.RuleSet.{RuleSet}
-use Rattle.pop_solve.specs.Game.{Game, help_lines}
+use Rattle.pop_battle.specs.Game.{Game, help_lines}
 use Rattle.pop_solve.specs.Tree.{tree, set_tree}
 use Rattle.pop_input.specs.Posed.{Posed, rule_of}
 use Rattle.pop_input.specs.Stipulations.{is_help, first_half, half_moves}
-use Rattle.pop_solve.specs.Chess.{chess, is_impossible, set_start}
+use Rattle.pop_battle.specs.Chess.{chess, is_impossible, set_start}
 use Rattle.pop_events.specs.Shown.{Shown, nothing_shown, shown_move}
 use Rattle.pop_events.specs.declared.event.Event.{Event}
 use Rattle.pop_events.specs.declared.event.Event.TheVariants.{Phase as PhaseEvent, Line, Node, Impossible, Total}

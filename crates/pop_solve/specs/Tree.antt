@@ -1,10 +1,10 @@
 -- The tree of a battle problem: its keys, all defences, and the continuations of least length. That a tree shows just
 -- these, in the order of moves, and what set play is, are this project's own; key and defence are the Codex's.
-use Rattle.pop_solve.specs.declared.aim.Battle.{Battle}
-use Rattle.pop_solve.specs.declared.aim.Battle.TheVariants.{Direct, Selfmate}
+use Rattle.pop_battle.specs.declared.aim.Battle.{Battle}
+use Rattle.pop_battle.specs.declared.aim.Battle.TheVariants.{Direct, Selfmate}
 use Rattle.std.specs.Prelude.{ℕ, zero, suc, ◌-◌, Bool, ◌||◌, if◌then◌else◌, List, [], ◌∷◌, map}
 use Rattle.std.specs.List.{filter, flat_map, position_or_len, range_with_len}
-use Rattle.pop_solve.specs.Game.{Game, is_lost, wins, self_wins, is_self_lost}
+use Rattle.pop_battle.specs.Game.{Game, is_lost, wins, self_wins, is_self_lost}
 
 module _ {M : Type 0} where
   -- Trees are lists of paths, each node before what stands below it. The node m over the nodes below it

@@ -1,9 +1,5 @@
 pub mod Calls
-pub mod Counts
-pub mod Frames
-pub mod Marks
 pub mod Phases
 pub mod Plans
 pub mod Seen
-pub mod Values
 pub mod Walk

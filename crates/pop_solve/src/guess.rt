@@ -3,18 +3,18 @@ ghost use Rattle.std.specs.Prelude.{◌≡◌, ◌≤◌, is_some, not, false, t
 ghost use Rattle.chess_core.specs.WellFormed.{IsWellFormed};
 ghost use Rattle.chess_rules.specs.Legal.{is_legal};
 ghost use Rattle.chess_rules.specs.Play.{position_after};
-ghost use Rattle.pop_solve.specs.Chess.{chess};
-ghost use Rattle.pop_solve.specs.declared.aim.Battle.TheVariants.{Selfmate};
-ghost use Rattle.pop_solve.specs.declared.aim.Play.TheVariants.{Help as HelpPlay, Battle as BattlePlay};
-ghost use Rattle.pop_solve.specs.ties.Values.{value};
+ghost use Rattle.pop_battle.specs.Chess.{chess};
+ghost use Rattle.pop_battle.specs.declared.aim.Battle.TheVariants.{Selfmate};
+ghost use Rattle.pop_battle.specs.declared.aim.Play.TheVariants.{Help as HelpPlay, Battle as BattlePlay};
+ghost use Rattle.pop_battle.specs.ties.Values.{value};
 
-use crate::aim::{Aim, Battle, Play};
-use crate::chess::next_move;
-use crate::frame::Frame;
-use crate::history::History;
-use crate::killers::Killers;
+use pop_battle::aim::{Aim, Battle, Play};
+use pop_battle::chess::next_move;
+use pop_battle::frame::Frame;
+use pop_battle::history::History;
+use pop_battle::killers::Killers;
 use crate::plan::Plan;
-use crate::value::value_of;
+use pop_battle::value::value_of;
 use arrayvec::ArrayVec;
 use chess_core::board::Board;
 use chess_core::man::Move;

@@ -2,7 +2,7 @@
 ghost use Rattle.std.specs.Prelude.{◌≡◌};
 ghost use Rattle.pop_solve.specs.ties.Plans.{plan_of, has_variations, tree_with};
 
-use crate::aim::Play;
+use pop_battle::aim::Play;
 use pop_input::problem::Problem;
 use pop_input::stipulation::Goal;
 

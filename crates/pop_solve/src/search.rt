@@ -1,7 +1,7 @@
 //! Searches.
-use crate::frame::Frame;
-use crate::history::History;
-use crate::killers::Killers;
+use pop_battle::frame::Frame;
+use pop_battle::history::History;
+use pop_battle::killers::Killers;
 use crate::phases::{Stage, advance, first_phase};
 use arrayvec::ArrayVec;
 use chess_core::board::Board;

@@ -8,24 +8,26 @@ ghost use Rattle.chess_rules.specs.Legal.{is_legal, is_mate};
 ghost use Rattle.chess_rules.specs.ties.Places.{IsPlaceIn, moves_behind};
 ghost use Rattle.chess_rules.specs.Play.{undo_of};
 ghost use Rattle.arrayvec.specs.ArrayVec.{array_vec_len};
-ghost use Rattle.pop_solve.specs.declared.aim.Battle.{Battle};
-ghost use Rattle.pop_solve.specs.declared.aim.Play.TheVariants.{Help as HelpPlay, Battle as BattlePlay};
-ghost use Rattle.pop_solve.specs.ties.Calls.{Counts, Evaluates, Restores};
+ghost use Rattle.pop_battle.specs.declared.aim.Battle.{Battle};
+ghost use Rattle.pop_battle.specs.declared.aim.Play.TheVariants.{Help as HelpPlay, Battle as BattlePlay};
+ghost use Rattle.pop_battle.specs.ties.Calls.{Evaluates, Restores};
+ghost use Rattle.pop_solve.specs.ties.Calls.{Counts};
 ghost use Rattle.pop_solve.specs.ties.Plans.{has_variations};
-ghost use Rattle.pop_solve.specs.ties.Frames.{CameFrom, CameFromAt, Frame as Level, learned, moved, opened_frame};
-ghost use Rattle.pop_solve.specs.Chess.{chess};
+ghost use Rattle.pop_battle.specs.ties.Frames.{CameFrom, CameFromAt, Frame as Level, opened_frame};
+ghost use Rattle.pop_battle.specs.Chess.{chess};
 ghost use Rattle.chess_mates.specs.ties.Threats.{AreThreatsOf};
 ghost use Rattle.pop_input.specs.declared.stipulation.Goal.TheVariants.{Mate};
-ghost use Rattle.pop_solve.specs.ties.Marks.{is_for_mate};
-ghost use Rattle.pop_solve.specs.ties.Values.{seeks, value};
-ghost use Rattle.pop_solve.specs.ties.Walk.{MovesOn, fewest_half_moves, least_length_from, shown_length, is_followed, is_given, walk_length, IsMatedAtLast, IsNextOf, IsNextUnsettled, IsWalking, seeks_last, Steps};
+ghost use Rattle.pop_battle.specs.ties.Marks.{is_for_mate};
+ghost use Rattle.pop_battle.specs.ties.Values.{seeks, value};
+ghost use Rattle.pop_battle.specs.ties.Passing.{IsNextUnsettled};
+ghost use Rattle.pop_solve.specs.ties.Walk.{MovesOn, fewest_half_moves, least_length_from, shown_length, is_followed, is_given, walk_length, IsMatedAtLast, IsNextOf, IsWalking, seeks_last, Steps};
 
-use crate::aim::{Aim, Battle, Play};
-use crate::chess::{is_for_mate, moves_at, next_mate, next_move, reaches_goal, retract};
-use crate::frame::{Frame, Order, Stretch};
-use crate::history::History;
+use pop_battle::aim::{Aim, Battle, Play};
+use pop_battle::chess::{is_for_mate, next_mate, next_move, reaches_goal, retract};
+use pop_battle::frame::{Frame, Order, Stretch};
+use pop_battle::history::History;
 use crate::plan::Plan;
-use crate::value::{seeks, value_of};
+use pop_battle::value::{seeks, value_of};
 use arrayvec::ArrayVec;
 use chess_core::board::Board;
 use chess_core::man::Move;
@@ -272,7 +274,7 @@ pub fn enter<R: Rules, const N: usize>(
 }
 
 /// Whether moves are passed over that no reply mates: in help play for mate, with two half-moves left.
-#[tactic(auto, using(crate::proofs::Boards::for_mate))]
+#[tactic(auto, using(pop_battle::proofs::Boards::for_mate))]
 fn may_settle(plan: Plan, left: usize) -> bool
     ensures { result ≡ true → (plan.play ≡ HelpPlay) × (plan.goal ≡ Mate) × (left ≡ 2) }
 {
@@ -310,7 +312,7 @@ fn next_risky<R: Rules>(
 }
 
 /// The next move behind the place that isn't settled: each where no threats are told.
-#[tactic(auto, using(crate::proofs::Passing::none_passed))]
+#[tactic(auto, using(pop_battle::proofs::Passing::none_passed))]
 fn next_unsettled<R: Rules>(
     known: &mut Option<LegalMoves<R>>,
     place: &mut Moves<R>,

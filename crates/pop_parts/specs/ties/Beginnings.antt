@@ -12,10 +12,10 @@ use Rattle.pop_input.specs.declared.stipulation.Goal.{Goal}
 use Rattle.pop_input.specs.Posed.{Posed}
 use Rattle.pop_input.specs.Stipulations.{is_help}
 use Rattle.pop_events.specs.declared.event.Phase.{Phase}
-use Rattle.pop_solve.specs.Chess.{chess}
+use Rattle.pop_battle.specs.Chess.{chess}
 use Rattle.pop_solve.specs.Events.{Path, phase_half_moves, phase_start}
 use Rattle.pop_parts.specs.PhaseParts.{beginnings}
-use Rattle.pop_solve.specs.ties.Frames.{Frame, position}
+use Rattle.pop_battle.specs.ties.Frames.{Frame, position}
 use Rattle.pop_solve.specs.ties.Walk.{IsWalking, path, walk_work}
 
 -- nothing is tried from these frames

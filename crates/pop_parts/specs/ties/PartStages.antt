@@ -9,7 +9,7 @@ use Rattle.pop_parts.specs.PhaseParts.{part_count}
 use Rattle.pop_events.specs.declared.event.Phase.{Phase}
 use Rattle.pop_parts.specs.declared.part_search.PartStage.{PartStage}
 use Rattle.pop_parts.specs.declared.part_search.PartStage.TheVariants.{First, Within, Behind}
-use Rattle.pop_solve.specs.ties.Frames.{Frame, to_open}
+use Rattle.pop_battle.specs.ties.Frames.{Frame, to_open}
 use Rattle.pop_parts.specs.ties.PartsSeen.{is_part_stopped, part_walk}
 use Rattle.pop_solve.specs.ties.Phases.{beginning_count, kept_paths, phase_paths}
 use Rattle.pop_solve.specs.ties.Plans.{plan_of}

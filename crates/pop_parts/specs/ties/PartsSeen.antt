@@ -6,11 +6,11 @@ use Rattle.chess_rules.specs.Play.{position_after}
 use Rattle.chess_rules.specs.RuleSet.{RuleSet}
 use Rattle.pop_input.specs.Posed.{Posed}
 use Rattle.pop_solve.specs.Events.{BareEvent, Path, phase_half_moves, phase_start}
-use Rattle.pop_solve.specs.Game.{path_end}
+use Rattle.pop_battle.specs.Game.{path_end}
 use Rattle.pop_parts.specs.PhaseParts.{part_count}
 use Rattle.pop_events.specs.declared.event.Phase.{Phase}
-use Rattle.pop_solve.specs.declared.killers.Killers.{Killers}
-use Rattle.pop_solve.specs.ties.Counts.{walk_count}
+use Rattle.pop_battle.specs.declared.killers.Killers.{Killers}
+use Rattle.pop_battle.specs.ties.Counts.{walk_count}
 
 -- what a contract sees of a search of a part: the problem, the phase, the part's first moves, the events still to come, the
 -- position on the board, the frames in use, those opened so far, up to the greatest u64, and the moves that decided its tests last

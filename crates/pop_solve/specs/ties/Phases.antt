@@ -1,13 +1,13 @@
 -- What a search that stands in a phase has still to give.
-use Rattle.pop_solve.specs.Plays.{play_of}
-use Rattle.pop_solve.specs.declared.aim.Battle.{Battle}
-use Rattle.pop_solve.specs.declared.aim.Play.TheVariants.{Help as HelpPlay, Battle as BattlePlay}
+use Rattle.pop_battle.specs.Plays.{play_of}
+use Rattle.pop_battle.specs.declared.aim.Battle.{Battle}
+use Rattle.pop_battle.specs.declared.aim.Play.TheVariants.{Help as HelpPlay, Battle as BattlePlay}
 use Rattle.std.specs.Prelude.{◌≡◌, ℕ, zero, suc, ◌+◌, ◌-◌, ◌≤◌, ◌^◌, min, ◌==◌, Bool, true, false, ◌||◌, if◌then◌else◌, List, [], ◌∷◌, ◌++◌, map, length, drop, ◌⊎◌}
 use Rattle.chess_core.specs.Position.{Position}
 use Rattle.chess_rules.specs.RuleSet.{RuleSet}
 use Rattle.pop_input.specs.Posed.{Posed}
 use Rattle.pop_input.specs.Stipulations.{is_help}
-use Rattle.pop_solve.specs.ties.Frames.{Frame, to_open}
+use Rattle.pop_battle.specs.ties.Frames.{Frame, to_open}
 use Rattle.pop_solve.specs.ties.Walk.{fewest_left, path, to_come, IsEnded, IsWalking, IsCounted, are_whites}
 use Rattle.pop_solve.specs.Events.{BareEvent, Path, impossible, is_set, total, play_start, events_from, path_event, phase_start, phase_half_moves, event_of, events}
 use Rattle.pop_solve.specs.ties.Seen.{fewest_from, fewest_tried, is_never_stopped, is_unstopped, is_walked_once, walk_from, whole_walk, StandsOn}

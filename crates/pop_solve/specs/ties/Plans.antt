@@ -1,9 +1,9 @@
 -- What is walked: help play, or a battle with its keys alone or with variations.
 use Rattle.std.specs.Prelude.{Bool, true, false}
 use Rattle.pop_input.specs.Posed.{Posed}
-use Rattle.pop_solve.specs.Plays.{play_of}
-use Rattle.pop_solve.specs.declared.aim.Play.{Play}
-use Rattle.pop_solve.specs.declared.aim.Play.TheVariants.{Help as HelpPlay, Battle as BattlePlay}
+use Rattle.pop_battle.specs.Plays.{play_of}
+use Rattle.pop_battle.specs.declared.aim.Play.{Play}
+use Rattle.pop_battle.specs.declared.aim.Play.TheVariants.{Help as HelpPlay, Battle as BattlePlay}
 use Rattle.pop_events.specs.declared.event.Phase.{Phase}
 use Rattle.pop_solve.specs.Events.{phase_half_moves}
 use Rattle.pop_solve.specs.declared.phases.Walk.{Walk}

@@ -5,9 +5,9 @@ use Rattle.std.specs.Prelude.{◌≡◌, ℕ, ◌+◌, Bool, false, not, ◌==�
 use Rattle.std.specs.List.{list_all}
 use Rattle.chess_core.specs.Position.{Position}
 use Rattle.chess_rules.specs.RuleSet.{RuleSet}
-use Rattle.pop_solve.specs.Game.{path_end}
-use Rattle.pop_solve.specs.Chess.{chess}
-use Rattle.pop_solve.specs.ties.Counts.{walk_count}
+use Rattle.pop_battle.specs.Game.{path_end}
+use Rattle.pop_battle.specs.Chess.{chess}
+use Rattle.pop_battle.specs.ties.Counts.{walk_count}
 use Rattle.pop_solve.specs.ties.Walk.{fewest_walked}
 use Rattle.pop_input.specs.Posed.{Posed}
 use Rattle.pop_input.specs.Stipulations.{is_help}

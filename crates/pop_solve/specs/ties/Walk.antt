@@ -1,7 +1,7 @@
 -- What the frames of a walk stand for.
 use Rattle.pop_solve.specs.Events.{Path}
-use Rattle.pop_solve.specs.declared.aim.Battle.{Battle}
-use Rattle.pop_solve.specs.declared.aim.Battle.TheVariants.{Direct, Selfmate}
+use Rattle.pop_battle.specs.declared.aim.Battle.{Battle}
+use Rattle.pop_battle.specs.declared.aim.Battle.TheVariants.{Direct, Selfmate}
 use Rattle.pop_input.specs.declared.stipulation.Goal.TheVariants.{Mate}
 use Rattle.std.specs.Prelude.{◌≡◌, ℕ, zero, suc, ◌+◌, ◌-◌, ◌/◌, ◌≤◌, ◌<◌, ◌^◌, min, ◌==◌, Bool, true, false, not, ◌&&◌, ◌||◌, if◌then◌else◌, List, [], ◌∷◌, ◌++◌, map, length, filter, Option, IfSome, MatchOption, ◌⊎◌}
 use Rattle.std.specs.List.{flat_map, list_all, sum_by}
@@ -10,18 +10,18 @@ use Rattle.chess_core.specs.declared.man.Move.{Move}
 use Rattle.chess_core.specs.WellFormed.{IsWellFormed}
 use Rattle.chess_rules.specs.Play.{position_after}
 use Rattle.chess_rules.specs.ties.Places.{IsPlaceIn, LegalPlace, moves_behind}
-use Rattle.chess_mates.specs.ties.Mates.{allows_mate, is_mating}
+use Rattle.chess_mates.specs.ties.Mates.{is_mating}
 use Rattle.chess_rules.specs.Legal.{is_legal, is_mate}
 use Rattle.chess_rules.specs.RuleSet.{RuleSet}
-use Rattle.pop_solve.specs.declared.aim.Play.{Play}
-use Rattle.pop_solve.specs.declared.aim.Play.TheVariants.{Help as HelpPlay, Battle as BattlePlay}
-use Rattle.pop_solve.specs.Game.{Game}
-use Rattle.pop_solve.specs.ties.Counts.{smallest_tree}
-use Rattle.pop_solve.specs.ties.Values.{seeks, value}
-use Rattle.pop_solve.specs.Chess.{chess}
-use Rattle.pop_solve.specs.ties.Frames.{AreKnown, Frame, learned, moved, position, IsLinked, work_behind, to_open, left_at_top}
+use Rattle.pop_battle.specs.declared.aim.Play.{Play}
+use Rattle.pop_battle.specs.declared.aim.Play.TheVariants.{Help as HelpPlay, Battle as BattlePlay}
+use Rattle.pop_battle.specs.Game.{Game}
+use Rattle.pop_battle.specs.ties.Counts.{smallest_tree}
+use Rattle.pop_battle.specs.ties.Values.{seeks, value}
+use Rattle.pop_battle.specs.Chess.{chess}
+use Rattle.pop_battle.specs.ties.Frames.{AreKnown, Frame, learned, moved, position, IsLinked, work_behind, to_open, left_at_top}
 use Rattle.pop_solve.specs.declared.plan.Plan.{Plan}
-use Rattle.pop_solve.specs.ties.Marks.{is_for_mate}
+use Rattle.pop_battle.specs.ties.Marks.{is_for_mate}
 use Rattle.pop_solve.specs.ties.Plans.{has_variations}
 
 -- the fewest half-moves with which a move of White is tried
@@ -177,37 +177,6 @@ seeks_last (BattlePlay battle) = seeks battle 1
 abbrev pub IsMatedAtLast : RuleSet → Plan → ℕ → Position → Type 0
 IsMatedAtLast rule plan left q =
     is_for_mate plan.goal ≡ true → seeks_last plan.play ≡ true → left ≡ 0 → is_mate rule q ≡ true
-
--- from a place to the moves `rest` behind a later one the moves `over` are passed over, of which `what` holds
-pub record Passes (rule : RuleSet) (p : Position) (place : ℕ) (rest : List Move)
-    (what : List Move → Type 0) : Type 0 where
-  pub mid : ℕ
-  pub over : List Move
-  pub passed : moves_behind rule p place ≡ over ++ moves_behind rule p mid
-  pub here : moves_behind rule p mid ≡ rest
-  pub fits : what over
-
--- none of these moves passes the test, and from `before` to `after` each has counted as one opened frame
-pub record AreTaken (test : Move → Bool) (before after : ℕ) (over : List Move) : Type 0 where
-  pub none : filter test over ≡ []
-  pub counts : after ≡ min (before + length over) (2 ^ 64 - 1)
-
--- so where no reply to any of them mates
-abbrev pub AreSettled : RuleSet → Position → (before after : ℕ) → List Move → Type 0
-AreSettled rule p = AreTaken (allows_mate rule p)
-
--- an answer, of the next move behind a place that a sieve for the test leaves
-abbrev pub IsNextLeft : RuleSet → Position → (Move → Bool) → (place next before after : ℕ)
-    → Option Move → Type 0
-IsNextLeft rule p test place next before after found =
-    MatchOption found (Passes rule p place [] (AreTaken test before after))
-    (λ m. Passes rule p place (m ∷ moves_behind rule p next) (AreTaken test before after)
-    × (is_legal rule p m ≡ true))
-
--- and of the next one that isn't settled
-abbrev pub IsNextUnsettled : RuleSet → Position → (place next before after : ℕ) → Option Move → Type
-    0
-IsNextUnsettled rule p = IsNextLeft rule p (allows_mate rule p)
 
 -- these moves of p have no paths, with `left` half-moves left: there are none, or with one left, by a side that seeks
 -- mate, they don't mate; with two left in help play for mate they are settled, and counted

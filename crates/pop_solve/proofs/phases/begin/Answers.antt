@@ -3,7 +3,7 @@ use Rattle.pop_solve.proofs.Walking as walking
 use Rattle.pop_solve.proofs.Events as events
 use Rattle.pop_solve.proofs.Opened as opened
 use Rattle.pop_solve.proofs.Solved as solved
-use Rattle.pop_solve.proofs.Boards.{behind_start}
+use Rattle.pop_battle.proofs.Boards.{behind_start}
 use Rattle.pop_solve.proofs.Sound.{start_sound}
 use Rattle.pop_solve.proofs.phases.begin.Goals as goal
 

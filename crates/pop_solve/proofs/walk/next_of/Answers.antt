@@ -1,5 +1,5 @@
 use Rattle.pop_solve.proofs.Words.{rules}
-use Rattle.pop_solve.proofs.Boards.{for_mate}
+use Rattle.pop_battle.proofs.Boards.{for_mate}
 use Rattle.pop_solve.proofs.Walking.{next_mating}
 use Rattle.pop_solve.proofs.walk.next_of.Goals as goal
 

@@ -1,5 +1,5 @@
 use Rattle.pop_solve.proofs.Words.{rules}
-use Rattle.pop_solve.proofs.Passing.{sifted}
+use Rattle.pop_battle.proofs.Passing.{sifted}
 use Rattle.pop_solve.proofs.walk.next_risky.Goals as goal
 
 pub returns-clause-next : goal.returns-clause-next

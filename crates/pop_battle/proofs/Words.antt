@@ -1,0 +1,51 @@
+-- Words and lemmas of the standard library and of the crates that most proofs name.
+pub use Rattle.std.proofs.Common.{Bool, IfNone, IfSome, List, MatchOption, None, Option, Some, [], ap, append_assoc, arith, cond, drop, eqb, false, filter, inl, inr, is_some, length, length-append, min, not, refl, reverse, rules, suc, sym, take, true, zero, ℕ, ◌%◌, ◌&&◌, ◌++◌, ◌+◌, ◌-◌, ◌<◌, ◌^◌, ◌||◌, ◌∙◌, ◌∷◌, ◌≡◌, ◌≤◌, ◌⊎◌}
+pub use Rattle.std.proofs.lemmas.Bool.{and_parts, cases_Bool, cases_lt}
+pub use Rattle.std.proofs.lemmas.Bool.Decides.{nat_tests}
+pub use Rattle.std.proofs.lemmas.List.{append-nil, drop-append-le, length-drop, length-reverse, reverse-append, take-append-le, take_all}
+pub use Rattle.std.proofs.lemmas.List.Elements.{filter_agree}
+pub use Rattle.std.proofs.lemmas.List.Sums.{sum_by-cons}
+pub use Rattle.std.specs.List.{list_all, list_any, range_with_len, sum_by}
+pub use Rattle.chess_core.specs.Position.{Position}
+pub use Rattle.chess_core.specs.declared.man.Move.{Move}
+pub use Rattle.chess_core.specs.WellFormed.{IsWellFormed}
+pub use Rattle.chess_rules.proofs.listing_moves.Between.{between-here, between-none, between-past, between-skip, cut_moves}
+pub use Rattle.chess_mates.proofs.MatesBetween.{cut_mates}
+pub use Rattle.chess_rules.proofs.listing_moves.Calls.{is_pseudo_legal-from_legal}
+pub use Rattle.chess_rules.proofs.listing_moves.Members.{from_map}
+pub use Rattle.chess_rules.proofs.listing_moves.Places.{moves_behind-end, moves_behind-here, moves_behind-skip, place_of_triple}
+pub use Rattle.chess_rules.proofs.making_moves.Stays.{after_well_formed}
+pub use Rattle.chess_rules.specs.Legal.{is_nil}
+unfoldable pub use Rattle.chess_rules.specs.Legal.{is_legal, is_mate, is_stalemate, moves}
+pub use Rattle.chess_rules.specs.Undo.{Undo}
+unfoldable pub use Rattle.chess_rules.specs.Play.{undo_of}
+pub use Rattle.chess_rules.specs.RuleSet.{RuleSet}
+pub use Rattle.chess_rules.specs.ties.Places.{IsPlaceIn, LegalPlace}
+unfoldable pub use Rattle.chess_rules.specs.ties.Places.{moves_behind, moves_between}
+pub use Rattle.chess_rules.specs.ties.Sifting.{IsSifted}
+pub use Rattle.chess_mates.specs.ties.Mates.{MatingPlace, is_mating, mates_between}
+pub use Rattle.chess_mates.specs.ties.QuietSteps.{must_reply_with_mate}
+unfoldable pub use Rattle.chess_mates.specs.ties.Mates.{mates_behind}
+pub use Rattle.pop_input.specs.declared.stipulation.Goal.{Goal}
+pub use Rattle.pop_input.specs.declared.stipulation.Goal.TheVariants.{Mate}
+pub use Rattle.pop_battle.specs.Chess.{chess, is_goal_reached}
+pub use Rattle.pop_battle.specs.Game.{Game, can_move, every_move, some_move}
+pub use Rattle.pop_battle.specs.declared.aim.Battle.{Battle}
+pub use Rattle.pop_battle.specs.declared.aim.Battle.TheVariants.{Direct, Selfmate}
+pub use Rattle.pop_battle.specs.declared.frame.Stretch.TheVariants.{Aimed, Earlier, Killer, Others}
+pub use Rattle.pop_battle.specs.ties.Counts.{HasCounted, decided_by}
+unfoldable pub use Rattle.pop_battle.specs.ties.Counts.{least_of, smallest_below, smallest_tree, walk_count}
+pub use Rattle.pop_battle.specs.ties.Frames.{CameFrom, CameFromAt, Ends, Frame, IsOpenedOn, IsTesting, Order, Turns, all_moves_of, comes_early, is_at, moves_ahead, stretches_behind, tested_frame, left_at_top, untried_moves}
+unfoldable pub use Rattle.pop_battle.specs.ties.Frames.{AreKnown, IsDescending, IsLinked, belongs, delivered_value, moves_here, moves_later, pending_value, position, work_from, work_among, tests, to_test, to_try, to_try_with, walk_among, test_work}
+pub use Rattle.pop_battle.specs.ties.Marks.{is_for_mate}
+pub use Rattle.pop_battle.specs.ties.Values.{seeks}
+unfoldable pub use Rattle.pop_battle.specs.ties.Values.{joined_value, value}
+pub use Rattle.pop_battle.specs.ties.Passing.{AreTaken, IsNextLeft, Passes}
+pub use Rattle.chess_rules.proofs.listing_moves.Between.{behind_cut}
+pub use Rattle.chess_rules.proofs.listing_moves.Members.{from_range}
+pub use Rattle.chess_rules.proofs.listing_moves.Places.{triples_numbered}
+pub use Rattle.chess_rules.specs.Legal.{moves as legal_moves}
+pub use Rattle.chess_rules.specs.Play.{position_after}
+pub use Rattle.chess_rules.specs.ties.Places.{all_triples, place_of, triple_at}
+unfoldable pub use Rattle.pop_events.specs.Shown.{mark_of, shown_of}
+pub use Rattle.pop_battle.specs.declared.aim.Aim.{Aim}

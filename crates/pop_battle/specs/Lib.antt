@@ -1,0 +1,4 @@
+pub mod Plays
+pub mod Game
+pub mod Chess
+pub mod ties

@@ -1,0 +1,6 @@
+pub mod Calls
+pub mod Counts
+pub mod Frames
+pub mod Marks
+pub mod Passing
+pub mod Values

@@ -1,0 +1,326 @@
+//! What the search does on the board.
+ghost use Rattle.std.specs.Prelude.{◌≡◌, ◌∷◌, [], ◌&&◌, IfSome, MatchOption, is_some, false, true};
+ghost use Rattle.chess_core.specs.Diagrams.{position_of};
+ghost use Rattle.chess_core.specs.Position.{Position};
+ghost use Rattle.chess_core.specs.WellFormed.{IsWellFormed};
+ghost use Rattle.chess_rules.specs.Attacks.{in_check};
+ghost use Rattle.chess_rules.specs.Legal.{is_legal};
+ghost use Rattle.chess_rules.specs.ties.Places.{IsPlaceIn, moves_behind, moves_between, place_of};
+ghost use Rattle.chess_mates.specs.ties.Mates.{IsNextMate, mates_behind};
+ghost use Rattle.pop_input.specs.declared.stipulation.Goal.{Goal};
+ghost use Rattle.pop_input.specs.declared.stipulation.Goal.TheVariants.{Mate};
+ghost use Rattle.pop_battle.specs.ties.Calls.{Finds, IsOnMate};
+ghost use Rattle.pop_battle.specs.Chess.{chess, is_impossible, set_start};
+ghost use Rattle.pop_events.specs.Shown.{castling_side, mark_of, reborn_man, shown_of};
+ghost use Rattle.pop_battle.specs.ties.Marks.{is_for_mate};
+ghost use Rattle.pop_battle.specs.declared.chess.Reached.TheVariants.{Surely};
+ghost use Rattle.pop_battle.specs.ties.Frames.{CameBy};
+ghost use Rattle.pop_battle.specs.Game.{can_move as has_move, every_move, some_move};
+
+use chess_core::board::Board;
+use chess_core::diagram::Diagram;
+use chess_core::man::{Man, Move};
+use chess_core::square::Square;
+use chess_mates::every_move::every_move_mates;
+use chess_mates::mating_moves::MatingMoves;
+use chess_rules::legal_moves::LegalMoves;
+use chess_rules::moves::{Moves, has_legal_move, is_mate, is_stalemate};
+use chess_rules::play::{Undo, is_castling};
+use chess_rules::rules::{Rules, in_check};
+use pop_events::shown::{Mark, Shown, Side};
+use pop_input::stipulation::Goal;
+
+/// The place among the moves of the board's position, of which something may be known already.
+pub(crate) fn moves_at<R: Rules>(
+    known: Option<LegalMoves<R>>,
+    place: Moves<R>,
+    board: &Board,
+) -> LegalMoves<R>
+    requires known { IfSome known (λ k. IsPlaceIn R.rule board.now k) }
+    ensures place { result.place ≡ place }
+    ensures within { IsPlaceIn R.rule board.now result }
+{
+    let mut moves = match known {
+        Some(moves) => moves,
+        None => LegalMoves::of(board),
+    };
+    moves.go_to(place);
+    moves
+}
+
+/// The next legal move behind the place, in a position of which something is known.
+pub(crate) fn next_behind<R: Rules>(moves: &mut LegalMoves<R>, board: &mut Board) -> Option<Move>
+    requires well_formed { IsWellFormed board.old }
+    requires known { IsPlaceIn R.rule board.old moves.old }
+    ensures found { Finds R.rule board.old board.new moves.new result
+        (moves_behind R.rule board.old moves.old.place)
+        (moves_behind R.rule board.old moves.new.place) }
+    ensures place { moves.new.place ≡ place_of result }
+{
+    moves.next(board)
+}
+
+/// The next legal move behind the place, which moves on to it, or behind all moves; what is then known of the position's
+/// moves is kept.
+pub fn next_move<R: Rules>(
+    known: &mut Option<LegalMoves<R>>,
+    place: &mut Moves<R>,
+    board: &mut Board,
+) -> Option<Move>
+    requires well_formed { IsWellFormed board.old }
+    requires known { IfSome known.old (λ k. IsPlaceIn R.rule board.old k) }
+    ensures unchanged { board.new ≡ board.old }
+    ensures within { IfSome known.new (λ k. IsPlaceIn R.rule board.old k) }
+    ensures next { MatchOption result (moves_behind R.rule board.old place.old ≡ [])
+        (λ m. (moves_behind R.rule board.old place.old
+        ≡ m ∷ moves_behind R.rule board.old place.new)
+        × (is_legal R.rule board.old m ≡ true)) }
+    ensures place { place.new ≡ place_of result }
+{
+    if known.is_none() {
+        *known = Some(LegalMoves::<R>::of(board));
+    }
+    let Some(moves) = known else {
+        return None;
+    };
+    moves.go_to(*place);
+    let found = next_behind::<R>(moves, board);
+    *place = moves.place();
+    found
+}
+
+/// The next legal move behind the place that doesn't lie behind `end`.
+pub(crate) fn next_until<R: Rules>(
+    moves: &mut LegalMoves<R>,
+    end: Moves<R>,
+    board: &mut Board,
+) -> Option<Move>
+    requires well_formed { IsWellFormed board.old }
+    requires known { IsPlaceIn R.rule board.old moves.old }
+    ensures { Finds R.rule board.old board.new moves.new result
+        (moves_between R.rule board.old moves.old.place end)
+        (moves_between R.rule board.old moves.new.place end) }
+{
+    moves.next_until(end, board)
+}
+
+/// The moves of the board's position, if it has one; the killer is looked at first.
+#[tactic(auto, using(crate::proofs::Boards::some_move))]
+pub(crate) fn first_look<R: Rules>(killer: Moves<R>, board: &mut Board) -> Option<LegalMoves<R>>
+    requires well_formed { IsWellFormed board.old }
+    ensures unchanged { board.new ≡ board.old }
+    ensures within { IfSome result (λ k. IsPlaceIn R.rule board.old k) }
+    ensures moves { (goal : Goal) → is_some result ≡ has_move (chess goal R.rule) board.old }
+{
+    let mut moves = LegalMoves::<R>::of(board);
+    moves.go_to(killer.back());
+    if next_until::<R>(&mut moves, killer, board).is_some() {
+        return Some(moves);
+    }
+    moves.go_to(Moves::start());
+    if next_behind::<R>(&mut moves, board).is_some() {
+        return Some(moves);
+    }
+    None
+}
+
+/// The next legal move behind the place that mates.
+pub fn next_mate<R: Rules>(place: &mut Moves<R>, board: &mut Board) -> Option<Move>
+    requires well_formed { IsWellFormed board.old }
+    ensures unchanged { board.new ≡ board.old }
+    ensures next { MatchOption result (mates_behind R.rule board.old place.old ≡ [])
+        (λ m. IsNextMate R.rule board.old place.old place.new m
+        × (is_legal R.rule board.old m ≡ true)) }
+{
+    chess_mates::mating_moves::next_mate::<R>(place, board)
+}
+
+/// The place on a legal move that mates, if there is one. Which one it is costs time alone: the killer is looked at first,
+/// then the moves behind it.
+pub(crate) fn find_mate<R: Rules>(killer: Moves<R>, board: &mut Board) -> Option<Moves<R>>
+    requires well_formed { IsWellFormed board.old }
+    ensures unchanged { board.new ≡ board.old }
+    ensures mates { is_some result
+        ≡ some_move (chess Mate R.rule) (chess Mate R.rule).goal board.old }
+    ensures place { IfSome result (λ place. IsOnMate R.rule board.old place) }
+{
+    let before = killer.back();
+    let mut moves = MatingMoves::<R>::of(board);
+    moves.go_to(before);
+    if moves.next(board).is_some() {
+        return Some(moves.place());
+    }
+    moves.go_to(Moves::start());
+    if moves.next_until(before, board).is_some() {
+        return Some(moves.place());
+    }
+    None
+}
+
+/// Whether the side to move has a legal move and each of its legal moves mates.
+#[tactic(auto, using(crate::proofs::Boards::some_move))]
+pub(crate) fn must_mate<R: Rules>(board: &mut Board) -> bool
+    requires well_formed { IsWellFormed board.old }
+    ensures unchanged { board.new ≡ board.old }
+    ensures mates { result ≡ (has_move (chess Mate R.rule) board.old
+        && every_move (chess Mate R.rule) (chess Mate R.rule).goal board.old) }
+{
+    every_move_mates::<R>(board)
+}
+
+/// Takes a move back.
+#[tactic(auto, using(chess_rules::proofs::listing_moves::Calls::playing))]
+pub fn retract<R: Rules>(board: &mut Board, by: Move, undo: Undo)
+    requires came { (p : Position) × CameBy R.rule by undo board.old p }
+    ensures before { (p : Position) → CameBy R.rule by undo board.old p → board.new ≡ p }
+{
+    R::unplay(board, by, undo);
+}
+
+/// What a move has done to the side that is to move now.
+#[tactic(auto, unfolding(pop_events::specs::Shown::mark_of, chess_rules::specs::Legal::is_mate, chess_rules::specs::Legal::is_stalemate))]
+pub(crate) fn mark_of<R: Rules>(goal: Goal, board: &mut Board) -> Mark
+    requires well_formed { IsWellFormed board.old }
+    ensures unchanged { board.new ≡ board.old }
+    ensures mark { result ≡ mark_of goal R.rule board.old }
+{
+    if in_check::<R>(board, board.turn()) {
+        return if has_legal_move::<R>(board) {
+            Mark::Check
+        } else {
+            Mark::Mate
+        };
+    }
+    if goal.is_for_stalemate() && !has_legal_move::<R>(board) {
+        Mark::Stalemate
+    } else {
+        Mark::Plain
+    }
+}
+
+/// What is known of the goal in a position.
+#[derive(Clone, Copy)]
+pub enum Reached {
+    Surely,
+    Perhaps,
+}
+
+/// The same where it may be known already that the goal is reached.
+#[tactic(auto, unfolding(pop_events::specs::Shown::mark_of, chess_rules::specs::Legal::is_mate, chess_rules::specs::Legal::is_stalemate))]
+pub fn mark_after<R: Rules>(goal: Goal, reached: Reached, board: &mut Board) -> Mark
+    requires well_formed { IsWellFormed board.old }
+    requires reached { reached ≡ Surely → (chess goal R.rule).goal board.old ≡ true }
+    ensures unchanged { board.new ≡ board.old }
+    ensures mark { result ≡ mark_of goal R.rule board.old }
+{
+    match (reached, goal) {
+        (Reached::Perhaps, _) => mark_of::<R>(goal, board),
+        (Reached::Surely, Goal::Mate) => Mark::Mate,
+        (Reached::Surely, Goal::Stalemate) => Mark::Stalemate,
+    }
+}
+
+/// Whether the goal is mate.
+pub fn is_for_mate(goal: Goal) -> bool
+    ensures { result ≡ is_for_mate goal }
+{
+    match goal {
+        Goal::Mate => true,
+        Goal::Stalemate => false,
+    }
+}
+
+/// Whether the goal is reached in the board's position.
+pub fn reaches_goal<R: Rules>(goal: Goal, board: &mut Board) -> bool
+    requires well_formed { IsWellFormed board.old }
+    ensures unchanged { board.new ≡ board.old }
+    ensures reached { result ≡ (chess goal R.rule).goal board.old }
+{
+    match goal {
+        Goal::Mate => is_mate::<R>(board),
+        Goal::Stalemate => is_stalemate::<R>(board),
+    }
+}
+
+/// Whether the goal is reached in the board's position, which has no legal move.
+#[tactic(auto, unfolding(chess_rules::specs::Legal::is_mate, chess_rules::specs::Legal::is_stalemate))]
+pub(crate) fn is_reached_without_move<R: Rules>(goal: Goal, board: &Board) -> bool
+    requires { has_move (chess goal R.rule) board.now ≡ false }
+    ensures { result ≡ (chess goal R.rule).goal board.now }
+{
+    in_check::<R>(board, board.turn()) == is_for_mate(goal)
+}
+
+/// To which side the man castles, if it does.
+fn castling_side(man: Man, by: &Move) -> Option<Side>
+    ensures { result ≡ castling_side man by.now }
+{
+    if !is_castling(man, by) {
+        return None;
+    }
+    Some(if by.from < by.to { Side::H } else { Side::A })
+}
+
+/// The reborn man and his square, if he is reborn.
+fn reborn_man(man: Option<Man>, square: Option<Square>) -> Option<(Man, Square)>
+    ensures { result ≡ reborn_man man square }
+{
+    match (man, square) {
+        (Some(man), Some(square)) => Some((man, square)),
+        _ => None,
+    }
+}
+
+/// The move of the man as it is shown, once it is played: `there` stood on the arrival before.
+#[tactic(auto, unfolding(pop_events::specs::Shown::shown_of))]
+pub fn shown_of(
+    man: Option<Man>,
+    there: Option<Man>,
+    by: &Move,
+    undo: &Undo,
+    mark: Mark,
+) -> Shown
+    ensures { result ≡ shown_of man there by.now undo.now mark }
+{
+    let Some(man) = man else {
+        return Shown::default();
+    };
+    let capture = undo.captured.is_some();
+    Shown {
+        man,
+        from: by.from,
+        to: by.to,
+        capture,
+        ep: capture && there.is_none(),
+        promo: by.promo,
+        castling: castling_side(man, by),
+        rebirth: reborn_man(undo.captured, undo.rebirth),
+        mark,
+    }
+}
+
+/// Gives the move to the other side, for set play.
+pub fn turn_over(board: &mut Board)
+    ensures { board.new ≡ set_start board.old }
+{
+    board.set_turn(board.turn().other());
+    board.set_crossed(None);
+}
+
+/// Gives it back: the position is that of the diagram again.
+#[tactic(auto, unfolding(chess_core::specs::Diagrams::position_of))]
+pub fn turn_back(board: &mut Board, diagram: &Diagram)
+    requires { board.old ≡ set_start (position_of diagram.now) }
+    ensures { board.new ≡ position_of diagram.now }
+{
+    board.set_turn(diagram.turn);
+    board.set_crossed(diagram.crossed);
+}
+
+/// Whether the position can't stand in set play: the side that isn't to move is in check.
+#[tactic(auto, unfolding(crate::specs::Chess::is_impossible))]
+pub fn is_impossible<R: Rules>(board: &Board) -> bool
+    ensures { result ≡ is_impossible R.rule board.now }
+{
+    in_check::<R>(board, board.turn().other())
+}

@@ -1,0 +1,133 @@
+//! The moves that decided tests, and the threats of the last position that was asked for them.
+ghost use Rattle.std.specs.Prelude.{◌≡◌, ◌==◌, ◌<◌, ◌∷◌, [], IfSome, true, if◌then◌else◌, slice_index_or, slice_set};
+ghost use Rattle.std.specs.List.{copy_within, repeat};
+ghost use Rattle.chess_core.specs.WellFormed.{IsWellFormed};
+ghost use Rattle.chess_mates.specs.ties.Mates.{mates_behind};
+ghost use Rattle.chess_rules.specs.Legal.{is_legal};
+ghost use Rattle.chess_rules.specs.Play.{position_after};
+ghost use Rattle.chess_mates.specs.ties.Threats.{AreThreatsOf};
+ghost use Rattle.pop_battle.specs.declared.aim.Battle.TheVariants.{Direct};
+
+use crate::aim::Battle;
+use chess_core::board::Board;
+use chess_core::man::Move;
+use chess_mates::threats::Threats;
+use chess_rules::moves::Moves;
+use chess_rules::rules::Rules;
+
+/// For each number of half-moves below 32 the places on the last two moves that decided a position with so many
+/// half-moves left. In a direct mate they are tried first in the next such position; that any place may stand here costs
+/// time alone. In a selfmate moves are tried in order: there the last one that decided is no good guess.
+#[derive(Drop)]
+pub struct Killers<R: Rules> {
+    places: [Moves<R>; 32],
+    earlier: [Moves<R>; 32],
+    pub threats: Option<Threats>,
+}
+
+impl<R: Rules> Killers<R> {
+    /// None yet: the places before all triples.
+    pub fn none() -> Killers<R>
+        ensures last { result.places ≡ repeat 32 (0 ∷ []) }
+        ensures earlier { result.earlier ≡ repeat 32 (0 ∷ []) }
+    {
+        Killers {
+            places: [Moves::start(); 32],
+            earlier: [Moves::start(); 32],
+            threats: None,
+        }
+    }
+
+    /// The place on the killer of a position with so many half-moves left.
+    pub fn of(&self, battle: Battle, left: usize) -> Moves<R>
+        ensures { battle ≡ Direct → left < 32 → result ≡ slice_index_or self.now.places left 0 }
+    {
+        if battle == Battle::Direct && left < 32 {
+            self.places[left]
+        } else {
+            Moves::start()
+        }
+    }
+
+    /// The place on the one before that was another move.
+    pub fn earlier(&self, battle: Battle, left: usize) -> Moves<R>
+        ensures { battle ≡ Direct → left < 32 → result ≡ slice_index_or self.now.earlier left 0 }
+    {
+        if battle == Battle::Direct && left < 32 {
+            self.earlier[left]
+        } else {
+            Moves::start()
+        }
+    }
+
+    /// Takes the killers of so many half-moves as those of two more.
+    pub fn lengthen(&mut self)
+        ensures last { self.new.places ≡ copy_within self.old.places 0 30 2 }
+        ensures earlier { self.new.earlier ≡ copy_within self.old.earlier 0 30 2 }
+    {
+        self.places.copy_within(0..30, 2);
+        self.earlier.copy_within(0..30, 2);
+    }
+
+    /// Remembers another; the one so far is the earlier one then.
+    pub fn put(&mut self, left: usize, place: Moves<R>)
+        ensures last { left < 32 → self.new.places ≡ slice_set self.old.places left place }
+        ensures earlier { left < 32 → self.new.earlier
+            ≡ (if slice_index_or self.old.places left 0 == place then self.old.earlier
+            else slice_set self.old.earlier left (slice_index_or self.old.places left 0)) }
+    {
+        if left < 32 {
+            if !self.places[left].is(place) {
+                self.earlier[left] = self.places[left];
+            }
+            self.places[left] = place;
+        }
+    }
+
+    /// Tells the threats in the board's position, if they are told at all, in place of those that were kept.
+    pub fn renew_threats(&mut self, board: &Board)
+        requires well_formed { IsWellFormed board.now }
+        ensures { IfSome self.new.threats (λ t. AreThreatsOf R.rule board.now t) }
+    {
+        let Some(king) = board.king_of(board.turn()) else {
+            self.threats = None;
+            return;
+        };
+        if !Threats::are_told::<R>() {
+            self.threats = None;
+            return;
+        }
+        match &mut self.threats {
+            Some(threats) => threats.retell::<R>(board, king),
+            None => self.threats = Some(Threats::of::<R>(board, king)),
+        }
+    }
+
+    /// Keeps the threats in the board's position, if they are told, and else none.
+    pub fn tell_threats(&mut self, board: &Board)
+        requires well_formed { IsWellFormed board.now }
+        ensures { IfSome self.new.threats (λ t. AreThreatsOf R.rule board.now t) }
+    {
+        if let Some(threats) = &self.threats {
+            if threats.are_of::<R>(board) {
+                return;
+            }
+        }
+        self.renew_threats(board);
+    }
+
+    /// Whether no reply to this move mates, told by the threats in the board's position, which are kept for its other moves.
+    /// `false` says nothing.
+    pub fn rule_out_mate(&mut self, board: &Board, m: &Move) -> bool
+        requires well_formed { IsWellFormed board.now }
+        requires legal { is_legal R.rule board.now m.now ≡ true }
+        ensures { result ≡ true
+            → mates_behind R.rule (position_after R.rule board.now m.now) 0 ≡ [] }
+    {
+        self.tell_threats(board);
+        let Some(threats) = &mut self.threats else {
+            return false;
+        };
+        threats.rule_out_mate::<R>(board, m)
+    }
+}

@@ -1,0 +1,140 @@
+//! Black's last defences in a direct mate, after which White must mate at once.
+ghost use Rattle.std.specs.Prelude.{◌≡◌, ◌+◌, ◌-◌, ◌≤◌, IfSome, None, true};
+ghost use Rattle.chess_core.specs.WellFormed.{IsWellFormed};
+ghost use Rattle.chess_rules.specs.Legal.{is_legal, moves as legal_moves};
+ghost use Rattle.chess_rules.specs.Play.{position_after};
+ghost use Rattle.chess_rules.specs.ties.Places.{IsPlaceIn};
+ghost use Rattle.pop_input.specs.declared.stipulation.Goal.TheVariants.{Mate};
+ghost use Rattle.pop_battle.specs.Chess.{chess};
+ghost use Rattle.pop_battle.specs.declared.aim.Battle.TheVariants.{Direct};
+ghost use Rattle.pop_battle.specs.declared.frame.Stretch.TheVariants.{Killer};
+ghost use Rattle.pop_battle.specs.ties.Calls.{FindsDefence};
+ghost use Rattle.pop_battle.specs.ties.Counts.{HasCounted, smallest_tree, walk_count};
+ghost use Rattle.pop_battle.specs.ties.Frames.{moves_ahead, moves_unlooked};
+ghost use Rattle.pop_battle.specs.ties.Values.{value};
+
+use crate::aim::Battle;
+use crate::chess::{find_mate, is_reached_without_move, moves_at, retract};
+use crate::frame::{Order, Stretch};
+use crate::history::History;
+use crate::killers::Killers;
+use crate::stretches::{next_tried, order_of, place_before};
+use chess_core::board::Board;
+use chess_core::man::Move;
+use chess_rules::legal_moves::LegalMoves;
+use chess_rules::moves::Moves;
+use chess_rules::rules::Rules;
+use pop_input::stipulation::Goal;
+
+/// Whether White, who is to move, mates at once. The move that does is remembered for the next such position, until one has
+/// none.
+#[tactic(auto, using(crate::proofs::Values::last_half_move))]
+pub(crate) fn has_mate<R: Rules>(board: &mut Board, killers: &mut Killers<R>) -> bool
+    requires well_formed { IsWellFormed board.old }
+    ensures unchanged { board.new ≡ board.old }
+    ensures value { result ≡ value Direct (chess Mate R.rule) 1 board.old }
+{
+    let found = find_mate::<R>(killers.of(Battle::Direct, 1), board);
+    killers.put(1, found.unwrap_or_default());
+    found.is_some()
+}
+
+/// Whether White mates after this move of Black's; the position after it is counted.
+#[tactic(auto, using(chess_rules::proofs::listing_moves::Calls::playing))]
+fn lets_mate<R: Rules>(by: Move, board: &mut Board, history: &mut History<R>) -> bool
+    requires well_formed { IsWellFormed board.old }
+    requires legal { is_legal R.rule board.old by ≡ true }
+    ensures unchanged { board.new ≡ board.old }
+    ensures value { result
+        ≡ value Direct (chess Mate R.rule) 1 (position_after R.rule board.old by) }
+    ensures opened { history.new.opened ≤ history.old.opened + 1 }
+    ensures tried { HasCounted history.old.opened history.new.opened 1 }
+{
+    history.opened = history.opened.saturating_add(1);
+    let undo = R::play(board, by);
+    let mates = has_mate::<R>(board, &mut history.killers);
+    retract::<R>(board, by, undo);
+    mates
+}
+
+/// The next defence to try. What is known of the position's moves is told once the killer alone isn't enough: the stretches
+/// behind it follow.
+fn next_defence<R: Rules>(
+    order: Order<R>,
+    stretch: &mut Stretch,
+    moves: &mut Option<LegalMoves<R>>,
+    board: &mut Board,
+) -> Option<Move>
+    requires well_formed { IsWellFormed board.old }
+    requires known { IfSome moves.old (λ k. IsPlaceIn R.rule board.old k) }
+    ensures { FindsDefence R.rule board.old board.new moves.new result
+        (moves_unlooked R.rule board.old order stretch.old moves.old)
+        (moves_unlooked R.rule board.old order stretch.new moves.new) }
+{
+    if moves.is_none() {
+        *stretch = Stretch::Earlier;
+        *moves = Some(moves_at::<R>(None, place_before(order, Stretch::Earlier), board));
+    }
+    let Some(known) = moves else {
+        return None;
+    };
+    next_tried::<R>(order, stretch, known, board)
+}
+
+/// The first defence to try: the killer, which is looked at alone, or the first one behind it.
+#[tactic(auto, unfolding(crate::specs::ties::Frames::moves_here))]
+fn first_defence<R: Rules>(
+    order: Order<R>,
+    stretch: &mut Stretch,
+    moves: &mut Option<LegalMoves<R>>,
+    board: &mut Board,
+) -> Option<Move>
+    requires well_formed { IsWellFormed board.old }
+    requires unknown { moves.old ≡ None }
+    ensures { FindsDefence R.rule board.old board.new moves.new result
+        (moves_ahead R.rule board.old order Killer (order.killer - 1))
+        (moves_unlooked R.rule board.old order stretch.new moves.new) }
+{
+    if let Some(by) = order.killer.legal_move(board) {
+        return Some(by);
+    }
+    next_defence::<R>(order, stretch, moves, board)
+}
+
+/// The place on the defence that was found last.
+fn place_of_last<R: Rules>(order: Order<R>, moves: &Option<LegalMoves<R>>) -> Moves<R> {
+    match moves {
+        Some(known) => known.place(),
+        None => order.killer,
+    }
+}
+
+/// The value of a position with two half-moves left of a direct mate: Black's moves are tried in the order of a test. It is
+/// counted if it has a legal move, and so is each position after a move that is tried.
+#[inline(always)]
+pub(crate) fn value_of_last_defence<R: Rules>(board: &mut Board, history: &mut History<R>) -> bool
+    requires well_formed { IsWellFormed board.old }
+    ensures unchanged { board.new ≡ board.old }
+    ensures value { result ≡ value Direct (chess Mate R.rule) 2 board.old }
+    ensures opened { history.new.opened ≤ history.old.opened
+        + walk_count (legal_moves R.rule) (position_after R.rule) 2 board.old }
+    ensures tried { HasCounted history.old.opened history.new.opened
+        (smallest_tree Direct (chess Mate R.rule) 2 board.old) }
+{
+    let order = order_of(&history.killers, Battle::Direct, 2);
+    let mut moves: Option<LegalMoves<R>> = None;
+    let mut stretch = Stretch::Killer;
+    let mut next = first_defence::<R>(order, &mut stretch, &mut moves, board);
+    if next.is_none() {
+        return is_reached_without_move::<R>(Goal::Mate, board);
+    }
+    history.opened = history.opened.saturating_add(1);
+    while let Some(by) = next {
+        if !lets_mate::<R>(by, board, history) {
+            history.killers.put(2, place_of_last(order, &moves));
+            return false;
+        }
+        next = next_defence::<R>(order, &mut stretch, &mut moves, board);
+    }
+    true
+}

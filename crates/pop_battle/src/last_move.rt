@@ -1,0 +1,120 @@
+//! White's last move of a selfmate for mate, after which Black must mate.
+ghost use Rattle.std.specs.Prelude.{◌≡◌, ◌+◌, ◌≤◌, [], length, true};
+ghost use Rattle.chess_core.specs.WellFormed.{IsWellFormed};
+ghost use Rattle.chess_mates.specs.ties.QuietSteps.{must_reply_with_mate};
+ghost use Rattle.chess_rules.specs.Legal.{is_legal, moves as legal_moves};
+ghost use Rattle.chess_rules.specs.Play.{position_after};
+ghost use Rattle.chess_rules.specs.ties.Places.{IsPlaceIn, moves_behind};
+ghost use Rattle.pop_input.specs.declared.stipulation.Goal.TheVariants.{Mate};
+ghost use Rattle.pop_battle.specs.Chess.{chess};
+ghost use Rattle.pop_battle.specs.declared.aim.Battle.TheVariants.{Selfmate};
+ghost use Rattle.pop_battle.specs.ties.Counts.{HasCounted, smallest_below, smallest_tree, walk_count};
+ghost use Rattle.pop_battle.specs.ties.Values.{joined_value, value};
+ghost use Rattle.pop_battle.specs.ties.Passing.{IsNextLeft};
+
+use crate::chess::{is_reached_without_move, must_mate, next_behind, retract};
+use crate::history::History;
+use crate::killers::Killers;
+use chess_core::board::Board;
+use chess_core::man::Move;
+use chess_mates::quiet_steps::QuietSteps;
+use chess_rules::legal_moves::LegalMoves;
+use chess_rules::rules::Rules;
+use pop_input::stipulation::Goal;
+
+/// Whether Black must mate after White's move. It isn't played where a quiet step of Black's king follows, or no mate.
+#[tactic(auto, using(chess_rules::proofs::listing_moves::Calls::playing, crate::proofs::LastMoves::unforced, crate::proofs::Values::last_half_move))]
+fn forces_mate<R: Rules>(
+    steps: QuietSteps,
+    by: Move,
+    board: &mut Board,
+    killers: &mut Killers<R>,
+) -> bool
+    requires well_formed { IsWellFormed board.old }
+    requires legal { is_legal R.rule board.old by ≡ true }
+    ensures unchanged { board.new ≡ board.old }
+    ensures value { result ≡ value Selfmate (chess Mate R.rule) 1
+        (position_after R.rule board.old by) }
+{
+    if steps.follow::<R>(board, &by) || killers.rule_out_mate(board, &by) {
+        return false;
+    }
+    let undo = R::play(board, by);
+    let forced = must_mate::<R>(board);
+    retract::<R>(board, by, undo);
+    forced
+}
+
+/// The next move behind the place after which Black's king has no quiet step, as far as they are told for all moves of a man.
+/// Those that are passed over are counted.
+#[tactic(auto, using(crate::proofs::Passing::none_passed))]
+fn next_unquiet<R: Rules>(
+    steps: &mut QuietSteps,
+    moves: &mut LegalMoves<R>,
+    board: &mut Board,
+    counted: &mut u64,
+) -> Option<Move>
+    requires well_formed { IsWellFormed board.old }
+    requires known { IsPlaceIn R.rule board.old moves.old }
+    ensures unchanged { board.new ≡ board.old }
+    ensures within { IsPlaceIn R.rule board.old moves.new }
+    ensures next { IsNextLeft R.rule board.old (must_reply_with_mate R.rule board.old)
+        moves.old.place moves.new.place counted.old counted.new result }
+{
+    // For the proof: the count is below 2^64.
+    let _counted = *counted;
+    if !steps.are_told(board) {
+        return next_behind::<R>(moves, board);
+    }
+    let sifted = moves.next_sifted(steps, board);
+    *counted = counted.saturating_add(u64::from(sifted.passed));
+    sifted.found
+}
+
+/// Whether some move behind the place forces mate. Each one up to the first that does is counted.
+fn some_forces_mate<R: Rules>(
+    mut moves: LegalMoves<R>,
+    board: &mut Board,
+    killers: &mut Killers<R>,
+    counted: &mut u64,
+) -> bool
+    requires well_formed { IsWellFormed board.old }
+    requires known { IsPlaceIn R.rule board.old moves }
+    requires none { counted.old ≡ 0 }
+    ensures unchanged { board.new ≡ board.old }
+    ensures value { result ≡ joined_value Selfmate (chess Mate R.rule) 2 board.old
+        (moves_behind R.rule board.old moves.place) }
+    ensures none { counted.new ≡ 0 → moves_behind R.rule board.old moves.place ≡ [] }
+    ensures opened { counted.new ≤ length (moves_behind R.rule board.old moves.place) }
+    ensures tried { HasCounted 0 counted.new (smallest_below Selfmate (chess Mate R.rule) 2
+        board.old (moves_behind R.rule board.old moves.place)) }
+{
+    let mut steps = QuietSteps::of(board);
+    while let Some(by) = next_unquiet::<R>(&mut steps, &mut moves, board, counted) {
+        *counted = counted.saturating_add(1);
+        if forces_mate::<R>(steps, by, board, killers) {
+            return true;
+        }
+    }
+    false
+}
+
+/// The value of a position with two half-moves left of a selfmate for mate. It is counted if it has a legal move.
+pub(crate) fn value_of_last_move<R: Rules>(board: &mut Board, history: &mut History<R>) -> bool
+    requires well_formed { IsWellFormed board.old }
+    ensures unchanged { board.new ≡ board.old }
+    ensures value { result ≡ value Selfmate (chess Mate R.rule) 2 board.old }
+    ensures opened { history.new.opened ≤ history.old.opened
+        + walk_count (legal_moves R.rule) (position_after R.rule) 2 board.old }
+    ensures tried { HasCounted history.old.opened history.new.opened
+        (smallest_tree Selfmate (chess Mate R.rule) 2 board.old) }
+{
+    let moves = LegalMoves::<R>::of(board);
+    let mut counted = 0;
+    let forced = some_forces_mate::<R>(moves, board, &mut history.killers, &mut counted);
+    if counted == 0 {
+        return is_reached_without_move::<R>(Goal::Mate, board);
+    }
+    history.opened = history.opened.saturating_add(counted).saturating_add(1);
+    forced
+}

@@ -1,0 +1,63 @@
+//! White's last move but one in a direct mate, after which he must mate against each last defence.
+ghost use Rattle.std.specs.Prelude.{◌≡◌, ◌+◌, ◌≤◌, true};
+ghost use Rattle.chess_core.specs.WellFormed.{IsWellFormed};
+ghost use Rattle.chess_rules.specs.Legal.{is_legal, moves as legal_moves};
+ghost use Rattle.chess_rules.specs.Play.{position_after};
+ghost use Rattle.pop_input.specs.declared.stipulation.Goal.TheVariants.{Mate};
+ghost use Rattle.pop_battle.specs.Chess.{chess};
+ghost use Rattle.pop_battle.specs.declared.aim.Battle.TheVariants.{Direct};
+ghost use Rattle.pop_battle.specs.ties.Counts.{HasCounted, smallest_tree, walk_count};
+ghost use Rattle.pop_battle.specs.ties.Values.{value};
+
+use crate::aim::Battle;
+use crate::chess::{moves_at, retract};
+use crate::frame::Stretch;
+use crate::history::History;
+use crate::last_defence::value_of_last_defence;
+use crate::stretches::{next_tried, order_of};
+use chess_core::board::Board;
+use chess_core::man::Move;
+use chess_rules::rules::Rules;
+
+/// Whether White mates next after this move of his, whatever Black's defence.
+#[tactic(auto, using(chess_rules::proofs::listing_moves::Calls::playing))]
+fn leaves_no_defence<R: Rules>(by: Move, board: &mut Board, history: &mut History<R>) -> bool
+    requires well_formed { IsWellFormed board.old }
+    requires legal { is_legal R.rule board.old by ≡ true }
+    ensures unchanged { board.new ≡ board.old }
+    ensures value { result
+        ≡ value Direct (chess Mate R.rule) 2 (position_after R.rule board.old by) }
+    ensures opened { history.new.opened ≤ history.old.opened + walk_count (legal_moves R.rule)
+        (position_after R.rule) 2 (position_after R.rule board.old by) }
+    ensures tried { HasCounted history.old.opened history.new.opened
+        (smallest_tree Direct (chess Mate R.rule) 2 (position_after R.rule board.old by)) }
+{
+    let undo = R::play(board, by);
+    let mates = value_of_last_defence::<R>(board, history);
+    retract::<R>(board, by, undo);
+    mates
+}
+
+/// Whether White, who is to move, mates in two moves at most: his moves are tried in the order of a test. The position is
+/// counted, also if it has no legal move.
+pub(crate) fn mates_in_two<R: Rules>(board: &mut Board, history: &mut History<R>) -> bool
+    requires well_formed { IsWellFormed board.old }
+    ensures unchanged { board.new ≡ board.old }
+    ensures value { result ≡ value Direct (chess Mate R.rule) 3 board.old }
+    ensures opened { history.new.opened ≤ history.old.opened
+        + walk_count (legal_moves R.rule) (position_after R.rule) 3 board.old }
+    ensures tried { HasCounted history.old.opened history.new.opened
+        (smallest_tree Direct (chess Mate R.rule) 3 board.old) }
+{
+    history.opened = history.opened.saturating_add(1);
+    let order = order_of(&history.killers, Battle::Direct, 3);
+    let mut moves = moves_at::<R>(None, order.killer.back(), board);
+    let mut stretch = Stretch::Killer;
+    while let Some(by) = next_tried::<R>(order, &mut stretch, &mut moves, board) {
+        if leaves_no_defence::<R>(by, board, history) {
+            history.killers.put(3, moves.place());
+            return true;
+        }
+    }
+    false
+}

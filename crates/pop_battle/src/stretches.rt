@@ -1,0 +1,206 @@
+//! In which order a test tries the moves of a position: killers first, then, where White has two moves or more left to
+//! mate, those that aim at the king.
+ghost use Rattle.chess_core.specs.Position.{Position};
+ghost use Rattle.chess_core.specs.WellFormed.{IsWellFormed};
+ghost use Rattle.chess_rules.specs.ties.Places.{IsPlaceIn, moves_behind, place_of};
+ghost use Rattle.pop_battle.specs.declared.frame.Early.TheVariants.{AimedMoves};
+ghost use Rattle.pop_battle.specs.declared.frame.Stretch.TheVariants.{Aimed};
+ghost use Rattle.pop_battle.specs.ties.Calls.{Finds};
+ghost use Rattle.pop_battle.specs.ties.Frames.{all_moves_of, belongs, comes_early, moves_ahead, moves_here, moves_later, stretches_behind};
+ghost use Rattle.std.specs.Prelude.{◌≡◌, ◌==◌, ◌||◌, ◌<◌, [], ◌++◌, filter, IfSome, MatchOption, Some};
+
+use crate::aim::Battle;
+use crate::chess::{next_behind, next_until};
+use crate::frame::{Early, Order, Stretch};
+use crate::killers::Killers;
+use chess_core::board::Board;
+use chess_core::man::Move;
+use chess_mates::aims::{aims_at_king, next_aimed};
+use chess_rules::legal_moves::LegalMoves;
+use chess_rules::moves::Moves;
+use chess_rules::rules::Rules;
+
+/// Which moves of a position come first behind the killers: those that aim at the king, where White has two moves or
+/// more left to mate.
+fn early_moves(battle: Battle, left: usize) -> Early {
+    if battle == Battle::Direct && left % 2 == 1 && left >= 3 {
+        Early::AimedMoves
+    } else {
+        Early::NoMoves
+    }
+}
+
+/// The order in which the moves of a position are tried with so many half-moves left.
+pub(crate) fn order_of<R: Rules>(killers: &Killers<R>, battle: Battle, left: usize) -> Order<R> {
+    Order {
+        killer: killers.of(battle, left),
+        earlier: killers.earlier(battle, left),
+        early: early_moves(battle, left),
+    }
+}
+
+/// Whether a move that is no killer comes before others.
+fn comes_early(early: Early, by: &Move, board: &Board) -> bool
+    ensures { result ≡ comes_early early board.now by.now }
+{
+    match early {
+        Early::AimedMoves => aims_at_king(board, by),
+        Early::NoMoves => false,
+    }
+}
+
+/// Whether a move, on which `place` stands, belongs to the stretch.
+#[tactic(auto, unfolding(crate::specs::ties::Frames::belongs))]
+fn belongs<R: Rules>(
+    order: Order<R>,
+    stretch: Stretch,
+    place: Moves<R>,
+    by: &Move,
+    board: &Board,
+) -> bool
+    requires { place ≡ place_of (Some by.now) }
+    ensures { result ≡ belongs board.now order stretch by.now }
+{
+    if place.is(order.killer) {
+        return stretch == Stretch::Killer;
+    }
+    if place.is(order.earlier) {
+        return stretch == Stretch::Earlier;
+    }
+    match stretch {
+        Stretch::Killer | Stretch::Earlier => false,
+        Stretch::Aimed => comes_early(order.early, by, board),
+        Stretch::Others => !comes_early(order.early, by, board),
+    }
+}
+
+/// The next move behind the place that belongs to the stretch.
+fn next_of_stretch<R: Rules>(
+    order: Order<R>,
+    stretch: Stretch,
+    moves: &mut LegalMoves<R>,
+    board: &mut Board,
+) -> Option<Move>
+    requires well_formed { IsWellFormed board.old }
+    requires known { IsPlaceIn R.rule board.old moves.old }
+    ensures { Finds R.rule board.old board.new moves.new result
+        (filter (belongs board.old order stretch) (moves_behind R.rule board.old moves.old.place))
+        (filter (belongs board.old order stretch)
+        (moves_behind R.rule board.old moves.new.place)) }
+{
+    while let Some(by) = next_behind::<R>(moves, board) {
+        if belongs::<R>(order, stretch, moves.place(), &by, board) {
+            return Some(by);
+        }
+    }
+    None
+}
+
+/// Whether the place is one of the killers'.
+fn is_killer<R: Rules>(order: Order<R>, place: Moves<R>) -> bool
+    ensures { result ≡ (place == order.killer || place == order.earlier) }
+{
+    place.is(order.killer) || place.is(order.earlier)
+}
+
+/// The next move behind the place that belongs to the stretch of aimed moves: it aims at the king and is no killer.
+#[tactic(auto, using(crate::proofs::Orders::aimed_filtered))]
+fn next_early<R: Rules>(
+    order: Order<R>,
+    moves: &mut LegalMoves<R>,
+    board: &mut Board,
+) -> Option<Move>
+    requires well_formed { IsWellFormed board.old }
+    requires known { IsPlaceIn R.rule board.old moves.old }
+    requires early { order.early ≡ AimedMoves }
+    ensures { Finds R.rule board.old board.new moves.new result
+        (filter (belongs board.old order Aimed) (moves_behind R.rule board.old moves.old.place))
+        (filter (belongs board.old order Aimed)
+        (moves_behind R.rule board.old moves.new.place)) }
+{
+    while let Some(by) = next_aimed::<R>(moves, board) {
+        if !is_killer::<R>(order, moves.place()) {
+            return Some(by);
+        }
+    }
+    None
+}
+
+/// The next move of the stretch on which the place stands.
+#[tactic(auto, unfolding(crate::specs::ties::Frames::moves_here))]
+fn next_here<R: Rules>(
+    order: Order<R>,
+    stretch: Stretch,
+    moves: &mut LegalMoves<R>,
+    board: &mut Board,
+) -> Option<Move>
+    requires well_formed { IsWellFormed board.old }
+    requires known { IsPlaceIn R.rule board.old moves.old }
+    ensures { Finds R.rule board.old board.new moves.new result
+        (moves_here R.rule board.old order stretch moves.old.place)
+        (moves_here R.rule board.old order stretch moves.new.place) }
+{
+    match (stretch, order.early) {
+        (Stretch::Killer, _) => next_until::<R>(moves, order.killer, board),
+        (Stretch::Earlier, _) => next_until::<R>(moves, order.earlier, board),
+        (Stretch::Aimed, Early::AimedMoves) => next_early::<R>(order, moves, board),
+        (Stretch::Aimed, Early::NoMoves) | (Stretch::Others, _) => {
+            next_of_stretch::<R>(order, stretch, moves, board)
+        }
+    }
+}
+
+/// The stretch behind one, if there is one: that of aimed moves only where these come first.
+#[tactic(auto, using(crate::proofs::Orders::next_stretch), unfolding(crate::specs::ties::Frames::moves_later))]
+fn stretch_behind<R: Rules>(order: Order<R>, stretch: Stretch) -> Option<Stretch>
+    ensures later { (p : Position) → MatchOption result (moves_later R.rule p order stretch ≡ [])
+        (λ s. moves_later R.rule p order stretch ≡ all_moves_of R.rule p order s
+        ++ moves_later R.rule p order s) }
+    ensures falls { IfSome result (λ s. stretches_behind s < stretches_behind stretch) }
+{
+    match (stretch, order.early) {
+        (Stretch::Killer, _) => Some(Stretch::Earlier),
+        (Stretch::Earlier, Early::AimedMoves) => Some(Stretch::Aimed),
+        (Stretch::Earlier, Early::NoMoves) | (Stretch::Aimed, _) => Some(Stretch::Others),
+        (Stretch::Others, _) => None,
+    }
+}
+
+/// The place before the first move of a stretch: where both killers are one, the earlier has none.
+#[tactic(auto, using(crate::proofs::Orders::first_place), unfolding(crate::specs::ties::Frames::moves_here))]
+pub(crate) fn place_before<R: Rules>(order: Order<R>, stretch: Stretch) -> Moves<R>
+    ensures { (p : Position) → moves_here R.rule p order stretch result
+        ≡ all_moves_of R.rule p order stretch }
+{
+    match stretch {
+        Stretch::Killer => order.killer.back(),
+        Stretch::Earlier if order.earlier.is(order.killer) => order.earlier,
+        Stretch::Earlier => order.earlier.back(),
+        Stretch::Aimed | Stretch::Others => Moves::start(),
+    }
+}
+
+/// The next move of a test, one stretch after another.
+pub(crate) fn next_tried<R: Rules>(
+    order: Order<R>,
+    stretch: &mut Stretch,
+    moves: &mut LegalMoves<R>,
+    board: &mut Board,
+) -> Option<Move>
+    requires well_formed { IsWellFormed board.old }
+    requires known { IsPlaceIn R.rule board.old moves.old }
+    ensures { Finds R.rule board.old board.new moves.new result
+        (moves_ahead R.rule board.old order stretch.old moves.old.place)
+        (moves_ahead R.rule board.old order stretch.new moves.new.place) }
+{
+    loop {
+        if let Some(by) = next_here::<R>(order, *stretch, moves, board) {
+            return Some(by);
+        }
+        let Some(behind) = stretch_behind::<R>(order, *stretch) else {
+            return None;
+        };
+        *stretch = behind;
+        moves.go_to(place_before(order, behind));
+    }
+}

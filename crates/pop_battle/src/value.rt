@@ -1,0 +1,326 @@
+//! The tests of battle play.
+ghost use Rattle.chess_rules.specs.Play.{position_after};
+ghost use Rattle.chess_rules.specs.Legal.{moves as legal_moves};
+ghost use Rattle.std.specs.Prelude.{◌≡◌, ◌+◌, ◌<◌, ◌≤◌, ◌%◌, [], ◌∷◌, ◌++◌, filter, IfSome, IfNone, true, false, Option, Some, None, not, MatchOption, MatchBool, ◌⊎◌, ◌&&◌, ◌==◌, ◌-◌};
+ghost use Rattle.chess_core.specs.Position.{Position};
+ghost use Rattle.chess_core.specs.WellFormed.{IsWellFormed};
+ghost use Rattle.chess_rules.specs.Legal.{is_legal};
+ghost use Rattle.chess_rules.specs.ties.Places.{IsPlaceIn};
+ghost use Rattle.chess_rules.specs.Play.{undo_of};
+ghost use Rattle.arrayvec.specs.ArrayVec.{array_vec_len};
+ghost use Rattle.pop_battle.specs.ties.Frames.{IsTesting, IsOpenedOn, CameFrom, CameFromAt, Turns, Ends, tests, left_at_top};
+ghost use Rattle.pop_battle.specs.Chess.{chess};
+ghost use Rattle.pop_battle.specs.ties.Calls.{Evaluates, Finds};
+ghost use Rattle.pop_battle.specs.ties.Marks.{is_for_mate};
+ghost use Rattle.pop_input.specs.declared.stipulation.Goal.TheVariants.{Mate};
+ghost use Rattle.pop_battle.specs.Game.{can_move as has_move};
+ghost use Rattle.pop_battle.specs.declared.aim.Battle.TheVariants.{Selfmate};
+ghost use Rattle.pop_battle.specs.ties.Counts.{HasCounted, smallest_tree, walk_count};
+ghost use Rattle.pop_battle.specs.declared.aim.Battle.TheVariants.{Direct};
+ghost use Rattle.pop_battle.specs.ties.Values.{seeks, joined_value, value};
+
+use crate::aim::{Aim, Battle};
+use crate::chess::{
+    first_look, is_for_mate, is_reached_without_move, moves_at, must_mate, next_behind, next_until,
+    reaches_goal, retract,
+};
+use crate::frame::{Frame, Stretch};
+use crate::history::History;
+use crate::killers::Killers;
+use crate::last_defence::{has_mate, value_of_last_defence};
+use crate::last_move::value_of_last_move;
+use crate::mate_in_two::mates_in_two;
+use crate::stretches::{next_tried, order_of};
+use arrayvec::ArrayVec;
+use chess_core::board::Board;
+use chess_core::man::Move;
+use chess_rules::legal_moves::LegalMoves;
+use chess_rules::rules::Rules;
+use pop_input::stipulation::Goal;
+
+/// Whether one good move is enough with `left` half-moves left.
+pub fn seeks(battle: Battle, left: usize) -> bool
+    ensures { result ≡ seeks battle left }
+{
+    match battle {
+        Battle::Direct => left % 2 == 1,
+        Battle::Selfmate => left % 2 == 0,
+    }
+}
+
+/// Whether White is to move with an odd number of half-moves left: the goal can't be reached before his move, so his
+/// moves decide, also if he has none.
+fn is_free(battle: Battle, left: usize) -> bool
+    ensures { result ≡ (left % 2 == 1 && seeks battle left) }
+{
+    left % 2 == 1 && seeks(battle, left)
+}
+
+/// The value of a position without a legal move, with `left` half-moves left where a move counts.
+fn value_without_move<R: Rules>(goal: Goal, left: usize, board: &Board) -> bool
+    requires { has_move (chess goal R.rule) board.now ≡ false }
+    ensures { result ≡ ((left % 2 == 0) && (chess goal R.rule).goal board.now) }
+{
+    left % 2 == 0 && is_reached_without_move::<R>(goal, board)
+}
+
+/// The value of a position with one half-move left, where mate is the goal: White mates, or Black must.
+#[tactic(auto, using(crate::proofs::Values::last_half_move))]
+fn last_value<R: Rules>(battle: Battle, board: &mut Board, killers: &mut Killers<R>) -> bool
+    requires well_formed { IsWellFormed board.old }
+    ensures unchanged { board.new ≡ board.old }
+    ensures value { result ≡ value battle (chess Mate R.rule) 1 board.old }
+{
+    match battle {
+        Battle::Direct => has_mate::<R>(board, killers),
+        Battle::Selfmate => must_mate::<R>(board),
+    }
+}
+
+/// The value of a position with two half-moves left, where mate is the goal.
+fn value_of_two<R: Rules>(battle: Battle, board: &mut Board, history: &mut History<R>) -> bool
+    requires well_formed { IsWellFormed board.old }
+    ensures unchanged { board.new ≡ board.old }
+    ensures value { result ≡ value battle (chess Mate R.rule) 2 board.old }
+    ensures opened { history.new.opened ≤ history.old.opened
+        + walk_count (legal_moves R.rule) (position_after R.rule) 2 board.old }
+    ensures tried { HasCounted history.old.opened history.new.opened
+        (smallest_tree battle (chess Mate R.rule) 2 board.old) }
+{
+    match battle {
+        Battle::Direct => value_of_last_defence::<R>(board, history),
+        Battle::Selfmate => value_of_last_move::<R>(board, history),
+    }
+}
+
+/// The value of a position, where it is known without a frame; else what is known of its moves, if they were looked for.
+/// The last half-moves need none where mate is the goal, and are counted as if they had: three of a direct mate, two of a
+/// selfmate.
+#[tactic(auto, using(crate::proofs::Boards::settling, crate::proofs::SmallestTrees::shortest, crate::proofs::Values::free_moves))]
+#[inline(always)]
+fn value_at_once<R: Rules>(
+    aim: Aim,
+    left: usize,
+    board: &mut Board,
+    known: &mut Option<LegalMoves<R>>,
+    history: &mut History<R>,
+) -> Option<bool>
+    requires well_formed { IsWellFormed board.old }
+    ensures unchanged { board.new ≡ board.old }
+    ensures value { MatchOption result
+        ((0 < left) × (value aim.battle (chess aim.goal R.rule) left board.old
+        ≡ joined_value aim.battle (chess aim.goal R.rule) left board.old
+        (legal_moves R.rule board.old)))
+        (λ v. v ≡ value aim.battle (chess aim.goal R.rule) left board.old) }
+    ensures known { IfSome known.new (λ k. IsPlaceIn R.rule board.old k) }
+    ensures opened { MatchOption result (history.new.opened ≡ history.old.opened)
+        (λ _. history.new.opened ≤ history.old.opened + walk_count (legal_moves R.rule)
+        (position_after R.rule) left
+        board.old) }
+    ensures tried { IfSome result
+        (λ _. HasCounted history.old.opened history.new.opened
+        (smallest_tree aim.battle (chess aim.goal R.rule) left board.old)) }
+{
+    *known = None;
+    if left == 0 {
+        return Some(reaches_goal::<R>(aim.goal, board));
+    }
+    if is_for_mate(aim.goal) && left == 1 {
+        history.opened = history.opened.saturating_add(1);
+        return Some(last_value::<R>(aim.battle, board, &mut history.killers));
+    }
+    if is_for_mate(aim.goal) && aim.battle == Battle::Direct && left == 3 {
+        return Some(mates_in_two::<R>(board, history));
+    }
+    if is_free(aim.battle, left) {
+        return None;
+    }
+    if is_for_mate(aim.goal) && left == 2 {
+        return Some(value_of_two::<R>(aim.battle, board, history));
+    }
+    *known = first_look::<R>(history.killers.of(aim.battle, left), board);
+    if known.is_some() {
+        None
+    } else {
+        Some(value_without_move::<R>(aim.goal, left, board))
+    }
+}
+
+/// Whether the answer for its last move decides a position.
+fn is_decided(answer: Option<bool>, seek: bool) -> bool
+    ensures { MatchBool result (answer ≡ Some seek) ((answer ≡ None) ⊎ (answer ≡ Some (not seek))) }
+{
+    match answer {
+        Some(v) => v == seek,
+        None => false,
+    }
+}
+
+/// Closes a frame with the value of its position: the lowest gives the value of the test.
+fn close<R: Rules>(
+    value: bool,
+    floor: usize,
+    depth: usize,
+    top: Frame<R>,
+    board: &mut Board,
+    answer: &mut Option<bool>,
+) -> Option<bool>
+    requires { floor < depth → CameFrom R.rule top board.old }
+    ensures lowest { depth ≤ floor → (result ≡ Some value) × (board.new ≡ board.old) }
+    ensures above { floor < depth → (result ≡ None) × (answer.new ≡ Some value) }
+    ensures before { (p : Position) → floor < depth → CameFromAt R.rule top board.old p
+        → board.new ≡ p }
+{
+    if depth <= floor {
+        return Some(value);
+    }
+    retract::<R>(board, top.by, top.undo);
+    *answer = Some(value);
+    None
+}
+
+/// Plays a move of the top frame, which `top` is once its place has moved on. A frame is opened where the
+/// moves of the position after it decide.
+#[tactic(auto, using(chess_rules::proofs::listing_moves::Calls::playing))]
+fn descend<R: Rules, const N: usize>(
+    aim: Aim,
+    top: Frame<R>,
+    by: Move,
+    board: &mut Board,
+    frames: &mut ArrayVec<Frame<R>, N>,
+    history: &mut History<R>,
+) -> Option<bool>
+    requires well_formed { IsWellFormed board.old }
+    requires some { 0 < top.left }
+    requires room { array_vec_len frames.old + top.left ≤ N }
+    requires legal { is_legal R.rule board.old by ≡ true }
+    ensures opened { MatchOption result (history.new.opened ≤ history.old.opened + 1)
+        (λ _. history.new.opened ≤ history.old.opened + walk_count (legal_moves R.rule)
+        (position_after R.rule)
+        (top.left - 1) (position_after R.rule board.old by)) }
+    ensures tried { MatchOption result (HasCounted history.old.opened history.new.opened 1)
+        (λ _. HasCounted history.old.opened history.new.opened
+        (smallest_tree aim.battle (chess aim.goal R.rule) (top.left - 1)
+        (position_after R.rule board.old by))) }
+    ensures answer { MatchOption result
+        ((0 < top.left - 1)
+        × (value aim.battle (chess aim.goal R.rule) (top.left - 1)
+        (position_after R.rule board.old by)
+        ≡ joined_value aim.battle (chess aim.goal R.rule) (top.left - 1)
+        (position_after R.rule board.old by)
+        (legal_moves R.rule (position_after R.rule board.old by)))
+        × (board.new ≡ position_after R.rule board.old by)
+        × IsOpenedOn R.rule (position_after R.rule board.old by)
+        (frames.old.items ++ top ∷ []) frames.new.items
+        by (undo_of R.rule board.old by) (top.left - 1))
+        (λ v. (v ≡ value aim.battle (chess aim.goal R.rule) (top.left - 1)
+        (position_after R.rule board.old by))
+        × (board.new ≡ board.old)
+        × (frames.new.items ≡ frames.old.items ++ top ∷ [])) }
+{
+    frames.push(top);
+    let left = top.left - 1;
+    let undo = R::play(board, by);
+    let mut known = None;
+    let answer = value_at_once::<R>(aim, left, board, &mut known, history);
+    if answer.is_some() {
+        retract::<R>(board, by, undo);
+        return answer;
+    }
+    history.opened = history.opened.saturating_add(1);
+    let order = order_of(&history.killers, aim.battle, left);
+    frames.push(Frame {
+        place: order.killer.back(),
+        by,
+        undo,
+        left,
+        order,
+        stretch: Stretch::Killer,
+        known,
+        ..top
+    });
+    None
+}
+
+/// One turn of a test: the top frame is closed, or its next move is played.
+fn turn<R: Rules, const N: usize>(
+    aim: Aim,
+    floor: usize,
+    board: &mut Board,
+    frames: &mut ArrayVec<Frame<R>, N>,
+    answer: &mut Option<bool>,
+    history: &mut History<R>,
+) -> Option<bool>
+    requires well_formed { IsWellFormed board.old }
+    requires above { floor < array_vec_len frames.old }
+    requires room { left_at_top (tests floor frames.old.items) + array_vec_len frames.old ≤ N + 1 }
+    requires testing { (p : Position) × IsTesting R.rule p (tests floor frames.old.items)
+        board.old }
+    ensures room { IfNone result
+        (left_at_top (tests floor frames.new.items) + array_vec_len frames.new ≤ N + 1) }
+    ensures next { (p : Position) → IsTesting R.rule p (tests floor frames.old.items) board.old
+        → MatchOption result
+        (Turns R.rule aim floor p frames.old.items frames.new.items
+        answer.old answer.new board.new history.old.opened history.new.opened)
+        (λ v. Ends R.rule aim floor p frames.old.items frames.new.items
+        answer.old board.new history.old.opened history.new.opened v) }
+{
+    let Some(top) = frames.pop() else {
+        return None;
+    };
+    let depth = frames.len();
+    let seek = seeks(aim.battle, top.left);
+    if is_decided(*answer, seek) {
+        history.killers.put(top.left, top.place);
+        return close::<R>(seek, floor, depth, top, board, answer);
+    }
+    let mut moves = moves_at::<R>(top.known, top.place, board);
+    let mut stretch = top.stretch;
+    let Some(by) = next_tried::<R>(top.order, &mut stretch, &mut moves, board) else {
+        return close::<R>(!seek, floor, depth, top, board, answer);
+    };
+    let moved = Frame {
+        place: moves.place(),
+        stretch,
+        known: Some(moves),
+        ..top
+    };
+    *answer = descend::<R, N>(aim, moved, by, board, frames, history);
+    None
+}
+
+/// The value of the board's position, whose `left` half-moves are tried on frames above those that are open.
+pub fn value_of<R: Rules, const N: usize>(
+    aim: Aim,
+    left: usize,
+    board: &mut Board,
+    frames: &mut ArrayVec<Frame<R>, N>,
+    history: &mut History<R>,
+) -> bool
+    requires well_formed { IsWellFormed board.old }
+    requires room { array_vec_len frames.old + left ≤ N }
+    ensures { Evaluates R.rule aim left board.old board.new frames.old.items frames.new.items
+        history.old.opened history.new.opened result }
+{
+    let mut known = None;
+    if let Some(v) = value_at_once::<R>(aim, left, board, &mut known, history) {
+        return v;
+    }
+    let floor = frames.len();
+    history.opened = history.opened.saturating_add(1);
+    let order = order_of(&history.killers, aim.battle, left);
+    frames.push(Frame {
+        place: order.killer.back(),
+        left,
+        order,
+        stretch: Stretch::Killer,
+        known,
+        ..Frame::default()
+    });
+    let mut answer = None;
+    loop {
+        if let Some(known) = turn::<R, N>(aim, floor, board, frames, &mut answer, history) {
+            return known;
+        }
+    }
+}
