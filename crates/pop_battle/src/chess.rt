@@ -273,13 +273,7 @@ fn reborn_man(man: Option<Man>, square: Option<Square>) -> Option<(Man, Square)>
 
 /// The move of the man as it is shown, once it is played: `there` stood on the arrival before.
 #[tactic(auto, unfolding(pop_events::specs::Shown::shown_of))]
-pub fn shown_of(
-    man: Option<Man>,
-    there: Option<Man>,
-    by: &Move,
-    undo: &Undo,
-    mark: Mark,
-) -> Shown
+pub fn shown_of(man: Option<Man>, there: Option<Man>, by: &Move, undo: &Undo, mark: Mark) -> Shown
     ensures { result ≡ shown_of man there by.now undo.now mark }
 {
     let Some(man) = man else {

@@ -20,10 +20,10 @@ use chess_core::man::Move;
 use chess_rules::moves::Moves;
 use chess_rules::play::Undo;
 use chess_rules::rules::Rules;
-use pop_events::event::Phase;
-use pop_input::problem::Problem;
 use pop_battle::chess::next_move;
 use pop_battle::frame::{Frame, Order, Stretch};
+use pop_events::event::Phase;
+use pop_input::problem::Problem;
 use pop_solve::phases::{phase_half_moves, set_up};
 use pop_solve::walk::step_back;
 

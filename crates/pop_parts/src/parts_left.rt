@@ -7,10 +7,10 @@ use crate::part_search::PartSearch;
 use arrayvec::ArrayVec;
 use chess_core::board::Board;
 use chess_rules::rules::Rules;
-use pop_events::event::Phase;
-use pop_input::problem::Problem;
 use pop_battle::frame::Frame;
 use pop_battle::killers::Killers;
+use pop_events::event::Phase;
+use pop_input::problem::Problem;
 use std::marker::Model;
 
 /// The parts of a phase that are still to come. Contracts see the record `LeftSeen`.

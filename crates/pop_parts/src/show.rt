@@ -19,13 +19,13 @@ use crate::part_search::PartSearch;
 use crate::parts_left::PartsLeft;
 use crate::searching::parts_in;
 use chess_rules::{Circe, Madrasi, Orthodox, Rules};
+use pop_battle::killers::Killers;
 use pop_events::event::Phase;
 use pop_input::condition::Condition;
 use pop_input::item::{Fault, Item};
 use pop_input::problem::Problem;
 use pop_input::reader::Reader;
 use pop_print::print_event;
-use pop_battle::killers::Killers;
 use pop_text::sink::{Sink, SinkFault};
 use pop_text::source::Source;
 

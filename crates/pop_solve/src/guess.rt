@@ -8,18 +8,18 @@ ghost use Rattle.pop_battle.specs.declared.aim.Battle.TheVariants.{Selfmate};
 ghost use Rattle.pop_battle.specs.declared.aim.Play.TheVariants.{Help as HelpPlay, Battle as BattlePlay};
 ghost use Rattle.pop_battle.specs.ties.Values.{value};
 
-use pop_battle::aim::{Aim, Battle, Play};
-use pop_battle::chess::next_move;
-use pop_battle::frame::Frame;
-use pop_battle::history::History;
-use pop_battle::killers::Killers;
 use crate::plan::Plan;
-use pop_battle::value::value_of;
 use arrayvec::ArrayVec;
 use chess_core::board::Board;
 use chess_core::man::Move;
 use chess_rules::moves::Moves;
 use chess_rules::rules::Rules;
+use pop_battle::aim::{Aim, Battle, Play};
+use pop_battle::chess::next_move;
+use pop_battle::frame::Frame;
+use pop_battle::history::History;
+use pop_battle::killers::Killers;
+use pop_battle::value::value_of;
 use std::mem;
 
 /// Whether killers are guessed for a test with `left` half-moves: in a direct mate, with Black to move. Selfmates keep

@@ -12,10 +12,6 @@ ghost use Rattle.pop_events.specs.declared.event.Event.TheVariants.{Line, Total}
 ghost use Rattle.pop_events.specs.declared.event.Phase.TheVariants.{Play};
 ghost use Rattle.pop_solve.specs.declared.phases.Stage.TheVariants.{Before, Within, Behind};
 
-use pop_battle::aim;
-use pop_battle::chess::{is_impossible, turn_back, turn_over};
-use pop_battle::frame::Frame;
-use pop_battle::history::History;
 use crate::plan::Plan;
 use crate::showing::{last_shown, line};
 use crate::walk::{opened_after, step, step_back};
@@ -23,6 +19,10 @@ use arrayvec::ArrayVec;
 use chess_core::board::Board;
 use chess_rules::moves::Moves;
 use chess_rules::rules::Rules;
+use pop_battle::aim;
+use pop_battle::chess::{is_impossible, turn_back, turn_over};
+use pop_battle::frame::Frame;
+use pop_battle::history::History;
 use pop_events::event::{Event, Phase};
 use pop_input::problem::Problem;
 

@@ -1,11 +1,11 @@
 //! Searches.
-use pop_battle::frame::Frame;
-use pop_battle::history::History;
-use pop_battle::killers::Killers;
 use crate::phases::{Stage, advance, first_phase};
 use arrayvec::ArrayVec;
 use chess_core::board::Board;
 use chess_rules::rules::Rules;
+use pop_battle::frame::Frame;
+use pop_battle::history::History;
+use pop_battle::killers::Killers;
 use pop_events::event::Event;
 use pop_input::problem::Problem;
 use std::marker::Model;

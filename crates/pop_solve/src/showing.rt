@@ -13,14 +13,14 @@ ghost use Rattle.pop_solve.specs.ties.Walk.{ends_at_goal, IsEnded, IsWalking, pa
 ghost use Rattle.pop_battle.specs.declared.chess.Reached.TheVariants.{Perhaps, Surely};
 ghost use Rattle.std.specs.Prelude.{◌≡◌, ◌+◌, ◌<◌, ◌≤◌, ℕ, if◌then◌else◌, length, reverse, true};
 
-use pop_battle::aim::Play;
-use pop_battle::chess::{Reached, mark_after, retract, shown_of};
-use pop_battle::frame::Frame;
 use crate::plan::Plan;
-use pop_battle::value::seeks;
 use arrayvec::ArrayVec;
 use chess_core::board::Board;
 use chess_rules::rules::Rules;
+use pop_battle::aim::Play;
+use pop_battle::chess::{Reached, mark_after, retract, shown_of};
+use pop_battle::frame::Frame;
+use pop_battle::value::seeks;
 use pop_events::shown::Shown;
 use pop_input::stipulation::Goal;
 

@@ -22,12 +22,7 @@ ghost use Rattle.pop_battle.specs.ties.Values.{seeks, value};
 ghost use Rattle.pop_battle.specs.ties.Passing.{IsNextUnsettled};
 ghost use Rattle.pop_solve.specs.ties.Walk.{MovesOn, fewest_half_moves, least_length_from, shown_length, is_followed, is_given, walk_length, IsMatedAtLast, IsNextOf, IsWalking, seeks_last, Steps};
 
-use pop_battle::aim::{Aim, Battle, Play};
-use pop_battle::chess::{is_for_mate, next_mate, next_move, reaches_goal, retract};
-use pop_battle::frame::{Frame, Order, Stretch};
-use pop_battle::history::History;
 use crate::plan::Plan;
-use pop_battle::value::{seeks, value_of};
 use arrayvec::ArrayVec;
 use chess_core::board::Board;
 use chess_core::man::Move;
@@ -35,6 +30,11 @@ use chess_mates::threats::Threats;
 use chess_rules::legal_moves::LegalMoves;
 use chess_rules::moves::Moves;
 use chess_rules::rules::Rules;
+use pop_battle::aim::{Aim, Battle, Play};
+use pop_battle::chess::{is_for_mate, next_mate, next_move, reaches_goal, retract};
+use pop_battle::frame::{Frame, Order, Stretch};
+use pop_battle::history::History;
+use pop_battle::value::{seeks, value_of};
 
 /// The fewest half-moves with which a move of White is tried.
 fn fewest_half_moves(battle: Battle) -> usize

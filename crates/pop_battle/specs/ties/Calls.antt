@@ -51,4 +51,3 @@ pub record Evaluates (rule : RuleSet) (aim : Aim) (left : ℕ) (p now : Position
   pub frames : new ≡ old
   pub opened : after ≤ before + walk_count (legal_moves rule) (position_after rule) left p
   pub tried : HasCounted before after (smallest_tree aim.battle (chess aim.goal rule) left p)
-

@@ -37,4 +37,3 @@ IsNextLeft rule p test place next before after found =
 abbrev pub IsNextUnsettled : RuleSet → Position → (place next before after : ℕ) → Option Move → Type
     0
 IsNextUnsettled rule p = IsNextLeft rule p (allows_mate rule p)
-
