@@ -1,5 +1,5 @@
 -- What the calls of the rules say in the words of the search.
-use Rattle.pop_battle.proofs.Words.{Battle, Bool, Goal, LegalPlace, List, MatchOption, Mate, Move, Option, Position, RuleSet, [], arith, can_move, chess, cut_mates, cut_moves, false, filter, is_for_mate, is_goal_reached, is_mate, is_mating, is_nil, is_some, is_stalemate, length, length-append, list_any, mates_behind, mates_between, moves, moves_behind, moves_between, nat_tests, not, refl, rules, sum_by, sum_by-cons, true, value, walk_count, ℕ, ◌++◌, ◌&&◌, ◌-◌, ◌<◌, ◌∷◌, ◌≡◌, ◌≤◌}
+use Rattle.pop_battle.proofs.Words.{Battle, Bool, Goal, LegalPlace, List, MatchOption, Mate, Move, Option, Position, RuleSet, [], arith, can_move, chess, cut_mates, cut_moves, false, filter, is_for_mate, is_goal_reached, is_mate, is_mating, is_nil, is_some, is_stalemate, length, length-append, list_any, mates_behind, mates_between, moves, moves_behind, moves_between, nat_tests, not, refl, rules, sum_by, sum_by-cons, true, value, walk_count, ℕ, ◌++◌, ◌&&◌, ◌-◌, ◌<◌, ◌∷◌, ◌≡◌, ◌≤◌, Some}
 use Rattle.pop_battle.specs.Game.{some_move as some_good}
 use Rattle.pop_battle.specs.ties.Calls.{Finds}
 
@@ -74,12 +74,12 @@ walk_count-some moves after left p some = search rules
 module _ (goal : Goal) (rule : RuleSet) (p : Position) where
   -- a killer that was found is a legal move
   pub has_killer : (killer place next : ℕ) (o : Option Move) (board : Position) (known : LegalPlace) → place ≡ killer - 1 → is_some o ≡ true
-      → Finds rule p board known o (moves_between rule p place killer) (moves_between rule p next killer) → true ≡ can_move (chess goal rule) p
+      → Finds rule p board (Some known) o (moves_between rule p place killer) (moves_between rule p next killer) → true ≡ can_move (chess goal rule) p
   has_killer killer place next o board known at e f = grind (arith, cut_moves rule p place killer (omega (arith, at)), length-append, nat_tests)
 
   -- the first move is found exactly where there is one
   pub has_first : (place next : ℕ) (o : Option Move) (board : Position) (known : LegalPlace) → place ≡ 0
-      → Finds rule p board known o (moves_behind rule p place) (moves_behind rule p next) → is_some o ≡ can_move (chess goal rule) p
+      → Finds rule p board (Some known) o (moves_behind rule p place) (moves_behind rule p next) → is_some o ≡ can_move (chess goal rule) p
   has_first place next o board known at f = grind (arith, behind_start, nat_tests)
 
   -- where there is a move the goal isn't reached

@@ -4,7 +4,7 @@ use Rattle.pop_battle.proofs.Boards.{behind_start, each_one, unreached, walk_cou
 use Rattle.pop_battle.proofs.SmallestTrees.{tree-one, trees-end, trees-next, trees-start}
 use Rattle.pop_battle.proofs.Tests.{any-start, fewest-start, first, rest-start, walk-next, walk_count-start}
 use Rattle.pop_battle.proofs.Values.{value-forced, value-open, value-stuck}
-use Rattle.pop_battle.specs.ties.Calls.{Finds, FindsDefence}
+use Rattle.pop_battle.specs.ties.Calls.{Finds}
 
 -- Black needn't mate where some move of his doesn't
 pub one_quiet : (rule : RuleSet) (q : Position) → list_all (is_mating rule q) (moves rule q) ≡ false → value Selfmate (chess Mate rule) 1 q ≡ false
@@ -136,7 +136,7 @@ module _ (battle : Battle) (rule : RuleSet) (p : Position) where
 
 -- a move that is found of those ahead is a defence
 pub found_defence : {rule : RuleSet} {p board : Position} {known : LegalPlace} {found : Option Move} {untried ahead later : List Move} → untried ≡ ahead
-    → Finds rule p board known found ahead later → FindsDefence rule p board (Some known) found untried later
+    → Finds rule p board (Some known) found ahead later → Finds rule p board (Some known) found untried later
 found_defence e f = record { unchanged = f.unchanged; within = f.within; next = rw e f.next }
 
 -- the defences from the one that was found on
@@ -151,11 +151,11 @@ some_of (m ∷ ms) = grind (arith, nat_tests)
 
 module _ (rule : RuleSet) (p board : Position) (known : Option LegalPlace) (next : Option Move) where
   -- the next one found
-  pub from : (ahead later : List Move) → FindsDefence rule p board known next ahead later → ahead ≡ from_next next later
+  pub from : (ahead later : List Move) → Finds rule p board known next ahead later → ahead ≡ from_next next later
   from ahead later f = grind arith
 
   -- the search for the first defence in an order
-  module _ (o : Order) (later : List Move) (f : FindsDefence rule p board known next (moves_ahead rule p o Killer (o.killer - 1)) later) where
+  module _ (o : Order) (later : List Move) (f : Finds rule p board known next (moves_ahead rule p o Killer (o.killer - 1)) later) where
     -- finds one exactly where there is a move
     pub found_first : is_some next ≡ can_move (chess Mate rule) p
     found_first = grind (arith, some_of, from, any-start rule p o (λ m. true))

@@ -1,5 +1,5 @@
 //! What the search does on the board.
-ghost use Rattle.std.specs.Prelude.{◌≡◌, ◌∷◌, [], ◌&&◌, IfSome, MatchOption, is_some, false, true};
+ghost use Rattle.std.specs.Prelude.{◌≡◌, ◌∷◌, [], ◌&&◌, IfSome, MatchOption, is_some, false, true, Some};
 ghost use Rattle.chess_core.specs.Diagrams.{position_of};
 ghost use Rattle.chess_core.specs.Position.{Position};
 ghost use Rattle.chess_core.specs.WellFormed.{IsWellFormed};
@@ -52,7 +52,7 @@ pub(crate) fn moves_at<R: Rules>(
 pub(crate) fn next_behind<R: Rules>(moves: &mut LegalMoves<R>, board: &mut Board) -> Option<Move>
     requires well_formed { IsWellFormed board.old }
     requires known { IsPlaceIn R.rule board.old moves.old }
-    ensures found { Finds R.rule board.old board.new moves.new result
+    ensures found { Finds R.rule board.old board.new (Some moves.new) result
         (moves_behind R.rule board.old moves.old.place)
         (moves_behind R.rule board.old moves.new.place) }
     ensures place { moves.new.place ≡ place_of result }
@@ -97,7 +97,7 @@ pub(crate) fn next_until<R: Rules>(
 ) -> Option<Move>
     requires well_formed { IsWellFormed board.old }
     requires known { IsPlaceIn R.rule board.old moves.old }
-    ensures { Finds R.rule board.old board.new moves.new result
+    ensures { Finds R.rule board.old board.new (Some moves.new) result
         (moves_between R.rule board.old moves.old.place end)
         (moves_between R.rule board.old moves.new.place end) }
 {

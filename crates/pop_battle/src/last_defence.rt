@@ -8,7 +8,7 @@ ghost use Rattle.pop_input.specs.declared.stipulation.Goal.TheVariants.{Mate};
 ghost use Rattle.pop_battle.specs.Chess.{chess};
 ghost use Rattle.pop_battle.specs.declared.aim.Battle.TheVariants.{Direct};
 ghost use Rattle.pop_battle.specs.declared.frame.Stretch.TheVariants.{Killer};
-ghost use Rattle.pop_battle.specs.ties.Calls.{FindsDefence};
+ghost use Rattle.pop_battle.specs.ties.Calls.{Finds};
 ghost use Rattle.pop_battle.specs.ties.Counts.{HasCounted, smallest_tree, walk_count};
 ghost use Rattle.pop_battle.specs.ties.Frames.{moves_ahead, moves_unlooked};
 ghost use Rattle.pop_battle.specs.ties.Values.{value};
@@ -67,7 +67,7 @@ fn next_defence<R: Rules>(
 ) -> Option<Move>
     requires well_formed { IsWellFormed board.old }
     requires known { IfSome moves.old (λ k. IsPlaceIn R.rule board.old k) }
-    ensures { FindsDefence R.rule board.old board.new moves.new result
+    ensures { Finds R.rule board.old board.new moves.new result
         (moves_unlooked R.rule board.old order stretch.old moves.old)
         (moves_unlooked R.rule board.old order stretch.new moves.new) }
 {
@@ -91,7 +91,7 @@ fn first_defence<R: Rules>(
 ) -> Option<Move>
     requires well_formed { IsWellFormed board.old }
     requires unknown { moves.old ≡ None }
-    ensures { FindsDefence R.rule board.old board.new moves.new result
+    ensures { Finds R.rule board.old board.new moves.new result
         (moves_ahead R.rule board.old order Killer (order.killer - 1))
         (moves_unlooked R.rule board.old order stretch.new moves.new) }
 {

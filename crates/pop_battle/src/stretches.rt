@@ -83,7 +83,7 @@ fn next_of_stretch<R: Rules>(
 ) -> Option<Move>
     requires well_formed { IsWellFormed board.old }
     requires known { IsPlaceIn R.rule board.old moves.old }
-    ensures { Finds R.rule board.old board.new moves.new result
+    ensures { Finds R.rule board.old board.new (Some moves.new) result
         (filter (belongs board.old order stretch) (moves_behind R.rule board.old moves.old.place))
         (filter (belongs board.old order stretch)
         (moves_behind R.rule board.old moves.new.place)) }
@@ -113,7 +113,7 @@ fn next_early<R: Rules>(
     requires well_formed { IsWellFormed board.old }
     requires known { IsPlaceIn R.rule board.old moves.old }
     requires early { order.early ≡ AimedMoves }
-    ensures { Finds R.rule board.old board.new moves.new result
+    ensures { Finds R.rule board.old board.new (Some moves.new) result
         (filter (belongs board.old order Aimed) (moves_behind R.rule board.old moves.old.place))
         (filter (belongs board.old order Aimed)
         (moves_behind R.rule board.old moves.new.place)) }
@@ -136,7 +136,7 @@ fn next_here<R: Rules>(
 ) -> Option<Move>
     requires well_formed { IsWellFormed board.old }
     requires known { IsPlaceIn R.rule board.old moves.old }
-    ensures { Finds R.rule board.old board.new moves.new result
+    ensures { Finds R.rule board.old board.new (Some moves.new) result
         (moves_here R.rule board.old order stretch moves.old.place)
         (moves_here R.rule board.old order stretch moves.new.place) }
 {
@@ -189,7 +189,7 @@ pub(crate) fn next_tried<R: Rules>(
 ) -> Option<Move>
     requires well_formed { IsWellFormed board.old }
     requires known { IsPlaceIn R.rule board.old moves.old }
-    ensures { Finds R.rule board.old board.new moves.new result
+    ensures { Finds R.rule board.old board.new (Some moves.new) result
         (moves_ahead R.rule board.old order stretch.old moves.old.place)
         (moves_ahead R.rule board.old order stretch.new moves.new.place) }
 {

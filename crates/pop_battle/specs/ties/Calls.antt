@@ -15,15 +15,7 @@ use Rattle.std.specs.Prelude.{◌≡◌, ◌+◌, ◌≤◌, ℕ, Bool, true, Li
 
 -- the first of some moves of p was looked for, which are `untried` before the call and `left` behind the move found: the
 -- board stands on p as before, and what is known is still of its moves
-pub record Finds (rule : RuleSet) (p board : Position) (known : LegalPlace) (found : Option Move)
-    (untried left : List Move) : Type 0 where
-  pub unchanged : board ≡ p
-  pub within : IsPlaceIn rule p known
-  pub next : MatchOption found (untried ≡ [])
-      (λ m. (untried ≡ m ∷ left) × (is_legal rule p m ≡ true))
-
--- the same where nothing may be known of its moves
-pub record FindsDefence (rule : RuleSet) (p board : Position) (known : Option LegalPlace)
+pub record Finds (rule : RuleSet) (p board : Position) (known : Option LegalPlace)
     (found : Option Move) (untried left : List Move) : Type 0 where
   pub unchanged : board ≡ p
   pub within : IfSome known (IsPlaceIn rule p)
