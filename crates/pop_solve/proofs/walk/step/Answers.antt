@@ -1,4 +1,4 @@
-use Rattle.pop_solve.proofs.Words.{arith, rules, sym, ◌∙◌}
+use Rattle.pop_solve.proofs.Words.{arith, rules}
 use Rattle.pop_solve.proofs.Walking as walking
 use Rattle.pop_solve.proofs.walk.step.Goals as goal
 
