@@ -1,5 +1,5 @@
 use Rattle.chess_rules.proofs.Chess.{arith, is_legal, per_origin, refl, sym, ◌*◌, ◌+◌, ◌∙◌, ◌≡◌}
-use Rattle.chess_rules.proofs.listing_moves.Counting.{count_barren, count_here}
+use Rattle.chess_rules.proofs.listing_moves.Counting.{count_barren, count_here, few_between, none_left}
 use Rattle.chess_rules.proofs.listing_moves.Walks.{aimed_from}
 use Rattle.chess_rules.proofs.counting.count_of_pawn.Goals as goal
 
@@ -26,3 +26,16 @@ loop-at-preserved g c =
       named = next.named;
       all = omega (arith, here, barren);
     }
+
+pub loop-at-init : goal.loop-at-init
+loop-at-init g c =
+    let next = c.next_from-at.ensures in
+    let end = per_origin * c.args.from + c.args.end in
+    let all = count_barren _ _ _ _ (omega arith) c.requires.squares c.args.start _ end next.low next.high next.barren in
+    record { board = refl; high = next.high; named = next.named; all = omega (arith, all) }
+
+pub overflow_add-count : goal.overflow_add-count
+overflow_add-count g c = grind (arith, few_between)
+
+pub returns-clause-count : goal.returns-clause-count
+returns-clause-count g c = grind (arith, none_left)
