@@ -106,8 +106,7 @@ one_by_one a b c d = grind arith
 -- the words of four steps joined are the word of the four
 pub four : (p : ℕ → Step → Bool) (a b c d : Step) (k l m n : ℕ) → k ≡ word (λ t. p t a) → l ≡ word (λ t. p t b) → m ≡ word (λ t. p t c) → n ≡ word (λ t. p t d)
     → bit_or (bit_or (bit_or k l) m) n ≡ word (λ t. list_any (p t) (a ∷ b ∷ c ∷ d ∷ []))
-four p a b c d k l m n x y z w =
-    joined _ _ _ _ (joined _ _ _ _ (joined _ _ _ _ x y) z) w ∙ squares_same _ _ (λ t less. one_by_one (p t a) (p t b) (p t c) (p t d))
+four p a b c d k l m n x y z w = joined _ _ _ _ (joined _ _ _ _ (joined _ _ _ _ x y) z) w ∙ squares_same _ _ (λ t _. one_by_one (p t a) (p t b) (p t c) (p t d))
 
 -- the words of two lists of steps joined are the word of both lists
 pub both_lists : (p : ℕ → Step → Bool) (xs ys : List Step) (k l : ℕ) → k ≡ word (λ t. list_any (p t) xs) → l ≡ word (λ t. list_any (p t) ys)

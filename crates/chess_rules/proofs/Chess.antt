@@ -4,7 +4,7 @@ pub use Rattle.chess_core.proofs.Castlings.{has_unmoved-mark_other, has_unmoved-
 pub use Rattle.chess_core.proofs.Kept.{same_kind-true, same_colour-refl}
 pub use Rattle.chess_core.proofs.Men.{AtMostOneKing-without, is_man-without, man_on-with_other, man_on-with_same, man_on-without_none, man_on-without_other, man_on-without_same, same_colour-true}
 pub use Rattle.chess_core.proofs.Ranges.{all_range_false, all_range_true, any_range_false, any_range_true, find_range_none, find_range_some, some_square_false, some_square_true, find_square_some, second_fails}
-pub use Rattle.chess_core.proofs.Words.{square_bit, square_word, square_word_small, squares_both, squares_either, squares_none, squares_not, squares_same, squares_some}
+pub use Rattle.chess_core.proofs.Words.{square_bit, square_word, square_word_small, some_square_told, squares_both, squares_either, squares_none, squares_not, squares_same, squares_some}
 pub use Rattle.chess_core.specs.Castling.{without_unmoved, with_unmoved}
 unfoldable pub use Rattle.chess_core.specs.Castling.{has_unmoved, none_unmoved, mark_unmoved}
 pub use Rattle.chess_core.specs.Position.{AtMostOneKing, HasNoKing, Position, is_man, is_of_colour, man_on, may_promote, other, same_colour, same_kind, with_man, without_man, kinds}

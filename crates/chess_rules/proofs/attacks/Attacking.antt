@@ -1,5 +1,5 @@
 -- Attack looked for outward from the square.
-use Rattle.chess_rules.proofs.Chess.{Bishop, Bool, Colour, Grasshopper, Hopper, Kind, King, Knight, List, Man, Nightrider, Option, Pawn, Queen, Rook, RuleSet, Step, [], and_left, any_kept, any_range_same, any_range_true, ap, arith, bit_and, bit_at, bit_or, diagonal_steps, differs, eq-eqb, faced_men_stand_still, faces, faces_its_like, false, false_from_ne_true, false≢true, first_of_and, gait_of, hopped_from, hops, is_ahead, is_attacked, is_attacker, is_fairy_man, is_leaping_man, is_man, is_met, is_of_colour, is_on_some, is_paralysed, is_reached, joined, list_any, list_any-append, man_on, not, not_zero, other, queen_steps, reaches, reaches_as, reaches_of, refl, rides, rules, same_colour-true, same_kind-true, second_of_and, shared, some_square, squares, squares_both, squares_either, squares_of, squares_same, straight_steps, sym, true, word, word_empty, word_has, word_lacks, ℕ, ◌&&◌, ◌<◌, ◌==◌, ◌||◌, ◌∙◌, ◌∷◌, ◌≡◌}
+use Rattle.chess_rules.proofs.Chess.{Bishop, Bool, Colour, Grasshopper, Hopper, Kind, King, Knight, List, Man, Nightrider, Option, Pawn, Queen, Rook, RuleSet, Step, [], and_left, any_kept, any_range_same, any_range_true, ap, arith, bit_and, bit_at, bit_or, diagonal_steps, differs, eq-eqb, faced_men_stand_still, faces, faces_its_like, false, false_from_ne_true, false≢true, first_of_and, gait_of, hopped_from, hops, is_ahead, is_attacked, is_attacker, is_fairy_man, is_leaping_man, is_man, is_met, is_of_colour, is_on_some, is_paralysed, is_reached, joined, list_any, list_any-append, man_on, not, not_zero, other, queen_steps, reaches, reaches_as, reaches_of, refl, rides, rules, same_colour-true, same_kind-true, second_of_and, shared, some_square, some_square_told, squares, squares_both, squares_either, squares_of, squares_same, straight_steps, sym, true, word, word_empty, word_has, word_lacks, ℕ, ◌&&◌, ◌<◌, ◌==◌, ◌||◌, ◌∙◌, ◌∷◌, ◌≡◌}
 use Rattle.chess_rules.proofs.rays.Flips.{diagonal-back, hops-turned, queen_rides-back, reaches_back, straight-back}
 use Rattle.chess_rules.proofs.rays.Ways.{ride_on-found}
 
@@ -29,8 +29,7 @@ pub reached : (men : List (Option Man)) (c : Colour) (k : Kind) (t w n : ℕ) �
     → bit_and w n ≡ word (λ s. is_man (man_on men s) c k && reaches men s t)
 unfolding reaches squares_of
 reached men c k t w n h r =
-    (λ j. bit_and (h j) (r j)) ∙ squares_both (λ s. is_man (man_on men s) c k) (λ s. reaches_as men c k s t)
-    ∙ squares_same _ _ (λ s b. grind (arith, reaches_of_man men (man_on men s) c k s t))
+    shared _ _ _ _ h r ∙ squares_same _ _ (λ s b. grind (arith, reaches_of_man men (man_on men s) c k s t))
 
 -- where no men of the kind stand, none reaches t
 pub reached_none : (men : List (Option Man)) (c : Colour) (k : Kind) (t w : ℕ) → w ≡ squares_of men c k → w ≡ 0
@@ -109,16 +108,14 @@ leaping_by_kind o c r = grind arith
 -- kings, knights and pawns kind by kind
 pub leapers_are : (men : List (Option Man)) (c : Colour) (t k n p : ℕ) → k ≡ word (comer men c t King) → n ≡ word (comer men c t Knight)
     → p ≡ word (comer men c t Pawn) → bit_or (bit_or k n) p ≡ word (leaping_comer men c t)
-leapers_are men c t k n p hk hn hp =
-    joined _ _ _ _ (joined _ _ _ _ hk hn) hp ∙ squares_same _ _ (λ s b. leaping_by_kind (man_on men s) c (reaches men s t))
+leapers_are men c t k n p hk hn hp = joined _ _ _ _ (joined _ _ _ _ hk hn) hp ∙ squares_same _ _ (λ s b. leaping_by_kind (man_on men s) c (reaches men s t))
 
 -- the men that reach t: leapers, riders on straight lines, on diagonals, and fairy men
 pub attackers_are : (men : List (Option Man)) (c : Colour) (t l r b f : ℕ) → t < 64 → l ≡ word (leaping_comer men c t)
     → r ≡ word (is_met men c Rook straight_steps t) → b ≡ word (is_met men c Bishop diagonal_steps t) → f ≡ word (fairy_comer men c t)
     → bit_or (bit_or (bit_or l r) b) f ≡ word (λ s. is_of_colour (man_on men s) c && reaches men s t)
 unfolding reaches is_met
-attackers_are men c t l r b f q hl hr hb hf =
-    joined _ _ _ _ (joined _ _ _ _ (joined _ _ _ _ hl hr) hb) hf ∙ squares_same _ _ (λ s less. at_square men c (man_on men s) s t less q)
+attackers_are men c t l r b f q hl hr hb hf = joined _ _ _ _ (joined _ _ _ _ (joined _ _ _ _ hl hr) hb) hf ∙ squares_same _ _ (λ s p. at_square men c _ s t p q)
 
 any_either : (p q : ℕ → Bool) (xs : List ℕ) → (list_any p xs || list_any q xs) ≡ list_any (λ s. p s || q s) xs
 any_either p q [] = refl
@@ -128,38 +125,29 @@ some_either : (p q : ℕ → Bool) (a b : Bool) → a ≡ some_square p → b �
 unfolding some_square
 some_either p q a b h i = (λ j. h j || i j) ∙ any_either p q squares
 
--- a word isn't 0 exactly if it has a square
-some_in : (p : ℕ → Bool) (w : ℕ) → w ≡ word p → not (w == 0) ≡ some_square p
-some_in p w h = ap (λ n. not (n == 0)) h ∙ not_zero p
-
 -- some man reaches t exactly if one of these words isn't 0
 pub some_reach : (men : List (Option Man)) (c : Colour) (t l r b f : ℕ) → t < 64 → l ≡ word (leaping_comer men c t)
     → r ≡ word (is_met men c Rook straight_steps t) → b ≡ word (is_met men c Bishop diagonal_steps t) → f ≡ word (fairy_comer men c t)
     → (((not (l == 0) || not (r == 0)) || not (b == 0)) || not (f == 0)) ≡ is_reached men t c
 unfolding reaches is_met is_reached
 some_reach men c t l r b f q hl hr hb hf =
-    some_either _ _ _ _ (some_either _ _ _ _ (some_either _ _ _ _ (some_in _ l hl) (some_in _ r hr)) (some_in _ b hb)) (some_in _ f hf)
-    ∙ some_square_same _ _ (λ s less. at_square men c (man_on men s) s t less q)
+    some_either _ _ _ _ (some_either _ _ _ _ (some_either _ _ _ _ (some_square_told _ l hl) (some_square_told _ r hr)) (some_square_told _ b hb))
+    (some_square_told _ f hf)
+    ∙ some_square_same _ _ (λ s p. at_square men c _ s t p q)
 
 -- some leaper reaches t
 pub leap_reaches : (men : List (Option Man)) (c : Colour) (t l : ℕ) → t < 64 → l ≡ word (leaping_comer men c t) → (l ≡ 0 → ⊥) → true ≡ is_reached men t c
-leap_reaches men c t l q h some =
-    let reach = some_reach men c t l (word (is_met men c Rook straight_steps t)) (word (is_met men c Bishop diagonal_steps t)) (word (fairy_comer men c t)) in
-    grind (arith, reach q h refl refl refl, differs l 0 some)
+leap_reaches men c t l q h some = grind (arith, some_reach men c t l _ _ _ q h refl refl refl, differs l 0 some)
 
 -- some rider along a straight line
 pub straight_reaches : (men : List (Option Man)) (c : Colour) (t r : ℕ) → t < 64 → r ≡ word (is_met men c Rook straight_steps t) → (r ≡ 0 → ⊥)
     → true ≡ is_reached men t c
-straight_reaches men c t r q h some =
-    let reach = some_reach men c t (word (leaping_comer men c t)) r (word (is_met men c Bishop diagonal_steps t)) (word (fairy_comer men c t)) in
-    grind (arith, reach q refl h refl refl, differs r 0 some)
+straight_reaches men c t r q h some = grind (arith, some_reach men c t _ r _ _ q refl h refl refl, differs r 0 some)
 
 -- some rider along a diagonal
 pub diagonal_reaches : (men : List (Option Man)) (c : Colour) (t b : ℕ) → t < 64 → b ≡ word (is_met men c Bishop diagonal_steps t) → (b ≡ 0 → ⊥)
     → true ≡ is_reached men t c
-diagonal_reaches men c t b q h some =
-    let reach = some_reach men c t (word (leaping_comer men c t)) (word (is_met men c Rook straight_steps t)) b (word (fairy_comer men c t)) in
-    grind (arith, reach q refl refl h refl, differs b 0 some)
+diagonal_reaches men c t b q h some = grind (arith, some_reach men c t _ _ b _ q refl refl h refl, differs b 0 some)
 
 -- where a hopper comes from, a line goes
 hopped_ahead : (men : List (Option Man)) (t s : ℕ) (d : Step) → hopped_from men t s d ≡ true → is_ahead t d s ≡ true
@@ -213,4 +201,4 @@ attacked_plainly rule men t c b off h = search (rules, some_square_same, off, h)
 pub faced : (men : List (Option Man)) (x : Man) (t w : ℕ) → w ≡ word (λ s. is_man (man_on men s) (other x.colour) x.kind && reaches men s t)
     → not (w == 0) ≡ faces_its_like men x t
 unfolding faces_its_like faces
-faced men x t w h = some_in _ w h
+faced men x t w h = some_square_told _ w h

@@ -135,7 +135,7 @@ own_words : (rule : RuleSet) (p : Position) (x : Man) (m : Move) (k : Kind) → 
     → own_after p.men (sight_after p.men m.from (capture_square p x m) m.to) x m k ≡ squares_of (arrived p x m) x.colour k
 unfolding squares_of
 own_words rule p x m k well is small =
-    joined _ _ _ _ (shared _ _ _ _ (shared _ _ _ _ refl (squares_not _)) (squares_not _)) refl ∙ squares_same _ _ (λ s less. own_on rule p x m k s well is small)
+    joined _ _ _ _ (shared _ _ _ _ (shared _ _ _ _ refl (squares_not _)) (squares_not _)) refl ∙ squares_same _ _ (λ s b. own_on rule p x m k s well is small)
 
 are_arrived : (rule : RuleSet) (p : Position) (x : Man) (m : Move) → IsWellFormed p → IsMade rule p x m → m.to < 64
     → AreArrived p.men (arrived p x m) x m (sight_after p.men m.from (capture_square p x m) m.to)

@@ -124,7 +124,7 @@ module _ (rule : RuleSet) (p : Position) where
           let plain = none-plain rule p (is_legal rule p) (is_legal-idle rule p) s w rest h.at b (per_arrival * b) passing none
           (λ t lt on out from. grind (arith, h.left t lt)) off (omega arith) fits in
           count_over _ _ _ (omega (arith, le)) (omega (arith, small, fits))
-              (none-to rule p (is_legal rule p) (is_legal rule p) s w h.at (per_arrival * b) (omega (arith, fits)) are (λ m off. off) plain)
+          (none-to rule p (is_legal rule p) (is_legal rule p) s w h.at (per_arrival * b) (omega (arith, fits)) are (λ m off. off) plain)
 
       -- up to the end
       pub counted_end : (b : ℕ) → ((t : ℕ) → t < b → (bit_at rest t == 1) ≡ false) → b ≤ 64 → end ≤ per_arrival * b
@@ -188,6 +188,3 @@ module _ (rule : RuleSet) (p : Position) where
       -- those of a whole origin are all of them
       pub count_whole : (a b : ℕ) → w < 2 ^ 64 → a ≡ 0 → b ≡ per_origin → between (per_origin * s + a) (per_origin * s + b) ≡ count_ones w
       count_whole a b fits first last = grind (arith, count_by_word a b, none_from w 64 fits)
-
--- for that from triple to triple
-pub ruleset by_triples = (count_barren, count_here, few_between, none_left)

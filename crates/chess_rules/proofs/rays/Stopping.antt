@@ -95,4 +95,4 @@ pub ride_is : (men : List (Option Man)) (s : ℕ) (d : Step) (r o n : ℕ) → O
     → IsUpTo d (bit_and r o) n → bit_and r n ≡ word (λ t. rides men s t d)
 unfolding ray
 ride_is men s d r o n line p h held first =
-    shared _ _ _ _ h first.squares ∙ squares_same _ _ (λ t less. ridden men s d first.last t line (stops men s d r o first.last h held first.stop) p less)
+    shared _ _ _ _ h first.squares ∙ squares_same _ _ (λ t q. ridden men s d _ t line (stops men s d r o _ h held first.stop) p q)

@@ -28,11 +28,7 @@ loop-at-preserved g c =
     }
 
 pub loop-at-init : goal.loop-at-init
-loop-at-init g c =
-    let next = c.next_from-at.ensures in
-    let end = per_origin * c.args.from + c.args.end in
-    let all = count_barren _ _ _ _ (omega arith) c.requires.squares c.args.start _ end next.low next.high next.barren in
-    record { board = refl; high = next.high; named = next.named; all = omega (arith, all) }
+loop-at-init g c = grind (arith, count_barren)
 
 pub overflow_add-count : goal.overflow_add-count
 overflow_add-count g c = grind (arith, few_between)

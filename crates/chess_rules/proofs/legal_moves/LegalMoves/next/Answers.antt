@@ -1,12 +1,12 @@
 use Rattle.chess_rules.proofs.Basics.{arith}
-use Rattle.chess_rules.proofs.listing_moves.Places.{first_behind-end, first_behind-next, first_behind-none, moves_behind-end, moves_behind-next, moves_behind-none, place_of_none, place_of_triple}
+use Rattle.chess_rules.proofs.listing_moves.Places.{first_behind-end, first_behind-here, first_behind-none, moves_behind-end, moves_behind-next, moves_behind-none, place_of_none, place_of_triple}
 use Rattle.chess_rules.proofs.legal_moves.LegalMoves.next.Goals as goal
 
 pub returns-then-number-lt-TRIPLES-clause-rest : goal.returns-then-number-lt-TRIPLES-clause-rest
 returns-then-number-lt-TRIPLES-clause-rest g c = grind (arith, moves_behind-next)
 
 pub returns-then-number-lt-TRIPLES-clause-first : goal.returns-then-number-lt-TRIPLES-clause-first
-returns-then-number-lt-TRIPLES-clause-first g c = grind (arith, first_behind-next)
+returns-then-number-lt-TRIPLES-clause-first g c = grind (arith, first_behind-here, first_behind-none)
 
 pub returns-then-number-lt-TRIPLES-clause-place : goal.returns-then-number-lt-TRIPLES-clause-place
 returns-then-number-lt-TRIPLES-clause-place g c = grind (arith, place_of_triple)

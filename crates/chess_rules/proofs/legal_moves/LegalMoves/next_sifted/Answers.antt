@@ -2,9 +2,6 @@ use Rattle.chess_rules.proofs.listing_moves.Sifting.{next_sifted}
 use Rattle.chess_rules.proofs.Basics.{arith}
 use Rattle.chess_rules.proofs.legal_moves.LegalMoves.next_sifted.Goals as goal
 
-pub returns-clause-place : goal.returns-clause-place
-returns-clause-place g c = grind (arith, next_sifted)
-
 pub returns-clause-passed : goal.returns-clause-passed
 returns-clause-passed g c = grind (arith, next_sifted)
 
