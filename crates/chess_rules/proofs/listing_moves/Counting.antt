@@ -102,7 +102,7 @@ module _ (rule : RuleSet) (p : Position) where
   counted_all start rest count h none =
       let free = walk_before (is_legal rule p) h.reached rest 64 all_triples h.walked (λ t lt. rw none (off_zero t)) (omega arith) (omega arith) in
       let cut = count_cut start in
-      grind (arith, cases_lt h.reached all_triples, cut h.reached all_triples, cut all_triples h.reached, between-none-is_legal, none_left, free, between-past)
+      grind (arith, cases_lt h.reached all_triples, cut h.reached all_triples, cut all_triples h.reached, none_left, count_over h.reached all_triples, free, between-past)
 
   module _ (s w : ℕ) (small : s < 64) (are : AreCandidates rule p (is_legal rule p) s w) where
     -- triples that are no moves don't count

@@ -19,7 +19,7 @@ loop-to-preserved g c =
     let answer = rw c.loop-to.invariant.board at c.is_legal-legal.ensures.answer in
     let past = counted_past _ _ _ _ (omega arith) c.requires.squares _ _ _ _ c.loop-to.invariant.counted c.requires.no_pawn _ _ _ c.in-Some.ensures.taken
     (omega (arith, c.from.ensures, c.index.ensures.value)) (sym answer) in
-    record { board = c.is_legal-legal.ensures.board ∙ c.loop-to.invariant.board; counted = search (rules, past) }
+    record { board = c.is_legal-legal.ensures.board ∙ c.loop-to.invariant.board; counted = grind (arith, past) }
 
 pub returns-clause-count : goal.returns-clause-count
 returns-clause-count g c =

@@ -7,7 +7,7 @@ use Rattle.chess_rules.proofs.sift.next_left.Goals as goal
 pub loop-from-init : goal.loop-from-init
 loop-from-init g c =
     let own = wanted_origins _ _ (g.S.Sift.test g.R.Rules.rule c.args.board.now) _ c.own_origins-origins.ensures in
-    search (rules, counted_none, walk_begins, own)
+    record { board = refl; same = refl; none = search (rules, walk_begins, own); passed = search (rules, counted_none, walk_begins) }
 
 pub returns-then-at-lt-PER_ORIGIN-clause-passed : goal.returns-then-at-lt-PER_ORIGIN-clause-passed
 returns-then-at-lt-PER_ORIGIN-clause-passed g c =

@@ -6,7 +6,8 @@ pub returns-then-number-lt-TRIPLES-clause-rest : goal.returns-then-number-lt-TRI
 returns-then-number-lt-TRIPLES-clause-rest g c = grind (arith, moves_behind-next)
 
 pub returns-then-number-lt-TRIPLES-clause-first : goal.returns-then-number-lt-TRIPLES-clause-first
-returns-then-number-lt-TRIPLES-clause-first g c = grind (arith, first_behind-here, first_behind-none)
+returns-then-number-lt-TRIPLES-clause-first g c =
+    grind (arith, first_behind-here, first_behind-none g.R.Rules.rule c.args.board.now c.args.self.now.place c.next_legal-number.result)
 
 pub returns-then-number-lt-TRIPLES-clause-place : goal.returns-then-number-lt-TRIPLES-clause-place
 returns-then-number-lt-TRIPLES-clause-place g c = grind (arith, place_of_triple)
