@@ -208,7 +208,6 @@ fn count_one_by_one<R: Rules>(
 
 // The same, where all are surely legal without looking at them: mostly, so the loops above stand apart.
 #[inline(always)]
-#[tactic(auto, using(crate::proofs::listing_moves::Counting::count_by_word, crate::proofs::listing_moves::Counting::count_whole))]
 pub(crate) fn count_origin<R: Rules>(
     board: &mut Board,
     known: Known,

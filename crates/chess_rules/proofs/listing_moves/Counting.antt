@@ -102,13 +102,12 @@ module _ (rule : RuleSet) (p : Position) where
   counted_all start rest count h none =
       let free = walk_before (is_legal rule p) h.reached rest 64 all_triples h.walked (λ t lt. rw none (off_zero t)) (omega arith) (omega arith) in
       let cut = count_cut start in
-      grind (arith, cases_lt h.reached all_triples, cut h.reached all_triples, cut all_triples h.reached, none_left, count_over h.reached all_triples, free, between-past)
+      grind (arith, cases_lt, cut h.reached all_triples, cut all_triples h.reached, none_left, count_over h.reached all_triples, free, between-past)
 
   module _ (s w : ℕ) (small : s < 64) (are : AreCandidates rule p (is_legal rule p) s w) where
     -- triples that are no moves don't count
     pub count_barren : (a b e : ℕ) → a ≤ b → b ≤ per_origin → IsBarrenFrom p s w a b → between (per_origin * s + a) e ≡ between (per_origin * s + b) e
-    count_barren a b e lo hi h = count_over (per_origin * s + a) (per_origin * s + b) e (omega (arith, lo)) (omega (arith, hi))
-        (none-from rule p (is_legal rule p) (is_legal-idle rule p) s w a b hi are h)
+    count_barren a b e lo hi h = count_over _ _ e (omega arith) (omega arith) (none-from rule p (is_legal rule p) (is_legal-idle rule p) s w a b hi are h)
 
     -- one that is a move counts once
     pub count_here : (a n e : ℕ) (legal : Bool) → a < per_origin → n ≡ per_origin * s + a → n < e → is_legal rule p (triple_at n) ≡ legal
@@ -123,8 +122,7 @@ module _ (rule : RuleSet) (p : Position) where
           let passing : AreCandidates rule p (passes_to w (is_legal rule p)) s w = record { inside = are.inside; outside = λ m at to out. grind (arith, out) } in
           let plain = none-plain rule p (is_legal rule p) (is_legal-idle rule p) s w rest h.at b (per_arrival * b) passing none
           (λ t lt on out from. grind (arith, h.left t lt)) off (omega arith) fits in
-          count_over _ _ _ (omega (arith, le)) (omega (arith, small, fits))
-          (none-to rule p (is_legal rule p) (is_legal rule p) s w h.at (per_arrival * b) (omega (arith, fits)) are (λ m off. off) plain)
+          count_over _ _ _ (omega arith) (omega arith) (none-to _ _ _ _ s w h.at (per_arrival * b) (omega arith) are (λ m off. off) plain)
 
       -- up to the end
       pub counted_end : (b : ℕ) → ((t : ℕ) → t < b → (bit_at rest t == 1) ≡ false) → b ≤ 64 → end ≤ per_arrival * b

@@ -11,15 +11,12 @@ is_legal-requires-clause-aimed g c =
 
 pub loop-at-preserved : goal.loop-at-preserved
 loop-at-preserved g c =
-    let rule = g.R.Rules.rule in
-    let p = c.args.board.now in
-    let s = c.args.from in
-    let end = per_origin * s + c.args.end in
-    let at : c.from-first.result * per_origin ≡ per_origin * s = omega (arith, c.from-first.ensures, c.index.ensures.value) in
+    let end = per_origin * c.args.from + c.args.end in
+    let at : c.from-first.result * per_origin ≡ per_origin * c.args.from = omega (arith, c.from-first.ensures, c.index.ensures.value) in
     let answer = rw (c.loop-at.invariant.board, c.triple-m.ensures, at) at c.is_legal.ensures.answer in
     let next = rw (c.is_legal.ensures.board, c.loop-at.invariant.board) at c.next_from-at-in-loop-at.ensures in
-    let here = count_here rule p s _ (omega arith) c.requires.squares c.loop-at.at _ end c.is_legal.result (omega arith) refl (omega arith) (sym answer) in
-    let barren = count_barren rule p s _ (omega arith) c.requires.squares (c.loop-at.at + 1) _ end next.low next.high next.barren in
+    let here = count_here _ _ _ _ (omega arith) c.requires.squares c.loop-at.at _ end c.is_legal.result (omega arith) refl (omega arith) (sym answer) in
+    let barren = count_barren _ _ _ _ (omega arith) c.requires.squares (c.loop-at.at + 1) _ end next.low next.high next.barren in
     record {
       board = c.is_legal.ensures.board ∙ c.loop-at.invariant.board;
       high = next.high;
