@@ -1,4 +1,4 @@
-use Rattle.chess_rules.proofs.Chess.{arith, Black, Colour, List, Man, Option, White, bit_or, is_of_colour, is_some, man_on, rules, same_colour, side_of, squares_either, squares_same, true, word, ◌||◌, ◌∙◌, ◌≡◌}
+use Rattle.chess_rules.proofs.Chess.{arith, Black, List, Man, Option, White, bit_or, is_of_colour, is_some, man_on, rules, side_of, squares_either, squares_same, word, ◌||◌, ◌∙◌, ◌≡◌}
 use Rattle.chess_rules.proofs.lines.occupied.Goals as goal
 
 of_either : (o : Option Man) → (is_of_colour o White || is_of_colour o Black) ≡ is_some o
