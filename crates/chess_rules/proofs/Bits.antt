@@ -1,7 +1,7 @@
 -- Bits of words: the first from a place on, one alone, words that are not 0, and words of several lines joined.
 use Rattle.chess_rules.proofs.Basics.{Bool, List, None, Some, [], ap, arith, bit_and, bit_at, bit_at-lt, bit_at-pow_other, bit_at-pow_same, bit_at-trailing_zeros, bit_at-zero, bit_at_and, bit_at_mask_below, bit_at_mask_inside, bit_at_or, bit_not, bit_or, cases_eq, cases_lt, eq-eqb, eqb-true, false, false_from_ne_true, find, list_any, list_any-append, nat_le, not, one_shl, ones_shl, range_with_len, refl, rules, sym, trailing_zeros, true, true_from_ne_false, w64, ℕ, ◌%◌, ◌*◌, ◌++◌, ◌-◌, ◌<◌, ◌==◌, ◌^◌, ◌&&◌, ◌||◌, ◌∙◌, ◌∷◌, ◌≡◌, ◌≤◌}
 use Rattle.chess_core.proofs.Ranges.{find_range_none, find_range_some}
-use Rattle.chess_core.proofs.Words.{square_bit, square_word, squares_either, squares_none, squares_not, squares_same, squares_some}
+use Rattle.chess_core.proofs.Words.{square_bit, square_word, squares_both, squares_either, squares_none, squares_not, squares_same, squares_some}
 use Rattle.chess_core.specs.Squares.{is_square, some_square}
 use Rattle.chess_core.specs.declared.step.Step.{Step}
 use Rattle.chess_core.specs.ties.Words.{bit_of, word}
@@ -92,15 +92,23 @@ on_left a b i h = true_from_ne_false _ (λ e. let off = off_left a b i e in cc)
 pub on_right : (a b i : ℕ) → (bit_at b i == 1) ≡ true → (bit_at (bit_or a b) i == 1) ≡ true
 on_right a b i h = true_from_ne_false _ (λ e. let off = off_right a b i e in cc)
 
+-- the squares of either word, where each word has those that pass a test
+pub joined : (p q : ℕ → Bool) (k l : ℕ) → k ≡ word p → l ≡ word q → bit_or k l ≡ word (λ s. p s || q s)
+joined p q k l h i = (λ j. bit_or (h j) (i j)) ∙ squares_either p q
+
+-- and those of both words
+pub shared : (p q : ℕ → Bool) (k l : ℕ) → k ≡ word p → l ≡ word q → bit_and k l ≡ word (λ s. p s && q s)
+shared p q k l h i = (λ j. bit_and (h j) (i j)) ∙ squares_both p q
+
 one_by_one : (a b c d : Bool) → (((a || b) || c) || d) ≡ (a || (b || (c || (d || false))))
 one_by_one a b c d = grind arith
 
 -- the words of four steps joined are the word of the four
 pub four : (p : ℕ → Step → Bool) (a b c d : Step) (k l m n : ℕ) → k ≡ word (λ t. p t a) → l ≡ word (λ t. p t b) → m ≡ word (λ t. p t c) → n ≡ word (λ t. p t d)
     → bit_or (bit_or (bit_or k l) m) n ≡ word (λ t. list_any (p t) (a ∷ b ∷ c ∷ d ∷ []))
-four p a b c d k l m n x y z w = search (rules, squares_either, squares_same, one_by_one, x, y, z, w)
+four p a b c d k l m n x y z w = joined _ _ _ _ (joined _ _ _ _ (joined _ _ _ _ x y) z) w ∙ squares_same _ _ (λ t _. one_by_one (p t a) (p t b) (p t c) (p t d))
 
 -- the words of two lists of steps joined are the word of both lists
 pub both_lists : (p : ℕ → Step → Bool) (xs ys : List Step) (k l : ℕ) → k ≡ word (λ t. list_any (p t) xs) → l ≡ word (λ t. list_any (p t) ys)
     → bit_or k l ≡ word (λ t. list_any (p t) (xs ++ ys))
-both_lists p xs ys k l x y = search (rules, squares_either, squares_same, list_any-append, x, y)
+both_lists p xs ys k l x y = joined _ _ _ _ x y ∙ squares_same _ _ (λ t less. sym (list_any-append (p t) xs ys))

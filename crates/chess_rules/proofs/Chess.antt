@@ -4,7 +4,7 @@ pub use Rattle.chess_core.proofs.Castlings.{has_unmoved-mark_other, has_unmoved-
 pub use Rattle.chess_core.proofs.Kept.{same_kind-true, same_colour-refl}
 pub use Rattle.chess_core.proofs.Men.{AtMostOneKing-without, is_man-without, man_on-with_other, man_on-with_same, man_on-without_none, man_on-without_other, man_on-without_same, same_colour-true}
 pub use Rattle.chess_core.proofs.Ranges.{all_range_false, all_range_true, any_range_false, any_range_true, find_range_none, find_range_some, some_square_false, some_square_true, find_square_some, second_fails}
-pub use Rattle.chess_core.proofs.Words.{square_bit, square_word, square_word_small, squares_both, squares_either, squares_none, squares_not, squares_same, squares_some}
+pub use Rattle.chess_core.proofs.Words.{square_bit, square_word, square_word_small, some_square_told, squares_both, squares_either, squares_none, squares_not, squares_same, squares_some}
 pub use Rattle.chess_core.specs.Castling.{without_unmoved, with_unmoved}
 unfoldable pub use Rattle.chess_core.specs.Castling.{has_unmoved, none_unmoved, mark_unmoved}
 pub use Rattle.chess_core.specs.Position.{AtMostOneKing, HasNoKing, Position, is_man, is_of_colour, man_on, may_promote, other, same_colour, same_kind, with_man, without_man, kinds}
@@ -27,7 +27,7 @@ pub use Rattle.chess_core.specs.declared.step.Step.{Step}
 pub use Rattle.chess_core.specs.ties.Words.{bit_of}
 unfoldable pub use Rattle.chess_core.specs.ties.Words.{side_of, squares_of, word, word_of}
 pub use Rattle.chess_rules.proofs.Basics.{AllPairs, AllPairs-cons, AllPairs-filter, Bool, Contains, Contains-append_cases, Contains-append_left, Contains-append_right, Contains-get_or, IsSome, List, MatchOption, None, Option, Some, [], add-mul, add-one, agree_below, agree_below_at, and_from, and_le_l, and_left, and_parts, and_right, ap, append-nil, append_assoc, append_cancel_right, arith, bit_and, bit_at, bit_at-lt, bit_at-pow_other, bit_at-pow_same, bit_at-trailing_zeros, bit_at-zero, bit_at_above, bit_at_and, bit_at_mask_below, bit_at_mask_inside, bit_at_or, bit_at_set_other, bit_at_set_same, bit_not, bit_or, cases_Bool, cases_eq, cases_lt, cond, cond-false, cond-true, drop, drop-cons, drop-drop, drop_all, eq-eqb, eqb, eqb-true, false, false_from_ne_true, false≢true, filter, filter-append, find, flat_map, from_bool, get_or, get_or-map, get_or-map-range_with_len, get_or-range_with_len, get_or_past, if◌then◌else◌, inl, inr, is_some, le-leb, le-ltb, leb-true, length, length-append, length-map, length-map-range_with_len, length-range_with_len, length-set, length-take, list_all, list_any, list_any-append, lt-ltb, map, mul-add, nat_lt, ne_eqb, not, not-true, not_from_false, one_shl, ones-le, ones_shl, option_to_list, or_cases, or_from, or_left, or_lt, or_parts, or_right, pow-suc, pow_mono, range_with_len, refl, repeat, rules, set-get_or, set-set, set_past, shr-shr, shr_below, slice_get, subst, suc, sym, take, take-append-drop, trailing_zeros, true, true_from_ne_false, true≢false, w64, zero, ℕ, ◌%◌, ◌&&◌, ◌*◌, ◌++◌, ◌+◌, ◌-◌, ◌/◌, ◌<◌, ◌==◌, ◌^◌, ◌||◌, ◌↔◌, ◌∙◌, ◌∷◌, ◌≡◌, ◌≢◌, ◌≤◌, ◌⊎◌}
-pub use Rattle.chess_rules.proofs.Bits.{both_lists, every_square, four, from_on, next_low, next_none, next_some, not_zero, off_left, off_right, on_left, on_right, word_empty, word_has, word_lacks, word_only}
+pub use Rattle.chess_rules.proofs.Bits.{both_lists, every_square, four, from_on, joined, next_low, next_none, next_some, not_zero, off_left, off_right, on_left, on_right, shared, word_empty, word_has, word_lacks, word_only}
 pub use Rattle.chess_rules.proofs.Tests.{IsFirst, all_at, all_kept, any_kept, any_range_cases, any_range_same, differs, find_first, find_no, first_of_and, implied, same_Bool, second_of_and, some_is}
 pub use Rattle.chess_rules.specs.Attacks.{is_attacked_at, is_faced}
 unfoldable pub use Rattle.chess_rules.specs.Attacks.{faces, faces_its_like, in_check, is_attacked, is_paralysed, is_attacker}

@@ -114,7 +114,6 @@ fn are_known_legal<R: Rules>(
 // counted from the origin's first; each is looked at. `squares` are those to which he may go. The board is
 // unchanged. This and the one below are parts of the count: apart they cost more than they save.
 #[inline(always)]
-#[tactic(auto, using(crate::proofs::listing_moves::Counting::by_triples))]
 fn count_of_pawn<R: Rules>(
     board: &mut Board,
     known: Known,
@@ -145,7 +144,6 @@ fn count_of_pawn<R: Rules>(
 
 // The same for a man who is no pawn: he goes to each square by one triple, that without a promotion.
 #[inline(always)]
-#[tactic(auto, using(crate::proofs::listing_moves::Counting::few_between, crate::proofs::listing_moves::Walks::plain_aimed))]
 fn count_of_piece<R: Rules>(
     board: &mut Board,
     known: Known,
@@ -210,7 +208,6 @@ fn count_one_by_one<R: Rules>(
 
 // The same, where all are surely legal without looking at them: mostly, so the loops above stand apart.
 #[inline(always)]
-#[tactic(auto, using(crate::proofs::listing_moves::Counting::count_by_word, crate::proofs::listing_moves::Counting::count_whole))]
 pub(crate) fn count_origin<R: Rules>(
     board: &mut Board,
     known: Known,

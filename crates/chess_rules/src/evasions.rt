@@ -54,7 +54,6 @@ fn may_be_paralysed<R: Rules>(board: &Board, colour: Colour, square: Square) -> 
 // The squares to which a move of another man than the king may go that ends a check to the colour's king,
 // unless it is no plain move or, in Madrasi, a promotion: all of them where no check is seen. `checkers` are
 // the squares of the enemies that reach the king.
-#[tactic(auto, using(crate::proofs::listing_moves::Targeting::every_square_on))]
 pub(crate) fn evasion_squares<R: Rules>(board: &Board, colour: Colour, checkers: Squares) -> Squares
     requires { checkers ≡ word (is_checker board.now.men colour) }
     ensures { AreEvasions R.rule board.now.men colour result }

@@ -101,7 +101,6 @@ fn is_paralysed_after<R: Rules>(
 }
 
 // Whether an enemy man on one of the word's squares isn't paralysed then.
-#[tactic(auto, using(crate::proofs::HoldTaken::is_taken, crate::proofs::HoldTaken::none_fails, crate::proofs::HoldTaken::one_fails, crate::proofs::HoldTaken::pass_next, crate::proofs::HoldTaken::rest_falls))]
 fn some_free_after<R: Rules>(board: &Board, sight: Sight, man: Man, m: &Move, word: Squares) -> bool
     ensures { (men : List (Option Man)) → AreArrived board.now.men men man m.now sight
         → AreOthers men man.colour word

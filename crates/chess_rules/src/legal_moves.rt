@@ -121,7 +121,6 @@ impl<R: Rules> LegalMoves<R> {
     /// The first legal move of the board's position behind the place, which then stands on it. Where
     /// there is none: `None`, and the place stands behind all triples. The board is unchanged. The place
     /// must be one in the board's position.
-    #[tactic(auto, using(crate::proofs::listing_moves::Places::next_legal))]
     pub fn next(&mut self, board: &mut Board) -> Option<Move>
         requires well_formed { IsWellFormed board.old }
         requires place { IsPlaceIn R.rule board.old self.old }

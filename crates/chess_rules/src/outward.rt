@@ -234,7 +234,6 @@ pub(crate) fn is_reached(board: &Board, square: Square, colour: Colour) -> bool
 }
 
 // Whether a man on one of the word's squares isn't paralysed, or no man stands there.
-#[tactic(auto, using(crate::proofs::HoldTaken::is_taken, crate::proofs::HoldTaken::none_fails, crate::proofs::HoldTaken::one_fails, crate::proofs::HoldTaken::pass_next, crate::proofs::HoldTaken::rest_falls))]
 pub(crate) fn some_free<R: Rules>(board: &Board, word: Squares) -> bool
     ensures { result ≡ some_square (λ s. bit_at word s == 1
         && not (is_paralysed R.rule board.now.men s)) }

@@ -111,7 +111,6 @@ fn wanted_squares<R: Rules, S: Sift>(
 
 // The number of the first legal move that the sieve leaves, from the triple numbered `start` on; 28,672 where there is
 // none. The legal moves before it, which it takes, are counted. The board is unchanged.
-#[tactic(auto, using(crate::proofs::listing_moves::Counting::few_between, crate::proofs::listing_moves::Counting::none_left))]
 pub(crate) fn next_left<R: Rules, S: Sift>(
     board: &mut Board,
     known: Known,

@@ -1,5 +1,5 @@
 -- Attack looked for outward from the square.
-use Rattle.chess_rules.proofs.Chess.{Bishop, Bool, Colour, Grasshopper, Hopper, Kind, King, Knight, List, Man, Nightrider, Option, Pawn, Queen, Rook, RuleSet, Step, [], and_left, any_kept, any_range_same, any_range_true, ap, arith, bit_and, bit_at, bit_or, diagonal_steps, differs, eq-eqb, faced_men_stand_still, faces, faces_its_like, false, false_from_ne_true, false≢true, first_of_and, gait_of, hopped_from, hops, is_ahead, is_attacked, is_attacker, is_fairy_man, is_leaping_man, is_man, is_met, is_of_colour, is_on_some, is_paralysed, is_reached, list_any, list_any-append, man_on, not, not_zero, other, queen_steps, reaches, reaches_as, reaches_of, refl, rides, rules, same_colour-true, same_kind-true, second_of_and, some_square, squares, squares_both, squares_either, squares_of, squares_same, straight_steps, sym, true, word, word_empty, word_has, word_lacks, ℕ, ◌&&◌, ◌<◌, ◌==◌, ◌||◌, ◌∙◌, ◌∷◌, ◌≡◌}
+use Rattle.chess_rules.proofs.Chess.{Bishop, Bool, Colour, Grasshopper, Hopper, Kind, King, Knight, List, Man, Nightrider, Option, Pawn, Queen, Rook, RuleSet, Step, [], and_left, any_kept, any_range_same, any_range_true, arith, bit_and, bit_at, bit_or, diagonal_steps, differs, eq-eqb, faced_men_stand_still, faces, faces_its_like, false, false_from_ne_true, false≢true, first_of_and, gait_of, hopped_from, hops, is_ahead, is_attacked, is_attacker, is_fairy_man, is_leaping_man, is_man, is_met, is_of_colour, is_on_some, is_paralysed, is_reached, joined, list_any, list_any-append, man_on, not, other, queen_steps, reaches, reaches_as, reaches_of, refl, rides, rules, same_colour-true, same_kind-true, second_of_and, shared, some_square, some_square_told, squares, squares_of, squares_same, straight_steps, sym, true, word, word_empty, word_has, word_lacks, ℕ, ◌&&◌, ◌<◌, ◌==◌, ◌||◌, ◌∙◌, ◌∷◌, ◌≡◌}
 use Rattle.chess_rules.proofs.rays.Flips.{diagonal-back, hops-turned, queen_rides-back, reaches_back, straight-back}
 use Rattle.chess_rules.proofs.rays.Ways.{ride_on-found}
 
@@ -29,8 +29,7 @@ pub reached : (men : List (Option Man)) (c : Colour) (k : Kind) (t w n : ℕ) �
     → bit_and w n ≡ word (λ s. is_man (man_on men s) c k && reaches men s t)
 unfolding reaches squares_of
 reached men c k t w n h r =
-    (λ j. bit_and (h j) (r j)) ∙ squares_both (λ s. is_man (man_on men s) c k) (λ s. reaches_as men c k s t)
-    ∙ squares_same _ _ (λ s b. grind (arith, reaches_of_man men (man_on men s) c k s t))
+    shared _ _ _ _ h r ∙ squares_same _ _ (λ s b. grind (arith, reaches_of_man men (man_on men s) c k s t))
 
 -- where no men of the kind stand, none reaches t
 pub reached_none : (men : List (Option Man)) (c : Colour) (k : Kind) (t w : ℕ) → w ≡ squares_of men c k → w ≡ 0
@@ -62,7 +61,7 @@ at_square men c o s t p q = search (rules, bishop_reaches, rook_reaches, p, q, l
 pub met : (men : List (Option Man)) (c : Colour) (k : Kind) (t m n w : ℕ) (ds : List Step) → m ≡ squares_of men c k → n ≡ squares_of men c Queen
     → w ≡ word (λ s. list_any (rides men t s) ds) → bit_and (bit_or m n) w ≡ word (is_met men c k ds t)
 unfolding squares_of is_met
-met men c k t m n w ds h i j = search (rules, squares_both, squares_either)
+met men c k t m n w ds h i j = shared _ _ _ _ (joined _ _ _ _ h i) j
 
 -- where a rider gets, a line goes
 ahead_of : (men : List (Option Man)) (k s : ℕ) (d : Step) → rides men k s d ≡ true → is_ahead k d s ≡ true
@@ -86,7 +85,7 @@ pub met_none : (men : List (Option Man)) (c : Colour) (k : Kind) (t m n l : ℕ)
 unfolding squares_of is_met
 met_none men c k t m n l ds h i j z =
     let rider : ℕ → Bool = λ s. is_man (man_on men s) c k || is_man (man_on men s) c Queen in
-    let lined : word (λ s. rider s && is_on_some ds t s) ≡ 0 = search (rules, squares_both, squares_either) in
+    let lined : word (λ s. rider s && is_on_some ds t s) ≡ 0 = sym (shared _ _ _ _ (joined _ _ _ _ h i) j) ∙ z in
     word_empty _ (λ s b. apart (rider s) (is_on_some ds t s) (list_any (rides men t s) ds) (word_lacks (λ s. rider s && is_on_some ds t s) lined s b)
     (rides_some men t s ds))
 
@@ -109,49 +108,46 @@ leaping_by_kind o c r = grind arith
 -- kings, knights and pawns kind by kind
 pub leapers_are : (men : List (Option Man)) (c : Colour) (t k n p : ℕ) → k ≡ word (comer men c t King) → n ≡ word (comer men c t Knight)
     → p ≡ word (comer men c t Pawn) → bit_or (bit_or k n) p ≡ word (leaping_comer men c t)
-leapers_are men c t k n p hk hn hp = search (rules, squares_either, squares_same, leaping_by_kind, hk, hn, hp)
+leapers_are men c t k n p hk hn hp = joined _ _ _ _ (joined _ _ _ _ hk hn) hp ∙ squares_same _ _ (λ s b. leaping_by_kind (man_on men s) c (reaches men s t))
 
 -- the men that reach t: leapers, riders on straight lines, on diagonals, and fairy men
 pub attackers_are : (men : List (Option Man)) (c : Colour) (t l r b f : ℕ) → t < 64 → l ≡ word (leaping_comer men c t)
     → r ≡ word (is_met men c Rook straight_steps t) → b ≡ word (is_met men c Bishop diagonal_steps t) → f ≡ word (fairy_comer men c t)
     → bit_or (bit_or (bit_or l r) b) f ≡ word (λ s. is_of_colour (man_on men s) c && reaches men s t)
 unfolding reaches is_met
-attackers_are men c t l r b f q hl hr hb hf = search (rules, squares_either, squares_same, at_square, q, hl, hr, hb, hf)
+attackers_are men c t l r b f q hl hr hb hf = joined _ _ _ _ (joined _ _ _ _ (joined _ _ _ _ hl hr) hb) hf ∙ squares_same _ _ (λ s p. at_square men c _ s t p q)
 
 any_either : (p q : ℕ → Bool) (xs : List ℕ) → (list_any p xs || list_any q xs) ≡ list_any (λ s. p s || q s) xs
 any_either p q [] = refl
 any_either p q (x ∷ xs) = grind (arith, any_either p q xs)
 
-some_either : (p q : ℕ → Bool) → (some_square p || some_square q) ≡ some_square (λ s. p s || q s)
+some_either : (p q : ℕ → Bool) (a b : Bool) → a ≡ some_square p → b ≡ some_square q → (a || b) ≡ some_square (λ s. p s || q s)
 unfolding some_square
-some_either p q = any_either p q squares
+some_either p q a b h i = (λ j. h j || i j) ∙ any_either p q squares
 
 -- some man reaches t exactly if one of these words isn't 0
 pub some_reach : (men : List (Option Man)) (c : Colour) (t l r b f : ℕ) → t < 64 → l ≡ word (leaping_comer men c t)
     → r ≡ word (is_met men c Rook straight_steps t) → b ≡ word (is_met men c Bishop diagonal_steps t) → f ≡ word (fairy_comer men c t)
     → (((not (l == 0) || not (r == 0)) || not (b == 0)) || not (f == 0)) ≡ is_reached men t c
 unfolding reaches is_met is_reached
-some_reach men c t l r b f q hl hr hb hf = search (rules, not_zero, some_either, some_square_same, at_square, q, hl, hr, hb, hf)
+some_reach men c t l r b f q hl hr hb hf =
+    some_either _ _ _ _ (some_either _ _ _ _ (some_either _ _ _ _ (some_square_told _ l hl) (some_square_told _ r hr)) (some_square_told _ b hb))
+    (some_square_told _ f hf)
+    ∙ some_square_same _ _ (λ s p. at_square men c _ s t p q)
 
 -- some leaper reaches t
 pub leap_reaches : (men : List (Option Man)) (c : Colour) (t l : ℕ) → t < 64 → l ≡ word (leaping_comer men c t) → (l ≡ 0 → ⊥) → true ≡ is_reached men t c
-leap_reaches men c t l q h some =
-    let reach = some_reach men c t l (word (is_met men c Rook straight_steps t)) (word (is_met men c Bishop diagonal_steps t)) (word (fairy_comer men c t)) in
-    grind (arith, reach q h refl refl refl, differs l 0 some)
+leap_reaches men c t l q h some = grind (arith, some_reach men c t l _ _ _ q h refl refl refl, differs l 0 some)
 
 -- some rider along a straight line
 pub straight_reaches : (men : List (Option Man)) (c : Colour) (t r : ℕ) → t < 64 → r ≡ word (is_met men c Rook straight_steps t) → (r ≡ 0 → ⊥)
     → true ≡ is_reached men t c
-straight_reaches men c t r q h some =
-    let reach = some_reach men c t (word (leaping_comer men c t)) r (word (is_met men c Bishop diagonal_steps t)) (word (fairy_comer men c t)) in
-    grind (arith, reach q refl h refl refl, differs r 0 some)
+straight_reaches men c t r q h some = grind (arith, some_reach men c t _ r _ _ q refl h refl refl, differs r 0 some)
 
 -- some rider along a diagonal
 pub diagonal_reaches : (men : List (Option Man)) (c : Colour) (t b : ℕ) → t < 64 → b ≡ word (is_met men c Bishop diagonal_steps t) → (b ≡ 0 → ⊥)
     → true ≡ is_reached men t c
-diagonal_reaches men c t b q h some =
-    let reach = some_reach men c t (word (leaping_comer men c t)) (word (is_met men c Rook straight_steps t)) b (word (fairy_comer men c t)) in
-    grind (arith, reach q refl refl h refl, differs b 0 some)
+diagonal_reaches men c t b q h some = grind (arith, some_reach men c t _ _ b _ q refl refl h refl, differs b 0 some)
 
 -- where a hopper comes from, a line goes
 hopped_ahead : (men : List (Option Man)) (t s : ℕ) (d : Step) → hopped_from men t s d ≡ true → is_ahead t d s ≡ true
@@ -172,7 +168,7 @@ pub hoppers_none : (men : List (Option Man)) (c : Colour) (t g l d : ℕ) → t 
     → d ≡ word (is_on_some diagonal_steps t) → bit_and g (bit_or l d) ≡ 0 → 0 ≡ word (comer men c t Grasshopper)
 unfolding squares_of reaches
 hoppers_none men c t g l d q h i j z =
-    let lined : word (λ s. is_man (man_on men s) c Grasshopper && is_near t s) ≡ 0 = search (rules, squares_both, squares_either) in
+    let lined : word (λ s. is_man (man_on men s) c Grasshopper && is_near t s) ≡ 0 = sym (shared _ _ _ _ h (joined _ _ _ _ i j)) ∙ z in
     word_empty _ (λ s b. grind (arith, hops_near, reaches_of_man, word_lacks _ lined s b))
 
 -- a fairy man is of one of the fairy kinds
@@ -182,7 +178,7 @@ fairy_by_kind o c r = grind arith
 -- the fairy men kind by kind
 pub fairy_are : (men : List (Option Man)) (c : Colour) (t g f : ℕ) → g ≡ word (comer men c t Grasshopper) → f ≡ word (comer men c t Nightrider)
     → bit_or g f ≡ word (fairy_comer men c t)
-fairy_are men c t g f hg hf = search (rules, squares_either, squares_same, fairy_by_kind, hg, hf)
+fairy_are men c t g f hg hf = joined _ _ _ _ hg hf ∙ squares_same _ _ (λ s b. fairy_by_kind (man_on men s) c (reaches men s t))
 
 -- where there are neither, no fairy man reaches t
 pub fairy_none : (men : List (Option Man)) (c : Colour) (t g f : ℕ) → g ≡ squares_of men c Grasshopper → f ≡ squares_of men c Nightrider → g ≡ 0 → f ≡ 0
@@ -205,4 +201,4 @@ attacked_plainly rule men t c b off h = search (rules, some_square_same, off, h)
 pub faced : (men : List (Option Man)) (x : Man) (t w : ℕ) → w ≡ word (λ s. is_man (man_on men s) (other x.colour) x.kind && reaches men s t)
     → not (w == 0) ≡ faces_its_like men x t
 unfolding faces_its_like faces
-faced men x t w h = ap (λ n. not (n == 0)) h ∙ not_zero (λ s. is_man (man_on men s) (other x.colour) x.kind && reaches men s t)
+faced men x t w h = some_square_told _ w h

@@ -1,5 +1,5 @@
 -- Whether a move leaves its mover in check, told by the men that an attack sees after it.
-use Rattle.chess_rules.proofs.Chess.{AreArrived, AreOthers, AreSeen, Bool, Colour, IsWellFormed, Kind, King, List, Man, Move, None, Option, Position, RuleSet, Some, and_from, and_left, and_parts, ap, arith, arriving_man, bit_at, capture_square, captures_do_more, cases_Bool, cases_eq, cond-false, cond-true, differs, eq-eqb, faced_men_stand_still, faces, faces_its_like, false, false≢true, in_check, is_arrival_free, is_arriving_as, is_attacked, is_attacked_at, is_castling, is_man, is_of_colour, is_paralysed, is_promotion_right, is_pseudo_legal, is_simple, is_some, is_square, king_after, king_square, man_on, not, not-true, not_zero, or_parts, other, own_after, position_after, reaches, rules, same_colour, same_colour-refl, same_colour-true, same_kind, sight_after, some_square, squares_both, squares_either, squares_not, squares_of, squares_same, subst, sym, true, word, word_empty, word_has, ℕ, ◌&&◌, ◌<◌, ◌==◌, ◌||◌, ◌∙◌, ◌≡◌}
+use Rattle.chess_rules.proofs.Chess.{AreArrived, AreOthers, AreSeen, Bool, Colour, IsWellFormed, Kind, King, List, Man, Move, None, Option, Position, RuleSet, Some, and_from, and_left, and_parts, ap, arith, arriving_man, bit_at, capture_square, captures_do_more, cases_Bool, cases_eq, cond-false, cond-true, differs, eq-eqb, faced_men_stand_still, faces, faces_its_like, false, false≢true, in_check, is_arrival_free, is_arriving_as, is_attacked, is_attacked_at, is_castling, is_man, is_of_colour, is_paralysed, is_promotion_right, is_pseudo_legal, is_simple, is_some, is_square, joined, king_after, king_square, man_on, not, not-true, not_zero, or_parts, other, own_after, position_after, reaches, refl, rules, same_colour, same_colour-refl, same_colour-true, same_kind, shared, sight_after, some_square, squares_not, squares_of, squares_same, subst, sym, true, word, word_empty, word_has, ℕ, ◌&&◌, ◌<◌, ◌==◌, ◌||◌, ◌∙◌, ◌≡◌}
 use Rattle.chess_rules.specs.declared.sight.Sight.{Sight}
 use Rattle.chess_rules.proofs.attacks.Attacking.{attacked_by}
 use Rattle.chess_rules.proofs.rays.Ends.{square_is}
@@ -134,7 +134,8 @@ others_on rule p x m s well is small side =
 own_words : (rule : RuleSet) (p : Position) (x : Man) (m : Move) (k : Kind) → IsWellFormed p → IsMade rule p x m → m.to < 64
     → own_after p.men (sight_after p.men m.from (capture_square p x m) m.to) x m k ≡ squares_of (arrived p x m) x.colour k
 unfolding squares_of
-own_words rule p x m k well is small = search (rules, squares_not, squares_both, squares_either, squares_same, own_on)
+own_words rule p x m k well is small =
+    joined _ _ _ _ (shared _ _ _ _ (shared _ _ _ _ refl (squares_not _)) (squares_not _)) refl ∙ squares_same _ _ (λ s b. own_on rule p x m k s well is small)
 
 are_arrived : (rule : RuleSet) (p : Position) (x : Man) (m : Move) → IsWellFormed p → IsMade rule p x m → m.to < 64
     → AreArrived p.men (arrived p x m) x m (sight_after p.men m.from (capture_square p x m) m.to)

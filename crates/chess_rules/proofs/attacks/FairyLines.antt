@@ -1,5 +1,5 @@
 -- Lines of grasshoppers and nightriders to a square: what stands elsewhere changes nothing on them.
-use Rattle.chess_rules.proofs.Chess.{Bool, Colour, Direction, East, EastNorthEast, EastSouthEast, Grasshopper, Kind, List, Man, Nightrider, None, North, NorthEast, NorthNorthEast, NorthNorthWest, NorthWest, Option, Some, South, SouthEast, SouthSouthEast, SouthSouthWest, SouthWest, Step, West, WestNorthWest, WestSouthWest, [], along, and_from, and_left, and_right, any_range_true, ap, arith, bit_and, bit_or, eq-eqb, false, false_from_ne_true, false≢true, has_fairy, hops, is_ahead, is_lined, is_man, is_occupied, is_on_fairy_line, is_on_fairy_line_at, is_square, king_square, knight_steps, list_any, man_on, may_stand_between, not, not_zero, or_cases, or_left, or_parts, or_right, other, place, queen_steps, ray, refl, rides, rules, some_square, some_square_false, some_square_true, squares_both, squares_either, squares_of, squares_same, step_of, sym, true, word, word_empty, ℕ, ◌&&◌, ◌-◌, ◌<◌, ◌==◌, ◌||◌, ◌∙◌, ◌∷◌, ◌≡◌, ◌≤◌, ◌⊎◌}
+use Rattle.chess_rules.proofs.Chess.{Bool, Colour, Direction, East, EastNorthEast, EastSouthEast, Grasshopper, Kind, List, Man, Nightrider, None, North, NorthEast, NorthNorthEast, NorthNorthWest, NorthWest, Option, Some, South, SouthEast, SouthSouthEast, SouthSouthWest, SouthWest, Step, West, WestNorthWest, WestSouthWest, [], along, and_from, and_left, and_right, any_range_true, ap, arith, bit_and, bit_or, eq-eqb, false, false_from_ne_true, false≢true, has_fairy, hops, is_ahead, is_lined, is_man, is_occupied, is_on_fairy_line, is_on_fairy_line_at, is_square, joined, king_square, knight_steps, list_any, man_on, may_stand_between, not, not_zero, or_cases, or_left, or_parts, or_right, other, place, queen_steps, ray, refl, rides, rules, some_square, some_square_false, some_square_true, squares_both, squares_of, squares_same, step_of, sym, true, word, word_empty, ℕ, ◌&&◌, ◌-◌, ◌<◌, ◌==◌, ◌||◌, ◌∙◌, ◌∷◌, ◌≡◌, ◌≤◌, ◌⊎◌}
 use Rattle.chess_rules.proofs.rays.Ahead.{ordered}
 use Rattle.chess_rules.proofs.attacks.Attacking.{some_square_same}
 use Rattle.chess_rules.proofs.rays.Ends.{back, mirrored, square_is, stays}
@@ -146,7 +146,7 @@ pub fairy_lines_are : (men : List (Option Man)) (c : Colour) (k w n : ℕ) → k
     → w ≡ word (λ t. list_any (is_lined men (other c) Grasshopper k t) queen_steps)
     → n ≡ word (λ t. list_any (is_lined men (other c) Nightrider k t) knight_steps) → bit_or w n ≡ word (may_stand_between men c)
 unfolding may_stand_between is_on_fairy_line
-fairy_lines_are men c k w n at h i = search (rules, squares_either, squares_same, at, h, i)
+fairy_lines_are men c k w n at h i = joined _ _ _ _ h i ∙ squares_same _ _ (λ t less. ap (λ (o : Option ℕ). is_on_fairy_line_at men o c t) (sym at))
 
 -- the word of the men of a colour and kind, told by a test
 pub man_test : (men : List (Option Man)) (e : Colour) (j : Kind) (w : ℕ) → w ≡ squares_of men e j → w ≡ word (λ q. is_man (man_on men q) e j)

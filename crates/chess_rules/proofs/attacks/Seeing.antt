@@ -1,9 +1,6 @@
 -- The men that an attack sees once a move is made.
-use Rattle.chess_rules.proofs.Chess.{AreSeen, Bool, Colour, Kind, King, List, Man, None, Option, Some, and_left, ap, arith, bit_and, bit_not, cases_Bool, cases_eq, differs, eq-eqb, eqb-true, every_square, false, false≢true, is_man, is_of_colour, is_some, is_square, king_square, length, man_on, man_on-with_other, man_on-without_other, man_on-without_same, not, or_cases, or_parts, or_right, other, refl, rules, same_colour, sight_after, squares, squares_both, squares_either, squares_not, squares_of, squares_same, true, w64, with_man, without_at, without_man, word, ℕ, ◌&&◌, ◌<◌, ◌||◌, ◌∙◌, ◌≡◌, ◌≢◌}
+use Rattle.chess_rules.proofs.Chess.{AreSeen, Bool, Colour, Kind, King, List, Man, None, Option, Some, and_left, ap, arith, bit_and, bit_not, cases_Bool, cases_eq, differs, eq-eqb, eqb-true, every_square, false, false≢true, is_man, is_of_colour, is_some, is_square, joined, king_square, length, man_on, man_on-with_other, man_on-without_other, man_on-without_same, not, or_cases, or_parts, or_right, other, refl, rules, same_colour, shared, sight_after, squares, squares_either, squares_not, squares_of, squares_same, true, w64, with_man, without_at, without_man, word, ℕ, ◌&&◌, ◌<◌, ◌||◌, ◌∙◌, ◌≡◌, ◌≢◌}
 use Rattle.chess_rules.proofs.making_moves.Plays.{stays_empty}
-
-and_true : (a : Bool) → (a && true) ≡ a
-and_true a = grind arith
 
 -- a man stands on s once the man on a is gone, that on o too, and one has come to b
 abbrev pub is_occupied_after : List (Option Man) → ℕ → Option ℕ → ℕ → ℕ → Bool
@@ -12,13 +9,11 @@ is_occupied_after men a o b s = (is_some (man_on men s) && not (is_square (Some 
 -- all men of the board
 pub seen_now : (men : List (Option Man)) (c : Colour) (k : Kind) → bit_and (squares_of men c k) (bit_not w64 0) ≡ squares_of men c k
 unfolding squares_of
-seen_now men c k =
-    ap (bit_and (word (λ s. is_man (man_on men s) c k))) (every_square (λ s. true) (λ s b. refl)) ∙ squares_both (λ s. is_man (man_on men s) c k) (λ s. true)
-    ∙ squares_same _ _ (λ s b. and_true (is_man (man_on men s) c k))
+seen_now men c k = shared _ _ _ _ refl (every_square (λ s. true) (λ s b. refl)) ∙ squares_same _ _ (λ s b. grind arith)
 
 -- the words after a move, by tests
 pub occupied_words : (men : List (Option Man)) (a : ℕ) (o : Option ℕ) (b : ℕ) → (sight_after men a o b).occupied ≡ word (is_occupied_after men a o b)
-occupied_words men a o b = search (rules, squares_both, squares_either, squares_not)
+occupied_words men a o b = joined _ _ _ _ (shared _ _ _ _ refl (ap (bit_not w64) (squares_either _ _) ∙ squares_not _)) refl
 
 -- the men once z has come from a to b and the man on o is gone
 abbrev pub gone_to : List (Option Man) → ℕ → Option ℕ → ℕ → Man → List (Option Man)
@@ -69,7 +64,10 @@ enemy_now men a o b z c k q i =
 pub seen_after : (men : List (Option Man)) (a : ℕ) (o : Option ℕ) (b : ℕ) (z : Man) (c : Colour) → IsCapture men a o b z c
     → AreSeen men (gone_to men a o b z) (other c) (sight_after men a o b)
 unfolding squares_of
-seen_after men a o b z c i = search (rules, enemy_now, occupied_now, occupied_words, squares_both, squares_not, squares_same)
+seen_after men a o b z c i = record {
+  occupied = occupied_words men a o b ∙ squares_same _ _ (λ q less. occupied_now men a o b z q i.small);
+  standing = λ k. shared _ _ _ _ refl (squares_not (is_square o)) ∙ squares_same _ _ (λ q less. enemy_now men a o b z c k q i);
+}
 
 -- no king goes, arrives, or is captured
 pub record IsNoKing (men : List (Option Man)) (a : ℕ) (o : Option ℕ) (b : ℕ) (z : Man) (c : Colour) : Type 0 where

@@ -1,7 +1,8 @@
 -- A check that isn't met stays.
-use Rattle.chess_rules.proofs.Chess.{AreEvasions, AtMostOneKing, Bool, Colour, IsNoEvasion, IsWellFormed, Kind, King, List, Man, Move, Option, Position, Queen, RuleSet, Some, Step, and_from, and_parts, and_right, ap, arith, arriving_man, bit_and, bit_at, bit_or, capture_square, cases_eq, cond-false, eq-eqb, faced_men_stand_still, faces, faces_its_like, false, false≢true, find_first, first_of_and, has_fairy_lines, has_fairy_lines_of, in_check, is_attacked, is_attacker, is_checker, is_man, is_of_colour, is_paralysed, is_plain, is_pseudo_legal, is_square, is_vacant_at, king_square, list_any, list_any-append, man_on, may_be_paralysed, may_paralyse_anew, not-true, or_left, or_parts, or_right, other, position_after, queen_steps, reaches, reaches_as, rides, rules, same_colour, same_kind, second_fails, second_of_and, some_square, some_square_false, some_square_true, squares, squares_both, squares_either, subst, true, word, word_has, ℕ, ◌&&◌, ◌<◌, ◌==◌, ◌∙◌, ◌≡◌, ◌≢◌}
+use Rattle.chess_rules.proofs.Chess.{AreEvasions, AtMostOneKing, Bool, Colour, IsNoEvasion, IsWellFormed, Kind, King, List, Man, Move, Option, Position, Queen, RuleSet, Some, Step, and_from, and_parts, and_right, ap, arith, arriving_man, bit_and, bit_at, bit_not, bit_or, capture_square, cases_eq, cond-false, eq-eqb, faced_men_stand_still, faces, faces_its_like, false, false≢true, find_first, first_of_and, has_fairy_lines, has_fairy_lines_of, in_check, is_attacked, is_attacker, is_checker, is_man, is_of_colour, is_paralysed, is_plain, is_pseudo_legal, is_square, is_vacant_at, king_square, list_any, list_any-append, man_on, may_be_paralysed, may_paralyse_anew, not-true, or_left, or_parts, or_right, other, position_after, queen_steps, reaches, reaches_as, rides, rules, same_colour, same_kind, second_fails, second_of_and, some_square, some_square_false, some_square_true, squares, squares_both, squares_either, subst, sym, true, w64, word, word_has, ℕ, ◌&&◌, ◌<◌, ◌==◌, ◌∙◌, ◌≡◌, ◌≢◌}
 use Rattle.chess_rules.proofs.attacks.Shielding.{IsPlain, IsShift, arrived_shift, king_is, man_there, men_after, other_differs}
 use Rattle.chess_rules.proofs.attacks.Exposing.{free_of_own}
+use Rattle.chess_rules.proofs.listing_moves.Targeting.{every_square_on}
 use Rattle.chess_rules.proofs.making_moves.Fits.{arrived}
 use Rattle.chess_rules.proofs.rays.Flips.{backward, opposed, rides_turned}
 use Rattle.chess_rules.proofs.rays.Parting.{line_open}
@@ -97,6 +98,10 @@ check_stays rule p x m well may here small plain piece none u =
       enemy = λ s side. search (rules, is.mine, other_differs, false≢true);
       same = λ stands. grind (arith, stands, none, here);
     }) u
+
+-- where no check is seen, all squares
+pub evasion_squares_all : (rule : RuleSet) (men : List (Option Man)) (c : Colour) → AreEvasions rule men c (bit_not w64 0)
+evasion_squares_all rule men c = record { elsewhere = λ t lt off. absurd (false≢true (sym off ∙ every_square_on t lt)) }
 
 -- the squares that meet one check
 pub evasion_squares_one : (rule : RuleSet) (men : List (Option Man)) (c : Colour) (k s w n r t : ℕ) → king_square men c ≡ Some k

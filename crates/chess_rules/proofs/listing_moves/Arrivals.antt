@@ -1,12 +1,12 @@
 -- The words of the squares to which a man may go.
-use Rattle.chess_rules.proofs.Chess.{Black, Bool, Colour, IsAimed, IsFirst, Kind, King, List, Man, Move, None, Option, Pawn, Position, RuleSet, Some, White, agree_below_at, along, and_from, and_left, and_parts, ap, arith, bit_and, bit_at, bit_not, bit_or, can_go, cases_Bool, cond-false, cond-true, eqb-true, false, false≢true, find, find_no, forward, has_unmoved, inl, inr, is_advance, is_arrival, is_arrival_free, is_arrival_of, is_paralysed, is_pseudo_legal, is_some, is_square, leaps, list_any, man_on, may_go, may_promote, not, not-true, or_cases, or_left, or_right, other, pawn_goes, queen_steps, range_with_len, rank_of, reaches, reaches_as, refl, rules, same_Bool, same_colour, same_kind, second_rank, side_of, squares_both, squares_either, squares_not, squares_of, squares_same, steps_to, sym, true, w64, word, word_empty, word_has, ℕ, ◌&&◌, ◌+◌, ◌/◌, ◌<◌, ◌==◌, ◌||◌, ◌∙◌, ◌≡◌}
+use Rattle.chess_rules.proofs.Chess.{Black, Bool, Colour, IsAimed, IsFirst, Kind, King, List, Man, Move, None, Option, Pawn, Position, RuleSet, Some, White, agree_below_at, along, and_from, and_left, and_parts, ap, arith, bit_and, bit_at, bit_not, bit_or, can_go, cases_Bool, cond-false, cond-true, eqb-true, false, false≢true, find, find_no, forward, has_unmoved, inl, inr, is_advance, is_arrival, is_arrival_free, is_arrival_of, is_paralysed, is_pseudo_legal, is_some, is_square, joined, leaps, list_any, man_on, may_go, may_promote, not, not-true, or_cases, or_left, or_right, other, pawn_goes, queen_steps, range_with_len, rank_of, reaches, reaches_as, refl, rules, same_Bool, same_colour, same_kind, second_rank, shared, side_of, squares_both, squares_not, squares_of, squares_same, steps_to, sym, true, w64, word, word_empty, word_has, ℕ, ◌&&◌, ◌+◌, ◌/◌, ◌<◌, ◌==◌, ◌||◌, ◌∙◌, ◌≡◌}
 use Rattle.chess_rules.proofs.making_moves.Pseudo.{king_is_no_pawn}
 
 -- the squares with neither a man of the mover nor an enemy king
 pub free_word : (men : List (Option Man)) (c : Colour) (a b : ℕ) → a ≡ side_of men c → b ≡ squares_of men (other c) King
     → bit_not w64 (bit_or a b) ≡ word (λ t. is_arrival_free c (man_on men t))
 unfolding side_of squares_of
-free_word men c a b h i = search (rules, squares_either, squares_not, squares_same, h, i)
+free_word men c a b h i = ap (bit_not w64) (joined _ _ _ _ h i) ∙ squares_not _ ∙ squares_same _ _ (λ t less. grind arith)
 
 -- a king that has moved doesn't castle
 pub castling_none : (u : Bool) (x : Man) (s : ℕ) → u ≡ false → 0 ≡ word (λ t. u && steps_to x s t)
@@ -109,13 +109,13 @@ pub pawn_ways : (p : Position) (x : Man) (s r o y g : ℕ) → same_kind x.kind 
     → o ≡ word (λ t. is_some (man_on p.men t)) → y ≡ word (λ t. is_square p.crossed t) → g ≡ word (pawn_goes p x s)
     → bit_or (bit_and r (bit_or o y)) g ≡ word (may_go p x s)
 unfolding may_go
-pawn_ways p x s r o y g pawn hr ho hy hg = search (rules, squares_either, squares_both, squares_same, cond-true, pawn, hr, ho, hy, hg)
+pawn_ways p x s r o y g pawn hr ho hy hg = joined _ _ _ _ (shared _ _ _ _ hr (joined _ _ _ _ ho hy)) hg ∙ squares_same _ _ (λ t b. sym (cond-true _ _ _ pawn))
 
 -- other men go where they reach, and an unmoved king two squares aside too
 pub other_ways : (p : Position) (x : Man) (s r g : ℕ) → same_kind x.kind Pawn ≡ false → r ≡ word (λ t. reaches_as p.men x.colour x.kind s t)
     → g ≡ word (λ t. has_unmoved p.unmoved s && steps_to x s t) → bit_or r g ≡ word (may_go p x s)
 unfolding may_go
-other_ways p x s r g none hr hg = search (rules, cond-false, squares_either, squares_same)
+other_ways p x s r g none hr hg = joined _ _ _ _ hr hg ∙ squares_same _ _ (λ t b. sym (cond-false _ _ _ none))
 
 -- the squares to which the man on a square may go
 pub arrivals_nobody : (rule : RuleSet) (p : Position) (s : ℕ) → man_on p.men s ≡ None → 0 ≡ word (is_arrival rule p s)
@@ -139,7 +139,7 @@ pub arrivals_some : (rule : RuleSet) (p : Position) (x : Man) (s f g : ℕ) → 
     → is_paralysed rule p.men s ≡ false → f ≡ word (λ t. is_arrival_free p.turn (man_on p.men t)) → g ≡ word (may_go p x s)
     → bit_and f g ≡ word (is_arrival rule p s)
 unfolding is_arrival
-arrivals_some rule p x s f g here mine free hf hg = search (rules, squares_both, squares_same)
+arrivals_some rule p x s f g here mine free hf hg = shared _ _ _ _ hf hg ∙ squares_same _ _ (λ t less. rw (here, mine, free) refl)
 
 -- a move that goes where its man may go
 pub may_go_aimed : (rule : RuleSet) (p : Position) (x : Man) (m : Move) → man_on p.men m.from ≡ Some x → is_arrival rule p m.from m.to ≡ true

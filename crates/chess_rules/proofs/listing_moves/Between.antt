@@ -37,7 +37,7 @@ between-none-is_legal rule p a b e =
 -- up to the first legal one, and where none is left before the end
 pub until-is_legal : (rule : RuleSet) (p : Position) (a n e : ℕ) → a ≤ n → n < e → n < all_triples → HaveNone (is_legal rule p) a n
     → is_legal rule p (triple_at n) ≡ true → moves_between rule p a e ≡ triple_at n ∷ moves_between rule p (n + 1) e
-until-is_legal rule p a n e low before fits none h = grind (arith, between-none-is_legal, between-here rule p n e fits before h)
+until-is_legal rule p a n e low before fits none h = between-none-is_legal rule p a n e (λ _. low) (omega arith) none ∙ between-here rule p n e fits before h
 
 -- where the walk gets to the end without one, no move lies before it
 pub until-end : (rule : RuleSet) (p : Position) (a n e : ℕ) → n ≤ all_triples → n ≤ e → (n < all_triples → e ≤ n) → HaveNone (is_legal rule p) a n

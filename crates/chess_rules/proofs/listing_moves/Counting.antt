@@ -55,6 +55,10 @@ module _ (rule : RuleSet) (p : Position) where
   pub none_left : (a e : ℕ) → e ≤ a → between a e ≡ 0
   none_left a e le = ap length (between-none rule p a e le)
 
+  -- over a stretch without moves there are as many
+  count_over : (a b e : ℕ) → a ≤ b → b ≤ all_triples → HaveNone (is_legal rule p) a b → between a e ≡ between b e
+  count_over a b e lo hi none = ap length (between-none-is_legal rule p a b e (λ less. lo) hi none)
+
   -- where no move was taken yet
   pub counted_none : (start rest count : ℕ) → IsWalked (is_legal rule p) start rest → count ≡ 0 → IsCounted rule p start rest count
   counted_none start rest count w none = record {
@@ -98,12 +102,12 @@ module _ (rule : RuleSet) (p : Position) where
   counted_all start rest count h none =
       let free = walk_before (is_legal rule p) h.reached rest 64 all_triples h.walked (λ t lt. rw none (off_zero t)) (omega arith) (omega arith) in
       let cut = count_cut start in
-      grind (arith, cases_lt h.reached all_triples, cut h.reached all_triples, cut all_triples h.reached, between-none-is_legal, none_left, free, between-past)
+      grind (arith, cases_lt, cut h.reached all_triples, cut all_triples h.reached, none_left, count_over h.reached all_triples, free, between-past)
 
   module _ (s w : ℕ) (small : s < 64) (are : AreCandidates rule p (is_legal rule p) s w) where
     -- triples that are no moves don't count
     pub count_barren : (a b e : ℕ) → a ≤ b → b ≤ per_origin → IsBarrenFrom p s w a b → between (per_origin * s + a) e ≡ between (per_origin * s + b) e
-    count_barren a b e lo hi h = grind (arith, between-none-is_legal, none-from, is_legal-idle)
+    count_barren a b e lo hi h = count_over _ _ e (omega arith) (omega arith) (none-from rule p (is_legal rule p) (is_legal-idle rule p) s w a b hi are h)
 
     -- one that is a move counts once
     pub count_here : (a n e : ℕ) (legal : Bool) → a < per_origin → n ≡ per_origin * s + a → n < e → is_legal rule p (triple_at n) ≡ legal
@@ -114,11 +118,11 @@ module _ (rule : RuleSet) (p : Position) where
       -- up to a square before which the rest has none
       skip : (b : ℕ) → ((t : ℕ) → t < b → (bit_at rest t == 1) ≡ false) → b ≤ 64 → h.at ≤ per_arrival * b
           → between (per_origin * s + h.at) (per_origin * s + end) ≡ between (per_origin * s + per_arrival * b) (per_origin * s + end)
-      skip b off small le =
+      skip b off fits le =
           let passing : AreCandidates rule p (passes_to w (is_legal rule p)) s w = record { inside = are.inside; outside = λ m at to out. grind (arith, out) } in
           let plain = none-plain rule p (is_legal rule p) (is_legal-idle rule p) s w rest h.at b (per_arrival * b) passing none
-          (λ t lt on out from. grind (arith, h.left t lt)) off (omega arith) small in
-          grind (arith, between-none-is_legal, none-to rule p (is_legal rule p) (is_legal rule p) s w h.at (per_arrival * b), are, plain)
+          (λ t lt on out from. grind (arith, h.left t lt)) off (omega arith) fits in
+          count_over _ _ _ (omega arith) (omega arith) (none-to _ _ _ _ s w h.at (per_arrival * b) (omega arith) are (λ m off. off) plain)
 
       -- up to the end
       pub counted_end : (b : ℕ) → ((t : ℕ) → t < b → (bit_at rest t == 1) ≡ false) → b ≤ 64 → end ≤ per_arrival * b
@@ -182,6 +186,3 @@ module _ (rule : RuleSet) (p : Position) where
       -- those of a whole origin are all of them
       pub count_whole : (a b : ℕ) → w < 2 ^ 64 → a ≡ 0 → b ≡ per_origin → between (per_origin * s + a) (per_origin * s + b) ≡ count_ones w
       count_whole a b fits first last = grind (arith, count_by_word a b, none_from w 64 fits)
-
--- for that from triple to triple
-pub ruleset by_triples = (count_barren, count_here, few_between, none_left)

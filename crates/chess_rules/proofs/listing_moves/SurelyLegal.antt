@@ -1,5 +1,5 @@
 -- Moves that are legal without a look.
-use Rattle.chess_rules.proofs.Chess.{AreCandidates, AreLegal, Bool, IsAimed, IsWellFormed, King, Man, Move, None, Pawn, Position, RuleSet, Some, and_from, and_left, arith, bit_and, bit_at, bit_or, cannot_expose, captures_do_more, eqb-true, false, if◌then◌else◌, is_legal, is_plain, is_promoting, is_some, is_square, is_unsure, last_rank, man_on, may_expose, may_stand_between, or_parts, rank_of, refl, rules, same_kind, squares_either, squares_same, sym, true, word, word_empty, word_has, ℕ, ◌&&◌, ◌<◌, ◌==◌, ◌∙◌, ◌≡◌}
+use Rattle.chess_rules.proofs.Chess.{AreCandidates, AreLegal, Bool, IsAimed, IsWellFormed, King, Man, Move, None, Pawn, Position, RuleSet, Some, and_from, and_left, arith, bit_and, bit_at, bit_or, cannot_expose, captures_do_more, eqb-true, false, if◌then◌else◌, is_legal, is_plain, is_promoting, is_some, is_square, is_unsure, joined, last_rank, man_on, may_expose, may_stand_between, or_parts, rank_of, refl, rules, same_kind, squares_same, sym, true, word, word_empty, word_has, ℕ, ◌&&◌, ◌<◌, ◌==◌, ◌∙◌, ◌≡◌}
 use Rattle.chess_rules.proofs.attacks.Shielding.{cannot_expose_own}
 use Rattle.chess_rules.proofs.listing_moves.Arrivals.{aimed_plain, goes_on, may_go_aimed}
 use Rattle.chess_rules.proofs.listing_moves.Targeting.{no_pawn_arrives}
@@ -40,7 +40,7 @@ pub unsure_word : (rule : RuleSet) (p : Position) (x : Man) (f c r l : ℕ) → 
     → r ≡ (if captures_do_more rule then word (λ t. is_some (man_on p.men t)) else 0) → l ≡ word (is_promoting x)
     → bit_or (bit_or (bit_or f c) r) l ≡ word (is_unsure rule p x)
 unfolding is_unsure
-unsure_word rule p x f c r l hf hc hr hl = search (rules, reborn_word, squares_either)
+unsure_word rule p x f c r l hf hc hr hl = joined _ _ _ _ (joined _ _ _ _ (joined _ _ _ _ hf hc) (hr ∙ reborn_word _ _)) hl
 
 -- the squares on which a pawn is promoted
 pub promoting_word : (x : Man) (n : ℕ) → same_kind x.kind Pawn ≡ true → n ≡ word (λ t. rank_of t == last_rank x.colour) → n ≡ word (is_promoting x)

@@ -138,7 +138,8 @@ from-target p s start at t w past f = search rules
 pub from-first : (p : Position) (x : Man) (s start at t w n : ℕ) → man_on p.men s ≡ Some x → IsBarrenFrom p s w start at
     → find (λ q. bit_at w q == 1) (range_with_len (at / per_arrival) (64 - at / per_arrival)) ≡ Some t → is_promoting x t ≡ true → n ≡ per_arrival * t
     → IsBarrenFrom p s w start (n + 1)
-from-first p x s start at t w n here past found last e = search (rules, from-join, from-target p s start, find_first, from-promoted p x s w t here last)
+from-first p x s start at t w n here past found last e =
+    from-join p s w start (per_arrival * t) (n + 1) (from-target p s start at t w past (find_first _ _ _ t found)) (rw e (from-promoted p x s w t here last))
 
 -- up to the end, where there is none
 pub from-none : (p : Position) (s start at w : ℕ) → IsBarrenFrom p s w start at

@@ -86,7 +86,7 @@ module _ (test : Move → Bool) where
   unfolding triple_at
   walk_begins start o rest own from = record {
     ahead = λ s small on. grind (arith, from s small);
-    none = λ k lo hi off. grind (arith, from (k / per_origin), own.elsewhere (triple_at k));
+    none = λ k lo hi off. own.elsewhere (triple_at k) (omega (arith, hi)) (omega arith) (grind (arith, from (k / per_origin)));
   }
 
   -- up to the next origin, or to the end, where there is none

@@ -110,7 +110,8 @@ corner_stays p x m piece castle = grind (arith, arrived_other p x m (corner m), 
 
 rook_can_castle : (rule : RuleSet) (p : Position) (x : Man) (m : Move) → IsWellFormed p → IsMade rule p x m → is_castling x m ≡ true
     → CanCastle (arrived p x m) (corner m) (halfway m)
-rook_can_castle rule p x m well made castling = search (rules, castle_of, corner_stays, man_on-without_none, stays_empty)
+rook_can_castle rule p x m well made castling =
+    let castle = castle_of rule p x m well made castling in search (rules, castle, corner_stays, man_on-without_none, stays_empty)
 
 -- a move that may be made can be made on the board, man by man
 pub can_move : (rule : RuleSet) (p : Position) (x : Man) (m : Move) → IsWellFormed p → IsMade rule p x m → CanMove p x m

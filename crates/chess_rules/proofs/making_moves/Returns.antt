@@ -72,7 +72,9 @@ castle_back : (rule : RuleSet) (p : Position) (x : Man) (m : Move) → IsWellFor
     → CanCastle (moved_men p x m) (halfway m) (corner m)
 unfolding moved_men
 castle_back rule p x m well made e =
-    grind (arith, can_move, castle_of, corner_stays, length-set, length-without_at, lift_after_place, man_on-with_same, man_on-without_same, rook_stands)
+    let castle = castle_of rule p x m well made e in
+    let fits = can_move rule p x m well made in
+    grind (arith, fits, castle, corner_stays p x m, length-set, length-without_at, lift_after_place, man_on-with_same, man_on-without_same, rook_stands)
 
 -- the men that a move leaves on the board
 ruleset board_after = (arrived_there, capture_clears, castle_back, lift_after_place, man_on-without_same, returns_there, uncastles)

@@ -8,7 +8,7 @@ further f j i r l on = search rules
 -- j steps and then i steps
 pub onward : (s b : ℕ) (d : Step) (j i : ℕ) → along s d j ≡ Some b → along b d i ≡ along s d (j + i)
 unfolding along
-onward s b d j i h = search (rules, placed_from)
+onward s b d j i h = grind (arith, placed_from, further)
 
 -- between two files or ranks of the board lie others of it
 within : (f k i r l : ℕ) → 1 ≤ f → f ≤ 8 → i ≤ k → 1 ≤ f + k * r - k * l → f + k * r - k * l ≤ 8 → (1 ≤ f + i * r - i * l) × (f + i * r - i * l ≤ 8)

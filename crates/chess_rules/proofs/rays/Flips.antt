@@ -39,7 +39,7 @@ rides_turned ds men s t o p q = flip ds ds (rides men s t) (rides men t s) o o (
 
 leaps_turned : (xs ds : List Step) (s t : ℕ) → opposed xs ds ≡ true → opposed ds xs ≡ true → s < 64 → t < 64 → list_any (leaps s t) xs ≡ list_any (leaps t s) ds
 unfolding leaps
-leaps_turned xs ds s t there here p q = search (rules, back, flip, return_square, same_Bool)
+leaps_turned xs ds s t there here p q = search (rules, flip, return_square, same_Bool)
 
 -- a queen rides from s to t exactly if one rides from t to s
 pub queen_rides-back : (men : List (Option Man)) (s t : ℕ) → s < 64 → t < 64 → list_any (rides men s t) queen_steps ≡ list_any (rides men t s) queen_steps

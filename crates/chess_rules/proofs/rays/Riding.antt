@@ -3,7 +3,7 @@ use Rattle.std.proofs.lemmas.Nat.Bits.{same_from_bits}
 use Rattle.std.specs.Int.Bits.{or_zero_r}
 use Rattle.chess_rules.proofs.HoldTaken.{none_passes, some_taken}
 use Rattle.chess_rules.specs.ties.Taking.{IsTaken}
-use Rattle.chess_rules.proofs.Chess.{AreRides, Bool, Colour, Kind, List, Man, Option, Queen, Step, ap, arith, bit_and, bit_at, bit_at-zero, bit_at_or, bit_or, is_behind, is_line_rider, is_met, is_on_some, is_shut, list_any, rides, rules, some_square, some_square_false, squares_both, squares_either, squares_of, squares_same, sym, word, word_empty, word_has, ℕ, ◌&&◌, ◌==◌, ◌∙◌, ◌≡◌}
+use Rattle.chess_rules.proofs.Chess.{AreRides, Bool, Colour, Kind, List, Man, Option, Queen, Step, ap, arith, bit_and, bit_at, bit_at-zero, bit_at_or, bit_or, is_behind, is_line_rider, is_met, is_on_some, is_shut, list_any, rides, rules, shared, some_square, some_square_false, squares_both, squares_either, squares_of, squares_same, sym, word, word_empty, word_has, ℕ, ◌&&◌, ◌==◌, ◌∙◌, ◌≡◌}
 use Rattle.chess_rules.proofs.attacks.Attacking.{met, met_none, some_square_same}
 
 -- the squares to which one of the riders on a word's squares gets
@@ -31,7 +31,7 @@ ridden_all men ds rest r w none h =
 pub riders_are : (men : List (Option Man)) (e : Colour) (j : Kind) (ds : List Step) (k r l : ℕ) → r ≡ bit_or (squares_of men e j) (squares_of men e Queen)
     → l ≡ word (is_on_some ds k) → bit_and r l ≡ word (is_line_rider men e j ds k)
 unfolding squares_of
-riders_are men e j ds k r l h g = search (rules, squares_both, squares_either)
+riders_are men e j ds k r l h g = shared _ _ _ _ (h ∙ squares_either _ _) g
 
 -- without such riders no square shuts a line
 pub none_shut : (men : List (Option Man)) (e : Colour) (j : Kind) (ds : List Step) (k w : ℕ) → w ≡ word (is_line_rider men e j ds k) → w ≡ 0

@@ -1,5 +1,5 @@
 -- A ride: the line as far as the first man on it.
-use Rattle.chess_rules.proofs.Chess.{Bool, IsStop, IsUpTo, List, Man, Option, Some, Step, along, and_from, any_range_cases, any_range_false, any_range_true, ap, arith, bit_and, bit_at, cases_lt, eq-eqb, eqb-true, false, false_from_ne_true, false≢true, first_of_and, inl, inr, is_ahead, is_some, is_square, is_vacant_at, le-leb, leb-true, man_on, not, passing_order_by, place, ray, refl, rides, rises, rules, same_Bool, second_of_and, squares_both, squares_same, sym, true, word, word_has, ℕ, ◌&&◌, ◌<◌, ◌∙◌, ◌≡◌, ◌≤◌}
+use Rattle.chess_rules.proofs.Chess.{Bool, IsStop, IsUpTo, List, Man, Option, Some, Step, along, and_from, any_range_cases, any_range_false, any_range_true, ap, arith, bit_and, bit_at, cases_lt, eq-eqb, eqb-true, false, false_from_ne_true, false≢true, first_of_and, inl, inr, is_ahead, is_some, is_square, is_vacant_at, le-leb, leb-true, man_on, not, passing_order_by, place, ray, refl, rides, rises, same_Bool, second_of_and, shared, squares_both, squares_same, sym, true, word, word_has, ℕ, ◌&&◌, ◌<◌, ◌∙◌, ◌≡◌, ◌≤◌}
 use Rattle.chess_rules.proofs.rays.Ahead.{Ordered, earlier, passes}
 use Rattle.chess_rules.proofs.rays.Ends.{square_is}
 use Rattle.std.specs.Prelude.{nat_le}
@@ -94,4 +94,5 @@ ridden men s d b t line stop p q =
 pub ride_is : (men : List (Option Man)) (s : ℕ) (d : Step) (r o n : ℕ) → Ordered d → s < 64 → r ≡ ray s d → o ≡ word (λ q. is_some (man_on men q))
     → IsUpTo d (bit_and r o) n → bit_and r n ≡ word (λ t. rides men s t d)
 unfolding ray
-ride_is men s d r o n line p h held first = search (rules, squares_both, squares_same, ridden, stops, line, p, h, held, first.stop, first.squares)
+ride_is men s d r o n line p h held first =
+    shared _ _ _ _ h first.squares ∙ squares_same _ _ (λ t q. ridden men s d _ t line (stops men s d r o _ h held first.stop) p q)

@@ -1,5 +1,5 @@
 use Rattle.chess_rules.proofs.Chess.{and_left, arith, per_origin, refl, rules, ◌*◌, ◌∙◌, ◌≡◌}
-use Rattle.chess_rules.proofs.listing_moves.Counting.{counted_all, counted_none, counted_on, counted_to}
+use Rattle.chess_rules.proofs.listing_moves.Counting.{counted_all, counted_none, counted_on, counted_to, few_between}
 use Rattle.chess_rules.proofs.listing_moves.Sifting.{wanted_origins}
 use Rattle.chess_rules.proofs.listing_moves.Walks.{none-to, walk_begins, walk_on, walk_to}
 use Rattle.chess_rules.proofs.sift.next_left.Goals as goal
@@ -7,7 +7,7 @@ use Rattle.chess_rules.proofs.sift.next_left.Goals as goal
 pub loop-from-init : goal.loop-from-init
 loop-from-init g c =
     let own = wanted_origins _ _ (g.S.Sift.test g.R.Rules.rule c.args.board.now) _ c.own_origins-origins.ensures in
-    search (rules, counted_none, walk_begins, own)
+    record { board = refl; same = refl; none = search (rules, walk_begins, own); passed = search (rules, counted_none, walk_begins) }
 
 pub returns-then-at-lt-PER_ORIGIN-clause-passed : goal.returns-then-at-lt-PER_ORIGIN-clause-passed
 returns-then-at-lt-PER_ORIGIN-clause-passed g c =
@@ -41,3 +41,6 @@ loop-from-preserved g c =
 
 pub returns-clause-passed : goal.returns-clause-passed
 returns-clause-passed g c = counted_all _ _ _ _ _ c.loop-from.invariant.passed (c.in_default.ensures.none refl)
+
+pub overflow_add-passed : goal.overflow_add-passed
+overflow_add-passed g c = grind (arith, few_between)
