@@ -85,10 +85,7 @@ module _ (rule : RuleSet) (p : Position) (m : Move) (x : Man) (v : Siege) (k : �
 
   -- an enemy stood there before
   enemy_stood : (s : ℕ) (z : Man) → man_on q.men s ≡ Some z → z.colour ≡ other p.turn → man_on p.men s ≡ Some z
-  enemy_stood s z there enemy = elim (stood_q s z there) [
-    | inl came ↦ absurd (one_side z p.turn enemy (rw came.1 (arriving_colour x m.promo ∙ is.mine)))
-    | inr kept ↦ kept.1.1
-  ]
+  enemy_stood s z there enemy = search (rules, stood_q s z there, one_side z p.turn enemy, arriving_colour x m.promo ∙ is.mine)
 
   attacker : (s : ℕ) (z : Man) → s < 64 → man_on q.men s ≡ Some z → z.colour ≡ other p.turn → IsAttacker v.men z s
   attacker s z inside there enemy = i.fits.men.stand s z inside (enemy_stood s z there enemy) (enemy ∙ sym i.fits.colour)
@@ -103,8 +100,7 @@ module _ (rule : RuleSet) (p : Position) (m : Move) (x : Man) (v : Siege) (k : �
   -- a hurdle stays occupied
   stays_q : (e : ℕ) → e < 64 → (bit_at v.hurdles e == 1) ≡ true → e ≢ m.from → is_some (man_on q.men e) ≡ true
   stays_q e inside on left =
-      let side : (bit_at v.own e == 1 || bit_at v.enemies e == 1) ≡ true =
-      elim (i.siege.hurdles.men e inside on).0 [ inl h ↦ or_left _ _ h | inr h ↦ or_right _ _ h ] in
+      let side : (bit_at v.own e == 1 || bit_at v.enemies e == 1) ≡ true = search (rules, or_left, or_right, (i.siege.hurdles.men e inside on).0) in
       rw men_q (some_stays p x m e i.plain.captures (omega (arith, small, well.size)) left (somebody e inside ∙ side))
 
   at_k : k < 64
@@ -244,10 +240,7 @@ module _ (rule : RuleSet) (p : Position) (m : Move) (x : Man) (v : Siege) (k : �
     ])
 
     captures_q : (s : ℕ) → capture_square q y n ≡ Some s → s ≡ n.to
-    captures_q s cap = elim (cases_Bool (same_kind y.kind Pawn)) [
-      | inl pawn ↦ captured_there q y n s (uncrossed pawn) cap
-      | inr piece ↦ capture_of_piece q y n s piece cap
-    ]
+    captures_q s cap = search (rules, cases_Bool (same_kind y.kind Pawn), captured_there q y n s, capture_of_piece q y n s, uncrossed)
 
     module _ (plain_n : is_castling y n ≡ false) where
       abbrev r : Position
@@ -319,14 +312,11 @@ module _ (rule : RuleSet) (p : Position) (m : Move) (x : Man) (v : Siege) (k : �
           (elim (same_or_new k) [ inl same ↦ rw same there | inr new ↦ absurd (false≢true (rw new.0 at there)) ])
 
       stood_r : (s : ℕ) (z : Man) → man_on r.men s ≡ Some z → Stood s z ⊎ ((z.colour ≡ p.turn) × IsNew s)
-      stood_r s z there = elim (same_or_new s) [
-        | inl same ↦ inl (stood q y n s z (omega (arith, to, well_q.size)) (sym same ∙ there))
-        | inr new ↦ inr (rw (same_man _ _ (sym there ∙ new.1.1.0)) new.1.1.1.0, new.1.1.1.1)
-      ]
+      stood_r s z there = search (rules, same_or_new s, stood q y n s z (omega (arith, to, well_q.size)), same_man)
 
       -- of the attackers nobody is new
       enemy_r : (s : ℕ) (z : Man) → man_on r.men s ≡ Some z → z.colour ≡ other p.turn → Stood s z
-      enemy_r s z there enemy = elim (stood_r s z there) [ inl old ↦ old | inr new ↦ absurd (one_side z p.turn enemy new.0) ]
+      enemy_r s z there enemy = search (rules, stood_r s z there, one_side z p.turn enemy)
 
       -- he comes over the hurdles, to another attacker's square only if that one has been captured
       arrival : IsArrival v.hurdles y n.from n.to
@@ -388,14 +378,7 @@ module _ (rule : RuleSet) (p : Position) (m : Move) (x : Man) (v : Siege) (k : �
           → man_on r.men h ≡ Some z → ⊥
       stands_r boards h z free on low apart before last there = elim (stood_r h z there) [
         | inr new ↦ false≢true (sym (free.closed h on low apart) ∙ new.1.0)
-        | inl old ↦ elim old [
-          | inl came ↦ last came.0
-          | inr kept ↦ elim (stood_q h z kept.1.1) [
-            | inl came ↦ before came.0
-            | inr stays ↦
-                false≢true (sym (rw (free.own h on low apart, free.enemies h on low apart) at (somebody h low)) ∙ ap is_some stays.1.1)
-          ]
-        ]
+        | inl old ↦ search (rules, old, before, last, stood_q h z, somebody h low, free.own h on low apart, free.enemies h on low apart, false≢true)
       ]
 
       -- whoever stands elsewhere than where the two came stands on a later hurdle
@@ -418,7 +401,8 @@ module _ (rule : RuleSet) (p : Position) (m : Move) (x : Man) (v : Siege) (k : �
           let on = u.within b.square b.on in
           let at = stand b.square y.0 b.apart y.1 in
           let critical = i.at.hops m.to small i.off.critical in
-          stands_r u.springboards b.square y.0 u.free b.on b.small at.0 (λ e. false≢true (sym (critical (λ king. at.0 (e ∙ king ∙ i.at.king))) ∙ rw e at (hops b.square on)))
+          stands_r u.springboards b.square y.0 u.free b.on b.small at.0
+          (λ e. false≢true (sym (critical (λ king. at.0 (e ∙ king ∙ i.at.king))) ∙ rw e at (hops b.square on)))
           (λ e. false≢true (sym off ∙ rw e at on)) at.1)
 
       -- kings stay apart
@@ -504,11 +488,7 @@ module _ (rule : RuleSet) (p : Position) (m : Move) (x : Man) (v : Siege) (k : �
 
         -- who stands there stood there before
         stood_f : (z : Man) → man_on r.men f ≡ Some z → man_on p.men f ≡ Some z
-        stood_f z e = elim (stood_r f z e) [
-          | inr new ↦ absurd (false≢true (sym open_f ∙ new.1.0))
-          | inl (inl came) ↦ absurd (flight.left.off came.0)
-          | inl (inr kept) ↦ elim (stood_q f z kept.1.1) [ inl came ↦ absurd (flight.left.elsewhere came.0) | inr stays ↦ stays.1.1 ]
-        ]
+        stood_f z e = search (rules, stood_r f z e, stood_q f z, open_f, flight.left.off, flight.left.elsewhere, false≢true)
 
         left_flees : has_flight rule r ≡ true
         left_flees =
@@ -563,20 +543,13 @@ module _ (rule : RuleSet) (p : Position) (m : Move) (x : Man) (v : Siege) (k : �
       ]
 
     unmated : mates rule q n ≡ false
-    unmated = elim (cases_Bool (is_castling y n)) [
-      | inr plain ↦ unmated_plainly plain
-      | inl castling ↦ sym (no_mate_quietly rule q n (λ lawful. ap (in_check rule (position_after rule q n).men) (ap other turn_q ∙ other_twice p.turn)
-          ∙ castled castling lawful))
-    ]
+    unmated = search (rules, cases_Bool (is_castling y n), no_mate_quietly, castled, unmated_plainly, turn_q, other_twice)
 
   -- for each way of the defender
   pub no_mate_behind : mates_behind rule q 0 ≡ []
   no_mate_behind =
       mates_behind-none rule q 0 all_triples (λ lt. omega arith) (omega arith) (record {
-        fails = λ j lo hi. elim (cases_Bool (is_pseudo_legal rule q (triple_at j))) [
-          | inl can ↦ unmated (triple_at j) (arrival_small j) can
-          | inr idle ↦ not_mating rule q (triple_at j) idle
-        ];
+        fails = λ j lo hi. search (rules, cases_Bool, unmated, arrival_small, not_mating);
       })
       ∙ mates_behind-end rule q all_triples (omega arith)
 
