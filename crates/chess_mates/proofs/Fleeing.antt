@@ -15,7 +15,10 @@ flight_there : (rule : RuleSet) (p : Position) → has_flight rule p ≡ true �
 unfolding has_flight is_flight some_square squares
 flight_there rule p h =
     let flight = is_flight_at rule p (king_square p.men p.turn) in
-    grind (arith, any_range_cases flight 0 64, any_range_false flight 0 64, flight_is_legal rule p (king_square p.men p.turn), false≢true)
+    elim (any_range_cases flight 0 64) [
+      | inl w ↦ flight_is_legal rule p (king_square p.men p.turn) w.0 refl w.2 w.3
+      | inr none ↦ absurd (false≢true (sym (any_range_false flight 0 64 none) ∙ h))
+    ]
 
 -- for moves behind which a flight is left
 pub no_mate_with_flight : (rule : RuleSet) (p : Position) (m : Move) → has_flight rule (position_after rule p m) ≡ true → false ≡ mates rule p m
@@ -230,7 +233,9 @@ module _ (rule : RuleSet) (q : Position) (x : Man) (k t : ℕ) (i : IsKingStep r
   -- and it is legal exactly where nobody attacks the square then
   pub step_is : is_legal rule q (step_to k t) ≡ not (is_attacked rule (arrived q x (step_to k t)) t (other q.turn))
   unfolding is_legal
-  step_is = search (rules, may_step, check_is rule q x (step_to k t) (Some t), made, simple_step, cond-true)
+  step_is =
+      let check = check_is rule q x (step_to k t) (Some t) i.well_formed (made rule q (step_to k t) x may_step i.here) i.small simple_step in
+      search (rules, may_step, check (cond-true _ _ _ i.king))
 
 -- the king's square and the arrival
 pub record IsKingOn (men : List (Option Man)) (c : Colour) (k : ℕ) (x : Man) : Type 0 where

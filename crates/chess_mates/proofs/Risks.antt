@@ -118,10 +118,16 @@ module _ (v : Siege) (g : Field) where
 
   -- risks that are joined
   pub weak_left : (q r : Risk) (s : ℕ) (x : Man) → IsWeak v g q x s → IsWeak v g (Both q r) x s
-  weak_left q r s x h = search (rules, off_left)
+  weak_left q r s x h = record {
+    weak = λ a b low small off.
+        h.weak a b low small (record { lines = λ on. off_left q.lines r.lines a (off.lines on); critical = off_left q.critical r.critical b off.critical });
+  }
 
   weak_right : (q r : Risk) (s : ℕ) (x : Man) → IsWeak v g r x s → IsWeak v g (Both q r) x s
-  weak_right q r s x h = search (rules, off_right)
+  weak_right q r s x h = record {
+    weak = λ a b low small off.
+        h.weak a b low small (record { lines = λ on. off_right q.lines r.lines a (off.lines on); critical = off_right q.critical r.critical b off.critical });
+  }
 
   -- for `risk_of_all`
   pub all_weak : (K Q R B N P G Y : Risk) → WeakAs King K → WeakAs Queen Q → WeakAs Rook R → WeakAs Bishop B → WeakAs Knight N → WeakAs Pawn P
