@@ -174,14 +174,7 @@ module _ (rule : RuleSet) (p : Position) (x : Man) (m : Move) (well : IsWellForm
 
       castled_unreached : is_reached castled k (other c) ≡ false
       unfolding is_reached
-      castled_unreached = some_square_false (λ s. is_of_colour (man_on castled s) (other c) && reaches castled s k) 64 (omega arith) (record {
-        fails = λ s lt. false_from_ne_true _ (λ h.
-            let both = and_parts (is_of_colour (man_on castled s) (other c)) (reaches castled s k) h in
-            elim (cases_eq s (halfway m)) [
-              | inl e ↦ rook_strikes (rw e at both.0) (rw e at both.1)
-              | inr ne ↦ man_strikes s (man_on castled s) refl lt ne both.0 both.1
-            ]);
-      })
+      castled_unreached = grind (arith, some_square_false, false_from_ne_true, and_parts, cases_eq, rook_strikes, man_strikes)
 
     -- the king of colour c stands where he stood
     king_stood : (k : ℕ) → is_man (man_on castled k) c King ≡ true → is_man (man_on p.men k) c King ≡ true

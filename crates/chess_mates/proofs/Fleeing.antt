@@ -15,10 +15,7 @@ flight_there : (rule : RuleSet) (p : Position) → has_flight rule p ≡ true �
 unfolding has_flight is_flight some_square squares
 flight_there rule p h =
     let flight = is_flight_at rule p (king_square p.men p.turn) in
-    elim (any_range_cases flight 0 64) [
-      | inl w ↦ flight_is_legal rule p (king_square p.men p.turn) w.0 refl w.2 w.3
-      | inr none ↦ absurd (false≢true (sym (any_range_false flight 0 64 none) ∙ h))
-    ]
+    elim (any_range_cases flight 0 64) [ inl w ↦ flight_is_legal rule p _ w.0 refl w.2 w.3 | inr none ↦ absurd (false≢true (sym (any_range_false flight 0 64 none) ∙ h)) ]
 
 -- for moves behind which a flight is left
 pub no_mate_with_flight : (rule : RuleSet) (p : Position) (m : Move) → has_flight rule (position_after rule p m) ≡ true → false ≡ mates rule p m

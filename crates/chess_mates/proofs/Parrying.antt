@@ -31,10 +31,8 @@ off_unshut men e j ds k a off = false_from_ne_true _ (λ h. false≢true (sym of
 -- where fewer men stand, fewer squares pass a test on them
 some_before : (f g : ℕ → Bool) → ((q : ℕ) → f q ≡ true → g q ≡ true) → some_square f ≡ true → some_square g ≡ true
 unfolding some_square squares
-some_before f g each h = elim (any_range_cases f 0 64) [
-  | inl w ↦ some_square_true g w.0 w.2 (each w.0 w.3)
-  | inr none ↦ absurd (false≢true (sym (any_range_false f 0 64 none) ∙ h))
-]
+some_before f g each h =
+    elim (any_range_cases f 0 64) [ inl w ↦ some_square_true g w.0 w.2 (each w.0 w.3) | inr none ↦ absurd (false≢true (sym (any_range_false f 0 64 none) ∙ h)) ]
 
 -- and fewer squares lie on fairy lines
 unlined_before : (men mid : List (Option Man)) (e : Colour) (k t : ℕ) → ((j : Kind) (q : ℕ) → is_man (man_on mid q) e j ≡ true

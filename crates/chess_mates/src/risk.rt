@@ -213,7 +213,6 @@ fn risk_of_going(
 
 // The risk of the man on `from`, who checks from the squares of `checks`. Mostly he can't come there, were the others
 // gone.
-#[tactic(auto, using(chess_rules::proofs::listing_moves::Walks::off_zero, crate::proofs::Risks::harmless_quietly, crate::proofs::Risks::open_arrivals))]
 #[inline(always)]
 fn risk_from(siege: &Siege, field: &Field, man: Man, from: Square, checks: Squares) -> Risk
     ensures { IsHarmless siege.now field.now checks result man from }
@@ -279,7 +278,6 @@ fn check_squares_over(siege: &Siege, field: &Field, man: Man) -> Squares
 
 // The squares from which the man may check or promote with his next move, were the others gone, or uncover a check, and
 // perhaps more: of pawns and kings fewer than all, but where hoppers aim at the king.
-#[tactic(auto, using(chess_rules::proofs::listing_moves::Targeting::every_square_on, chess_rules::proofs::listing_moves::Targeting::false_by, crate::proofs::Risks::king_targets, crate::proofs::Risks::none_at, crate::proofs::Risks::pawn_idly))]
 #[inline(always)]
 fn suspect_squares(field: &Field, man: Man, checks: Squares) -> Squares
     ensures { (v : Siege) (s : ℕ) → s < 64 → (bit_at result s == 1) ≡ false
