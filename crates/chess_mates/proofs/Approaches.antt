@@ -69,13 +69,10 @@ holds_ahead c f s = list_all (λ d. holds_at f (along s d 1)) (pawn_capture_step
 way_holds : (c : Colour) (f : ℕ → Bool) (s t : ℕ) → holds_ahead c f s ≡ true → pawn_way c s t ≡ true → f t ≡ true
 way_holds c f s t all way = search (rules, and_parts, or_cases, leap_holds, at_holds, implied)
 
-abbrev hold_both : (Colour → ℕ → ℕ → Bool) → ℕ → Bool
-hold_both f s = holds_ahead White (f White s) s && holds_ahead Black (f Black s) s
-
-every : (f : Colour → ℕ → ℕ → Bool) → agree_below (hold_both f) (λ s. true) 64 ≡ true → (c : Colour) (s t : ℕ) → s < 64 → pawn_way c s t ≡ true
-    → f c s t ≡ true
-every f all White s t p way = way_holds White (f White s) s t (and_parts _ _ (agree_below_at (hold_both f) (λ s. true) 64 s all p)).0 way
-every f all Black s t p way = way_holds Black (f Black s) s t (and_parts _ _ (agree_below_at (hold_both f) (λ s. true) 64 s all p)).1 way
+every : (f : Colour → ℕ → ℕ → Bool) → agree_below (λ s. holds_ahead White (f White s) s) (λ s. true) 64 ≡ true
+    → agree_below (λ s. holds_ahead Black (f Black s) s) (λ s. true) 64 ≡ true → (c : Colour) (s t : ℕ) → s < 64 → pawn_way c s t ≡ true → f c s t ≡ true
+every f white black White s t p = way_holds White (f White s) s t (agree_below_at (λ s. holds_ahead White (f White s) s) (λ s. true) 64 s white p)
+every f white black Black s t p = way_holds Black (f Black s) s t (agree_below_at (λ s. holds_ahead Black (f Black s) s) (λ s. true) 64 s black p)
 
 -- a pawn that may go goes so
 pub takes_or_steps : (p : Position) (c : Colour) (s t : ℕ) → may_go p (record { colour = c; kind = Pawn }) s t ≡ true → pawn_way c s t ≡ true
@@ -88,14 +85,14 @@ is_over c h t = rank_of h == (if same_colour c White then 3 else 6) && is_after 
 
 over_is : (c : Colour) (s t : ℕ) → s < 64 → pawn_way c s t ≡ true → is_far s t ≡ true → is_over c ((s + t) / 2) t ≡ true
 unfolding along
-over_is c s t p way = implied _ _ (every (λ c s t. not (is_far s t) || is_over c ((s + t) / 2) t) refl c s t p way)
+over_is c s t p way = implied _ _ (every (λ c s t. not (is_far s t) || is_over c ((s + t) / 2) t) refl refl c s t p way)
 
 steps_ahead : (c : Colour) (s h : ℕ) → s < 64 → pawn_steps c s h ≡ true → (rank_of h == (if same_colour c White then 6 else 3)) ≡ true
     → is_after c 8 s h ≡ true
 unfolding along
 steps_ahead c s h p steps rank =
     let ahead = λ (c : Colour) (s h : ℕ). not (rank_of h == (if same_colour c White then 6 else 3)) || (not (pawn_steps c s h) || is_after c 8 s h) in
-    implied _ _ (implied _ _ (every ahead refl c s h p (or_right (list_any (leaps s h) (pawn_capture_steps c)) _ steps)) rank) steps
+    implied _ _ (implied _ _ (every ahead refl refl c s h p (or_right (list_any (leaps s h) (pawn_capture_steps c)) _ steps)) rank) steps
 
 -- a pawn goes two ranks only by stepping
 module _ (p : Position) (c : Colour) (s t : ℕ) (low : s < 64) (high : t < 64) (goes : may_go p (record { colour = c; kind = Pawn }) s t ≡ true)
@@ -117,7 +114,7 @@ module _ (p : Position) (c : Colour) (s t : ℕ) (low : s < 64) (high : t < 64) 
   unfolding along leaps
   goes_over_next =
       let over = λ (c : Colour) (s h : ℕ). is_advance c s h && list_any (leaps s h) queen_steps in
-      and_parts _ _ (implied _ _ (every (λ c s t. not (is_far s t) || over c s ((s + t) / 2)) refl c s t low (takes_or_steps p c s t goes)) far)
+      and_parts _ _ (implied _ _ (every (λ c s t. not (is_far s t) || over c s ((s + t) / 2)) refl refl c s t low (takes_or_steps p c s t goes)) far)
 
 -- for `pawns_before`
 pub pawns_come_from : (c d : Colour) (w v : ℕ) → d ≡ c → v ≡ bit_or (bit_or (bit_or (before c w 7) (before c w 8)) (before c w 9)) (before c w 16)
@@ -128,7 +125,7 @@ pawns_come_from c d w v same is = rw (same, is) (record {
       let has = λ (k : ℕ). before_has c w s t k small on in
       let by = λ (c : Colour) (s t : ℕ). ((is_after c 7 s t || is_after c 8 s t) || is_after c 9 s t) || is_after c 16 s t in
       on_either _ _ _ _ s (on_either _ _ _ _ s (on_either _ _ _ _ s (has 7) (has 8)) (has 9)) (has 16)
-      (every by refl c s t small (takes_or_steps p c s t goes));
+      (every by refl refl c s t small (takes_or_steps p c s t goes));
 })
 
 -- for `capturers_before`
@@ -136,6 +133,6 @@ pub pawns_capture_from : (c d : Colour) (w v : ℕ) → d ≡ c → v ≡ bit_or
 unfolding along leaps
 pawns_capture_from c d w v same is = rw (same, is) (record {
   capture = λ s t small lt takes on. on_either _ _ _ _ s (before_has c w s t 7 small on) (before_has c w s t 9 small on)
-      (implied _ _ (every (λ c s t. not (list_any (leaps s t) (pawn_capture_steps c)) || (is_after c 7 s t || is_after c 9 s t)) refl c s t small
+      (implied _ _ (every (λ c s t. not (list_any (leaps s t) (pawn_capture_steps c)) || (is_after c 7 s t || is_after c 9 s t)) refl refl c s t small
       (or_left _ _ takes)) takes);
 })

@@ -14,8 +14,8 @@ flight_is_legal rule p (Some k) t at small h = false_from_ne_true _ (λ none.
 flight_there : (rule : RuleSet) (p : Position) → has_flight rule p ≡ true → is_nil (moves rule p) ≡ false
 unfolding has_flight is_flight some_square squares
 flight_there rule p h =
-    let flight = is_flight_at rule p (king_square p.men p.turn) in
-    elim (any_range_cases flight 0 64) [ inl w ↦ flight_is_legal rule p _ w.0 refl w.2 w.3 | inr none ↦ absurd (false≢true (sym (any_range_false flight 0 64 none) ∙ h)) ]
+    let f = is_flight_at rule p (king_square p.men p.turn) in
+    elim (any_range_cases f 0 64) [ inl w ↦ flight_is_legal rule p _ w.0 refl w.2 w.3 | inr off ↦ absurd (false≢true (sym (any_range_false f 0 64 off) ∙ h)) ]
 
 -- for moves behind which a flight is left
 pub no_mate_with_flight : (rule : RuleSet) (p : Position) (m : Move) → has_flight rule (position_after rule p m) ≡ true → false ≡ mates rule p m

@@ -61,12 +61,7 @@ pub harmless_quietly : (v : Siege) (g : Field) (checks : ℕ) (x : Man) (s reach
 harmless_quietly v g checks x s reached targets are quiet none =
     idly v g checks _ x s (λ t i. quiet t i.small (are.inside t i) (false_by _ (none_at targets t none)))
 
--- for `suspect_squares`: who uncovers nothing, a king, or a pawn who comes to no target, by the squares from which he might
-pub king_idly : (v : Siege) (g : Field) (checks : ℕ) (x : Man) (s : ℕ) → same_kind x.kind King ≡ true → (bit_at g.lines s == 1) ≡ false
-    → g.springboards ≡ 0 → IsHarmless v g checks (record { critical = 0; lines = 0 }) x s
-king_idly v g checks x s king off none =
-    idly v g checks _ x s (λ t i. king_targets x checks g.springboards t king (false_by _ (none_at g.springboards t none))) off
-
+-- for `suspect_squares`: who uncovers nothing, and a pawn who comes to no target, by the squares from which he might
 pub pawn_idly : (v : Siege) (g : Field) (checks : ℕ) (x : Man) (s w : ℕ) → same_kind x.kind Pawn ≡ true
     → AreApproaches (record { colour = x.colour; kind = Pawn }) (bit_or checks 18374686479671623935) w → s < 64 → (bit_at (bit_or g.lines w) s == 1) ≡ false
     → g.springboards ≡ 0 → IsHarmless v g checks (record { critical = 0; lines = 0 }) x s

@@ -118,8 +118,7 @@ module _ (rule : RuleSet) (p : Position) (m : Move) (x : Man) (v : Siege) (k : �
 
   -- no line from the king ends on the square that the defender leaves
   shut_off : (c : Colour) (j : Kind) → MayRide v j → (bit_at v.hurdles m.from == 1) ≡ true → reaches_as (men_on v.hurdles) c j k m.from ≡ true → ⊥
-  shut_off c j may on reach =
-      false≢true (sym (i.at.lines m.from m.to small i.off.critical (i.off.lines on)) ∙ lined c j m.from from may reach)
+  shut_off c j may on reach = false≢true (sym (i.at.lines m.from m.to small i.off.critical (i.off.lines on)) ∙ lined c j m.from from may reach)
 
   -- from off his check squares no attacker but a hopper reaches the king, where all hurdles stand but m.from and o, on none of his lines
   off_word : (men : List (Option Man)) (o s t : ℕ) (z : Man) (a : IsAttacker v.men z s) → t < 64 → is_hopper (gait_of z.kind) ≡ false
@@ -257,8 +256,7 @@ module _ (rule : RuleSet) (p : Position) (m : Move) (x : Man) (v : Siege) (k : �
         defends = mine_again b.man.colour p.turn (ap (same_colour b.man.colour) (sym turn_q) ∙ captured_enemy rule q y n b.man well_q is_n b.who)
 
         circe : captures_do_more rule ≡ true
-        circe =
-            true_from_ne_false _ (λ off. false≢true (ap is_some (sym (no_rebirth rule q y n (λ on. absurd (false≢true (sym off ∙ on)))) ∙ at)))
+        circe = true_from_ne_false _ (λ off. false≢true (ap is_some (sym (no_rebirth rule q y n (λ on. absurd (false≢true (sym off ∙ on)))) ∙ at)))
 
         taken_on : b.square ≡ n.to
         taken_on = captures_q b.square b.where_taken
@@ -305,10 +303,7 @@ module _ (rule : RuleSet) (p : Position) (m : Move) (x : Man) (v : Siege) (k : �
           ])
 
       king_r : king_square r.men p.turn ≡ Some k
-      king_r =
-          let there = (king_there landed p.turn k king_landed).1 in
-          king_is r.men p.turn k well_r.kings at_k
-          (elim (same_or_new k) [ inl same ↦ rw same there | inr new ↦ absurd (false≢true (rw new.0 at there)) ])
+      king_r = king_is r.men p.turn k well_r.kings at_k (search (rules, same_or_new k, (king_there landed p.turn k king_landed).1, false≢true))
 
       stood_r : (s : ℕ) (z : Man) → man_on r.men s ≡ Some z → Stood s z ⊎ ((z.colour ≡ p.turn) × IsNew s)
       stood_r s z there = search (rules, same_or_new s, stood q y n s z (omega (arith, to, well_q.size)), same_man)
@@ -343,8 +338,7 @@ module _ (rule : RuleSet) (p : Position) (m : Move) (x : Man) (v : Siege) (k : �
       -- hurdles stay, or the man who captures stands there
       stays_r : (e : ℕ) → e < 64 → (bit_at v.hurdles e == 1) ≡ true → e ≢ m.from → e ≢ n.from → is_some (man_on r.men e) ≡ true
       stays_r e inside on left off =
-          let some = some_stays q y n e captures_q (omega (arith, to, well_q.size)) off (stays_q e inside on left) in
-          elim (same_or_new e) [ inl same ↦ rw same some | inr new ↦ ap is_some new.1.1.0 ]
+          search (rules, same_or_new e, some_stays q y n e captures_q (omega (arith, to, well_q.size)) off (stays_q e inside on left))
 
       -- on a board where they stay
       module _ (men : List (Option Man)) (stays : (e : ℕ) → e < 64 → (bit_at v.hurdles e == 1) ≡ true → e ≢ m.from → e ≢ n.from → is_some (man_on men e) ≡ true)
@@ -517,8 +511,7 @@ module _ (rule : RuleSet) (p : Position) (m : Move) (x : Man) (v : Siege) (k : �
         unfolding side_of
         capture_flees mortal =
             let there = there_now q.men n.from (capture_square q y n) n.to (arriving_man y n.promo) (omega (arith, to, well_q.size)) in
-            let came : man_on r.men n.to ≡ Some (arriving_man y n.promo) =
-            elim (same_or_new n.to) [ inl same ↦ same ∙ there | inr new ↦ absurd (false≢true (ap is_some (sym new.0 ∙ there))) ] in
+            let came : man_on r.men n.to ≡ Some (arriving_man y n.promo) = search (rules, same_or_new n.to, there, false≢true) in
             flees n.to to near
             (rw came (free_man p.turn (Some (arriving_man y n.promo)) (rw (arriving_colour y n.promo) (not_mine y p.turn enemy_y))
             (and_right _ _ (false_by _ (λ king. false≢true (sym mortal ∙ (rw (arriving_king q y n n.promo is_n.promotion king) at king)))))))

@@ -278,6 +278,7 @@ fn check_squares_over(siege: &Siege, field: &Field, man: Man) -> Squares
 
 // The squares from which the man may check or promote with his next move, were the others gone, or uncover a check, and
 // perhaps more: of pawns and kings fewer than all, but where hoppers aim at the king.
+#[tactic(auto, using(chess_rules::proofs::listing_moves::Targeting::every_square_on, chess_rules::proofs::listing_moves::Targeting::false_by, crate::proofs::Risks::king_targets, crate::proofs::Risks::none_at, crate::proofs::Risks::pawn_idly))]
 #[inline(always)]
 fn suspect_squares(field: &Field, man: Man, checks: Squares) -> Squares
     ensures { (v : Siege) (s : ℕ) → s < 64 → (bit_at result s == 1) ≡ false
