@@ -1,7 +1,6 @@
-use Rattle.chess_mates.proofs.Chess.{refl, rules}
+use Rattle.chess_mates.proofs.Chess.{rules}
 use Rattle.chess_mates.proofs.FarMen.{found}
 use Rattle.chess_mates.proofs.Hurdles.{found_on}
-use Rattle.chess_mates.proofs.Risks.{none_at}
 use Rattle.chess_mates.proofs.origins.far_king.Goals as goal
 
 pub is_far-requires : goal.is_far-requires
@@ -11,9 +10,3 @@ is_far-requires g c =
     let here = found_on _ 0 _ (rw c.next_bit.ensures.value at c.in-Some.is) in
     let first = found _ _ _ _ _ _ men.stands men.unshielding _ _ _ c.turn.ensures here (search rules) targets in
     record { here = first.0; targets = first.1 }
-
-pub returns-in_default : goal.returns-in_default
-returns-in_default g c = λ s small on. absurd (none_at 0 s refl on)
-
-pub returns-then-not-is_far : goal.returns-then-not-is_far
-returns-then-not-is_far g c = λ s small on. absurd (none_at 0 s refl on)
