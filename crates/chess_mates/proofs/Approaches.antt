@@ -1,5 +1,5 @@
 -- From where pawns come to a square: so many squares before it, or behind it.
-use Rattle.chess_mates.proofs.Chess.{AreApproaches, AreCapturers, Black, Bool, Colour, None, Pawn, Position, White, agree_below, agree_below_at, along, and_from, and_parts, ap, arith, bit_at, bit_at_cat_high, bit_at_cat_low, bit_or, eqb-true, false, false≢true, forward, if◌then◌else◌, implied, is_advance, is_square, leaps, list_any, man_on, may_go, not, not-true, on_left, on_right, or_cases, or_left, or_right, other, pawn_capture_steps, pawn_goes, queen_steps, rank_of, reaches_as, refl, rules, same_colour, second_rank, true, ℕ, ◌%◌, ◌&&◌, ◌*◌, ◌+◌, ◌-◌, ◌/◌, ◌<◌, ◌==◌, ◌^◌, ◌||◌, ◌≡◌, ◌≤◌}
+use Rattle.chess_mates.proofs.Chess.{AreApproaches, AreCapturers, Black, Bool, Colour, None, Pawn, Position, White, agree_below, agree_below_at, along, and_parts, ap, arith, bit_at, bit_at_cat_high, bit_at_cat_low, bit_or, eqb-true, false, false≢true, forward, if◌then◌else◌, implied, is_advance, is_square, leaps, list_any, man_on, may_go, not, not-true, on_left, on_right, or_cases, or_left, or_right, other, pawn_capture_steps, pawn_goes, queen_steps, rank_of, reaches_as, refl, rules, same_colour, second_rank, true, ℕ, List, Option, Some, Step, [], list_all, false_by, square_is, sym, ◌%◌, ◌&&◌, ◌*◌, ◌+◌, ◌-◌, ◌/◌, ◌<◌, ◌==◌, ◌^◌, ◌||◌, ◌≡◌, ◌≤◌, ◌∷◌, ◌∙◌}
 use Rattle.std.proofs.Math.Nat.{div-add-mod}
 use Rattle.std.proofs.lemmas.Nat.{pow_pos, shr-shr}
 
@@ -30,14 +30,18 @@ before Black w k = w * 2 ^ k % 2 ^ 64
 before_has : (c : Colour) (w s t k : ℕ) → s < 64 → (bit_at w t == 1) ≡ true → is_after c k s t ≡ true → (bit_at (before c w k) s == 1) ≡ true
 before_has c w s t k small on at = grind (arith, bit_down, bit_up, eqb-true)
 
--- what is computed of all pairs of squares, and for both colours
-pairs : (f : ℕ → ℕ → Bool) → agree_below (λ n. f (n / 64) (n % 64)) (λ n. true) 4096 ≡ true → (s t : ℕ) → s < 64 → t < 64 → f s t ≡ true
-pairs f all s t p q = grind (arith, agree_below_at (λ n. f (n / 64) (n % 64)) (λ n. true) 4096 (64 * s + t) all (omega (arith, p, q)))
+-- what is computed of each square to which a step leads
+abbrev holds_at : (ℕ → Bool) → Option ℕ → Bool
+holds_at f None = true
+holds_at f (Some t) = f t
 
-every : (f : Colour → ℕ → ℕ → Bool) → agree_below (λ n. f White (n / 64) (n % 64) && f Black (n / 64) (n % 64)) (λ n. true) 4096 ≡ true
-    → (c : Colour) (s t : ℕ) → s < 64 → t < 64 → f c s t ≡ true
-every f all White s t p q = (and_parts _ _ (pairs (λ s t. f White s t && f Black s t) all s t p q)).0
-every f all Black s t p q = (and_parts _ _ (pairs (λ s t. f White s t && f Black s t) all s t p q)).1
+at_holds : (f : ℕ → Bool) (o : Option ℕ) (t : ℕ) → holds_at f o ≡ true → is_square o t ≡ true → f t ≡ true
+at_holds f o t all at = rw (square_is o t at) at all
+
+leap_holds : (f : ℕ → Bool) (ds : List Step) (s t : ℕ) → list_all (λ d. holds_at f (along s d 1)) ds ≡ true → list_any (leaps s t) ds ≡ true → f t ≡ true
+unfolding leaps
+leap_holds f [] s t all leap = absurd (false≢true leap)
+leap_holds f (d ∷ ds) s t all leap = search (rules, or_cases, and_parts, at_holds, leap_holds f ds s t)
 
 -- two ranks away
 abbrev is_far : ℕ → ℕ → Bool
@@ -45,8 +49,10 @@ is_far s t = rank_of s + 2 == rank_of t || rank_of t + 2 == rank_of s
 
 -- for double steps: no step goes so far
 pub no_far_step : (s t : ℕ) → s < 64 → t < 64 → is_far s t ≡ true → list_any (leaps s t) queen_steps ≡ false
-unfolding along leaps
-no_far_step s t p q far = not-true _ (implied _ _ (pairs (λ s t. not (is_far s t) || not (list_any (leaps s t) queen_steps)) refl s t p q) far)
+unfolding along
+no_far_step s t p q far =
+    let all = agree_below_at (λ s. list_all (λ d. holds_at (λ t. not (is_far s t)) (along s d 1)) queen_steps) (λ s. true) 64 s refl p in
+    false_by _ (λ near. false≢true (sym (not-true _ (leap_holds (λ t. not (is_far s t)) queen_steps s t all near)) ∙ far))
 
 -- how a pawn goes: he captures, or steps once, or twice from his second rank
 abbrev pawn_steps : Colour → ℕ → ℕ → Bool
@@ -54,6 +60,19 @@ pawn_steps c s t = is_square (along s (forward c) 1) t || (rank_of s == second_r
 
 abbrev pawn_way : Colour → ℕ → ℕ → Bool
 pawn_way c s t = list_any (leaps s t) (pawn_capture_steps c) || pawn_steps c s t
+
+-- what is computed of each square to which a pawn goes so, for both colours
+abbrev holds_ahead : Colour → (ℕ → Bool) → ℕ → Bool
+holds_ahead c f s = list_all (λ d. holds_at f (along s d 1)) (pawn_capture_steps c)
+    && (holds_at f (along s (forward c) 1) && (not (rank_of s == second_rank c) || holds_at f (along s (forward c) 2)))
+
+way_holds : (c : Colour) (f : ℕ → Bool) (s t : ℕ) → holds_ahead c f s ≡ true → pawn_way c s t ≡ true → f t ≡ true
+way_holds c f s t all way = search (rules, and_parts, or_cases, leap_holds, at_holds, implied)
+
+every : (f : Colour → ℕ → ℕ → Bool) → agree_below (λ s. holds_ahead White (f White s) s) (λ s. true) 64 ≡ true
+    → agree_below (λ s. holds_ahead Black (f Black s) s) (λ s. true) 64 ≡ true → (c : Colour) (s t : ℕ) → s < 64 → pawn_way c s t ≡ true → f c s t ≡ true
+every f white black White s t p = way_holds White (f White s) s t (agree_below_at (λ s. holds_ahead White (f White s) s) (λ s. true) 64 s white p)
+every f white black Black s t p = way_holds Black (f Black s) s t (agree_below_at (λ s. holds_ahead Black (f Black s) s) (λ s. true) 64 s black p)
 
 -- a pawn that may go goes so
 pub takes_or_steps : (p : Position) (c : Colour) (s t : ℕ) → may_go p (record { colour = c; kind = Pawn }) s t ≡ true → pawn_way c s t ≡ true
@@ -64,15 +83,16 @@ takes_or_steps p c s t goes = search (rules, and_parts, or_cases, or_left, or_ri
 abbrev is_over : Colour → ℕ → ℕ → Bool
 is_over c h t = rank_of h == (if same_colour c White then 3 else 6) && is_after c 8 h t
 
-over_is : (c : Colour) (s t : ℕ) → s < 64 → t < 64 → (pawn_steps c s t && is_far s t) ≡ true → is_over c ((s + t) / 2) t ≡ true
+over_is : (c : Colour) (s t : ℕ) → s < 64 → pawn_way c s t ≡ true → is_far s t ≡ true → is_over c ((s + t) / 2) t ≡ true
 unfolding along
-over_is c s t p q = implied _ _ (every (λ c s t. not (pawn_steps c s t && is_far s t) || is_over c ((s + t) / 2) t) refl c s t p q)
+over_is c s t p way = implied _ _ (every (λ c s t. not (is_far s t) || is_over c ((s + t) / 2) t) refl refl c s t p way)
 
-steps_back : (c : Colour) (s h : ℕ) → s < 64 → h < 64 → (pawn_steps (other c) s h && rank_of h == (if same_colour c White then 3 else 6)) ≡ true
-    → is_after c 8 h s ≡ true
+steps_ahead : (c : Colour) (s h : ℕ) → s < 64 → pawn_steps c s h ≡ true → (rank_of h == (if same_colour c White then 6 else 3)) ≡ true
+    → is_after c 8 s h ≡ true
 unfolding along
-steps_back c s h p q =
-    implied _ _ (every (λ c s h. not (pawn_steps (other c) s h && rank_of h == (if same_colour c White then 3 else 6)) || is_after c 8 h s) refl c s h p q)
+steps_ahead c s h p steps rank =
+    let ahead = λ (c : Colour) (s h : ℕ). not (rank_of h == (if same_colour c White then 6 else 3)) || (not (pawn_steps c s h) || is_after c 8 s h) in
+    implied _ _ (implied _ _ (every ahead refl refl c s h p (or_right (list_any (leaps s h) (pawn_capture_steps c)) _ steps)) rank) steps
 
 -- a pawn goes two ranks only by stepping
 module _ (p : Position) (c : Colour) (s t : ℕ) (low : s < 64) (high : t < 64) (goes : may_go p (record { colour = c; kind = Pawn }) s t ≡ true)
@@ -87,15 +107,14 @@ module _ (p : Position) (c : Colour) (s t : ℕ) (low : s < 64) (high : t < 64) 
   -- who steps to the square between stands where the pawn arrives
   pub steps_from_there : (u : ℕ) → u < 64 → (s + t) / 2 < 64 → pawn_steps (other c) u ((s + t) / 2) ≡ true → u ≡ t
   steps_from_there u inside mid steps =
-      grind (arith, takes_or_steps p c s t goes, no_far_step s t low high far, over_is c s t low high, steps_back c u ((s + t) / 2), and_parts, eqb-true)
+      grind (arith, over_is c s t low (takes_or_steps p c s t goes) far, steps_ahead (other c) u ((s + t) / 2), and_parts, eqb-true)
 
   -- which is the next one ahead
   pub goes_over_next : (is_advance c s ((s + t) / 2) ≡ true) × (list_any (leaps s ((s + t) / 2)) queen_steps ≡ true)
   unfolding along leaps
   goes_over_next =
       let over = λ (c : Colour) (s h : ℕ). is_advance c s h && list_any (leaps s h) queen_steps in
-      let all = every (λ c s t. not (pawn_way c s t && is_far s t) || over c s ((s + t) / 2)) refl c s t low high in
-      and_parts _ _ (implied _ _ all (and_from _ _ (takes_or_steps p c s t goes) far))
+      and_parts _ _ (implied _ _ (every (λ c s t. not (is_far s t) || over c s ((s + t) / 2)) refl refl c s t low (takes_or_steps p c s t goes)) far)
 
 -- for `pawns_before`
 pub pawns_come_from : (c d : Colour) (w v : ℕ) → d ≡ c → v ≡ bit_or (bit_or (bit_or (before c w 7) (before c w 8)) (before c w 9)) (before c w 16)
@@ -106,7 +125,7 @@ pawns_come_from c d w v same is = rw (same, is) (record {
       let has = λ (k : ℕ). before_has c w s t k small on in
       let by = λ (c : Colour) (s t : ℕ). ((is_after c 7 s t || is_after c 8 s t) || is_after c 9 s t) || is_after c 16 s t in
       on_either _ _ _ _ s (on_either _ _ _ _ s (on_either _ _ _ _ s (has 7) (has 8)) (has 9)) (has 16)
-      (implied _ _ (every (λ c s t. not (pawn_way c s t) || by c s t) refl c s t small inside) (takes_or_steps p c s t goes));
+      (every by refl refl c s t small (takes_or_steps p c s t goes));
 })
 
 -- for `capturers_before`
@@ -114,5 +133,6 @@ pub pawns_capture_from : (c d : Colour) (w v : ℕ) → d ≡ c → v ≡ bit_or
 unfolding along leaps
 pawns_capture_from c d w v same is = rw (same, is) (record {
   capture = λ s t small lt takes on. on_either _ _ _ _ s (before_has c w s t 7 small on) (before_has c w s t 9 small on)
-      (implied _ _ (every (λ c s t. not (list_any (leaps s t) (pawn_capture_steps c)) || (is_after c 7 s t || is_after c 9 s t)) refl c s t small lt) takes);
+      (implied _ _ (every (λ c s t. not (list_any (leaps s t) (pawn_capture_steps c)) || (is_after c 7 s t || is_after c 9 s t)) refl refl c s t small
+      (or_left _ _ takes)) takes);
 })

@@ -110,4 +110,5 @@ module _ (rule : RuleSet) (p : Position) (v : Siege) (squares w : ℕ) (well : I
 -- for the squares that a sieve tells
 pub told_exactly : (rule : RuleSet) (p : Position) (v : Siege) (s squares : ℕ) (o : Option ℕ) → IsWellFormed p → IsSiegeOf rule p v → IsSiege v → IsWhole v
     → v.king ≡ s → AreCandidates rule p (is_legal rule p) s squares → IfSome o (λ w. AreExactSteps rule v squares w) → IfSome o (λ w. AreExact rule p s w)
-told_exactly rule p v s squares o well of siege whole at are steps = grind (arith, are_exact, at)
+told_exactly rule p v s squares None well of siege whole at are steps = steps
+told_exactly rule p v s squares (Some w) well of siege whole at are steps = rw (← at) (are_exact rule p v squares w well siege whole of (rw at are) steps)

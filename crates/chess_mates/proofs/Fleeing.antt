@@ -14,8 +14,8 @@ flight_is_legal rule p (Some k) t at small h = false_from_ne_true _ (λ none.
 flight_there : (rule : RuleSet) (p : Position) → has_flight rule p ≡ true → is_nil (moves rule p) ≡ false
 unfolding has_flight is_flight some_square squares
 flight_there rule p h =
-    let flight = is_flight_at rule p (king_square p.men p.turn) in
-    grind (arith, any_range_cases flight 0 64, any_range_false flight 0 64, flight_is_legal rule p (king_square p.men p.turn), false≢true)
+    let f = is_flight_at rule p (king_square p.men p.turn) in
+    elim (any_range_cases f 0 64) [ inl w ↦ flight_is_legal rule p _ w.0 refl w.2 w.3 | inr off ↦ absurd (false≢true (sym (any_range_false f 0 64 off) ∙ h)) ]
 
 -- for moves behind which a flight is left
 pub no_mate_with_flight : (rule : RuleSet) (p : Position) (m : Move) → has_flight rule (position_after rule p m) ≡ true → false ≡ mates rule p m
@@ -230,7 +230,9 @@ module _ (rule : RuleSet) (q : Position) (x : Man) (k t : ℕ) (i : IsKingStep r
   -- and it is legal exactly where nobody attacks the square then
   pub step_is : is_legal rule q (step_to k t) ≡ not (is_attacked rule (arrived q x (step_to k t)) t (other q.turn))
   unfolding is_legal
-  step_is = search (rules, may_step, check_is rule q x (step_to k t) (Some t), made, simple_step, cond-true)
+  step_is =
+      let check = check_is rule q x (step_to k t) (Some t) i.well_formed (made rule q (step_to k t) x may_step i.here) i.small simple_step in
+      search (rules, may_step, check (cond-true _ _ _ i.king))
 
 -- the king's square and the arrival
 pub record IsKingOn (men : List (Option Man)) (c : Colour) (k : ℕ) (x : Man) : Type 0 where

@@ -6,6 +6,7 @@ use Rattle.chess_rules.proofs.attacks.Seeing.{IsCapture, seen_after}
 use Rattle.chess_mates.proofs.Mating.{turn_after}
 use Rattle.chess_mates.proofs.Standing.{captured_there, stays_there, stood as stands_after}
 use Rattle.chess_mates.specs.ties.Parries.{AreBetween, AreParriesTold, IsInterposed, IsParriless, IsShutBy, IsToldBetween, IsUntaken, IsWayBetween, NobodyComes, comes, is_on_line, is_unpinned}
+use Rattle.chess_rules.specs.declared.sight.Sight.{Sight}
 use Rattle.chess_mates.specs.declared.parries.Parries.{Parries}
 use Rattle.chess_mates.specs.declared.parries.Parries.TheVariants.{Impossible, Possible}
 use Rattle.chess_mates.proofs.StayingChecks.{advance_back, advances, frees_after, reaches_still}
@@ -31,7 +32,8 @@ off_unshut men e j ds k a off = false_from_ne_true _ (λ h. false≢true (sym of
 -- where fewer men stand, fewer squares pass a test on them
 some_before : (f g : ℕ → Bool) → ((q : ℕ) → f q ≡ true → g q ≡ true) → some_square f ≡ true → some_square g ≡ true
 unfolding some_square squares
-some_before f g each h = grind (arith, any_range_cases f 0 64, any_range_false f 0 64, some_square_true g, false≢true)
+some_before f g each h =
+    elim (any_range_cases f 0 64) [ inl w ↦ some_square_true g w.0 w.2 (each w.0 w.3) | inr none ↦ absurd (false≢true (sym (any_range_false f 0 64 none) ∙ h)) ]
 
 -- and fewer squares lie on fairy lines
 unlined_before : (men mid : List (Option Man)) (e : Colour) (k t : ℕ) → ((j : Kind) (q : ℕ) → is_man (man_on mid q) e j ≡ true
@@ -297,31 +299,33 @@ module _ (rule : RuleSet) (p : Position) (m : Move) (x : Man) (k : ℕ) (well : 
         (grind (arith, step, both.1, cond-true, or_right))
   ]
 
-  -- for `parries_after`: somebody comes between
-  pub no_mate_where_interposed : IsInterposed q.men p x m k → is_mate rule q ≡ false
-  no_mate_where_interposed i = between_from i _ refl
-
   -- the men that an attack sees after it
-  pub seen_q : AreSeen p.men q.men (other p.turn) (sight_after p.men m.from (capture_square p x m) m.to)
-  seen_q =
+  seen_q : (v : Sight) → v ≡ sight_after p.men m.from (capture_square p x m) m.to → AreSeen p.men q.men (other p.turn) v
+  seen_q v sees =
       let goes : IsCapture p.men m.from (capture_square p x m) m.to (arriving_man x m.promo) p.turn =
       grind (arith, here, is_m.mine, arriving_colour, other_differs, captures_arrival p x m, small, well.size) in
-      search (rules, men_q, seen_after p.men m.from (capture_square p x m) m.to (arriving_man x m.promo) p.turn goes)
+      rw (sees, men_q) (seen_after p.men m.from (capture_square p x m) m.to (arriving_man x m.promo) p.turn goes)
+
+  -- for `parries_after`: somebody comes between
+  pub no_mate_where_interposed : (v : Sight) → v ≡ sight_after p.men m.from (capture_square p x m) m.to → (r : Parries) → r ≡ Possible
+      → ((men : List (Option Man)) → AreSeen p.men men (other p.turn) v → IsToldBetween men p x m k r) → is_mate rule q ≡ false
+  no_mate_where_interposed v sees r is told = between_from (subst (IsToldBetween q.men p x m k) is (told q.men (seen_q v sees))) _ refl
 
   -- for `parries_after`: somebody takes the man that has come
-  pub no_mate_where_some_take : (v w : ℕ) → v ≡ word (λ s. is_of_colour (man_on q.men s) (other p.turn) && reaches q.men s m.to)
-      → w ≡ word (is_unpinned p m k) → not (bit_and v w == 0) ≡ true → is_mate rule q ≡ false
+  pub no_mate_where_some_take : (v : Sight) → v ≡ sight_after p.men m.from (capture_square p x m) m.to → (t w : ℕ)
+      → ((men : List (Option Man)) → AreSeen p.men men (other p.turn) v → t ≡ word (λ s. is_of_colour (man_on men s) (other p.turn) && reaches men s m.to))
+      → w ≡ word (is_unpinned p m k) → not (bit_and t w == 0) ≡ true → is_mate rule q ≡ false
   unfolding some_square squares
-  no_mate_where_some_take v w takers unpinned some =
-      let are : bit_and v w ≡ word (λ s. is_of_colour (man_on q.men s) (other p.turn) && reaches q.men s m.to && is_unpinned p m k s) =
-      search (rules, squares_both, takers, unpinned) in
+  no_mate_where_some_take v sees t w takers unpinned some =
+      let are : bit_and t w ≡ word (λ s. is_of_colour (man_on q.men s) (other p.turn) && reaches q.men s m.to && is_unpinned p m k s) =
+      search (rules, squares_both, takers q.men (seen_q v sees), unpinned) in
       let takes = λ (s : ℕ). is_of_colour (man_on q.men s) (other p.turn) && reaches q.men s m.to && is_unpinned p m k s in
       elim (any_range_cases takes 0 64) [
         | inl w ↦
             let both = and_parts _ (is_unpinned p m k w.0) w.3 in
             let parts = and_parts _ (reaches q.men w.0 m.to) both.0 in
             taken_from w.0 _ refl w.2 parts.0 parts.1 both.1
-        | inr none ↦ absurd (false≢true (sym (any_range_false takes 0 64 none) ∙ (sym (some_square_told takes (bit_and v w) are) ∙ some)))
+        | inr none ↦ absurd (false≢true (sym (any_range_false takes 0 64 none) ∙ (sym (some_square_told takes (bit_and t w) are) ∙ some)))
       ]
 
   -- nobody parries the check of a man who isn't taken, if nobody comes between
@@ -411,10 +415,9 @@ module _ (rule : RuleSet) (p : Position) (m : Move) (x : Man) (k : ℕ) (well : 
         (grind (arith, arrives, told.unpromoted, turn_after rule p m may, other_twice, is_m.mine, same_colour-refl, holds, and_from)) in
         ap (λ (v : Option ℕ). is_attacked_at rule q.men v (other q.turn)) king_q ∙ sym (attacked_plainly rule q.men k (other q.turn) true told.able (sym reached))
 
-    -- for `parries_after`
-    pub parriless : IsParriless rule q
+    is_parriless : IsParriless rule q
     unfolding is_legal
-    parriless = record {
+    is_parriless = record {
       check = checked;
       idle = λ n others. false_from_ne_true _ (λ legal.
           let well_q = after_well_formed rule p m well may in
@@ -426,6 +429,14 @@ module _ (rule : RuleSet) (p : Position) (m : Move) (x : Man) (k : ℕ) (well : 
           false_from_ne_true _ (λ h. grind (arith, others, y.1, is.mine, h, same_colour-refl, and_from, false≢true)) in
           grind (arith, legal, still n y.0 is triple.0 triple.1 mortal, and_parts, false≢true));
     }
+
+  -- for `parries_after`: nobody can
+  pub parriless : (v : Sight) → v ≡ sight_after p.men m.from (capture_square p x m) m.to → (t : ℕ) → IsUntaken v.occupied t x m.to k
+      → ((men : List (Option Man)) → AreSeen p.men men (other p.turn) v → t ≡ word (λ s. is_of_colour (man_on men s) (other p.turn) && reaches men s m.to))
+      → (r : Parries) → r ≡ Impossible → ((men : List (Option Man)) → AreSeen p.men men (other p.turn) v → IsToldBetween men p x m k r) → IsParriless rule q
+  parriless v sees t i takers r is told =
+      let seen = seen_q v sees in
+      is_parriless v.occupied t i seen.occupied (takers q.men seen) (subst (IsToldBetween q.men p x m k) is (told q.men seen))
 
 -- the words of the squares of men who aren't pinned
 module _ (p : Position) (m : Move) (k w l d : ℕ) (shields : w ≡ word (may_expose p.men (other p.turn))) (straight : l ≡ word (is_on_some straight_steps k))
@@ -524,12 +535,3 @@ pub kings_alone : (w n k s : ℕ) → n ≡ word (is_square (Some k)) → (bit_a
 kings_alone w n k s only none lt on =
     true_from_ne_false _ (λ off. false≢true (sym (ap (λ v. bit_at v s == 1) (eqb-true _ 0 none) ∙ off_zero s)
     ∙ seen_bit _ w n s only lt on (word_has _ n s only lt ∙ off)))
-
--- for `parries_after`: what is told where it is told
-pub told_possible : (men : List (Option Man)) (p : Position) (x : Man) (m : Move) (k : ℕ) (r : Parries) → r ≡ Possible → IsToldBetween men p x m k r
-    → IsInterposed men p x m k
-told_possible men p x m k r e told = subst (IsToldBetween men p x m k) e told
-
-pub told_impossible : (men : List (Option Man)) (p : Position) (x : Man) (m : Move) (k : ℕ) (r : Parries) → r ≡ Impossible → IsToldBetween men p x m k r
-    → NobodyComes men (other p.turn) m.to k
-told_impossible men p x m k r e told = subst (IsToldBetween men p x m k) e told

@@ -1,5 +1,5 @@
 -- The words of risks: what a defender must avoid lest a reply may mate.
-use Rattle.chess_mates.proofs.Chess.{AreApproached, AreApproaches, AreArrivals, AreGuardsWithout, AreWeak, Bishop, Colour, Field, Grasshopper, IsCheckWord, IsHarmless, IsNear, IsNoCheck, IsReached, IsUnguarded, IsWeak, Kind, King, Knight, List, Man, Nightrider, Option, Pawn, Position, Queen, Risk, Rook, Siege, and_parts, ap, arith, bit_and, bit_at, bit_at-lt, bit_at_not, bit_not, bit_or, eq-eqb, eqb-true, false, false_by, false≢true, gait_of, inl, is_hopper, king_is_no_pawn, may_go, no_pawn_arrives, not, occupied_squares, off_left, off_right, off_zero, other, reaches_as, refl, rules, same_kind, same_kind-true, squares, squares_for, sym, true, true_from_ne_false, w64, word, ℕ, ◌<◌, ◌==◌, ◌^◌, ◌∙◌, ◌≡◌}
+use Rattle.chess_mates.proofs.Chess.{AreApproached, AreApproaches, AreArrivals, AreGuardsWithout, AreWeak, Bishop, Colour, Field, Grasshopper, IsCheckWord, IsHarmless, IsNear, IsNoCheck, IsReached, IsUnguarded, IsWeak, Kind, King, Knight, List, Man, Nightrider, Option, Pawn, Position, Queen, Risk, Rook, Siege, and_parts, ap, arith, bit_and, bit_at, bit_at-lt, bit_at_not, bit_not, bit_or, eq-eqb, eqb-true, false, false_by, false≢true, gait_of, inl, is_hopper, king_is_no_pawn, may_go, no_pawn_arrives, not, occupied_squares, off_left, off_right, off_zero, other, reaches_as, refl, rules, same_kind, same_kind-true, squares, squares_for, sym, true, true_from_ne_false, w64, word, ℕ, IsArrival, ◌<◌, ◌==◌, ◌^◌, ◌∙◌, ◌≡◌}
 use Rattle.chess_mates.specs.declared.guards.Guards.{Guards}
 use Rattle.chess_mates.proofs.Hurdles.{on_one, reached_is}
 use Rattle.chess_mates.proofs.KindByKind.{man_is, of_all}
@@ -48,11 +48,18 @@ pub unguarded_at : (v : Siege) (g : Field) (s o : ℕ) (gs : Guards) (a : ℕ) �
     → (bit_at (bit_or (bit_or g.near g.captures) o) f == 1) ≡ true → (bit_at gs.guarded f == 1) ≡ false → IsUnguarded v s a f
 unguarded_at v g s o gs a are shut f near unseen = record { region = _; near = near; guards = gs; are = are; shut = shut; off = unseen }
 
+-- who never checks and uncovers nothing
+idly : (v : Siege) (g : Field) (checks : ℕ) (r : Risk) (x : Man) (s : ℕ) → ((t : ℕ) → IsArrival v.hurdles x s t → IsNoCheck checks g.springboards x t)
+    → (bit_at g.lines s == 1) ≡ false → IsHarmless v g checks r x s
+idly v g checks r x s calm hidden =
+    record { mild = λ a b low inside off. record { each = λ t i there. inl (record { check = calm t i; covered = inl hidden }) } }
+
 -- for `risk_from`: for a man who goes to no target and uncovers nothing
 pub harmless_quietly : (v : Siege) (g : Field) (checks : ℕ) (x : Man) (s reached targets : ℕ) → AreArrivals v.hurdles x s reached
     → ((t : ℕ) → t < 64 → (bit_at reached t == 1) ≡ true → (bit_at targets t == 1) ≡ false → IsNoCheck checks g.springboards x t)
     → targets ≡ 0 → (bit_at g.lines s == 1) ≡ false → IsHarmless v g checks (record { critical = 0; lines = 0 }) x s
-harmless_quietly v g checks x s reached targets are quiet none hidden = grind (arith, off_zero, are, quiet)
+harmless_quietly v g checks x s reached targets are quiet none =
+    idly v g checks _ x s (λ t i. quiet t i.small (are.inside t i) (false_by _ (none_at targets t none)))
 
 -- for `suspect_squares`: who uncovers nothing, and a pawn who comes to no target, by the squares from which he might
 pub pawn_idly : (v : Siege) (g : Field) (checks : ℕ) (x : Man) (s w : ℕ) → same_kind x.kind Pawn ≡ true
@@ -62,15 +69,8 @@ pawn_idly v g checks x s w pawn before small off none =
     let come = rw (man_is x x.colour Pawn refl (same_kind-true x.kind Pawn pawn)) at before in
     let idle = off_right g.lines w s off in
     let joined = on_one (bit_or checks 18374686479671623935) g.springboards in
-    record {
-      mild = λ a b low inside far. record {
-        each = λ t i there. inl (record {
-          check = pawn_targets x checks g.springboards t i.small
-              (grind (arith, false_by, joined t, none_at, idle, come.approach i.position s t small i.small i.goes));
-          covered = inl (off_left g.lines w s off);
-        });
-      };
-    }
+    idly v g checks _ x s (λ t i. pawn_targets x checks g.springboards t i.small
+    (grind (arith, false_by, joined t, none_at, idle, come.approach i.position s t small i.small i.goes))) (off_left g.lines w s off)
 
 -- risks together
 abbrev Both : Risk → Risk → Risk
@@ -118,10 +118,10 @@ module _ (v : Siege) (g : Field) where
 
   -- risks that are joined
   pub weak_left : (q r : Risk) (s : ℕ) (x : Man) → IsWeak v g q x s → IsWeak v g (Both q r) x s
-  weak_left q r s x h = search (rules, off_left)
+  weak_left q r s x h = record { weak = λ a b low small off. h.weak a b low small (search (rules, off_left, off.lines, off.critical)) }
 
   weak_right : (q r : Risk) (s : ℕ) (x : Man) → IsWeak v g r x s → IsWeak v g (Both q r) x s
-  weak_right q r s x h = search (rules, off_right)
+  weak_right q r s x h = record { weak = λ a b low small off. h.weak a b low small (search (rules, off_right, off.lines, off.critical)) }
 
   -- for `risk_of_all`
   pub all_weak : (K Q R B N P G Y : Risk) → WeakAs King K → WeakAs Queen Q → WeakAs Rook R → WeakAs Bishop B → WeakAs Knight N → WeakAs Pawn P

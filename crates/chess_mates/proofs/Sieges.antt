@@ -1,5 +1,6 @@
 -- The men of a siege, its castlings and the king's field.
-use Rattle.chess_mates.proofs.Chess.{AreAdjacent, AreAttackers, AreCaptureSquares, AreCastlingSquares, AreClosed, AreFree, AreHurdles, AreReached, AreSpringboards, AreSprings, AreThreats, AreWeak, Attackers, Bishop, Colour, Field, Grasshopper, IsAttacker, IsCastlingHarmless, IsField, IsHurdle, IsReached, IsRiskAt, IsShut, IsSiege, IsSiegeOf, IsUnsprung, IsWellFormed, IsWhole, Kind, King, Knight, List, Man, MayRide, Nightrider, None, Option, Pawn, Position, Queen, Risk, Rook, RuleSet, Siege, Some, White, and_parts, arith, bit_and, bit_at, bit_not, bit_or, corner, eq-eqb, eqb-true, every_square_on, false, false_by, false≢true, find_no, has_unmoved, inl, inr, is_fairy, is_man, is_on_some, is_rider, is_square, king_square, king_there, leaps, list_any, list_any-append, man_on, men_on, ne_eqb, occupied_squares, off_left, off_right, on_first, on_left, on_right, or_cases, other, queen_steps, reached_over, reaches_as, refl, rules, side_of, square_is, squares, squares_for, squares_of, straight_steps, true, w64, word, word_has, ℕ, ◌&&◌, ◌+◌, ◌-◌, ◌<◌, ◌==◌, ◌^◌, ◌||◌, ◌∙◌, ◌≡◌, ◌≢◌, ◌⊎◌}
+use Rattle.chess_mates.proofs.Chess.{AreAdjacent, AreAttackers, AreCaptureSquares, AreCastlingSquares, AreClosed, AreFree, AreHurdles, AreReached, AreSpringboards, AreSprings, AreThreats, AreWeak, Attackers, Bishop, Colour, Field, Grasshopper, IsAttacker, IsCastlingHarmless, IsField, IsHurdle, IsReached, IsRiskAt, IsShut, IsSiege, IsSiegeOf, IsUnsprung, IsWellFormed, IsWhole, Kind, King, Knight, List, Man, MayRide, Nightrider, None, Option, Pawn, Position, Queen, Risk, Rook, RuleSet, Siege, Some, White, and_parts, arith, bit_and, bit_at, bit_not, bit_or, corner, eq-eqb, eqb-true, every_square_on, false, false_by, false≢true, find_no, has_unmoved, inl, inr, is_fairy, is_man, is_on_some, is_rider, is_square, king_square, king_there, leaps, list_any, list_any-append, man_on, men_on, ne_eqb, occupied_squares, off_left, off_right, on_first, on_left, on_right, or_cases, other, queen_steps, reached_over, reaches_as, refl, rules, side_of, square_is, squares, squares_for, squares_of, straight_steps, true, w64, word, word_has, ℕ, KeepsOne, ◌&&◌, ◌+◌, ◌-◌, ◌<◌, ◌==◌, ◌^◌, ◌||◌, ◌∙◌, ◌≡◌, ◌≢◌, ◌⊎◌}
+use Rattle.chess_mates.specs.ties.Siege.{AreNeeded}
 use Rattle.chess_mates.specs.declared.field.Springs.{Springs}
 use Rattle.chess_mates.proofs.Hurdles.{on_one, reached_is, reached_left, reached_right}
 use Rattle.chess_mates.proofs.FarMen.{man_of_word, off_denied}
@@ -21,6 +22,10 @@ captures_are v k n near none plain = record {
 -- for fewer squares next to the king
 pub fewer_adjacent : (v : Siege) (k n w : ℕ) → AreAdjacent v k n → AreAdjacent v k (bit_and n w)
 fewer_adjacent v k n w are = search (rules, on_first)
+
+-- for `needed_squares`: squares that keep a flight
+pub needed_are : (v : Siege) (w : ℕ) → AreAdjacent v v.king w → KeepsOne v.men w → AreNeeded v w
+needed_are v w near keeps = record { keeps = λ t small off. record { near = w; adjacent = near; off = off; keeps = keeps } }
 
 -- a queen's lines are a rook's and a bishop's
 pub queen_lines : (d k r b : ℕ) (c : Colour) → IsReached d (record { colour = c; kind = Rook }) k r → IsReached d (record { colour = c; kind = Bishop }) k b

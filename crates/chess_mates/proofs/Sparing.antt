@@ -1,8 +1,7 @@
 -- No reply mates after a defender's move without risk.
-use Rattle.chess_mates.proofs.Chess.{AreFree, AreLaterHurdles, Colour, Field, IsArrival, IsAttacker, IsCaptured, IsCastlingHarmless, IsCheckWord, IsFlight, IsHome, IsHurdle, IsMade, IsMereMove, IsNear, IsOff, IsPlainMove, IsQuiet, IsReborn, IsRiskAt, IsShut, IsShutAt, IsSiege, IsSiegeOf, IsUnguarded, IsUnsprung, IsWeakAt, IsWellFormed, Kind, King, List, Man, MayRide, Move, Nightrider, None, Option, Pawn, Position, Risk, RuleSet, Siege, Some, [], after_well_formed, all_triples, and_from, and_left, and_parts, and_right, ap, arith, arrival_needed, arrived, arriving_colour, arriving_king, arriving_man, bit_at, capture_of_piece, capture_square, captured_enemy, captured_man, captures_are_reborn, captures_do_more, cases_Bool, cases_eq, castle_of, corner, eq-eqb, eqb-true, false, false_by, false_from_ne_true, false≢true, file_of, gait_of, halfway, has_flight, has_unmoved, in_check, inl, inr, is_absent, is_arrival_free, is_attacked, is_attacked_at, is_attacker, is_castling, is_double_step, is_fairy, is_hopper, is_legal, is_man, is_of_colour, is_pseudo_legal, is_rider, is_some, is_square, king-back, king_after, king_is, king_is_after, king_square, king_stands, king_there, leaps, list_any, made, maker, man_on, man_there, mates, mates_behind, may_check_from, may_go, may_go_aimed, men_on, moved_men, moved_plainly, off_second, off_zero, on_board, or_cases, or_parts, other, other_twice, position_after, position_after_by, queen_steps, reached_over, reaches_as, reaches_back, rebirth, reborn_is, reborn_square, refl, rules, same_colour, same_colour-refl, same_colour-true, same_kind, same_kind-true, side_of, simple_after, square_is, subst, sym, taken, there_now, true, word, word_has, ℕ, ◌-◌, ◌<◌, ◌==◌, ◌||◌, ◌∙◌, ◌≡◌, ◌≢◌, ◌⊎◌}
+use Rattle.chess_mates.proofs.Chess.{AreFree, AreLaterHurdles, Colour, Field, IsArrival, IsAttacker, IsCaptured, IsCastlingHarmless, IsCheckWord, IsFlight, IsHome, IsHurdle, IsMade, IsMereMove, IsNear, IsOff, IsPlainMove, IsQuiet, IsReborn, IsRiskAt, IsShut, IsShutAt, IsSiege, IsSiegeOf, IsUnguarded, IsUnsprung, IsWeakAt, IsWellFormed, Kind, King, List, Man, MayRide, Move, Nightrider, None, Option, Pawn, Position, Risk, RuleSet, Siege, Some, [], after_well_formed, all_triples, and_from, and_left, and_parts, and_right, ap, arith, arrival_needed, arrived, arriving_colour, arriving_king, arriving_man, bit_at, capture_of_piece, capture_square, captured_enemy, captured_man, captures_are_reborn, captures_do_more, cases_Bool, cases_eq, castle_of, corner, eq-eqb, eqb-true, false, false_by, false_from_ne_true, false≢true, file_of, gait_of, halfway, has_flight, has_unmoved, in_check, inl, inr, is_absent, is_arrival_free, is_attacked, is_attacked_at, is_attacker, is_castling, is_double_step, is_fairy, is_hopper, is_legal, is_man, is_of_colour, is_pseudo_legal, is_rider, is_some, is_square, king-back, king_after, king_is, king_is_after, king_square, king_stands, king_there, leaps, list_any, made, maker, man_on, man_there, mates, mates_behind, may_check_from, may_go, may_go_aimed, men_on, moved_men, moved_plainly, off_second, off_zero, on_board, or_cases, or_parts, other, other_twice, position_after, position_after_by, queen_steps, reached_over, reaches_as, reaches_back, rebirth, reborn_is, reborn_square, refl, rules, same_colour, same_colour-refl, same_colour-true, same_kind, same_kind-true, side_of, simple_after, square_is, subst, sym, taken, there_now, true, word, word_has, ℕ, or_left, or_right, true_from_ne_false, triple_at, ◌-◌, ◌<◌, ◌==◌, ◌||◌, ◌∙◌, ◌≡◌, ◌≢◌, ◌⊎◌}
 use Rattle.chess_mates.proofs.Rebirths.{after_is}
 use Rattle.chess_mates.proofs.Hurdles.{later, later_but}
-use Rattle.chess_mates.proofs.HomeSquares.{some_of}
 use Rattle.chess_mates.proofs.LastingFlights.{on_both}
 use Rattle.chess_mates.proofs.Risks.{none_at}
 use Rattle.chess_mates.proofs.KingsApart.{kings_apart}
@@ -36,6 +35,14 @@ free_kept c o u kept side king = grind (arith, free_man c u side king)
 
 vacant_kept : (o u : Option Man) → ((z : Man) → o ≡ Some z → u ≡ Some z) → (is_some u ≡ true → ⊥) → o ≡ None
 vacant_kept o u kept none = grind arith
+
+-- nobody is on both sides
+one_side : (z : Man) (c : Colour) → z.colour ≡ other c → z.colour ≡ c → ⊥
+one_side z c enemy mine = false≢true (sym (not_mine z c enemy) ∙ rw mine (same_colour-refl c))
+
+-- who stands somewhere is of one of them
+of_either : (o : Option Man) (c : Colour) → is_some o ≡ (is_of_colour o c || is_of_colour o (other c))
+of_either o c = grind arith
 
 -- the enemy king stays
 enemy_king : (rule : RuleSet) (p : Position) (x : Man) (m : Move) → IsWellFormed p → IsMade rule p x m → m.to < 64
@@ -73,11 +80,11 @@ module _ (rule : RuleSet) (p : Position) (m : Move) (x : Man) (v : Siege) (k : �
 
   stood_q : (s : ℕ) (z : Man) → man_on q.men s ≡ Some z
       → ((s ≡ m.to) × (z ≡ arriving_man x m.promo)) ⊎ ((s ≢ m.to) × ((s ≢ m.from) × (man_on p.men s ≡ Some z)))
-  stood_q s z there = grind (arith, men_q, stood p x m s z, small, well.size)
+  stood_q s z there = stood p x m s z (omega (arith, small, well.size)) (rw men_q at there)
 
   -- an enemy stood there before
   enemy_stood : (s : ℕ) (z : Man) → man_on q.men s ≡ Some z → z.colour ≡ other p.turn → man_on p.men s ≡ Some z
-  enemy_stood s z there enemy = grind (arith, stood_q s z there, not_mine, arriving_colour, is, same_colour-refl)
+  enemy_stood s z there enemy = search (rules, stood_q s z there, one_side z p.turn enemy, arriving_colour x m.promo ∙ is.mine)
 
   attacker : (s : ℕ) (z : Man) → s < 64 → man_on q.men s ≡ Some z → z.colour ≡ other p.turn → IsAttacker v.men z s
   attacker s z inside there enemy = i.fits.men.stand s z inside (enemy_stood s z there enemy) (enemy ∙ sym i.fits.colour)
@@ -87,12 +94,13 @@ module _ (rule : RuleSet) (p : Position) (m : Move) (x : Man) (v : Siege) (k : �
   unfolding side_of
   somebody e inside =
       let has = λ (c : Colour). word_has (λ s. is_of_colour (man_on p.men s) c) in
-      grind (arith, some_side, some_of, has p.turn v.own e i.fits.own inside, has (other p.turn) v.enemies e i.fits.enemies inside)
+      rw (has p.turn v.own e i.fits.own inside, has (other p.turn) v.enemies e i.fits.enemies inside) (of_either (man_on p.men e) p.turn)
 
   -- a hurdle stays occupied
   stays_q : (e : ℕ) → e < 64 → (bit_at v.hurdles e == 1) ≡ true → e ≢ m.from → is_some (man_on q.men e) ≡ true
   stays_q e inside on left =
-      grind (arith, men_q, some_stays, i.plain.captures, small, well.size, (i.siege.hurdles.men e inside on).0, somebody e inside)
+      let side : (bit_at v.own e == 1 || bit_at v.enemies e == 1) ≡ true = search (rules, or_left, or_right, (i.siege.hurdles.men e inside on).0) in
+      rw men_q (some_stays p x m e i.plain.captures (omega (arith, small, well.size)) left (somebody e inside ∙ side))
 
   at_k : k < 64
   at_k = (king_there q.men p.turn k king_q).0
@@ -110,7 +118,7 @@ module _ (rule : RuleSet) (p : Position) (m : Move) (x : Man) (v : Siege) (k : �
 
   -- no line from the king ends on the square that the defender leaves
   shut_off : (c : Colour) (j : Kind) → MayRide v j → (bit_at v.hurdles m.from == 1) ≡ true → reaches_as (men_on v.hurdles) c j k m.from ≡ true → ⊥
-  shut_off c j may on reach = grind (arith, i.at.lines m.from m.to small i.off.critical, i.off.lines, lined c j m.from from)
+  shut_off c j may on reach = false≢true (sym (i.at.lines m.from m.to small i.off.critical (i.off.lines on)) ∙ lined c j m.from from may reach)
 
   -- from off his check squares no attacker but a hopper reaches the king, where all hurdles stand but m.from and o, on none of his lines
   off_word : (men : List (Option Man)) (o s t : ℕ) (z : Man) (a : IsAttacker v.men z s) → t < 64 → is_hopper (gait_of z.kind) ≡ false
@@ -122,7 +130,8 @@ module _ (rule : RuleSet) (p : Position) (m : Move) (x : Man) (v : Siege) (k : �
   off_word men o s t z a inside plain off stays last =
       let shut = λ (rider : is_rider z.kind ≡ true). shut_off (other z.colour) z.kind (may_ride s z a rider) in
       let over = later_but v.hurdles men m.from o (other z.colour) z.kind k t plain stays shut last in
-      grind (arith, reaches_back men z.colour z.kind t k plain inside at_k, (weak_at s z a).word.inside plain t inside, i.at.king, over)
+      false_by _ (λ h. false≢true (sym off ∙ (weak_at s z a).word.inside plain t inside
+      (rw i.at.king (over (sym (reaches_back men z.colour z.kind t k plain inside at_k) ∙ h)))))
 
   module _ (n : Move) (to : n.to < 64) (can : is_pseudo_legal rule q n ≡ true) where
     abbrev y : Man
@@ -192,7 +201,7 @@ module _ (rule : RuleSet) (p : Position) (m : Move) (x : Man) (v : Siege) (k : �
           let may : MayRide v j = (rider, λ kind. absurd (false≢true (sym plain ∙ ap is_fairy (same_kind-true j Nightrider kind)))) in
           let off = harmless.kings (halfway n) n.from from_small half_on (grind (arith, same_kind-true y.kind King king_y, is_y.on)) in
           false≢true (sym off ∙ lined p.turn j n.from from_small may (later v.hurdles q.men p.turn j k n.from (no_fairy_hops j plain)
-          (λ r e low on reach. grind (arith, cases_eq e m.from, shut_off p.turn j may, stays_q e low on)) h)))
+          (λ r e low on reach. stays_q e low on (λ same. shut_off p.turn j may (rw same at on) (rw same at reach))) h)))
 
       -- there is no fairy man
       no_fairy : (j : Kind) → is_fairy j ≡ true → (s : ℕ) → s < 64 → is_man (man_on q.men s) (other p.turn) j ≡ false
@@ -229,7 +238,7 @@ module _ (rule : RuleSet) (p : Position) (m : Move) (x : Man) (v : Siege) (k : �
     ])
 
     captures_q : (s : ℕ) → capture_square q y n ≡ Some s → s ≡ n.to
-    captures_q s cap = grind (arith, cases_Bool (same_kind y.kind Pawn), captured_there q y n s, uncrossed, capture_of_piece q y n s)
+    captures_q s cap = search (rules, cases_Bool (same_kind y.kind Pawn), captured_there q y n s, capture_of_piece q y n s, uncrossed)
 
     module _ (plain_n : is_castling y n ≡ false) where
       abbrev r : Position
@@ -247,7 +256,7 @@ module _ (rule : RuleSet) (p : Position) (m : Move) (x : Man) (v : Siege) (k : �
         defends = mine_again b.man.colour p.turn (ap (same_colour b.man.colour) (sym turn_q) ∙ captured_enemy rule q y n b.man well_q is_n b.who)
 
         circe : captures_do_more rule ≡ true
-        circe = grind (arith, cases_Bool, no_rebirth, false≢true)
+        circe = true_from_ne_false _ (λ off. false≢true (ap is_some (sym (no_rebirth rule q y n (λ on. absurd (false≢true (sym off ∙ on)))) ∙ at)))
 
         taken_on : b.square ≡ n.to
         taken_on = captures_q b.square b.where_taken
@@ -294,14 +303,14 @@ module _ (rule : RuleSet) (p : Position) (m : Move) (x : Man) (v : Siege) (k : �
           ])
 
       king_r : king_square r.men p.turn ≡ Some k
-      king_r = king_is r.men p.turn k well_r.kings at_k (grind (arith, same_or_new k, (king_there landed p.turn k king_landed).1))
+      king_r = king_is r.men p.turn k well_r.kings at_k (search (rules, same_or_new k, (king_there landed p.turn k king_landed).1, false≢true))
 
       stood_r : (s : ℕ) (z : Man) → man_on r.men s ≡ Some z → Stood s z ⊎ ((z.colour ≡ p.turn) × IsNew s)
-      stood_r s z there = grind (arith, same_or_new s, stood q y n s z (omega (arith, to, well_q.size)), same_man)
+      stood_r s z there = search (rules, same_or_new s, stood q y n s z (omega (arith, to, well_q.size)), same_man)
 
       -- of the attackers nobody is new
       enemy_r : (s : ℕ) (z : Man) → man_on r.men s ≡ Some z → z.colour ≡ other p.turn → Stood s z
-      enemy_r s z there enemy = grind (arith, stood_r s z there, not_mine, same_colour-refl)
+      enemy_r s z there enemy = search (rules, stood_r s z there, one_side z p.turn enemy)
 
       -- he comes over the hurdles, to another attacker's square only if that one has been captured
       arrival : IsArrival v.hurdles y n.from n.to
@@ -311,7 +320,8 @@ module _ (rule : RuleSet) (p : Position) (m : Move) (x : Man) (v : Siege) (k : �
         position = q;
         goes = goes_y;
         reaches = λ piece plain. later v.hurdles q.men y.colour y.kind n.from n.to plain
-            (λ rider e inside on h. grind (arith, cases_eq e m.from, i.shut.shut n.from y is_y rider, stays_q e inside on))
+            (λ rider e inside on h. stays_q e inside on
+            (λ same. false≢true (sym (i.shut.shut n.from y is_y rider (rw same at on)) ∙ (rw same at h))))
             (piece_reaches rule q y n is_n piece plain_n);
       }
 
@@ -328,7 +338,7 @@ module _ (rule : RuleSet) (p : Position) (m : Move) (x : Man) (v : Siege) (k : �
       -- hurdles stay, or the man who captures stands there
       stays_r : (e : ℕ) → e < 64 → (bit_at v.hurdles e == 1) ≡ true → e ≢ m.from → e ≢ n.from → is_some (man_on r.men e) ≡ true
       stays_r e inside on left off =
-          grind (arith, same_or_new e, some_stays q y n e captures_q (omega (arith, to, well_q.size)) off (stays_q e inside on left))
+          search (rules, same_or_new e, some_stays q y n e captures_q (omega (arith, to, well_q.size)) off (stays_q e inside on left))
 
       -- on a board where they stay
       module _ (men : List (Option Man)) (stays : (e : ℕ) → e < 64 → (bit_at v.hurdles e == 1) ≡ true → e ≢ m.from → e ≢ n.from → is_some (man_on men e) ≡ true)
@@ -361,8 +371,7 @@ module _ (rule : RuleSet) (p : Position) (m : Move) (x : Man) (v : Siege) (k : �
           → man_on r.men h ≡ Some z → ⊥
       stands_r boards h z free on low apart before last there = elim (stood_r h z there) [
         | inr new ↦ false≢true (sym (free.closed h on low apart) ∙ new.1.0)
-        | inl old ↦
-            absurd (grind (arith, old, before, last, stood_q h z, somebody h low, free.own h on low apart, free.enemies h on low apart))
+        | inl old ↦ search (rules, old, before, last, stood_q h z, somebody h low, free.own h on low apart, free.enemies h on low apart, false≢true)
       ]
 
       -- whoever stands elsewhere than where the two came stands on a later hurdle
@@ -385,7 +394,8 @@ module _ (rule : RuleSet) (p : Position) (m : Move) (x : Man) (v : Siege) (k : �
           let on = u.within b.square b.on in
           let at = stand b.square y.0 b.apart y.1 in
           let critical = i.at.hops m.to small i.off.critical in
-          stands_r u.springboards b.square y.0 u.free b.on b.small at.0 (λ e. grind (arith, e, at.0, hops b.square on, critical, i.at.king))
+          stands_r u.springboards b.square y.0 u.free b.on b.small at.0
+          (λ e. false≢true (sym (critical (λ king. at.0 (e ∙ king ∙ i.at.king))) ∙ rw e at (hops b.square on)))
           (λ e. false≢true (sym off ∙ rw e at on)) at.1)
 
       -- kings stay apart
@@ -471,7 +481,7 @@ module _ (rule : RuleSet) (p : Position) (m : Move) (x : Man) (v : Siege) (k : �
 
         -- who stands there stood there before
         stood_f : (z : Man) → man_on r.men f ≡ Some z → man_on p.men f ≡ Some z
-        stood_f z e = grind (arith, stood_r f z e, stood_q f z, open_f, flight.left.off, flight.left.elsewhere)
+        stood_f z e = search (rules, stood_r f z e, stood_q f z, open_f, flight.left.off, flight.left.elsewhere, false≢true)
 
         left_flees : has_flight rule r ≡ true
         left_flees =
@@ -500,7 +510,8 @@ module _ (rule : RuleSet) (p : Position) (m : Move) (x : Man) (v : Siege) (k : �
         capture_flees : same_kind y.kind King ≡ false → has_flight rule r ≡ true
         unfolding side_of
         capture_flees mortal =
-            let came : man_on r.men n.to ≡ Some (arriving_man y n.promo) = grind (arith, there_now, arriving_man, to, well_q, same_or_new) in
+            let there = there_now q.men n.from (capture_square q y n) n.to (arriving_man y n.promo) (omega (arith, to, well_q.size)) in
+            let came : man_on r.men n.to ≡ Some (arriving_man y n.promo) = search (rules, same_or_new n.to, there, false≢true) in
             flees n.to to near
             (rw came (free_man p.turn (Some (arriving_man y n.promo)) (rw (arriving_colour y n.promo) (not_mine y p.turn enemy_y))
             (and_right _ _ (false_by _ (λ king. false≢true (sym mortal ∙ (rw (arriving_king q y n n.promo is_n.promotion king) at king)))))))
@@ -511,10 +522,11 @@ module _ (rule : RuleSet) (p : Position) (m : Move) (x : Man) (v : Siege) (k : �
 
         unmated_captured : mates rule q n ≡ false
         unfolding reaches_as
-        unmated_captured =
-            let quietly = no_mate_quietly rule q n in
-            let king = same_kind-true y.kind King in
-            grind (arith, cases_Bool (same_kind y.kind King), no_mate_with_flight, capture_flees, quietly, king_comes, king, king-back n.to k to at_k, near)
+        unmated_captured = elim (cases_Bool (same_kind y.kind King)) [
+          | inr mortal ↦ sym (no_mate_with_flight rule q n (capture_flees mortal))
+          | inl king ↦ sym (no_mate_quietly rule q n (λ lawful. absurd (false≢true (sym (king_comes lawful king)
+              ∙ rw (same_kind-true y.kind King king) (king-back n.to k to at_k ∙ near)))))
+        ]
 
       unmated_plainly : mates rule q n ≡ false
       unmated_plainly = elim (w.mild.each n.to arrival recaptures) [
@@ -523,13 +535,13 @@ module _ (rule : RuleSet) (p : Position) (m : Move) (x : Man) (v : Siege) (k : �
       ]
 
     unmated : mates rule q n ≡ false
-    unmated = grind (arith, cases_Bool (is_castling y n), no_mate_quietly rule q n, castled, unmated_plainly, turn_q, other_twice p.turn)
+    unmated = search (rules, cases_Bool (is_castling y n), no_mate_quietly, castled, unmated_plainly, turn_q, other_twice)
 
   -- for each way of the defender
   pub no_mate_behind : mates_behind rule q 0 ≡ []
   no_mate_behind =
       mates_behind-none rule q 0 all_triples (λ lt. omega arith) (omega arith) (record {
-        fails = λ j lo hi. grind (arith, cases_Bool, unmated, arrival_small, not_mating);
+        fails = λ j lo hi. search (rules, cases_Bool, unmated, arrival_small, not_mating);
       })
       ∙ mates_behind-end rule q all_triples (omega arith)
 

@@ -1,34 +1,30 @@
 -- A check to which nobody comes between stays.
-use Rattle.chess_mates.proofs.Chess.{Bishop, Black, Colour, IsShift, Kind, King, Knight, List, Man, Move, Option, Pawn, Position, Queen, Rook, White, and_from, and_parts, arith, bit_at, bit_or, diagonal-back, diagonal_steps, eq-eqb, false, false≢true, forward, goes_on, is_advance, is_fairy, is_on_some, is_square, is_vacant_at, list_any, list_any-append, off_left, off_right, or_cases, or_left, or_right, other, reaches_as, refl, return_square, rides, rules, straight-back, straight_steps, subst, sym, true, word, word_has, ℕ, ◌&&◌, ◌<◌, ◌==◌, ◌∙◌, ◌≡◌}
+use Rattle.chess_mates.proofs.Chess.{Bishop, Black, Colour, IsShift, Kind, King, Knight, List, Man, Move, Option, Pawn, Position, Queen, Rook, White, and_from, and_parts, arith, bit_at, bit_or, diagonal_steps, eq-eqb, false, false≢true, forward, goes_on, is_advance, is_fairy, is_on_some, is_square, is_vacant_at, list_any, list_any-append, off_left, off_right, or_cases, or_left, or_right, other, reaches_as, refl, return_square, rides, rules, straight_steps, subst, sym, true, word, word_has, ℕ, Step, ◌&&◌, ◌<◌, ◌==◌, ◌∙◌, ◌≡◌}
 use Rattle.chess_mates.specs.ties.Parries.{AreBetween}
 use Rattle.chess_rules.specs.Legal.{is_pawn_step}
-use Rattle.chess_rules.proofs.rays.Flips.{backward}
+use Rattle.chess_rules.proofs.rays.Flips.{backward, opposed, rides_turned}
 use Rattle.chess_rules.proofs.rays.Parting.{Frees, line_open}
 
 -- once another man has come to b, off the squares between s and k, a man without fairy lines on s reaches k as before
 module _ (men after : List (Option Man)) (b k s w : ℕ) (free : Frees men after b) (p : s < 64) (q : k < 64) (lt : b < 64) (between : AreBetween men s k w)
     (off : (bit_at w b == 1) ≡ false) where
-  straight_after : list_any (rides men s k) straight_steps ≡ true → list_any (rides after s k) straight_steps ≡ true
-  unfolding reaches_as is_on_some
-  straight_after h =
-      let turned = sym (straight-back men s k p q) ∙ h in
-      straight-back after s k p q ∙ line_open men after b k s straight_steps free turned
-      (λ x y. false≢true (sym (between.straight (goes_on men k s straight_steps turned) b lt off)
-      ∙ and_from _ _ (sym (backward straight_steps (rides men s b) refl) ∙ y) x))
-
-  diagonal_after : list_any (rides men s k) diagonal_steps ≡ true → list_any (rides after s k) diagonal_steps ≡ true
-  unfolding reaches_as is_on_some
-  diagonal_after h =
-      let turned = sym (diagonal-back men s k p q) ∙ h in
-      diagonal-back after s k p q ∙ line_open men after b k s diagonal_steps free turned
-      (λ x y. false≢true (sym (between.diagonal (goes_on men k s diagonal_steps turned) b lt off)
-      ∙ and_from _ _ (sym (backward diagonal_steps (rides men s b) refl) ∙ y) x))
+  line_after : (ds : List Step) → opposed ds ds ≡ true
+      → (is_on_some ds k s ≡ true → (list_any (rides men s b) ds && list_any (rides men k b) ds) ≡ false) → list_any (rides men s k) ds ≡ true
+      → list_any (rides after s k) ds ≡ true
+  unfolding is_on_some
+  line_after ds flat apart h =
+      let turned = sym (rides_turned ds men s k flat p q) ∙ h in
+      rides_turned ds after s k flat p q ∙ line_open men after b k s ds free turned
+      (λ x y. false≢true (sym (apart (goes_on men k s ds turned)) ∙ and_from _ _ (sym (backward ds (rides men s b) flat) ∙ y) x))
 
   pub reaches_still : (e : Colour) (j : Kind) → is_fairy j ≡ false → reaches_as men e j s k ≡ true → reaches_as after e j s k ≡ true
   unfolding reaches_as
-  reaches_still e Queen f h = search (rules, straight_after, diagonal_after, list_any-append, or_cases, or_left, or_right, h)
-  reaches_still e Rook f h = straight_after h
-  reaches_still e Bishop f h = diagonal_after h
+  reaches_still e Queen f h =
+      let straight = line_after straight_steps refl (λ on. between.straight on b lt off) in
+      let diagonal = line_after diagonal_steps refl (λ on. between.diagonal on b lt off) in
+      search (rules, straight, diagonal, list_any-append, or_cases, or_left, or_right, h)
+  reaches_still e Rook f h = line_after straight_steps refl (λ on. between.straight on b lt off) h
+  reaches_still e Bishop f h = line_after diagonal_steps refl (λ on. between.diagonal on b lt off) h
   reaches_still e King f h = h
   reaches_still e Knight f h = h
   reaches_still e Pawn f h = h

@@ -245,7 +245,7 @@ fn ends_of(squares: Squares) -> Squares
 
 // The squares to which no other man may come lest the king, who stays, keeps no flight whatever is played: those that no
 // attacker reaches, were all others gone, if they can't all be taken with one move; two of them, if these can't.
-#[tactic(auto, using(chess_rules::proofs::listing_moves::Targeting::every_square_on, crate::proofs::Sieges::fewer_adjacent))]
+#[tactic(auto, using(chess_rules::proofs::listing_moves::Targeting::every_square_on))]
 pub(crate) fn needed_squares(siege: &Siege, targets: &OpenTargets) -> Squares
     requires { AreOpenTargets siege.now.men targets.now }
     ensures { AreNeeded siege.now result }

@@ -213,7 +213,6 @@ fn risk_of_going(
 
 // The risk of the man on `from`, who checks from the squares of `checks`. Mostly he can't come there, were the others
 // gone.
-#[tactic(auto, using(chess_rules::proofs::listing_moves::Walks::off_zero, crate::proofs::Risks::harmless_quietly, crate::proofs::Risks::open_arrivals))]
 #[inline(always)]
 fn risk_from(siege: &Siege, field: &Field, man: Man, from: Square, checks: Squares) -> Risk
     ensures { IsHarmless siege.now field.now checks result man from }

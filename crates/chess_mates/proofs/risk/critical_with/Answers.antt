@@ -1,3 +1,4 @@
+use Rattle.chess_rules.proofs.listing_moves.Targeting.{every_square_on}
 use Rattle.chess_mates.proofs.Chess.{Some, arith, bit_at, cases_eq, eq-eqb, false≢true, find_first, inl, inr, is_square, sym, word_has, ◌+◌, ◌-◌, ◌==◌, ◌∙◌}
 use Rattle.chess_mates.proofs.risk.critical_with.Goals as goal
 
@@ -6,6 +7,9 @@ returns-then-contains c = record {
   left = λ b small off there. absurd (false≢true (sym off ∙ word_has (λ q. is_square (Some c.args.to) q) _ b c.only.ensures small
       ∙ eq-eqb c.args.to b (sym (there (sym c.contains.ensures ∙ c.if-contains.true)))));
 }
+
+pub returns-else-contains : goal.returns-else-contains
+returns-else-contains c = record { left = λ b small off there. absurd (false≢true (sym off ∙ every_square_on b small)) }
 
 pub returns-in_default-next_bit : goal.returns-in_default-next_bit
 returns-in_default-next_bit c =

@@ -1,5 +1,16 @@
-use Rattle.chess_mates.proofs.Chess.{inl, inr}
+use Rattle.chess_mates.proofs.Chess.{inl, inr, rules}
+use Rattle.chess_mates.proofs.Risks.{harmless_quietly, open_arrivals}
 use Rattle.chess_mates.proofs.risk.risk_from.Goals as goal
+
+pub returns-then-not-contains : goal.returns-then-not-contains
+returns-then-not-contains c =
+    harmless_quietly _ _ _ _ _ _ c.checking_targets-most.result (open_arrivals _ _ _ c.open_targets-open.result c.open_targets-open.ensures)
+    (search (rules, c.checking_targets-most.ensures)) c.if-most-eq0.true (search rules)
+
+pub returns-then-not-contains-2 : goal.returns-then-not-contains-2
+returns-then-not-contains-2 c =
+    harmless_quietly _ _ _ _ _ _ c.checking_targets-targets.result c.arrivals-reached.ensures (search (rules, c.checking_targets-targets.ensures))
+    c.if-targets-eq0.true (search rules)
 
 pub returns : goal.returns
 returns c = record {
