@@ -240,7 +240,7 @@ pub(crate) fn some_free<R: Rules>(board: &Board, word: Squares) -> bool
 {
     let mut rest = word;
     while let Some(square) = take_first(&mut rest) {
-        if !R::is_paralysed(board, square) {
+        if !R::paralysed(board, square) {
             return true;
         }
     }

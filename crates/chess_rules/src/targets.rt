@@ -107,7 +107,7 @@ pub fn arrivals<R: Rules>(board: &Board, from: Square) -> Squares
     if !man.colour.is(board.turn()) {
         return 0;
     }
-    if R::is_paralysed(board, from) {
+    if R::paralysed(board, from) {
         return 0;
     }
     free_squares(board, board.turn()) & goes_to(board, man, from)

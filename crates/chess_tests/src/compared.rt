@@ -74,11 +74,11 @@ pub(crate) fn first_unlike<R: Rules>(board: &mut Board, rule: Rule) -> Option<Qu
 fn unlike_of_men<R: Rules>(board: &Board, plain: &Plain, rule: Rule) -> Option<Question> {
     for number in 0..64u8 {
         let square = Square::numbered(number);
-        if R::is_paralysed(board, square) != plain.is_paralysed(rule, square) {
+        if R::paralysed(board, square) != plain.is_paralysed(rule, square) {
             return Some(Question::Paralysis);
         }
         for colour in &[Colour::White, Colour::Black] {
-            if R::is_attacked(board, square, *colour) != plain.is_attacked(rule, square, *colour) {
+            if R::attacked(board, square, *colour) != plain.is_attacked(rule, square, *colour) {
                 return Some(Question::Attack);
             }
         }

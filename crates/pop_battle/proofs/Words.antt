@@ -17,7 +17,7 @@ pub use Rattle.chess_rules.proofs.listing_moves.Places.{moves_behind-end, moves_
 pub use Rattle.chess_rules.proofs.making_moves.Stays.{after_well_formed}
 pub use Rattle.chess_rules.specs.Legal.{is_nil}
 unfoldable pub use Rattle.chess_rules.specs.Legal.{is_legal, is_mate, is_stalemate, moves}
-pub use Rattle.chess_rules.specs.Undo.{Undo}
+pub use Rattle.chess_core.specs.Undo.{Undo}
 unfoldable pub use Rattle.chess_rules.specs.Play.{undo_of}
 pub use Rattle.chess_rules.specs.RuleSet.{RuleSet}
 pub use Rattle.chess_rules.specs.ties.Places.{IsPlaceIn, LegalPlace}

@@ -10,7 +10,7 @@ use Rattle.chess_rules.specs.Attacks.{in_check}
 use Rattle.chess_rules.specs.Legal.{is_mate, is_stalemate}
 use Rattle.chess_rules.specs.Play.{is_castling, position_after, undo_of}
 use Rattle.chess_rules.specs.RuleSet.{RuleSet}
-use Rattle.chess_rules.specs.Undo.{Undo}
+use Rattle.chess_core.specs.Undo.{Undo}
 use Rattle.pop_input.specs.Stipulations.{is_for_stalemate}
 use Rattle.pop_input.specs.declared.stipulation.Goal.{Goal}
 use Rattle.pop_events.specs.declared.shown.Mark.{Mark}

@@ -9,7 +9,7 @@ use Rattle.chess_core.specs.Position.{Position}
 use Rattle.chess_core.specs.declared.man.Move.{Move}
 use Rattle.chess_core.specs.WellFormed.{IsWellFormed}
 use Rattle.chess_rules.specs.Legal.{is_legal}
-use Rattle.chess_rules.specs.Undo.{Undo}
+use Rattle.chess_core.specs.Undo.{Undo}
 use Rattle.chess_mates.specs.ties.Aims.{aims_at_king}
 use Rattle.chess_rules.specs.ties.Places.{IsPlaceIn, LegalPlace, moves_behind, moves_between, place_of}
 use Rattle.chess_rules.specs.Play.{undo_of}
