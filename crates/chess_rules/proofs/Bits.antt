@@ -3,7 +3,7 @@ use Rattle.chess_rules.proofs.Basics.{Bool, List, None, Some, [], ap, arith, bit
 use Rattle.chess_core.proofs.Ranges.{find_range_none, find_range_some}
 use Rattle.chess_core.proofs.Words.{square_bit, square_word, squares_both, squares_either, squares_none, squares_not, squares_same, squares_some}
 use Rattle.chess_core.specs.Squares.{is_square, some_square}
-use Rattle.chess_core.specs.declared.step.Step.{Step}
+use Rattle.chess_core.specs.Steps.{Step}
 use Rattle.chess_core.specs.ties.Words.{bit_of, word}
 use Rattle.chess_rules.proofs.Tests.{differs}
 

@@ -11,7 +11,7 @@ pub use Rattle.chess_core.specs.Position.{AtMostOneKing, HasNoKing, Position, is
 unfoldable pub use Rattle.chess_core.specs.Position.{king_square}
 pub use Rattle.chess_core.specs.Squares.{file_of, is_on_board, is_square, rank_of, square_at}
 unfoldable pub use Rattle.chess_core.specs.Squares.{some_square, squares}
-pub use Rattle.chess_core.specs.Steps.{diagonal_steps, gait_of, is_hopper, is_leaper, kind_steps, knight_steps, pawn_capture_steps, queen_steps, step_by, straight_steps}
+pub use Rattle.chess_core.specs.Steps.{Step, diagonal_steps, gait_of, is_hopper, is_leaper, kind_steps, knight_steps, pawn_capture_steps, queen_steps, step_by, straight_steps}
 unfoldable pub use Rattle.chess_core.specs.Steps.{along}
 pub use Rattle.chess_core.specs.WellFormed.{IsWellFormed, is_pawn_inside, is_vacant, was_passed}
 unfoldable pub use Rattle.chess_core.specs.WellFormed.{is_crossed_right, is_home}
@@ -23,7 +23,6 @@ pub use Rattle.chess_core.specs.declared.man.Kind.{Kind}
 pub use Rattle.chess_core.specs.declared.man.Kind.TheVariants.{Bishop, Grasshopper, King, Knight, Nightrider, Pawn, Queen, Rook}
 pub use Rattle.chess_core.specs.declared.man.Man.{Man}
 pub use Rattle.chess_core.specs.declared.man.Move.{Move}
-pub use Rattle.chess_core.specs.declared.step.Step.{Step}
 pub use Rattle.chess_core.specs.ties.Words.{bit_of}
 unfoldable pub use Rattle.chess_core.specs.ties.Words.{side_of, squares_of, word, word_of}
 pub use Rattle.chess_rules.proofs.Basics.{AllPairs, AllPairs-cons, AllPairs-filter, Bool, Contains, Contains-append_cases, Contains-append_left, Contains-append_right, Contains-get_or, IsSome, List, MatchOption, None, Option, Some, [], add-mul, add-one, agree_below, agree_below_at, and_from, and_le_l, and_left, and_parts, and_right, ap, append-nil, append_assoc, append_cancel_right, arith, bit_and, bit_at, bit_at-lt, bit_at-pow_other, bit_at-pow_same, bit_at-trailing_zeros, bit_at-zero, bit_at_above, bit_at_and, bit_at_mask_below, bit_at_mask_inside, bit_at_or, bit_at_set_other, bit_at_set_same, bit_not, bit_or, cases_Bool, cases_eq, cases_lt, cond, cond-false, cond-true, drop, drop-cons, drop-drop, drop_all, eq-eqb, eqb, eqb-true, false, false_from_ne_true, false≢true, filter, filter-append, find, flat_map, from_bool, get_or, get_or-map, get_or-map-range_with_len, get_or-range_with_len, get_or_past, if◌then◌else◌, inl, inr, is_some, le-leb, le-ltb, leb-true, length, length-append, length-map, length-map-range_with_len, length-range_with_len, length-set, length-take, list_all, list_any, list_any-append, lt-ltb, map, mul-add, nat_lt, ne_eqb, not, not-true, not_from_false, one_shl, ones-le, ones_shl, option_to_list, or_cases, or_from, or_left, or_lt, or_parts, or_right, pow-suc, pow_mono, range_with_len, refl, repeat, rules, set-get_or, set-set, set_past, shr-shr, shr_below, slice_get, subst, suc, sym, take, take-append-drop, trailing_zeros, true, true_from_ne_false, true≢false, w64, zero, ℕ, ◌%◌, ◌&&◌, ◌*◌, ◌++◌, ◌+◌, ◌-◌, ◌/◌, ◌<◌, ◌==◌, ◌^◌, ◌||◌, ◌↔◌, ◌∙◌, ◌∷◌, ◌≡◌, ◌≢◌, ◌≤◌, ◌⊎◌}

@@ -180,8 +180,9 @@ fn gives_until<R: Rules>(board: &mut Board, choices: &[Choice], passed: usize, l
     requires { IsWellFormed board.old }
     ensures { board.new ≡ board.old }
 {
-    let mut place = place_behind::<R>(board, passed);
     let end = place_behind::<R>(board, last);
+    let mut place = LegalMoves::<R>::of(board);
+    place.go_to(place_behind::<R>(board, passed));
     for (number, choice) in choices.iter().enumerate() {
         if number >= passed && number < last && place.next_until(end, board) != Some(choice.by) {
             return false;

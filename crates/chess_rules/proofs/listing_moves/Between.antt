@@ -69,9 +69,6 @@ cut_moves rule p a b le =
 -- for the walk up to an end
 pub ruleset until = (place_of_triple, until-end, until-is_legal)
 
--- and where it begins at the end
-pub ruleset nothing_left = (between-none)
-
 -- the triple on which a place stands, if it is legal
 pub stands_on : (rule : RuleSet) (p : Position) (a b : ℕ) → a < all_triples → b ≡ a + 1 → is_legal rule p (triple_at a) ≡ true
     → moves_between rule p a b ≡ triple_at a ∷ []

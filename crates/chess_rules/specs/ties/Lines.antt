@@ -4,9 +4,8 @@ use Rattle.std.specs.Int.{bit_at}
 use Rattle.std.specs.List.{list_any, range_with_len}
 use Rattle.chess_core.specs.Position.{man_on}
 use Rattle.chess_core.specs.Squares.{is_square, squares}
-use Rattle.chess_core.specs.Steps.{along, step_by}
+use Rattle.chess_core.specs.Steps.{Step, along, step_by}
 use Rattle.chess_core.specs.ties.Words.{word}
-use Rattle.chess_core.specs.declared.step.Step.{Step}
 use Rattle.chess_core.specs.declared.man.Colour.{Colour}
 use Rattle.chess_core.specs.declared.man.Colour.TheVariants.{White}
 use Rattle.chess_core.specs.declared.man.Kind.TheVariants.{Pawn}

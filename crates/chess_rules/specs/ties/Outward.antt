@@ -3,12 +3,11 @@ use Rattle.std.specs.Prelude.{ℕ, ◌-◌, Bool, false, ◌&&◌, ◌||◌, Lis
 use Rattle.std.specs.List.{list_any, list_all, range_with_len}
 use Rattle.chess_core.specs.Position.{is_fairy, is_man, man_on, same_colour, same_kind}
 use Rattle.chess_core.specs.Squares.{is_square}
-use Rattle.chess_core.specs.Steps.{along}
+use Rattle.chess_core.specs.Steps.{Step, along}
 use Rattle.chess_core.specs.declared.man.Man.{Man}
 use Rattle.chess_core.specs.declared.man.Colour.{Colour}
 use Rattle.chess_core.specs.declared.man.Kind.{Kind}
 use Rattle.chess_core.specs.declared.man.Kind.TheVariants.{King, Knight, Pawn, Queen}
-use Rattle.chess_core.specs.declared.step.Step.{Step}
 use Rattle.chess_rules.specs.Reaches.{is_occupied, is_vacant_at, rides}
 
 -- the man, if there is one, is a fairy man of this colour

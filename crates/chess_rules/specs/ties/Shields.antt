@@ -11,8 +11,7 @@ use Rattle.chess_core.specs.declared.man.Kind.{Kind}
 use Rattle.chess_core.specs.declared.man.Kind.TheVariants.{Queen, Rook, Bishop, Grasshopper, Nightrider}
 use Rattle.chess_rules.specs.Play.{is_castling}
 use Rattle.std.specs.List.{list_any}
-use Rattle.chess_core.specs.Steps.{diagonal_steps, gait_of, is_leaper, knight_steps, queen_steps, straight_steps}
-use Rattle.chess_core.specs.declared.step.Step.{Step}
+use Rattle.chess_core.specs.Steps.{Step, diagonal_steps, gait_of, is_leaper, knight_steps, queen_steps, straight_steps}
 use Rattle.chess_rules.specs.ties.Lines.{is_ahead, is_on_some}
 use Rattle.chess_rules.specs.Reaches.{reaches, rides}
 use Rattle.chess_rules.specs.declared.shields.RiderLines.{RiderLines}
