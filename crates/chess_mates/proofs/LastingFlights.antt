@@ -1,8 +1,11 @@
 -- Flights that one move can't take.
-use Rattle.chess_mates.proofs.Chess.{AreApproached, AreAttackers, AreGuarded, AreNear, Attackers, Bishop, Grasshopper, IfSome, IsAttacker, IsLeft, IsMade, IsWellFormed, KeepsOne, Kind, King, Knight, LeaveOne, Man, Move, Nightrider, None, Option, Pawn, Position, Queen, Rook, RuleSet, Some, [], after_well_formed, all_triples, and_parts, arith, arrival_needed, arrived, arriving_colour, bit_and, bit_at, bit_at_and, bit_not, bit_or, captures_do_more, cases_Bool, castle_of, eq-eqb, eqb-true, every_square_on, false, false_by, false_from_ne_true, false≢true, find, find_first, is_arrival_free, is_castling, is_promoting, is_pseudo_legal, is_square, king_after, king_is_after, king_square, length, made, maker, man_on, mates, mates_behind, may_go_aimed, men_on, off_left, off_right, off_zero, on_board, on_first, on_left, on_right, or_lt, other, other_twice, position_after, range_with_len, reaches_as, reaches_back, refl, rules, same_colour-refl, same_kind, same_kind-true, simple_after, squares_for, sym, triple_at, true, w64, word, word_has, ℕ, ◌<◌, ◌==◌, ◌^◌, ◌∙◌, ◌≡◌, ◌≢◌}
-use Rattle.chess_mates.proofs.KindByKind.{HoldsOf, of_all}
+use Rattle.chess_mates.proofs.Chess.{AreApproached, AreAttackers, AreGuarded, AreNear, Attackers, Bishop, Colour, Grasshopper, IfSome, IsAttacker, IsLeft, IsMade, IsWellFormed, KeepsOne, Kind, King, Knight, LeaveOne, Man, Move, Nightrider, None, Option, Pawn, Position, Queen, Rook, RuleSet, Some, [], after_well_formed, all_triples, and_parts, arith, arrival_needed, arrived, arriving_colour, arriving_man, bit_and, bit_at, bit_at_and, bit_not, bit_or, captures_do_more, cases_Bool, castle_of, eq-eqb, eqb-true, every_square_on, false, false_by, false_from_ne_true, false≢true, find, find_first, inl, inr, is_arrival_free, is_castling, is_promoting, is_pseudo_legal, is_square, king_after, king_is_after, king_square, length, made, maker, man_on, mates, mates_behind, may_go_aimed, men_on, off_left, off_right, off_zero, on_board, on_first, on_left, on_right, or_lt, other, other_twice, position_after, range_with_len, reaches_as, reaches_back, refl, rules, same_colour-refl, same_kind, same_kind-true, simple_after, squares_for, subst, sym, triple_at, true, w64, word, word_has, ℕ, ◌<◌, ◌==◌, ◌^◌, ◌∙◌, ◌≡◌, ◌≢◌}
+use Rattle.chess_mates.proofs.Becoming.{becomes, counted_left, promotes_still}
+use Rattle.chess_mates.proofs.KindByKind.{HoldsOf, man_is, of_all, of_kind}
+use Rattle.chess_core.specs.Position.{may_promote}
+use Rattle.chess_mates.specs.ties.Attackers.{is_promotion}
 use Rattle.chess_mates.specs.declared.lasting_flights.OpenTargets.{OpenTargets}
-use Rattle.chess_mates.specs.ties.LastingFlights.{AreOpenTargets, AreTargets, LeavesOne, targets_for}
+use Rattle.chess_mates.specs.ties.LastingFlights.{AreOpenTargets, AreTargets, LeavesOne, counts_as, targets_for}
 use Rattle.chess_rules.proofs.listing_moves.OpenBoard.{piece_targets}
 use Rattle.chess_rules.specs.ties.Targets.{AreReached, may_go}
 use Rattle.chess_mates.proofs.CheckTargets.{last_rank_on}
@@ -10,7 +13,11 @@ use Rattle.chess_mates.proofs.FarMen.{off_denied}
 use Rattle.chess_mates.proofs.Fleeing.{IsKingOn, king_waits, no_mate_with_flight, step_to}
 use Rattle.chess_mates.proofs.Mating.{mates_behind-end, mates_behind-none, not_mating, turn_after}
 use Rattle.chess_rules.proofs.rays.OnSquares.{hops_openly}
-use Rattle.chess_mates.proofs.Standing.{arrival_small, has_one, no_hopper, not_mine, stood, unnamed}
+use Rattle.chess_mates.proofs.Standing.{arrival_small, has_one, no_hopper, not_mine, stood}
+
+-- a square of both words
+pub on_both : (a b t : ℕ) → (bit_at a t == 1) ≡ true → (bit_at b t == 1) ≡ true → (bit_at (bit_and a b) t == 1) ≡ true
+on_both a b t on too = grind (arith, eqb-true, bit_at_and, eq-eqb)
 
 -- for words that are joined: the first has what it reached
 pub reached_left : (x : Man) (s a b : ℕ) → AreReached x s a → AreReached x s (bit_or a b)
@@ -38,33 +45,76 @@ all_guard a k q r b n p g y kings queens rooks bishops knights pawns grasshopper
     record { guards = search (rules, of_all a (λ x s. AreReached x s words), reached_left, reached_right) depth 12 }
 
 module _ (a : Attackers) where
-  -- but for pawns and kings the targets are what they reach
-  piece_targets_of : (k : Kind) (w : ℕ) → same_kind k Pawn ≡ false → same_kind k King ≡ false → HoldsOf a (λ x s. AreReached x s w) k
+  -- but for pawns and kings the targets are what they reach, and more
+  piece_targets_of : (k : Kind) (w v : ℕ) → same_kind k Pawn ≡ false → same_kind k King ≡ false → HoldsOf a (λ x s. AreReached x s w) k
+      → HoldsOf a (λ x s. AreTargets x s (bit_or w v)) k
+  piece_targets_of k w v none piece h s small on = record {
+    inside = λ p t low may. on_left w v t (piece_targets p (record { colour = a.colour; kind = k }) s t w low may (h s small on) none piece);
+  }
+
+  -- without more
+  plain_targets_of : (k : Kind) (w : ℕ) → same_kind k Pawn ≡ false → same_kind k King ≡ false → HoldsOf a (λ x s. AreReached x s w) k
       → HoldsOf a (λ x s. AreTargets x s w) k
-  piece_targets_of k w none piece h s small on = record {
+  plain_targets_of k w none piece h s small on = record {
     inside = λ p t low may. piece_targets p (record { colour = a.colour; kind = k }) s t w low may (h s small on) none piece;
   }
 
-  pub are_open_targets : (o : OpenTargets) → AreGuarded a o.guarded → HoldsOf a (λ x s. AreTargets x s o.kings) King
-      → HoldsOf a (λ x s. AreReached x s o.queens) Queen → HoldsOf a (λ x s. AreReached x s o.rooks) Rook
-      → HoldsOf a (λ x s. AreReached x s o.bishops) Bishop → HoldsOf a (λ x s. AreReached x s o.knights) Knight
-      → HoldsOf a (λ x s. AreTargets x s o.pawns) Pawn → HoldsOf a (λ x s. AreReached x s o.grasshoppers) Grasshopper
-      → HoldsOf a (λ x s. AreReached x s o.nightriders) Nightrider → AreOpenTargets a o
-  are_open_targets o guards kings queens rooks bishops knights pawns grasshoppers nightriders = record {
+  -- for `all_open_targets`: the squares of the last ranks to which pawns go are also those of what they become
+  pub are_open_targets : (k q r b n p g y f w : ℕ) → AreGuarded a w → HoldsOf a (λ x s. AreTargets x s k) King → HoldsOf a (λ x s. AreReached x s q) Queen
+      → HoldsOf a (λ x s. AreReached x s r) Rook → HoldsOf a (λ x s. AreReached x s b) Bishop → HoldsOf a (λ x s. AreReached x s n) Knight
+      → HoldsOf a (λ x s. AreTargets x s p) Pawn → HoldsOf a (λ x s. AreReached x s g) Grasshopper → HoldsOf a (λ x s. AreReached x s y) Nightrider
+      → (a.fairy_promotions ≡ true → f ≡ bit_and p 18374686479671623935) → AreOpenTargets a (record {
+        kings = k;
+        queens = bit_or q (bit_and p 18374686479671623935);
+        rooks = r;
+        bishops = b;
+        knights = bit_or n (bit_and p 18374686479671623935);
+        pawns = p;
+        grasshoppers = bit_or g f;
+        nightriders = bit_or y f;
+        guarded = w;
+      })
+  are_open_targets k q r b n p g y f w guards kings queens rooks bishops knights pawns grasshoppers nightriders fairies = record {
     guards = guards;
-    targets = of_all a (λ x s. AreTargets x s (targets_for o x.kind)) kings (piece_targets_of Queen _ refl refl queens)
-        (piece_targets_of Rook _ refl refl rooks) (piece_targets_of Bishop _ refl refl bishops) (piece_targets_of Knight _ refl refl knights) pawns
-        (piece_targets_of Grasshopper _ refl refl grasshoppers) (piece_targets_of Nightrider _ refl refl nightriders);
-  }
+    targets = of_all a (λ x s. AreTargets x s (targets_for o x.kind)) kings (piece_targets_of Queen q _ refl refl queens)
+        (plain_targets_of Rook r refl refl rooks) (plain_targets_of Bishop b refl refl bishops) (piece_targets_of Knight n _ refl refl knights) pawns
+        (piece_targets_of Grasshopper g f refl refl grasshoppers) (piece_targets_of Nightrider y f refl refl nightriders);
+    promoted = λ s x i. record {
+      inside = λ v z t low may last become.
+          let pawn = same_kind-true x.kind Pawn (and_parts _ _ last).0 in
+          let goes = (of_kind a (λ x s. AreTargets x s p) Pawn s x pawns i pawn).inside v t low may in
+          by z.kind t (on_both p 18374686479671623935 t goes (last_rank_on x.colour t low (and_parts _ _ last).1)) (become.promoted last);
+    };
+  } where
+    ahead : ℕ
+    ahead = bit_and p 18374686479671623935
 
--- for `untold`
-all_reached : (x : Man) (s : ℕ) → AreReached x s (bit_not w64 0)
-all_reached x s = search (rules, every_square_on)
+    o : OpenTargets
+    o = record {
+      kings = k;
+      queens = bit_or q ahead;
+      rooks = r;
+      bishops = b;
+      knights = bit_or n ahead;
+      pawns = p;
+      grasshoppers = bit_or g f;
+      nightriders = bit_or y f;
+      guarded = w;
+    }
 
-all_are_targets : (x : Man) (s : ℕ) → AreTargets x s (bit_not w64 0)
-all_are_targets x s = search (rules, every_square_on)
+    by : (j : Kind) (t : ℕ) → (bit_at (bit_and p 18374686479671623935) t == 1) ≡ true → is_promotion a.fairy_promotions j ≡ true
+        → (bit_at (targets_for o (counts_as j)) t == 1) ≡ true
+    by Queen t on may = on_right q _ t on
+    by Rook t on may = on_right q _ t on
+    by Bishop t on may = on_right q _ t on
+    by Knight t on may = on_right n _ t on
+    by Grasshopper t on may = on_right g f t (rw (fairies may) on)
+    by Nightrider t on may = on_right y f t (rw (fairies may) on)
+    by _ t on may = absurd (false≢true may)
 
-pub untold_targets : (a : Attackers) (w : ℕ) → w ≡ bit_not w64 0 → AreOpenTargets a (record {
+-- for `untold`: all squares
+abbrev all_at_once : ℕ → OpenTargets
+all_at_once w = record {
   kings = w;
   queens = w;
   rooks = w;
@@ -74,15 +124,19 @@ pub untold_targets : (a : Attackers) (w : ℕ) → w ≡ bit_not w64 0 → AreOp
   grasshoppers = w;
   nightriders = w;
   guarded = w;
-})
-untold_targets a w all =
-    let reached : (k : Kind) → HoldsOf a (λ x s. AreReached x s w) k = search (rules, all_reached, all) in
-    are_open_targets a _ (search (rules, all_reached, all)) (search (rules, all_are_targets, all)) (reached Queen) (reached Rook) (reached Bishop)
-    (reached Knight) (search (rules, all_are_targets, all)) (reached Grasshopper) (reached Nightrider)
+}
 
--- a square of both words
-pub on_both : (a b t : ℕ) → (bit_at a t == 1) ≡ true → (bit_at b t == 1) ≡ true → (bit_at (bit_and a b) t == 1) ≡ true
-on_both a b t on too = grind (arith, eqb-true, bit_at_and, eq-eqb)
+all_for : (w : ℕ) (k : Kind) → targets_for (all_at_once w) k ≡ w
+all_for w k = grind arith
+
+pub untold_targets : (a : Attackers) (w : ℕ) → w ≡ bit_not w64 0 → AreOpenTargets a (all_at_once w)
+untold_targets a w all =
+    let on : (t : ℕ) → t < 64 → (bit_at w t == 1) ≡ true = search (rules, every_square_on, all) in
+    record {
+      guards = record { guards = λ s x i. record { inside = λ men t low r. on t low } };
+      targets = λ s x i. record { inside = λ p t low may. rw (all_for w x.kind) (on t low) };
+      promoted = λ s x i. record { inside = λ p z t low may last become. rw (all_for w (counts_as z.kind)) (on t low) };
+    }
 
 -- for targets off the last ranks: no pawn promotes there
 pub no_last_rank : (x : Man) (w t : ℕ) → (bit_and w 18374686479671623935 == 0) ≡ true → t < 64 → (bit_at w t == 1) ≡ true → is_promoting x t ≡ false
@@ -125,34 +179,36 @@ untaken_left w a o f t x are only fits on small off =
     let apart : f ≢ t = λ e. grind (arith, off_right a o t off, word_has _ o t only small, eq-eqb) in
     search (rules, apart, are.inside, off_left a o t off, false_from_ne_true, false≢true)
 
--- for `leave_one`: of men who go plainly and leave one wherever a kind's targets are
+-- for `leave_one`: of men who don't castle and leave one wherever a kind's targets are
 module _ (a : Attackers) (o : OpenTargets) (w : ℕ) (are : AreOpenTargets a o) where
   abbrev LeavesOneOf : Kind → Type 0
   LeavesOneOf k = (t : ℕ) → t < 64 → (bit_at (targets_for o k) t == 1) ≡ true → (f : ℕ) × IsLeft w (record { colour = a.colour; kind = k }) t f
 
-  kind_leaves : (k : Kind) → LeavesOneOf k
-      → ((t : ℕ) → t < 64 → (bit_at (targets_for o k) t == 1) ≡ true → is_promoting (record { colour = a.colour; kind = k }) t ≡ false)
-      → ((s : ℕ) → (bit_at (squares_for a k) s == 1) ≡ true → same_kind k King ≡ true → (s ≢ 4) × (s ≢ 60)) → HoldsOf a (λ x s. LeavesOne w x s) k
-  kind_leaves k left unpromoted away s small on =
-      let goes = are.targets s (record { colour = a.colour; kind = k }) (record { small = small; mine = refl; on = on }) in
-      record {
-        left = λ p t low may. left t low (goes.inside p t low may);
-        unpromoted = λ p t low may. unpromoted t low (goes.inside p t low may);
-        away = away s on;
-      }
-
-  piece_leaves : (k : Kind) → same_kind k Pawn ≡ false → same_kind k King ≡ false → LeavesOneOf k → HoldsOf a (λ x s. LeavesOne w x s) k
-  piece_leaves k none piece left = kind_leaves k left (λ _ _ _. rw none refl) (λ _ _ e. absurd (false≢true (sym piece ∙ e)))
-
-  pub all_leave : ((x : Man) (t : ℕ) → t < 64 → (bit_at o.pawns t == 1) ≡ true → is_promoting x t ≡ false)
-      → ((s : ℕ) → (bit_at a.kings s == 1) ≡ true → (s ≢ 4) × (s ≢ 60)) → LeavesOneOf King → LeavesOneOf Queen → LeavesOneOf Rook → LeavesOneOf Bishop
-      → LeavesOneOf Knight → LeavesOneOf Pawn → LeavesOneOf Grasshopper → LeavesOneOf Nightrider → LeaveOne a w
-  all_leave unpromoted away kings queens rooks bishops knights pawns grasshoppers nightriders = record {
-    leaves = of_all a (λ x s. LeavesOne w x s) (kind_leaves King kings (λ _ _ _. refl) (λ s on _. away s on)) (piece_leaves Queen refl refl queens)
-        (piece_leaves Rook refl refl rooks) (piece_leaves Bishop refl refl bishops) (piece_leaves Knight refl refl knights)
-        (kind_leaves Pawn pawns (unpromoted (record { colour = a.colour; kind = Pawn })) (λ _ _ e. absurd (false≢true e)))
-        (piece_leaves Grasshopper refl refl grasshoppers) (piece_leaves Nightrider refl refl nightriders);
-  }
+  pub all_leave : ((s : ℕ) → (bit_at a.kings s == 1) ≡ true → (s ≢ 4) × (s ≢ 60)) → LeavesOneOf King → LeavesOneOf Queen → LeavesOneOf Rook
+      → LeavesOneOf Bishop → LeavesOneOf Knight → LeavesOneOf Pawn → LeavesOneOf Grasshopper → LeavesOneOf Nightrider → LeaveOne a w
+  all_leave away kings queens rooks bishops knights pawns grasshoppers nightriders = record {
+    leaves = λ s x i. record {
+      left = λ p z t low may become. elim (cases_Bool (is_promoting x t)) [
+        | inl last ↦
+            let one = by (counts_as z.kind) t low ((are.promoted s x i).inside p z t low may last become) in
+            let mine = sym (become.mine ∙ i.mine) in
+            (one.0, counted_left w t one.0 z (subst (λ (c : Colour). IsLeft w (record { colour = c; kind = counts_as z.kind }) t one.0) mine one.1))
+        | inr stays ↦
+            let one = by x.kind t low ((are.targets s x i).inside p t low may) in
+            (one.0, subst (λ (y : Man). IsLeft w y t one.0) (man_is z a.colour x.kind (become.mine ∙ i.mine) (become.same stays)) one.1)
+      ];
+      away = λ king. away s (rw (same_kind-true x.kind King king) at i.on);
+    };
+  } where
+    by : (k : Kind) → LeavesOneOf k
+    by King = kings
+    by Queen = queens
+    by Rook = rooks
+    by Bishop = bishops
+    by Knight = knights
+    by Pawn = pawns
+    by Grasshopper = grasshoppers
+    by Nightrider = nightriders
 
 -- for `keeps_one`: the squares that nobody guards can't all be taken
 pub keeps_one : (a : Attackers) (w g : ℕ) → g < 2 ^ 64 → AreGuarded a g → LeaveOne a (bit_and w (bit_not w64 g)) → KeepsOne a w
@@ -162,7 +218,7 @@ keeps_one a w g fits guards leave = search (rules, on_first, off_denied)
 module _ (rule : RuleSet) (p : Position) (m : Move) (x : Man) (k w : ℕ) (well : IsWellFormed p) (may : is_pseudo_legal rule p m ≡ true)
     (here : man_on p.men m.from ≡ Some x) (circe : captures_do_more rule ≡ false) (plain : is_castling x m ≡ false) (small : m.to < 64)
     (king : king_after p x m ≡ Some k) (near : AreNear p m k w) (a : Attackers) (men : AreAttackers p.men a) (colour : a.colour ≡ other p.turn)
-    (keeps : KeepsOne a w) where
+    (promotions : (j : Kind) → may_promote p j ≡ true → is_promotion a.fairy_promotions j ≡ true) (keeps : KeepsOne a w) where
   abbrev q : Position
   q = position_after rule p m
 
@@ -184,11 +240,13 @@ module _ (rule : RuleSet) (p : Position) (m : Move) (x : Man) (k w : ℕ) (well 
     is_n : IsMade rule q y n
     is_n = made rule q n y can here_y
 
-    leaves : LeavesOne keeps.squares y n.from
+    leaves : LeavesOne a.fairy_promotions keeps.squares y n.from
     leaves = search (rules, keeps.leave.leaves, men.stand, on_board q.men, well_q.size, enemy_stood, is_n.mine ∙ turn_q, colour)
 
-    left : (f : ℕ) × IsLeft keeps.squares y n.to f
-    left = leaves.left q n.to to (may_go_aimed rule q y n here_y (arrival_needed rule q n to can))
+    left : (f : ℕ) × IsLeft keeps.squares (arriving_man y n.promo) n.to f
+    left =
+        leaves.left q (arriving_man y n.promo) n.to to (may_go_aimed rule q y n here_y (arrival_needed rule q n to can))
+        (becomes a.fairy_promotions q y n n.promo is_n.promotion (λ j h. promotions j (promotes_still rule p m x here j h)))
 
     abbrev r : Position
     r = position_after rule q n
@@ -214,11 +272,9 @@ module _ (rule : RuleSet) (p : Position) (m : Move) (x : Man) (k w : ℕ) (well 
     unreached z stands s v inside there enemy =
         let now = stood r z (step_to k left.0) s v in
         let before = stood q y n s v in
-        let goes = may_go_aimed rule q y n here_y (arrival_needed rule q n to can) in
-        let plain : n.promo ≡ None = unnamed q y n n.promo (leaves.unpromoted q n.to to goes) is_n.promotion in
         let held = λ (i : IsAttacker a v s). keeps.guards.guards s v i in
         let sizes : (left.0 < length r.men) × (n.to < length q.men) = (omega (arith, left.1.small, well_r.size), omega (arith, to, well_q.size)) in
-        grind (arith, now, before, men_r, sizes, not_mine v p.turn enemy, plain, left.1, men.stand s v, enemy_stood s v, held, keeps.within left.0)
+        grind (arith, now, before, men_r, sizes, not_mine v p.turn enemy, left.1, men.stand s v, enemy_stood s v, held, keeps.within left.0)
 
     unmated : mates rule q n ≡ false
     unmated = sym (no_mate_with_flight rule q n (has_one rule r p.turn k left.0 well_r (search (rules, turn_after, turn_q, other_twice)) king_r

@@ -13,7 +13,9 @@ pub mod CalmSteps
 pub mod CastlingChecks
 pub mod CheckTargets
 pub mod FarMen
+pub mod Becoming
 pub mod LastingFlights
+pub mod Promotions
 pub mod KindByKind
 pub mod Hurdles
 pub mod Risks

@@ -3,7 +3,6 @@ use Rattle.chess_mates.proofs.Chess.{AreApproached, AreApproaches, AreArrivals, 
 use Rattle.chess_mates.specs.declared.guards.Guards.{Guards}
 use Rattle.chess_mates.proofs.Hurdles.{on_one, reached_is}
 use Rattle.chess_mates.proofs.KindByKind.{man_is, of_all}
-use Rattle.chess_mates.proofs.CheckTargets.{last_rank_on}
 use Rattle.chess_mates.proofs.LastingFlights.{on_both}
 use Rattle.chess_mates.proofs.Standing.{no_hopper}
 use Rattle.chess_rules.specs.ties.Targets.{AreReached}
@@ -29,18 +28,17 @@ pub open_arrivals : (d : ℕ) (x : Man) (s w : ℕ) → ((p : Position) (t : ℕ
 open_arrivals d x s w ways = record { inside = λ t i. ways i.position t i.small i.goes }
 
 -- where he doesn't check
-pub king_targets : (x : Man) (checks boards t : ℕ) → same_kind x.kind King ≡ true → (bit_at boards t == 1) ≡ false → IsNoCheck checks boards x t
-king_targets x checks boards t king unsprung = search (rules, king_is_no_pawn, no_pawn_arrives)
+pub king_targets : (x : Man) (g : Field) (checks t : ℕ) → same_kind x.kind King ≡ true → (bit_at g.springboards t == 1) ≡ false → IsNoCheck g checks x t
+king_targets x g checks t king unsprung = search (rules, king_is_no_pawn, no_pawn_arrives)
 
--- a pawn checks or promotes
-pub pawn_targets : (x : Man) (checks boards t : ℕ) → t < 64 → (bit_at (bit_or (bit_or checks 18374686479671623935) boards) t == 1) ≡ false
-    → IsNoCheck checks boards x t
-pawn_targets x checks boards t small off = grind (arith, and_parts, false_by, last_rank_on, off_left, off_right)
+-- a pawn checks as what he is, or as what he becomes
+pub pawn_targets : (x : Man) (g : Field) (checks t : ℕ) → (bit_at (bit_or (bit_or checks g.promotions) g.springboards) t == 1) ≡ false → IsNoCheck g checks x t
+pawn_targets x g checks t off = search (rules, off_left, off_right)
 
 -- a piece checks from the check squares
-pub piece_targets : (x : Man) (checks boards t : ℕ) → same_kind x.kind Pawn ≡ false → (bit_at (bit_or checks boards) t == 1) ≡ false
-    → IsNoCheck checks boards x t
-piece_targets x checks boards t piece off = search (rules, no_pawn_arrives, off_left, off_right)
+pub piece_targets : (x : Man) (g : Field) (checks t : ℕ) → same_kind x.kind Pawn ≡ false → (bit_at (bit_or checks g.springboards) t == 1) ≡ false
+    → IsNoCheck g checks x t
+piece_targets x g checks t piece off = search (rules, no_pawn_arrives, off_left, off_right)
 
 -- for `risk_of_going`: one attacker goes, and a square next to the king or his own isn't guarded
 pub unguarded_at : (v : Siege) (g : Field) (s o : ℕ) (gs : Guards) (a : ℕ) → AreGuardsWithout v s (bit_or (bit_or g.near g.captures) o) gs
@@ -49,27 +47,27 @@ pub unguarded_at : (v : Siege) (g : Field) (s o : ℕ) (gs : Guards) (a : ℕ) �
 unguarded_at v g s o gs a are shut f near unseen = record { region = _; near = near; guards = gs; are = are; shut = shut; off = unseen }
 
 -- who never checks and uncovers nothing
-idly : (v : Siege) (g : Field) (checks : ℕ) (r : Risk) (x : Man) (s : ℕ) → ((t : ℕ) → IsArrival v.hurdles x s t → IsNoCheck checks g.springboards x t)
+idly : (v : Siege) (g : Field) (checks : ℕ) (r : Risk) (x : Man) (s : ℕ) → ((t : ℕ) → IsArrival v.hurdles x s t → IsNoCheck g checks x t)
     → (bit_at g.lines s == 1) ≡ false → IsHarmless v g checks r x s
 idly v g checks r x s calm hidden =
     record { mild = λ a b low inside off. record { each = λ t i there. inl (record { check = calm t i; covered = inl hidden }) } }
 
 -- for `risk_from`: for a man who goes to no target and uncovers nothing
 pub harmless_quietly : (v : Siege) (g : Field) (checks : ℕ) (x : Man) (s reached targets : ℕ) → AreArrivals v.hurdles x s reached
-    → ((t : ℕ) → t < 64 → (bit_at reached t == 1) ≡ true → (bit_at targets t == 1) ≡ false → IsNoCheck checks g.springboards x t)
+    → ((t : ℕ) → t < 64 → (bit_at reached t == 1) ≡ true → (bit_at targets t == 1) ≡ false → IsNoCheck g checks x t)
     → targets ≡ 0 → (bit_at g.lines s == 1) ≡ false → IsHarmless v g checks (record { critical = 0; lines = 0 }) x s
 harmless_quietly v g checks x s reached targets are quiet none =
     idly v g checks _ x s (λ t i. quiet t i.small (are.inside t i) (false_by _ (none_at targets t none)))
 
 -- for `suspect_squares`: who uncovers nothing, and a pawn who comes to no target, by the squares from which he might
 pub pawn_idly : (v : Siege) (g : Field) (checks : ℕ) (x : Man) (s w : ℕ) → same_kind x.kind Pawn ≡ true
-    → AreApproaches (record { colour = x.colour; kind = Pawn }) (bit_or checks 18374686479671623935) w → s < 64 → (bit_at (bit_or g.lines w) s == 1) ≡ false
+    → AreApproaches (record { colour = x.colour; kind = Pawn }) (bit_or checks g.promotions) w → s < 64 → (bit_at (bit_or g.lines w) s == 1) ≡ false
     → g.springboards ≡ 0 → IsHarmless v g checks (record { critical = 0; lines = 0 }) x s
 pawn_idly v g checks x s w pawn before small off none =
     let come = rw (man_is x x.colour Pawn refl (same_kind-true x.kind Pawn pawn)) at before in
     let idle = off_right g.lines w s off in
-    let joined = on_one (bit_or checks 18374686479671623935) g.springboards in
-    idly v g checks _ x s (λ t i. pawn_targets x checks g.springboards t i.small
+    let joined = on_one (bit_or checks g.promotions) g.springboards in
+    idly v g checks _ x s (λ t i. pawn_targets x g checks t
     (grind (arith, false_by, joined t, none_at, idle, come.approach i.position s t small i.small i.goes))) (off_left g.lines w s off)
 
 -- risks together

@@ -1,6 +1,8 @@
 -- The men of a siege, its castlings and the king's field.
 use Rattle.chess_mates.proofs.Chess.{AreAdjacent, AreAttackers, AreCaptureSquares, AreCastlingSquares, AreClosed, AreFree, AreHurdles, AreReached, AreSpringboards, AreSprings, AreThreats, AreWeak, Attackers, Bishop, Colour, Field, Grasshopper, IsAttacker, IsCastlingHarmless, IsField, IsHurdle, IsReached, IsRiskAt, IsShut, IsSiege, IsSiegeOf, IsUnsprung, IsWellFormed, IsWhole, Kind, King, Knight, List, Man, MayRide, Nightrider, None, Option, Pawn, Position, Queen, Risk, Rook, RuleSet, Siege, Some, White, and_parts, arith, bit_and, bit_at, bit_not, bit_or, corner, eq-eqb, eqb-true, every_square_on, false, false_by, false≢true, find_no, has_unmoved, inl, inr, is_fairy, is_man, is_on_some, is_rider, is_square, king_square, king_there, leaps, list_any, list_any-append, man_on, men_on, ne_eqb, occupied_squares, off_left, off_right, on_first, on_left, on_right, or_cases, other, queen_steps, reached_over, reaches_as, refl, rules, side_of, square_is, squares, squares_for, squares_of, straight_steps, true, w64, word, word_has, ℕ, KeepsOne, ◌&&◌, ◌+◌, ◌-◌, ◌<◌, ◌==◌, ◌^◌, ◌||◌, ◌∙◌, ◌≡◌, ◌≢◌, ◌⊎◌}
-use Rattle.chess_mates.specs.ties.Siege.{AreNeeded}
+use Rattle.chess_core.specs.Position.{may_promote}
+use Rattle.chess_mates.specs.ties.Attackers.{is_promotion}
+use Rattle.chess_mates.specs.ties.Siege.{AreNeeded, ArePromotions}
 use Rattle.chess_mates.specs.declared.field.Springs.{Springs}
 use Rattle.chess_mates.proofs.Hurdles.{on_one, reached_is, reached_left, reached_right}
 use Rattle.chess_mates.proofs.FarMen.{man_of_word, off_denied}
@@ -39,11 +41,11 @@ pub springs_are : (v : Siege) (k n s j b : ℕ) → AreAdjacent v k n → AreSpr
 springs_are v k n s j b near own landings = search (rules, fewer_adjacent, on_left, on_second, unsprung_right)
 
 -- the king's field
-pub field_is : (v : Siege) (k c r b l : ℕ) (i : Springs) → AreSprings v k i → v.hurdles < 2 ^ 64
+pub field_is : (v : Siege) (k c r b l w : ℕ) (i : Springs) → AreSprings v k i → v.hurdles < 2 ^ 64
     → ((men : List (Option Man)) → v.hurdles ≡ occupied_squares men → r ≡ word (reaches_as men White Rook k))
     → ((men : List (Option Man)) → v.hurdles ≡ occupied_squares men → b ≡ word (reaches_as men White Bishop k))
     → (v.men.nightriders ≢ 0 → (c : Colour) → IsReached v.hurdles (record { colour = c; kind = Nightrider }) k l)
-    → AreCaptureSquares v k c
+    → AreCaptureSquares v k c → ArePromotions v.men k w
     → IsField v (record {
       king = k;
       near = i.near;
@@ -53,14 +55,16 @@ pub field_is : (v : Siege) (k c r b l : ℕ) (i : Springs) → AreSprings v k i 
       lines = bit_or (bit_or r b) l;
       springboards = i.own;
       hops = i.all;
+      promotions = w;
     })
 unfolding reached_over reaches_as
-field_is v k c r b l i springs hurdles rook bishop riders captures = record {
+field_is v k c r b l w i springs hurdles rook bishop riders captures promotions = record {
   springs = springs;
   captures = captures;
   straight = straight;
   diagonal = diagonal;
   lines = by;
+  promotions = promotions;
 } where
   straight : (c : Colour) → IsReached v.hurdles (record { colour = c; kind = Rook }) k r
   straight c = search (rules, reached_is)
@@ -209,6 +213,7 @@ king_castles_to p c k long short king far near well =
 pub siege_fits : (rule : RuleSet) (p : Position) (v : Siege) → v.men.colour ≡ other p.turn → king_square p.men p.turn ≡ Some v.king
     → v.own ≡ side_of p.men p.turn
     → v.enemies ≡ side_of p.men v.men.colour → AreAttackers p.men v.men → v.men.kings ≡ squares_of p.men v.men.colour King
-    → AreCastlingSquares p v.men.colour v.castled → AreClosed rule p v.closed → IsSiegeOf rule p v
+    → AreCastlingSquares p v.men.colour v.castled → AreClosed rule p v.closed
+    → ((k : Kind) → may_promote p k ≡ true → is_promotion v.men.fairy_promotions k ≡ true) → IsSiegeOf rule p v
 unfolding squares_of
-siege_fits rule p v colour king own enemies men kings castled closed = search (rules, word_has)
+siege_fits rule p v colour king own enemies men kings castled closed promotions = search (rules, word_has)

@@ -1,6 +1,7 @@
 -- No reply mates after a defender's move without risk.
-use Rattle.chess_mates.proofs.Chess.{AreFree, AreLaterHurdles, Colour, Field, IsArrival, IsAttacker, IsCaptured, IsCastlingHarmless, IsCheckWord, IsFlight, IsHome, IsHurdle, IsMade, IsMereMove, IsNear, IsOff, IsPlainMove, IsQuiet, IsReborn, IsRiskAt, IsShut, IsShutAt, IsSiege, IsSiegeOf, IsUnguarded, IsUnsprung, IsWeakAt, IsWellFormed, Kind, King, List, Man, MayRide, Move, Nightrider, None, Option, Pawn, Position, Risk, RuleSet, Siege, Some, [], after_well_formed, all_triples, and_from, and_left, and_parts, and_right, ap, arith, arrival_needed, arrived, arriving_colour, arriving_king, arriving_man, bit_at, capture_of_piece, capture_square, captured_enemy, captured_man, captures_are_reborn, captures_do_more, cases_Bool, cases_eq, castle_of, corner, eq-eqb, eqb-true, false, false_by, false_from_ne_true, false≢true, file_of, gait_of, halfway, has_flight, has_unmoved, in_check, inl, inr, is_absent, is_arrival_free, is_attacked, is_attacked_at, is_attacker, is_castling, is_double_step, is_fairy, is_hopper, is_legal, is_man, is_of_colour, is_pseudo_legal, is_rider, is_some, is_square, king-back, king_after, king_is, king_is_after, king_square, king_stands, king_there, leaps, list_any, made, maker, man_on, man_there, mates, mates_behind, may_check_from, may_go, may_go_aimed, men_on, moved_men, moved_plainly, off_second, off_zero, on_board, or_cases, or_parts, other, other_twice, position_after, position_after_by, queen_steps, reached_over, reaches_as, reaches_back, rebirth, reborn_is, reborn_square, refl, rules, same_colour, same_colour-refl, same_colour-true, same_kind, same_kind-true, side_of, simple_after, square_is, subst, sym, taken, there_now, true, word, word_has, ℕ, or_left, or_right, true_from_ne_false, triple_at, ◌-◌, ◌<◌, ◌==◌, ◌||◌, ◌∙◌, ◌≡◌, ◌≢◌, ◌⊎◌}
+use Rattle.chess_mates.proofs.Chess.{AreFree, AreLaterHurdles, Colour, Field, IsArrival, IsAttacker, IsCaptured, IsCastlingHarmless, IsCheckWord, IsFlight, IsHome, IsHurdle, IsMade, IsMereMove, IsNear, IsOff, IsPlainMove, IsQuiet, IsReborn, IsRiskAt, IsShut, IsShutAt, IsSiege, IsSiegeOf, IsUnguarded, IsUnsprung, IsWeakAt, IsWellFormed, Kind, King, List, Man, MayRide, Move, Nightrider, None, Option, Pawn, Position, Risk, RuleSet, Siege, Some, [], after_well_formed, all_triples, and_from, and_left, and_parts, and_right, ap, arith, arrival_needed, arrived, arriving_colour, arriving_king, arriving_man, bit_at, capture_of_piece, capture_square, captured_enemy, captured_man, captures_are_reborn, captures_do_more, cases_Bool, cases_eq, castle_of, corner, eq-eqb, eqb-true, false, false_by, false_from_ne_true, false≢true, file_of, gait_of, halfway, has_flight, has_unmoved, in_check, inl, inr, is_absent, is_arrival_free, is_attacked, is_attacked_at, is_attacker, is_castling, is_double_step, is_fairy, is_hopper, is_legal, is_man, is_of_colour, is_promoting, is_pseudo_legal, is_rider, is_some, is_square, king-back, king_after, king_is, king_is_after, king_square, king_stands, king_there, leaps, list_any, made, maker, man_on, man_there, mates, mates_behind, may_check_from, may_go, may_go_aimed, men_on, moved_men, moved_plainly, off_second, off_zero, on_board, or_cases, or_parts, other, other_twice, position_after, position_after_by, queen_steps, reached_over, reaches_as, reaches_back, rebirth, reborn_is, reborn_square, refl, rules, same_colour, same_colour-refl, same_colour-true, same_kind, same_kind-true, side_of, simple_after, square_is, subst, sym, taken, there_now, true, word, word_has, ℕ, or_left, or_right, true_from_ne_false, triple_at, ◌-◌, ◌<◌, ◌==◌, ◌||◌, ◌∙◌, ◌≡◌, ◌≢◌, ◌⊎◌}
 use Rattle.chess_mates.proofs.Rebirths.{after_is}
+use Rattle.chess_mates.proofs.Becoming.{becomes, promotes_still}
 use Rattle.chess_mates.proofs.Hurdles.{later, later_but}
 use Rattle.chess_mates.proofs.LastingFlights.{on_both}
 use Rattle.chess_mates.proofs.Risks.{none_at}
@@ -9,6 +10,7 @@ use Rattle.chess_mates.proofs.Fleeing.{IsKingOn, no_king_free, no_mate_with_flig
 use Rattle.chess_mates.proofs.Mating.{mates_behind-end, mates_behind-none, no_mate_quietly, not_mating, turn_after}
 use Rattle.chess_mates.proofs.Standing.{and_left_king, arrival_small, captured_there, castle_unmoved, free_man, has_one, king_reaches, mine_again, moved_stays, no_rebirth, nobody_strikes, not_mine, not_mine_enemy, piece_reaches, same_man, some_side, some_stays, stays_there, stood, stood_reborn, unfree, unnamed}
 use Rattle.chess_mates.proofs.QuietCastling.{castles_quietly}
+use Rattle.chess_mates.specs.ties.LastingFlights.{MayBecome}
 
 no_fairy_hops : (k : Kind) → is_fairy k ≡ false → is_hopper (gait_of k) ≡ false
 no_fairy_hops k plain = grind arith
@@ -228,6 +230,10 @@ module _ (rule : RuleSet) (p : Position) (m : Move) (x : Man) (v : Siege) (k : �
     goes_y : may_go q y n.from n.to ≡ true
     goes_y = may_go_aimed rule q y n here_y (arrival_needed rule q n to can)
 
+    -- what he becomes
+    becomes_y : MayBecome v.men.fairy_promotions y n.to (arriving_man y n.promo)
+    becomes_y = becomes v.men.fairy_promotions q y n n.promo is_n.promotion (λ j h. i.fits.promotions j (promotes_still rule p m x here j h))
+
     -- nobody is captured en passant
     uncrossed : same_kind y.kind Pawn ≡ true → is_square q.crossed n.to ≡ false
     unfolding position_after position_after_by
@@ -409,12 +415,17 @@ module _ (rule : RuleSet) (p : Position) (m : Move) (x : Man) (v : Siege) (k : �
       module _ (quiet : IsQuiet v g w.checks y n.from m.from n.to) (lawful : is_legal rule q n ≡ true) where
         unseen : (s : ℕ) (z : Man) → s < 64 → man_on r.men s ≡ Some z → z.colour ≡ other p.turn → reaches_as r.men z.colour z.kind s k ≡ false
         unseen s z inside there enemy = elim (enemy_r s z there enemy) [
-          | inl came ↦
-              let same : z ≡ y = came.1 ∙ ap (arriving_man y) (unnamed q y n n.promo quiet.check.plain is_n.promotion) in
-              rw (same, came.0) (elim (cases_Bool (same_kind y.kind King)) [
-                | inr mortal ↦ quiet_off r.men stays_r (quiet.check.off mortal)
-                | inl king ↦ king_comes lawful king
-              ])
+          | inl came ↦ elim (cases_Bool (is_promoting y n.to)) [
+            | inl last ↦ false_by _ (λ h. false≢true (sym (quiet.check.promoted last)
+                ∙ i.at.is.promotions.inside y (arriving_man y n.promo) n.to r.men is_y.mine to last becomes_y
+                (rw (came.1, came.0, ← i.at.king) at h)))
+            | inr off ↦
+                let same : z ≡ y = came.1 ∙ ap (arriving_man y) (unnamed q y n n.promo off is_n.promotion) in
+                rw (same, came.0) (elim (cases_Bool (same_kind y.kind King)) [
+                  | inr mortal ↦ quiet_off r.men stays_r (quiet.check.off mortal)
+                  | inl king ↦ king_comes lawful king
+                ])
+          ]
           | inr kept ↦
               let a = attacker s z inside kept.1.1 enemy in
               elim (cases_Bool (is_hopper (gait_of z.kind))) [
@@ -472,7 +483,7 @@ module _ (rule : RuleSet) (p : Position) (m : Move) (x : Man) (v : Siege) (k : �
             has_one rule r p.turn k f well_r (turn_after rule q n can ∙ ap other turn_q ∙ other_twice p.turn) king_r in_f near free vacant unreached
 
       -- a flight that is left
-      module _ (flight : IsFlight v g y n.from m.from m.to n.to) where
+      module _ (flight : IsFlight v g (arriving_man y n.promo) n.from m.from m.to n.to) where
         abbrev f : ℕ
         f = flight.square
 
@@ -485,7 +496,6 @@ module _ (rule : RuleSet) (p : Position) (m : Move) (x : Man) (v : Siege) (k : �
 
         left_flees : has_flight rule r ≡ true
         left_flees =
-            let same : arriving_man y n.promo ≡ y = ap (arriving_man y) (unnamed q y n n.promo flight.plain is_n.promotion) in
             flees f flight.left.small
             (subst (λ (j : ℕ). list_any (leaps j f) queen_steps ≡ true) i.at.king (i.at.is.springs.near.next f flight.left.small flight.left.on))
             (free_kept p.turn _ _ stood_f (false_by _ (λ own. false≢true (sym open_f ∙ i.fits.closed.own f flight.left.small own)))
@@ -494,13 +504,13 @@ module _ (rule : RuleSet) (p : Position) (m : Move) (x : Man) (v : Siege) (k : �
             flight.unguarded (λ men stand s z a ne hop. unhopped f g.hops
             (subst (λ (j : ℕ). IsUnsprung v j f g.hops) i.at.king (i.at.is.springs.unsprung f flight.left.small flight.left.on))
             (λ h on. on) (flight.unsprung s z a ne hop) men stand s z a hop)
-            (λ ne men stand. rw same (flight.left.unreached men (record {
+            (λ ne men stand. flight.left.unreached men (record {
               stand = λ h low apart off some.
                   let y = man_of (man_on men h) some in
                   let at = stand h y.0 apart y.1 in
                   let are = subst (λ (j : ℕ). AreLaterHurdles v j n.from flight.hurdles) i.at.king flight.are in
                   (λ e. at.0 (e ∙ i.at.king), standing flight.hurdles h y.0 are low at.0 off at.1);
-            })))
+            }))
 
       -- he captures who has come
       module _ (captured : IsCaptured v g n.from m.from n.to) where
@@ -530,7 +540,10 @@ module _ (rule : RuleSet) (p : Position) (m : Move) (x : Man) (v : Siege) (k : �
 
       unmated_plainly : mates rule q n ≡ false
       unmated_plainly = elim (w.mild.each n.to arrival recaptures) [
-        | inr ways ↦ elim ways [ inl captured ↦ unmated_captured captured | inr flight ↦ sym (no_mate_with_flight rule q n (left_flees flight)) ]
+        | inr ways ↦ elim ways [
+          | inl captured ↦ unmated_captured captured
+          | inr flight ↦ sym (no_mate_with_flight rule q n (left_flees (flight (arriving_man y n.promo) becomes_y)))
+        ]
         | inl quiet ↦ sym (no_mate_quietly rule q n (λ lawful. ap (in_check rule r.men) (ap other turn_q ∙ other_twice p.turn) ∙ no_check quiet lawful))
       ]
 

@@ -28,7 +28,7 @@ module _ (rule : RuleSet) (p : Position) (x : Man) (v : ToldThreats) (well : IsW
           arrival = arrival;
           own = λ f low on. search (rules, false_by, next.free f low on, fits.closed.own f low);
           king = λ f low on. search (rules, false_by, next.kings f low on, fits.kings f low);
-        }) v.siege.men fits.men fits.colour kept
+        }) v.siege.men fits.men fits.colour fits.promotions kept
 
     -- beside him, whoever comes elsewhere
     man_keeps : same_kind x.kind King ≡ false → captures_do_more rule ≡ false → KeepsFlightBeside v.siege m.to

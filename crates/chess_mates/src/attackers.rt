@@ -1,8 +1,10 @@
 //! The men of a side kind by kind.
-ghost use Rattle.std.specs.Prelude.{◌≡◌};
+ghost use Rattle.std.specs.Prelude.{◌≡◌, true};
+ghost use Rattle.chess_core.specs.Position.{may_promote};
+ghost use Rattle.chess_core.specs.declared.man.Kind.{Kind};
 ghost use Rattle.chess_core.specs.declared.man.Kind.TheVariants.{King};
 ghost use Rattle.chess_core.specs.ties.Words.{squares_of};
-ghost use Rattle.chess_mates.specs.ties.Attackers.{AreAttackers};
+ghost use Rattle.chess_mates.specs.ties.Attackers.{AreAttackers, is_promotion};
 
 use chess_core::board::Board;
 use chess_core::man::{Colour, Kind};
@@ -12,7 +14,7 @@ use chess_core::square::Squares;
 // is looked for.
 pub(crate) const MOST_ATTACKERS: u32 = 7;
 
-// The squares of a side's men kind by kind.
+// The squares of a side's men kind by kind, and whether its pawns may become fairy men.
 #[derive(Clone, Copy)]
 pub(crate) struct Attackers {
     pub(crate) colour: Colour,
@@ -24,6 +26,14 @@ pub(crate) struct Attackers {
     pub(crate) pawns: Squares,
     pub(crate) grasshoppers: Squares,
     pub(crate) nightriders: Squares,
+    pub(crate) fairy_promotions: bool,
+}
+
+// Whether pawns may become fairy men.
+pub(crate) fn has_fairy_promotions(board: &Board) -> bool
+    ensures { (k : Kind) → may_promote board.now k ≡ true → is_promotion result k ≡ true }
+{
+    board.may_promote(Kind::Grasshopper) || board.may_promote(Kind::Nightrider)
 }
 
 // The men of the colour.
@@ -32,6 +42,8 @@ pub(crate) fn attackers_on(board: &Board, colour: Colour) -> Attackers
     ensures colour { result.colour ≡ colour }
     ensures kings { result.kings ≡ squares_of board.now.men colour King }
     ensures men { AreAttackers board.now.men result }
+    ensures promotions { (k : Kind) → may_promote board.now k ≡ true
+        → is_promotion result.fairy_promotions k ≡ true }
 {
     Attackers {
         colour,
@@ -43,5 +55,6 @@ pub(crate) fn attackers_on(board: &Board, colour: Colour) -> Attackers
         pawns: board.squares(colour, Kind::Pawn),
         grasshoppers: board.squares(colour, Kind::Grasshopper),
         nightriders: board.squares(colour, Kind::Nightrider),
+        fairy_promotions: has_fairy_promotions(board),
     }
 }

@@ -6,13 +6,15 @@ ghost use Rattle.chess_core.specs.declared.man.Kind.TheVariants.{Nightrider};
 ghost use Rattle.chess_core.specs.declared.man.Colour.{Colour};
 ghost use Rattle.chess_mates.specs.declared.siege.Siege.{Siege};
 ghost use Rattle.chess_mates.specs.ties.LastingFlights.{AreOpenTargets};
-ghost use Rattle.chess_mates.specs.ties.Siege.{AreAdjacent, AreFree, AreNeeded, AreSpringboards, AreSprings, IsCastlingHarmless, IsField, IsReached, IsUnsprung, AreCaptureSquares};
+ghost use Rattle.chess_mates.specs.ties.Siege.{AreAdjacent, AreFree, AreNeeded, ArePromotions, AreSpringboards, AreSprings, IsCastlingHarmless, IsField, IsReached, IsUnsprung, AreCaptureSquares};
 
 use crate::attackers::{Attackers, MOST_ATTACKERS};
 use crate::guards::reach_of;
-use crate::lasting_flights::{OpenTargets, all_open_targets, keeps_one};
+use crate::lasting_flights::{
+    LAST_RANKS, OpenTargets, all_open_targets, keeps_one, open_approaches,
+};
 use crate::siege::Siege;
-use chess_core::man::{Colour, Kind};
+use chess_core::man::{Colour, Kind, Man};
 use chess_core::square::{Square, Squares};
 use chess_rules::leaps::king_leaps;
 use chess_rules::lines::{diagonal_lines, straight_lines};
@@ -22,7 +24,7 @@ use chess_rules::words::{highest, next_bit, only, take_first};
 
 // A king's square, the squares next to it to which he might go, attacks apart, those on which he might capture who comes
 // there, and those of the lines from there: the straight ones, the diagonals, and all; the springboards of his square, and
-// with them those of the squares next to it.
+// with them those of the squares next to it; the squares on which a pawn is promoted and may check him.
 #[derive(Clone, Copy)]
 pub(crate) struct Field {
     pub(crate) king: Square,
@@ -33,6 +35,7 @@ pub(crate) struct Field {
     pub(crate) lines: Squares,
     pub(crate) springboards: Squares,
     pub(crate) hops: Squares,
+    pub(crate) promotions: Squares,
 }
 
 // Squares that no hopper reaches but over a man who comes to one of these springboards.
@@ -184,6 +187,22 @@ pub(crate) fn no_springs(siege: &Siege, king: Square) -> Springs
     }
 }
 
+// The squares on which a pawn may become a man who checks the king, whoever else stands on the board.
+#[tactic(auto, using(crate::proofs::Promotions::any_rank, crate::proofs::Promotions::queen_or_knight))]
+fn promotion_squares(men: &Attackers, king: Square) -> Squares
+    ensures { ArePromotions men.now king result }
+{
+    if men.fairy_promotions {
+        return LAST_RANKS;
+    }
+    let colour = men.colour;
+    let kind = Kind::Queen;
+    let queens = open_approaches(Man { colour, kind }, king);
+    let kind = Kind::Knight;
+    let knights = open_approaches(Man { colour, kind }, king);
+    LAST_RANKS & (queens | knights)
+}
+
 // The field of a king of the defender on this square. If the attackers have nightriders, `riders` are the squares of their
 // lines from there.
 #[inline(always)]
@@ -205,6 +224,7 @@ pub(crate) fn field_of(siege: &Siege, king: Square, riders: Squares, springs: &S
         lines: straight | diagonal | riders,
         springboards: springs.own,
         hops: springs.all,
+        promotions: promotion_squares(&siege.men, king),
     }
 }
 

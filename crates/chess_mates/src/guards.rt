@@ -121,7 +121,6 @@ fn without(men: &Attackers, gone: Square) -> Attackers
 {
     let others = !only(Some(gone));
     Attackers {
-        colour: men.colour,
         kings: men.kings & others,
         queens: men.queens & others,
         rooks: men.rooks & others,
@@ -130,6 +129,7 @@ fn without(men: &Attackers, gone: Square) -> Attackers
         pawns: men.pawns & others,
         grasshoppers: men.grasshoppers & others,
         nightriders: men.nightriders & others,
+        ..*men
     }
 }
 

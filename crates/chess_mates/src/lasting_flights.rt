@@ -7,7 +7,7 @@ ghost use Rattle.chess_core.specs.declared.man.Man.{Man};
 ghost use Rattle.chess_mates.specs.declared.attackers.Attackers.{Attackers};
 ghost use Rattle.chess_mates.specs.ties.LastingFlights.{AreApproached, AreOpenTargets, AreTargets, IsLeft, KeepsOne, LeaveOne};
 ghost use Rattle.chess_rules.specs.ties.Sight.{king_after};
-ghost use Rattle.chess_rules.specs.ties.Targets.{AreReached, is_promoting};
+ghost use Rattle.chess_rules.specs.ties.Targets.{AreReached};
 
 use crate::attackers::Attackers;
 use chess_core::board::Board;
@@ -16,8 +16,8 @@ use chess_core::square::{Square, Squares};
 use chess_rules::open_board::{open_reach, open_targets};
 use chess_rules::words::{highest, next_bit, only, take_first};
 
-// The squares to which a side's men of each kind might go, were the others gone, and those that one of them reaches so; and
-// perhaps more.
+// The squares on which a side's men of each kind might stand after one move, were the others gone, and those that its men reach
+// so now; perhaps more. A promoted rook or bishop counts as a queen, who reaches all that they do.
 #[derive(Clone, Copy)]
 pub(crate) struct OpenTargets {
     pub(crate) kings: Squares,
@@ -91,7 +91,15 @@ fn open_targets_of(colour: Colour, kind: Kind, squares: Squares) -> Squares
     targets
 }
 
-// The targets of the men; but for pawns and kings they are what these reach.
+// The squares on which pawns become fairy men, if they may.
+#[tactic(auto)]
+fn fairy_targets(men: &Attackers, promoted: Squares) -> Squares
+    ensures { men.now.fairy_promotions ≡ true → result ≡ promoted }
+{
+    if men.fairy_promotions { promoted } else { 0 }
+}
+
+// The targets of the men: except for pawns and kings, the squares that they reach and those on which a pawn becomes one of them.
 #[inline(always)]
 pub(crate) fn all_open_targets(men: &Attackers) -> OpenTargets
     ensures { AreOpenTargets men.now result }
@@ -104,15 +112,18 @@ pub(crate) fn all_open_targets(men: &Attackers) -> OpenTargets
     let pawns = open_reach_of(men.colour, Kind::Pawn, men.pawns);
     let grasshoppers = open_reach_of(men.colour, Kind::Grasshopper, men.grasshoppers);
     let nightriders = open_reach_of(men.colour, Kind::Nightrider, men.nightriders);
+    let advances = open_targets_of(men.colour, Kind::Pawn, men.pawns);
+    let promoted = advances & LAST_RANKS;
+    let fairies = fairy_targets(men, promoted);
     OpenTargets {
         kings: open_targets_of(men.colour, Kind::King, men.kings),
-        queens,
+        queens: queens | promoted,
         rooks,
         bishops,
-        knights,
-        pawns: open_targets_of(men.colour, Kind::Pawn, men.pawns),
-        grasshoppers,
-        nightriders,
+        knights: knights | promoted,
+        pawns: advances,
+        grasshoppers: grasshoppers | fairies,
+        nightriders: nightriders | fairies,
         guarded: kings | queens | rooks | bishops | knights | pawns | grasshoppers | nightriders,
     }
 }
@@ -125,21 +136,20 @@ fn first_left(squares: Squares, man: Man, to: Square) -> Option<Square>
     next_bit(squares & !(open_reach(man, to) | only(Some(to))), 0)
 }
 
-// The first rank and the last, and e1 and e8.
-const LAST_RANKS: Squares = 0xff00_0000_0000_00ff;
+// The first rank and the last.
+pub(crate) const LAST_RANKS: Squares = 0xff00_0000_0000_00ff;
 
+// The squares e1 and e8.
 const KINGS_HOMES: Squares = 0x1000_0000_0000_0010;
 
-// Whether surely no man is promoted or castles.
-#[tactic(auto, using(crate::proofs::LastingFlights::no_last_rank, crate::proofs::LastingFlights::off_homes))]
+// Whether no king stands on a square from which he castles.
+#[tactic(auto, using(crate::proofs::LastingFlights::off_homes))]
 #[inline(always)]
-fn go_plainly(men: &Attackers, targets: &OpenTargets) -> bool
-    ensures unpromoted { result ≡ true → (x : Man) (t : ℕ) → t < 64
-        → (bit_at targets.now.pawns t == 1) ≡ true → is_promoting x t ≡ false }
-    ensures away { result ≡ true → (s : ℕ) → (bit_at men.now.kings s == 1) ≡ true
+fn never_castle(men: &Attackers) -> bool
+    ensures { result ≡ true → (s : ℕ) → (bit_at men.now.kings s == 1) ≡ true
         → (s ≢ e1) × (s ≢ e8) }
 {
-    targets.pawns & LAST_RANKS == 0 && men.kings & KINGS_HOMES == 0
+    men.kings & KINGS_HOMES == 0
 }
 
 // The squares from which the man reaches `to`, whoever else stands on the board: a grasshopper comes along a queen's lines.
@@ -214,13 +224,13 @@ fn kind_leaves_one(squares: Squares, colour: Colour, kind: Kind, targets: Square
     leaves_one_among(squares, Man { colour, kind }, targets)
 }
 
-// Whether one is left wherever any of the men goes.
+// Whether one is left wherever any of the men goes, whatever a pawn becomes.
 #[inline(always)]
 fn leave_one(squares: Squares, men: &Attackers, targets: &OpenTargets) -> bool
     requires { AreOpenTargets men.now targets.now }
     ensures { result ≡ true → LeaveOne men.now squares }
 {
-    if !go_plainly(men, targets) {
+    if !never_castle(men) {
         return false;
     }
     if !kind_leaves_one(squares, men.colour, Kind::Queen, targets.queens) {

@@ -20,8 +20,7 @@ use crate::flights::{
     covered_squares, first_safe, held_squares, open_squares, sight_lifted, sight_with,
 };
 use crate::guards::{leapt_squares, ridden_squares};
-use crate::lasting_flights::{king_after, open_approaches};
-use crate::risk::LAST_RANKS;
+use crate::lasting_flights::{LAST_RANKS, king_after, open_approaches};
 use crate::siege::siege_of;
 use crate::steps::exact_steps;
 use chess_core::board::Board;

@@ -7,17 +7,17 @@ ghost use Rattle.chess_core.specs.declared.man.Colour.{Colour};
 ghost use Rattle.chess_core.specs.declared.man.Man.{Man};
 ghost use Rattle.chess_mates.specs.declared.siege.Siege.{Siege};
 ghost use Rattle.chess_mates.specs.ties.Attackers.{IsAttacker};
-ghost use Rattle.chess_mates.specs.ties.LastingFlights.{IsLeft};
+ghost use Rattle.chess_mates.specs.ties.LastingFlights.{IsLeft, MayBecome};
 ghost use Rattle.chess_mates.specs.ties.Siege.{AreArrivals, AreLaterHurdles, AreSprings, AreThreats, AreWeak, IsCheckWord, IsField, IsHarmless, IsMet, IsNoCheck, IsOff, IsReached, IsRiskAt, IsRiskBehind, IsSafeMove, IsSiege, IsWeak, IsWhole, LeavesOne, LeavesUntaken};
-ghost use Rattle.chess_rules.specs.ties.Targets.{is_promoting};
 
+use crate::attackers::Attackers;
 use crate::field::{
     Field, Springs, are_free, castling_is_harmless, field_of, nightrider_lines, no_springs,
     springs_of,
 };
 use crate::guards::{Guards, guards_without, reach_from, ridden_squares};
 use crate::hopped_flights::{critical_of_hops, later_hurdles};
-use crate::lasting_flights::open_approaches;
+use crate::lasting_flights::{LAST_RANKS, open_approaches};
 use crate::pawn_approaches::pawns_before;
 use crate::siege::{Siege, lifted_from};
 use chess_core::man::{Colour, Kind, Man};
@@ -82,7 +82,27 @@ fn critical_after(near: Squares, enemies: Squares, man: Man, targets: Squares) -
     critical
 }
 
-// The same once the man on `from` has gone: of a grasshopper it's told by the hurdles that he may hop over then.
+// The squares that a defender mustn't come to where a pawn who comes to a square of the word could leave none, whatever he
+// becomes: a promoted rook or bishop takes no more than a queen.
+#[tactic(auto, using(crate::proofs::Promotions::pawn_leaves, crate::proofs::Promotions::unpromoted_leaves))]
+fn critical_of_pawn(near: Squares, enemies: Squares, man: Man, targets: Squares) -> Squares
+    ensures { (t : ℕ) → t < 64 → (bit_at targets t == 1) ≡ true → (z : Man)
+        → MayBecome false man t z → LeavesOne near enemies result z t }
+{
+    let critical = critical_after(near, enemies, man, targets);
+    let promoted = targets & LAST_RANKS;
+    if promoted == 0 {
+        return critical;
+    }
+    let colour = man.colour;
+    let kind = Kind::Queen;
+    let queens = critical_after(near, enemies, Man { colour, kind }, promoted);
+    let kind = Kind::Knight;
+    let knights = critical_after(near, enemies, Man { colour, kind }, promoted);
+    critical | queens | knights
+}
+
+// The same of any man once he has gone from `from`: for a grasshopper by the hurdles that he may hop over then.
 #[inline(always)]
 fn critical_of_going(
     siege: &Siege,
@@ -92,27 +112,27 @@ fn critical_of_going(
     near: Squares,
     targets: Squares,
 ) -> Squares
-    ensures { (t : ℕ) → t < 64 → (bit_at targets t == 1) ≡ true
-        → (d : ℕ) × AreLaterHurdles siege.now field.now.king from d
-        × LeavesUntaken d field.now.king near siege.now.enemies result man t }
+    ensures { (t : ℕ) → t < 64 → (bit_at targets t == 1) ≡ true → (z : Man)
+        → MayBecome false man t z → (d : ℕ) × AreLaterHurdles siege.now field.now.king from d
+        × LeavesUntaken d field.now.king near siege.now.enemies result z t }
 {
     let hurdles = later_hurdles(siege, field.king, from);
     if man.kind.is(Kind::Grasshopper) {
         return critical_of_hops(field.king, near, siege.enemies, hurdles, targets);
     }
+    if man.kind.is(Kind::Pawn) {
+        return critical_of_pawn(near, siege.enemies, man, targets);
+    }
     critical_after(near, siege.enemies, man, targets)
 }
 
-// The first rank and the last.
-pub(crate) const LAST_RANKS: Squares = 0xff00_0000_0000_00ff;
-
-// Whether the man may promote on one of the squares.
-#[tactic(auto, using(crate::proofs::LastingFlights::no_last_rank, chess_rules::proofs::listing_moves::Targeting::no_pawn_arrives))]
-fn may_promote_on(man: Man, targets: Squares) -> bool
-    ensures { result ≡ false → (t : ℕ) → t < 64 → (bit_at targets t == 1) ≡ true
-        → is_promoting man t ≡ false }
+// Whether the man may become a fairy man on one of the squares.
+#[tactic(auto, using(crate::proofs::LastingFlights::no_last_rank, crate::proofs::Promotions::no_fairy, chess_rules::proofs::listing_moves::Targeting::no_pawn_arrives))]
+fn may_become_fairy(men: &Attackers, man: Man, targets: Squares) -> bool
+    ensures { result ≡ false → (t : ℕ) → t < 64 → (bit_at targets t == 1) ≡ true → (z : Man)
+        → MayBecome men.now.fairy_promotions man t z → MayBecome false man t z }
 {
-    if !man.kind.is(Kind::Pawn) {
+    if !men.fairy_promotions || !man.kind.is(Kind::Pawn) {
         return false;
     }
     targets & LAST_RANKS != 0
@@ -130,19 +150,19 @@ fn arrivals(hurdles: Squares, man: Man, from: Square) -> Squares
     }
 }
 
-// Those of the squares from which he checks, or lets a hopper check, or on which he promotes. A king doesn't check.
+// The squares from which he checks, lets a hopper check, or may check once he is promoted there. A king doesn't check.
 #[tactic(auto, using(chess_rules::proofs::listing_moves::Walks::off_second, crate::proofs::Risks::king_targets))]
-fn checking_targets(man: Man, reached: Squares, checks: Squares, springboards: Squares) -> Squares
+fn checking_targets(man: Man, reached: Squares, field: &Field, checks: Squares) -> Squares
     ensures { (t : ℕ) → t < 64 → (bit_at reached t == 1) ≡ true
-        → (bit_at result t == 1) ≡ false → IsNoCheck checks springboards man t }
+        → (bit_at result t == 1) ≡ false → IsNoCheck field.now checks man t }
 {
     if man.kind.is(Kind::King) {
-        return reached & springboards;
+        return reached & field.springboards;
     }
     if man.kind.is(Kind::Pawn) {
-        return reached & (checks | LAST_RANKS | springboards);
+        return reached & (checks | field.promotions | field.springboards);
     }
-    reached & (checks | springboards)
+    reached & (checks | field.springboards)
 }
 
 // All squares that the man reaches, if another attacker checks once he has gone, else the targets.
@@ -199,7 +219,7 @@ fn risk_of_going(
     let guards = guards_without(siege, from, region);
     let watched = watched_squares(&guards, field.king, reached, targets);
     let left = uncaptured_squares(field, &guards, watched);
-    if may_spring(siege, field, from, left) || may_promote_on(man, left) {
+    if may_spring(siege, field, from, left) || may_become_fairy(&siege.men, man, left) {
         return Risk {
             critical: !0,
             lines: 0,
@@ -218,7 +238,7 @@ fn risk_from(siege: &Siege, field: &Field, man: Man, from: Square, checks: Squar
     ensures { IsHarmless siege.now field.now checks result man from }
 {
     let open = open_targets(man, from);
-    let most = checking_targets(man, open, checks, field.springboards);
+    let most = checking_targets(man, open, field, checks);
     if most == 0 && !contains(field.lines, from) {
         return Risk {
             critical: 0,
@@ -226,7 +246,7 @@ fn risk_from(siege: &Siege, field: &Field, man: Man, from: Square, checks: Squar
         };
     }
     let reached = arrivals(siege.hurdles, man, from);
-    let targets = checking_targets(man, reached, checks, field.springboards);
+    let targets = checking_targets(man, reached, field, checks);
     if targets == 0 && !contains(field.lines, from) {
         return Risk {
             critical: 0,
@@ -276,8 +296,8 @@ fn check_squares_over(siege: &Siege, field: &Field, man: Man) -> Squares
     reach_over(siege.hurdles, man.colour.other(), man.kind, field.king)
 }
 
-// The squares from which the man may check or promote with his next move, were the others gone, or uncover a check, and
-// perhaps more: of pawns and kings fewer than all, but where hoppers aim at the king.
+// The squares from which the man may check with his next move, promoted or not, were the others gone, or uncover a check, and
+// perhaps more: for pawns and kings fewer than all, except where hoppers aim at the king.
 #[tactic(auto, using(chess_rules::proofs::listing_moves::Targeting::every_square_on, chess_rules::proofs::listing_moves::Targeting::false_by, crate::proofs::Risks::king_targets, crate::proofs::Risks::none_at, crate::proofs::Risks::pawn_idly))]
 #[inline(always)]
 fn suspect_squares(field: &Field, man: Man, checks: Squares) -> Squares
@@ -288,7 +308,7 @@ fn suspect_squares(field: &Field, man: Man, checks: Squares) -> Squares
         return !0;
     }
     if man.kind.is(Kind::Pawn) {
-        return field.lines | pawns_before(man.colour, checks | LAST_RANKS);
+        return field.lines | pawns_before(man.colour, checks | field.promotions);
     }
     if man.kind.is(Kind::King) {
         return field.lines;

@@ -7,7 +7,7 @@ ghost use Rattle.chess_core.specs.Position.{king_square};
 ghost use Rattle.chess_core.specs.WellFormed.{IsWellFormed};
 ghost use Rattle.chess_mates.specs.ties.Siege.{AreCastlingSquares, AreHurdles, IsHurdle, IsLifted, IsSiege, IsSiegeOf, IsWhole};
 
-use crate::attackers::{Attackers, attackers_on};
+use crate::attackers::{Attackers, attackers_on, has_fairy_promotions};
 use crate::homes::closed_squares;
 use chess_core::board::Board;
 use chess_core::man::{Colour, Kind};
@@ -142,6 +142,7 @@ pub(crate) fn is_of<R: Rules>(siege: &Siege, board: &Board) -> bool
         & (men.pawns == board.squares(colour, Kind::Pawn))
         & (men.grasshoppers == board.squares(colour, Kind::Grasshopper))
         & (men.nightriders == board.squares(colour, Kind::Nightrider))
+        & (men.fairy_promotions == has_fairy_promotions(board))
         & (siege.castled == castling_squares(board, colour))
         & (siege.closed == closed_squares::<R>(board))
 }

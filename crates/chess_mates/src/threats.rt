@@ -14,9 +14,9 @@ ghost use Rattle.chess_rules.specs.RuleSet.{captures_do_more};
 ghost use Rattle.chess_rules.specs.ties.Targets.{may_go};
 
 use crate::field::{needed_squares, tell_targets};
-use crate::lasting_flights::OpenTargets;
+use crate::lasting_flights::{LAST_RANKS, OpenTargets};
 use crate::pawn_approaches::capturers_before;
-use crate::risk::{LAST_RANKS, Risk, RiskBehind, critical_from, kept_risk};
+use crate::risk::{Risk, RiskBehind, critical_from, kept_risk};
 use crate::siege::{Siege, is_of, siege_of};
 use crate::steps::{ToldSteps, exact_steps, kept_risky_steps};
 use chess_core::board::Board;

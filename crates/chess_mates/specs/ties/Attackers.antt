@@ -1,7 +1,7 @@
 -- The men of a side kind by kind (own).
-use Rattle.std.specs.Prelude.{◌≡◌, ◌<◌, ◌==◌, ℕ, true, List, Option, Some}
+use Rattle.std.specs.Prelude.{◌≡◌, ◌<◌, ◌==◌, ◌||◌, ℕ, Bool, true, false, not, List, Option, Some}
 use Rattle.std.specs.Int.{bit_at}
-use Rattle.chess_core.specs.Position.{man_on}
+use Rattle.chess_core.specs.Position.{is_fairy, man_on}
 use Rattle.chess_core.specs.declared.man.Kind.{Kind}
 use Rattle.chess_core.specs.declared.man.Kind.TheVariants.{King, Queen, Rook, Bishop, Knight, Pawn, Grasshopper, Nightrider}
 use Rattle.chess_core.specs.declared.man.Man.{Man}
@@ -29,3 +29,9 @@ pub record AreAttackers (men : List (Option Man)) (a : Attackers) : Type 0 where
   pub stand : (s : ℕ) (x : Man) → s < 64 → man_on men s ≡ Some x → x.colour ≡ a.colour
       → IsAttacker a x s
   pub alone : (s : ℕ) (x : Man) → IsAttacker a x s → man_on men s ≡ Some x
+
+-- a pawn may become a man of this kind (FIDE Laws 3.7.5.1), a fairy man only with b (own)
+abbrev pub is_promotion : Bool → Kind → Bool
+is_promotion b King = false
+is_promotion b Pawn = false
+is_promotion b k = not (is_fairy k) || b

@@ -1,6 +1,6 @@
 -- Flights that the other side can't take with one move: none of its men would reach them, whoever else stood on the
 -- board (a composer's word; own).
-use Rattle.std.specs.Prelude.{◌≡◌, ◌≢◌, ◌<◌, ◌==◌, ℕ, true, false, List, Option}
+use Rattle.std.specs.Prelude.{◌≡◌, ◌≢◌, ◌<◌, ◌==◌, ℕ, Bool, true, false, List, Option}
 use Rattle.std.specs.Int.{bit_at}
 use Rattle.std.specs.List.{list_any}
 use Rattle.chess_core.specs.Position.{Position, is_man, is_of_colour, man_on, other, same_kind}
@@ -12,7 +12,7 @@ use Rattle.chess_core.specs.declared.man.Man.{Man}
 use Rattle.chess_core.specs.declared.man.Move.{Move}
 use Rattle.chess_mates.specs.declared.attackers.Attackers.{Attackers}
 use Rattle.chess_mates.specs.declared.lasting_flights.OpenTargets.{OpenTargets}
-use Rattle.chess_mates.specs.ties.Attackers.{IsAttacker}
+use Rattle.chess_mates.specs.ties.Attackers.{IsAttacker, is_promotion}
 use Rattle.chess_rules.specs.Reaches.{leaps, reaches_as}
 use Rattle.chess_rules.specs.ties.Targets.{AreReached, is_promoting, may_go}
 
@@ -42,10 +42,30 @@ targets_for o Pawn = o.pawns
 targets_for o Grasshopper = o.grasshoppers
 targets_for o Nightrider = o.nightriders
 
--- those of each of these men are among his kind's, and what they reach is guarded
+-- x may be z once he has come to t: himself, or on his last rank what a pawn becomes, a fairy man only with b
+pub record MayBecome (b : Bool) (x : Man) (t : ℕ) (z : Man) : Type 0 where
+  pub mine : z.colour ≡ x.colour
+  pub same : is_promoting x t ≡ false → z.kind ≡ x.kind
+  pub promoted : is_promoting x t ≡ true → is_promotion b z.kind ≡ true
+
+-- the kind as which a promoted man counts: a queen reaches all that a rook and a bishop do
+abbrev pub counts_as : Kind → Kind
+counts_as Rook = Queen
+counts_as Bishop = Queen
+counts_as k = k
+
+-- the word of each kind has those where x from s becomes a man who counts as one
+pub record ArePromoted (b : Bool) (o : OpenTargets) (x : Man) (s : ℕ) : Type 0 where
+  pub inside : (p : Position) (z : Man) (t : ℕ) → t < 64 → may_go p x s t ≡ true
+      → is_promoting x t ≡ true → MayBecome b x t z
+      → (bit_at (targets_for o (counts_as z.kind)) t == 1) ≡ true
+
+-- those of each of these men are among his kind's, those of pawns who are promoted among those of what they become, and
+-- what they reach now is guarded
 pub record AreOpenTargets (a : Attackers) (o : OpenTargets) : Type 0 where
   pub guards : AreGuarded a o.guarded
   pub targets : (s : ℕ) (x : Man) → IsAttacker a x s → AreTargets x s (targets_for o x.kind)
+  pub promoted : (s : ℕ) (x : Man) → IsAttacker a x s → ArePromoted a.fairy_promotions o x s
 
 -- once x has come to t, f is left of the word: he stands on another square, and doesn't reach f, whoever else
 -- stands on the board
@@ -55,16 +75,15 @@ pub record IsLeft (w : ℕ) (x : Man) (t f : ℕ) : Type 0 where
   pub off : f ≢ t
   pub unreached : (men : List (Option Man)) → reaches_as men x.colour x.kind t f ≡ false
 
--- wherever x goes from s a square of the word is left, and he neither promotes nor castles
-pub record LeavesOne (w : ℕ) (x : Man) (s : ℕ) : Type 0 where
-  pub left : (p : Position) (t : ℕ) → t < 64 → may_go p x s t ≡ true → (f : ℕ) × IsLeft w x t f
-  pub unpromoted : (p : Position) (t : ℕ) → t < 64 → may_go p x s t ≡ true
-      → is_promoting x t ≡ false
+-- wherever x goes from s, and whatever he becomes there, a square of the word is left, and he doesn't castle
+pub record LeavesOne (b : Bool) (w : ℕ) (x : Man) (s : ℕ) : Type 0 where
+  pub left : (p : Position) (z : Man) (t : ℕ) → t < 64 → may_go p x s t ≡ true → MayBecome b x t z
+      → (f : ℕ) × IsLeft w z t f
   pub away : same_kind x.kind King ≡ true → (s ≢ e1) × (s ≢ e8)
 
 -- so does each of these men
 pub record LeaveOne (a : Attackers) (w : ℕ) : Type 0 where
-  pub leaves : (s : ℕ) (x : Man) → IsAttacker a x s → LeavesOne w x s
+  pub leaves : (s : ℕ) (x : Man) → IsAttacker a x s → LeavesOne a.fairy_promotions w x s
 
 -- squares next to k on which no man of the mover stands, neither before the move nor after it, nor the enemy's king
 pub record AreNear (p : Position) (m : Move) (k w : ℕ) : Type 0 where

@@ -4,7 +4,7 @@ use Rattle.std.specs.Int.{bit_at}
 use Rattle.std.specs.Int.Bits.{bit_and}
 use Rattle.std.specs.List.{list_any}
 use Rattle.chess_core.specs.Castling.{has_unmoved}
-use Rattle.chess_core.specs.Position.{Position, is_fairy, is_man, is_of_colour, king_square, man_on, other, same_kind}
+use Rattle.chess_core.specs.Position.{Position, is_fairy, is_man, is_of_colour, king_square, man_on, may_promote, other, same_kind}
 use Rattle.chess_core.specs.Squares.{file_of}
 use Rattle.chess_core.specs.Steps.{gait_of, is_hopper, queen_steps, straight_steps}
 use Rattle.chess_core.specs.declared.man.Colour.{Colour}
@@ -19,8 +19,8 @@ use Rattle.chess_mates.specs.declared.risk.Risk.{Risk}
 use Rattle.chess_mates.specs.declared.siege.Siege.{Siege}
 use Rattle.chess_mates.specs.declared.field.Springs.{Springs}
 use Rattle.chess_mates.specs.declared.steps.ToldSteps.{ToldSteps}
-use Rattle.chess_mates.specs.ties.Attackers.{AreAttackers, IsAttacker}
-use Rattle.chess_mates.specs.ties.LastingFlights.{AreApproached, IsLeft, KeepsOne}
+use Rattle.chess_mates.specs.ties.Attackers.{AreAttackers, IsAttacker, is_promotion}
+use Rattle.chess_mates.specs.ties.LastingFlights.{AreApproached, IsLeft, KeepsOne, MayBecome}
 use Rattle.chess_rules.specs.Play.{rebirth}
 use Rattle.chess_rules.specs.Reaches.{leaps, reaches_as}
 use Rattle.chess_rules.specs.RuleSet.{RuleSet, captures_do_more, faced_men_stand_still}
@@ -149,6 +149,8 @@ pub record IsSiegeOf (rule : RuleSet) (p : Position) (v : Siege) : Type 0 where
       → (bit_at v.men.kings s == 1) ≡ true
   pub castled : AreCastlingSquares p (other p.turn) v.castled
   pub closed : AreClosed rule p v.closed
+  pub promotions : (k : Kind) → may_promote p k ≡ true
+      → is_promotion v.men.fairy_promotions k ≡ true
 
 -- a man stands on a square of the word, other than t
 pub record IsSprung (men : List (Option Man)) (t w : ℕ) : Type 0 where
@@ -229,11 +231,11 @@ pub record IsArrival (d : ℕ) (x : Man) (s t : ℕ) : Type 0 where
 pub record AreArrivals (d : ℕ) (x : Man) (s w : ℕ) : Type 0 where
   pub inside : (t : ℕ) → IsArrival d x s t → (bit_at w t == 1) ≡ true
 
--- x neither checks from t, unless he is a king, nor promotes there, nor lets a hopper check from one of the springboards
-pub record IsNoCheck (checks springboards : ℕ) (x : Man) (t : ℕ) : Type 0 where
+-- x doesn't check from t, unless he is a king, nor once he is promoted there, nor lets a hopper check from a springboard
+pub record IsNoCheck (g : Field) (checks : ℕ) (x : Man) (t : ℕ) : Type 0 where
   pub off : same_kind x.kind King ≡ false → (bit_at checks t == 1) ≡ false
-  pub unsprung : (bit_at springboards t == 1) ≡ false
-  pub plain : is_promoting x t ≡ false
+  pub unsprung : (bit_at g.springboards t == 1) ≡ false
+  pub promoted : is_promoting x t ≡ true → (bit_at g.promotions t == 1) ≡ false
 
 -- the word has each square from which x checks the king on k: a hopper whoever else stands on the board, others over
 -- the hurdles
@@ -267,9 +269,9 @@ pub record IsUnguarded (v : Siege) (s a t : ℕ) : Type 0 where
   pub shut : (bit_at v.hurdles a == 1) ≡ true → (bit_at guards.ridden a == 1) ≡ false
   pub off : (bit_at guards.guarded t == 1) ≡ false
 
--- after x goes from s to t, and the defender from a to b, a square of the field is left, and no other man hops over x
+-- after a man goes from s to t, where he is x, and the defender from a to b, a square of the field is left, and no other
+-- man hops over x
 pub record IsFlight (v : Siege) (g : Field) (x : Man) (s a b t : ℕ) : Type 0 where
-  pub plain : is_promoting x t ≡ false
   pub unsprung : (q : ℕ) (z : Man) → IsAttacker v.men z q → s ≢ q
       → is_hopper (gait_of z.kind) ≡ true → (bit_at g.hops t == 1) ≡ false
   pub hurdles : ℕ
@@ -283,9 +285,11 @@ pub record IsCaptured (v : Siege) (g : Field) (s a t : ℕ) : Type 0 where
   pub on : (bit_at g.captures t == 1) ≡ true
   pub unguarded : IsUnguarded v s a t
 
--- one or the other
+-- one or the other, whatever x becomes on t
 abbrev pub LeavesFlight : Siege → Field → Man → ℕ → ℕ → ℕ → ℕ → Type 0
-LeavesFlight v g x s a b t = IsCaptured v g s a t ⊎ IsFlight v g x s a b t
+LeavesFlight v g x s a b t =
+    IsCaptured v g s a t
+    ⊎ ((z : Man) → MayBecome v.men.fairy_promotions x t z → IsFlight v g z s a b t)
 
 -- so it is unless t is none of the targets and no other attacker checks then
 abbrev pub IsMet : Siege → Field → Man → ℕ → ℕ → ℕ → ℕ → ℕ → Type 0
@@ -295,7 +299,7 @@ IsMet v g x s targets a b t =
 
 -- x doesn't check from t, nor let a hopper check, nor does he uncover a check
 pub record IsQuiet (v : Siege) (g : Field) (checks : ℕ) (x : Man) (s a t : ℕ) : Type 0 where
-  pub check : IsNoCheck checks g.springboards x t
+  pub check : IsNoCheck g checks x t
   pub covered : ((bit_at g.lines s == 1) ≡ false) ⊎ IsUnguarded v s a g.king
 
 -- wherever x goes from s, he gives no check or leaves a flight
@@ -336,6 +340,12 @@ pub record AreCaptureSquares (v : Siege) (k w : ℕ) : Type 0 where
   pub plain : (f s : ℕ) (z : Man) → (bit_at w f == 1) ≡ true → IsAttacker v.men z s
       → is_hopper (gait_of z.kind) ≡ false
 
+-- the word has each square on which one of these men's pawns may become a man who reaches k, whoever else stands on the board
+pub record ArePromotions (a : Attackers) (k w : ℕ) : Type 0 where
+  pub inside : (x z : Man) (t : ℕ) (men : List (Option Man)) → x.colour ≡ a.colour → t < 64
+      → is_promoting x t ≡ true → MayBecome a.fairy_promotions x t z
+      → reaches_as men z.colour z.kind t k ≡ true → (bit_at w t == 1) ≡ true
+
 -- a rider, a nightrider only if the attackers have one
 abbrev pub MayRide : Siege → Kind → Type 0
 MayRide v k = (is_rider k ≡ true) × (same_kind k Nightrider ≡ true → v.men.nightriders ≢ 0)
@@ -347,7 +357,7 @@ pub record AreSprings (v : Siege) (k : ℕ) (i : Springs) : Type 0 where
   pub own : AreSpringboards v.men k i.own
   pub within : (h : ℕ) → (bit_at i.own h == 1) ≡ true → (bit_at i.all h == 1) ≡ true
 
--- the field of the king: such squares next to him, and those on which he may capture; his lines; springboards
+-- the field of the king: such squares next to him, and those on which he may capture; his lines; springboards; promotions
 pub record IsField (v : Siege) (g : Field) : Type 0 where
   pub springs : AreSprings v g.king
       (record { near = g.near; own = g.springboards; all = g.hops })
@@ -358,6 +368,7 @@ pub record IsField (v : Siege) (g : Field) : Type 0 where
       → IsReached v.hurdles (record { colour = c; kind = Bishop }) g.king g.diagonal
   pub lines : (c : Colour) (k : Kind) → MayRide v k
       → IsReached v.hurdles (record { colour = c; kind = k }) g.king g.lines
+  pub promotions : ArePromotions v.men g.king g.promotions
 
 -- no rook checks from a square to which he may castle, no king leaves a line of the field, and there is no fairy man
 pub record IsCastlingHarmless (v : Siege) (g : Field) : Type 0 where

@@ -16,13 +16,12 @@ returns c = λ a b t inside small off low on there.
     let left = c.uncaptured_squares-left in
     let at = unguarded_at c.args.siege.now g c.args.from o guards.result a guards.ensures off.lines in
     elim (cases_Bool (bit_at left.result t == 1)) [
-      | inl left_on ↦
-          let going = c.critical_of_going.ensures t low left_on in
+      | inl left_on ↦ inr (inr (λ z becomes.
+          let going = c.critical_of_going.ensures t low left_on z (c.may_become_fairy.ensures c.if-may_become_fairy.false t low left_on z becomes) in
           let one = going.2.left b small off.critical there in
           let f = one.0 in
           let near : (bit_at g.near f == 1) ≡ true = search (rules, on_first, one.1.on) in
-          inr (inr (record {
-            plain = c.may_promote_on.ensures c.if-may_promote_on.false t low left_on;
+          record {
             unsprung = c.may_spring.ensures c.if-may_spring.false t low left_on;
             hurdles = going.0;
             are = going.1;

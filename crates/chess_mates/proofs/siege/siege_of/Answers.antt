@@ -8,4 +8,4 @@ returns-clause-of g c = λ well king.
     let men = c.attackers_on.ensures in
     siege_fits g.R.Rules.rule p _ (men.colour ∙ c.other-enemy.ensures ∙ ap other c.turn.ensures) king (c.side-own.ensures ∙ ap (side_of p.men) c.turn-2.ensures)
     (c.side-enemies.ensures ∙ ap (side_of p.men) (sym men.colour)) men.men (rw men.colour men.kings)
-    (rw men.colour (c.castling_squares.ensures well)) c.closed_squares.ensures
+    (rw men.colour (c.castling_squares.ensures well)) c.closed_squares.ensures men.promotions
