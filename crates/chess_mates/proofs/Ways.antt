@@ -1,9 +1,11 @@
 -- The ways of a defender to a square that isn't risky: his king goes, or another man, who may leave a line.
-use Rattle.chess_mates.proofs.Chess.{AreAdjacent, AreMere, ArePlain, AreRisky, AreThreatsOf, IsLike, IsMereMove, IsPlainMove, IsSafeMove, IsSafeStep, IsSettledStep, IsSiegeOf, IsSparedStep, IsWellFormed, KeepsFlight, KeepsFlightBeside, KeepsOne, King, Man, Move, Position, RuleSet, Siege, Some, ToldThreats, [], agree_below_at, along, and_from, and_parts, ap, arith, arrival_needed, bit_and, bit_at, bit_at_above, bit_not, bit_or, captures_do_more, cases_Bool, cases_lt, cond-false, cond-true, eqb-true, false, false_by, false≢true, inl, inr, is_castling, is_legal, is_man, is_pseudo_legal, is_pseudo_legal-from_legal, king_after, king_is, leaps, list_any, made, maker, man_on, mates_behind, may_go_aimed, off_left, off_right, off_second, off_zero, position_after, queen_steps, refl, rules, same_colour-refl, same_kind, some_is, sym, true, w64, ℕ, ◌<◌, ◌==◌, ◌^◌, ◌∙◌, ◌≡◌, ◌≢◌}
+use Rattle.chess_mates.proofs.Chess.{AreAdjacent, AreMere, ArePlain, AreRisky, AreThreatsOf, IsLike, IsMereMove, IsPlainMove, IsSafeMove, IsSafeStep, IsSettledStep, IsSiegeOf, IsSparedStep, IsWellFormed, KeepsFlight, KeepsFlightBeside, KeepsOne, King, Man, Move, Position, RuleSet, Siege, Some, ToldThreats, [], agree_below_at, along, and_from, and_parts, ap, arith, arrival_needed, bit_and, bit_at, bit_at_above, bit_not, bit_or, captures_do_more, cases_Bool, cases_lt, cond-false, cond-true, eqb-true, false, false_by, false≢true, inl, inr, is_castling, is_legal, is_man, is_pseudo_legal, is_pseudo_legal-from_legal, king_after, king_is, leaps, list_any, made, maker, man_on, mates_behind, may_go_aimed, off_left, off_right, off_second, position_after, queen_steps, refl, rules, same_colour-refl, same_kind, some_is, sym, true, w64, word, ℕ, ◌<◌, ◌==◌, ◌^◌, ◌∙◌, ◌≡◌, ◌≢◌}
 use Rattle.chess_mates.specs.ties.Siege.{AreNeeded}
 use Rattle.chess_mates.proofs.Risks.{denied_on}
 use Rattle.chess_mates.proofs.LastingFlights.{no_mate_behind as flight_behind}
 use Rattle.chess_mates.proofs.Barring.{barred_is_illegal}
+use Rattle.chess_mates.proofs.Fleeing.{king_on}
+use Rattle.chess_mates.proofs.Passing.{king_plain}
 use Rattle.chess_mates.proofs.Sparing.{no_mate_behind}
 
 -- no step stays where it begins
@@ -143,15 +145,33 @@ module _ (rule : RuleSet) (p : Position) (x : Man) (v : ToldThreats) (well : IsW
           man_spared m may (ap (man_on p.men) origin ∙ here) small (rw origin from) plain mere mortal
           (rw origin (safe m.to (denied_on w u m.to fits_u small on off) none)))
 
--- for `keep_flights`: another man comes to none of the squares off which the king keeps no flight
-pub kept_are_risky : (rule : RuleSet) (v : ToldThreats) (s w n : ℕ) → s < 64 → w < 2 ^ 64 → captures_do_more rule ≡ false → AreNeeded v.siege n
-    → (bit_and w n == 0) ≡ true → s ≢ v.siege.king → (p : Position) → IsWellFormed p → AreThreatsOf rule p v → AreRisky rule p s w 0
-kept_are_risky rule v s w n low fits circe needed none apart p well threats = record {
+-- another man comes only to risky squares, if these are all off which the king keeps no flight
+pub needed_are_risky : (rule : RuleSet) (v : ToldThreats) (s w n : ℕ) → s < 64 → w < 2 ^ 64 → captures_do_more rule ≡ false → AreNeeded v.siege n
+    → s ≢ v.siege.king → (p : Position) → IsWellFormed p → AreThreatsOf rule p v → AreRisky rule p s w (bit_and w n)
+needed_are_risky rule v s w n low fits circe needed apart p well threats = record {
   settled = λ m legal origin on off.
       let may = is_pseudo_legal-from_legal rule p m legal in
       let made = maker rule p m may in
       let small = inside rule p made.0 v well threats w m.to fits on in
       man_keeps rule p made.0 v well threats m may made.1 small
       (false_by _ (λ king. apart (sym origin ∙ sym (at_king rule p made.0 v well threats m may made.1 small (rw origin low) king)))) circe
-      (needed.keeps m.to small (off_second w n m.to (search (rules, off_zero, eqb-true, none)) on));
+      (needed.keeps m.to small (off_second w n m.to off on));
 }
+
+-- for `keep_flights`: he comes to none of them
+pub kept_are_risky : (rule : RuleSet) (v : ToldThreats) (s w n : ℕ) → s < 64 → w < 2 ^ 64 → captures_do_more rule ≡ false → AreNeeded v.siege n
+    → (bit_and w n == 0) ≡ true → s ≢ v.siege.king → (p : Position) → IsWellFormed p → AreThreatsOf rule p v → AreRisky rule p s w 0
+kept_are_risky rule v s w n low fits circe needed none apart p well threats =
+    rw (eqb-true (bit_and w n) 0 none) at (needed_are_risky rule v s w n low fits circe needed apart p well threats)
+
+-- for the king's steps, where captures do no more: off the risky ones he keeps a flight, and castling is one of these
+pub flightless_are_risky : (rule : RuleSet) (p : Position) (v : ToldThreats) (s w n u r : ℕ) → IsWellFormed p → AreThreatsOf rule p v → s ≡ v.siege.king
+    → s < 64 → w < 2 ^ 64 → n < 2 ^ 64 → captures_do_more rule ≡ false → n ≡ word (λ t. list_any (leaps s t) queen_steps) → u ≡ bit_not w64 n
+    → ((t : ℕ) → t < 64 → (bit_at (bit_and w (bit_not w64 u)) t == 1) ≡ true → (bit_at r t == 1) ≡ false → KeepsFlight rule v.siege t)
+    → AreRisky rule p s w (bit_and w (bit_or u r))
+flightless_are_risky rule p v s w n u r well threats at low fits fits_n circe near castlings keeps =
+    let king = king_on p.men p.turn s (rw (← at) at (sym threats.fits.king)) in
+    let x = king.0 in
+    steps_are_risky rule p x v well threats s w u r king.1.here low fits
+    (record { plain = λ m from to goes off. king_plain p x m (rw from low) to n (rw from near) fits_n king.1.king (rw castlings at off) })
+    (λ more. absurd (false≢true (sym circe ∙ more))) (omega (arith, castlings)) king.1.king (λ t small on off. inl (inr (keeps t small on off)))

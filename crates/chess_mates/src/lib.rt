@@ -14,6 +14,7 @@ mod flights;
 mod guards;
 mod homes;
 mod hopped_flights;
+pub mod kept_flights;
 mod lasting_flights;
 pub mod mating_moves;
 mod origins;

@@ -188,3 +188,37 @@ pub(crate) fn kept_risky_steps<R: Rules>(
     };
     risky
 }
+
+// The square, if the king may keep no flight after the step there.
+#[tactic(auto, using(crate::proofs::Sparing::one_square))]
+fn flightless_step<R: Rules>(siege: &Siege, targets: &OpenTargets, to: Square) -> Squares
+    requires { AreOpenTargets siege.now.men targets.now }
+    ensures { (bit_at result to == 1) ≡ false → KeepsFlight R.rule siege.now to }
+{
+    // For the proof: a square's number is below 64.
+    let _small = to.index();
+    if keeps_flight_at::<R>(siege, targets, to) {
+        return 0;
+    }
+    only(Some(to))
+}
+
+// The squares such that the king may keep no flight after a step there.
+#[tactic(auto, using(chess_rules::proofs::HoldTaken::taken_all, chess_rules::proofs::HoldTaken::taken_none, chess_rules::proofs::HoldTaken::rest_falls))]
+pub(crate) fn flightless_steps<R: Rules>(
+    siege: &Siege,
+    targets: &OpenTargets,
+    steps: Squares,
+) -> Squares
+    requires { AreOpenTargets siege.now.men targets.now }
+    ensures { (t : ℕ) → t < 64 → (bit_at steps t == 1) ≡ true → (bit_at result t == 1) ≡ false
+        → KeepsFlight R.rule siege.now t }
+{
+    let mut flightless = 0u64;
+    let mut rest = steps;
+    while let Some(to) = take_first(&mut rest) {
+        let more = flightless_step::<R>(siege, targets, to);
+        flightless |= more;
+    }
+    flightless
+}

@@ -51,7 +51,7 @@ unfoldable pub use Rattle.chess_rules.specs.ties.Places.{first_behind, moves_beh
 pub use Rattle.chess_rules.specs.ties.Playing.{CanCastle, CanMove}
 pub use Rattle.chess_rules.specs.ties.Shields.{has_fairy_lines, is_fairy, AreRides, is_checker_at, is_lined, is_on_fairy_line_at, is_line_rider, may_expose_at, rider_along, steps_along}
 unfoldable pub use Rattle.chess_rules.specs.ties.Shields.{has_fairy, is_behind, is_checker, is_on_fairy_line, is_plain, is_reached, is_shut, may_expose, may_stand_between, cannot_expose}
-pub use Rattle.chess_rules.specs.ties.Sifting.{AreSifted, IsSifted, is_of_others, is_wanted}
+pub use Rattle.chess_rules.specs.ties.Sifting.{AreSifted, IsSifted, SomeFails, is_of_others, is_wanted}
 pub use Rattle.chess_rules.specs.ties.Sight.{AreArrived, AreOthers, AreSeen, is_arriving_as, is_simple, king_after, own_after, sight_after}
 pub use Rattle.chess_rules.specs.ties.Targets.{AreCandidates, AreKept, AreOrigins, IsAimed, is_promoting, is_arrival_of, passes_to, pawn_goes, AreReached}
 unfoldable pub use Rattle.chess_rules.specs.ties.Targets.{is_arrival, may_go, steps_to}

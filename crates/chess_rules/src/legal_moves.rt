@@ -6,7 +6,7 @@ ghost use Rattle.chess_rules.specs.ties.Evasions.{AreEvasions};
 ghost use Rattle.chess_rules.specs.ties.Shields.{may_expose};
 ghost use Rattle.chess_rules.specs.Legal.{is_legal};
 ghost use Rattle.chess_rules.specs.ties.Places.{HaveNone, IsPlaceIn, all_triples, first_behind, moves_behind, moves_between, place_of, place_onto, triple_at};
-ghost use Rattle.chess_rules.specs.ties.Sifting.{IsSifted};
+ghost use Rattle.chess_rules.specs.ties.Sifting.{IsSifted, SomeFails};
 ghost use Rattle.chess_rules.specs.ties.Targets.{AreCandidates, AreKept, AreOrigins, IsAimed};
 
 use crate::evasions::{evasion_squares, evasions_from};
@@ -14,7 +14,7 @@ use crate::legal::is_legal;
 use crate::moves::{Moves, triple};
 use crate::rules::Rules;
 use crate::shields::king_safety;
-use crate::sift::{Sift, Sifted, next_left};
+use crate::sift::{Sift, Sifted, next_left, some_taken};
 use crate::sought::{Sought, next_passing};
 use crate::targets::{Kept, TRIPLES, arrivals};
 use chess_core::board::Board;
@@ -185,6 +185,19 @@ impl<R: Rules> LegalMoves<R> {
             return Some(triple(number));
         }
         None
+    }
+
+    /// Whether the filter takes a legal move of the men on these squares; `false` says nothing about men elsewhere. The
+    /// board is unchanged. Place and filter must be of the board's position.
+    pub fn has_taken<S: Sift>(&self, sift: &mut S, board: &mut Board, origins: Squares) -> bool
+        requires well_formed { IsWellFormed board.old }
+        requires place { IsPlaceIn R.rule board.old self.now }
+        requires fits { S.fits sift.old R.rule board.old }
+        ensures fails { result ≡ true → SomeFails R.rule board.old (S.test R.rule board.old) }
+        ensures same { sift.new ≡ sift.old }
+        ensures board { board.new ≡ board.old }
+    {
+        some_taken::<R, S>(board, self.known(), sift, origins)
     }
 
     /// The first legal move behind the place that the sieve leaves, on which the place then stands; those

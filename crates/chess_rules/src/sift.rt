@@ -4,7 +4,7 @@ ghost use Rattle.chess_core.specs.WellFormed.{IsWellFormed};
 ghost use Rattle.chess_rules.specs.Legal.{is_legal};
 ghost use Rattle.chess_rules.specs.ties.Counting.{AreGiven, IsKnownIn};
 ghost use Rattle.chess_rules.specs.ties.Places.{all_triples, per_origin, HaveNone, moves_between, triple_at};
-ghost use Rattle.chess_rules.specs.ties.Sifting.{AreSifted, is_wanted};
+ghost use Rattle.chess_rules.specs.ties.Sifting.{AreSifted, SomeFails, is_wanted};
 ghost use Rattle.chess_rules.specs.ties.Targets.{AreCandidates};
 
 use crate::counting::{Candidates, Legality, count_origin};
@@ -144,4 +144,54 @@ pub(crate) fn next_left<R: Rules, S: Sift>(
         }
     }
     TRIPLES
+}
+
+// Whether the filter takes a legal move of the man on `from`. The board is unchanged.
+fn takes_some<R: Rules, S: Sift>(
+    board: &mut Board,
+    known: Known,
+    sift: &mut S,
+    from: Square,
+) -> bool
+    requires well_formed { IsWellFormed board.old }
+    requires known { IsKnownIn R.rule board.old known }
+    requires fits { S.fits sift.old R.rule board.old }
+    ensures fails { result ≡ true → SomeFails R.rule board.old (S.test R.rule board.old) }
+    ensures same { sift.new ≡ sift.old }
+    ensures board { board.new ≡ board.old }
+{
+    let given = given_candidates::<R, S>(board, sift, known, from);
+    let taken = given.squares & !wanted_squares::<R, S>(board, sift, from, given.squares);
+    if taken == 0 {
+        return false;
+    }
+    match given.legality {
+        Legality::Sure => true,
+        Legality::Open => {
+            next_of_man::<R, Known>(board, &known, from, taken, 0, PER_ORIGIN) < PER_ORIGIN
+        }
+    }
+}
+
+// Whether the filter takes a legal move of the men on these squares. The board is unchanged.
+pub(crate) fn some_taken<R: Rules, S: Sift>(
+    board: &mut Board,
+    known: Known,
+    sift: &mut S,
+    origins: Squares,
+) -> bool
+    requires well_formed { IsWellFormed board.old }
+    requires known { IsKnownIn R.rule board.old known }
+    requires fits { S.fits sift.old R.rule board.old }
+    ensures fails { result ≡ true → SomeFails R.rule board.old (S.test R.rule board.old) }
+    ensures same { sift.new ≡ sift.old }
+    ensures board { board.new ≡ board.old }
+{
+    let mut rest = origins;
+    while let Some(from) = take_first(&mut rest) {
+        if takes_some::<R, S>(board, known, sift, from) {
+            return true;
+        }
+    }
+    false
 }

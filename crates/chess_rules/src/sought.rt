@@ -1,6 +1,7 @@
 //! The triples looked through for those that pass a test, most of them left out by what is known of a
 //! position.
-ghost use Rattle.std.specs.Prelude.{◌≡◌, ◌+◌, ◌*◌, ◌≤◌, ◌<◌, Some, false, true};
+ghost use Rattle.std.specs.Int.{bit_at};
+ghost use Rattle.std.specs.Prelude.{◌≡◌, ◌==◌, ◌+◌, ◌*◌, ◌≤◌, ◌<◌, Some, false, true};
 ghost use Rattle.chess_core.specs.Position.{is_man, man_on};
 ghost use Rattle.chess_core.specs.WellFormed.{IsWellFormed};
 ghost use Rattle.chess_core.specs.declared.man.Kind.TheVariants.{Pawn};
@@ -98,6 +99,8 @@ fn next_of_pawn<R: Rules, S: Sought>(
         (per_origin * from + start) (per_origin * from + result) }
     ensures found { result < end
         → S.found R.rule board.old (triple_at (per_origin * from + result)) ≡ true }
+    ensures inside { result < end
+        → (bit_at squares (triple_at (per_origin * from + result)).to == 1) ≡ true }
     ensures board { board.new ≡ board.old }
 {
     let first = u16::from(from.index()) * PER_ORIGIN;
@@ -136,6 +139,8 @@ fn next_of_piece<R: Rules, S: Sought>(
         (per_origin * from + start) (per_origin * from + result) }
     ensures found { result < end
         → S.found R.rule board.old (triple_at (per_origin * from + result)) ≡ true }
+    ensures inside { result < end
+        → (bit_at squares (triple_at (per_origin * from + result)).to == 1) ≡ true }
     ensures board { board.new ≡ board.old }
 {
     let mut rest = squares_from(squares, ((start + PER_ARRIVAL - 1) / PER_ARRIVAL) as u8);
@@ -179,6 +184,8 @@ pub(crate) fn next_of_man<R: Rules, S: Sought>(
         (per_origin * from + start) (per_origin * from + result) }
     ensures found { result < end
         → S.found R.rule board.old (triple_at (per_origin * from + result)) ≡ true }
+    ensures inside { result < end
+        → (bit_at squares (triple_at (per_origin * from + result)).to == 1) ≡ true }
     ensures board { board.new ≡ board.old }
 {
     if squares == 0 {

@@ -23,7 +23,7 @@ mate-value rule battle goal left p v for one e = rw (for, one) e
 
 -- a mate says that there is one, wherever it was looked for
 module _ (rule : RuleSet) (p : Position) where
-  any_mating : (ms : List Move) → list_any (is_mating rule p) ms ≡ not (is_nil (filter (is_mating rule p) ms))
+  pub any_mating : (ms : List Move) → list_any (is_mating rule p) ms ≡ not (is_nil (filter (is_mating rule p) ms))
   any_mating [] = search rules
   any_mating (m ∷ ms) = search (rules, any_mating ms)
 

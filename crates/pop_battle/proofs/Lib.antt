@@ -1,5 +1,6 @@
 pub mod Words
 pub mod Boards
+pub mod Escapes
 pub mod Values
 pub mod SmallestTrees
 pub mod Orders

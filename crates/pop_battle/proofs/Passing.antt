@@ -11,7 +11,7 @@ module _ (rule : RuleSet) (p : Position) where
       (w.0, omega (arith, from_range 0 all_triples w.0 w.1), w.2)
 
   -- it stands behind the place before its own
-  behind_back : (m : Move) → IsWellFormed p → is_legal rule p m ≡ true
+  pub behind_back : (m : Move) → IsWellFormed p → is_legal rule p m ≡ true
       → moves_behind rule p (place_of (Some m) - 1) ≡ m ∷ moves_behind rule p (place_of (Some m))
   behind_back m sound lawful = search (rules, numbered, place_of_triple, moves_behind-here)
 

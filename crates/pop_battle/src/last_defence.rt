@@ -1,9 +1,13 @@
 //! Black's last defences in a direct mate, after which White must mate at once.
-ghost use Rattle.std.specs.Prelude.{◌≡◌, ◌+◌, ◌-◌, ◌≤◌, IfSome, None, true};
+ghost use Rattle.std.specs.Prelude.{◌≡◌, ◌+◌, ◌-◌, ◌≤◌, IfSome, None, Some, false, true};
+ghost use Rattle.chess_core.specs.Position.{king_square};
 ghost use Rattle.chess_core.specs.WellFormed.{IsWellFormed};
+ghost use Rattle.chess_mates.specs.ties.Mates.{allows_mate};
 ghost use Rattle.chess_rules.specs.Legal.{is_legal, moves as legal_moves};
 ghost use Rattle.chess_rules.specs.Play.{position_after};
+ghost use Rattle.chess_rules.specs.RuleSet.{captures_do_more};
 ghost use Rattle.chess_rules.specs.ties.Places.{IsPlaceIn};
+ghost use Rattle.chess_rules.specs.ties.Sifting.{SomeFails};
 ghost use Rattle.pop_input.specs.declared.stipulation.Goal.TheVariants.{Mate};
 ghost use Rattle.pop_battle.specs.Chess.{chess};
 ghost use Rattle.pop_battle.specs.declared.aim.Battle.TheVariants.{Direct};
@@ -20,7 +24,9 @@ use crate::history::History;
 use crate::killers::Killers;
 use crate::stretches::{next_tried, order_of, place_before};
 use chess_core::board::Board;
-use chess_core::man::Move;
+use chess_core::man::{Kind, Move};
+use chess_core::square::Square;
+use chess_mates::kept_flights::KeptFlights;
 use chess_rules::legal_moves::LegalMoves;
 use chess_rules::moves::Moves;
 use chess_rules::rules::Rules;
@@ -112,7 +118,7 @@ fn place_of_last<R: Rules>(order: Order<R>, moves: &Option<LegalMoves<R>>) -> Mo
 /// The value of a position with two half-moves left of a direct mate: Black's moves are tried in the order of a test. It is
 /// counted if it has a legal move, and so is each position after a move that is tried.
 #[inline(always)]
-pub(crate) fn value_of_last_defence<R: Rules>(board: &mut Board, history: &mut History<R>) -> bool
+fn value_by_trial<R: Rules>(board: &mut Board, history: &mut History<R>) -> bool
     requires well_formed { IsWellFormed board.old }
     ensures unchanged { board.new ≡ board.old }
     ensures value { result ≡ value Direct (chess Mate R.rule) 2 board.old }
@@ -137,4 +143,62 @@ pub(crate) fn value_of_last_defence<R: Rules>(board: &mut Board, history: &mut H
         next = next_defence::<R>(order, &mut stretch, &mut moves, board);
     }
     true
+}
+
+// Whether Black has a legal move after which his king keeps a flight whatever is played. The other men are tried before the
+// king.
+#[inline(never)]
+fn keeps_flight<R: Rules>(board: &mut Board, king: Square) -> bool
+    requires well_formed { IsWellFormed board.old }
+    requires captures { captures_do_more R.rule ≡ false }
+    requires king { king_square board.old.men board.old.turn ≡ Some king }
+    ensures unchanged { board.new ≡ board.old }
+    ensures defence { result ≡ true
+        → SomeFails R.rule board.old (allows_mate R.rule board.old) }
+{
+    let mut flights = KeptFlights::of::<R>(board, king);
+    let known = LegalMoves::<R>::of(board);
+    let kings = board.squares(board.turn(), Kind::King);
+    let men = board.side(board.turn()) & !kings;
+    known.has_taken(&mut flights, board, men) || known.has_taken(&mut flights, board, kings)
+}
+
+// The most attackers against whom kept flights are computed before any defence is tried. The limit costs time alone.
+const MOST_ATTACKERS: u32 = 5;
+
+/// Whether Black surely has a defence, as his king keeps a flight after one of his moves; `false` says nothing.
+#[inline(always)]
+fn surely_escapes<R: Rules>(board: &mut Board) -> bool
+    requires well_formed { IsWellFormed board.old }
+    ensures unchanged { board.new ≡ board.old }
+    ensures defence { result ≡ true
+        → SomeFails R.rule board.old (allows_mate R.rule board.old) }
+{
+    let attackers = board.side(board.turn().other());
+    if R::captures_do_more() || attackers.count_ones() > MOST_ATTACKERS {
+        return false;
+    }
+    let Some(king) = board.king_of(board.turn()) else {
+        return false;
+    };
+    keeps_flight::<R>(board, king)
+}
+
+/// The value of a position with two half-moves left of a direct mate. Where Black surely escapes it and one position after it
+/// are counted, and else what is tried.
+#[inline(always)]
+pub(crate) fn value_of_last_defence<R: Rules>(board: &mut Board, history: &mut History<R>) -> bool
+    requires well_formed { IsWellFormed board.old }
+    ensures unchanged { board.new ≡ board.old }
+    ensures value { result ≡ value Direct (chess Mate R.rule) 2 board.old }
+    ensures opened { history.new.opened ≤ history.old.opened
+        + walk_count (legal_moves R.rule) (position_after R.rule) 2 board.old }
+    ensures tried { HasCounted history.old.opened history.new.opened
+        (smallest_tree Direct (chess Mate R.rule) 2 board.old) }
+{
+    if surely_escapes::<R>(board) {
+        history.opened = history.opened.saturating_add(2);
+        return false;
+    }
+    value_by_trial::<R>(board, history)
 }

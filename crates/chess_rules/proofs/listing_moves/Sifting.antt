@@ -1,7 +1,9 @@
 -- The legal moves that a sieve takes, passed over by walking from candidate to candidate.
-use Rattle.chess_rules.proofs.Chess.{AreCandidates, AreOrigins, AreSifted, Bool, HaveNone, IsSifted, Move, Position, RuleSet, [], all_triples, and_left, ap, append-nil, append_assoc, append_cancel_right, arith, bit_and, cases_Bool, cases_lt, false, filter, filter-append, is_legal, is_wanted, length, moves_behind, moves_between, rules, second_fails, sym, triple_at, true, ℕ, ◌++◌, ◌+◌, ◌<◌, ◌∙◌, ◌∷◌, ◌≡◌, ◌≤◌}
+use Rattle.chess_rules.proofs.Chess.{AreCandidates, AreLegal, AreOrigins, AreSifted, Bool, HaveNone, IsSifted, Move, None, Position, RuleSet, SomeFails, [], all_triples, and_le_l, and_left, ap, append-nil, append_assoc, append_cancel_right, arith, bit_and, bit_at, bit_at-trailing_zeros, bit_at_and, bit_not, cases_Bool, cases_lt, eq-eqb, eqb-true, false, filter, filter-append, is_legal, is_wanted, length, moves_behind, moves_between, passes_to, refl, rules, second_fails, sym, trailing_zeros, triple_at, true, w64, ℕ, ◌++◌, ◌+◌, ◌<◌, ◌==◌, ◌^◌, ◌∙◌, ◌∷◌, ◌≡◌, ◌≤◌}
+use Rattle.std.proofs.lemmas.Nat.Bits.{bit_at_not}
 use Rattle.chess_rules.proofs.listing_moves.Between.{behind_cut, between-past}
 use Rattle.chess_rules.proofs.listing_moves.Places.{moves_behind-end, moves_behind-here, moves_behind-skip, over, place_of_none, place_of_triple}
+use Rattle.chess_rules.proofs.listing_moves.Targeting.{false_by}
 use Rattle.chess_rules.proofs.listing_moves.Walks.{off_second, on_first}
 
 -- for callers whose place has moved on, or stands behind all triples
@@ -17,6 +19,34 @@ module _ (rule : RuleSet) (p : Position) (test : Move → Bool) where
   -- who has no legal move has none that is wanted
   pub wanted_origins : (o : ℕ) → AreOrigins (is_legal rule p) o → AreOrigins (is_wanted rule p test) o
   wanted_origins o own = record { elsewhere = λ m from to off. and_left _ (test m) (own.elsewhere m from to off) }
+
+  -- of the squares to which a legal move may go those that a filter takes
+  taken_off : (w v t : ℕ) → v < 2 ^ 64 → t < 64 → (bit_at (bit_and w (bit_not w64 v)) t == 1) ≡ true → (bit_at v t == 1) ≡ false
+  taken_off w v t fits small on = grind (arith, false_by, eqb-true _ _ on, eqb-true, bit_at_not w64 v t fits small, bit_at_and w (bit_not w64 v) t)
+
+  pub taken_candidates : (s w v : ℕ) → AreCandidates rule p (is_legal rule p) s w → AreCandidates rule p (passes_to (bit_and w v) (is_legal rule p)) s (bit_and w v)
+  taken_candidates s w v are = record {
+    inside = λ t small on. are.inside t small (on_first w v t on);
+    outside = λ m from small off. and_left _ (is_legal rule p m) off;
+  }
+
+  -- a legal move to one of them fails the test
+  pub taken_fails : (s w v : ℕ) → v < 2 ^ 64 → AreCandidates rule p (is_wanted rule p test) s v → (m : Move) → is_legal rule p m ≡ true → m.from ≡ s → m.to < 64
+      → (bit_at (bit_and w (bit_not w64 v)) m.to == 1) ≡ true → SomeFails rule p test
+  taken_fails s w v fits wanted m legal from small on = record {
+    move = m;
+    legal = legal;
+    fails = second_fails _ _ (wanted.outside m from small (taken_off w v m.to fits small on)) legal;
+  }
+
+  -- where all are known to be legal, one is enough
+  pub sure_fails : (s w v : ℕ) → v < 2 ^ 64 → AreCandidates rule p (is_wanted rule p test) s v → AreLegal rule p s w
+      → 0 < bit_and w (bit_not w64 v) → w < 2 ^ 64 → SomeFails rule p test
+  sure_fails s w v fits wanted legal some small =
+      let first = bit_at-trailing_zeros w64 (bit_and w (bit_not w64 v)) some (omega (arith, small, and_le_l w (bit_not w64 v))) in
+      let t = trailing_zeros w64 (bit_and w (bit_not w64 v)) in
+      let on = eq-eqb _ 1 first.1 in
+      taken_fails s w v fits wanted (record { from = s; to = t; promo = None }) (legal.to t first.0 (on_first w (bit_not w64 v) t on)) refl first.0 on
 
   wanted-skip : (n : ℕ) → n < all_triples → is_wanted rule p test (triple_at n) ≡ false
       → filter test (moves_behind rule p n) ≡ filter test (moves_behind rule p (n + 1))

@@ -29,3 +29,9 @@ pub record IsSifted (rule : RuleSet) (p : Position) (test : Move → Bool) (a b 
   pub counted : n ≡ length over
   pub passed : moves_between rule p a b ≡ over ++ m ∷ []
   pub none : filter test over ≡ []
+
+-- some legal move fails the test
+pub record SomeFails (rule : RuleSet) (p : Position) (test : Move → Bool) : Type 0 where
+  pub move : Move
+  pub legal : is_legal rule p move ≡ true
+  pub fails : test move ≡ false

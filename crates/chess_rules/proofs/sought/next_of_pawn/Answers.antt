@@ -1,5 +1,5 @@
 use Rattle.chess_rules.proofs.Chess.{and_right, arith, per_origin, rules, ◌*◌, ◌∙◌, ◌≡◌}
-use Rattle.chess_rules.proofs.listing_moves.Walks.{aimed_from, none-from, none-onward}
+use Rattle.chess_rules.proofs.listing_moves.Walks.{aimed_from, none-from, none-onward, triple_of}
 use Rattle.chess_rules.proofs.sought.next_of_pawn.Goals as goal
 
 pub loop-at-init : goal.loop-at-init
@@ -10,6 +10,9 @@ is_found-requires-clause-aimed g c =
     let at : c.from-first.result * per_origin ≡ per_origin * c.args.from = omega (arith, c.from-first.ensures, c.index.ensures.value) in
     rw (c.loop-at.invariant.board, c.triple.ensures, at)
     (aimed_from _ _ _ _ _ _ (omega arith) c.requires.squares (c.loop-at.invariant.named (omega arith)))
+
+pub returns-then-is_found-clause-inside : goal.returns-then-is_found-clause-inside
+returns-then-is_found-clause-inside g c = λ lt. rw (triple_of c.args.from c.loop-at.at (omega arith)) (c.loop-at.invariant.named (omega arith)).inside
 
 pub loop-at-preserved : goal.loop-at-preserved
 loop-at-preserved g c =

@@ -1,7 +1,7 @@
 use Rattle.pop_battle.proofs.LastMoves.{AreTried, from_next}
 use Rattle.pop_battle.proofs.Words.{Direct, IfSome, IsPlaceIn, Mate, chess, is_legal, legal_moves, length, position_after, smallest_tree, true, value, walk_count, ◌+◌, ◌≡◌}
 use Rattle.pop_battle.specs.ties.Frames.{moves_unlooked}
-use Rattle.pop_battle.proofs.last_defence.value_of_last_defence.Given as goal
+use Rattle.pop_battle.proofs.last_defence.value_by_trial.Given as goal
 
 abbrev pub invariant-loop-next : goal.invariant-loop-next
 invariant-loop-next g l = (l.board ≡ l.fn.board) × IfSome l.moves (IsPlaceIn g.R.Rules.rule l.fn.board)
