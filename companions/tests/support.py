@@ -65,10 +65,15 @@ def stored_inputs() -> List[Path]:
     return _ROW_INPUTS + examples
 
 
+def row_options(stored_input: Path) -> List[str]:
+    """The options of `pops` for a row; none for an example."""
+    options = stored_input.with_suffix(".options")
+    return options.read_text().split() if options.exists() else []
+
+
 def is_for_check(stored_input: Path) -> bool:
     """Whether a row's report tells `--check` alone: no search of it ends in a lifetime."""
-    options = stored_input.with_suffix(".options")
-    return options.exists() and "--check" in options.read_text()
+    return "--check" in row_options(stored_input)
 
 
 def stored_report(stored_input: Path) -> Path:
