@@ -5,13 +5,21 @@ import importlib.util
 import os
 import subprocess
 import sys
+import tempfile
 from pathlib import Path
 from types import ModuleType
 from typing import List, NamedTuple, Sequence
 
 COMPANIONS = Path(__file__).resolve().parent.parent
 REPOSITORY = COMPANIONS.parent
-sys.path.insert(0, str(COMPANIONS))
+sys.path[:0] = [str(COMPANIONS), str(REPOSITORY / "tests")]
+
+import row_table
+
+# The rows as files: NAME.in, NAME.out and NAME.options.
+_ROOM = tempfile.TemporaryDirectory()
+ROWS = Path(_ROOM.name)
+_ROW_INPUTS = row_table.write_files(ROWS)
 
 
 class Outcome(NamedTuple):
@@ -52,15 +60,20 @@ def loaded(name: str) -> ModuleType:
 
 def stored_inputs() -> List[Path]:
     """The inputs of all rows and examples."""
-    rows = sorted((REPOSITORY / "tests" / "rows").glob("*.in"))
     examples = sorted((REPOSITORY / "examples").glob("*.pop"))
-    assert rows and examples
-    return rows + examples
+    assert _ROW_INPUTS and examples
+    return _ROW_INPUTS + examples
+
+
+def row_options(stored_input: Path) -> List[str]:
+    """The options of `pops` for a row; none for an example."""
+    options = stored_input.with_suffix(".options")
+    return options.read_text().split() if options.exists() else []
 
 
 def is_for_check(stored_input: Path) -> bool:
     """Whether a row's report tells `--check` alone: no search of it ends in a lifetime."""
-    return stored_input.stem == "check_alone" or stored_input.stem.endswith("_checked")
+    return "--check" in row_options(stored_input)
 
 
 def stored_report(stored_input: Path) -> Path:

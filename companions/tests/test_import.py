@@ -133,7 +133,7 @@ class RoundTrips(unittest.TestCase):
             with self.subTest(path.name):
                 made = imported(str(path))
                 self.assertEqual(made.status, 0, made.told)
-                words = ["--check"] * support.is_for_check(path)
+                words = support.row_options(path)
                 outcome = support.run([support.pops(), *words], made.output)
                 self.assertEqual(outcome, (0, report, ""))
         self.assertGreater(tried, 70)

@@ -29,7 +29,7 @@ class Reports(unittest.TestCase):
             self.assertEqual(rebuilt.report([one]), "\n".join(item.lines) + "\n\n")
 
     def test_a_line_for_each_problem(self) -> None:
-        report = (support.REPOSITORY / "tests/rows/three_problems.out").read_bytes()
+        report = (support.ROWS / "three_problems.out").read_bytes()
         first, second, third = objects(report)
         self.assertEqual(
             first,
@@ -43,7 +43,7 @@ class Reports(unittest.TestCase):
         self.assertEqual(third["fault"]["line"], 9)
 
     def test_an_array(self) -> None:
-        report = (support.REPOSITORY / "tests/rows/three_problems.out").read_bytes()
+        report = (support.ROWS / "three_problems.out").read_bytes()
         outcome = support.companion("pops2json", "--array", text=report)
         self.assertEqual(json.loads(outcome.output), objects(report))
 

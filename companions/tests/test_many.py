@@ -104,7 +104,7 @@ class SameAsOneRun(unittest.TestCase):
                 self.check(path, *chance.choice([(), (), ("--check",), ("--no-board",)]))
 
     def test_every_beginning_of_an_input(self) -> None:
-        whole = (support.REPOSITORY / "tests/rows/three_problems.in").read_bytes()
+        whole = (support.ROWS / "three_problems.in").read_bytes()
         with tempfile.TemporaryDirectory() as room:
             path = Path(room) / "cut.pop"
             for length in range(len(whole) + 1):
@@ -126,9 +126,9 @@ class SameAsOneRun(unittest.TestCase):
         files = [str(path) for path in stored if path.name.startswith(("mate_in", "help_mate_in"))]
         wanted = b"".join(support.run([support.pops(), file]).output for file in files)
         self.assertEqual(solved(*files), (0, wanted))
-        faulty = str(support.REPOSITORY / "tests/rows/no_men.in")
+        faulty = str(support.ROWS / "no_men.in")
         self.assertEqual(solved(faulty, *files)[0], 1)
-        text = (support.REPOSITORY / "tests/rows/three_problems.in").read_bytes()
+        text = (support.ROWS / "three_problems.in").read_bytes()
         one = support.run([support.pops()], text)
         outcome = support.companion("pops-many", "--pops", support.pops(), text=text)
         self.assertEqual(outcome, (one.status, one.output, ""))

@@ -157,7 +157,7 @@ class Moves(unittest.TestCase):
 
 class Refusals(unittest.TestCase):
     def test_a_cut_report_is_refused(self) -> None:
-        whole = (support.REPOSITORY / "tests/rows/three_problems.out").read_bytes()
+        whole = (support.ROWS / "three_problems.out").read_bytes()
         ends = {0} | {
             place + 2 for place in range(len(whole)) if whole[place : place + 2] == b"\n\n"
         }

@@ -127,15 +127,31 @@ pub(crate) fn has_outcome(rule: Rule, position: &str, m: &str, wanted: Outcome) 
         }
 }
 
-// Whether a legal move from the position in Circe leads to this one.
-pub(crate) fn leads_in_circe(position: &str, m: &str, wanted: &str) -> bool {
+// Whether a move from the diagram, if it is legal, leads to this board, and taking it back leads to the first one.
+#[tactic(auto, using(chess_rules::proofs::listing_moves::Calls::playing))]
+fn leads_and_back<R: Rules>(diagram: &Diagram, wanted: Move, after: &Board) -> bool
+    requires { IsWellFormed (position_of diagram.now) }
+{
+    let before = Board::of(diagram);
+    let mut board = before;
+    let mut place = Moves::<R>::start();
+    while let Some(m) = place.next(&mut board) {
+        if m == wanted {
+            let undo = R::play(&mut board, m);
+            let leads = is_same(&board, after);
+            R::unplay(&mut board, m, undo);
+            return leads && is_same(&board, &before);
+        }
+    }
+    false
+}
+
+// Whether a legal move from the position in Circe leads to this one, and taking it back leads to the first.
+pub(crate) fn leads_in_circe_and_back(position: &str, m: &str, wanted: &str) -> bool {
     let (Some(diagram), Some(m), Some(wanted)) = (posed(position), move_of(m), posed(wanted)) else {
         return false;
     };
-    match after_move::<Circe>(&diagram, m) {
-        Some(after) => is_same(&after, &Board::of(&wanted)),
-        None => false,
-    }
+    leads_and_back::<Circe>(&diagram, m, &Board::of(&wanted))
 }
 
 // The legal moves of a diagram, in order.

@@ -1,2 +1,3 @@
-//! What is only tested: the streams of a program.
+//! What is only tested: the streams and files of a program.
+mod files;
 mod streams;

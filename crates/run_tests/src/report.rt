@@ -12,10 +12,22 @@ pub(crate) fn settings(check: bool) -> Settings {
     }
 }
 
-/// Whether the input gives this report and status.
-pub(crate) fn gives(check: bool, input: &[u8], report: &[u8], status: Status) -> bool {
-    let mut source = TrialSource::new(input, 4096, None);
+/// A row of the table `tests/rows`.
+pub(crate) struct Row {
+    pub(crate) name: &'static str,
+    pub(crate) input: &'static [u8],
+    pub(crate) check: bool,
+    pub(crate) no_board: bool,
+    pub(crate) report: &'static [u8],
+    pub(crate) status: Status,
+}
+
+/// Whether a run over the row's input gives its report and status.
+pub(crate) fn gives(row: &Row) -> bool {
+    let mut settings = settings(row.check);
+    settings.no_board = row.no_board;
+    let mut source = TrialSource::new(row.input, 4096, None);
     let mut sink = TrialSink::<8192>::new(4096, None);
-    let answer = run(&settings(check), &mut source, &mut sink);
-    answer == status && sink.text() == report
+    let status = run(&settings, &mut source, &mut sink);
+    status == row.status && sink.text() == row.report
 }

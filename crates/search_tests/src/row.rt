@@ -1,4 +1,4 @@
-//! Rows: problems with known solutions, and all that is asked of a search for them.
+//! Rows: problems with known solutions, and all that a search for them must do.
 ghost use Rattle.std.specs.Prelude.{◌≡◌, ◌<◌, ◌≤◌};
 ghost use Rattle.pop_input.specs.Posed.{rule_of};
 ghost use Rattle.pop_input.specs.Stipulations.{half_moves};
@@ -16,11 +16,20 @@ use pop_solve::search::Search;
 use pop_text::trial_sink::TrialSink;
 use pop_text::trial_source::TrialSource;
 
+/// A row of the table `tests/rows`: a problem, the text of its events, and the least and the most positions that a search
+/// may try, where they are known.
+pub(crate) struct Row {
+    pub(crate) name: &'static str,
+    pub(crate) input: &'static [u8],
+    pub(crate) events: &'static [u8],
+    pub(crate) opened: Option<(u64, u64)>,
+}
+
 /// More events than any row has.
 const ALL: u64 = 1000;
 
-/// What a search has given: the text of its events, their number, what `given` and `opened` say, the most frames that
-/// were in use, and whether a further call gave another event.
+/// What a search has given: the text of its events, their number, what `given` and `opened` say then, and the most frames
+/// that were in use; how many of three more calls gave an event, and what `given` says after these.
 #[derive(Drop)]
 struct Given {
     text: ArrayVec<u8, 4096>,
@@ -28,7 +37,8 @@ struct Given {
     given: u64,
     opened: u64,
     deepest: usize,
-    goes_on: bool,
+    further: u64,
+    given_after: u64,
 }
 
 /// Adds the text of an event.
@@ -67,14 +77,19 @@ fn run<R: Rules, const N: usize>(problem: &Problem, most: u64) -> Given
     }
     let given = search.given();
     let opened = search.opened();
-    let goes_on = search.next().is_some();
+    let mut further = 0u64;
+    for _call in 0..3u8 {
+        further = further.saturating_add(u64::from(search.next().is_some()));
+    }
+    let given_after = search.given();
     Given {
         text,
         events,
         given,
         opened,
         deepest,
-        goes_on,
+        further,
+        given_after,
     }
 }
 
@@ -94,47 +109,62 @@ fn run_tight<R: Rules>(problem: &Problem) -> Option<Given>
     })
 }
 
-/// Whether a search that was dropped after so many events gave as many of the text, and would have gone on.
-fn begins(part: &Given, events: u64, want: &str) -> bool {
-    part.events == events
-        && part.given == events
-        && part.goes_on
-        && want.as_bytes().starts_with(part.text.as_slice())
+impl Given {
+    /// Whether the search gave this text and ended: each call after the last event returns `None`, and changes no count.
+    fn ends(&self, text: &[u8]) -> bool {
+        self.text.as_slice() == text
+            && self.given == self.events
+            && self.further == 0
+            && self.given_after == self.events
+    }
+
+    /// Whether the search, dropped after this many events, gave the beginning of a whole text, and would have given the rest.
+    fn begins(&self, events: u64, whole: &Given) -> bool {
+        self.events == events
+            && self.given == events
+            && self.further == whole.events.saturating_sub(events).min(3)
+            && self.given_after == events.saturating_add(self.further)
+            && whole.text.as_slice().starts_with(self.text.as_slice())
+    }
 }
 
-/// The frames that a row opened, under its rules: the whole text, then a search dropped after each number of events, then
-/// one with just enough frames. Nothing where one of them isn't as it is to be.
-fn opened_under<R: Rules>(problem: &Problem, want: &str) -> Option<u64>
+/// Whether searches under the problem's rules give the row's events: one up to its end, one with just enough frames, and one
+/// that is dropped after each number of events.
+fn is_searched_under<R: Rules>(problem: &Problem, row: &Row) -> bool
     requires { R.rule ≡ rule_of problem.now.condition }
 {
     let half_moves = half_moves(problem);
     let whole = run::<R, 33>(problem, ALL);
-    let tight = run_tight::<R>(problem)?;
-    let right = whole.text.as_slice() == want.as_bytes()
-        && !whole.goes_on
-        && whole.given == whole.events
+    let Some(tight) = run_tight::<R>(problem) else {
+        return false;
+    };
+    let (least, most) = row.opened.unwrap_or((0, u64::MAX));
+    let right = whole.ends(row.events)
         && whole.deepest <= half_moves + 1
-        && tight.text.as_slice() == want.as_bytes()
+        && least <= whole.opened
+        && whole.opened <= most
+        && tight.ends(row.events)
         && tight.opened == whole.opened;
     if !right {
-        return None;
+        return false;
     }
     for events in 0..whole.events {
-        if !begins(&run::<R, 33>(problem, events), events, want) {
-            return None;
+        if !run::<R, 33>(problem, events).begins(events, &whole) {
+            return false;
         }
     }
-    Some(whole.opened)
+    true
 }
 
-/// The frames that the row of a problem's text opened; nothing where the problem isn't sound or its search isn't as it is
-/// to be.
-pub(crate) fn opened(text: &str, want: &str) -> Option<u64> {
-    let problem = read(text.as_bytes())?;
+/// Whether searches do all that they must for the row's problem.
+pub(crate) fn is_searched(row: &Row) -> bool {
+    let Some(problem) = read(row.input) else {
+        return false;
+    };
     match problem.condition() {
-        None => opened_under::<Orthodox>(&problem, want),
-        Some(Condition::Circe) => opened_under::<Circe>(&problem, want),
-        Some(Condition::Madrasi) => opened_under::<Madrasi>(&problem, want),
+        None => is_searched_under::<Orthodox>(&problem, row),
+        Some(Condition::Circe) => is_searched_under::<Circe>(&problem, row),
+        Some(Condition::Madrasi) => is_searched_under::<Madrasi>(&problem, row),
     }
 }
 

@@ -1,6 +1,6 @@
 //! Single moves whose outcome is known: castling, en passant, promotion, rebirth and paralysis.
 use crate::plain::Rule;
-use crate::probe::{Outcome, has_outcome, leads_in_circe};
+use crate::probe::{Outcome, has_outcome, leads_in_circe_and_back};
 
 // The rules, the position, a move, and what comes of it.
 const OUTCOMES: [(Rule, &str, &str, Outcome); 12] = [
@@ -73,7 +73,7 @@ const OUTCOMES: [(Rule, &str, &str, Outcome); 12] = [
     ),
 ];
 
-// A position, a move, and the position to which it leads in Circe.
+// A position, a move, and the position to which it leads in Circe, and from which taking it back leads to the first.
 const REBIRTHS: [(&str, &str, &str); 2] = [
     // The pawn captured en passant on d5 comes back on d7.
     (
@@ -102,6 +102,9 @@ fn outcomes(rt: HostRuntime) {
 #[test]
 fn rebirths(rt: HostRuntime) {
     for (position, m, wanted) in &REBIRTHS {
-        assert!(rt; leads_in_circe(position, m, wanted), "{m} in {position}");
+        assert!(rt;
+            leads_in_circe_and_back(position, m, wanted),
+            "{m} in {position}"
+        );
     }
 }

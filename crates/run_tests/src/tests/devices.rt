@@ -13,18 +13,14 @@ use pop_text::trial_source::TrialSource;
 use std::alloc::AllocError;
 use std::test::Fail;
 
-const PROBLEM: &[u8] =
-    b"BeginProblem\nPieces White Kg6 Ra1 Black Kg8\nStipulation #1\nEndProblem\n";
+const PROBLEM: &[u8] = crate::tests::rows::MATE_IN_ONE_INPUT;
 
-const REPORT: &[u8] =
-    b"problem 1\n8 ......k.\n7 ........\n6 ......K.\n5 ........\n4 ........\n3 ........\n2 ........\n1 R.......\n  abcdefgh\n#1\nplay\n1.Ra1-a8#\nsolutions: 1\n\n";
+const REPORT: &[u8] = crate::tests::rows::MATE_IN_ONE_REPORT;
 
 // A faulty problem, a sound one, and one that the end of the input cuts off.
-const THREE: &[u8] =
-    b"BeginProblem\nPieces White Kg6 Rg6 Black Kg8\nRemark not yet NextProblem here\nStipulation #1\nNextProblem\nPieces White Kg6 Ra1 Black Kg8\nStipulation #1\nNextProblem\nPieces White K\n";
+const THREE: &[u8] = crate::tests::rows::THREE_PROBLEMS_INPUT;
 
-const THREE_REPORT: &[u8] =
-    b"problem 1\nline 2: fault 5: square given twice\n\nproblem 2\n8 ......k.\n7 ........\n6 ......K.\n5 ........\n4 ........\n3 ........\n2 ........\n1 R.......\n  abcdefgh\n#1\nplay\n1.Ra1-a8#\nsolutions: 1\n\nproblem 3\nline 9: fault 14: square expected\n\n";
+const THREE_REPORT: &[u8] = crate::tests::rows::THREE_PROBLEMS_REPORT;
 
 // The room of a sink, more than any report here takes.
 const ROOM: usize = 1024;
@@ -186,6 +182,14 @@ fn a_sink_that_fails(rt: HostRuntime) {
             assert!(rt; holds(&THREE_REPORT[..bytes], *taken), "{bytes} bytes");
         }
     }
+}
+
+#[test]
+fn a_sink_that_fails_after_seven_bytes(rt: HostRuntime) {
+    let mut source = TrialSource::new(PROBLEM, 4096, None);
+    let mut sink = TrialSink::<ROOM>::new(4096, Some(7));
+    assert!(rt; run(&settings(false), &mut source, &mut sink) == Status::OutputFailed);
+    assert!(rt; sink.text() == b"problem".as_slice());
 }
 
 // Step by step: behind the step that met the failure each further step answers it again, and asks neither device.

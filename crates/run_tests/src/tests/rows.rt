@@ -1,468 +1,957 @@
-//! The worked rows, each through `run`.
-use crate::report::{gives, settings};
-use pop_run::run::run;
+//! Each row through `run`. Written from `tests/rows` by `tests/rows_agree --write`: make changes there.
+use crate::report::{Row, gives};
 use pop_run::status::Status;
-use pop_text::trial_sink::TrialSink;
-use pop_text::trial_source::TrialSource;
 
-// A name, an input and its report.
-type Row = (&'static str, &'static [u8], &'static [u8]);
-
-// Orthodox men, castling, en passant, promotion.
-const ORTHODOX: [Row; 10] = [
-    (
-        "mate_in_one",
-        b"BeginProblem\nPieces White Kg6 Ra1 Black Kg8\nStipulation #1\nEndProblem\n",
-        b"problem 1\n8 ......k.\n7 ........\n6 ......K.\n5 ........\n4 ........\n3 ........\n2 ........\n1 R.......\n  abcdefgh\n#1\nplay\n1.Ra1-a8#\nsolutions: 1\n\n",
-    ),
-    (
-        "two_keys",
-        b"BeginProblem\nPieces White Kg6 Ra1b1 Black Kg8\nStipulation #1\nEndProblem\n",
-        b"problem 1\n8 ......k.\n7 ........\n6 ......K.\n5 ........\n4 ........\n3 ........\n2 ........\n1 RR......\n  abcdefgh\n#1\nplay\n1.Ra1-a8#\n1.Rb1-b8#\nsolutions: 2\n\n",
-    ),
-    (
-        "knight_mates",
-        b"BeginProblem\nPieces White Kh6 Se5 Black Kh8 Rg8\nStipulation #1\nEndProblem\n",
-        b"problem 1\n8 ......rk\n7 ........\n6 .......K\n5 ....S...\n4 ........\n3 ........\n2 ........\n1 ........\n  abcdefgh\n#1\nplay\n1.Se5-f7#\nsolutions: 1\n\n",
-    ),
-    (
-        "castling_mates",
-        b"BeginProblem\nPieces White Ke1 Rh1 Re8 Rg8 Black Kf3\nStipulation #1\nEndProblem\n",
-        b"problem 1\n8 ....R.R.\n7 ........\n6 ........\n5 ........\n4 ........\n3 .....k..\n2 ........\n1 ....K..R\n  abcdefgh\n#1\nplay\n1.0-0#\n1.Rh1-f1#\nsolutions: 2\n\n",
-    ),
-    (
-        "castling_forbidden",
-        b"BeginProblem\nPieces White Ke1 Rh1 Re8 Rg8 Black Kf3\nStipulation #1\nOption NoCastling h1\nEndProblem\n",
-        b"problem 1\n8 ....R.R.\n7 ........\n6 ........\n5 ........\n4 ........\n3 .....k..\n2 ........\n1 ....K..R\n  abcdefgh\n#1\nplay\n1.Rh1-f1#\nsolutions: 1\n\n",
-    ),
-    (
-        "en_passant_mates",
-        b"BeginProblem\nPieces White Kg6 Ba1 Bb3 Pe5 Black Kh8 Pd5\nStipulation #1\nOption EnPassant d6\nEndProblem\n",
-        b"problem 1\n8 .......k\n7 ........\n6 ......K.\n5 ...pP...\n4 ........\n3 .B......\n2 ........\n1 B.......\n  abcdefgh\n#1\nplay\n1.e5*d6 ep.#\nsolutions: 1\n\n",
-    ),
-    (
-        "en_passant_not_given",
-        b"BeginProblem\nPieces White Kg6 Ba1 Bb3 Pe5 Black Kh8 Pd5\nStipulation #1\nEndProblem\n",
-        b"problem 1\n8 .......k\n7 ........\n6 ......K.\n5 ...pP...\n4 ........\n3 .B......\n2 ........\n1 B.......\n  abcdefgh\n#1\nplay\nsolutions: 0\n\n",
-    ),
-    (
-        "two_promotions",
-        b"BeginProblem\nPieces White Kg6 Pf7 Black Kh8\nStipulation #1\nEndProblem\n",
-        b"problem 1\n8 .......k\n7 .....P..\n6 ......K.\n5 ........\n4 ........\n3 ........\n2 ........\n1 ........\n  abcdefgh\n#1\nplay\n1.f7-f8=Q#\n1.f7-f8=R#\nsolutions: 2\n\n",
-    ),
-    (
-        "the_same_without_madrasi",
-        b"BeginProblem\nPieces White Kg6 Ra1 Black Kg8 Rh1\nStipulation #1\nEndProblem\n",
-        b"problem 1\n8 ......k.\n7 ........\n6 ......K.\n5 ........\n4 ........\n3 ........\n2 ........\n1 R......r\n  abcdefgh\n#1\nplay\n1.Ra1-a8#\nsolutions: 1\n\n",
-    ),
-    (
-        "no_nightrider_to_promote_to",
-        b"BeginProblem\nPieces White Kf2 Pe7 Black Kh2 Bh1 Ph3\nStipulation #1\nEndProblem\n",
-        b"problem 1\n8 ........\n7 ....P...\n6 ........\n5 ........\n4 ........\n3 .......p\n2 .....K.k\n1 .......b\n  abcdefgh\n#1\nplay\nsolutions: 0\n\n",
-    ),
+// Inputs that end too soon, or begin with bytes of other encodings.
+const CUT: [Row; 12] = [
+    Row {
+        name: "empty_input",
+        input: b"",
+        check: false,
+        no_board: false,
+        report: b"problem 1\nline 1: fault 1: BeginProblem expected\n\n",
+        status: Status::Faulty,
+    },
+    Row {
+        name: "cut_without_line_end",
+        input: b"BeginProblem\nPieces White Kg6",
+        check: false,
+        no_board: false,
+        report: b"problem 1\nline 2: fault 19: input ended before EndProblem\n\n",
+        status: Status::Faulty,
+    },
+    Row {
+        name: "a_zero_byte",
+        input: b"\x00",
+        check: false,
+        no_board: false,
+        report: b"problem 1\nline 1: fault 1: BeginProblem expected\n\n",
+        status: Status::Faulty,
+    },
+    Row {
+        name: "byte_order_mark",
+        input: b"\xef\xbb\xbfBeginProblem\nEndProblem\n",
+        check: false,
+        no_board: false,
+        report: b"problem 1\nline 1: fault 1: BeginProblem expected\n\n",
+        status: Status::Faulty,
+    },
+    Row {
+        name: "first_2_bytes",
+        input: b"Be",
+        check: false,
+        no_board: false,
+        report: b"problem 1\nline 1: fault 1: BeginProblem expected\n\n",
+        status: Status::Faulty,
+    },
+    Row {
+        name: "first_3_bytes",
+        input: b"Beg",
+        check: false,
+        no_board: false,
+        report: b"problem 1\nline 1: fault 19: input ended before EndProblem\n\n",
+        status: Status::Faulty,
+    },
+    Row {
+        name: "first_12_bytes",
+        input: b"BeginProblem",
+        check: false,
+        no_board: false,
+        report: b"problem 1\nline 1: fault 19: input ended before EndProblem\n\n",
+        status: Status::Faulty,
+    },
+    Row {
+        name: "first_13_bytes",
+        input: b"BeginProblem\n",
+        check: false,
+        no_board: false,
+        report: b"problem 1\nline 2: fault 19: input ended before EndProblem\n\n",
+        status: Status::Faulty,
+    },
+    Row {
+        name: "first_30_bytes",
+        input: b"BeginProblem\nPieces White Kg6 ",
+        check: false,
+        no_board: false,
+        report: b"problem 1\nline 2: fault 19: input ended before EndProblem\n\n",
+        status: Status::Faulty,
+    },
+    Row {
+        name: "first_31_bytes",
+        input: b"BeginProblem\nPieces White Kg6 R",
+        check: false,
+        no_board: false,
+        report: b"problem 1\nline 2: fault 14: square expected\n\n",
+        status: Status::Faulty,
+    },
+    Row {
+        name: "first_32_bytes",
+        input: b"BeginProblem\nPieces White Kg6 Rg",
+        check: false,
+        no_board: false,
+        report: b"problem 1\nline 2: fault 14: square expected\n\n",
+        status: Status::Faulty,
+    },
+    Row {
+        name: "first_33_bytes",
+        input: b"BeginProblem\nPieces White Kg6 Rg6",
+        check: false,
+        no_board: false,
+        report: b"problem 1\nline 2: fault 5: square given twice\n\n",
+        status: Status::Faulty,
+    },
 ];
 
 // Circe, Madrasi, grasshopper and nightrider.
 const FAIRY: [Row; 9] = [
-    (
-        "circe_rebirth_square_is_taken",
-        b"BeginProblem\nPieces White Kg6 Ra1 Black Kg8 Ra8\nStipulation #1\nCondition Circe\nEndProblem\n",
-        b"problem 1\n8 r.....k.\n7 ........\n6 ......K.\n5 ........\n4 ........\n3 ........\n2 ........\n1 R.......\n  abcdefgh\n#1 Circe\nplay\n1.Ra1*a8#\nsolutions: 1\n\n",
-    ),
-    (
-        "circe_rebirth_stops_the_mate",
-        b"BeginProblem\nPieces White Kg6 Ra1 Black Kg8 Ba8\nStipulation #1\nCondition Circe\nEndProblem\n",
-        b"problem 1\n8 b.....k.\n7 ........\n6 ......K.\n5 ........\n4 ........\n3 ........\n2 ........\n1 R.......\n  abcdefgh\n#1 Circe\nplay\nsolutions: 0\n\n",
-    ),
-    (
-        "en_passant_with_rebirth",
-        b"BeginProblem\nPieces White Kg6 Ba1 Bb3 Pe5 Black Kh8 Pd5\nStipulation #1\nCondition Circe\nOption EnPassant d6\nEndProblem\n",
-        b"problem 1\n8 .......k\n7 ........\n6 ......K.\n5 ...pP...\n4 ........\n3 .B......\n2 ........\n1 B.......\n  abcdefgh\n#1 Circe\nplay\n1.e5*d6 ep.[+bPd7]#\nsolutions: 1\n\n",
-    ),
-    (
-        "madrasi_paralysed_rook",
-        b"BeginProblem\nPieces White Kg6 Ra1 Black Kg8 Rh1\nStipulation #1\nCondition Madrasi\nEndProblem\n",
-        b"problem 1\n8 ......k.\n7 ........\n6 ......K.\n5 ........\n4 ........\n3 ........\n2 ........\n1 R......r\n  abcdefgh\n#1 Madrasi\nplay\nsolutions: 0\n\n",
-    ),
-    (
-        "no_check_under_madrasi",
-        b"BeginProblem\nPieces White Kg6 Rh1 Black Kh8 Ra1\nStipulation #1\nCondition Madrasi\nEndProblem\n",
-        b"problem 1\n8 .......k\n7 ........\n6 ......K.\n5 ........\n4 ........\n3 ........\n2 ........\n1 r......R\n  abcdefgh\n#1 Madrasi\nplay\nsolutions: 0\n\n",
-    ),
-    (
-        "grasshopper_mates",
-        b"BeginProblem\nPieces White Kf6 Bb3 Pg5 Ge3 Black Kh8 Ph7\nStipulation #1\nEndProblem\n",
-        b"problem 1\n8 .......k\n7 .......p\n6 .....K..\n5 ......P.\n4 ........\n3 .B..G...\n2 ........\n1 ........\n  abcdefgh\n#1\nplay\n1.Ge3-h6#\nsolutions: 1\n\n",
-    ),
-    (
-        "nightrider_mates",
-        b"BeginProblem\nPieces White Kg6 Bb3 Na3 Black Kh8\nStipulation #1\nEndProblem\n",
-        b"problem 1\n8 .......k\n7 ........\n6 ......K.\n5 ........\n4 ........\n3 NB......\n2 ........\n1 ........\n  abcdefgh\n#1\nplay\n1.Na3-b5#\nsolutions: 1\n\n",
-    ),
-    (
-        "promotion_to_nightrider",
-        b"BeginProblem\nPieces White Kf2 Pe7 Black Kh2 Bh1 Ph3 Na8\nStipulation #1\nEndProblem\n",
-        b"problem 1\n8 n.......\n7 ....P...\n6 ........\n5 ........\n4 ........\n3 .......p\n2 .....K.k\n1 .......b\n  abcdefgh\n#1\nplay\n1.e7-e8=N#\nsolutions: 1\n\n",
-    ),
-    (
-        "grasshopper_forbids_castling",
-        b"BeginProblem\nPieces White Ke1 Rh1 Re8 Rg8 Black Kf3 Gd1\nStipulation #1\nEndProblem\n",
-        b"problem 1\n8 ....R.R.\n7 ........\n6 ........\n5 ........\n4 ........\n3 .....k..\n2 ........\n1 ...gK..R\n  abcdefgh\n#1\nplay\nsolutions: 0\n\n",
-    ),
-];
-
-// Options, texts and short words.
-const OPTIONS: [Row; 9] = [
-    (
-        "set_play_not_possible",
-        b"BeginProblem\nPieces White Kg6 Ra1 Black Kg8 Ra6\nStipulation #1\nOption SetPlay\nEndProblem\n",
-        b"problem 1\n8 ......k.\n7 ........\n6 r.....K.\n5 ........\n4 ........\n3 ........\n2 ........\n1 R.......\n  abcdefgh\n#1\nset\nnot possible\nplay\nsolutions: 0\n\n",
-    ),
-    (
-        "title_and_author",
-        b"BeginProblem\nTitle   A first mate  \nAuthor N. N.\nPieces White Kg6 Ra1 Black Kg8\nStipulation #1\nOption NoBoard\nEndProblem\n",
-        b"problem 1\ntitle: A first mate\nauthor: N. N.\n#1\nplay\n1.Ra1-a8#\nsolutions: 1\n\n",
-    ),
-    (
-        "limit_of_one",
-        b"BeginProblem\nPieces White Kg6 Ra1b1 Black Kg8\nStipulation #1\nOption MaxSolutions 1\nEndProblem\n",
-        b"problem 1\n8 ......k.\n7 ........\n6 ......K.\n5 ........\n4 ........\n3 ........\n2 ........\n1 RR......\n  abcdefgh\n#1\nplay\n1.Ra1-a8#\nsolutions: 1, stopped\n\n",
-    ),
-    (
-        "limit_reached_exactly",
-        b"BeginProblem\nPieces White Kg6 Ra1 Black Kg8\nStipulation #1\nOption MaxSolutions 1\nEndProblem\n",
-        b"problem 1\n8 ......k.\n7 ........\n6 ......K.\n5 ........\n4 ........\n3 ........\n2 ........\n1 R.......\n  abcdefgh\n#1\nplay\n1.Ra1-a8#\nsolutions: 1, stopped\n\n",
-    ),
-    (
-        "limit_with_zeros",
-        b"BeginProblem\nPieces White Kg6 Ra1 Black Kg8\nStipulation #1\nOption MaxSolutions 007\nEndProblem\n",
-        b"problem 1\n8 ......k.\n7 ........\n6 ......K.\n5 ........\n4 ........\n3 ........\n2 ........\n1 R.......\n  abcdefgh\n#1\nplay\n1.Ra1-a8#\nsolutions: 1\n\n",
-    ),
-    (
-        "short_words",
-        b"Beg\nPie W Kg6 Ra1 B Kg8\nSti #1\nEnd\n",
-        b"problem 1\n8 ......k.\n7 ........\n6 ......K.\n5 ........\n4 ........\n3 ........\n2 ........\n1 R.......\n  abcdefgh\n#1\nplay\n1.Ra1-a8#\nsolutions: 1\n\n",
-    ),
-    (
-        "case_and_lines",
-        b"bEGINpROBLEM pieces WHITE kG6 ra1\tblack KG8\r\nstipulation\n#1 endproblem",
-        b"problem 1\n8 ......k.\n7 ........\n6 ......K.\n5 ........\n4 ........\n3 ........\n2 ........\n1 R.......\n  abcdefgh\n#1\nplay\n1.Ra1-a8#\nsolutions: 1\n\n",
-    ),
-    (
-        "carriage_returns",
-        b"BeginProblem\r\nPieces White Kg6 Ra1 Black Kg8\r\nStipulation #1\r\nEndProblem\r\n",
-        b"problem 1\n8 ......k.\n7 ........\n6 ......K.\n5 ........\n4 ........\n3 ........\n2 ........\n1 R.......\n  abcdefgh\n#1\nplay\n1.Ra1-a8#\nsolutions: 1\n\n",
-    ),
-    (
-        "carriage_returns_and_title",
-        b"BeginProblem\r\nTitle   A first mate  \r\nAuthor N. N.\r\nPieces White Kg6 Ra1 Black Kg8\r\nStipulation #1\r\nOption NoBoard\r\nEndProblem\r\n",
-        b"problem 1\ntitle: A first mate\nauthor: N. N.\n#1\nplay\n1.Ra1-a8#\nsolutions: 1\n\n",
-    ),
+    Row {
+        name: "circe_rebirth_square_is_taken",
+        input: b"BeginProblem\nPieces White Kg6 Ra1 Black Kg8 Ra8\nStipulation #1\nCondition Circe\nEndProblem\n",
+        check: false,
+        no_board: false,
+        report: b"problem 1\n8 r.....k.\n7 ........\n6 ......K.\n5 ........\n4 ........\n3 ........\n2 ........\n1 R.......\n  abcdefgh\n#1 Circe\nplay\n1.Ra1*a8#\nsolutions: 1\n\n",
+        status: Status::Sound,
+    },
+    Row {
+        name: "circe_rebirth_stops_the_mate",
+        input: b"BeginProblem\nPieces White Kg6 Ra1 Black Kg8 Ba8\nStipulation #1\nCondition Circe\nEndProblem\n",
+        check: false,
+        no_board: false,
+        report: b"problem 1\n8 b.....k.\n7 ........\n6 ......K.\n5 ........\n4 ........\n3 ........\n2 ........\n1 R.......\n  abcdefgh\n#1 Circe\nplay\nsolutions: 0\n\n",
+        status: Status::Sound,
+    },
+    Row {
+        name: "en_passant_with_rebirth",
+        input: b"BeginProblem\nPieces White Kg6 Ba1 Bb3 Pe5 Black Kh8 Pd5\nStipulation #1\nCondition Circe\nOption EnPassant d6\nEndProblem\n",
+        check: false,
+        no_board: false,
+        report: b"problem 1\n8 .......k\n7 ........\n6 ......K.\n5 ...pP...\n4 ........\n3 .B......\n2 ........\n1 B.......\n  abcdefgh\n#1 Circe\nplay\n1.e5*d6 ep.[+bPd7]#\nsolutions: 1\n\n",
+        status: Status::Sound,
+    },
+    Row {
+        name: "madrasi_paralysed_rook",
+        input: b"BeginProblem\nPieces White Kg6 Ra1 Black Kg8 Rh1\nStipulation #1\nCondition Madrasi\nEndProblem\n",
+        check: false,
+        no_board: false,
+        report: b"problem 1\n8 ......k.\n7 ........\n6 ......K.\n5 ........\n4 ........\n3 ........\n2 ........\n1 R......r\n  abcdefgh\n#1 Madrasi\nplay\nsolutions: 0\n\n",
+        status: Status::Sound,
+    },
+    Row {
+        name: "no_check_under_madrasi",
+        input: b"BeginProblem\nPieces White Kg6 Rh1 Black Kh8 Ra1\nStipulation #1\nCondition Madrasi\nEndProblem\n",
+        check: false,
+        no_board: false,
+        report: b"problem 1\n8 .......k\n7 ........\n6 ......K.\n5 ........\n4 ........\n3 ........\n2 ........\n1 r......R\n  abcdefgh\n#1 Madrasi\nplay\nsolutions: 0\n\n",
+        status: Status::Sound,
+    },
+    Row {
+        name: "grasshopper_mates",
+        input: b"BeginProblem\nPieces White Kf6 Bb3 Pg5 Ge3 Black Kh8 Ph7\nStipulation #1\nEndProblem\n",
+        check: false,
+        no_board: false,
+        report: b"problem 1\n8 .......k\n7 .......p\n6 .....K..\n5 ......P.\n4 ........\n3 .B..G...\n2 ........\n1 ........\n  abcdefgh\n#1\nplay\n1.Ge3-h6#\nsolutions: 1\n\n",
+        status: Status::Sound,
+    },
+    Row {
+        name: "nightrider_mates",
+        input: b"BeginProblem\nPieces White Kg6 Bb3 Na3 Black Kh8\nStipulation #1\nEndProblem\n",
+        check: false,
+        no_board: false,
+        report: b"problem 1\n8 .......k\n7 ........\n6 ......K.\n5 ........\n4 ........\n3 NB......\n2 ........\n1 ........\n  abcdefgh\n#1\nplay\n1.Na3-b5#\nsolutions: 1\n\n",
+        status: Status::Sound,
+    },
+    Row {
+        name: "promotion_to_nightrider",
+        input: b"BeginProblem\nPieces White Kf2 Pe7 Black Kh2 Bh1 Ph3 Na8\nStipulation #1\nEndProblem\n",
+        check: false,
+        no_board: false,
+        report: b"problem 1\n8 n.......\n7 ....P...\n6 ........\n5 ........\n4 ........\n3 .......p\n2 .....K.k\n1 .......b\n  abcdefgh\n#1\nplay\n1.e7-e8=N#\nsolutions: 1\n\n",
+        status: Status::Sound,
+    },
+    Row {
+        name: "grasshopper_forbids_castling",
+        input: b"BeginProblem\nPieces White Ke1 Rh1 Re8 Rg8 Black Kf3 Gd1\nStipulation #1\nEndProblem\n",
+        check: false,
+        no_board: false,
+        report: b"problem 1\n8 ....R.R.\n7 ........\n6 ........\n5 ........\n4 ........\n3 .....k..\n2 ........\n1 ...gK..R\n  abcdefgh\n#1\nplay\nsolutions: 0\n\n",
+        status: Status::Sound,
+    },
 ];
 
 // More moves than one.
-const LONGER: [Row; 10] = [
-    (
-        "mate_in_two_with_variations",
-        b"BeginProblem\nPieces White Kc7 Rb2 Black Ka8\nStipulation #2\nOption Variation\nEndProblem\n",
-        b"problem 1\n8 k.......\n7 ..K.....\n6 ........\n5 ........\n4 ........\n3 ........\n2 .R......\n1 ........\n  abcdefgh\n#2\nplay\n1.Rb2-b1\n  1...Ka8-a7\n    2.Rb1-a1#\n1.Rb2-a2#\n1.Rb2-c2\n  1...Ka8-a7\n    2.Rc2-a2#\n1.Rb2-d2\n  1...Ka8-a7\n    2.Rd2-a2#\n1.Rb2-e2\n  1...Ka8-a7\n    2.Re2-a2#\n1.Rb2-f2\n  1...Ka8-a7\n    2.Rf2-a2#\n1.Rb2-g2\n  1...Ka8-a7\n    2.Rg2-a2#\n1.Rb2-h2\n  1...Ka8-a7\n    2.Rh2-a2#\n1.Rb2-b3\n  1...Ka8-a7\n    2.Rb3-a3#\n1.Rb2-b4\n  1...Ka8-a7\n    2.Rb4-a4#\n1.Rb2-b5\n  1...Ka8-a7\n    2.Rb5-a5#\nsolutions: 11\n\n",
-    ),
-    (
-        "mate_in_two_first_two_keys",
-        b"BeginProblem\nPieces White Kc7 Rb2 Black Ka8\nStipulation #2\nOption Variation MaxSolutions 2\nEndProblem\n",
-        b"problem 1\n8 k.......\n7 ..K.....\n6 ........\n5 ........\n4 ........\n3 ........\n2 .R......\n1 ........\n  abcdefgh\n#2\nplay\n1.Rb2-b1\n  1...Ka8-a7\n    2.Rb1-a1#\n1.Rb2-a2#\nsolutions: 2, stopped\n\n",
-    ),
-    (
-        "set_play_and_play_stopped",
-        b"BeginProblem\nPieces White Kc7 Rb2 Black Ka8\nStipulation #2\nOption SetPlay MaxSolutions 1\nEndProblem\n",
-        b"problem 1\n8 k.......\n7 ..K.....\n6 ........\n5 ........\n4 ........\n3 ........\n2 .R......\n1 ........\n  abcdefgh\n#2\nset\n1...Ka8-a7\n  2.Rb2-a2#\nsolutions: 1, stopped\nplay\n1.Rb2-b1\nsolutions: 1, stopped\n\n",
-    ),
-    (
-        "shortest_continuation",
-        b"BeginProblem\nPieces White Kc7 Rb2 Black Ka8\nStipulation #3\nOption Variation MaxSolutions 1\nEndProblem\n",
-        b"problem 1\n8 k.......\n7 ..K.....\n6 ........\n5 ........\n4 ........\n3 ........\n2 .R......\n1 ........\n  abcdefgh\n#3\nplay\n1.Rb2-b1\n  1...Ka8-a7\n    2.Rb1-a1#\nsolutions: 1, stopped\n\n",
-    ),
-    (
-        "help_mate_with_set_play",
-        b"BeginProblem\nPieces White Kg6 Ra1 Black Kh8\nStipulation h#1\nOption SetPlay\nEndProblem\n",
-        b"problem 1\n8 .......k\n7 ........\n6 ......K.\n5 ........\n4 ........\n3 ........\n2 ........\n1 R.......\n  abcdefgh\nh#1\nset\n1...Ra1-a8#\nsolutions: 1\nplay\n1.Kh8-g8 Ra1-a8#\nsolutions: 1\n\n",
-    ),
-    (
-        "help_mate_in_one_and_a_half",
-        b"BeginProblem\nPieces White Kg6 Ra1 Black Kh8\nStipulation h#1.5\nOption MaxSolutions 1\nEndProblem\n",
-        b"problem 1\n8 .......k\n7 ........\n6 ......K.\n5 ........\n4 ........\n3 ........\n2 ........\n1 R.......\n  abcdefgh\nh#1.5\nplay\n1...Ra1-b1 2.Kh8-g8 Rb1-b8#\nsolutions: 1, stopped\n\n",
-    ),
-    (
-        "help_mate_in_two",
-        b"BeginProblem\nPieces White Kg6 Ra1 Black Kh8\nStipulation h#2\nOption MaxSolutions 1\nEndProblem\n",
-        b"problem 1\n8 .......k\n7 ........\n6 ......K.\n5 ........\n4 ........\n3 ........\n2 ........\n1 R.......\n  abcdefgh\nh#2\nplay\n1.Kh8-g8 Ra1-b1 2.Kg8-h8 Rb1-b8#\nsolutions: 1, stopped\n\n",
-    ),
-    (
-        "half_move_with_set_play",
-        b"BeginProblem\nPieces White Kg6 Ra1 Black Kg8\nStipulation h#0.5\nOption SetPlay\nEndProblem\n",
-        b"problem 1\n8 ......k.\n7 ........\n6 ......K.\n5 ........\n4 ........\n3 ........\n2 ........\n1 R.......\n  abcdefgh\nh#0.5\nset\nsolutions: 0\nplay\n1...Ra1-a8#\nsolutions: 1\n\n",
-    ),
-    (
-        "selfmate_with_variations",
-        b"BeginProblem\nPieces White Ka1 Re8 Ph6 Black Kh8 Bg8 Ph7 Pa2a3b3\nStipulation s#1\nOption Variation\nEndProblem\n",
-        b"problem 1\n8 ....R.bk\n7 .......p\n6 .......P\n5 ........\n4 ........\n3 pp......\n2 p.......\n1 K.......\n  abcdefgh\ns#1\nplay\n1.Re8-a8\n  1...b3-b2#\n1.Re8-c8\n  1...b3-b2#\n1.Re8-d8\n  1...b3-b2#\n1.Re8-f8\n  1...b3-b2#\nsolutions: 4\n\n",
-    ),
-    (
-        "selfmate_with_set_play",
-        b"BeginProblem\nPieces White Ka1 Re8 Ph6 Black Kh8 Bg8 Ph7 Pa2a3b3\nStipulation s#1\nOption SetPlay\nEndProblem\n",
-        b"problem 1\n8 ....R.bk\n7 .......p\n6 .......P\n5 ........\n4 ........\n3 pp......\n2 p.......\n1 K.......\n  abcdefgh\ns#1\nset\n1...b3-b2#\nsolutions: 1\nplay\n1.Re8-a8\n1.Re8-c8\n1.Re8-d8\n1.Re8-f8\nsolutions: 4\n\n",
-    ),
+const LONGER: [Row; 11] = [
+    Row {
+        name: "mate_in_two_with_variations",
+        input: b"BeginProblem\nPieces White Kc7 Rb2 Black Ka8\nStipulation #2\nOption Variation\nEndProblem\n",
+        check: false,
+        no_board: false,
+        report: b"problem 1\n8 k.......\n7 ..K.....\n6 ........\n5 ........\n4 ........\n3 ........\n2 .R......\n1 ........\n  abcdefgh\n#2\nplay\n1.Rb2-b1\n  1...Ka8-a7\n    2.Rb1-a1#\n1.Rb2-a2#\n1.Rb2-c2\n  1...Ka8-a7\n    2.Rc2-a2#\n1.Rb2-d2\n  1...Ka8-a7\n    2.Rd2-a2#\n1.Rb2-e2\n  1...Ka8-a7\n    2.Re2-a2#\n1.Rb2-f2\n  1...Ka8-a7\n    2.Rf2-a2#\n1.Rb2-g2\n  1...Ka8-a7\n    2.Rg2-a2#\n1.Rb2-h2\n  1...Ka8-a7\n    2.Rh2-a2#\n1.Rb2-b3\n  1...Ka8-a7\n    2.Rb3-a3#\n1.Rb2-b4\n  1...Ka8-a7\n    2.Rb4-a4#\n1.Rb2-b5\n  1...Ka8-a7\n    2.Rb5-a5#\nsolutions: 11\n\n",
+        status: Status::Sound,
+    },
+    Row {
+        name: "mate_in_two_first_two_keys",
+        input: b"BeginProblem\nPieces White Kc7 Rb2 Black Ka8\nStipulation #2\nOption Variation MaxSolutions 2\nEndProblem\n",
+        check: false,
+        no_board: false,
+        report: b"problem 1\n8 k.......\n7 ..K.....\n6 ........\n5 ........\n4 ........\n3 ........\n2 .R......\n1 ........\n  abcdefgh\n#2\nplay\n1.Rb2-b1\n  1...Ka8-a7\n    2.Rb1-a1#\n1.Rb2-a2#\nsolutions: 2, stopped\n\n",
+        status: Status::Sound,
+    },
+    Row {
+        name: "set_play_and_play_stopped",
+        input: b"BeginProblem\nPieces White Kc7 Rb2 Black Ka8\nStipulation #2\nOption SetPlay MaxSolutions 1\nEndProblem\n",
+        check: false,
+        no_board: false,
+        report: b"problem 1\n8 k.......\n7 ..K.....\n6 ........\n5 ........\n4 ........\n3 ........\n2 .R......\n1 ........\n  abcdefgh\n#2\nset\n1...Ka8-a7\n  2.Rb2-a2#\nsolutions: 1, stopped\nplay\n1.Rb2-b1\nsolutions: 1, stopped\n\n",
+        status: Status::Sound,
+    },
+    Row {
+        name: "shortest_continuation",
+        input: b"BeginProblem\nPieces White Kc7 Rb2 Black Ka8\nStipulation #3\nOption Variation MaxSolutions 1\nEndProblem\n",
+        check: false,
+        no_board: false,
+        report: b"problem 1\n8 k.......\n7 ..K.....\n6 ........\n5 ........\n4 ........\n3 ........\n2 .R......\n1 ........\n  abcdefgh\n#3\nplay\n1.Rb2-b1\n  1...Ka8-a7\n    2.Rb1-a1#\nsolutions: 1, stopped\n\n",
+        status: Status::Sound,
+    },
+    Row {
+        name: "help_mate_with_set_play",
+        input: b"BeginProblem\nPieces White Kg6 Ra1 Black Kh8\nStipulation h#1\nOption SetPlay\nEndProblem\n",
+        check: false,
+        no_board: false,
+        report: b"problem 1\n8 .......k\n7 ........\n6 ......K.\n5 ........\n4 ........\n3 ........\n2 ........\n1 R.......\n  abcdefgh\nh#1\nset\n1...Ra1-a8#\nsolutions: 1\nplay\n1.Kh8-g8 Ra1-a8#\nsolutions: 1\n\n",
+        status: Status::Sound,
+    },
+    Row {
+        name: "help_mate_in_one_and_a_half",
+        input: b"BeginProblem\nPieces White Kg6 Ra1 Black Kh8\nStipulation h#1.5\nOption MaxSolutions 1\nEndProblem\n",
+        check: false,
+        no_board: false,
+        report: b"problem 1\n8 .......k\n7 ........\n6 ......K.\n5 ........\n4 ........\n3 ........\n2 ........\n1 R.......\n  abcdefgh\nh#1.5\nplay\n1...Ra1-b1 2.Kh8-g8 Rb1-b8#\nsolutions: 1, stopped\n\n",
+        status: Status::Sound,
+    },
+    Row {
+        name: "help_mate_in_two",
+        input: b"BeginProblem\nPieces White Kg6 Ra1 Black Kh8\nStipulation h#2\nOption MaxSolutions 1\nEndProblem\n",
+        check: false,
+        no_board: false,
+        report: b"problem 1\n8 .......k\n7 ........\n6 ......K.\n5 ........\n4 ........\n3 ........\n2 ........\n1 R.......\n  abcdefgh\nh#2\nplay\n1.Kh8-g8 Ra1-b1 2.Kg8-h8 Rb1-b8#\nsolutions: 1, stopped\n\n",
+        status: Status::Sound,
+    },
+    Row {
+        name: "half_move_with_set_play",
+        input: b"BeginProblem\nPieces White Kg6 Ra1 Black Kg8\nStipulation h#0.5\nOption SetPlay\nEndProblem\n",
+        check: false,
+        no_board: false,
+        report: b"problem 1\n8 ......k.\n7 ........\n6 ......K.\n5 ........\n4 ........\n3 ........\n2 ........\n1 R.......\n  abcdefgh\nh#0.5\nset\nsolutions: 0\nplay\n1...Ra1-a8#\nsolutions: 1\n\n",
+        status: Status::Sound,
+    },
+    Row {
+        name: "selfmate_with_variations",
+        input: b"BeginProblem\nPieces White Ka1 Re8 Ph6 Black Kh8 Bg8 Ph7 Pa2a3b3\nStipulation s#1\nOption Variation\nEndProblem\n",
+        check: false,
+        no_board: false,
+        report: b"problem 1\n8 ....R.bk\n7 .......p\n6 .......P\n5 ........\n4 ........\n3 pp......\n2 p.......\n1 K.......\n  abcdefgh\ns#1\nplay\n1.Re8-a8\n  1...b3-b2#\n1.Re8-c8\n  1...b3-b2#\n1.Re8-d8\n  1...b3-b2#\n1.Re8-f8\n  1...b3-b2#\nsolutions: 4\n\n",
+        status: Status::Sound,
+    },
+    Row {
+        name: "selfmate_with_set_play",
+        input: b"BeginProblem\nPieces White Ka1 Re8 Ph6 Black Kh8 Bg8 Ph7 Pa2a3b3\nStipulation s#1\nOption SetPlay\nEndProblem\n",
+        check: false,
+        no_board: false,
+        report: b"problem 1\n8 ....R.bk\n7 .......p\n6 .......P\n5 ........\n4 ........\n3 pp......\n2 p.......\n1 K.......\n  abcdefgh\ns#1\nset\n1...b3-b2#\nsolutions: 1\nplay\n1.Re8-a8\n1.Re8-c8\n1.Re8-d8\n1.Re8-f8\nsolutions: 4\n\n",
+        status: Status::Sound,
+    },
+    Row {
+        name: "game_array",
+        input: b"BeginProblem\nPieces White Ke1 Qd1 Ra1h1 Bc1f1 Sb1g1 Pa2b2c2d2e2f2g2h2 Black Ke8 Qd8 Ra8h8 Bc8f8 Sb8g8 Pa7b7c7d7e7f7g7h7\nStipulation h#1.5\nEndProblem\n",
+        check: false,
+        no_board: false,
+        report: b"problem 1\n8 rsbqkbsr\n7 pppppppp\n6 ........\n5 ........\n4 ........\n3 ........\n2 PPPPPPPP\n1 RSBQKBSR\n  abcdefgh\nh#1.5\nplay\nsolutions: 0\n\n",
+        status: Status::Sound,
+    },
 ];
 
-// Faults of words.
-const WORD_FAULTS: [Row; 10] = [
-    (
-        "man_before_its_colour",
-        b"BeginProblem\nPieces Kg6\n",
-        b"problem 1\nline 2: fault 4: colour expected before men\n\n",
-    ),
-    (
-        "unknown_word_among_men",
-        b"BeginProblem\nPieces White Protocol\n",
-        b"problem 1\nline 2: fault 2: unknown or misplaced word\n\n",
-    ),
-    (
-        "half_a_square",
-        b"BeginProblem\nPieces White Kg6h\n",
-        b"problem 1\nline 2: fault 14: square expected\n\n",
-    ),
-    (
-        "pawn_on_rank_8",
-        b"BeginProblem\nPieces White Pa8\n",
-        b"problem 1\nline 2: fault 6: pawn on rank 1 or 8\n\n",
-    ),
-    (
-        "second_king",
-        b"BeginProblem\nPieces White Kg6h1\n",
-        b"problem 1\nline 2: fault 7: second king of a colour\n\n",
-    ),
-    (
-        "second_stipulation",
-        b"BeginProblem\nPieces White Kg6 Ra1 Black Kg8\nStipulation #1 #1\nEndProblem\n",
-        b"problem 1\nline 3: fault 9: second stipulation\n\n",
-    ),
-    (
-        "word_behind_the_stipulation",
-        b"BeginProblem\nPieces White Kg6 Ra1 Black Kg8\nStipulation #1 foo\nEndProblem\n",
-        b"problem 1\nline 3: fault 2: unknown or misplaced word\n\n",
-    ),
-    (
-        "too_many_half_moves",
-        b"BeginProblem\nPieces White Kg6 Ra1 Black Kg8\nStipulation h#16.5\nEndProblem\n",
-        b"problem 1\nline 3: fault 8: bad stipulation\n\n",
-    ),
-    (
-        "no_move",
-        b"BeginProblem\nPieces White Kg6 Ra1 Black Kg8\nStipulation #0\nEndProblem\n",
-        b"problem 1\nline 3: fault 8: bad stipulation\n\n",
-    ),
-    (
-        "second_condition",
-        b"BeginProblem\nPieces White Kg6 Ra1 Black Kg8\nStipulation #1\nCondition Circe Circe\nEndProblem\n",
-        b"problem 1\nline 4: fault 12: second condition\n\n",
-    ),
+// Sixteen moves and more.
+const LONGEST: [Row; 7] = [
+    Row {
+        name: "one_key_in_sixteen_moves",
+        input: b"BeginProblem\nPieces White Kc7 Rb2 Black Ka8\nStipulation #16\nOption MaxSolutions 1\nEndProblem\n",
+        check: false,
+        no_board: false,
+        report: b"problem 1\n8 k.......\n7 ..K.....\n6 ........\n5 ........\n4 ........\n3 ........\n2 .R......\n1 ........\n  abcdefgh\n#16\nplay\n1.Rb2-b1\nsolutions: 1, stopped\n\n",
+        status: Status::Sound,
+    },
+    Row {
+        name: "eight_and_a_half_moves_checked",
+        input: b"BeginProblem\nPieces White Kg6 Ra1 Black Kg8\nStipulation h#8.5\nEndProblem\n",
+        check: true,
+        no_board: false,
+        report: b"problem 1\n8 ......k.\n7 ........\n6 ......K.\n5 ........\n4 ........\n3 ........\n2 ........\n1 R.......\n  abcdefgh\nh#8.5\nsound\n\n",
+        status: Status::Sound,
+    },
+    Row {
+        name: "fifteen_and_a_half_moves_checked",
+        input: b"BeginProblem\nPieces White Kg6 Ra1 Black Kg8\nStipulation h#15.5\nEndProblem\n",
+        check: true,
+        no_board: false,
+        report: b"problem 1\n8 ......k.\n7 ........\n6 ......K.\n5 ........\n4 ........\n3 ........\n2 ........\n1 R.......\n  abcdefgh\nh#15.5\nsound\n\n",
+        status: Status::Sound,
+    },
+    Row {
+        name: "sixteen_moves_checked",
+        input: b"BeginProblem\nPieces White Kg6 Ra1 Black Kg8\nStipulation h#16\nEndProblem\n",
+        check: true,
+        no_board: false,
+        report: b"problem 1\n8 ......k.\n7 ........\n6 ......K.\n5 ........\n4 ........\n3 ........\n2 ........\n1 R.......\n  abcdefgh\nh#16\nsound\n\n",
+        status: Status::Sound,
+    },
+    Row {
+        name: "seventeen_moves",
+        input: b"BeginProblem\nPieces White Kg6 Ra1 Black Kg8\nStipulation #17\nEndProblem\n",
+        check: false,
+        no_board: false,
+        report: b"problem 1\nline 3: fault 8: bad stipulation\n\n",
+        status: Status::Faulty,
+    },
+    Row {
+        name: "sixteen_and_a_half_moves",
+        input: b"BeginProblem\nPieces White Kg6 Ra1 Black Kg8\nStipulation h#16.5\nEndProblem\n",
+        check: false,
+        no_board: false,
+        report: b"problem 1\nline 3: fault 8: bad stipulation\n\n",
+        status: Status::Faulty,
+    },
+    Row {
+        name: "stalemate_in_seventeen",
+        input: b"BeginProblem\nPieces White Kg6 Ra1 Black Kg8\nStipulation =17\nEndProblem\n",
+        check: false,
+        no_board: false,
+        report: b"problem 1\nline 3: fault 8: bad stipulation\n\n",
+        status: Status::Faulty,
+    },
+];
+
+// Options, title and author, ways to write words and lines, and the options of the program.
+const OPTIONS: [Row; 11] = [
+    Row {
+        name: "set_play_not_possible",
+        input: b"BeginProblem\nPieces White Kg6 Ra1 Black Kg8 Ra6\nStipulation #1\nOption SetPlay\nEndProblem\n",
+        check: false,
+        no_board: false,
+        report: b"problem 1\n8 ......k.\n7 ........\n6 r.....K.\n5 ........\n4 ........\n3 ........\n2 ........\n1 R.......\n  abcdefgh\n#1\nset\nnot possible\nplay\nsolutions: 0\n\n",
+        status: Status::Sound,
+    },
+    Row {
+        name: "title_and_author",
+        input: b"BeginProblem\nTitle   A first mate  \nAuthor N. N.\nPieces White Kg6 Ra1 Black Kg8\nStipulation #1\nOption NoBoard\nEndProblem\n",
+        check: false,
+        no_board: false,
+        report: b"problem 1\ntitle: A first mate\nauthor: N. N.\n#1\nplay\n1.Ra1-a8#\nsolutions: 1\n\n",
+        status: Status::Sound,
+    },
+    Row {
+        name: "limit_of_one",
+        input: b"BeginProblem\nPieces White Kg6 Ra1b1 Black Kg8\nStipulation #1\nOption MaxSolutions 1\nEndProblem\n",
+        check: false,
+        no_board: false,
+        report: b"problem 1\n8 ......k.\n7 ........\n6 ......K.\n5 ........\n4 ........\n3 ........\n2 ........\n1 RR......\n  abcdefgh\n#1\nplay\n1.Ra1-a8#\nsolutions: 1, stopped\n\n",
+        status: Status::Sound,
+    },
+    Row {
+        name: "limit_reached_exactly",
+        input: b"BeginProblem\nPieces White Kg6 Ra1 Black Kg8\nStipulation #1\nOption MaxSolutions 1\nEndProblem\n",
+        check: false,
+        no_board: false,
+        report: b"problem 1\n8 ......k.\n7 ........\n6 ......K.\n5 ........\n4 ........\n3 ........\n2 ........\n1 R.......\n  abcdefgh\n#1\nplay\n1.Ra1-a8#\nsolutions: 1, stopped\n\n",
+        status: Status::Sound,
+    },
+    Row {
+        name: "limit_with_zeros",
+        input: b"BeginProblem\nPieces White Kg6 Ra1 Black Kg8\nStipulation #1\nOption MaxSolutions 007\nEndProblem\n",
+        check: false,
+        no_board: false,
+        report: b"problem 1\n8 ......k.\n7 ........\n6 ......K.\n5 ........\n4 ........\n3 ........\n2 ........\n1 R.......\n  abcdefgh\n#1\nplay\n1.Ra1-a8#\nsolutions: 1\n\n",
+        status: Status::Sound,
+    },
+    Row {
+        name: "short_words",
+        input: b"Beg\nPie W Kg6 Ra1 B Kg8\nSti #1\nEnd\n",
+        check: false,
+        no_board: false,
+        report: b"problem 1\n8 ......k.\n7 ........\n6 ......K.\n5 ........\n4 ........\n3 ........\n2 ........\n1 R.......\n  abcdefgh\n#1\nplay\n1.Ra1-a8#\nsolutions: 1\n\n",
+        status: Status::Sound,
+    },
+    Row {
+        name: "case_and_lines",
+        input: b"bEGINpROBLEM pieces WHITE kG6 ra1\tblack KG8\r\nstipulation\n#1 endproblem",
+        check: false,
+        no_board: false,
+        report: b"problem 1\n8 ......k.\n7 ........\n6 ......K.\n5 ........\n4 ........\n3 ........\n2 ........\n1 R.......\n  abcdefgh\n#1\nplay\n1.Ra1-a8#\nsolutions: 1\n\n",
+        status: Status::Sound,
+    },
+    Row {
+        name: "carriage_returns",
+        input: b"BeginProblem\r\nPieces White Kg6 Ra1 Black Kg8\r\nStipulation #1\r\nEndProblem\r\n",
+        check: false,
+        no_board: false,
+        report: b"problem 1\n8 ......k.\n7 ........\n6 ......K.\n5 ........\n4 ........\n3 ........\n2 ........\n1 R.......\n  abcdefgh\n#1\nplay\n1.Ra1-a8#\nsolutions: 1\n\n",
+        status: Status::Sound,
+    },
+    Row {
+        name: "carriage_returns_and_title",
+        input: b"BeginProblem\r\nTitle   A first mate  \r\nAuthor N. N.\r\nPieces White Kg6 Ra1 Black Kg8\r\nStipulation #1\r\nOption NoBoard\r\nEndProblem\r\n",
+        check: false,
+        no_board: false,
+        report: b"problem 1\ntitle: A first mate\nauthor: N. N.\n#1\nplay\n1.Ra1-a8#\nsolutions: 1\n\n",
+        status: Status::Sound,
+    },
+    Row {
+        name: "check_alone",
+        input: b"BeginProblem\nPieces White Kg6 Ra1 Black Kg8\nStipulation #1\nEndProblem\n",
+        check: true,
+        no_board: false,
+        report: b"problem 1\n8 ......k.\n7 ........\n6 ......K.\n5 ........\n4 ........\n3 ........\n2 ........\n1 R.......\n  abcdefgh\n#1\nsound\n\n",
+        status: Status::Sound,
+    },
+    Row {
+        name: "no_board_at_all",
+        input: b"BeginProblem\nPieces White Kg6 Ra1 Black Kg8\nStipulation #1\nEndProblem\n",
+        check: false,
+        no_board: true,
+        report: b"problem 1\n#1\nplay\n1.Ra1-a8#\nsolutions: 1\n\n",
+        status: Status::Sound,
+    },
+];
+
+// The row `mate_in_one`, also for other tests.
+pub(crate) const MATE_IN_ONE_INPUT: &[u8] =
+    b"BeginProblem\nPieces White Kg6 Ra1 Black Kg8\nStipulation #1\nEndProblem\n";
+
+pub(crate) const MATE_IN_ONE_REPORT: &[u8] =
+    b"problem 1\n8 ......k.\n7 ........\n6 ......K.\n5 ........\n4 ........\n3 ........\n2 ........\n1 R.......\n  abcdefgh\n#1\nplay\n1.Ra1-a8#\nsolutions: 1\n\n";
+
+// Orthodox men in one move: castling, en passant, promotion.
+const ORTHODOX: [Row; 10] = [
+    Row {
+        name: "mate_in_one",
+        input: MATE_IN_ONE_INPUT,
+        check: false,
+        no_board: false,
+        report: MATE_IN_ONE_REPORT,
+        status: Status::Sound,
+    },
+    Row {
+        name: "two_keys",
+        input: b"BeginProblem\nPieces White Kg6 Ra1b1 Black Kg8\nStipulation #1\nEndProblem\n",
+        check: false,
+        no_board: false,
+        report: b"problem 1\n8 ......k.\n7 ........\n6 ......K.\n5 ........\n4 ........\n3 ........\n2 ........\n1 RR......\n  abcdefgh\n#1\nplay\n1.Ra1-a8#\n1.Rb1-b8#\nsolutions: 2\n\n",
+        status: Status::Sound,
+    },
+    Row {
+        name: "knight_mates",
+        input: b"BeginProblem\nPieces White Kh6 Se5 Black Kh8 Rg8\nStipulation #1\nEndProblem\n",
+        check: false,
+        no_board: false,
+        report: b"problem 1\n8 ......rk\n7 ........\n6 .......K\n5 ....S...\n4 ........\n3 ........\n2 ........\n1 ........\n  abcdefgh\n#1\nplay\n1.Se5-f7#\nsolutions: 1\n\n",
+        status: Status::Sound,
+    },
+    Row {
+        name: "castling_mates",
+        input: b"BeginProblem\nPieces White Ke1 Rh1 Re8 Rg8 Black Kf3\nStipulation #1\nEndProblem\n",
+        check: false,
+        no_board: false,
+        report: b"problem 1\n8 ....R.R.\n7 ........\n6 ........\n5 ........\n4 ........\n3 .....k..\n2 ........\n1 ....K..R\n  abcdefgh\n#1\nplay\n1.0-0#\n1.Rh1-f1#\nsolutions: 2\n\n",
+        status: Status::Sound,
+    },
+    Row {
+        name: "castling_forbidden",
+        input: b"BeginProblem\nPieces White Ke1 Rh1 Re8 Rg8 Black Kf3\nStipulation #1\nOption NoCastling h1\nEndProblem\n",
+        check: false,
+        no_board: false,
+        report: b"problem 1\n8 ....R.R.\n7 ........\n6 ........\n5 ........\n4 ........\n3 .....k..\n2 ........\n1 ....K..R\n  abcdefgh\n#1\nplay\n1.Rh1-f1#\nsolutions: 1\n\n",
+        status: Status::Sound,
+    },
+    Row {
+        name: "en_passant_mates",
+        input: b"BeginProblem\nPieces White Kg6 Ba1 Bb3 Pe5 Black Kh8 Pd5\nStipulation #1\nOption EnPassant d6\nEndProblem\n",
+        check: false,
+        no_board: false,
+        report: b"problem 1\n8 .......k\n7 ........\n6 ......K.\n5 ...pP...\n4 ........\n3 .B......\n2 ........\n1 B.......\n  abcdefgh\n#1\nplay\n1.e5*d6 ep.#\nsolutions: 1\n\n",
+        status: Status::Sound,
+    },
+    Row {
+        name: "en_passant_not_given",
+        input: b"BeginProblem\nPieces White Kg6 Ba1 Bb3 Pe5 Black Kh8 Pd5\nStipulation #1\nEndProblem\n",
+        check: false,
+        no_board: false,
+        report: b"problem 1\n8 .......k\n7 ........\n6 ......K.\n5 ...pP...\n4 ........\n3 .B......\n2 ........\n1 B.......\n  abcdefgh\n#1\nplay\nsolutions: 0\n\n",
+        status: Status::Sound,
+    },
+    Row {
+        name: "two_promotions",
+        input: b"BeginProblem\nPieces White Kg6 Pf7 Black Kh8\nStipulation #1\nEndProblem\n",
+        check: false,
+        no_board: false,
+        report: b"problem 1\n8 .......k\n7 .....P..\n6 ......K.\n5 ........\n4 ........\n3 ........\n2 ........\n1 ........\n  abcdefgh\n#1\nplay\n1.f7-f8=Q#\n1.f7-f8=R#\nsolutions: 2\n\n",
+        status: Status::Sound,
+    },
+    Row {
+        name: "the_same_without_madrasi",
+        input: b"BeginProblem\nPieces White Kg6 Ra1 Black Kg8 Rh1\nStipulation #1\nEndProblem\n",
+        check: false,
+        no_board: false,
+        report: b"problem 1\n8 ......k.\n7 ........\n6 ......K.\n5 ........\n4 ........\n3 ........\n2 ........\n1 R......r\n  abcdefgh\n#1\nplay\n1.Ra1-a8#\nsolutions: 1\n\n",
+        status: Status::Sound,
+    },
+    Row {
+        name: "no_nightrider_to_promote_to",
+        input: b"BeginProblem\nPieces White Kf2 Pe7 Black Kh2 Bh1 Ph3\nStipulation #1\nEndProblem\n",
+        check: false,
+        no_board: false,
+        report: b"problem 1\n8 ........\n7 ....P...\n6 ........\n5 ........\n4 ........\n3 .......p\n2 .....K.k\n1 .......b\n  abcdefgh\n#1\nplay\nsolutions: 0\n\n",
+        status: Status::Sound,
+    },
 ];
 
 // Faults of values and of whole problems.
 const PROBLEM_FAULTS: [Row; 10] = [
-    (
-        "limit_0",
-        b"BeginProblem\nPieces White Kg6 Ra1 Black Kg8\nStipulation #1\nOption MaxSolutions 0\nEndProblem\n",
-        b"problem 1\nline 4: fault 13: number expected or out of range\n\n",
-    ),
-    (
-        "limit_too_large",
-        b"BeginProblem\nPieces White Kg6 Ra1 Black Kg8\nStipulation #1\nOption MaxSolutions 4000000001\nEndProblem\n",
-        b"problem 1\nline 4: fault 13: number expected or out of range\n\n",
-    ),
-    (
-        "square_missing",
-        b"BeginProblem\nPieces White Kg6 Ra1 Black Kg8\nStipulation #1\nOption EnPassant\nEndProblem\n",
-        b"problem 1\nline 5: fault 14: square expected\n\n",
-    ),
-    (
-        "no_castling_square",
-        b"BeginProblem\nPieces White Kg6 Ra1 Black Kg8\nStipulation #1\nOption NoCastling a2\nEndProblem\n",
-        b"problem 1\nline 4: fault 16: NoCastling square is none of the six\n\n",
-    ),
-    (
-        "no_stipulation",
-        b"BeginProblem\nEndProblem\n",
-        b"problem 1\nline 2: fault 10: stipulation missing\n\n",
-    ),
-    (
-        "no_men",
-        b"BeginProblem\nStipulation #1\nEndProblem\n",
-        b"problem 1\nline 3: fault 11: no men\n\n",
-    ),
-    (
-        "no_king_to_mate",
-        b"BeginProblem\nPieces White Kg6 Ra1\nStipulation #1\nEndProblem\n",
-        b"problem 1\nline 4: fault 17: side to be mated has no king\n\n",
-    ),
-    (
-        "selfmate_without_white_king",
-        b"BeginProblem\nPieces White Re8 Black Kh8\nStipulation s#1\nEndProblem\n",
-        b"problem 1\nline 4: fault 17: side to be mated has no king\n\n",
-    ),
-    (
-        "side_not_to_move_in_check",
-        b"BeginProblem\nPieces White Kg6 Rh1 Black Kh8\nStipulation #1\nEndProblem\n",
-        b"problem 1\nline 4: fault 18: side not to move is in check\n\n",
-    ),
-    (
-        "check_without_madrasi",
-        b"BeginProblem\nPieces White Kg6 Rh1 Black Kh8 Ra1\nStipulation #1\nEndProblem\n",
-        b"problem 1\nline 4: fault 18: side not to move is in check\n\n",
-    ),
+    Row {
+        name: "limit_0",
+        input: b"BeginProblem\nPieces White Kg6 Ra1 Black Kg8\nStipulation #1\nOption MaxSolutions 0\nEndProblem\n",
+        check: false,
+        no_board: false,
+        report: b"problem 1\nline 4: fault 13: number expected or out of range\n\n",
+        status: Status::Faulty,
+    },
+    Row {
+        name: "limit_too_large",
+        input: b"BeginProblem\nPieces White Kg6 Ra1 Black Kg8\nStipulation #1\nOption MaxSolutions 4000000001\nEndProblem\n",
+        check: false,
+        no_board: false,
+        report: b"problem 1\nline 4: fault 13: number expected or out of range\n\n",
+        status: Status::Faulty,
+    },
+    Row {
+        name: "square_missing",
+        input: b"BeginProblem\nPieces White Kg6 Ra1 Black Kg8\nStipulation #1\nOption EnPassant\nEndProblem\n",
+        check: false,
+        no_board: false,
+        report: b"problem 1\nline 5: fault 14: square expected\n\n",
+        status: Status::Faulty,
+    },
+    Row {
+        name: "no_castling_square",
+        input: b"BeginProblem\nPieces White Kg6 Ra1 Black Kg8\nStipulation #1\nOption NoCastling a2\nEndProblem\n",
+        check: false,
+        no_board: false,
+        report: b"problem 1\nline 4: fault 16: NoCastling square is none of the six\n\n",
+        status: Status::Faulty,
+    },
+    Row {
+        name: "no_stipulation",
+        input: b"BeginProblem\nEndProblem\n",
+        check: false,
+        no_board: false,
+        report: b"problem 1\nline 2: fault 10: stipulation missing\n\n",
+        status: Status::Faulty,
+    },
+    Row {
+        name: "no_men",
+        input: b"BeginProblem\nStipulation #1\nEndProblem\n",
+        check: false,
+        no_board: false,
+        report: b"problem 1\nline 3: fault 11: no men\n\n",
+        status: Status::Faulty,
+    },
+    Row {
+        name: "no_king_to_mate",
+        input: b"BeginProblem\nPieces White Kg6 Ra1\nStipulation #1\nEndProblem\n",
+        check: false,
+        no_board: false,
+        report: b"problem 1\nline 4: fault 17: side to be mated has no king\n\n",
+        status: Status::Faulty,
+    },
+    Row {
+        name: "selfmate_without_white_king",
+        input: b"BeginProblem\nPieces White Re8 Black Kh8\nStipulation s#1\nEndProblem\n",
+        check: false,
+        no_board: false,
+        report: b"problem 1\nline 4: fault 17: side to be mated has no king\n\n",
+        status: Status::Faulty,
+    },
+    Row {
+        name: "side_not_to_move_in_check",
+        input: b"BeginProblem\nPieces White Kg6 Rh1 Black Kh8\nStipulation #1\nEndProblem\n",
+        check: false,
+        no_board: false,
+        report: b"problem 1\nline 4: fault 18: side not to move is in check\n\n",
+        status: Status::Faulty,
+    },
+    Row {
+        name: "check_without_madrasi",
+        input: b"BeginProblem\nPieces White Kg6 Rh1 Black Kh8 Ra1\nStipulation #1\nEndProblem\n",
+        check: false,
+        no_board: false,
+        report: b"problem 1\nline 4: fault 18: side not to move is in check\n\n",
+        status: Status::Faulty,
+    },
 ];
 
-// Several problems, and words at the limit.
+// The row `three_problems`, also for other tests.
+pub(crate) const THREE_PROBLEMS_INPUT: &[u8] =
+    b"BeginProblem\nPieces White Kg6 Rg6 Black Kg8\nRemark not yet NextProblem here\nStipulation #1\nNextProblem\nPieces White Kg6 Ra1 Black Kg8\nStipulation #1\nNextProblem\nPieces White K\n";
+
+pub(crate) const THREE_PROBLEMS_REPORT: &[u8] =
+    b"problem 1\nline 2: fault 5: square given twice\n\nproblem 2\n8 ......k.\n7 ........\n6 ......K.\n5 ........\n4 ........\n3 ........\n2 ........\n1 R.......\n  abcdefgh\n#1\nplay\n1.Ra1-a8#\nsolutions: 1\n\nproblem 3\nline 9: fault 14: square expected\n\n";
+
+// Several problems, and words as long as they may be.
 const SEVERAL: [Row; 6] = [
-    (
-        "en_passant_impossible_then_sound",
-        b"BeginProblem\nPieces White Kg6 Ba1 Bb3 Pe5 Black Kh8\nStipulation #1\nOption EnPassant d6\nNextProblem\nPieces White Kg6 Ra1 Black Kg8\nStipulation #1\nEndProblem\n",
-        b"problem 1\nline 5: fault 15: en passant not possible there\n\nproblem 2\n8 ......k.\n7 ........\n6 ......K.\n5 ........\n4 ........\n3 ........\n2 ........\n1 R.......\n  abcdefgh\n#1\nplay\n1.Ra1-a8#\nsolutions: 1\n\n",
-    ),
-    (
-        "three_problems",
-        b"BeginProblem\nPieces White Kg6 Rg6 Black Kg8\nRemark not yet NextProblem here\nStipulation #1\nNextProblem\nPieces White Kg6 Ra1 Black Kg8\nStipulation #1\nNextProblem\nPieces White K\n",
-        b"problem 1\nline 2: fault 5: square given twice\n\nproblem 2\n8 ......k.\n7 ........\n6 ......K.\n5 ........\n4 ........\n3 ........\n2 ........\n1 R.......\n  abcdefgh\n#1\nplay\n1.Ra1-a8#\nsolutions: 1\n\nproblem 3\nline 9: fault 14: square expected\n\n",
-    ),
-    (
-        "three_problems_without_last_line_end",
-        b"BeginProblem\nPieces White Kg6 Rg6 Black Kg8\nRemark not yet NextProblem here\nStipulation #1\nNextProblem\nPieces White Kg6 Ra1 Black Kg8\nStipulation #1\nNextProblem\nPieces White K",
-        b"problem 1\nline 2: fault 5: square given twice\n\nproblem 2\n8 ......k.\n7 ........\n6 ......K.\n5 ........\n4 ........\n3 ........\n2 ........\n1 R.......\n  abcdefgh\n#1\nplay\n1.Ra1-a8#\nsolutions: 1\n\nproblem 3\nline 9: fault 14: square expected\n\n",
-    ),
-    (
-        "long_word_is_skipped",
-        b"BeginProblem\nPieces White Pa8\nxxxxxxxxxxxxxxxxxxxxxxxxxxxxxxxxxxxxxxxxxxxxxxxxxxxxxxxxxxxxxxxxxxxxxxxxxxxxxxxxxxxxxxxxxxxxxxxxxxxxxxxxxxxxxxxxxxxxxxxxxxxxxxxxxxxxxxxxxxxxxxxxxxxxxxxxxxxxxxxxx\nNextProblem\nPieces White Kg6 Ra1 Black Kg8\nStipulation #1\nEndProblem\n",
-        b"problem 1\nline 2: fault 6: pawn on rank 1 or 8\n\nproblem 2\n8 ......k.\n7 ........\n6 ......K.\n5 ........\n4 ........\n3 ........\n2 ........\n1 R.......\n  abcdefgh\n#1\nplay\n1.Ra1-a8#\nsolutions: 1\n\n",
-    ),
-    (
-        "word_of_160_bytes",
-        b"BeginProblem\nxxxxxxxxxxxxxxxxxxxxxxxxxxxxxxxxxxxxxxxxxxxxxxxxxxxxxxxxxxxxxxxxxxxxxxxxxxxxxxxxxxxxxxxxxxxxxxxxxxxxxxxxxxxxxxxxxxxxxxxxxxxxxxxxxxxxxxxxxxxxxxxxxxxxxxxxxxxxxxxx\nEndProblem\n",
-        b"problem 1\nline 2: fault 2: unknown or misplaced word\n\n",
-    ),
-    (
-        "word_of_161_bytes",
-        b"BeginProblem\nxxxxxxxxxxxxxxxxxxxxxxxxxxxxxxxxxxxxxxxxxxxxxxxxxxxxxxxxxxxxxxxxxxxxxxxxxxxxxxxxxxxxxxxxxxxxxxxxxxxxxxxxxxxxxxxxxxxxxxxxxxxxxxxxxxxxxxxxxxxxxxxxxxxxxxxxxxxxxxxxx\nEndProblem\n",
-        b"problem 1\nline 2: fault 3: word too long\n\n",
-    ),
+    Row {
+        name: "en_passant_impossible_then_sound",
+        input: b"BeginProblem\nPieces White Kg6 Ba1 Bb3 Pe5 Black Kh8\nStipulation #1\nOption EnPassant d6\nNextProblem\nPieces White Kg6 Ra1 Black Kg8\nStipulation #1\nEndProblem\n",
+        check: false,
+        no_board: false,
+        report: b"problem 1\nline 5: fault 15: en passant not possible there\n\nproblem 2\n8 ......k.\n7 ........\n6 ......K.\n5 ........\n4 ........\n3 ........\n2 ........\n1 R.......\n  abcdefgh\n#1\nplay\n1.Ra1-a8#\nsolutions: 1\n\n",
+        status: Status::Faulty,
+    },
+    Row {
+        name: "three_problems",
+        input: THREE_PROBLEMS_INPUT,
+        check: false,
+        no_board: false,
+        report: THREE_PROBLEMS_REPORT,
+        status: Status::Faulty,
+    },
+    Row {
+        name: "three_problems_without_last_line_end",
+        input: b"BeginProblem\nPieces White Kg6 Rg6 Black Kg8\nRemark not yet NextProblem here\nStipulation #1\nNextProblem\nPieces White Kg6 Ra1 Black Kg8\nStipulation #1\nNextProblem\nPieces White K",
+        check: false,
+        no_board: false,
+        report: b"problem 1\nline 2: fault 5: square given twice\n\nproblem 2\n8 ......k.\n7 ........\n6 ......K.\n5 ........\n4 ........\n3 ........\n2 ........\n1 R.......\n  abcdefgh\n#1\nplay\n1.Ra1-a8#\nsolutions: 1\n\nproblem 3\nline 9: fault 14: square expected\n\n",
+        status: Status::Faulty,
+    },
+    Row {
+        name: "long_word_is_skipped",
+        input: b"BeginProblem\nPieces White Pa8\nxxxxxxxxxxxxxxxxxxxxxxxxxxxxxxxxxxxxxxxxxxxxxxxxxxxxxxxxxxxxxxxxxxxxxxxxxxxxxxxxxxxxxxxxxxxxxxxxxxxxxxxxxxxxxxxxxxxxxxxxxxxxxxxxxxxxxxxxxxxxxxxxxxxxxxxxxxxxxxxxx\nNextProblem\nPieces White Kg6 Ra1 Black Kg8\nStipulation #1\nEndProblem\n",
+        check: false,
+        no_board: false,
+        report: b"problem 1\nline 2: fault 6: pawn on rank 1 or 8\n\nproblem 2\n8 ......k.\n7 ........\n6 ......K.\n5 ........\n4 ........\n3 ........\n2 ........\n1 R.......\n  abcdefgh\n#1\nplay\n1.Ra1-a8#\nsolutions: 1\n\n",
+        status: Status::Faulty,
+    },
+    Row {
+        name: "word_of_160_bytes",
+        input: b"BeginProblem\nxxxxxxxxxxxxxxxxxxxxxxxxxxxxxxxxxxxxxxxxxxxxxxxxxxxxxxxxxxxxxxxxxxxxxxxxxxxxxxxxxxxxxxxxxxxxxxxxxxxxxxxxxxxxxxxxxxxxxxxxxxxxxxxxxxxxxxxxxxxxxxxxxxxxxxxxxxxxxxxx\nEndProblem\n",
+        check: false,
+        no_board: false,
+        report: b"problem 1\nline 2: fault 2: unknown or misplaced word\n\n",
+        status: Status::Faulty,
+    },
+    Row {
+        name: "word_of_161_bytes",
+        input: b"BeginProblem\nxxxxxxxxxxxxxxxxxxxxxxxxxxxxxxxxxxxxxxxxxxxxxxxxxxxxxxxxxxxxxxxxxxxxxxxxxxxxxxxxxxxxxxxxxxxxxxxxxxxxxxxxxxxxxxxxxxxxxxxxxxxxxxxxxxxxxxxxxxxxxxxxxxxxxxxxxxxxxxxxx\nEndProblem\n",
+        check: false,
+        no_board: false,
+        report: b"problem 1\nline 2: fault 3: word too long\n\n",
+        status: Status::Faulty,
+    },
 ];
 
-// Inputs that are cut.
-const CUT: [Row; 12] = [
-    (
-        "empty_input",
-        b"",
-        b"problem 1\nline 1: fault 1: BeginProblem expected\n\n",
-    ),
-    (
-        "cut_without_line_end",
-        b"BeginProblem\nPieces White Kg6",
-        b"problem 1\nline 2: fault 19: input ended before EndProblem\n\n",
-    ),
-    (
-        "a_zero_byte",
-        b"\x00",
-        b"problem 1\nline 1: fault 1: BeginProblem expected\n\n",
-    ),
-    (
-        "byte_order_mark",
-        b"\xef\xbb\xbfBeginProblem\nEndProblem\n",
-        b"problem 1\nline 1: fault 1: BeginProblem expected\n\n",
-    ),
-    (
-        "first_2_bytes",
-        b"Be",
-        b"problem 1\nline 1: fault 1: BeginProblem expected\n\n",
-    ),
-    (
-        "first_3_bytes",
-        b"Beg",
-        b"problem 1\nline 1: fault 19: input ended before EndProblem\n\n",
-    ),
-    (
-        "first_12_bytes",
-        b"BeginProblem",
-        b"problem 1\nline 1: fault 19: input ended before EndProblem\n\n",
-    ),
-    (
-        "first_13_bytes",
-        b"BeginProblem\n",
-        b"problem 1\nline 2: fault 19: input ended before EndProblem\n\n",
-    ),
-    (
-        "first_30_bytes",
-        b"BeginProblem\nPieces White Kg6 ",
-        b"problem 1\nline 2: fault 19: input ended before EndProblem\n\n",
-    ),
-    (
-        "first_31_bytes",
-        b"BeginProblem\nPieces White Kg6 R",
-        b"problem 1\nline 2: fault 14: square expected\n\n",
-    ),
-    (
-        "first_32_bytes",
-        b"BeginProblem\nPieces White Kg6 Rg",
-        b"problem 1\nline 2: fault 14: square expected\n\n",
-    ),
-    (
-        "first_33_bytes",
-        b"BeginProblem\nPieces White Kg6 Rg6",
-        b"problem 1\nline 2: fault 5: square given twice\n\n",
-    ),
+// Stalemate as a goal, in positions small enough to be worked out by hand. Either king may be missing.
+const STALEMATE: [Row; 23] = [
+    Row {
+        name: "stalemate_in_one",
+        input: b"BeginProblem\nPieces White Kc7 Rb2 Black Ka8\nStipulation =1\nEndProblem\n",
+        check: false,
+        no_board: false,
+        report: b"problem 1\n8 k.......\n7 ..K.....\n6 ........\n5 ........\n4 ........\n3 ........\n2 .R......\n1 ........\n  abcdefgh\n=1\nplay\n1.Rb2-b7=\nsolutions: 1\n\n",
+        status: Status::Sound,
+    },
+    Row {
+        name: "help_stalemate",
+        input: b"BeginProblem\nPieces White Ke6 Pf7 Black Kg7\nStipulation h=1\nEndProblem\n",
+        check: false,
+        no_board: false,
+        report: b"problem 1\n8 ........\n7 .....Pk.\n6 ....K...\n5 ........\n4 ........\n3 ........\n2 ........\n1 ........\n  abcdefgh\nh=1\nplay\n1.Kg7-f8 Ke6-f6=\nsolutions: 1\n\n",
+        status: Status::Sound,
+    },
+    Row {
+        name: "selfstalemate_with_variation",
+        input: b"BeginProblem\nPieces White Ka1 Re8 Ph6 Black Kh8 Bg8 Ph7 Pa2a3b3\nStipulation s=1\nOption Variation\nEndProblem\n",
+        check: false,
+        no_board: false,
+        report: b"problem 1\n8 ....R.bk\n7 .......p\n6 .......P\n5 ........\n4 ........\n3 pp......\n2 p.......\n1 K.......\n  abcdefgh\ns=1\nplay\n1.Re8*g8+\n  1...Kh8*g8=\nsolutions: 1\n\n",
+        status: Status::Sound,
+    },
+    Row {
+        name: "stalemate_without_kings",
+        input: b"BeginProblem\nPieces White Kg6 Ra1\nStipulation =1\nOption MaxSolutions 1\nEndProblem\n",
+        check: false,
+        no_board: false,
+        report: b"problem 1\n8 ........\n7 ........\n6 ......K.\n5 ........\n4 ........\n3 ........\n2 ........\n1 R.......\n  abcdefgh\n=1\nplay\n1.Ra1-b1=\nsolutions: 1, stopped\n\n",
+        status: Status::Sound,
+    },
+    Row {
+        name: "pawn_stopped_or_captured",
+        input: b"BeginProblem\nPieces White Ra5 Black Pa7\nStipulation =1\nEndProblem\n",
+        check: false,
+        no_board: false,
+        report: b"problem 1\n8 ........\n7 p.......\n6 ........\n5 R.......\n4 ........\n3 ........\n2 ........\n1 ........\n  abcdefgh\n=1\nplay\n1.Ra5-a6=\n1.Ra5*a7=\nsolutions: 2\n\n",
+        status: Status::Sound,
+    },
+    Row {
+        name: "mate_is_no_stalemate",
+        input: b"BeginProblem\nPieces White Kc7 Rb2 Black Ka8\nStipulation #1\nEndProblem\n",
+        check: false,
+        no_board: false,
+        report: b"problem 1\n8 k.......\n7 ..K.....\n6 ........\n5 ........\n4 ........\n3 ........\n2 .R......\n1 ........\n  abcdefgh\n#1\nplay\n1.Rb2-a2#\nsolutions: 1\n\n",
+        status: Status::Sound,
+    },
+    Row {
+        name: "stalemate_in_two_moves_at_most",
+        input: b"BeginProblem\nPieces White Kc7 Rb2 Black Ka8\nStipulation =2\nOption Variation\nEndProblem\n",
+        check: false,
+        no_board: false,
+        report: b"problem 1\n8 k.......\n7 ..K.....\n6 ........\n5 ........\n4 ........\n3 ........\n2 .R......\n1 ........\n  abcdefgh\n=2\nplay\n1.Rb2-b7=\nsolutions: 1\n\n",
+        status: Status::Sound,
+    },
+    Row {
+        name: "no_stalemate_in_one",
+        input: b"BeginProblem\nPieces White Kg6 Ra1 Black Kg8\nStipulation =1\nEndProblem\n",
+        check: false,
+        no_board: false,
+        report: b"problem 1\n8 ......k.\n7 ........\n6 ......K.\n5 ........\n4 ........\n3 ........\n2 ........\n1 R.......\n  abcdefgh\n=1\nplay\nsolutions: 0\n\n",
+        status: Status::Sound,
+    },
+    Row {
+        name: "pawns_meet_with_set_play",
+        input: b"BeginProblem\nPieces White Pa2 Black Pa6\nStipulation =2\nOption SetPlay Variation\nEndProblem\n",
+        check: false,
+        no_board: false,
+        report: b"problem 1\n8 ........\n7 ........\n6 p.......\n5 ........\n4 ........\n3 ........\n2 P.......\n1 ........\n  abcdefgh\n=2\nset\n1...a6-a5\n  2.a2-a4=\nsolutions: 1\nplay\n1.a2-a3\n  1...a6-a5\n    2.a3-a4=\nsolutions: 1\n\n",
+        status: Status::Sound,
+    },
+    Row {
+        name: "pawns_meet_in_sixteen_moves",
+        input: b"BeginProblem\nPieces White Pa2 Black Pa6\nStipulation =16\nEndProblem\n",
+        check: false,
+        no_board: false,
+        report: b"problem 1\n8 ........\n7 ........\n6 p.......\n5 ........\n4 ........\n3 ........\n2 P.......\n1 ........\n  abcdefgh\n=16\nplay\n1.a2-a3\nsolutions: 1\n\n",
+        status: Status::Sound,
+    },
+    Row {
+        name: "selfstalemate_by_a_pawn",
+        input: b"BeginProblem\nPieces White Pa5 Black Kh8 Pa7\nStipulation s=1\nOption Variation\nEndProblem\n",
+        check: false,
+        no_board: false,
+        report: b"problem 1\n8 .......k\n7 p.......\n6 ........\n5 P.......\n4 ........\n3 ........\n2 ........\n1 ........\n  abcdefgh\ns=1\nplay\n1.a5-a6\n  1...Kh8-g7=\n  1...Kh8-h7=\n  1...Kh8-g8=\nsolutions: 1\n\n",
+        status: Status::Sound,
+    },
+    Row {
+        name: "no_reply_to_selfstalemate",
+        input: b"BeginProblem\nPieces White Pa5 Black Pa7\nStipulation s=1\nEndProblem\n",
+        check: false,
+        no_board: false,
+        report: b"problem 1\n8 ........\n7 p.......\n6 ........\n5 P.......\n4 ........\n3 ........\n2 ........\n1 ........\n  abcdefgh\ns=1\nplay\nsolutions: 0\n\n",
+        status: Status::Sound,
+    },
+    Row {
+        name: "help_stalemate_with_set_play",
+        input: b"BeginProblem\nPieces White Pb2 Black Pb6\nStipulation h=1.5\nOption SetPlay\nEndProblem\n",
+        check: false,
+        no_board: false,
+        report: b"problem 1\n8 ........\n7 ........\n6 .p......\n5 ........\n4 ........\n3 ........\n2 .P......\n1 ........\n  abcdefgh\nh=1.5\nset\n2.b6-b5 b2-b4=\nsolutions: 1\nplay\n1...b2-b3 2.b6-b5 b3-b4=\nsolutions: 1\n\n",
+        status: Status::Sound,
+    },
+    Row {
+        name: "no_help_stalemate_in_sixteen_moves",
+        input: b"BeginProblem\nPieces White Pb2 Black Pb6\nStipulation h=16\nEndProblem\n",
+        check: false,
+        no_board: false,
+        report: b"problem 1\n8 ........\n7 ........\n6 .p......\n5 ........\n4 ........\n3 ........\n2 .P......\n1 ........\n  abcdefgh\nh=16\nplay\nsolutions: 0\n\n",
+        status: Status::Sound,
+    },
+    Row {
+        name: "stalemate_by_paralysis",
+        input: b"BeginProblem\nPieces White Kf7 Ra1 Pg6 Black Kh8 Rb8\nStipulation =1\nCondition Madrasi\nEndProblem\n",
+        check: false,
+        no_board: false,
+        report: b"problem 1\n8 .r.....k\n7 .....K..\n6 ......P.\n5 ........\n4 ........\n3 ........\n2 ........\n1 R.......\n  abcdefgh\n=1 Madrasi\nplay\n1.Ra1-b1=\n1.Ra1-a8=\nsolutions: 2\n\n",
+        status: Status::Sound,
+    },
+    Row {
+        name: "no_stalemate_without_madrasi",
+        input: b"BeginProblem\nPieces White Kf7 Ra1 Pg6 Black Kh8 Rb8\nStipulation =1\nEndProblem\n",
+        check: false,
+        no_board: false,
+        report: b"problem 1\n8 .r.....k\n7 .....K..\n6 ......P.\n5 ........\n4 ........\n3 ........\n2 ........\n1 R.......\n  abcdefgh\n=1\nplay\nsolutions: 0\n\n",
+        status: Status::Sound,
+    },
+    Row {
+        name: "stalemate_by_a_capture",
+        input: b"BeginProblem\nPieces White Kc7 Rb2 Black Ka8 Sb7\nStipulation =1\nEndProblem\n",
+        check: false,
+        no_board: false,
+        report: b"problem 1\n8 k.......\n7 .sK.....\n6 ........\n5 ........\n4 ........\n3 ........\n2 .R......\n1 ........\n  abcdefgh\n=1\nplay\n1.Rb2*b7=\nsolutions: 1\n\n",
+        status: Status::Sound,
+    },
+    Row {
+        name: "no_stalemate_with_rebirth",
+        input: b"BeginProblem\nPieces White Kc7 Rb2 Black Ka8 Sb7\nStipulation =1\nCondition Circe\nEndProblem\n",
+        check: false,
+        no_board: false,
+        report: b"problem 1\n8 k.......\n7 .sK.....\n6 ........\n5 ........\n4 ........\n3 ........\n2 .R......\n1 ........\n  abcdefgh\n=1 Circe\nplay\nsolutions: 0\n\n",
+        status: Status::Sound,
+    },
+    Row {
+        name: "en_passant_is_a_move",
+        input: b"BeginProblem\nPieces White Pc2d2e3 Black Pe4\nStipulation =1\nEndProblem\n",
+        check: false,
+        no_board: false,
+        report: b"problem 1\n8 ........\n7 ........\n6 ........\n5 ........\n4 ....p...\n3 ....P...\n2 ..PP....\n1 ........\n  abcdefgh\n=1\nplay\n1.c2-c3=\n1.c2-c4=\nsolutions: 2\n\n",
+        status: Status::Sound,
+    },
+    Row {
+        name: "help_stalemate_with_promotion",
+        input: b"BeginProblem\nPieces White Kf5 Pf6 Black Kg8\nStipulation h=1.5\nEndProblem\n",
+        check: false,
+        no_board: false,
+        report: b"problem 1\n8 ......k.\n7 ........\n6 .....P..\n5 .....K..\n4 ........\n3 ........\n2 ........\n1 ........\n  abcdefgh\nh=1.5\nplay\n1...Kf5-g6 2.Kg8-h8 f6-f7=\n1...f6-f7+ 2.Kg8-h7 f7-f8=Q=\n1...f6-f7+ 2.Kg8-f8 Kf5-f6=\n1...f6-f7+ 2.Kg8-h8 Kf5-g6=\nsolutions: 4\n\n",
+        status: Status::Sound,
+    },
+    Row {
+        name: "castling_stalemates",
+        input: b"BeginProblem\nPieces White Ke1 Ra1 Pa2a3b3 Black Kc3\nStipulation =1\nEndProblem\n",
+        check: false,
+        no_board: false,
+        report: b"problem 1\n8 ........\n7 ........\n6 ........\n5 ........\n4 ........\n3 PPk.....\n2 P.......\n1 R...K...\n  abcdefgh\n=1\nplay\n1.0-0-0=\nsolutions: 1\n\n",
+        status: Status::Sound,
+    },
+    Row {
+        name: "paralysed_rook_cannot_castle",
+        input: b"BeginProblem\nPieces White Ke6 Ra1 Ba5 Sg6 Black Ke8 Rh8\nStipulation =1\nCondition Madrasi\nEndProblem\n",
+        check: false,
+        no_board: false,
+        report: b"problem 1\n8 ....k..r\n7 ........\n6 ....K.S.\n5 B.......\n4 ........\n3 ........\n2 ........\n1 R.......\n  abcdefgh\n=1 Madrasi\nplay\n1.Ra1-h1=\nsolutions: 1\n\n",
+        status: Status::Sound,
+    },
+    Row {
+        name: "rook_moves_without_madrasi",
+        input: b"BeginProblem\nPieces White Ke6 Ra1 Ba5 Sg6 Black Ke8 Rh8\nStipulation =1\nEndProblem\n",
+        check: false,
+        no_board: false,
+        report: b"problem 1\n8 ....k..r\n7 ........\n6 ....K.S.\n5 B.......\n4 ........\n3 ........\n2 ........\n1 R.......\n  abcdefgh\n=1\nplay\nsolutions: 0\n\n",
+        status: Status::Sound,
+    },
+];
+
+// Faults of words.
+const WORD_FAULTS: [Row; 11] = [
+    Row {
+        name: "man_before_its_colour",
+        input: b"BeginProblem\nPieces Kg6\n",
+        check: false,
+        no_board: false,
+        report: b"problem 1\nline 2: fault 4: colour expected before men\n\n",
+        status: Status::Faulty,
+    },
+    Row {
+        name: "unknown_word_among_men",
+        input: b"BeginProblem\nPieces White Protocol\n",
+        check: false,
+        no_board: false,
+        report: b"problem 1\nline 2: fault 2: unknown or misplaced word\n\n",
+        status: Status::Faulty,
+    },
+    Row {
+        name: "half_a_square",
+        input: b"BeginProblem\nPieces White Kg6h\n",
+        check: false,
+        no_board: false,
+        report: b"problem 1\nline 2: fault 14: square expected\n\n",
+        status: Status::Faulty,
+    },
+    Row {
+        name: "pawn_on_rank_8",
+        input: b"BeginProblem\nPieces White Pa8\n",
+        check: false,
+        no_board: false,
+        report: b"problem 1\nline 2: fault 6: pawn on rank 1 or 8\n\n",
+        status: Status::Faulty,
+    },
+    Row {
+        name: "second_king",
+        input: b"BeginProblem\nPieces White Kg6h1\n",
+        check: false,
+        no_board: false,
+        report: b"problem 1\nline 2: fault 7: second king of a colour\n\n",
+        status: Status::Faulty,
+    },
+    Row {
+        name: "second_stipulation",
+        input: b"BeginProblem\nPieces White Kg6 Ra1 Black Kg8\nStipulation #1 #1\nEndProblem\n",
+        check: false,
+        no_board: false,
+        report: b"problem 1\nline 3: fault 9: second stipulation\n\n",
+        status: Status::Faulty,
+    },
+    Row {
+        name: "word_behind_the_stipulation",
+        input: b"BeginProblem\nPieces White Kg6 Ra1 Black Kg8\nStipulation #1 foo\nEndProblem\n",
+        check: false,
+        no_board: false,
+        report: b"problem 1\nline 3: fault 2: unknown or misplaced word\n\n",
+        status: Status::Faulty,
+    },
+    Row {
+        name: "no_move",
+        input: b"BeginProblem\nPieces White Kg6 Ra1 Black Kg8\nStipulation #0\nEndProblem\n",
+        check: false,
+        no_board: false,
+        report: b"problem 1\nline 3: fault 8: bad stipulation\n\n",
+        status: Status::Faulty,
+    },
+    Row {
+        name: "second_condition",
+        input: b"BeginProblem\nPieces White Kg6 Ra1 Black Kg8\nStipulation #1\nCondition Circe Circe\nEndProblem\n",
+        check: false,
+        no_board: false,
+        report: b"problem 1\nline 4: fault 12: second condition\n\n",
+        status: Status::Faulty,
+    },
+    Row {
+        name: "second_stipulation_with_the_other_goal",
+        input: b"BeginProblem\nPieces White Kg6 Ra1 Black Kg8\nStipulation #1 =1\nEndProblem\n",
+        check: false,
+        no_board: false,
+        report: b"problem 1\nline 3: fault 9: second stipulation\n\n",
+        status: Status::Faulty,
+    },
+    Row {
+        name: "stalemate_in_no_move",
+        input: b"BeginProblem\nPieces White Kg6 Ra1 Black Kg8\nStipulation =0\nEndProblem\n",
+        check: false,
+        no_board: false,
+        report: b"problem 1\nline 3: fault 8: bad stipulation\n\n",
+        status: Status::Faulty,
+    },
 ];
 
 #[test]
-fn sound_rows(rt: HostRuntime) {
-    for rows in &[&ORTHODOX[..], &FAIRY, &OPTIONS, &LONGER] {
-        for (name, input, report) in *rows {
-            assert!(rt; gives(false, input, report, Status::Sound), "{name}");
+fn rows(rt: HostRuntime) {
+    for table in &[
+        &CUT[..],
+        &FAIRY,
+        &LONGER,
+        &LONGEST,
+        &OPTIONS,
+        &ORTHODOX,
+        &PROBLEM_FAULTS,
+        &SEVERAL,
+        &STALEMATE,
+        &WORD_FAULTS,
+    ] {
+        for row in *table {
+            assert!(rt; gives(row), "{}", row.name);
         }
     }
-}
-
-#[test]
-fn faulty_rows(rt: HostRuntime) {
-    for rows in &[&WORD_FAULTS[..], &PROBLEM_FAULTS, &SEVERAL, &CUT] {
-        for (name, input, report) in *rows {
-            assert!(rt; gives(false, input, report, Status::Faulty), "{name}");
-        }
-    }
-}
-
-#[test]
-fn a_sink_that_fails_after_seven_bytes(rt: HostRuntime) {
-    let mut source = TrialSource::new(
-        b"BeginProblem\nPieces White Kg6 Ra1 Black Kg8\nStipulation #1\nEndProblem\n",
-        4096,
-        None,
-    );
-    let mut sink = TrialSink::<8192>::new(4096, Some(7));
-    let answer = run(&settings(false), &mut source, &mut sink);
-    assert!(rt; answer == Status::OutputFailed);
-    assert!(rt; sink.text() == b"problem".as_slice());
-}
-
-#[test]
-fn check_alone(rt: HostRuntime) {
-    let mut source = TrialSource::new(
-        b"BeginProblem\nPieces White Kg6 Ra1 Black Kg8\nStipulation #1\nEndProblem\n",
-        4096,
-        None,
-    );
-    let mut sink = TrialSink::<8192>::new(4096, None);
-    let answer = run(&settings(true), &mut source, &mut sink);
-    assert!(rt; answer == Status::Sound);
-    assert!(rt;
-        sink.text()
-            == b"problem 1\n8 ......k.\n7 ........\n6 ......K.\n5 ........\n4 ........\n3 ........\n2 ........\n1 R.......\n  abcdefgh\n#1\nsound\n\n".as_slice()
-    );
 }
