@@ -4,7 +4,7 @@ import re
 from dataclasses import dataclass, replace
 from typing import Dict, Iterable, Iterator, List, Optional, Tuple
 
-from pops_review.given import GivenProblem, is_form_of
+from pops_texts.given import GivenProblem, is_form_of
 from pops_texts.report import Board, FaultyItem, HelpLine, Item, PhaseKind, SoundItem
 from pops_texts.stipulation import Condition, Play, Stipulation
 

@@ -253,7 +253,7 @@ class Command(unittest.TestCase):
         with tempfile.TemporaryDirectory() as room:
             outcome = support.companion("pops-diagram", "--latex", "-o", room, text=report)
             self.assertIn("title or author of problem 1 isn't utf-8", outcome.error)
-            self.assertIn("\\dedic{R?ti}", (Path(room) / "problem-1.tex").read_text())
+            self.assertIn("\\dedic{Réti}", (Path(room) / "problem-1.tex").read_text())
 
     def test_a_cut_report_leaves_what_was_whole(self) -> None:
         with tempfile.TemporaryDirectory() as room:

@@ -150,6 +150,9 @@ class RoundTrips(unittest.TestCase):
                 "line 8, problem 2: left out: Stipulatoin isn't known here",
                 "line 18, problem 4: left out: MaxSolutions needs a number from 1 to 4,000,000,000",
                 "line 27, problem 7: left out: there is no stipulation",
+                "line 30, problem 8: left out: it comes after EndProblem, where neither Popeye nor"
+                " pops reads on, and so do those after it: write NextProblem for EndProblem and the"
+                " BeginProblem after it",
             ],
         )
 

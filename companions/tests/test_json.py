@@ -121,11 +121,11 @@ class Reports(unittest.TestCase):
         report = b"problem 1\ntitle: R\xe9ti\n#1\nsound\n\n"
         outcome = support.companion("pops2json", text=report)
         self.assertEqual(outcome.status, 0)
-        self.assertEqual(json.loads(outcome.output)["title"], "R\ufffdti")
+        self.assertEqual(json.loads(outcome.output)["title"], "Réti")
         self.assertEqual(
             outcome.error,
-            "pops2json: standard input: title or author of problem 1 isn't utf-8;"
-            " --encoding names another, as latin-1\n",
+            "pops2json: standard input: title or author of problem 1 isn't utf-8 and is read as"
+            " latin-1; --encoding names another\n",
         )
         self.assertEqual(objects(report, "--encoding", "latin-1")[0]["title"], "Réti")
 
