@@ -109,7 +109,10 @@ def groups(
     for item in items:
         known = given[item.number - 1] if item.number <= len(given) else None
         one = _named(item, known, encoding)
-        if run and (apart or not one.continues(run[-1])):
+        if apart:
+            yield _group([one])
+            continue
+        if run and not one.continues(run[-1]):
             yield _group(run)
             run = []
         run.append(one)
