@@ -7,7 +7,7 @@ from pops_import.draft import Draft, Twin
 from pops_import.language import LANGUAGES, TEXT_COMMANDS, Command, Language, folded, meaning
 from pops_import.men import PlacedMan, read_forsyth, read_men
 from pops_import.options import read_options
-from pops_import.sections import take_conditions, take_stipulation
+from pops_import.sections import take_conditions, take_stipulation, take_wanted
 from pops_import.twins import read_twin
 from pops_import.words import Told, Unreadable, Word, Words
 from pops_texts.chess import Kind, Man
@@ -173,6 +173,9 @@ class _Reader:
             if setting.stipulation is not None:
                 raise Unreadable(words.line, "a second stipulation")
             setting.stipulation = take_stipulation(words)
+            wanted, text = take_wanted(words)
+            if wanted is not None:
+                draft.want(wanted, text)
         elif command is Command.CONDITION:
             setting.conditions = take_conditions(words, setting.conditions)
         elif command is Command.OPTION:
