@@ -5,7 +5,7 @@ from typing import Iterator, List, NoReturn, Optional
 
 from pops_review.judging import Judgement, judged, missing
 from pops_review.posing import AnswersError, ShortAnswers
-from pops_review.reading import reviewed_report
+from pops_review.reading import reviewed_unfinished_report
 from pops_texts.command import CommandError, Status
 from pops_texts.given import GivenProblem
 from pops_texts.given_source import read_given
@@ -31,7 +31,7 @@ class Beside:
         if input_file is not None:
             self.given = read_given(companion, input_file)
         if short_file is not None:
-            with reviewed_report(companion, short_file, "utf-8") as items:
+            with reviewed_unfinished_report(companion, short_file, None, "utf-8") as items:
                 try:
                     self._answers = ShortAnswers(items)
                 except AnswersError as error:

@@ -96,11 +96,12 @@ def _evidence(one: JudgedGroup, most: Optional[int]) -> str:
             verdict = judgement.verdict.value
             text = html.escape(printable(heading))
             parts.append(f'<h3>{text}: <span class="{verdict}">{verdict}</span></h3>\n')
-        parts.extend(_finding(finding, most) for finding in judgement.findings)
+        parts.extend(finding_text(finding, most) for finding in judgement.findings)
     return "".join(parts)
 
 
-def _finding(finding: Finding, most: Optional[int]) -> str:
+def finding_text(finding: Finding, most: Optional[int]) -> str:
+    """A finding with the moves that show it."""
     moves = "\n".join(lines_of(finding, most))
     below = f"<pre>{html.escape(moves)}</pre>\n" if moves else ""
     text = html.escape(finding.text)

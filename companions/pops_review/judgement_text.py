@@ -6,7 +6,7 @@ from collections import Counter
 from typing import Iterable, Iterator, List, Optional
 
 from pops_review.judged_groups import JudgedGroup
-from pops_review.judging import Finding, Judgement, Verdict, Weight
+from pops_review.judging import Finding, Judgement, Verdict
 from pops_review.naming import counted, described, shown
 from pops_texts.report import SoundItem
 from pops_texts.titles import printable
@@ -80,7 +80,6 @@ def csv_line(values: "tuple[object, ...]") -> str:
 
 def as_csv(judgement: Judgement, encoding: str) -> str:
     """The row of a problem; what the report doesn't show stays empty."""
-    reasons = [finding.text for finding in judgement.findings if finding.weight is not Weight.NOTE]
     sound = judgement.item if isinstance(judgement.item, SoundItem) else None
     named = sound or judgement.given
     return csv_line(
@@ -99,7 +98,7 @@ def as_csv(judgement: Judgement, encoding: str) -> str:
             judgement.duals_earlier,
             judgement.set_solutions,
             judgement.unprovided_checks,
-            "; ".join(reasons),
+            "; ".join(judgement.reasons),
         )
     )
 

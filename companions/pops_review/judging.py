@@ -81,6 +81,11 @@ class Judgement:
             return Verdict.UNSOUND
         return Verdict.UNDECIDED if Weight.OPEN in weights else Verdict.SOUND
 
+    @property
+    def reasons(self) -> List[str]:
+        """What decides the verdict, in words; nothing for a sound problem."""
+        return [finding.text for finding in self.findings if finding.weight is not Weight.NOTE]
+
     def find(self, weight: Weight, text: str, lines: Tuple[str, ...] = ()) -> None:
         self.findings.append(Finding(weight, text, lines))
 

@@ -39,6 +39,7 @@ h2 a:hover, h2 a:focus { text-decoration: underline; }
 .fairy, .without { font-size: .85em; margin: .2em 0 0 5.7%; color: #333; }
 .diagram { width: 100%; display: block; margin-top: .4em; }
 h3 { font-size: 1em; font-weight: normal; font-style: italic; margin: 0; }
+h3.label { font-weight: bold; font-style: normal; }
 .phase + .phase { margin-top: .8em; }
 pre { font: 9.5pt/1.35 monospace; margin: .1em 0; white-space: pre-wrap; }
 pre span { white-space: nowrap; }
