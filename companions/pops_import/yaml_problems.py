@@ -55,6 +55,7 @@ def _read_key(key: Scalar, value: Node, draft: Draft) -> None:
         "options": _read_options,
         "twins": _read_twins,
         "intended-solutions": _read_wanted,
+        "comments": _read_comments,
     }
     reader = readers.get(key.lower(), _read_other)
     try:
@@ -144,6 +145,11 @@ def _read_wanted(key: Scalar, value: Node, draft: Draft) -> None:
         _read_other(key, value, draft)
     else:
         draft.want(wanted, text)
+
+
+def _read_comments(_: Scalar, value: Node, draft: Draft) -> None:
+    for text in _texts(value):
+        draft.texts.extend(TextLine(Command.REMARK, line) for line in text.split("\n"))
 
 
 def _read_other(key: Scalar, value: Node, draft: Draft) -> None:

@@ -98,6 +98,18 @@ class _Named:
         return same_names and (self.title is not None or bool(other.label.text))
 
 
+def label_and_title(title: Optional[str]) -> Tuple[Optional[str], Label]:
+    """A title without its label, and the label; that is empty where there is none."""
+    parts = _LABEL.fullmatch(title or "")
+    if parts is None:
+        return title, _NONE
+    if parts[4] is not None:
+        return parts[1], Label("duplex", 0, True)
+    number = ord(parts[2]) - ord("a") + 1 if parts[2].isalpha() else int(parts[2])
+    text = f"{parts[2]}){parts[3] or ''}"
+    return parts[1], Label(text, number, parts[3] is not None)
+
+
 def groups(
     items: Iterable[AnyItem], given: Sequence[GivenProblem], encoding: str, apart: bool
 ) -> Iterator[Group]:
@@ -124,14 +136,8 @@ def _named(item: AnyItem, given: Optional[GivenProblem], encoding: str) -> _Name
     source = item if isinstance(item, SoundItem) else given
     title = None if source is None or source.title is None else shown(source.title, encoding)
     author = None if source is None else source.author
-    parts = _LABEL.fullmatch(title or "")
-    if parts is None:
-        return _Named(item, given, title, title, author, _NONE)
-    if parts[4] is not None:
-        return _Named(item, given, title, parts[1], author, Label("duplex", 0, True))
-    number = ord(parts[2]) - ord("a") + 1 if parts[2].isalpha() else int(parts[2])
-    text = f"{parts[2]}){parts[3] or ''}"
-    return _Named(item, given, title, parts[1], author, Label(text, number, parts[3] is not None))
+    own, label = label_and_title(title)
+    return _Named(item, given, title, own, author, label)
 
 
 def _group(run: List[_Named]) -> Group:
