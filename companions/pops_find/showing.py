@@ -6,6 +6,7 @@ from typing import Iterable, List, NamedTuple, Optional, Sequence
 from pops_find.boards import men_of
 from pops_find.collection import Found
 from pops_find.entries import Entry
+from pops_review.naming import counted
 from pops_texts import diagram
 from pops_texts.problem_text import pieces_line
 from pops_texts.report import Board
@@ -47,9 +48,7 @@ def as_text(answer: Answer) -> str:
 
 
 def _counted(number: int) -> str:
-    if number == 0:
-        return "nothing found"
-    return "1 problem found" if number == 1 else f"{number} problems found"
+    return f"{counted(number, 'problem')} found" if number else "nothing found"
 
 
 def as_page(answers: Iterable[Answer], heading: str) -> str:

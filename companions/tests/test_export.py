@@ -1,5 +1,6 @@
 """pops-export: an import of what it writes gives the same problems."""
 
+import re
 import tempfile
 import unittest
 from dataclasses import replace
@@ -159,6 +160,23 @@ class Yaml(unittest.TestCase):
             outcome = run_here.companion("pops-export", *words, text=TWINS.split(b"Twin")[0] + b"End")
         self.assertEqual((outcome.status, outcome.output), (1, b""))
         self.assertIn("problem 1 is #1 there, not h#1", outcome.error)
+
+
+class Document(unittest.TestCase):
+    def test_the_example(self) -> None:
+        """It is the problem that the example of pops-import gives, with its report."""
+        document = (support.REPOSITORY / "docs" / "COMPANIONS.md").read_text("utf-8")
+        blocks = [
+            re.findall(r"\n\n((?:    [^\n]*\n|\n(?=    ))+)", document.split(f"\n## {name}\n")[1])
+            for name in ("pops-import", "pops-export")
+        ]
+        pair = re.sub("^    ", "", blocks[0][2], flags=re.M)
+        wanted = re.sub("^    ", "", blocks[1][0], flags=re.M)
+        with tempfile.TemporaryDirectory() as room:
+            report = Path(room) / "pair.report"
+            report.write_bytes(support.run([support.pops()], pair.encode()).output)
+            text = exported("yaml", "--report", str(report), text=pair.encode())
+        self.assertEqual(text, wanted)
 
 
 class Command(unittest.TestCase):

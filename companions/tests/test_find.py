@@ -296,6 +296,18 @@ class Command(unittest.TestCase):
         self.assertEqual(html.count('<svg class="diagram"'), 3)
         self.assertIn("Mine &amp; yours", html)
 
+    def test_the_example_of_the_documents(self) -> None:
+        self.added("morphy_1856.pop")
+        new = self.room / "new.pop"
+        new.write_text(
+            "BeginProblem\nTitle Mine\nPieces White Kf8 Rh1 Pg6 Black Kh8 Bg8 Ph7\n"
+            "Stipulation #2\nEndProblem\n"
+        )
+        text = self.run_on("--near", str(new)).output.decode()
+        shown = "".join(f"    {line}\n" for line in text.splitlines())
+        document = (support.REPOSITORY / "docs" / "COMPANIONS.md").read_text("utf-8")
+        self.assertIn(shown.replace(f"{self.examples}/", ""), document)
+
     def test_a_problem_of_the_collection_doesnt_find_itself(self) -> None:
         self.added("morphy_1856.pop")
         outcome = self.run_on("--near", str(self.examples / "morphy_1856.pop"))
