@@ -10,7 +10,7 @@ const WHOLE_STATUS = 1;
 const DRAWING_SHARE = 10;
 const LEAST_PAUSE = 200;
 const FIELDS = [
-  ['Title', 'title'], ['Author', 'author'], ['Stipulation', 'stipulation'], ['Condition', 'condition'],
+  ['Title', 'title'], ['Author', 'author'], ['Origin', 'origin'], ['Stipulation', 'stipulation'], ['Condition', 'condition'],
   ['SetPlay', 'setPlay'], ['Variation', 'variation'], ['NoBoard', 'noBoard'],
   ['MaxSolutions', 'maxSolutions'], ['EnPassant', 'enPassant'], ['NoCastling', 'noCastling'],
 ];
@@ -22,13 +22,23 @@ const state = {
 };
 let board = null;
 let tree = null;
+let notes = null;
 
 const textNow = () => element('text').value;
 const blockNow = () => {
   const blocks = blocksOf(textNow());
   return blocks[Math.min(state.number, blocks.length) - 1] ?? null;
 };
-const note = text => { element('note').textContent = text; };
+
+// A cause that lasts while the text and the position shown stay as they are.
+function unchanged() {
+  const [text, walked] = [textNow(), state.walked];
+  return () => textNow() === text && state.walked === walked;
+}
+
+function note(text, holds = unchanged()) {
+  notes.show(text, holds);
+}
 
 function kept(key) {
   try {
@@ -90,12 +100,20 @@ function follow() {
   element('count').textContent = block
     ? say('count', { number: block.number, all, white: countOf(men, 'w'), black: countOf(men, 'b') }) : say('none');
   showFields(block);
-  if (document.activeElement !== element('fen')) {
-    element('fen').value = fenOf(men) ?? '';
-    element('fen').placeholder = say('noFen');
-  }
+  if (document.activeElement !== element('fen')) element('fen').value = block ? fenOfBlock(textNow(), block) : '';
+  showTail();
   for (const [id, step] of [['undo', -1], ['redo', 1]]) element(id).disabled = !state.steps.has(step);
   if (textNow().length < LONG_TEXT) keep('pops', textNow());
+  notes.check();
+}
+
+// Says that the text goes on after its EndProblem.
+function showTail() {
+  const tail = tailOf(textNow());
+  element('tail').hidden = !tail;
+  if (!tail) return;
+  element('tail').firstElementChild.textContent = say(tail.opening ? 'tail' : 'tailLoose', tail);
+  element('join').hidden = !tail.opening;
 }
 
 function showFields(block) {
@@ -120,26 +138,37 @@ function fieldChanged(name) {
   setText(withField(textNow(), block.from, name, value));
 }
 
-// Takes new men from the board; while a solution is shown it goes back to the diagram instead.
-function edit(men) {
+// Changes the men of the problem on the board; a solution that is stepped through is left first.
+function change(changer) {
   endTyping();
-  if (state.walked) {
-    tree.leave();
-    note(say('back'));
-    return;
-  }
-  note('');
+  tree.leave();
   if (!blockNow()) element('text').value += NEW_PROBLEM;
   const block = blockNow();
-  const { unknown } = menOf(block);
-  if (unknown.length) note(say('unknownWord', { word: unknown[0].slice(0, 40) }));
-  else setText(withMen(textNow(), block.from, men));
+  const { men, unknown } = menOf(block);
+  const changed = changer(men);
+  if (unknown.length) noteUnknown(unknown[0]);
+  else if (changed) setText(withMen(textNow(), block.from, changed));
+  else note(say('leaves'));
+}
+
+function noteUnknown(word) {
+  const isThere = () => Boolean(blockNow()) && menOf(blockNow()).unknown.includes(word);
+  note(say('unknownWord', { word: word.slice(0, 40) }), isThere);
+}
+
+// Moves a man of the problem on the board.
+function move(from, to) {
+  change(men => {
+    const moved = new Map(men);
+    const man = moved.get(from);
+    moved.delete(from);
+    return man ? moved.set(to, man) : moved;
+  });
 }
 
 function changeBoard(name) {
-  const men = name === 'clear' ? new Map() : name === 'exchange' ? exchanged(board.men) : changed(board.men, name);
-  if (men) edit(men);
-  else note(say('leaves'));
+  const changers = { clear: () => new Map(), exchange: exchanged };
+  change(changers[name] ?? (men => changed(men, name)));
 }
 
 function goSteps(step) {
@@ -148,20 +177,18 @@ function goSteps(step) {
   if (text === null) return;
   tree.leave();
   element('text').value = text;
-  note('');
   follow();
 }
 
-// Takes a position in FEN; false where the text is none.
+// Takes a position in FEN in place of the one on the board; false if the text is none.
 function takeFen(text) {
   const fen = readFen(text);
   if (!fen) return false;
-  edit(fen.men);
+  endTyping();
+  tree.leave();
+  if (!blockNow()) element('text').value += NEW_PROBLEM;
   const block = blockNow();
-  if (menOf(block).unknown.length) return true;
-  let said = withField(textNow(), block.from, 'EnPassant', fen.crossed);
-  said = withField(said, block.from, 'NoCastling', fen.noCastling.join('') || null);
-  setText(said);
+  setText(withFen(textNow(), block.from, fen));
   note(say('fenTaken') + (fen.turn === 'b' ? say('fenBlack') : ''));
   return true;
 }
@@ -257,14 +284,12 @@ function showPlace(men, move, item) {
   state.walked = men;
   element('squares').classList.toggle('walking', Boolean(men));
   element('reached').textContent = move ? labelOf(move) : '';
-  if (men) {
-    state.number = item.number;
-    board.show(men, [move.from, move.to]);
-    note(say('shown', { move: labelOf(move) }));
-  } else {
-    note('');
-    follow();
-  }
+  if (men) board.show(men, [move.from, move.to]);
+  // The report of another text says nothing of the problems of this one.
+  const isOther = men && textNow() === state.solved && state.number !== item.number;
+  if (isOther) state.number = item.number;
+  if (isOther || !men) follow();
+  if (men) note(say('shown', { move: labelOf(move) }));
 }
 
 function drawReport() {
@@ -323,11 +348,18 @@ function solvingEnded({ status, failed, isStopped }) {
   const milliseconds = Math.round(performance.now() - state.begun);
   const isWhole = !failed && !isStopped && status <= WHOLE_STATUS;
   state.isBeginning = !isWhole && state.report !== '';
+  drawGrowth();
   if (failed) endSolving(say('failed', { fault: failed }));
   else if (isStopped) endSolving(say(state.report ? 'stopped' : 'stoppedEmpty', { seconds }));
-  else endSolving(say('done', { answer: say(`status${status}`), milliseconds }));
-  drawGrowth();
+  else endSolving(sayDone(say(`status${status}`), milliseconds));
+  notes.check();
   if (!failed && !isStopped) keepProblem();
+}
+
+// How solving ended, with what was found where the text has one problem.
+function sayDone(answer, milliseconds) {
+  const found = state.items.length === 1 && !state.isBeginning ? sayFound(state.items[0]) : '';
+  return say(found && !state.items[0].isChecked ? 'doneOne' : 'done', { answer, found, milliseconds });
 }
 
 function makeWorker() {
@@ -400,7 +432,7 @@ function saveSvg() {
 }
 
 function saveItems(act) {
-  if (!state.items.length) note(say('nothing'));
+  if (!state.items.length) note(say('nothing'), () => !state.items.length);
   else act(state.items.filter(item => item.isWhole || item.asked || item.fault));
 }
 
@@ -566,8 +598,15 @@ function listen() {
     keep('pops.kept', null);
     showKept();
   };
+  element('fen').oninput = () => notes.check();
   element('fen').onchange = () => {
-    if (!takeFen(element('fen').value)) note(say('badFen'));
+    const text = element('fen').value;
+    const isSame = unchanged();
+    if (text.trim() && !takeFen(text)) note(say('badFen'), () => element('fen').value === text && isSame());
+  };
+  element('join').onclick = () => {
+    endTyping();
+    setText(withTail(textNow()));
   };
   addEventListener('paste', pasted);
   addEventListener('keydown', keyPressed);
@@ -596,7 +635,8 @@ function begin() {
   buildButtons();
   buildFields();
   tree = new Tree(showPlace);
-  board = new Board({ edit, note });
+  notes = new Notes(element('note'));
+  board = new Board({ change, move, note, check: () => notes.check() });
   element('text').value = textOfFragment(location.hash) ?? kept('pops') ?? element('example').textContent.trimStart();
   state.steps = new Steps(textNow());
   listen();

@@ -146,6 +146,19 @@ function sharedRows(lines, path) {
   return rows;
 }
 
+/**
+ * What was found in the play of a problem, as the name and the value of a word of the page: keys, or lines of help play.
+ * Null while the play goes on, and for a faulty problem.
+ */
+function foundIn(item) {
+  if (item.isChecked) return { name: 'foundNone', count: 0, isStopped: false };
+  const play = item.phases.find(phase => phase.kind === 'play');
+  if (!play?.total || play.count === null) return null;
+  const { count, isStopped } = play;
+  const one = item.asked.isHelp ? 'foundLine' : 'foundKey';
+  return { name: count > 1 ? `${one}s` : count ? one : 'found0', count, isStopped };
+}
+
 // The objects that pops2json writes of a report, whose title and author are text already.
 function objectOf(item) {
   if (item.fault) return { number: item.number, sound: false, fault: item.fault };

@@ -28,6 +28,14 @@ function placeIn(row, moves) {
   return placeIn(row.below.find(it => it.moves[0].said === next.said), moves);
 }
 
+// How many keys or lines were found, in words; empty where that isn't known.
+function sayFound(item) {
+  const found = foundIn(item);
+  if (!found) return '';
+  const said = say(found.name, found);
+  return found.isStopped ? say('foundLeast', { found: said }) : said;
+}
+
 class Tree {
   // SHOW gets the men of the place walked to, the move that led there, or null, and the item.
   constructor(show) {
@@ -93,9 +101,8 @@ class Tree {
   drawnItem(item, fault) {
     const box = document.createElement('section');
     box.groups = [];
-    const head = document.createElement('h2');
-    head.textContent = [say('item', item), item.title, item.author, item.asked?.line].filter(Boolean).join(' · ');
-    box.append(head);
+    box.head = document.createElement('h2');
+    box.append(box.head);
     if (item.fault) box.append(fault(item));
     else if (item.isChecked) box.append(this.line(say('sound')));
     this.growItem(box, item);
@@ -104,6 +111,7 @@ class Tree {
 
   // Draws the phases of an item as they are now.
   growItem(box, item) {
+    box.head.textContent = [say('item', item), item.title, item.author, item.asked?.line, sayFound(item)].filter(Boolean).join(' · ');
     item.phases.forEach((phase, index) => {
       if (index < box.groups.length) this.growPhase(box.groups[index], phase, item);
       else box.append(...this.drawnPhase(phase, item, box));
