@@ -255,21 +255,9 @@ function goToLine(line) {
   area.scrollTop = Math.max(0, (line - 4) * LINE_PIXELS);
 }
 
-function drawnFault({ fault }) {
-  const box = document.createElement('div');
-  box.className = 'fault';
-  const head = document.createElement('p');
-  head.textContent = say('fault', fault);
-  const { from, to } = lineAt(state.solved, fault.line);
-  const quoted = document.createElement('code');
-  quoted.textContent = `${fault.line} | ${state.solved.slice(from, Math.min(to, from + 300))}`;
-  const cause = document.createElement('p');
-  cause.textContent = JSON.parse(element('fault-words').textContent)[fault.number] ?? '';
-  const label = say('goToLine', fault);
-  const button = makeButton(label, () => goToLine(fault.line));
-  button.textContent = label;
-  box.append(head, quoted, cause, button);
-  return box;
+function drawnFault(item) {
+  const general = JSON.parse(element('fault-words').textContent)[item.fault.number] ?? '';
+  return faultBox(state.solved, item, general, goToLine);
 }
 
 // The men of an item's diagram: the report's, or where it shows none the text's.
