@@ -18,7 +18,8 @@ const CHANGE_SIGNS = { left: '←', right: '→', up: '↑', down: '↓', mirror
 // What is on the page: which problem the board shows, the report of which text, and its parts as they come.
 const state = {
   number: 1, steps: null, engine: null, solving: null, clock: null, begun: 0, solved: '', report: '',
-  isBeginning: false, drawing: null, pause: LEAST_PAUSE, items: [], typing: null, walked: null,
+  isBeginning: false, drawing: null, pause: LEAST_PAUSE, items: [], typing: null, walked: null, place: null,
+  isPlaying: false,
 };
 let board = null;
 let tree = null;
@@ -61,7 +62,7 @@ function keep(key, value) {
 
 // The text is another one: all else follows.
 function setText(text) {
-  tree.leave();
+  leave();
   element('text').value = text;
   state.steps.add(textNow());
   follow();
@@ -74,7 +75,7 @@ function endTyping() {
 }
 
 function typed() {
-  tree.leave();
+  leave();
   clearTimeout(state.typing);
   state.typing = setTimeout(() => {
     endTyping();
@@ -141,7 +142,7 @@ function fieldChanged(name) {
 // Changes the men of the problem on the board; a solution that is stepped through is left first.
 function change(changer) {
   endTyping();
-  tree.leave();
+  leave();
   if (!blockNow()) element('text').value += NEW_PROBLEM;
   const block = blockNow();
   const { men, unknown } = menOf(block);
@@ -156,16 +157,6 @@ function noteUnknown(word) {
   note(say('unknownWord', { word: word.slice(0, 40) }), isThere);
 }
 
-// Moves a man of the problem on the board.
-function move(from, to) {
-  change(men => {
-    const moved = new Map(men);
-    const man = moved.get(from);
-    moved.delete(from);
-    return man ? moved.set(to, man) : moved;
-  });
-}
-
 function changeBoard(name) {
   const changers = { clear: () => new Map(), exchange: exchanged };
   change(changers[name] ?? (men => changed(men, name)));
@@ -175,7 +166,7 @@ function goSteps(step) {
   endTyping();
   const text = state.steps.go(step);
   if (text === null) return;
-  tree.leave();
+  leave();
   element('text').value = text;
   follow();
 }
@@ -185,7 +176,7 @@ function takeFen(text) {
   const fen = readFen(text);
   if (!fen) return false;
   endTyping();
-  tree.leave();
+  leave();
   if (!blockNow()) element('text').value += NEW_PROBLEM;
   const block = blockNow();
   setText(withFen(textNow(), block.from, fen));
@@ -265,19 +256,6 @@ function diagramMen(item) {
   if (item.ranks.length) return menOfRanks(item.ranks);
   const block = blocksOf(state.solved)[item.number - 1];
   return block ? menOf(block).men : new Map();
-}
-
-// Shows the position behind a move, or the diagram again.
-function showPlace(men, move, item) {
-  state.walked = men;
-  element('squares').classList.toggle('walking', Boolean(men));
-  element('reached').textContent = move ? labelOf(move) : '';
-  if (men) board.show(men, [move.from, move.to]);
-  // The report of another text says nothing of the problems of this one.
-  const isOther = men && textNow() === state.solved && state.number !== item.number;
-  if (isOther) state.number = item.number;
-  if (isOther || !men) follow();
-  if (men) note(say('shown', { move: labelOf(move) }));
 }
 
 function drawReport() {
@@ -365,7 +343,7 @@ function tellProgress() {
 function solve() {
   if (!state.engine || state.solving) return;
   endTyping();
-  tree.leave();
+  leave();
   Object.assign(state, { solved: textNow(), report: '', isBeginning: false, begun: performance.now(), pause: LEAST_PAUSE });
   drawReport();
   element('solve').disabled = true;
@@ -428,13 +406,18 @@ const OUTS = {
   outText: () => save('pops.pop', 'text/plain', textNow()),
   outReport: () => saveItems(() => save('pops.report', 'text/plain', state.report)),
   outPage: () => saveItems(items => save('pops.html', 'text/html',
-    sheetOf(items, say('sheet'), element('men-shapes').textContent, element('sheet-style').textContent))),
+    sheetOf(items, say('sheet'), element('men-shapes').textContent, element('sheet-style').textContent, givenOf(state.solved)))),
   outSvg: saveSvg,
-  outJson: () => saveItems(items => save('pops.json', 'application/json',
-    items.map(item => `${JSON.stringify(objectOf(item))}\n`).join(''))),
+  outJson: () => saveItems(items => save('pops.json', 'application/json', jsonOf(items))),
   outLink: makeLink,
   outPrint: () => print(),
 };
+
+// The objects of items, a line each.
+function jsonOf(items) {
+  const given = givenOf(state.solved);
+  return items.map(item => `${JSON.stringify(objectOf(item, given[item.number - 1]))}\n`).join('');
+}
 
 async function makeLink() {
   const fragment = fragmentOf(textNow());
@@ -494,8 +477,12 @@ function buildButtons() {
   addButton('changes', 'redo', '↷', () => goSteps(1));
   for (const [name, sign] of Object.entries(CHANGE_SIGNS)) addButton('changes', name, sign, () => changeBoard(name));
   for (const name of ['exchange', 'clear']) addButton('changes', name, null, () => changeBoard(name));
-  addButton('walk', 'first', null, () => tree.leave());
-  addButton('walk', 'before', '◀', () => tree.backward());
+  addButton('changes', 'playing', null, togglePlaying);
+  togglePlaying();
+  addButton('line', 'fromHere', null, solveFromHere);
+  addButton('line', 'makeProblem', null, makeProblem);
+  addButton('walk', 'first', null, leave);
+  addButton('walk', 'before', '◀', goBack);
   addButton('walk', 'after', '▶', () => tree.onward());
   addButton('folds', 'unfold', null, () => tree.foldAll(true));
   addButton('folds', 'fold', null, () => tree.foldAll(false));
@@ -503,6 +490,12 @@ function buildButtons() {
   reached.id = 'reached';
   element('walk').append(reached);
   for (const [name, act] of Object.entries(OUTS)) addButton('outs', name, null, act);
+}
+
+// Whether a man that is moved on the board plays a move.
+function togglePlaying() {
+  state.isPlaying = element('playing').getAttribute('aria-pressed') === 'false';
+  element('playing').setAttribute('aria-pressed', String(state.isPlaying));
 }
 
 // The rows that fields stand in: flags in one, short values in another, and each other field by itself.
@@ -544,7 +537,7 @@ function addProblem() {
 function keyPressed(event) {
   const key = event.key.toLowerCase();
   const isField = event.target.closest?.('input:not([type=checkbox])');
-  if (event.key === 'Escape' && state.walked) tree.leave();
+  if (event.key === 'Escape' && state.walked) leave();
   if (!event.ctrlKey && !event.metaKey) return;
   if (key === 'enter') solve();
   else if (isField) return;

@@ -274,12 +274,15 @@ function withFen(text, place, fen) {
   return withField(placed, place, 'NoCastling', fen.noCastling.join('') || null);
 }
 
+/** The side that moves first in a problem: Black in help play, unless it begins with White's half-move. */
+const turnOf = fields => (/^h[#=]\d+$/i.test(valueOf(fields, 'stipulation') ?? '') ? 'b' : 'w');
+/** The squares that NoCastling names. */
+const barredIn = fields => (valueOf(fields, 'NoCastling') ?? '').toLowerCase().match(/[a-h][1-8]/g) ?? [];
+
 /** The position of a problem as FEN: its men, the side that moves first, NoCastling, EnPassant. */
 function fenOfBlock(text, block) {
   const fields = fieldsOf(text, block);
-  const turn = /^h[#=]\d+$/i.test(valueOf(fields, 'stipulation') ?? '') ? 'b' : 'w';
-  const barred = (valueOf(fields, 'NoCastling') ?? '').toLowerCase().match(/[a-h][1-8]/g) ?? [];
-  return fenOf({ men: menOf(block).men, turn, barred, crossed: valueOf(fields, 'EnPassant')?.toLowerCase() ?? null });
+  return fenOf({ men: menOf(block).men, turn: turnOf(fields), barred: barredIn(fields), crossed: valueOf(fields, 'EnPassant')?.toLowerCase() ?? null });
 }
 
 /**

@@ -37,7 +37,7 @@ function sayFound(item) {
 }
 
 class Tree {
-  // SHOW gets the men of the place walked to, the move that led there, or null, and the item.
+  // SHOW gets the place walked to, or null: the men of the diagram, the moves from there, and the item.
   constructor(show) {
     this.showPlace = show;
     this.groups = [];
@@ -249,7 +249,7 @@ class Tree {
     button.setAttribute('aria-current', 'true');
     this.bringToSight(button);
     const moves = movesTo(this.current);
-    this.showPlace(moves.reduce(after, row.group.men), moves.at(-1), row.group.item);
+    this.showPlace({ start: row.group.men, moves, item: row.group.item });
   }
 
   // The tree alone is scrolled for a move, and the page for the board, where a click in the tree asked for it.
@@ -274,7 +274,7 @@ class Tree {
     const { row, index } = this.current;
     this.unmark();
     if (element('tree').contains(document.activeElement)) row.buttons[index].focus({ preventScroll: true });
-    this.showPlace(null, null, null);
+    this.showPlace(null);
   }
 
   onward() {
