@@ -29,7 +29,7 @@ _pops_options() {
       own='--add --near --play --report --author --title --stipulation --condition --men --count --most --output
         --encoding'
       ;;
-    pops-explain) own='--output --pops' ;;
+    pops-explain) own='--output --all --fix --pops' ;;
   esac
   # shellcheck disable=SC2086
   echo --help --version $own
