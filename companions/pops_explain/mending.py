@@ -25,7 +25,9 @@ _IN_PLACE = re.compile(
 _JOINED = re.compile(rf"^{_QUOTED} is one word, without a blank")
 _LONGER = re.compile(rf"Write three letters or more: {_QUOTED} or {_QUOTED}")
 _PAWN = re.compile(rf"A pawn is {_QUOTED}\.$")
-_LEFT_OUT = re.compile(r"Leave (?:it|`BeginProblem`) out\.$|(?:stipulation|condition) .* Leave one out")
+_LEFT_OUT = re.compile(
+    r"Leave (?:it|`BeginProblem`) out\.$|(?:stipulation|condition) .* Leave one out"
+)
 _SQUARE_LEFT_OUT = re.compile(r"(?:names .* twice|was given before, .*)\. Leave one out")
 # Where men may have the letters of that language, a word alone isn't mended.
 _IN_ANOTHER_LANGUAGE = re.compile(

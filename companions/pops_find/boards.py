@@ -62,9 +62,7 @@ def men_of(board: str) -> Dict[Square, Man]:
 def _keys() -> Dict[Tuple[int, str], int]:
     chance = random.Random(_SEED)
     return {
-        (place, letter): chance.getrandbits(_KEY_BITS)
-        for place in range(64)
-        for letter in _LETTERS
+        (place, letter): chance.getrandbits(_KEY_BITS) for place in range(64) for letter in _LETTERS
     }
 
 

@@ -75,7 +75,10 @@ class VsCode(unittest.TestCase):
 
     def test_files_that_the_package_names(self) -> None:
         package = json.loads((VSCODE / "package.json").read_text())
-        grammar, language = package["contributes"]["grammars"][0], package["contributes"]["languages"][0]
+        grammar, language = (
+            package["contributes"]["grammars"][0],
+            package["contributes"]["languages"][0],
+        )
         for name in (grammar["path"], language["configuration"], package["main"]):
             self.assertTrue((VSCODE / name).is_file(), name)
         self.assertEqual(grammar["scopeName"], self.grammar["scopeName"])
@@ -91,7 +94,17 @@ class VsCode(unittest.TestCase):
             f"const it = require({json.dumps(str(VSCODE / 'extension.js'))});"
             "console.log(JSON.stringify(it.problemRanges(JSON.parse(process.argv[1]))));"
         )
-        lines = ["Remark", "Begin", "Pie", "NEXTProblem x", "Title Next", "", "endproblem", "Beg", "x"]
+        lines = [
+            "Remark",
+            "Begin",
+            "Pie",
+            "NEXTProblem x",
+            "Title Next",
+            "",
+            "endproblem",
+            "Beg",
+            "x",
+        ]
         done = subprocess.run(
             ["node", "-e", script, json.dumps(lines)], capture_output=True, text=True, check=True
         )
@@ -142,7 +155,9 @@ class Vim(unittest.TestCase):
     def test_text_lines_and_the_end(self) -> None:
         if not has_vim():
             return
-        text = "BeginProblem\nTitle A\nRemark Kg6\nOption NoBoard Rem Kg6\nSti #1\u00a0\nEnd\nPieces\n"
+        text = (
+            "BeginProblem\nTitle A\nRemark Kg6\nOption NoBoard Rem Kg6\nSti #1\u00a0\nEnd\nPieces\n"
+        )
         wanted = ["popCommand", "popText", "popRemark", "popRemark", "popInvisible", "popCommand",
                   "popUnread"]  # fmt: skip
         self.assertEqual(self.said(text, self.GROUPS), wanted)

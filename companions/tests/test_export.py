@@ -83,7 +83,9 @@ class RoundTrips(unittest.TestCase):
             wanted = support.run([support.pops(), "--check", str(path)]).output
             for form in ("popeye", "yaml"):
                 with self.subTest(path.name, form=form):
-                    back = run_here.companion("pops-import", text=exported(form, str(path)).encode())
+                    back = run_here.companion(
+                        "pops-import", text=exported(form, str(path)).encode()
+                    )
                     self.assertEqual(back.status, 0)
                     report = support.run([support.pops(), "--check"], back.output).output
                     self.assertEqual(report, wanted)
@@ -139,9 +141,7 @@ class Yaml(unittest.TestCase):
         node = document.node()
         assert isinstance(node, dict)
         lines = str(node["solution"]).split("\n")
-        self.assertEqual(
-            lines[:3], ["1.Ra1-a6 !", "    1...b7*a6", "        2.b6-b7 #"]
-        )
+        self.assertEqual(lines[:3], ["1.Ra1-a6 !", "    1...b7*a6", "        2.b6-b7 #"])
 
     def test_signs_of_moves(self) -> None:
         report = (
@@ -157,7 +157,9 @@ class Yaml(unittest.TestCase):
             report = Path(room) / "other.report"
             report.write_bytes(b"problem 1\n#1\nsound\n\n")
             words = ["--to", "yaml", "--report", str(report)]
-            outcome = run_here.companion("pops-export", *words, text=TWINS.split(b"Twin")[0] + b"End")
+            outcome = run_here.companion(
+                "pops-export", *words, text=TWINS.split(b"Twin")[0] + b"End"
+            )
         self.assertEqual((outcome.status, outcome.output), (1, b""))
         self.assertIn("problem 1 is #1 there, not h#1", outcome.error)
 

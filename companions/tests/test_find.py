@@ -162,9 +162,7 @@ class Near(unittest.TestCase):
                 for number, other in enumerate(positions, 1)
                 if self.plainly_near(board(asked), board(other))
             }
-            found = {
-                hit.entry.number for hit in self.collection.near(board(asked)) if not hit.how
-            }
+            found = {hit.entry.number for hit in self.collection.near(board(asked)) if not hit.how}
             self.assertLessEqual(found, wanted)
             every = {hit.entry.number for hit in self.collection.near(board(asked))}
             self.assertLessEqual(wanted, every)

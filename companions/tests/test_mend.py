@@ -143,7 +143,7 @@ class Command(unittest.TestCase):
         outcome = run_here.companion("pops-explain", "--all", str(self.input))
         text = outcome.output.decode()
         self.assertEqual((outcome.status, outcome.error), (1, ""))
-        self.assertIn('two.pop:4: problem 1: fault 8: bad stipulation\n', text)
+        self.assertIn("two.pop:4: problem 1: fault 8: bad stipulation\n", text)
         self.assertTrue(text.endswith("\n1 problem, 1 faulty, 2 faults\n"))
         first = run_here.companion("pops-explain", str(self.input)).output.decode()
         self.assertNotIn("fault 8", first)
