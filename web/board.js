@@ -29,7 +29,8 @@ function makeButton(label, act) {
 }
 
 class Board {
-  // PAGE has edit(men), which takes new men and answers whether it may, and note(text), which tells something.
+  // PAGE has change(changer), which takes a function from the men to other men; move(from, to); note(text, holds), which
+  // shows a note while its cause holds; and check(), which takes the note away once the cause has gone.
   constructor(page) {
     this.page = page;
     this.men = new Map();
@@ -85,6 +86,7 @@ class Board {
     const made = makeButton(label, () => this.choose(tool));
     made.dataset.tool = tool;
     made.append(sign ?? drawn(tool));
+    if (!sign) made.onpointerdown = event => this.beginDrag({ man: tool, square: null }, event);
     element('men').append(made);
   }
 
@@ -122,29 +124,29 @@ class Board {
   }
 
   set(square, man) {
-    const men = new Map(this.men);
-    if (man) men.set(square, man);
-    else men.delete(square);
     this.hold(null);
-    this.page.edit(men);
+    this.page.change(men => {
+      const changed = new Map(men);
+      if (man) changed.set(square, man);
+      else changed.delete(square);
+      return changed;
+    });
   }
 
-  // Moves a man; where there is no arrival it is removed.
+  // Moves a man to a square.
   move(from, to) {
-    const men = new Map(this.men);
-    const man = men.get(from);
-    men.delete(from);
-    if (to) men.set(to, man);
     this.hold(null);
-    this.page.edit(men);
+    this.page.move(from, to);
   }
 
   hold(square) {
     if (this.held) element(this.held).classList.remove('held');
     this.held = square;
+    this.page.check();
     if (!square) return;
     element(square).classList.add('held');
-    this.page.note(say('held', { man: sayMan(this.men.get(square)), square }));
+    const held = say('held', { man: sayMan(this.men.get(square)), square });
+    this.page.note(held, () => this.held === square);
   }
 
   click(square) {
@@ -159,9 +161,14 @@ class Board {
 
   pressed(square, event) {
     this.wasDragged = false;
-    if (event.button !== 0 || !this.men.has(square) || this.held) return;
+    if (this.men.has(square) && !this.held) this.beginDrag({ man: this.men.get(square), square }, event);
+  }
+
+  // Begins to drag a man, from a square or from the palette.
+  beginDrag({ man, square }, event) {
+    if (event.button !== 0) return;
     if (event.pointerType === 'touch') event.target.releasePointerCapture?.(event.pointerId);
-    this.drag = { square, x: event.clientX, y: event.clientY, ghost: null };
+    this.drag = { man, square, x: event.clientX, y: event.clientY, ghost: null };
   }
 
   moved(event) {
@@ -171,7 +178,7 @@ class Board {
     if (!drag.ghost && isFar) {
       drag.ghost = document.createElement('div');
       drag.ghost.id = 'ghost';
-      drag.ghost.append(drawn(this.men.get(drag.square)));
+      drag.ghost.append(drawn(drag.man));
       document.body.append(drag.ghost);
     }
     if (!drag.ghost) return;
@@ -193,8 +200,11 @@ class Board {
     if (!drag.ghost) return;
     const to = this.squareUnder(event);
     // The click that ends a drag on its own square is none.
-    this.wasDragged = to === drag.square;
-    if (to !== drag.square) this.move(drag.square, to);
+    this.wasDragged = to !== null && to === drag.square;
+    if (this.wasDragged) return;
+    if (to && drag.square) this.move(drag.square, to);
+    else if (to) this.set(to, drag.man);
+    else if (drag.square) this.set(drag.square, null);
   }
 
   endDrag() {
@@ -219,8 +229,6 @@ class Board {
     else if (event.key === 'Escape' && this.held) this.hold(null);
     else return;
     event.preventDefault();
-    if (event.key !== 'Escape') return;
-    event.stopPropagation();
-    this.page.note('');
+    if (event.key === 'Escape') event.stopPropagation();
   }
 }

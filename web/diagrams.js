@@ -64,32 +64,51 @@ function diagramFile(men, title, shapes) {
 
 const titleOf = item => [item.title, item.author, item.asked.line].filter(text => text !== null).join(', ');
 
-// The page of a report's items.
-function sheetOf(items, heading, shapes, style) {
-  const articles = items.map(item => (item.fault ? faultyArticle(item) : soundArticle(item)));
+// The page of a report's items, twins as one problem; `given` is what the text says of each problem.
+function sheetOf(items, heading, shapes, style, given = []) {
+  const named = items.map(item => ({ item, number: item.number, ...namesOf(item, given[item.number - 1]) }));
+  const articles = twinGroups(named).map(group => articleOf(group));
   return '<!DOCTYPE html>\n<html lang="en">\n<head>\n<meta charset="utf-8">\n'
     + '<meta name="viewport" content="width=device-width">\n'
     + `<title>${safe(heading)}</title>\n<style>${style}</style>\n</head>\n<body>\n${shapes}`
     + `<h1>${safe(heading)}</h1>\n${articles.join('')}</body>\n</html>\n`;
 }
 
-const headingOf = ({ number }) => `<h2><a href="#problem-${number}">problem ${number}</a></h2>\n`;
-
-function faultyArticle(item) {
-  const { line, number, text } = item.fault;
-  return `<article class="faulty" id="problem-${item.number}">\n${headingOf(item)}`
-    + `<p class="fault">${safe(`line ${line}: fault ${number}: ${text}`)}</p>\n</article>\n`;
+// Title and author of an item, of a faulty one from its text; its origin and remarks.
+function namesOf(item, given = null) {
+  const { title = null, author = null } = (item.fault ? given : item) ?? {};
+  return { title, author, origin: given?.origin ?? null, remarks: given?.remarks ?? [] };
 }
 
-function soundArticle(item) {
-  const parts = [`<article class="sound" id="problem-${item.number}">\n<div>\n<header>\n${headingOf(item)}`];
-  for (const label of ['title', 'author']) {
-    if (item[label] !== null) parts.push(`<p class="${label}">${safe(item[label])}</p>\n`);
+function articleOf(group) {
+  const [first] = group;
+  const last = group.at(-1);
+  const numbers = group.length > 1 ? `problems ${first.number} to ${last.number}` : `problem ${first.number}`;
+  const heading = `<h2><a href="#problem-${first.number}">${numbers}</a></h2>\n`;
+  const names = { title: group.length > 1 ? first.title : first.whole, author: first.author, origin: first.origin };
+  const said = Object.entries(names).filter(([, text]) => text !== null).map(([label, text]) => `<p class="${label}">${safe(text)}</p>\n`).join('');
+  if (first.item.fault && group.length === 1) {
+    return `<article class="faulty" id="problem-${first.number}">\n${heading}${said}${solutionsSaid(first.item)}</article>\n`;
   }
-  parts.push(positionOf(item), '</header>\n</div>\n<div class="solutions">\n');
-  parts.push(...(item.isChecked ? ['<p>sound</p>\n'] : item.phases.map(phaseOf)));
-  parts.push('</div>\n</article>\n');
-  return parts.join('');
+  return `<article class="sound" id="problem-${first.number}">\n<div>\n<header>\n${heading}${said}${first.item.fault ? '' : positionOf(first.item)}`
+    + `</header>\n</div>\n<div class="solutions">\n${group.map(twin => twinOf(twin, group)).join('')}</div>\n</article>\n`;
+}
+
+// The solutions of a problem; those of twins have their label above them.
+function twinOf(twin, group) {
+  const { item, label } = twin;
+  if (group.length === 1) return solutionsSaid(item);
+  const known = one => ({ ...one, men: one.item.ranks.length ? menOfRanks(one.item.ranks) : null, asked: one.item.asked?.line ?? null });
+  const { said, isLarge } = twin === group[0] ? { said: saidOfTwin(label, twin.remarks), isLarge: false } : twinChange(known(twin), known(group[0]));
+  const own = isLarge && item.ranks.length ? `${diagramOf(menOfRanks(item.ranks))}\n` : '';
+  const asked = own ? ` <span>${item.asked.line}</span>` : '';
+  const heading = safe([label.text, said].filter(Boolean).join(' '));
+  return `<section class="twin">\n<h3 class="label">${heading}${asked}</h3>\n${own}${solutionsSaid(item)}</section>\n`;
+}
+
+function solutionsSaid(item) {
+  if (item.fault) return `<p class="fault">${safe(`line ${item.fault.line}: fault ${item.fault.number}: ${item.fault.text}`)}</p>\n`;
+  return item.isChecked ? '<p>sound <small>(no fault in the text; not solved)</small></p>\n' : item.phases.map(phaseOf).join('');
 }
 
 function positionOf(item) {
@@ -108,6 +127,6 @@ function phaseOf(phase) {
   const lines = safe(phase.lines.join('\n')).replace(/[^\s-]+-\S+/g, '<span>$&</span>');
   const many = phase.lines.length > LINES_OF_A_COLUMN ? ' class="many"' : '';
   const solutions = phase.lines.length ? `<pre${many}>${lines}</pre>\n` : '';
-  return `<section class="phase">\n<h3>${phase.kind}</h3>\n${solutions}`
-    + `<p class="total">${safe(phase.total ?? '')}</p>\n</section>\n`;
+  const total = phase.total ? `<p class="total">${safe(phase.total)}</p>\n` : '';
+  return `<section class="phase">\n<h3>${phase.kind}</h3>\n${solutions}${total}</section>\n`;
 }

@@ -10,7 +10,7 @@ const WHOLE_STATUS = 1;
 const DRAWING_SHARE = 10;
 const LEAST_PAUSE = 200;
 const FIELDS = [
-  ['Title', 'title'], ['Author', 'author'], ['Stipulation', 'stipulation'], ['Condition', 'condition'],
+  ['Title', 'title'], ['Author', 'author'], ['Origin', 'origin'], ['Stipulation', 'stipulation'], ['Condition', 'condition'],
   ['SetPlay', 'setPlay'], ['Variation', 'variation'], ['NoBoard', 'noBoard'],
   ['MaxSolutions', 'maxSolutions'], ['EnPassant', 'enPassant'], ['NoCastling', 'noCastling'],
 ];
@@ -18,17 +18,28 @@ const CHANGE_SIGNS = { left: '←', right: '→', up: '↑', down: '↓', mirror
 // What is on the page: which problem the board shows, the report of which text, and its parts as they come.
 const state = {
   number: 1, steps: null, engine: null, solving: null, clock: null, begun: 0, solved: '', report: '',
-  isBeginning: false, drawing: null, pause: LEAST_PAUSE, items: [], typing: null, walked: null,
+  isBeginning: false, drawing: null, pause: LEAST_PAUSE, items: [], typing: null, walked: null, place: null,
+  isPlaying: false,
 };
 let board = null;
 let tree = null;
+let notes = null;
 
 const textNow = () => element('text').value;
 const blockNow = () => {
   const blocks = blocksOf(textNow());
   return blocks[Math.min(state.number, blocks.length) - 1] ?? null;
 };
-const note = text => { element('note').textContent = text; };
+
+// A cause that lasts while the text and the position shown stay as they are.
+function unchanged() {
+  const [text, walked] = [textNow(), state.walked];
+  return () => textNow() === text && state.walked === walked;
+}
+
+function note(text, holds = unchanged()) {
+  notes.show(text, holds);
+}
 
 function kept(key) {
   try {
@@ -51,7 +62,7 @@ function keep(key, value) {
 
 // The text is another one: all else follows.
 function setText(text) {
-  tree.leave();
+  leave();
   element('text').value = text;
   state.steps.add(textNow());
   follow();
@@ -64,7 +75,7 @@ function endTyping() {
 }
 
 function typed() {
-  tree.leave();
+  leave();
   clearTimeout(state.typing);
   state.typing = setTimeout(() => {
     endTyping();
@@ -90,12 +101,20 @@ function follow() {
   element('count').textContent = block
     ? say('count', { number: block.number, all, white: countOf(men, 'w'), black: countOf(men, 'b') }) : say('none');
   showFields(block);
-  if (document.activeElement !== element('fen')) {
-    element('fen').value = fenOf(men) ?? '';
-    element('fen').placeholder = say('noFen');
-  }
+  if (document.activeElement !== element('fen')) element('fen').value = block ? fenOfBlock(textNow(), block) : '';
+  showTail();
   for (const [id, step] of [['undo', -1], ['redo', 1]]) element(id).disabled = !state.steps.has(step);
   if (textNow().length < LONG_TEXT) keep('pops', textNow());
+  notes.check();
+}
+
+// Says that the text goes on after its EndProblem.
+function showTail() {
+  const tail = tailOf(textNow());
+  element('tail').hidden = !tail;
+  if (!tail) return;
+  element('tail').firstElementChild.textContent = say(tail.opening ? 'tail' : 'tailLoose', tail);
+  element('join').hidden = !tail.opening;
 }
 
 function showFields(block) {
@@ -120,48 +139,47 @@ function fieldChanged(name) {
   setText(withField(textNow(), block.from, name, value));
 }
 
-// Takes new men from the board; while a solution is shown it goes back to the diagram instead.
-function edit(men) {
+// Changes the men of the problem on the board; a solution that is stepped through is left first.
+function change(changer) {
   endTyping();
-  if (state.walked) {
-    tree.leave();
-    note(say('back'));
-    return;
-  }
-  note('');
+  leave();
   if (!blockNow()) element('text').value += NEW_PROBLEM;
   const block = blockNow();
-  const { unknown } = menOf(block);
-  if (unknown.length) note(say('unknownWord', { word: unknown[0].slice(0, 40) }));
-  else setText(withMen(textNow(), block.from, men));
+  const { men, unknown } = menOf(block);
+  const changed = changer(men);
+  if (unknown.length) noteUnknown(unknown[0]);
+  else if (changed) setText(withMen(textNow(), block.from, changed));
+  else note(say('leaves'));
+}
+
+function noteUnknown(word) {
+  const isThere = () => Boolean(blockNow()) && menOf(blockNow()).unknown.includes(word);
+  note(say('unknownWord', { word: word.slice(0, 40) }), isThere);
 }
 
 function changeBoard(name) {
-  const men = name === 'clear' ? new Map() : name === 'exchange' ? exchanged(board.men) : changed(board.men, name);
-  if (men) edit(men);
-  else note(say('leaves'));
+  const changers = { clear: () => new Map(), exchange: exchanged };
+  change(changers[name] ?? (men => changed(men, name)));
 }
 
 function goSteps(step) {
   endTyping();
   const text = state.steps.go(step);
   if (text === null) return;
-  tree.leave();
+  leave();
   element('text').value = text;
-  note('');
   follow();
 }
 
-// Takes a position in FEN; false where the text is none.
+// Takes a position in FEN in place of the one on the board; false if the text is none.
 function takeFen(text) {
   const fen = readFen(text);
   if (!fen) return false;
-  edit(fen.men);
+  endTyping();
+  leave();
+  if (!blockNow()) element('text').value += NEW_PROBLEM;
   const block = blockNow();
-  if (menOf(block).unknown.length) return true;
-  let said = withField(textNow(), block.from, 'EnPassant', fen.crossed);
-  said = withField(said, block.from, 'NoCastling', fen.noCastling.join('') || null);
-  setText(said);
+  setText(withFen(textNow(), block.from, fen));
   note(say('fenTaken') + (fen.turn === 'b' ? say('fenBlack') : ''));
   return true;
 }
@@ -228,21 +246,9 @@ function goToLine(line) {
   area.scrollTop = Math.max(0, (line - 4) * LINE_PIXELS);
 }
 
-function drawnFault({ fault }) {
-  const box = document.createElement('div');
-  box.className = 'fault';
-  const head = document.createElement('p');
-  head.textContent = say('fault', fault);
-  const { from, to } = lineAt(state.solved, fault.line);
-  const quoted = document.createElement('code');
-  quoted.textContent = `${fault.line} | ${state.solved.slice(from, Math.min(to, from + 300))}`;
-  const cause = document.createElement('p');
-  cause.textContent = JSON.parse(element('fault-words').textContent)[fault.number] ?? '';
-  const label = say('goToLine', fault);
-  const button = makeButton(label, () => goToLine(fault.line));
-  button.textContent = label;
-  box.append(head, quoted, cause, button);
-  return box;
+function drawnFault(item) {
+  const general = JSON.parse(element('fault-words').textContent)[item.fault.number] ?? '';
+  return faultBox(state.solved, item, general, goToLine);
 }
 
 // The men of an item's diagram: the report's, or where it shows none the text's.
@@ -250,21 +256,6 @@ function diagramMen(item) {
   if (item.ranks.length) return menOfRanks(item.ranks);
   const block = blocksOf(state.solved)[item.number - 1];
   return block ? menOf(block).men : new Map();
-}
-
-// Shows the position behind a move, or the diagram again.
-function showPlace(men, move, item) {
-  state.walked = men;
-  element('squares').classList.toggle('walking', Boolean(men));
-  element('reached').textContent = move ? labelOf(move) : '';
-  if (men) {
-    state.number = item.number;
-    board.show(men, [move.from, move.to]);
-    note(say('shown', { move: labelOf(move) }));
-  } else {
-    note('');
-    follow();
-  }
 }
 
 function drawReport() {
@@ -323,11 +314,18 @@ function solvingEnded({ status, failed, isStopped }) {
   const milliseconds = Math.round(performance.now() - state.begun);
   const isWhole = !failed && !isStopped && status <= WHOLE_STATUS;
   state.isBeginning = !isWhole && state.report !== '';
+  drawGrowth();
   if (failed) endSolving(say('failed', { fault: failed }));
   else if (isStopped) endSolving(say(state.report ? 'stopped' : 'stoppedEmpty', { seconds }));
-  else endSolving(say('done', { answer: say(`status${status}`), milliseconds }));
-  drawGrowth();
+  else endSolving(sayDone(say(`status${status}`), milliseconds));
+  notes.check();
   if (!failed && !isStopped) keepProblem();
+}
+
+// How solving ended, with what was found where the text has one problem.
+function sayDone(answer, milliseconds) {
+  const found = state.items.length === 1 && !state.isBeginning ? sayFound(state.items[0]) : '';
+  return say(found && !state.items[0].isChecked ? 'doneOne' : 'done', { answer, found, milliseconds });
 }
 
 function makeWorker() {
@@ -345,7 +343,7 @@ function tellProgress() {
 function solve() {
   if (!state.engine || state.solving) return;
   endTyping();
-  tree.leave();
+  leave();
   Object.assign(state, { solved: textNow(), report: '', isBeginning: false, begun: performance.now(), pause: LEAST_PAUSE });
   drawReport();
   element('solve').disabled = true;
@@ -400,7 +398,7 @@ function saveSvg() {
 }
 
 function saveItems(act) {
-  if (!state.items.length) note(say('nothing'));
+  if (!state.items.length) note(say('nothing'), () => !state.items.length);
   else act(state.items.filter(item => item.isWhole || item.asked || item.fault));
 }
 
@@ -408,13 +406,18 @@ const OUTS = {
   outText: () => save('pops.pop', 'text/plain', textNow()),
   outReport: () => saveItems(() => save('pops.report', 'text/plain', state.report)),
   outPage: () => saveItems(items => save('pops.html', 'text/html',
-    sheetOf(items, say('sheet'), element('men-shapes').textContent, element('sheet-style').textContent))),
+    sheetOf(items, say('sheet'), element('men-shapes').textContent, element('sheet-style').textContent, givenOf(state.solved)))),
   outSvg: saveSvg,
-  outJson: () => saveItems(items => save('pops.json', 'application/json',
-    items.map(item => `${JSON.stringify(objectOf(item))}\n`).join(''))),
+  outJson: () => saveItems(items => save('pops.json', 'application/json', jsonOf(items))),
   outLink: makeLink,
   outPrint: () => print(),
 };
+
+// The objects of items, a line each.
+function jsonOf(items) {
+  const given = givenOf(state.solved);
+  return items.map(item => `${JSON.stringify(objectOf(item, given[item.number - 1]))}\n`).join('');
+}
 
 async function makeLink() {
   const fragment = fragmentOf(textNow());
@@ -474,8 +477,12 @@ function buildButtons() {
   addButton('changes', 'redo', '↷', () => goSteps(1));
   for (const [name, sign] of Object.entries(CHANGE_SIGNS)) addButton('changes', name, sign, () => changeBoard(name));
   for (const name of ['exchange', 'clear']) addButton('changes', name, null, () => changeBoard(name));
-  addButton('walk', 'first', null, () => tree.leave());
-  addButton('walk', 'before', '◀', () => tree.backward());
+  addButton('changes', 'playing', null, togglePlaying);
+  togglePlaying();
+  addButton('line', 'fromHere', null, solveFromHere);
+  addButton('line', 'makeProblem', null, makeProblem);
+  addButton('walk', 'first', null, leave);
+  addButton('walk', 'before', '◀', goBack);
   addButton('walk', 'after', '▶', () => tree.onward());
   addButton('folds', 'unfold', null, () => tree.foldAll(true));
   addButton('folds', 'fold', null, () => tree.foldAll(false));
@@ -483,6 +490,12 @@ function buildButtons() {
   reached.id = 'reached';
   element('walk').append(reached);
   for (const [name, act] of Object.entries(OUTS)) addButton('outs', name, null, act);
+}
+
+// Whether a man that is moved on the board plays a move.
+function togglePlaying() {
+  state.isPlaying = element('playing').getAttribute('aria-pressed') === 'false';
+  element('playing').setAttribute('aria-pressed', String(state.isPlaying));
 }
 
 // The rows that fields stand in: flags in one, short values in another, and each other field by itself.
@@ -524,7 +537,7 @@ function addProblem() {
 function keyPressed(event) {
   const key = event.key.toLowerCase();
   const isField = event.target.closest?.('input:not([type=checkbox])');
-  if (event.key === 'Escape' && state.walked) tree.leave();
+  if (event.key === 'Escape' && state.walked) leave();
   if (!event.ctrlKey && !event.metaKey) return;
   if (key === 'enter') solve();
   else if (isField) return;
@@ -566,8 +579,15 @@ function listen() {
     keep('pops.kept', null);
     showKept();
   };
+  element('fen').oninput = () => notes.check();
   element('fen').onchange = () => {
-    if (!takeFen(element('fen').value)) note(say('badFen'));
+    const text = element('fen').value;
+    const isSame = unchanged();
+    if (text.trim() && !takeFen(text)) note(say('badFen'), () => element('fen').value === text && isSame());
+  };
+  element('join').onclick = () => {
+    endTyping();
+    setText(withTail(textNow()));
   };
   addEventListener('paste', pasted);
   addEventListener('keydown', keyPressed);
@@ -596,7 +616,8 @@ function begin() {
   buildButtons();
   buildFields();
   tree = new Tree(showPlace);
-  board = new Board({ edit, note });
+  notes = new Notes(element('note'));
+  board = new Board({ change, move, note, check: () => notes.check() });
   element('text').value = textOfFragment(location.hash) ?? kept('pops') ?? element('example').textContent.trimStart();
   state.steps = new Steps(textNow());
   listen();

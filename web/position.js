@@ -1,7 +1,13 @@
-// Positions: men by square, as 'wK' or 'bS' by 'e4'. Changes of a whole board, FEN, and positions behind moves.
+// @ts-check
+// Positions: men by square, as 'wK' or 'bS' by 'e4'. Changes of a whole board, FEN, and positions after moves.
 'use strict';
+/** @typedef {Map<string, string>} Men */
+/** @typedef {{ men: Men, turn: string, noCastling: string[], crossed: string | null }} Fen */
 const FILES = 'abcdefgh';
-const FEN_KINDS = { k: 'K', q: 'Q', r: 'R', b: 'B', n: 'S', p: 'P' };
+// The letters of FEN for our kinds; a letter in brackets is Popeye's, and so are all where S stands for the knight.
+const FEN_LETTERS = { K: 'K', Q: 'Q', R: 'R', B: 'B', S: 'N', P: 'P', G: 'G', N: '(N)' };
+const FEN_KINDS = { K: 'K', Q: 'Q', R: 'R', B: 'B', N: 'S', P: 'P', G: 'G' };
+const FEN_SQUARES = /\(([kqrbspgn])\)|[kqrbspgn]|[1-8]/gi;
 const CORNERS = { K: 'h1', Q: 'a1', k: 'h8', q: 'a8' };
 const placeOf = square => [FILES.indexOf(square[0]), Number(square[1]) - 1];
 const squareOf = (file, rank) => FILES[file] + (rank + 1);
@@ -50,40 +56,78 @@ function menOfRanks(ranks) {
   return men;
 }
 
-// The first field of a FEN, or null where a fairy man stands, which FEN has no letter for.
-function fenOf(men) {
-  if ([...men.values()].some(man => 'GN'.includes(man[1]))) return null;
-  const rank = row => row.replace(/S/g, 'N').replace(/s/g, 'n').replace(/\.+/g, dots => String(dots.length));
-  return ranksOf(men).map(rank).join('/');
+/**
+ * Returns a position as FEN: knights are N, grasshoppers G, nightriders (N). `barred` are the squares of NoCastling.
+ * @param {{ men: Men, turn: string, barred: string[], crossed: string | null }} position
+ */
+function fenOf({ men, turn, barred, crossed }) {
+  const passed = /^[a-h][36]$/.test(crossed ?? '') ? crossed : '-';
+  return `${placementOf(men)} ${turn} ${rightsOf(men, barred)} ${passed} 0 1`;
 }
 
-// A position in FEN: the men, who moves, the squares that NoCastling names and the crossed square; null where the text
-// is none.
+/** @param {Men} men */
+function placementOf(men) {
+  const letter = man => (man[0] === 'w' ? FEN_LETTERS[man[1]] : FEN_LETTERS[man[1]].toLowerCase());
+  const row = rank => [...FILES].map(file => (men.has(file + rank) ? letter(men.get(file + rank)) : '.')).join('');
+  return [...'87654321'].map(rank => row(rank).replace(/\.+/g, points => String(points.length))).join('/');
+}
+
+/** @type {(men: Men, right: string) => boolean} */
+function standAtHome(men, right) {
+  const colour = right < 'a' ? 'w' : 'b';
+  const corner = CORNERS[right];
+  return men.get(corner) === `${colour}R` && men.get(`e${corner[1]}`) === `${colour}K`;
+}
+
+/** @type {(men: Men, barred: string[]) => string} */
+function rightsOf(men, barred) {
+  const isBarred = right => barred.includes(CORNERS[right]) || barred.includes(`e${CORNERS[right][1]}`);
+  return Object.keys(CORNERS).filter(right => standAtHome(men, right) && !isBarred(right)).join('') || '-';
+}
+
+/**
+ * Reads a position in FEN; null if the text is none. The fields after the board may be missing.
+ * @param {string} text
+ * @returns {Fen | null}
+ */
 function readFen(text) {
-  const fields = text.trim().split(/\s+/);
-  const rows = fields[0].split('/');
-  const spread = row => row.replace(/[1-8]/g, digit => '.'.repeat(Number(digit)));
-  const isFen = rows.length === 8 && rows.every(row => /^[kqrbnp.]{8}$/i.test(spread(row))) && !fields[0].includes('.');
-  const [, turn = 'w', rights = null, crossed = '-'] = fields;
-  if (!isFen || fields.length > 6 || !/^[wb]$/.test(turn) || !/^(-|[KQkq]+)$/.test(rights ?? '-')) return null;
-  if (!/^(-|[a-h][36])$/.test(crossed) || !fields.slice(4).every(field => /^\d+$/.test(field))) return null;
-  const ours = letter => (letter === '.' ? '.' : letter < 'a' ? FEN_KINDS[letter.toLowerCase()]
-    : FEN_KINDS[letter].toLowerCase());
-  const men = menOfRanks(rows.map(row => [...spread(row)].map(ours).join('')));
+  const [placement, turn = 'w', rights = null, crossed = '-', ...counts] = text.trim().split(/\s+/);
+  const men = menOfPlacement(placement);
+  if (!men || counts.length > 2 || !counts.every(field => /^\d+$/.test(field))) return null;
+  if (!/^[wb]$/.test(turn) || !/^(-|[KQkq]+)$/.test(rights ?? '-') || !/^(-|[a-h][36])$/.test(crossed)) return null;
   return { men, turn, noCastling: barredCorners(men, rights), crossed: crossed === '-' ? null : crossed };
 }
 
-// The corners whose rook may not castle though king and rook stand at home.
-function barredCorners(men, rights) {
-  if (rights === null) return [];
-  return Object.entries(CORNERS).filter(([right, corner]) => {
-    const colour = right < 'a' ? 'w' : 'b';
-    const isHome = men.get(corner) === `${colour}R` && men.get(`e${corner[1]}`) === `${colour}K`;
-    return isHome && !rights.includes(right);
-  }).map(([, corner]) => corner);
+/**
+ * The men of the first field of a FEN; null if it isn't one.
+ * @param {string} placement
+ * @returns {Men | null}
+ */
+function menOfPlacement(placement) {
+  const isPopeyes = /s/i.test(placement.replace(/\(.\)/g, ''));
+  const kindOf = (letter, bracketed) => (bracketed ?? (isPopeyes ? letter : FEN_KINDS[letter.toUpperCase()])).toUpperCase();
+  const squaresOf = row => [...row.matchAll(FEN_SQUARES)].flatMap(([sign, bracketed]) => {
+    if (/[1-8]/.test(sign)) return Array(Number(sign)).fill('');
+    const letter = bracketed ?? sign;
+    return [(letter < 'a' ? 'w' : 'b') + kindOf(sign, bracketed)];
+  });
+  const rows = placement.split('/');
+  const isFen = rows.length === 8 && rows.every(row => !row.replace(FEN_SQUARES, '') && squaresOf(row).length === 8);
+  if (!isFen) return null;
+  const placed = rows.flatMap((row, index) => squaresOf(row).map((man, file) => /** @type {[string, string]} */ ([squareOf(file, 7 - index), man])));
+  return new Map(placed.filter(([, man]) => man));
 }
 
-// The position behind a move of a report: what it takes, puts and lets be reborn is all in its words.
+/**
+ * The corners whose rook may not castle though king and rook stand at home.
+ * @type {(men: Men, rights: string | null) => string[]}
+ */
+function barredCorners(men, rights) {
+  if (rights === null) return [];
+  return Object.keys(CORNERS).filter(right => standAtHome(men, right) && !rights.includes(right)).map(right => CORNERS[right]);
+}
+
+// The position after a move of a report: the words of the move say all that it takes, puts and lets be reborn.
 function after(men, move) {
   const result = new Map(men);
   const man = result.get(move.from) ?? move.colour + move.kind;

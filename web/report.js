@@ -146,14 +146,28 @@ function sharedRows(lines, path) {
   return rows;
 }
 
-// The objects that pops2json writes of a report, whose title and author are text already.
-function objectOf(item) {
-  if (item.fault) return { number: item.number, sound: false, fault: item.fault };
+/**
+ * What was found in the play of a problem, as the name and the value of a word of the page: keys, or lines of help play.
+ * Null while the play goes on, and for a faulty problem.
+ */
+function foundIn(item) {
+  if (item.isChecked) return { name: 'foundNone', count: 0, isStopped: false };
+  const play = item.phases.find(phase => phase.kind === 'play');
+  if (!play?.total || play.count === null) return null;
+  const { count, isStopped } = play;
+  const one = item.asked.isHelp ? 'foundLine' : 'foundKey';
+  return { name: count > 1 ? `${one}s` : count ? one : 'found0', count, isStopped };
+}
+
+// The objects that pops2json writes of a report; with what the text says of the problem also its origin.
+function objectOf(item, given = null) {
+  const names = ({ title, author }) => ({ title, author, ...(given && { origin: given.origin }) });
+  if (item.fault) return { number: item.number, sound: false, ...(given && names(given)), fault: item.fault };
   const { asked } = item;
   const placed = (square, man) => ({ square, colour: COLOUR_NAMES[man[0]], man: MAN_NAMES[man[1]] });
   const men = [...menOfRanks(item.ranks)].map(([square, man]) => placed(square, man));
   return {
-    number: item.number, sound: true, title: item.title, author: item.author,
+    number: item.number, sound: true, ...names(item),
     board: item.ranks.length ? { ranks: item.ranks, men } : null,
     stipulation: { text: asked.text, play: asked.play, goal: asked.goal === '#' ? 'mate' : 'stalemate',
       moves: asked.moves, half_moves: asked.halfMoves },

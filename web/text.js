@@ -1,6 +1,8 @@
 // A text of problems: the men and fields of one of them, and the text with others in their place. What is not replaced
 // stays byte for byte. It judges nothing; the engine judges.
 'use strict';
+// Text lines that are fields of the page.
+const TEXT_FIELDS = ['title', 'author', 'origin'];
 const TEXT_LINES = ['title', 'author', 'origin', 'remark'];
 const COMMANDS = ['beginproblem', 'pieces', 'stipulation', 'condition', 'option', 'nextproblem', 'endproblem',
   ...TEXT_LINES];
@@ -15,7 +17,7 @@ const commandOf = word => COMMANDS.find(command => isShort(word, command));
 // The words of a text with their places; what stands behind a text command in its line is no word.
 function wordsOf(text) {
   const words = [];
-  const pattern = /[^ \t\r\n]+/g;
+  const pattern = /[^ \t\n\v\f\r]+/g;
   for (let found; (found = pattern.exec(text));) {
     const command = commandOf(found[0]);
     words.push({ word: found[0], from: found.index, to: pattern.lastIndex, command });
@@ -156,7 +158,7 @@ function fieldsOf(text, block) {
   const fields = {};
   const state = { section: null, awaited: null, last: null };
   for (const word of block.words) {
-    if (word.command === 'title' || word.command === 'author') {
+    if (TEXT_FIELDS.includes(word.command)) {
       const said = text.slice(word.to, word.end).trim();
       fields[word.command] = { parts: [{ from: word.from, to: word.end }], said, earlier: fields[word.command] };
     } else if (word.command && !TEXT_LINES.includes(word.command)) {
@@ -256,10 +258,58 @@ function withNewOption(text, block, said) {
 // The text with another value of the field of this name.
 function withField(text, place, name, value) {
   const block = blockAt(text, place);
-  if (name === 'Title' || name === 'Author') return withTextLine(text, block, name, value ?? '');
+  if (TEXT_FIELDS.includes(name.toLowerCase())) return withTextLine(text, block, name, value ?? '');
   if (name === 'Stipulation' || name === 'Condition') return withWord(text, block, name, value ?? '');
   return withOption(text, block, name, value);
 }
+
+/**
+ * The text with the position of a FEN in place of a problem's own.
+ * @param {string} text
+ * @param {number} place a place in the problem
+ * @param {Fen} fen
+ */
+function withFen(text, place, fen) {
+  const placed = withField(withMen(text, place, fen.men), place, 'EnPassant', fen.crossed);
+  return withField(placed, place, 'NoCastling', fen.noCastling.join('') || null);
+}
+
+/** The side that moves first in a problem: Black in help play, unless it begins with White's half-move. */
+const turnOf = fields => (/^h[#=]\d+$/i.test(valueOf(fields, 'stipulation') ?? '') ? 'b' : 'w');
+/** The squares that NoCastling names. */
+const barredIn = fields => (valueOf(fields, 'NoCastling') ?? '').toLowerCase().match(/[a-h][1-8]/g) ?? [];
+
+/** The position of a problem as FEN: its men, the side that moves first, NoCastling, EnPassant. */
+function fenOfBlock(text, block) {
+  const fields = fieldsOf(text, block);
+  return fenOf({ men: menOf(block).men, turn: turnOf(fields), barred: barredIn(fields), crossed: valueOf(fields, 'EnPassant')?.toLowerCase() ?? null });
+}
+
+/**
+ * Where a text goes on after its first EndProblem, though nothing there is read: both lines, counted from 1, and the
+ * BeginProblem that may follow; null if nothing follows.
+ * @param {string} text
+ */
+function tailOf(text) {
+  const words = wordsOf(text);
+  const at = words.findIndex(word => word.command === 'endproblem');
+  if (at < 0 || at === words.length - 1) return null;
+  const [end, next] = words.slice(at, at + 2);
+  const opening = words.slice(at + 1).find(word => !TEXT_LINES.includes(word.command));
+  return {
+    end, endLine: lineOf(text, end.from), line: lineOf(text, next.from),
+    opening: opening?.command === 'beginproblem' ? opening : null,
+  };
+}
+
+/** The text with NextProblem where a second text follows its EndProblem. */
+function withTail(text) {
+  const { end, opening } = tailOf(text);
+  return replaced(text, [{ from: end.from, to: end.to, said: 'NextProblem' }, withBlanks(text, opening)]);
+}
+
+/** The line of a place, counted from 1. */
+const lineOf = (text, place) => text.slice(0, place).split('\n').length;
 
 // Where a line of a text, counted from 1, begins and ends.
 function lineAt(text, line) {

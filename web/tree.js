@@ -28,8 +28,16 @@ function placeIn(row, moves) {
   return placeIn(row.below.find(it => it.moves[0].said === next.said), moves);
 }
 
+// How many keys or lines were found, in words; empty where that isn't known.
+function sayFound(item) {
+  const found = foundIn(item);
+  if (!found) return '';
+  const said = say(found.name, found);
+  return found.isStopped ? say('foundLeast', { found: said }) : said;
+}
+
 class Tree {
-  // SHOW gets the men of the place walked to, the move that led there, or null, and the item.
+  // SHOW gets the place walked to, or null: the men of the diagram, the moves from there, and the item.
   constructor(show) {
     this.showPlace = show;
     this.groups = [];
@@ -93,9 +101,8 @@ class Tree {
   drawnItem(item, fault) {
     const box = document.createElement('section');
     box.groups = [];
-    const head = document.createElement('h2');
-    head.textContent = [say('item', item), item.title, item.author, item.asked?.line].filter(Boolean).join(' · ');
-    box.append(head);
+    box.head = document.createElement('h2');
+    box.append(box.head);
     if (item.fault) box.append(fault(item));
     else if (item.isChecked) box.append(this.line(say('sound')));
     this.growItem(box, item);
@@ -104,6 +111,7 @@ class Tree {
 
   // Draws the phases of an item as they are now.
   growItem(box, item) {
+    box.head.textContent = [say('item', item), item.title, item.author, item.asked?.line, sayFound(item)].filter(Boolean).join(' · ');
     item.phases.forEach((phase, index) => {
       if (index < box.groups.length) this.growPhase(box.groups[index], phase, item);
       else box.append(...this.drawnPhase(phase, item, box));
@@ -241,7 +249,7 @@ class Tree {
     button.setAttribute('aria-current', 'true');
     this.bringToSight(button);
     const moves = movesTo(this.current);
-    this.showPlace(moves.reduce(after, row.group.men), moves.at(-1), row.group.item);
+    this.showPlace({ start: row.group.men, moves, item: row.group.item });
   }
 
   // The tree alone is scrolled for a move, and the page for the board, where a click in the tree asked for it.
@@ -266,7 +274,7 @@ class Tree {
     const { row, index } = this.current;
     this.unmark();
     if (element('tree').contains(document.activeElement)) row.buttons[index].focus({ preventScroll: true });
-    this.showPlace(null, null, null);
+    this.showPlace(null);
   }
 
   onward() {

@@ -1,12 +1,14 @@
 """Characters that don't show, or that look like others."""
 
 import unicodedata
-from typing import List, NamedTuple, Optional
+from typing import Any, Dict, List, NamedTuple, Optional
 
-_LATIN_OF_CYRILLIC = dict(zip("АВЕКМНОРСТУХавекмнорстух", "ABEKMHOPCTYXabekmhopctyx"))
-_LATIN_OF_GREEK = dict(zip("ΑΒΕΗΙΚΜΝΟΡΤΧο", "ABEHIKMNOPTXo"))
-_FIGURINES = dict(zip("♔♕♖♗♘♙♚♛♜♝♞♟", "KQRBSPKQRBSP"))
-_NAMES = {"\ufeff": "byte order mark", "\t": "tabulator"}
+from pops_explain.sentences import DATA
+
+_KNOWN: Dict[str, Any] = DATA["characters"]
+_LIKE = {name: dict(zip(*_KNOWN[name])) for name in ("cyrillic", "greek")}
+_FIGURINES: Dict[str, str] = dict(zip(*_KNOWN["figurines"]))
+_NAMES: Dict[str, str] = _KNOWN["names"]
 
 
 class Odd(NamedTuple):
@@ -18,9 +20,8 @@ class Odd(NamedTuple):
     @property
     def name(self) -> str:
         """As `no-break space`."""
-        return _NAMES.get(self.character) or unicodedata.name(
-            self.character, f"character U+{ord(self.character):04X}"
-        ).lower()
+        code = f"{ord(self.character):04X}"
+        return _NAMES.get(code, f"character U+{code}")
 
 
 def decoded(text: bytes) -> str:
@@ -94,12 +95,23 @@ def plain(text: str) -> str:
 
 
 def _plain(character: str) -> str:
-    for table in (_LATIN_OF_CYRILLIC, _LATIN_OF_GREEK, _FIGURINES):
+    for table in (*_LIKE.values(), _FIGURINES):
         if character in table:
             return table[character]
-    if unicodedata.east_asian_width(character) == "F":
+    if _is_wide(character):
         return unicodedata.normalize("NFKC", character)
     return character
+
+
+def _is_wide(character: str) -> bool:
+    return unicodedata.east_asian_width(character) == "F"
+
+
+def script_of(character: str) -> str:
+    """The script of a letter that looks like one of ours, as `a Greek`."""
+    script = next((name for name, table in _LIKE.items() if character in table), "fullwidth")
+    scripts: Dict[str, str] = _KNOWN["scripts"]
+    return scripts[script]
 
 
 def is_figurine(character: str) -> bool:

@@ -6,6 +6,7 @@ from pops_explain import wordings
 from pops_explain.case import Case, Explanation, at, first_of, quoted
 from pops_explain.characters import shown
 from pops_explain.reading import Awaited, Reading, Section
+from pops_explain.sentences import sentence
 from pops_explain.words import Span, TextLine, Word, named
 
 
@@ -20,12 +21,11 @@ def _causes_of_no_stipulation(case: Case) -> Iterator[Optional[Explanation]]:
     yield _swallowed(case, "Stipulation")
     if openers:
         yield at(
-            f"No stipulation follows {quoted(openers[-1])}. Write it there, as in"
-            " `Stipulation #2`.",
+            sentence("stipulation_empty", opener=quoted(openers[-1])),
             openers[-1].span,
             case.word.span,
         )
-    yield _absent(case, "no stipulation. Write one", "`Stipulation #2`")
+    yield _absent(case, sentence("no_stipulation_write"), "`Stipulation #2`")
 
 
 def no_men(case: Case) -> Explanation:
@@ -36,22 +36,24 @@ def no_men(case: Case) -> Explanation:
 def _causes_of_no_men(case: Case) -> Iterator[Optional[Explanation]]:
     yield _swallowed(case, "Pieces")
     openers = case.openers_of(Section.PIECES)
-    example = "`Pieces White Kg6 Ra1 Black Kg8`"
+    example = sentence("example_men")
     if openers:
         yield at(
-            f"No man follows {quoted(openers[-1])}. Write the men there, as in {example}.",
+            sentence("men_empty", opener=quoted(openers[-1]), example=example),
             openers[-1].span,
             case.word.span,
         )
-    yield _absent(case, "no men. Write them", example)
+    yield _absent(case, sentence("no_men_write"), example)
 
 
 def _absent(case: Case, what: str, example: str) -> Explanation:
     """What the problem hasn't at all, with the word behind which it may stand."""
     before = case.before
     assert before is not None
-    place = f"below line {before.line}" if before.line < case.word.line else f"before {case.quoted}"
-    return case.says(f"The problem has {what} {place}, as {example}.", before.span)
+    place = sentence(
+        "below_line", line=before.line
+    ) if before.line < case.word.line else sentence("before_word", word=case.quoted)
+    return case.says(sentence("absent", what=what, place=place, example=example), before.span)
 
 
 def _empty_problem(case: Case) -> Optional[Explanation]:
@@ -60,11 +62,8 @@ def _empty_problem(case: Case) -> Optional[Explanation]:
     if len(begun) > 1:
         return None
     if case.reading.first:
-        return case.says(f"There is nothing between `BeginProblem` and {case.quoted}.")
-    return case.says(
-        f"There is no problem between `NextProblem` and {case.quoted}. `NextProblem` separates two"
-        " problems: leave one of the two words out."
-    )
+        return case.says(sentence("nothing_between", word=case.quoted))
+    return case.says(sentence("no_problem_between", word=case.quoted))
 
 
 def _swallowed(case: Case, name: str) -> Optional[Explanation]:
@@ -72,8 +71,7 @@ def _swallowed(case: Case, name: str) -> Optional[Explanation]:
     if line is None:
         return None
     return case.says(
-        f"`{line.name}` takes the rest of its line, and so `{name}` there is part of the text."
-        " Write it on a line of its own.",
+        sentence("swallowed", opener=line.name, name=name),
         line.span,
     )
 
@@ -101,30 +99,27 @@ def _causes_of_no_end(text: bytes, reading: Reading) -> Iterator[Optional[Explan
         closing = [word for word in words if named(word, ["EndProblem"]) and len(word) > 4]
         if closing:
             yield at(
-                f"`{line.name}` takes the rest of its line, and so `{shown(closing[0])}` there is"
-                " part of the text. Write it on a line of its own.",
+                sentence("end_swallowed", opener=line.name, word=shown(closing[0])),
                 line.span,
             )
     words = reading.words
     last = words[-1] if words else None
     if reading.awaited not in (None, Awaited.MORE_SQUARES) and reading.option is not None:
         yield at(
-            f"The text ends where {quoted(reading.option)} still awaits its value, and before"
-            " `EndProblem`.",
+            sentence("value_awaited", option=quoted(reading.option)),
             reading.option.span,
         )
     if not reading.first and last is None:
         yield at(
-            "No problem follows the last `NextProblem`. Write `EndProblem` in its place, or the"
-            " problem after it."
+            sentence("no_problem_after")
         )
     missing = _left_out(reading)
     if text and not text.endswith(b"\n") and missing:
         yield at(
-            f"The text ends inside a problem that has no {missing} yet. Was it cut?", *_spans(last)
+            sentence("cut_text", missing=missing), *_spans(last)
         )
     yield at(
-        "The last problem has no `EndProblem`. Write it as the last word of the text.",
+        sentence("end_missing"),
         *_spans(last),
     )
 
@@ -134,9 +129,7 @@ def _old_mac(text: bytes, reading: Reading) -> Optional[Explanation]:
         return None
     line = reading.text_lines[0]
     return at(
-        "The lines end in carriage returns only, as on old Macs, and pops takes them as blanks: so"
-        f" `{line.name}` takes all the rest of the text. Save the text with the line ends of Unix"
-        " or Windows.",
+        sentence("old_mac_line", opener=line.name),
         line.word.span,
     )
 
@@ -154,12 +147,12 @@ def _spans(word: Optional[Word]) -> List[Span]:
 def input_too_long() -> Explanation:
     """Fault 20."""
     return at(
-        "A text has 2^30 bytes (1,073,741,824) at most, and this one is longer. Part it."
+        sentence("input_too_long")
     )
 
 
 def device_failed() -> Explanation:
     """Fault 21."""
     return at(
-        "The text couldn't be read on: it is a folder, or its device failed or was taken away."
+        sentence("device_failed")
     )

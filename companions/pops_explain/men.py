@@ -18,6 +18,7 @@ from pops_explain.reading import (
     kind_of,
     to_be_mated,
 )
+from pops_explain.sentences import sentence
 from pops_explain.words import TEXT_WORDS, Span, named
 from pops_texts.chess import Colour, Kind, Square
 from pops_texts.stipulation import Condition, Play
@@ -38,19 +39,17 @@ def _causes_of_no_colour(case: Case) -> Iterator[Optional[Explanation]]:
     yield _short_command(case)
     if len(case.openers_of(Section.PIECES)) > 1:
         yield case.says(
-            f"Each `Pieces` must name its colour. Write `White` or `Black` after"
-            f" {quoted(opener)}.",
+            sentence("colour_of_each", opener=quoted(opener)),
             opener.span,
         )
     behind = case.behind
     if behind is not None and named(behind.bytes, COLOURS, 1):
         yield case.says(
-            f"A colour comes before its men. Write `{decoded(behind.bytes)}` before"
-            f" {case.quoted}.",
+            sentence("colour_first", colour=decoded(behind.bytes), word=case.quoted),
             behind.span,
         )
     yield case.says(
-        f"There is no colour before {case.quoted}. Write `White` or `Black` after {quoted(opener)}.",
+        sentence("no_colour", word=case.quoted, opener=quoted(opener)),
         opener.span,
     )
 
@@ -59,10 +58,7 @@ def _colour_before_man(case: Case) -> Optional[Explanation]:
     word = case.word.bytes
     if word[:1] not in (b"b", b"B") or not is_man(word[1:]):
         return None
-    return case.says(
-        f"A colour is a word of its own, and holds for all men after it. Write `Black"
-        f" {case.plain[1:]}` in place of {case.quoted}."
-    )
+    return case.says(sentence("black_apart", rest=case.plain[1:], word=case.quoted))
 
 
 def _short_command(case: Case) -> Optional[Explanation]:
@@ -70,10 +66,7 @@ def _short_command(case: Case) -> Optional[Explanation]:
     names = [it for it in (*COMMANDS, *TEXT_WORDS) if it.lower().startswith(word)]
     if len(word) != 2 or not names:
         return None
-    return case.says(
-        f"{case.quoted} is too short. Write three letters or more: `{names[0][:3]}` or"
-        f" `{names[0]}`."
-    )
+    return case.says(sentence("too_short", word=case.quoted, short=names[0][:3], name=names[0]))
 
 
 def square_taken(case: Case) -> Explanation:
@@ -85,17 +78,19 @@ def square_taken(case: Case) -> Explanation:
     kind, colour = kind_of(case.word.bytes), case.reading.colour
     assert kind is not None and colour is not None
     if before.word is case.word:
-        text = f"{case.quoted} names {square.name} twice. Leave one out."
+        text = sentence("square_twice_in_word", word=case.quoted, square=square.name)
         return at(text, first, placed)
     if (before.man.kind, before.man.colour) == (kind, colour):
-        text = (
-            f"The {what} on {square.name} was given before, by {quoted(before.word)}. Leave one"
-            " out."
-        )
+        text = sentence("man_given_twice", what=what, square=square.name, before=quoted(before.word))
         return at(text, first, placed)
-    text = (
-        f"The {what} of {quoted(before.word)} is on {square.name} already, and the"
-        f" {colour.value} {kind.word} of {case.quoted} can't be there too."
+    text = sentence(
+        "square_taken",
+        what=what,
+        before=quoted(before.word),
+        square=square.name,
+        colour=colour.value,
+        kind=kind.word,
+        word=case.quoted,
     )
     return at(text, first, placed)
 
@@ -103,9 +98,9 @@ def square_taken(case: Case) -> Explanation:
 def pawn_outside(case: Case) -> Explanation:
     """Fault 6."""
     square, placed = _square_of(case)
-    text = f"A pawn stands on ranks 2 to 7, and {square.name} is on rank {square.rank}."
+    text = sentence("pawn_outside", square=square.name, rank=square.rank)
     if square.rank == (8 if case.reading.colour is Colour.WHITE else 1):
-        text = f"{text} A pawn that has promoted is what it became: `Q{square.name}`."
+        text = sentence("pawn_promoted", text=text, square=square.name)
     return at(text, placed)
 
 
@@ -119,16 +114,19 @@ def second_king(case: Case) -> Explanation:
     before = case.reading.men[king]
     name = colour.value
     if before.word is case.word:
-        text = f"{case.quoted} gives {name.title()} two kings. Each side has one at most."
+        text = sentence("two_kings_in_word", word=case.quoted, colour=name.title())
         return at(text, span_of(before), placed)
     if colour.opponent not in [it for it, _ in case.reading.colours]:
         other = colour.opponent.name.title()
-        text = (
-            f"{name.title()} has the king of {quoted(before.word)} already. Is `{other}` missing"
-            f" before {case.quoted}?"
+        text = sentence(
+            "second_king_colour",
+            colour=name.title(),
+            before=quoted(before.word),
+            other=other,
+            word=case.quoted,
         )
     else:
-        text = f"{name.title()} has the king of {quoted(before.word)} already, and one is all."
+        text = sentence("second_king", colour=name.title(), before=quoted(before.word))
     return at(text, span_of(before), placed)
 
 
@@ -170,12 +168,12 @@ def _letter_alone(case: Case) -> Optional[Explanation]:
         whole = case.plain + decoded(case.behind.bytes)
         if case.fits(whole):
             return case.says(
-                f"The squares belong to the letter. Write `{whole}`, without a blank.",
+                sentence("squares_parted", whole=whole),
                 case.behind.span,
             )
     if len(case.word.bytes) > 1:
         return None
-    return case.says(f"No square follows the letter {case.quoted}, as in `{case.plain}d4`.")
+    return case.says(sentence("no_square", word=case.quoted, plain=case.plain))
 
 
 def _rank_first(case: Case) -> Optional[Explanation]:
@@ -183,16 +181,14 @@ def _rank_first(case: Case) -> Optional[Explanation]:
     if found is None:
         return None
     mended = found[1] + re.sub("(.)(.)", r"\2\1", found[2])
-    return case.says(f"A square is its file and then its rank. Write `{mended}`.")
+    return case.says(sentence("rank_first", mended=mended))
 
 
 def _line_of_squares(case: Case) -> Optional[Explanation]:
     found = re.match(r"[A-Za-z](?:[a-h][1-8])+(?:-|\.\.+|–)[a-h][1-8]", case.plain)
     if found is None:
         return None
-    return case.says(
-        f"A range of squares isn't read. Name each square, as in `{case.plain[0].upper()}a2b2c2`."
-    )
+    return case.says(sentence("range_of_squares", letter=case.plain[0].upper()))
 
 
 def _bad_square(case: Case) -> Explanation:
@@ -203,12 +199,12 @@ def _bad_square(case: Case) -> Explanation:
     place = 1 + good.end()
     part = bad[:2]
     if re.fullmatch("[a-h]", bad, re.IGNORECASE):
-        text = f"The rank of the last square is missing in {case.quoted}."
+        text = sentence("rank_missing", word=case.quoted)
     elif re.fullmatch("[1-8]", bad) or (good.end() > 0 and bad[0] in "12345678"):
-        text = f"The file is missing before `{bad[0]}` in {case.quoted}: a square is two signs."
+        text = sentence("file_missing", sign=bad[0], word=case.quoted)
         part = bad[:1]
     else:
-        text = f"`{part}` in {case.quoted} is no square: files are a to h, ranks 1 to 8."
+        text = sentence("bad_square", part=part, word=case.quoted)
     stop = place + len(part)
     whole = len(decoded(case.word.bytes)) != len(case.word.bytes)
     return at(text, case.word.span if whole else case.word.part(place, stop))
@@ -220,30 +216,31 @@ def king_missing(case: Case) -> Explanation:
     assert stipulation is not None and given is not None
     side = to_be_mated(stipulation)
     name, other = side.name.title(), side.opponent.name.title()
-    head = f"In {quoted(given)} {name} is to be mated, and has no king."
+    head = sentence("no_king", given=quoted(given), name=name)
     for line in case.reading.text_lines:
         kings = [it for it in line.text.split() if is_man(it) and kind_of(it) is Kind.KING]
         if kings:
             return case.says(
-                f"{head} `{line.name}` takes the rest of its line, and so `{shown(kings[-1])}`"
-                " there is part of the text. Write it on a line of its own.",
+                sentence("king_in_text", head=head, opener=line.name, king=shown(kings[-1])),
                 line.span,
             )
     men = [placed for placed in case.reading.men.values() if placed.man.colour is side]
     last = max(case.reading.men.values(), key=lambda placed: placed.word.start).word
     words = [word for colour, word in case.reading.colours if colour is side]
     if not words:
-        text = f"{head} No `{name}` follows `Pieces`: write it with its king after"
+        text = sentence("no_colour_of_king", head=head, name=name)
         return case.says(f"{text} {quoted(last)}.", last.span)
     if not men:
         return case.says(
-            f"{head} No man follows {quoted(words[0])}, and all are {other}'s.", words[0].span
+            sentence(
+                "no_man_of_colour", head=head, after=quoted(words[0]), other=other
+            ), words[0].span
         )
     rooks = [placed for placed in men if placed.man.kind is Kind.ROOK]
     here = listed([f"{it.man.kind.value}{_square_name(case, it)}" for it in men])
-    text = f"{head} {name} has {here}. Write the king after {quoted(words[0])}."
+    text = sentence("king_after", head=head, name=name, here=here, after=quoted(words[0]))
     if len(rooks) == 1 and stipulation.play is not Play.SELF:
-        text = f"{text} In French R is the king: here it is K."
+        text = sentence("french_king", text=text)
     return case.says(text, words[0].span)
 
 
@@ -263,15 +260,18 @@ def in_check(case: Case) -> Explanation:
     marks = [span_of(reading.men[king])]
     for square in checkers(reading):
         placed = reading.men[square]
-        who.append(f"{placed.man.kind.word} on {square.name}")
+        who.append(sentence("kind_on", kind=placed.man.kind.word, square=square.name))
         marks.append(span_of(placed))
-    text = (
-        f"In {quoted(reading.stipulation_word)} {starter.name.title()} moves first, and could take"
-        f" the {waiting.value} king on {king.name}: the {listed(who)} attack"
-        f"{'s' if len(who) == 1 else ''} it."
+    text = sentence(
+        "in_check_once" if len(who) == 1 else "in_check",
+        given=quoted(reading.stipulation_word),
+        side=starter.name.title(),
+        colour=waiting.value,
+        king=king.name,
+        men=listed(who),
     )
     if starter is Colour.BLACK:
-        text = f"{text} In help play Black moves first; `.5` lets White start, as in `h#2.5`."
+        text = sentence("in_check_help", text=text)
     if reading.condition is Condition.CIRCE:
-        text = f"{text} Circe changes nothing of that."
+        text = sentence("in_check_circe", text=text)
     return case.says(text, *marks)

@@ -17,6 +17,7 @@ from pops_explain.reading import (
     is_number,
     squares_of,
 )
+from pops_explain.sentences import sentence
 from pops_explain.vocabulary import unread
 from pops_explain.words import Word, named
 from pops_texts.chess import Colour
@@ -29,11 +30,9 @@ def second_condition(case: Case) -> Explanation:
     given = case.reading.condition_word
     assert given is not None and case.reading.condition is not None
     if named(case.word.bytes, [case.reading.condition.value]):
-        return case.says(
-            f"The condition {quoted(given)} is given twice. Leave one out.", given.span
-        )
+        return case.says(sentence("condition_twice", given=quoted(given)), given.span)
     return case.says(
-        f"A problem has one condition, and {quoted(given)} was given. pops doesn't join two.",
+        sentence("second_condition", given=quoted(given)),
         given.span,
     )
 
@@ -51,17 +50,14 @@ def _causes_of_no_number(case: Case) -> Iterator[Optional[Explanation]]:
     yield _missing(case, option, "number", "MaxSolutions 5")
     if is_number(case.word.bytes):
         yield case.says(
-            f"`MaxSolutions` takes a number from 1 to {MOST_SOLUTIONS:,} (without commas), and"
-            f" {case.quoted} is none of these."
-            + (" Without the option all solutions are shown." if not int(case.word.bytes) else "")
+            sentence("number_range", most=f"{MOST_SOLUTIONS:,}", word=case.quoted)
+            + (sentence("all_solutions") if not int(case.word.bytes) else "")
         )
     digits = re.sub(r"[,.'_’]", "", case.plain)
     if digits != case.plain and case.fits(digits):
-        yield case.says(f"A number consists of digits only. Write `{digits}`.")
+        yield case.says(sentence("digits_only", digits=digits))
     yield wordings.signs(case)
-    yield case.says(
-        f"`MaxSolutions` takes a number in digits, and {case.quoted} is none.", option.span
-    )
+    yield case.says(sentence("number_wanted", word=case.quoted), option.span)
 
 
 def _missing(case: Case, option: Word, what: str, example: str) -> Optional[Explanation]:
@@ -69,12 +65,11 @@ def _missing(case: Case, option: Word, what: str, example: str) -> Optional[Expl
     there = unread(case.plain)
     if there is None and not named(case.word.bytes, (*COMMANDS, *OPTIONS)):
         return None
-    text = (
-        f"The {what} is missing after {quoted(option)}, as in `{example}`. The fault is reported at"
-        f" the next word, {case.quoted}."
+    text = sentence(
+        "value_missing", what=what, option=quoted(option), example=example, word=case.quoted
     )
     if there is not None:
-        text = f"{text} And pops doesn't read that word of Popeye. {there.instead}."
+        text = sentence("and_unread", text=text, instead=there.instead)
     return case.says(text, option.span)
 
 
@@ -88,21 +83,25 @@ def _causes_of_no_square(case: Case) -> Iterator[Optional[Explanation]]:
     assert option is not None
     one = case.reading.awaited is Awaited.SQUARE
     name = "EnPassant" if one else "NoCastling"
-    wanted = "the square that the pawn has crossed" if one else "squares of kings and rooks"
+    wanted = sentence("wanted_crossed") if one else sentence("wanted_castling")
     example = "EnPassant d6" if one else "NoCastling e1h8"
     yield wordings.invisible(case)
     yield wordings.parted(case)
     yield _missing(case, option, "square", example)
     if one and len(squares_of(case.word.bytes)) > 1:
-        yield case.says(f"`EnPassant` takes one square, {wanted}, and {case.quoted} are more.")
+        yield case.says(sentence("one_square", wanted=wanted, word=case.quoted))
     if one and is_man(case.word.bytes):
-        yield case.says(f"`EnPassant` takes only a square, {wanted}: `{case.plain[1:]}`.")
+        yield case.says(sentence("only_square", wanted=wanted, rest=case.plain[1:]))
     if _SIDES.fullmatch(case.plain):
         yield case.says(
-            f"`{name}` takes {wanted}, as in `{example}`, and {case.quoted} names none."
+            sentence(
+                "square_names_none", name=name, wanted=wanted, example=example, word=case.quoted
+            )
         )
     yield wordings.signs(case)
-    yield case.says(f"`{name}` takes {wanted}, as in `{example}`: {case.quoted} is none.")
+    yield case.says(
+        sentence("square_wanted", name=name, wanted=wanted, example=example, word=case.quoted)
+    )
 
 
 def en_passant_impossible(case: Case) -> Explanation:
@@ -113,28 +112,41 @@ def en_passant_impossible(case: Case) -> Explanation:
     assert reading.stipulation_word is not None
     wants = en_passant_wants(reading)
     starter, other = stipulation.starter, stipulation.starter.opponent
-    head = f"In {quoted(reading.stipulation_word)} {starter.name.title()} moves first, so"
+    head = sentence(
+        "moves_first", given=quoted(reading.stipulation_word), side=starter.name.title()
+    )
     pawn = f"{other.value} pawn"
     if not wants.right_rank:
-        text = f"{head} a {pawn} has crossed a square of rank {wants.rank}"
+        text = sentence("passed_rank", head=head, pawn=pawn, rank=wants.rank)
         there = 5 if starter is Colour.WHITE else 4
         if crossed.rank == there:
             name = f"{crossed.name[0]}{wants.rank}"
-            text = f"{text}. {crossed.name} is where it stands: write `EnPassant {name}`."
+            text = sentence("passed_where", text=text, square=crossed.name, name=name)
         else:
-            text = f"{text}, and {crossed.name} is on rank {crossed.rank}."
+            text = sentence("passed_other", text=text, square=crossed.name, there=crossed.rank)
         return case.says(text, given.span)
     if not wants.pawn_stands:
         return case.says(
-            f"{head} a {pawn} that crossed {crossed.name} stands on {wants.pawn.name}, and none is"
-            " there.",
+            sentence(
+                "passed_no_pawn",
+                head=head,
+                pawn=pawn,
+                square=crossed.name,
+                pawn_square=wants.pawn.name,
+            ),
             given.span,
         )
     taken = listed([square.name for square in wants.occupied])
     marks = [span_of(reading.men[square]) for square in wants.occupied]
     return case.says(
-        f"{head} a {pawn} came from {wants.home.name} over {crossed.name}, and a man stands on"
-        f" {taken}.",
+        sentence(
+            "passed_occupied",
+            head=head,
+            pawn=pawn,
+            home=wants.home.name,
+            square=crossed.name,
+            taken=taken,
+        ),
         given.span,
         *marks,
     )
@@ -144,8 +156,5 @@ def no_castling_square(case: Case) -> Explanation:
     """Fault 16."""
     square, place = case.reading.square, case.reading.square_place
     assert square is not None
-    text = (
-        f"`NoCastling` takes the squares where kings and rooks stand before castling,"
-        f" {listed(CASTLING_SQUARES)}, and {square.name} is none of them."
-    )
+    text = sentence("no_castling_square", squares=listed(CASTLING_SQUARES), square=square.name)
     return at(text, case.word.part(place, place + 2))

@@ -6,12 +6,13 @@ from typing import List, Optional
 from pops_explain.case import Case, Explanation, listed
 from pops_explain.characters import decoded
 from pops_explain.reading import Section, squares_of
+from pops_explain.sentences import DATA, sentence
 from pops_explain.vocabulary import Alphabet, alphabets_of, alphabets_with
 from pops_explain.words import Word, named
 from pops_texts.chess import Kind
 
 _NAMES = {kind.word: kind for kind in Kind}
-_CYRILLIC_MEN = "ФЛСКПфлскп"
+_CYRILLIC_MEN: str = DATA["characters"]["cyrillicMen"]
 
 
 def foreign_letter(case: Case) -> Optional[Explanation]:
@@ -21,7 +22,7 @@ def foreign_letter(case: Case) -> Optional[Explanation]:
         return None
     letter, squares = found[1], found[2]
     if letter[0] in _CYRILLIC_MEN or letter == "Кр":
-        return case.says(f"`{letter}` is a Cyrillic letter. pops reads K Q R B S P G N.")
+        return case.says(sentence("cyrillic_man", letter=letter))
     possible = alphabets_with(letter) if len(letter) == 1 else []
     if not possible:
         return None
@@ -30,17 +31,26 @@ def foreign_letter(case: Case) -> Optional[Explanation]:
     if len(fitting) == 1:
         possible = fitting
     kinds = {_kind(alphabet, letter) for alphabet in possible}
-    text = f"`{letter}` is no man's letter here."
+    text = sentence("no_letter", letter=letter)
     if len(kinds) > 1:
-        ways = [f"{_kind(it, letter).word} in {listed(it.languages)}" for it in possible]
-        return case.says(f"{text} It is {listed(ways, 'or')}. pops reads K Q R B S P G N.")
+        ways = [sentence(
+            "kind_in", kind=_kind(it, letter).word, languages=listed(it.languages)
+        ) for it in possible]
+        return case.says(sentence("letter_of_several", text=text, ways=listed(ways, 'or')))
     kind = kinds.pop()
     languages = [language for it in possible for language in it.languages]
-    text = f"{text} It is the {kind.word} in {listed(languages)}: write `{kind.value}{squares}`."
+    text = sentence(
+        "letter_of_one",
+        text=text,
+        kind=kind.word,
+        languages=listed(languages),
+        man=kind.value,
+        squares=squares,
+    )
     if len(fitting) == 1:
         others = _others(men, case.word, fitting[0])
         if others:
-            text = f"{text} Then {listed(others)}."
+            text = sentence("other_letters", text=text, others=listed(others))
     return case.says(text)
 
 
@@ -50,10 +60,7 @@ def man_by_name(case: Case) -> Optional[Explanation]:
     for name in sorted(_NAMES, key=len, reverse=True):
         letter, rest = _NAMES[name].value, word[len(name) :]
         if word.startswith(name) and (rest in ("", "s") or case.fits(letter + rest)):
-            return case.says(
-                f"A man is a letter with its squares, in one word: a {name} is `{letter}`, as in"
-                f" `{letter}d4`."
-            )
+            return case.says(sentence("man_by_name", name=name, letter=letter))
     return None
 
 
@@ -63,11 +70,8 @@ def two_letters(case: Case) -> Optional[Explanation]:
     if not re.fullmatch(r"[a-z]{2}(?:[a-h][1-8])+", word, re.IGNORECASE):
         return None
     if word[:2].lower() in ("kt", "kn"):
-        return case.says(f"The knight is `S` here. Write `S{word[2:]}`.")
-    return case.says(
-        f"{case.quoted} is a man of two letters, as Popeye has many. pops has king, queen, rook,"
-        " bishop, knight, pawn, grasshopper and nightrider: K Q R B S P G N."
-    )
+        return case.says(sentence("knight_is_s", squares=word[2:]))
+    return case.says(sentence("two_letters", word=case.quoted))
 
 
 def _kind(alphabet: Alphabet, letter: str) -> Kind:
@@ -101,5 +105,5 @@ def _others(men: List[Word], faulty: Word, alphabet: Alphabet) -> List[str]:
     for letter in letters_of(men):
         kind = alphabet.kind(letter)
         if kind is not None and kind.value != letter and letter != decoded(faulty.bytes)[0].upper():
-            others.append(f"`{letter}` is {kind.value} ({kind.word})")
+            others.append(sentence("letter_means", letter=letter, man=kind.value, kind=kind.word))
     return others

@@ -1,66 +1,12 @@
 """Words of Popeye that pops doesn't read, German and French ones, and what to write instead."""
 
-from typing import Dict, List, NamedTuple, Optional, Tuple
+from typing import Any, Dict, List, Mapping, NamedTuple, Optional, Tuple
 
-from pops_import.language import ForeignWord, folded, foreign_words
+from pops_explain.sentences import DATA, sentence
+from pops_import.language import ForeignWord, folded
 from pops_texts.chess import Kind
 
-_NONE = "It has no counterpart here"
-_TWIN = "Write each twin as a problem of its own, after `NextProblem`, as `pops-import` does"
-
-_COMMANDS = {
-    "Twin": _TWIN,
-    "Continued": _TWIN,
-    "ZeroPosition": _TWIN,
-    "Forsyth": "`pops-import` writes the men; `fen2pop` makes a problem of a mere position",
-    "Array": "Write the men of the game array after `Pieces`",
-    "Trace": "Leave it out: lines appear as they are found",
-    "Protocol": "`pops FILE > REPORT` writes the report into a file",
-    "Input": "Put the text of that file in its place",
-    "InputFile": "Put the text of that file in its place",
-    "LaTeX": "`pops-diagram --latex` writes the diagrams of a report for LaTeX",
-    "LaTeXPieces": "`pops-diagram --latex` writes the diagrams of a report for LaTeX",
-    "Award": "Write it after `Remark`",
-    "SStipulation": "pops has `#n`, `s#n`, `h#n`, `h#n.5` and these with `=`, after `Stipulation`",
-}
-_OPTIONS = {
-    "Try": "Give the position after the try, with `Option SetPlay`: a move of Black that is"
-    " missing there refutes it",
-    "Defence": "Give the position after the try, with `Option SetPlay`: a move of Black that is"
-    " missing there refutes it",
-    "Threat": "Give the position after the key, with one move fewer: its keys are the threats",
-    "NoThreat": "No threat is named here: leave it out",
-    "Duplex": "Write a second problem with the colours reversed, after `NextProblem`, as"
-    " `pops-import` does",
-    "HalfDuplex": "Reverse the colours: White's men become Black's, and rank 1 rank 8",
-    "Intelligent": "Leave it out: the solutions are the same, and take longer",
-    "MaxTime": "`timeout 60 pops FILE` stops after 60 seconds and keeps the lines found",
-    "WhiteToPlay": "In help play `h#n.5` lets White start: `h#2.5` for `h#3`",
-    "StartMoveNumber": "Leave it out: each line appears as it is found",
-    "MoveNumbers": "Leave it out: each line appears as it is found",
-    "Quodlibet": _NONE,
-    "PostKeyPlay": "Give the position after the key, with `Option SetPlay`: Black moves first in"
-    " set play",
-    "NonTrivial": _NONE,
-    "MaxFlightSquares": _NONE,
-    "MaxThreats": _NONE,
-    "NoShortVariations": _NONE,
-    "StopOnShortSolutions": "Leave it out: in help play no line shorter than stipulated is shown",
-    "LastCapture": _NONE,
-    "Beep": "Leave it out",
-}
-_ATTRIBUTES = ("Neutral", "HalfNeutral", "Royal", "Chameleon", "Kamikaze", "Volage", "Paralysing")
-
-# Forms that Popeye's German and French don't have, but that are written for its words.
-_OTHER_FORMS = (
-    ForeignWord("German", "Figuren", "Pieces"),
-    ForeignWord("German", "Bedingungen", "Condition"),
-    ForeignWord("German", "Optionen", "Option"),
-    ForeignWord("German", "Autoren", "Author"),
-    ForeignWord("German", "Weisse", "White"),
-    ForeignWord("German", "Schwarze", "Black"),
-    ForeignWord("French", "Jumeaux", "Twin"),
-)
+_KNOWN: Dict[str, Any] = DATA["popeye"]
 _COLOURS = ("white", "black")
 
 
@@ -72,17 +18,21 @@ class Unread(NamedTuple):
     instead: str
 
 
+def _unread(kind: str, instead: Mapping[str, str]) -> Dict[str, Unread]:
+    what = sentence(kind)
+    return {name.lower(): Unread(what, name, text) for name, text in instead.items()}
+
+
 _UNREAD: Dict[str, Unread] = {
-    **{name.lower(): Unread("a command", name, text) for name, text in _COMMANDS.items()},
-    **{name.lower(): Unread("an option", name, text) for name, text in _OPTIONS.items()},
-    **{
-        name.lower(): Unread("a kind of men", name, "pops has only white and black men")
-        for name in _ATTRIBUTES
-    },
+    **_unread("a_command", _KNOWN["commands"]),
+    **_unread("an_option", _KNOWN["options"]),
+    **_unread("a_kind_of_men", dict.fromkeys(_KNOWN["kinds"], sentence("two_colours"))),
 }
-_FOREIGN: Dict[str, ForeignWord] = {}
-for _one in (*foreign_words(), *_OTHER_FORMS):
-    _FOREIGN.setdefault(folded(_one.word), _one)
+_FOREIGN: Dict[str, ForeignWord] = {
+    folded(word): ForeignWord(language, word, english)
+    for language, words in reversed(DATA["foreign"].items())
+    for word, english in words.items()
+}
 
 
 def unread(word: str) -> Optional[Unread]:
@@ -116,13 +66,7 @@ class Alphabet(NamedTuple):
         return tuple(Kind)[place] if place >= 0 else None
 
 
-_ALPHABETS = (
-    Alphabet(("German",), "KDTLSBGN"),
-    Alphabet(("French",), "RDTFCPSN"),
-    Alphabet(("Italian", "Spanish"), "RDTACP"),
-    Alphabet(("Polish",), "KHWGSP"),
-    Alphabet(("Czech",), "KDVSJP"),
-)
+_ALPHABETS = tuple(Alphabet(tuple(it["languages"]), it["letters"]) for it in DATA["alphabets"])
 
 
 def alphabets_of(letters: str) -> List[Alphabet]:

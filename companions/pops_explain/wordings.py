@@ -1,32 +1,15 @@
 """Causes that a word of any section may have: characters, signs, blanks, comments, spelling."""
 
 import re
-from typing import Iterator, List, Optional
+from typing import Dict, Iterator, List, Optional
 
 from pops_explain import characters
 from pops_explain.case import NAMES, Case, Explanation
+from pops_explain.sentences import DATA, sentence
 from pops_explain.vocabulary import foreign, unread
 from pops_explain.words import TEXT_WORDS, named
 
-_SIGNS = {
-    ",": "comma",
-    ":": "colon",
-    ";": "semicolon",
-    ".": "full stop",
-    "!": "exclamation mark",
-    "?": "question mark",
-    "=": "equals sign",
-    "-": "hyphen",
-    "/": "slash",
-    "*": "star",
-    "+": "plus sign",
-    "|": "bar",
-    "_": "underscore",
-    "&": "ampersand",
-    **dict.fromkeys("()[]{}<>", "bracket"),
-    **dict.fromkeys("\"'`´‘’“”„«»", "quotation mark"),
-    **dict.fromkeys("‐‑–—−", "dash"),
-}
+_SIGNS: Dict[str, str] = DATA["signs"]
 _SIGN = "[" + re.escape("".join(_SIGNS)) + "]"
 _COMMENT = re.compile(r"(#|%|//|/\*|\*|;|--|<!--|\{|!|\")")
 _FEN = re.compile(r"(?:[kqrbnpKQRBNP1-8]{1,8}/){7}[kqrbnpKQRBNP1-8]{1,8}")
@@ -37,7 +20,7 @@ def utf_16(case: Case) -> Optional[Explanation]:
     """A text in UTF-16, two bytes a letter."""
     if not _HALVES.match(case.text):
         return None
-    return case.says("The text is in UTF-16, two bytes a letter. Save it as UTF-8 or plain ASCII.")
+    return case.says(sentence("utf_16"))
 
 
 def invisible(case: Case) -> Optional[Explanation]:
@@ -47,21 +30,15 @@ def invisible(case: Case) -> Optional[Explanation]:
         return None
     odd = found[0]
     if odd.character == "\ufeff":
-        where = "at the beginning of" if odd.place == 0 else "in"
-        cure = "Save the text as UTF-8 without it"
-        if case.word.start > 0:
-            cure = "It got in where files were joined: take it out"
-        return case.says(
-            f"There is a byte order mark {where} {case.quoted}: three bytes that don't show but"
-            f" are part of the word. {cure}."
-        )
+        where = sentence("mark_first" if odd.place == 0 else "mark_inside")
+        cure = sentence("mark_joined" if case.word.start > 0 else "mark_save")
+        return case.says(sentence("mark", where=where, word=case.quoted, cure=cure))
     blanks = characters.with_blanks(case.plain)
     mended = next((it for it in (blanks, blanks.replace(" ", "")) if case.fits(it)), None)
-    cure = "Type a blank in its place" if mended is None else f"Write `{mended}`"
-    looks = "looks like a blank" if characters.is_wide_blank(odd.character) else "doesn't show"
-    return case.says(
-        f"The word {case.quoted} holds a {odd.name}, which {looks} and is part of the word. {cure}."
-    )
+    cure = sentence("blank_in_place") if mended is None else sentence("write", mended=mended)
+    is_wide = characters.is_wide_blank(odd.character)
+    looks = sentence("looks_like_blank" if is_wide else "does_not_show")
+    return case.says(sentence("invisible", word=case.quoted, name=odd.name, looks=looks, cure=cure))
 
 
 def look_alike(case: Case) -> Optional[Explanation]:
@@ -73,15 +50,17 @@ def look_alike(case: Case) -> Optional[Explanation]:
     if not characters.is_figurine(odd.character) and not case.fits(mended):
         return None
     if characters.is_figurine(odd.character):
-        return case.says(
-            f"`{odd.character}` is a figurine. pops reads letters: `{mended}`, and the colour as"
-            " `White` or `Black`."
-        )
-    kind = odd.name.split(" ")[0]
-    script = {"cyrillic": "a Cyrillic", "greek": "a Greek", "fullwidth": "a wide"}.get(kind)
+        return case.says(sentence("figurine", letter=odd.character, mended=mended))
+    script = characters.script_of(odd.character)
     return case.says(
-        f"`{odd.character}` in {case.quoted} is {script} letter that looks like"
-        f" `{characters.plain(odd.character)}`. Type the word anew: `{mended}`."
+        sentence(
+            "look_alike",
+            letter=odd.character,
+            word=case.quoted,
+            script=script,
+            like=characters.plain(odd.character),
+            mended=mended,
+        )
     )
 
 
@@ -90,20 +69,14 @@ def comment(case: Case) -> Optional[Explanation]:
     found = _COMMENT.match(case.plain)
     if found is None or case.fits(case.plain.strip("".join(_SIGNS))):
         return None
-    return case.says(
-        f"pops has no comments, and `{found[1]}` begins a word as any letter does. Write `Remark`"
-        " before a comment: it takes the rest of its line."
-    )
+    return case.says(sentence("comment", first=found[1]))
 
 
 def position(case: Case) -> Optional[Explanation]:
     """A position in FEN."""
     if not _FEN.fullmatch(case.plain):
         return None
-    return case.says(
-        f"{case.quoted} is a position in FEN (Forsyth notation), which pops doesn't read."
-        f" `fen2pop --stipulation '#2' '{case.plain}'` makes a problem of it."
-    )
+    return case.says(sentence("position", word=case.quoted, plain=case.plain))
 
 
 def signs(case: Case) -> Optional[Explanation]:
@@ -118,14 +91,14 @@ def signs(case: Case) -> Optional[Explanation]:
     if mended is None:
         return None
     kinds = {_SIGNS[it] for it in inside}
-    if len(kinds) == 1:
-        (kind,) = kinds
-        many = len(inside) > 1
-        subject = f"The {kind}{'s are' if many else ' is'}"
-        subject = subject.replace("dashs", "dashes").replace("slashs", "slashes")
-    else:
-        subject = f"The signs {' '.join(dict.fromkeys(inside))} are"
-    return case.says(f"{subject} part of the word {case.quoted}. Write `{mended}`.")
+    if len(kinds) > 1:
+        listed_signs = " ".join(dict.fromkeys(inside))
+        return case.says(sentence("signs", signs=listed_signs, word=case.quoted, mended=mended))
+    (kind,) = kinds
+    if len(inside) == 1:
+        return case.says(sentence("sign", kind=kind, word=case.quoted, mended=mended))
+    kinds_said = kind + ("es" if kind.endswith("sh") else "s")
+    return case.says(sentence("sign_often", kinds=kinds_said, word=case.quoted, mended=mended))
 
 
 def parted(case: Case) -> Optional[Explanation]:
@@ -134,12 +107,12 @@ def parted(case: Case) -> Optional[Explanation]:
     if case.behind is not None:
         whole = word + characters.decoded(case.behind.bytes)
         if case.fits(whole) and _is_name(whole):
-            return case.says(f"`{whole}` is one word, without a blank.", case.behind.span)
+            return case.says(sentence("parted", whole=whole), case.behind.span)
     before = case.span_before
     if before is not None:
         whole = characters.decoded(case.text[before.start : before.stop]) + word
         if _is_name(whole):
-            return case.says(f"`{whole}` is one word, without a blank.", before)
+            return case.says(sentence("parted", whole=whole), before)
     return None
 
 
@@ -151,16 +124,13 @@ def joined(case: Case) -> Optional[Explanation]:
     """Two words without a blank between them."""
     word = case.plain
     if re.fullmatch("endproblembeg[a-z]*", word, re.IGNORECASE):
-        return case.says(
-            "Two texts were joined here, and `EndProblem` ends the first: nothing after it would"
-            f" be read. Write `NextProblem` in place of {case.quoted}."
-        )
+        return case.says(sentence("texts_joined", word=case.quoted))
     for place in range(len(word) - 1, 0, -1):
         first, second = word[:place], word[place:]
         if second.islower() and (len(second) < 3 or named(first.encode("utf-8"), TEXT_WORDS)):
             continue
         if case.fits(f"{first} {second}"):
-            return case.says(f"A blank is missing in {case.quoted}. Write `{first} {second}`.")
+            return case.says(sentence("joined", word=case.quoted, first=first, second=second))
     return None
 
 
@@ -169,9 +139,15 @@ def of_popeye(case: Case) -> Optional[Explanation]:
     found = unread(case.plain.rstrip(":,;."))
     if found is None:
         return None
-    whole = "" if case.plain.lower() == found.name.lower() else f", `{found.name}`,"
+    is_whole = case.plain.lower() == found.name.lower()
     return case.says(
-        f"{case.quoted} is {found.what} of Popeye{whole} that pops doesn't read. {found.instead}."
+        sentence(
+            "unread" if is_whole else "unread_short",
+            word=case.quoted,
+            what=found.what,
+            name=found.name,
+            instead=found.instead,
+        )
     )
 
 
@@ -180,11 +156,13 @@ def in_another_language(case: Case) -> Optional[Explanation]:
     found = foreign(case.plain.rstrip(":,;."))
     if found is None:
         return None
-    text = f"{case.quoted} is {found.language}, and pops reads only English words."
+    text = sentence("foreign", word=case.quoted, language=found.language)
     there = unread(found.english)
     if there is not None:
-        return case.says(f"{text} It is `{there.name}`, which pops doesn't read. {there.instead}.")
-    return case.says(f"{text} Write `{found.english}`.")
+        return case.says(
+            sentence("foreign_unread", text=text, name=there.name, instead=there.instead)
+        )
+    return case.says(sentence("foreign_written", text=text, english=found.english))
 
 
 def accented(case: Case) -> Optional[Explanation]:
@@ -192,7 +170,7 @@ def accented(case: Case) -> Optional[Explanation]:
     plain = characters.without_accents(case.plain)
     if plain == case.plain or not case.fits(plain):
         return None
-    return case.says(f"pops knows no accents. Write `{plain}` in place of {case.quoted}.")
+    return case.says(sentence("accented", plain=plain, word=case.quoted))
 
 
 def lengthened(case: Case) -> Optional[Explanation]:
@@ -201,10 +179,7 @@ def lengthened(case: Case) -> Optional[Explanation]:
     for name in NAMES:
         if word.startswith(name.lower()) and word[len(name) :].isalpha():
             if case.fits(name):
-                return case.says(
-                    f"A word may be shortened and not lengthened. Write `{name}` in place of"
-                    f" {case.quoted}."
-                )
+                return case.says(sentence("lengthened", name=name, word=case.quoted))
     return None
 
 
@@ -215,10 +190,7 @@ def too_short(case: Case) -> Optional[Explanation]:
         return None
     for name in case.names_here():
         if name.lower().startswith(word.lower()):
-            return case.says(
-                f"{case.quoted} is too short. Write three letters or more: `{name[:3]}` or"
-                f" `{name}`."
-            )
+            return case.says(sentence("too_short", word=case.quoted, short=name[:3], name=name))
     return None
 
 
@@ -230,7 +202,7 @@ def misspelt(case: Case) -> Optional[Explanation]:
     best = min(case.names_here(), key=lambda name: _nearness(word, name), default=None)
     if best is None or _nearness(word, best) > (1 if len(word) < 6 else 2):
         return None
-    return case.says(f"{case.quoted} is no word of pops. It looks like `{best}`, mistyped.")
+    return case.says(sentence("misspelt", word=case.quoted, best=best))
 
 
 def _nearness(word: str, name: str) -> float:
@@ -264,8 +236,7 @@ def rest_of_a_text(case: Case) -> Optional[Explanation]:
     if above is None or above.word.line != case.word.line - 1:
         return None
     return case.says(
-        f"The text of `{above.name}` ends with its line. Write `{above.name}` on one line, or"
-        " `Remark` before the next.",
+        sentence("rest_of_a_text", name=above.name),
         above.span,
     )
 

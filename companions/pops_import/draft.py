@@ -4,6 +4,7 @@ import re
 from dataclasses import dataclass, field
 from typing import Callable, Dict, List, NamedTuple, Optional, Tuple, Union
 
+from pops_import.language import Command
 from pops_import.words import TextLine, Told, Words
 from pops_texts.chess import Man, Square
 
@@ -78,6 +79,12 @@ class Draft:
     twins: List[Twin] = field(default_factory=list)
     notes: List[Told] = field(default_factory=list)
     faults: List[Told] = field(default_factory=list)
+
+    def want(self, number: int, text: str) -> None:
+        """Takes a number of solutions; a text that says more than it becomes a Remark."""
+        self.wanted = number
+        if not text.isdecimal():
+            self.texts.append(TextLine(Command.REMARK, f"intended-solutions: {text}"))
 
     def tell_of_skipped(self, words: Words) -> None:
         """Notes what was skipped among words. With a square in it, it may have been meant."""

@@ -7,7 +7,7 @@ from pops_import.draft import Draft, Twin
 from pops_import.language import LANGUAGES, TEXT_COMMANDS, Command, Language, folded, meaning
 from pops_import.men import PlacedMan, read_forsyth, read_men
 from pops_import.options import read_options
-from pops_import.sections import take_conditions, take_stipulation
+from pops_import.sections import take_conditions, take_stipulation, take_wanted
 from pops_import.twins import read_twin
 from pops_import.words import Told, Unreadable, Word, Words
 from pops_texts.chess import Kind, Man
@@ -18,6 +18,10 @@ _LEAST_LETTERS = 3
 _GAME_ARRAY = "rnbqkbnr/pppppppp/8/8/8/8/PPPPPPPP/RNBQKBNR"
 # Where Popeye writes; a file's name may follow.
 _OUTPUTS = (Command.PROTOCOL, Command.LATEX, Command.LATEX_PIECES, Command.TRACE)
+_SECOND_BLOCK = (
+    "it comes after EndProblem, where neither Popeye nor pops reads on, and so do those after it:"
+    " write NextProblem for EndProblem and the BeginProblem after it"
+)
 _UNREADABLE = {
     Command.BEGIN: "a second BeginProblem: NextProblem parts problems",
     Command.STRUCTURED: "pops knows no SStipulation",
@@ -77,9 +81,24 @@ class _Reader:
             draft.texts.extend(self._words.texts)
             self._words.texts = []
             draft.tell_of_skipped(self._words)
-        if closed is Command.END and self._words.take_all().strip():
-            drafts[-1].notes.append(Told(self._words.line, "nothing after EndProblem is read"))
+        if closed is Command.END:
+            self._tell_of_rest(drafts)
         return drafts
+
+    def _tell_of_rest(self, drafts: List[Draft]) -> None:
+        """Notes what follows EndProblem; another block there is a problem that is left out."""
+        line = self._words.line
+        rest = self._words.take_all()
+        if not rest.strip():
+            return
+        another = _beginning(rest)
+        if another is None:
+            drafts[-1].notes.append(Told(line, "nothing after EndProblem is read"))
+            return
+        line += rest.count("\n", 0, another[1])
+        lost = Draft(len(drafts) + 1, line)
+        lost.faults.append(Told(line, _SECOND_BLOCK))
+        drafts.append(lost)
 
     def _problem(self, draft: Draft) -> Optional[Command]:
         """Reads a problem and the word that closes it; what that is, None at the text's end."""
@@ -154,6 +173,9 @@ class _Reader:
             if setting.stipulation is not None:
                 raise Unreadable(words.line, "a second stipulation")
             setting.stipulation = take_stipulation(words)
+            wanted, text = take_wanted(words)
+            if wanted is not None:
+                draft.want(wanted, text)
         elif command is Command.CONDITION:
             setting.conditions = take_conditions(words, setting.conditions)
         elif command is Command.OPTION:

@@ -1,7 +1,8 @@
 """Stipulations and conditions among the words of a text."""
 
+import math
 import re
-from typing import List, Tuple
+from typing import List, Optional, Tuple
 
 from pops_import.language import meaning, table_of
 from pops_import.words import Unreadable, Words
@@ -9,6 +10,28 @@ from pops_texts.stipulation import Condition
 
 _LEAST_LETTERS = 3
 _CONDITIONS = table_of((condition.value, condition.value) for condition in Condition)
+
+
+# As 2, 2.1.1.1 and 2.1..: how many solutions there are, by how many half-moves they part.
+_WANTED = re.compile(r"[1-9][0-9]{0,8}(\.[1-9][0-9]{0,8})*\.*")
+
+
+def wanted_of(text: str) -> Optional[int]:
+    """The number of solutions that 2.1.1.1 stands for, the product; None for another text."""
+    if not _WANTED.fullmatch(text):
+        return None
+    return math.prod(int(number) for number in text.split(".") if number)
+
+
+def take_wanted(words: Words) -> Tuple[Optional[int], str]:
+    """Takes a number of solutions with points after a stipulation, as 2.1..; and its text."""
+    word = words.peek()
+    if word is None or "." not in word.text:
+        return None, ""
+    wanted = wanted_of(word.text)
+    if wanted is None:
+        return None, ""
+    return wanted, words.take().text
 
 
 def take_stipulation(words: Words) -> str:

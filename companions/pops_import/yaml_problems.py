@@ -1,21 +1,19 @@
 """Reads collections in YAML, as the Olive editor keeps them and as YACPDB gives them out."""
 
-import math
-import re
-from typing import Callable, Iterator, List, Tuple
+from typing import Callable, Dict, Iterator, List, Tuple
 
 from pops_import.draft import Draft, Twin
 from pops_import.language import ENGLISH, Command
 from pops_import.men import read_men
 from pops_import.options import read_options
+from pops_import.origins import origin_of
 from pops_import.popeye import place
-from pops_import.sections import take_conditions
+from pops_import.sections import take_conditions, wanted_of
 from pops_import.twins import read_twin
 from pops_import.words import TextLine, Told, Unreadable, Words
 from pops_import.yaml_text import Node, Scalar, YamlError, documents
 
 _COLOURS = ("white", "black", "neutral")
-_NUMBERS = re.compile(r"[1-9][0-9]*(\.[1-9][0-9]*)*")
 # The twin that stands in place of the position itself.
 _FIRST_TWIN = "a"
 
@@ -37,6 +35,7 @@ def read_yaml(text: str) -> List[Draft]:
                 draft.line = min((key.line for key in problem), default=document.line)
                 for key, value in problem.items():
                     _read_key(key, value, draft)
+                _read_origin(problem, draft)
             else:
                 line = problem.line if isinstance(problem, Scalar) else draft.line
                 draft.faults.append(Told(line, "there are no keys of a problem"))
@@ -48,20 +47,25 @@ def _read_key(key: Scalar, value: Node, draft: Draft) -> None:
         "title": _read_title,
         "author": _read_authors,
         "authors": _read_authors,
-        "source": _read_origin,
-        "date": _read_origin,
+        "source": _read_later,
+        "date": _read_later,
         "algebraic": _read_men,
         "stipulation": _read_stipulation,
         "conditions": _read_conditions,
         "options": _read_options,
         "twins": _read_twins,
         "intended-solutions": _read_wanted,
+        "comments": _read_comments,
     }
     reader = readers.get(key.lower(), _read_other)
     try:
         reader(key, value, draft)
     except Unreadable as error:
         draft.faults.append(error.told)
+
+
+def _read_later(_: Scalar, __: Node, ___: Draft) -> None:
+    """Source and date are read together, after all keys."""
 
 
 def _texts(node: Node) -> List[Scalar]:
@@ -90,17 +94,31 @@ def _read_authors(_: Scalar, value: Node, draft: Draft) -> None:
     draft.texts.append(TextLine(Command.AUTHOR, _one_line(value, "; ")))
 
 
-def _read_origin(_: Scalar, value: Node, draft: Draft) -> None:
+def _read_origin(keys: Dict[Scalar, Node], draft: Draft) -> None:
     """Source and date, which are one line."""
-    if isinstance(value, dict):
-        value = [value[key] if key == "name" else {key: value[key]} for key in value if value[key]]
-    text = _one_line(value, ", ")
-    for number, line in enumerate(draft.texts):
-        if line.command is Command.ORIGIN:
-            draft.texts[number] = TextLine(Command.ORIGIN, f"{line.text}, {text}")
-            return
-    if text:
-        draft.texts.append(TextLine(Command.ORIGIN, text))
+    parts: List[Tuple[str, str]] = []
+    for key, value in keys.items():
+        name = key.lower()
+        if name == "source":
+            parts.extend(_parts_of_origin("name", value))
+        elif name == "date":
+            parts.extend(_parts_of_origin("date", value))
+    line, rest = origin_of(parts)
+    if line:
+        draft.texts.append(TextLine(Command.ORIGIN, line))
+    if rest:
+        draft.texts.append(TextLine(Command.REMARK, f"source: {rest}"))
+
+
+def _parts_of_origin(name: str, node: Node) -> Iterator[Tuple[str, str]]:
+    """The named texts of a source or a date; a text without a key has this name."""
+    if isinstance(node, dict):
+        for key, value in node.items():
+            yield from _parts_of_origin(key.lower(), value)
+    else:
+        text = _one_line(node, ", ")
+        if text:
+            yield name, text
 
 
 def _read_stipulation(key: Scalar, value: Node, draft: Draft) -> None:
@@ -109,16 +127,29 @@ def _read_stipulation(key: Scalar, value: Node, draft: Draft) -> None:
         raise Unreadable(
             key.line, "the stipulation is empty: in YAML # begins a comment, so put it in quotes"
         )
-    draft.setting.stipulation = " ".join(texts)
+    text = " ".join(texts)
+    stipulation, _, number = text.rpartition(" ")
+    wanted = wanted_of(number) if stipulation else None
+    if wanted is None:
+        draft.setting.stipulation = text
+        return
+    draft.setting.stipulation = stipulation
+    draft.want(wanted, number)
 
 
 def _read_wanted(key: Scalar, value: Node, draft: Draft) -> None:
     """The number of solutions wanted: as it is, or as 2.1.1, of which the product is meant."""
     text = _one_line(value, " ")
-    if _NUMBERS.fullmatch(text):
-        draft.wanted = math.prod(int(number) for number in text.split("."))
-    if not text.isdecimal():
+    wanted = wanted_of(text)
+    if wanted is None:
         _read_other(key, value, draft)
+    else:
+        draft.want(wanted, text)
+
+
+def _read_comments(_: Scalar, value: Node, draft: Draft) -> None:
+    for text in _texts(value):
+        draft.texts.extend(TextLine(Command.REMARK, line) for line in text.split("\n"))
 
 
 def _read_other(key: Scalar, value: Node, draft: Draft) -> None:

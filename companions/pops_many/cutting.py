@@ -6,7 +6,7 @@ is read.
 """
 
 import re
-from typing import List, NamedTuple
+from typing import List, NamedTuple, Optional
 
 # The most bytes that pops reads of an input; a longer one is left to one run of it.
 LONGEST_INPUT = 1 << 30
@@ -14,6 +14,7 @@ LONGEST_INPUT = 1 << 30
 # What parts words.
 BLANKS = rb"\t\n\x0b\x0c\r "
 _TEXT_WORDS = ("title", "author", "origin", "remark")
+_BEGIN = "beginproblem"
 _NEXT = "nextproblem"
 _END = "endproblem"
 
@@ -38,6 +39,12 @@ _MARKS = re.compile(
     + rb"])"
     rb"|(?P<end>" + short_forms(_END) + rb")(?![^" + BLANKS + rb"]))",
     re.IGNORECASE,
+)
+_NO_BLANK = re.compile(rb"[^" + BLANKS + rb"]")
+# A BeginProblem that begins a line.
+_BLOCK = re.compile(
+    rb"^[\t\x0b\x0c\r ]*(?:" + short_forms(_BEGIN) + rb")(?![^" + BLANKS + rb"])",
+    re.IGNORECASE | re.MULTILINE,
 )
 
 
@@ -91,3 +98,43 @@ def cut(text: bytes) -> List[Piece]:
         start = mark.end()
     pieces.append(Piece(len(pieces) + 1, start, len(text), line_ends, False))
     return pieces
+
+
+class Rest(NamedTuple):
+    """What follows the EndProblem of an input: `pops` doesn't read it.
+
+    `line` is the line of its first word, from 1, `problems` how many problems it holds.
+    """
+
+    line: int
+    problems: int
+
+    @property
+    def text(self) -> str:
+        """What is lost, and what to write instead."""
+        said = (
+            f"nothing after the first EndProblem is read, and the text goes on in line {self.line}"
+        )
+        if not self.problems:
+            return said
+        lost = "1 problem is" if self.problems == 1 else f"{self.problems} problems are"
+        return (
+            f"{said}: {lost} lost. Write NextProblem for EndProblem and the BeginProblem after it"
+        )
+
+
+def rest_of(text: bytes) -> Optional[Rest]:
+    """What follows the EndProblem of an input; None where nothing but blanks does."""
+    last = cut(text)[-1]
+    if not last.closed:
+        return None
+    end = _MARKS.match(text, last.stop)
+    assert end is not None
+    first = _NO_BLANK.search(text, end.end())
+    if first is None:
+        return None
+    problems = len(_BLOCK.findall(text, end.end()))
+    if problems:
+        marks = _MARKS.finditer(text, end.end())
+        problems += sum(mark.lastgroup == "next" for mark in marks)
+    return Rest(text.count(b"\n", 0, first.start()) + 1, problems)

@@ -8,6 +8,8 @@ from pops_many.tasks import Result, Task
 
 # A run that came to no end is tried so many times in all.
 _TRIES = 2
+# After so many seconds without a result `wait_on` is called, so that a person sees that time passes.
+_SECONDS_OF_SILENCE = 0.5
 
 
 def _solved(program: Program, task: Task) -> Result:
@@ -21,7 +23,11 @@ def _solved(program: Program, task: Task) -> Result:
 
 
 def run_here(
-    program: Program, tasks: Iterable[Task], jobs: int, keep: Callable[[Result], None]
+    program: Program,
+    tasks: Iterable[Task],
+    jobs: int,
+    keep: Callable[[Result], None],
+    wait_on: Callable[[], None] = lambda: None,
 ) -> List[Tuple[Task, str]]:
     """Runs tasks, so many at a time, and hands each result on as it comes.
 
@@ -43,7 +49,9 @@ def run_here(
                     running.add(future)
                 if not running:
                     return failed
-                done, running = wait(running, return_when=FIRST_COMPLETED)
+                done, running = wait(running, _SECONDS_OF_SILENCE, FIRST_COMPLETED)
+                if not done:
+                    wait_on()
                 for future in done:
                     task = task_of.pop(future)
                     try:

@@ -48,12 +48,19 @@ class Progress:
         if is_last or not self._is_of_parts:
             self._tell(self.line, is_last)
 
+    def wait_on(self) -> None:
+        """Shows that time passes while no problem is done."""
+        if not self._is_of_parts:
+            self._tell(self.line, False)
+
     def line(self, seconds: float) -> str:
         """The line after so many seconds of this run."""
         text = f"{self._name}: {self._done} of {self._total} problems"
         left = self._total - self._done
         if left and self._done > self._before:
             text += f", about {duration(seconds / (self._done - self._before) * left)} left"
+        elif left:
+            text += f", {duration(seconds)} so far"
         return text
 
     def begin_parts(self, left: int) -> None:

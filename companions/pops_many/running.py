@@ -97,7 +97,7 @@ class Run:
             here = [task for task in self._left if not Machines.takes(task)]
             there = [task for task in self._left if Machines.takes(task)]
             failed.extend(elsewhere.machines.run(there, self._keep))
-        failed.extend(run_here(self._program, here, jobs, self._keep))
+        failed.extend(run_here(self._program, here, jobs, self._keep, self._progress.wait_on))
         if self._splitting is not None:
             self._splitting.cut(sorted(self._long, key=lambda task: task.place))
             self._splitting.run(elsewhere.parts if elsewhere else None, jobs)

@@ -1,14 +1,15 @@
 """What is known of the problems of a report beside it: wanted numbers, and short solutions."""
 
+from dataclasses import replace
 from typing import Iterator, List, NoReturn, Optional
 
-from pops_review.given import GivenProblem, given_problems
 from pops_review.judging import Judgement, judged, missing
 from pops_review.posing import AnswersError, ShortAnswers
-from pops_review.reading import reviewed_report
-from pops_texts import command
+from pops_review.reading import reviewed_unfinished_report
 from pops_texts.command import CommandError, Status
-from pops_texts.report import Item, SoundItem
+from pops_texts.given import GivenProblem
+from pops_texts.given_source import read_given
+from pops_texts.report import AnyItem, SoundItem
 from pops_texts.stipulation import Play
 
 
@@ -18,24 +19,26 @@ class Beside:
     def __init__(
         self, companion: str, solutions: int, input_file: Optional[str], short_file: Optional[str]
     ):
-        """Reads both. `solutions` are wanted in help play where the input says nothing."""
+        """Reads both. `solutions` are wanted in help play where the input says nothing.
+
+        `given` are the problems of the input, none where none is named.
+        """
         self._solutions = solutions
         self._input_file = input_file
         self._short_file = short_file
-        self._given: List[GivenProblem] = []
+        self.given: List[GivenProblem] = []
         self._answers: Optional[ShortAnswers] = None
         if input_file is not None:
-            with command.opened(input_file) as source:
-                self._given = given_problems(source.read())
+            self.given = read_given(companion, input_file)
         if short_file is not None:
-            with reviewed_report(companion, short_file, "utf-8") as items:
+            with reviewed_unfinished_report(companion, short_file, None, "utf-8") as items:
                 try:
                     self._answers = ShortAnswers(items)
                 except AnswersError as error:
                     self._refuse_answers(error)
 
-    def judgements(self, items: Iterator[Item]) -> Iterator[Judgement]:
-        """Judges the items of a report, and tells the problems that it lacks."""
+    def judgements(self, items: Iterator[AnyItem]) -> Iterator[Judgement]:
+        """Judges the items of a report, and adds the problems that it lacks."""
         last = 0
         for item in items:
             if item.number <= last:
@@ -43,29 +46,35 @@ class Beside:
                     message = "--input and --short go with one report, not with several joined"
                     raise CommandError(Status.DEVICE, message)
                 last = 0
-            yield from map(missing, range(last + 1, item.number))
+            yield from map(self._missing, range(last + 1, item.number))
             last = item.number
             yield self._judged(item)
-        yield from map(missing, range(last + 1, len(self._given) + 1))
+        yield from map(self._missing, range(last + 1, len(self.given) + 1))
 
-    def _judged(self, item: Item) -> Judgement:
-        if self._input_file is not None and item.number > len(self._given):
+    def _given_of(self, number: int) -> Optional[GivenProblem]:
+        return self.given[number - 1] if number <= len(self.given) else None
+
+    def _missing(self, number: int) -> Judgement:
+        return replace(missing(number), given=self._given_of(number))
+
+    def _judged(self, item: AnyItem) -> Judgement:
+        if self._input_file is not None and item.number > len(self.given):
             self._refuse_input(f"it has no problem {item.number}")
-        if not isinstance(item, SoundItem):
-            return judged(item, 1, None)
-        short = None
-        if self._answers is not None:
-            try:
-                short = self._answers.of(item)
-            except AnswersError as error:
-                self._refuse_answers(error)
-        return judged(item, self._wanted(item), short)
+        wanted, short = 1, None
+        if isinstance(item, SoundItem):
+            wanted = self._wanted(item)
+            if self._answers is not None:
+                try:
+                    short = self._answers.of(item)
+                except AnswersError as error:
+                    self._refuse_answers(error)
+        return replace(judged(item, wanted, short), given=self._given_of(item.number))
 
     def _wanted(self, item: SoundItem) -> int:
         usual = self._solutions if item.stipulation.play is Play.HELP else 1
         if self._input_file is None:
             return usual
-        problem = self._given[item.number - 1]
+        problem = self.given[item.number - 1]
         if problem.stipulation != item.stipulation:
             self._refuse_input(f"problem {item.number} has another stipulation there")
         return usual if problem.wanted is None else problem.wanted

@@ -3,11 +3,13 @@
 import csv
 import io
 from collections import Counter
-from typing import Iterator, List, Optional
+from typing import Iterable, Iterator, List, Optional
 
-from pops_review.judging import Finding, Judgement, Verdict, Weight
+from pops_review.judged_groups import JudgedGroup
+from pops_review.judging import Finding, Judgement, Verdict
 from pops_review.naming import counted, described, shown
 from pops_texts.report import SoundItem
+from pops_texts.titles import printable
 
 # So many moves of a finding are shown where not all are asked for.
 MOST_LINES = 10
@@ -38,15 +40,36 @@ def lines_of(finding: Finding, most: Optional[int]) -> List[str]:
     return [*finding.lines[:most], f"and {len(finding.lines) - most} more"]
 
 
-def as_text(judgement: Judgement, encoding: str, most: Optional[int]) -> str:
-    """The lines of a problem: its verdict, below it what was found."""
-    name = described(judgement.item, encoding)
-    told = (f"problem {judgement.number}", judgement.verdict.value, name)
+def as_text(judged: JudgedGroup, encoding: str, most: Optional[int]) -> str:
+    """The lines of a problem: its verdict, below it what was found, for each twin by itself."""
+    told = (judged.group.numbers, judged.verdict.value, name_of(judged, encoding))
     parts = [": ".join(filter(None, told))]
-    for finding in judgement.findings:
-        parts.append(f"  {finding.text}")
-        parts.extend(f"    {line}" for line in lines_of(finding, most))
+    if judged.group.is_alone:
+        parts.extend(_findings(judged.judgements[0], "  ", most))
+    else:
+        for heading, judgement in judged.headings:
+            parts.append(f"  {heading}: {judgement.verdict.value}")
+            parts.extend(_findings(judgement, "    ", most))
     return "\n".join(parts) + "\n"
+
+
+def name_of(judged: JudgedGroup, encoding: str) -> str:
+    """Stipulation, title and author; of twins those of the first, its title without the label."""
+    first, group = judged.judgements[0], judged.group
+    whole = described(first.item, encoding, first.given)
+    if group.is_alone:
+        return whole
+    asked = whole.split(", ", 1)[0] if isinstance(first.item, SoundItem) else ""
+    author = shown(group.author, encoding)
+    name = f"{printable(group.title or '')} ({author})".strip() if author else group.title or ""
+    return ", ".join(filter(None, (asked, name)))
+
+
+def _findings(judgement: Judgement, indent: str, most: Optional[int]) -> Iterator[str]:
+    for finding in judgement.findings:
+        yield f"{indent}{finding.text}"
+        for line in lines_of(finding, most):
+            yield f"{indent}  {line}"
 
 
 def csv_line(values: "tuple[object, ...]") -> str:
@@ -57,13 +80,13 @@ def csv_line(values: "tuple[object, ...]") -> str:
 
 def as_csv(judgement: Judgement, encoding: str) -> str:
     """The row of a problem; what the report doesn't show stays empty."""
-    reasons = [finding.text for finding in judgement.findings if finding.weight is not Weight.NOTE]
     sound = judgement.item if isinstance(judgement.item, SoundItem) else None
+    named = sound or judgement.given
     return csv_line(
         (
             judgement.number,
-            shown(sound and sound.title, encoding),
-            shown(sound and sound.author, encoding),
+            shown(None if named is None else named.title, encoding),
+            shown(None if named is None else named.author, encoding),
             sound.stipulation.text if sound else "",
             sound.condition.value if sound and sound.condition else "",
             judgement.verdict.value,
@@ -75,22 +98,22 @@ def as_csv(judgement: Judgement, encoding: str) -> str:
             judgement.duals_earlier,
             judgement.set_solutions,
             judgement.unprovided_checks,
-            "; ".join(reasons),
+            "; ".join(judgement.reasons),
         )
     )
 
 
 class Tally:
-    """How many problems have each verdict."""
+    """How many problems have each verdict; twins are one problem."""
 
     def __init__(self) -> None:
         self._counts: "Counter[Verdict]" = Counter()
 
-    def counted(self, judgements: Iterator[Judgement]) -> Iterator[Judgement]:
+    def counted(self, judged: Iterable[JudgedGroup]) -> Iterator[JudgedGroup]:
         """Hands judgements on and counts them."""
-        for judgement in judgements:
-            self._counts[judgement.verdict] += 1
-            yield judgement
+        for one in judged:
+            self._counts[one.verdict] += 1
+            yield one
 
     @property
     def all_sound(self) -> bool:

@@ -3,14 +3,17 @@
 from collections import Counter
 from dataclasses import dataclass, field
 from enum import Enum
-from typing import List, Optional, Tuple
+from typing import Dict, List, Optional, Tuple
 
 from pops_review.duals import Dual, Place, last_half, late_partings, tree_duals
 from pops_review.naming import counted
+from pops_texts.chess import Kind
+from pops_texts.given import GivenProblem
 from pops_texts.report import (
+    AnyItem,
     FaultyItem,
+    HeadlessItem,
     HelpLine,
-    Item,
     Mark,
     Node,
     Phase,
@@ -52,11 +55,13 @@ class Finding:
 class Judgement:
     """A problem with all that was found; without an item the report lacks it.
 
-    A number is None where the report doesn't show it.
+    `given` is the problem in the input, if there is one. A number is None where the report doesn't
+    show it.
     """
 
     number: int
-    item: Optional[Item]
+    item: Optional[AnyItem]
+    given: Optional[GivenProblem] = None
     findings: List[Finding] = field(default_factory=list)
     solutions: Optional[int] = None
     stopped: bool = False
@@ -76,11 +81,16 @@ class Judgement:
             return Verdict.UNSOUND
         return Verdict.UNDECIDED if Weight.OPEN in weights else Verdict.SOUND
 
+    @property
+    def reasons(self) -> List[str]:
+        """What decides the verdict, in words; nothing for a sound problem."""
+        return [finding.text for finding in self.findings if finding.weight is not Weight.NOTE]
+
     def find(self, weight: Weight, text: str, lines: Tuple[str, ...] = ()) -> None:
         self.findings.append(Finding(weight, text, lines))
 
 
-def judged(item: Item, wanted: int, short: Optional[Tuple[str, ...]]) -> Judgement:
+def judged(item: AnyItem, wanted: int, short: Optional[Tuple[str, ...]]) -> Judgement:
     """The judgement of an item, by the number of solutions that it should have.
 
     `short` are the short solutions that were found elsewhere, None where none were looked for.
@@ -90,8 +100,15 @@ def judged(item: Item, wanted: int, short: Optional[Tuple[str, ...]]) -> Judgeme
         fault = item.fault
         judgement.find(Weight.FAULT, f"line {fault.line}: fault {fault.number}: {fault.text}")
         return judgement
+    if isinstance(item, HeadlessItem):
+        judgement.find(Weight.OPEN, f"unfinished: {item.unfinished}")
+        return judgement
     judgement.wanted = wanted
+    _warn_of_nightriders(judgement, item)
     play = _phase(item, PhaseKind.PLAY)
+    if item.unfinished is not None and (play is None or play.total is None):
+        _judge_unfinished(judgement, item, play, short)
+        return judgement
     if play is None or play.total is None:
         judgement.find(Weight.OPEN, "not solved")
         return judgement
@@ -100,6 +117,40 @@ def judged(item: Item, wanted: int, short: Optional[Tuple[str, ...]]) -> Judgeme
     _judge_duals(judgement, item.stipulation, play)
     _judge_set_play(judgement, item, play)
     return judgement
+
+
+def _warn_of_nightriders(judgement: Judgement, item: SoundItem) -> None:
+    kinds = set() if item.board is None else {man.kind for man in item.board.men.values()}
+    if Kind.NIGHTRIDER in kinds and Kind.KNIGHT not in kinds:
+        judgement.find(Weight.NOTE, "N is a nightrider here, and there is no knight: knights are S")
+
+
+def _judge_unfinished(
+    judgement: Judgement, item: SoundItem, play: Optional[Phase], short: Optional[Tuple[str, ...]]
+) -> None:
+    """Judges by what was found before the problem was stopped; whatever is missing stays open.
+
+    The variations below a key may be cut, so that only keys that reach the goal at once are known
+    to be short.
+    """
+    assert judgement.wanted is not None
+    solutions = () if play is None else play.solutions
+    found, wanted = len(solutions), judgement.wanted
+    judgement.solutions, judgement.stopped = found, True
+    word = "solution" if item.stipulation.play is Play.HELP else "key"
+    lines = () if play is None else _texts(play)
+    if found > wanted:
+        text = f"cooked: at least {counted(found, word)}, {wanted} wanted"
+        judgement.find(Weight.FLAW, text, lines)
+    is_short = _can_be_short(item.stipulation)
+    ending = [node.text for node in solutions if isinstance(node, Node) and _ends(node.move)]
+    asked = (*(short or ()), *(text for text in ending if text not in (short or ())))
+    if is_short and asked:
+        judgement.short_solutions = len(asked)
+        judgement.find(Weight.FLAW, f"at least {counted(len(asked), 'short solution')}", asked)
+    so_far = f"at least {counted(found, word)}, {wanted} wanted" if found else f"no {word} so far"
+    shown = () if found > wanted else lines
+    judgement.find(Weight.OPEN, f"unfinished: {so_far} ({item.unfinished})", shown)
 
 
 def missing(number: int) -> Judgement:
@@ -214,7 +265,7 @@ def _find_duals(judgement: Judgement, where: str, duals: List[Dual]) -> None:
 
 def _judge_set_play(judgement: Judgement, item: SoundItem, play: Phase) -> None:
     phase = _phase(item, PhaseKind.SET)
-    if phase is None:
+    if phase is None or (phase.total is None and phase.is_possible):
         return
     if phase.total is None:
         judgement.find(Weight.NOTE, "set play not possible")
@@ -248,7 +299,7 @@ def _with_continuations(node: Node) -> str:
 def _unprovided_checks(provided: List[Node], keys: List[Node]) -> Tuple[str, ...]:
     """The checks of Black behind the keys that set play doesn't show, by their squares."""
     known = {_step(node.move) for node in provided}
-    checks = {}
+    checks: Dict[str, None] = {}
     for key in keys:
         for defence in key.below:
             if defence.move.mark is Mark.CHECK and _step(defence.move) not in known:

@@ -3,7 +3,8 @@
 from typing import Optional
 
 from pops_texts import titles
-from pops_texts.report import Item, SoundItem
+from pops_texts.given import GivenProblem
+from pops_texts.report import AnyItem, SoundItem
 from pops_texts.titles import printable
 
 
@@ -12,13 +13,22 @@ def shown(text: Optional[bytes], encoding: str) -> str:
     return printable(titles.shown(text or b"", encoding))
 
 
-def described(item: Optional[Item], encoding: str) -> str:
-    """Stipulation, title and author: `#5, Excelsior (Sam Loyd)`; empty where none are known."""
-    if not isinstance(item, SoundItem):
+def described(item: Optional[AnyItem], encoding: str, given: Optional[GivenProblem] = None) -> str:
+    """Stipulation, title and author: `#5, Excelsior (Sam Loyd)`; empty where none are known.
+
+    Of a problem without these in its report, `given` has them.
+    """
+    if isinstance(item, SoundItem):
+        return ", ".join(filter(None, (item.asked, _name(item.title, item.author, encoding))))
+    if given is None:
         return ""
-    title, author = shown(item.title, encoding), shown(item.author, encoding)
-    name = f"{title} ({author})".strip() if author else title
-    return f"{item.asked}, {name}" if name else item.asked
+    asked = "" if given.stipulation is None else given.stipulation.text
+    return ", ".join(filter(None, (asked, _name(given.title, given.author, encoding))))
+
+
+def _name(title: Optional[bytes], author: Optional[bytes], encoding: str) -> str:
+    title_shown, author_shown = shown(title, encoding), shown(author, encoding)
+    return f"{title_shown} ({author_shown})".strip() if author_shown else title_shown
 
 
 def counted(number: int, word: str) -> str:

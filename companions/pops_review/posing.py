@@ -4,8 +4,8 @@ import re
 from dataclasses import dataclass, replace
 from typing import Dict, Iterable, Iterator, List, Optional, Tuple
 
-from pops_review.given import GivenProblem, is_form_of
-from pops_texts.report import Board, FaultyItem, HelpLine, Item, PhaseKind, SoundItem
+from pops_texts.given import GivenProblem, is_form_of
+from pops_texts.report import AnyItem, Board, HelpLine, PhaseKind, SoundItem
 from pops_texts.stipulation import Condition, Play, Stipulation
 
 _SECTIONS = ("pieces", "stipulation", "condition", "option")
@@ -61,19 +61,22 @@ def _sections(words: Iterable[bytes], stipulation: Stipulation) -> List[str]:
 
 @dataclass(frozen=True)
 class _Answer:
+    """The solutions of a posed problem. Without `complete` there may be more."""
+
     board: Optional[Board]
     condition: Optional[Condition]
     lines: Tuple[str, ...]
+    complete: bool
 
 
 class ShortAnswers:
     """What the report of the posed problems says of each problem."""
 
-    def __init__(self, items: Iterable[Item]):
+    def __init__(self, items: Iterable[AnyItem]):
         """Reads the report. AnswersError where an item isn't of a posed problem."""
         self._answers: Dict[Tuple[int, str], _Answer] = {}
         for item in items:
-            if isinstance(item, FaultyItem):
+            if not isinstance(item, SoundItem):
                 continue
             whose = _TITLE.fullmatch(item.title or b"")
             if whose is None or whose[1].decode("latin-1") != item.stipulation.text:
@@ -84,31 +87,36 @@ class ShortAnswers:
             lines = _first_lines(item)
             if lines is not None:
                 key = (int(whose[2]), item.stipulation.text)
-                self._answers[key] = _Answer(item.board, item.condition, lines)
+                complete = item.unfinished is None
+                self._answers[key] = _Answer(item.board, item.condition, lines, complete)
 
     def of(self, item: SoundItem) -> Optional[Tuple[str, ...]]:
-        """The short solutions of a problem; None where some of its answers are missing.
+        """The short solutions of a problem, as far as they are known.
 
-        AnswersError where they are those of another problem.
+        None where none is known and some of its answers are missing. AnswersError where they are
+        those of another problem.
         """
         lines: List[str] = []
+        complete = True
         for stipulation in shorter(item.stipulation):
             answer = self._answers.get((item.number, stipulation.text))
             if answer is None:
-                return None
+                complete = False
+                continue
             boards = {answer.board, item.board} - {None}
             if len(boards) > 1 or answer.condition is not item.condition:
                 raise AnswersError(
                     f"'{stipulation.text} of problem {item.number}' is another problem there"
                 )
+            complete = complete and answer.complete
             lines.extend(answer.lines)
-        return tuple(lines)
+        return tuple(lines) if lines or complete else None
 
 
 def _first_lines(item: SoundItem) -> Optional[Tuple[str, ...]]:
     """The lines or keys of the play; None where it wasn't solved."""
     for phase in item.phases or ():
-        if phase.kind is PhaseKind.PLAY and phase.total is not None:
+        if phase.kind is PhaseKind.PLAY:
             return tuple(
                 solution.text if isinstance(solution, HelpLine) else solution.text.strip()
                 for solution in phase.solutions

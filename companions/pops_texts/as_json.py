@@ -3,6 +3,7 @@
 from pathlib import Path
 from typing import Any, Dict, List, Optional, Union
 
+from pops_texts.given import GivenProblem
 from pops_texts.report import Board, FaultyItem, HelpLine, Item, Node, Phase, PlayedMove, SoundItem
 from pops_texts.stipulation import Stipulation
 from pops_texts.titles import shown
@@ -15,22 +16,34 @@ def schema() -> str:
     return Path(__file__).with_name("item.schema.json").read_text("utf-8")
 
 
-def item_object(item: Item, encoding: str) -> Json:
-    """The object of an item. Bytes of title and author that are no text become U+FFFD."""
+def item_object(item: Item, encoding: str, given: Optional[GivenProblem] = None) -> Json:
+    """The object of an item; title, author and origin that aren't in the encoding are Latin-1.
+
+    With the problem of the input it also has its origin, and if it is faulty title and author.
+    """
     if isinstance(item, FaultyItem):
         fault = item.fault
         told = {"line": fault.line, "number": fault.number, "text": fault.text}
-        return {"number": item.number, "sound": False, "fault": told}
+        names = {} if given is None else _names(given, given, encoding)
+        return {"number": item.number, "sound": False, **names, "fault": told}
     return {
         "number": item.number,
         "sound": True,
-        "title": _text(item.title, encoding),
-        "author": _text(item.author, encoding),
+        **_names(item, given, encoding),
         "board": None if item.board is None else _board(item.board),
         "stipulation": _stipulation(item.stipulation),
         "condition": None if item.condition is None else item.condition.value,
         "phases": None if item.phases is None else _phases(item),
     }
+
+
+def _names(
+    source: Union[SoundItem, GivenProblem], given: Optional[GivenProblem], encoding: str
+) -> Json:
+    names = {"title": _text(source.title, encoding), "author": _text(source.author, encoding)}
+    if given is not None:
+        names["origin"] = _text(given.origin, encoding)
+    return names
 
 
 def _text(text: Optional[bytes], encoding: str) -> Optional[str]:

@@ -1,11 +1,13 @@
 """Problems for the LaTeX package diagram, with the German letters that it takes by itself."""
 
+import re
 from typing import List
 
 from pops_texts.chess import Colour, Kind
 from pops_texts.diagram import UPSIDE_DOWN, numbers_of_men
-from pops_texts.report import Board, Phase, SoundItem
+from pops_texts.report import Board, FaultyItem, Phase, SoundItem
 from pops_texts.titles import printable, shown
+from pops_texts.twins import Group, Twin
 
 _COLOURS = {Colour.WHITE: "w", Colour.BLACK: "s"}
 _KINDS = {
@@ -27,29 +29,70 @@ _SPECIAL = {
     "\ufffd": "?",
     **{character: "\\" + character for character in "#$%&_{}"},
 }
+_BETWEEN_AUTHORS = re.compile(r"\s*;\s*|\s+(?:&|and)\s+")
+# A surname, a comma, and names that aren't a date, a place or the like.
+_SURNAME_FIRST = re.compile(r"([^\W\d_][^,\d]*), *([^\W\d_][^,\d]*)")
 
 
-def latex(item: SoundItem, board: Board, encoding: str) -> str:
-    """A problem as an environment `diagram`; its title stands in the place of a dedication."""
+def latex(group: Group, board: Board, encoding: str) -> str:
+    """A problem with its twins as an environment `diagram`; its title stands for a dedication.
+
+    `board` is the first one's, whose item isn't faulty.
+    """
+    item = group.first
+    assert isinstance(item, SoundItem)
+    given = group.twins[0].given
     lines = [r"\begin{diagram}"]
-    if item.author is not None:
-        # Surname and no given name: the package turns `Loyd, Samuel` round otherwise.
-        lines.append(r"\author{{%s}, {}}" % _escaped(shown(item.author, encoding)))
-    if item.title is not None:
-        lines.append(r"\dedic{%s}" % _escaped(shown(item.title, encoding)))
+    if group.author is not None:
+        lines.append(r"\author{%s}" % authors(shown(group.author, encoding)))
+    if group.title is not None:
+        lines.append(r"\dedic{%s}" % _escaped(group.title))
+    if given is not None and given.origin is not None:
+        lines.append(r"\source{%s}" % _escaped(shown(given.origin, encoding)))
     white, black = numbers_of_men(board)
     lines.append(r"\pieces[%d+%d]{%s}" % (white, black, ", ".join(_pieces(board))))
     lines.append(r"\stipulation{%s}" % _escaped(item.stipulation.text))
     if item.condition is not None:
         lines.append(r"\condition{%s}" % item.condition.value)
+    if not group.is_alone:
+        changes = [twin.heading for twin in group.twins if twin.change or twin.has_own_diagram]
+        lines.append(r"\twins{%s}" % r"\newline ".join(map(_escaped, changes)))
     fairy = _fairy_men(board)
     if fairy:
         lines.append(r"\piecedefs{%s}" % "; ".join(fairy))
-    if item.phases is not None:
-        solution = [line for phase in item.phases for line in _phase(phase)]
+    solution = [line for twin in group.twins for line in _solution(twin, group.is_alone)]
+    if solution:
         lines.append(r"\solution{%s}" % "\\newline\n".join(solution))
     lines.append(r"\end{diagram}")
     return "\n".join(lines) + "\n"
+
+
+def authors(text: str) -> str:
+    """The authors of a problem as the package wants them, parted by semicolons.
+
+    `Loyd, Samuel` is one author, surname first, and an entry of an index; a name in another form
+    stays as it is. Several are parted by `;`, `&` or `and`.
+    """
+    return "; ".join(_author(name) for name in _BETWEEN_AUTHORS.split(text) if name)
+
+
+def _author(name: str) -> str:
+    parts = _SURNAME_FIRST.fullmatch(name)
+    if parts is None:
+        # Surname and no given name: the package would reverse the name at its comma.
+        return "{%s}, {}" % _escaped(name)
+    return f"{_escaped(parts[1])}, {_escaped(parts[2])}"
+
+
+def _solution(twin: Twin, is_alone: bool) -> List[str]:
+    """The lines of a twin's solutions as the report has them, below its label."""
+    item = twin.item
+    lines = [] if is_alone else [_escaped(twin.label.text)]
+    if isinstance(item, FaultyItem):
+        return [*lines, _escaped(f"fault {item.fault.number}: {item.fault.text}")]
+    if not isinstance(item, SoundItem) or item.phases is None:
+        return lines if is_alone else [*lines, "not solved"]
+    return lines + [line for phase in item.phases for line in _phase(phase)]
 
 
 def _escaped(text: str) -> str:

@@ -3,13 +3,14 @@
 The reading is strict: a report that departs from the grammar, or that was cut, is refused with the
 line where it does. Read as well are reports with gaps in their numbers, as pops-many leaves them
 where it stopped problems, and several reports one behind the other: a number that doesn't grow
-begins the next one.
+begins the next one. `read_unfinished_report` also takes problems that were stopped, and a report
+that ends inside a problem.
 """
 
 import re
-from dataclasses import dataclass, field
+from dataclasses import dataclass, field, replace
 from enum import Enum
-from typing import Dict, Iterable, Iterator, List, Optional, Tuple, Union
+from typing import Dict, Iterable, Iterator, List, Optional, Tuple, TypeVar, Union
 
 from pops_texts.chess import Colour, Kind, Man, Square
 from pops_texts.stipulation import Condition, Play, Stipulation
@@ -101,13 +102,20 @@ class Total:
 
 @dataclass(frozen=True)
 class Phase:
-    """Set play or play: its solutions, help lines or nodes. Without a total it isn't possible."""
+    """Set play or play: its solutions, help lines or nodes.
+
+    It has no total if it isn't possible, or if its problem is unfinished.
+    """
 
     kind: PhaseKind
     solutions: Tuple[Union[HelpLine, Node], ...]
     lines: Tuple[str, ...]
     total: Optional[Total]
     last_line: str
+
+    @property
+    def is_possible(self) -> bool:
+        return self.last_line != _NOT_POSSIBLE
 
 
 @dataclass(frozen=True)
@@ -148,7 +156,8 @@ class FaultyItem:
 class SoundItem:
     """The report of a sound problem. Without phases the problem was checked and not solved.
 
-    Title and author are bytes as the problem gave them, in whatever encoding.
+    Title and author are bytes as the problem gave them, in whatever encoding. `unfinished` says why
+    the report of the problem ends before its last total.
     """
 
     number: int
@@ -158,6 +167,7 @@ class SoundItem:
     stipulation: Stipulation
     condition: Optional[Condition]
     phases: Optional[Tuple[Phase, ...]]
+    unfinished: Optional[str] = None
 
     @property
     def asked(self) -> str:
@@ -166,7 +176,22 @@ class SoundItem:
         return self.stipulation.text + condition
 
 
+@dataclass(frozen=True)
+class HeadlessItem:
+    """An unfinished problem of which the report doesn't even show the stipulation."""
+
+    number: int
+    unfinished: str
+
+
 Item = Union[FaultyItem, SoundItem]
+AnyItem = Union[FaultyItem, SoundItem, HeadlessItem]
+NamedItem = TypeVar("NamedItem", FaultyItem, SoundItem, Item, AnyItem)
+
+_NOT_POSSIBLE = "not possible"
+_UNFINISHED = b"unfinished: "
+# Why a problem is unfinished if the report ends in it.
+CUT = "the report ends here"
 
 _PROBLEM = re.compile(r"problem ([1-9][0-9]*)", re.ASCII)
 _FAULT = re.compile(r"line ([1-9][0-9]*): fault ([1-9][0-9]?): (.+)", re.ASCII)
@@ -188,11 +213,19 @@ def prefix(half: int) -> str:
     return f"{(half + 1) // 2}." if half % 2 == 1 else f"{half // 2}..."
 
 
-class _Lines:
-    """The lines of a report, one looked at ahead, with their numbers."""
+class _Broken(Exception):
+    """The end of what is known of an unfinished problem, with the reason."""
 
-    def __init__(self, lines: Iterable[bytes]):
+
+class _Lines:
+    """The lines of a report, one looked at ahead, with their numbers.
+
+    With `may_break` an item may end early: `_Broken` says so.
+    """
+
+    def __init__(self, lines: Iterable[bytes], may_break: bool):
         self._rest = iter(lines)
+        self.may_break = may_break
         self.number = 0
         self._ahead: Optional[bytes] = None
         self._step()
@@ -201,7 +234,9 @@ class _Lines:
         line = next(self._rest, None)
         self.number += 1
         if line is not None and not line.endswith(b"\n"):
-            raise ReportError(self.number, "the report is cut inside this line")
+            if not self.may_break:
+                raise ReportError(self.number, "the report is cut inside this line")
+            line = None
         self._ahead = None if line is None else line[:-1]
 
     @property
@@ -212,7 +247,13 @@ class _Lines:
     def ahead(self) -> bytes:
         """The line at hand. Refused at the end of the report, which is inside an item then."""
         if self._ahead is None:
+            if self.may_break:
+                raise _Broken(CUT)
             raise ReportError(self.number, "the report is cut inside a problem")
+        if self.may_break and self._ahead.startswith(_UNFINISHED):
+            reason = self._ahead[len(_UNFINISHED) :].decode("utf-8", "replace")
+            self._step()
+            raise _Broken(reason)
         return self._ahead
 
     @property
@@ -231,7 +272,7 @@ class _Lines:
         return ReportError(self.number, f"expected {expected}, found {shown!r}")
 
 
-def named_items(items: Iterable[Item]) -> Iterator[Tuple[str, Item]]:
+def named_items(items: Iterable[NamedItem]) -> Iterator[Tuple[str, NamedItem]]:
     """Each item with a name of its own: its number, and from a second report on the report's too.
 
     Of reports one behind the other the second has `2-1`, `2-2` and so on.
@@ -250,34 +291,89 @@ def read_report(lines: Iterable[bytes]) -> Iterator[Item]:
 
     ReportError where the text departs from the grammar; the items before were given.
     """
-    source = _Lines(lines)
+    for item in _items(_Lines(lines, may_break=False)):
+        assert not isinstance(item, HeadlessItem)
+        yield item
+
+
+def read_unfinished_report(lines: Iterable[bytes]) -> Iterator[AnyItem]:
+    """As `read_report`, for a report that may end inside a problem and hold stopped problems.
+
+    Such problems have what the report shows of them; a line that was cut is left out.
+    """
+    return _items(_Lines(lines, may_break=True))
+
+
+def _items(source: _Lines) -> Iterator[AnyItem]:
     while not source.at_end:
         problem = _PROBLEM.fullmatch(source.text)
         if problem is None:
             raise source.refused("a line 'problem' with its number")
         source.take()
         item = _read_item(source, int(problem[1]))
-        if source.ahead != b"":
-            raise source.refused("an empty line")
-        source.take()
+        reason = _take_end(source)
+        if reason is not None and isinstance(item, SoundItem):
+            item = replace(item, unfinished=reason)
         yield item
 
 
-def _read_item(source: _Lines, number: int) -> Item:
-    fault = _FAULT.fullmatch(source.text)
-    if fault is not None:
-        source.take()
-        return FaultyItem(number, Fault(int(fault[1]), int(fault[2]), fault[3]))
-    title = _read_text(source, b"title: ")
-    author = _read_text(source, b"author: ")
-    board = _read_board(source) if source.text.startswith("8 ") else None
-    stipulation, condition = _read_stipulation(source)
-    phases = None
-    if source.text == "sound":
-        source.take()
-    else:
-        phases = _read_phases(source, stipulation)
-    return SoundItem(number, title, author, board, stipulation, condition, phases)
+def _take_end(source: _Lines) -> Optional[str]:
+    """Takes the empty line after an item; returns why the item is unfinished, if it says so."""
+    reason = None
+    while True:
+        try:
+            if source.ahead != b"":
+                raise source.refused("an empty line")
+            source.take()
+            return reason
+        except _Broken as broken:
+            if source.at_end:
+                return reason
+            reason = str(broken)
+
+
+@dataclass
+class _Head:
+    """What a report has shown of a problem so far."""
+
+    title: Optional[bytes] = None
+    author: Optional[bytes] = None
+    board: Optional[Board] = None
+    asked: Optional[Tuple[Stipulation, Optional[Condition]]] = None
+
+
+def _read_item(source: _Lines, number: int) -> AnyItem:
+    head = _Head()
+    phases: List[Phase] = []
+    unfinished = None
+    is_checked = False
+    try:
+        fault = _FAULT.fullmatch(source.text)
+        if fault is not None:
+            source.take()
+            return FaultyItem(number, Fault(int(fault[1]), int(fault[2]), fault[3]))
+        stipulation = _read_head(source, head)
+        is_checked = source.text == "sound"
+        if is_checked:
+            source.take()
+        else:
+            _read_phases(source, stipulation, phases)
+    except _Broken as broken:
+        unfinished = str(broken)
+        if head.asked is None:
+            return HeadlessItem(number, unfinished)
+    assert head.asked is not None
+    shown = None if is_checked else tuple(phases)
+    return SoundItem(number, head.title, head.author, head.board, *head.asked, shown, unfinished)
+
+
+def _read_head(source: _Lines, head: _Head) -> Stipulation:
+    """Reads what stands above the solutions into `head`; returns the stipulation."""
+    head.title = _read_text(source, b"title: ")
+    head.author = _read_text(source, b"author: ")
+    head.board = _read_board(source) if source.text.startswith("8 ") else None
+    head.asked = _read_stipulation(source)
+    return head.asked[0]
 
 
 def _read_text(source: _Lines, label: bytes) -> Optional[bytes]:
@@ -315,25 +411,52 @@ def _read_stipulation(source: _Lines) -> Tuple[Stipulation, Optional[Condition]]
     return stipulation, condition
 
 
-def _read_phases(source: _Lines, stipulation: Stipulation) -> Tuple[Phase, ...]:
-    phases = []
+def _read_phases(source: _Lines, stipulation: Stipulation, phases: List[Phase]) -> None:
+    """Adds the phases, the last one as far as it goes where the problem is unfinished."""
     if source.text == PhaseKind.SET.value:
-        phases.append(_read_phase(source, stipulation, PhaseKind.SET))
+        _read_phase(source, stipulation, PhaseKind.SET, phases)
     if source.text != PhaseKind.PLAY.value:
         raise source.refused("'play'")
-    phases.append(_read_phase(source, stipulation, PhaseKind.PLAY))
-    return tuple(phases)
+    _read_phase(source, stipulation, PhaseKind.PLAY, phases)
 
 
-def _read_phase(source: _Lines, stipulation: Stipulation, kind: PhaseKind) -> Phase:
+def _read_phase(
+    source: _Lines, stipulation: Stipulation, kind: PhaseKind, phases: List[Phase]
+) -> None:
     source.take()
-    if source.text == "not possible":
-        return Phase(kind, (), (), None, source.take())
-    first_half = stipulation.first_half + (1 if kind is PhaseKind.SET else 0)
     solutions: List[Union[HelpLine, Node]] = []
     lines: List[str] = []
+    try:
+        if source.text == _NOT_POSSIBLE:
+            phases.append(Phase(kind, (), (), None, source.take()))
+            return
+        total = _read_solutions(source, stipulation, kind, solutions, lines)
+        if total is None:
+            phases.append(Phase(kind, tuple(solutions), tuple(lines), None, "unfinished"))
+            return
+    except _Broken as broken:
+        last_line = f"unfinished: {broken}"
+        phases.append(Phase(kind, tuple(solutions), tuple(lines), None, last_line))
+        raise
+    phases.append(Phase(kind, tuple(solutions), tuple(lines), total, source.take()))
+
+
+def _read_solutions(
+    source: _Lines,
+    stipulation: Stipulation,
+    kind: PhaseKind,
+    solutions: List[Union[HelpLine, Node]],
+    lines: List[str],
+) -> Optional[Total]:
+    """Adds a phase's solutions and its lines; returns its total, whose line is left.
+
+    None for the set play of an unfinished problem if the play follows without a total.
+    """
+    first_half = stipulation.first_half + (1 if kind is PhaseKind.SET else 0)
     path: List[Node] = []
     while True:
+        if source.may_break and kind is PhaseKind.SET and source.text == PhaseKind.PLAY.value:
+            return None
         total = _TOTAL.fullmatch(source.text)
         if total is not None:
             break
@@ -350,8 +473,7 @@ def _read_phase(source: _Lines, stipulation: Stipulation, kind: PhaseKind) -> Ph
         lines.append(source.take())
     if int(total[1]) != len(solutions):
         raise source.refused(f"'solutions: {len(solutions)}', the number of solutions above")
-    tally = Total(len(solutions), total[2] is not None)
-    return Phase(kind, tuple(solutions), tuple(lines), tally, source.take())
+    return Total(len(solutions), total[2] is not None)
 
 
 def _read_help_line(source: _Lines, stipulation: Stipulation, first_half: int) -> HelpLine:

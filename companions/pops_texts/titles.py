@@ -7,8 +7,8 @@ _NO_CHARACTER = re.compile("[\x00-\x08\x0b-\x1f\x7f-\x9f\ud800-\udfff\ufdd0-\ufd
 
 
 def shown(text: bytes, encoding: str) -> str:
-    """A title or an author as text; each byte that is none in the encoding becomes U+FFFD."""
-    return text.decode(encoding, "replace")
+    """A title or an author as text; one that isn't in the encoding is read as Latin-1."""
+    return text.decode(encoding if is_text(text, encoding) else "latin-1")
 
 
 def is_text(text: bytes, encoding: str) -> bool:

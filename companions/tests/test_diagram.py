@@ -13,6 +13,8 @@ from pathlib import Path
 from typing import Dict, List, Tuple
 
 import support
+
+from pops_texts.latex import authors
 from test_pages import NAMES
 
 SVG = "{http://www.w3.org/2000/svg}"
@@ -124,7 +126,7 @@ class Drawings(unittest.TestCase):
         self.assertEqual(
             text.decode(),
             "\\begin{diagram}\n"
-            "\\author{{Loyd, Sam; \\#1}, {}}\n"
+            "\\author{Loyd, Sam; {\\#1}, {}}\n"
             "\\dedic{A \\& B \\textless{}}\n"
             "\\pieces[5+5]{wKe1, wTa1, wBg2, wDUh1, wSUb4, sKa8, sTd8h8, sDUg1, sSUd4}\n"
             "\\stipulation{h\\#2.5}\n"
@@ -135,6 +137,43 @@ class Drawings(unittest.TestCase):
             "solutions: 1}\n"
             "\\end{diagram}\n",
         )
+
+    def test_authors(self) -> None:
+        """One author, surname first, is one entry of an index; two are two."""
+        for text, wanted in (
+            ("Loyd, Samuel", "Loyd, Samuel"),
+            ("Sam Loyd", "{Sam Loyd}, {}"),
+            ("Paul Morphy, 1856", "{Paul Morphy, 1856}, {}"),
+            ("Composer, Anna; Solver, Bert", "Composer, Anna; Solver, Bert"),
+            ("A. Kraemer & E. Zepler", "{A. Kraemer}, {}; {E. Zepler}, {}"),
+            ("Réti, Richard and A. Alexander", "Réti, Richard; {A. Alexander}, {}"),
+            ("Loyd, Sam, Shinkman, Will", "{Loyd, Sam, Shinkman, Will}, {}"),
+        ):
+            with self.subTest(text):
+                self.assertEqual(authors(text), wanted)
+
+    def test_latex_of_twins(self) -> None:
+        """One environment, with the source that the input has and a file of its first number."""
+        text = (
+            b"BeginProblem\nTitle a)\nOrigin Die Schwalbe & 1977\n"
+            b"Pieces White Kg6 Ra1 Black Kh8\nStipulation h#1\n"
+            b"NextProblem\nTitle b)\nRemark b) Move a1 b2\n"
+            b"Pieces White Kg6 Rb2 Black Kh8\nStipulation h#1\n"
+            b"NextProblem\nPieces White Kg6 Ra1 Black Kh8\nStipulation h#1\nEndProblem\n"
+        )
+        report = support.run([support.pops()], text).output
+        with tempfile.TemporaryDirectory() as room:
+            given = Path(room) / "given.pop"
+            given.write_bytes(text)
+            words = ["--latex", "--input", str(given), "-o", f"{room}/"]
+            outcome = support.companion("pops-diagram", *words, text=report)
+            names = [Path(name).name for name in outcome.output.decode().splitlines()]
+            self.assertEqual(names, ["problem-1.tex", "problem-3.tex"])
+            made = (Path(room) / "problem-1.tex").read_text()
+        self.assertIn("\\source{Die Schwalbe \\& 1977}\n", made)
+        self.assertIn("\\twins{b) Move a1 b2}\n", made)
+        self.assertEqual(made.count("solutions: 1"), 2)
+        self.assertNotIn("\\dedic", made)
 
     def test_latex_of_a_tree(self) -> None:
         play = "set\nnot possible\nplay\n1.Ra1-a2\n  1...Kh8-g8\n    2.Ra2-a8#\nsolutions: 1\n\n"
@@ -253,7 +292,7 @@ class Command(unittest.TestCase):
         with tempfile.TemporaryDirectory() as room:
             outcome = support.companion("pops-diagram", "--latex", "-o", room, text=report)
             self.assertIn("title or author of problem 1 isn't utf-8", outcome.error)
-            self.assertIn("\\dedic{R?ti}", (Path(room) / "problem-1.tex").read_text())
+            self.assertIn("\\dedic{Réti}", (Path(room) / "problem-1.tex").read_text())
 
     def test_a_cut_report_leaves_what_was_whole(self) -> None:
         with tempfile.TemporaryDirectory() as room:

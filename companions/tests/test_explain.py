@@ -14,6 +14,8 @@ import support
 
 from pops_explain.explaining import ExplainedFault, explain
 from pops_explain.showing import marked
+from pops_explain.vocabulary import foreign
+from pops_import.language import foreign_words
 from pops_texts.report import read_report
 
 BASE = ["BeginProblem", "Pieces White Kg6 Ra1 Black Kg8", "Stipulation #1", "EndProblem"]
@@ -155,6 +157,14 @@ class Documents(unittest.TestCase):
                 (one,) = explained("\n".join(in_base(lines)).encode())
                 known = r"of Popeye|only English words|three letters or more"
                 self.assertRegex(one.explanation.text, known)
+
+
+    def test_every_word_of_popeye_in_another_language_is_known(self) -> None:
+        for wanted in foreign_words():
+            known = foreign(wanted.word)
+            self.assertIsNotNone(known, wanted)
+            if wanted.language == "German":
+                self.assertEqual(known, wanted)
 
 
 class Marks(unittest.TestCase):

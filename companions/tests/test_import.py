@@ -19,6 +19,8 @@ from typing import Any, Dict, List, NamedTuple
 import support
 
 from pops_import.language import ENGLISH, FRENCH, GERMAN, meaning
+from pops_import.origins import date_text, origin_of
+from pops_import.sections import wanted_of
 from pops_import.yaml_text import YamlError, documents
 
 DATA = Path(__file__).resolve().parent / "data" / "import"
@@ -102,9 +104,22 @@ class MadeFiles(unittest.TestCase):
                     self.assertEqual(made, wanted)
             marked = imported_text(b"\xef\xbb\xbf" + text.encode("utf-8"))
             self.assertEqual(marked, wanted)
-        refused = imported_text((DATA / "german.inp").read_text("utf-8").encode("latin-1"))
+
+    def test_lines_in_another_encoding_are_read_as_latin_1(self) -> None:
+        text = "BeginProblem\nAuthor Réti\nTitle Café ♞\nAuthor Müller\nStipulation #1\n"
+        text += "Pieces White Kg6 Ra1 Black Kg8\nEndProblem\n"
+        lines = text.splitlines(keepends=True)
+        mixed = b"".join(line.encode("latin-1" if "Author" in line else "utf-8") for line in lines)
+        made = imported_text(mixed)
+        self.assertEqual(made.status, 0)
+        self.assertIn("Title Café ♞\nAuthor Réti; Müller\n", made.output.decode("utf-8"))
+        said = "not in utf-8, read as latin-1; --encoding names another"
+        self.assertEqual(made.told, [f"text, line 2 and 1 more: {said}"])
+
+    def test_a_text_of_wide_characters_is_refused(self) -> None:
+        refused = imported_text((DATA / "german.inp").read_text("utf-8").encode("utf-16"))
         self.assertEqual(
-            refused, (1, b"", ["text, line 3: not in utf-8: give --encoding, as latin-1"])
+            refused, (1, b"", ["text, line 1: not in utf-8: give --encoding, as utf-16"])
         )
 
 
@@ -118,6 +133,58 @@ class Document(unittest.TestCase):
         self.assertEqual(made.output.decode("utf-8"), wanted)
         shown = [f"pops-import: {line.replace('text', 'pair.inp', 1)}" for line in made.told]
         self.assertEqual(shown, told.splitlines())
+
+
+class Origins(unittest.TestCase):
+    """Source and date as magazines print them."""
+
+    def test_dates_in_words(self) -> None:
+        for date, wanted in (
+            ("1977", "1977"),
+            ("1977-08", "August 1977"),
+            ("1977-08-01", "1 August 1977"),
+            ("1977.8.31", "31 August 1977"),
+            ("1977-00-00", "1977"),
+            ("1977-13", "1977-13"),
+            ("about 1900", "about 1900"),
+        ):
+            with self.subTest(date):
+                self.assertEqual(date_text(date), wanted)
+
+    def test_parts_in_their_order(self) -> None:
+        for parts, wanted in (
+            ([("name", "Die Schwalbe"), ("date", "1977")], ("Die Schwalbe 1977", "")),
+            ([("date", "1977-08"), ("name", "Die Schwalbe")], ("Die Schwalbe, August 1977", "")),
+            ([("name", "feenschach"), ("problemid", "4711"), ("year", "1977"), ("month", "8")],
+             ("feenschach, 4711, August 1977", "")),
+            ([("name", "A"), ("volume", "3"), ("month", "8")], ("A", "volume 3, month 8")),
+            ([], ("", "")),
+        ):  # fmt: skip
+            with self.subTest(parts):
+                self.assertEqual(origin_of(parts), wanted)
+
+
+class WantedNumbers(unittest.TestCase):
+    """`2.1..` after a stipulation: two solutions, which part at the first half-move."""
+
+    def test_numbers(self) -> None:
+        for text, wanted in (
+            ("2", 2), ("2.1..", 2), ("2.1.1.1", 2), ("3.2..", 6), ("2...", 2),
+            ("0.1", None), ("..", None), ("2,1", None), ("2.x", None),
+        ):  # fmt: skip
+            with self.subTest(text):
+                self.assertEqual(wanted_of(text), wanted)
+
+    def test_an_input_of_popeye(self) -> None:
+        pieces = "Pieces White Kg6 Ra1 Black Kh8"
+        given = f"BeginProblem\nStipulation h#2 2.1..\n{pieces}\nEndProblem\n"
+        wanted = (
+            "BeginProblem\nRemark intended-solutions: 2.1..\nRemark solutions 2\n"
+            f"{pieces}\nStipulation h#2\nEndProblem\n"
+        )
+        self.assertEqual(imported_text(given.encode()), (0, wanted.encode(), []))
+        yaml = "stipulation: 'h#2 2.1..'\nalgebraic: {white: [Kg6, Ra1], black: [Kh8]}\n"
+        self.assertEqual(imported_text(yaml.encode()), (0, wanted.encode(), []))
 
 
 class RoundTrips(unittest.TestCase):
@@ -150,6 +217,9 @@ class RoundTrips(unittest.TestCase):
                 "line 8, problem 2: left out: Stipulatoin isn't known here",
                 "line 18, problem 4: left out: MaxSolutions needs a number from 1 to 4,000,000,000",
                 "line 27, problem 7: left out: there is no stipulation",
+                "line 30, problem 8: left out: it comes after EndProblem, where neither Popeye nor"
+                " pops reads on, and so do those after it: write NextProblem for EndProblem and the"
+                " BeginProblem after it",
             ],
         )
 
@@ -346,7 +416,7 @@ class Yaml(unittest.TestCase):
             (r'a: "\uD83D\uDE00"', {"a": "\U0001f600"}),
             ("a: http://b.c/d", {"a": "http://b.c/d"}),
             ("a:b: c", {"a:b": "c"}),
-            ('"a b": c\n\'d: e\': f', {"a b": "c", "d: e": "f"}),
+            ("\"a b\": c\n'd: e': f", {"a b": "c", "d: e": "f"}),
             ("a:\n- b\n- c\nd: e", {"a": ["b", "c"], "d": "e"}),
             ("a:\n  - b\n  -\n    c\n  -\nd: e", {"a": ["b", "c", None], "d": "e"}),
             ("- a: b\n  c: d\n- e: f", [{"a": "b", "c": "d"}, {"e": "f"}]),
@@ -438,7 +508,7 @@ class Robustness(unittest.TestCase):
         """What is posed is read by pops, but for checks, which are left to it."""
         chance = random.Random(5)
         texts = [path.read_text("utf-8") for path in made_files()]
-        words = "Twin Pieces White a1 Kb2 #2 Condition Circe Option Continued Move ; = ] \" - : #"
+        words = 'Twin Pieces White a1 Kb2 #2 Condition Circe Option Continued Move ; = ] " - : #'
         outputs = []
         for _ in range(400):
             parts = re.split(r"(\s+)", chance.choice(texts))

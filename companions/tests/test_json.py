@@ -3,7 +3,9 @@
 import json
 import subprocess
 import sys
+import tempfile
 import unittest
+from pathlib import Path
 from typing import Any, Dict, List
 
 import rebuilt
@@ -121,13 +123,30 @@ class Reports(unittest.TestCase):
         report = b"problem 1\ntitle: R\xe9ti\n#1\nsound\n\n"
         outcome = support.companion("pops2json", text=report)
         self.assertEqual(outcome.status, 0)
-        self.assertEqual(json.loads(outcome.output)["title"], "R\ufffdti")
+        self.assertEqual(json.loads(outcome.output)["title"], "Réti")
         self.assertEqual(
             outcome.error,
-            "pops2json: standard input: title or author of problem 1 isn't utf-8;"
-            " --encoding names another, as latin-1\n",
+            "pops2json: standard input: title or author of problem 1 isn't utf-8 and is read as"
+            " latin-1; --encoding names another\n",
         )
         self.assertEqual(objects(report, "--encoding", "latin-1")[0]["title"], "Réti")
+
+
+class Inputs(unittest.TestCase):
+    def test_origins_and_the_names_of_faulty_problems(self) -> None:
+        text = (
+            b"BeginProblem\nTitle One\nOrigin Die Schwalbe 1977\nPieces White Kg6\nEndProblem\n"
+        )
+        report = b"problem 1\nline 5: fault 10: stipulation missing\n\n"
+        report += b"problem 2\ntitle: Two\n#1\nsound\n\n"
+        with tempfile.TemporaryDirectory() as room:
+            given = Path(room) / "given.pop"
+            given.write_bytes(text)
+            faulty, sound = objects(report, "--input", str(given))
+        names = (faulty["title"], faulty["author"], faulty["origin"])
+        self.assertEqual(names, ("One", None, "Die Schwalbe 1977"))
+        self.assertNotIn("origin", sound)
+        self.assertEqual(schema.Schema(schema.stored()).faults(faulty), [])
 
 
 class Schema(unittest.TestCase):

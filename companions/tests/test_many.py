@@ -15,7 +15,7 @@ import made_inputs
 import support
 from six_problems import SIX, SixProblems
 
-from pops_many.cutting import cut
+from pops_many.cutting import Rest, cut, rest_of
 from pops_many.progress import Progress, duration
 
 MANY = support.loaded("pops-many")
@@ -26,6 +26,36 @@ def solved(*words: str) -> Tuple[int, bytes]:
     target = io.BytesIO()
     settings = MANY.arguments(["--pops", support.pops(), *words])
     return MANY.solve(settings, target), target.getvalue()
+
+
+class TextAfterTheEnd(unittest.TestCase):
+    """What stands after the first EndProblem is lost, and reported."""
+
+    def test_where_it_begins_and_what_is_lost(self) -> None:
+        for text, wanted in (
+            (b"Beg a End \t\n\n", None),
+            (b"Beg a", None),
+            (b"Beg a End\n\nold notes, beginning with problem 3\n", (3, 0)),
+            (b"Beg a End\n Beg b Next c Next d End\nBEGINPROBLEM e End", (2, 4)),
+            (b"Beg Title End\nEnd x", (2, 0)),
+            (b"Beg a End Beg b End", (1, 0)),
+        ):
+            with self.subTest(text):
+                self.assertEqual(rest_of(text), None if wanted is None else Rest(*wanted))
+
+    def test_the_message(self) -> None:
+        text = SIX + b"BeginProblem\nEndProblem\n"
+        words = [sys.executable, str(support.COMPANIONS / "pops-many"), "--pops", support.pops()]
+        done = subprocess.run(words, input=text, capture_output=True)
+        self.assertEqual(
+            (done.returncode, done.stdout), (0, support.run([support.pops()], text).output)
+        )
+        self.assertEqual(
+            done.stderr.decode(),
+            "pops-many: standard input: nothing after the first EndProblem is read, and the text"
+            " goes on in line 26: 1 problem is lost. Write NextProblem for EndProblem and the"
+            " BeginProblem after it\n",
+        )
 
 
 class Cutting(unittest.TestCase):
@@ -269,10 +299,25 @@ class Command(unittest.TestCase):
         self.assertRegex(said, r"\rpops-many: 1 of 6 problems, about 0:\d\d left")
         self.assertRegex(said, r"\rpops-many: 6 of 6 problems *\r\n$")
 
+    def test_a_terminal_shows_that_one_problem_takes_time(self) -> None:
+        with tempfile.TemporaryDirectory() as room:
+            slow = Path(room) / "slow"
+            slow.write_text(f"#!/bin/sh\nsleep 1.2\nexec '{support.pops()}'\n")
+            slow.chmod(0o755)
+            terminal, other_side = pty.openpty()
+            words = [sys.executable, str(support.COMPANIONS / "pops-many"), "--pops", str(slow)]
+            one = SIX.split(b"NextProblem")[0] + b"EndProblem\n"
+            done = subprocess.run(words, input=one, stdout=subprocess.PIPE, stderr=other_side)
+            os.close(other_side)
+            said = os.read(terminal, 10000).decode()
+            os.close(terminal)
+        self.assertEqual(done.returncode, 0)
+        self.assertRegex(said, r"\rpops-many: 0 of 1 problems, 0:01 so far")
+
     def test_progress(self) -> None:
         progress = Progress("pops-many")
         progress.begin(100, 500)
-        self.assertEqual(progress.line(1), "pops-many: 100 of 500 problems")
+        self.assertEqual(progress.line(1), "pops-many: 100 of 500 problems, 0:01 so far")
         for _ in range(50):
             progress.one_more()
         self.assertEqual(progress.line(10), "pops-many: 150 of 500 problems, about 1:10 left")

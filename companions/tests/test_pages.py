@@ -181,11 +181,11 @@ class Words(unittest.TestCase):
         self.assertIn("Réti", article.words)
         outcome = support.companion("pops-page", text=report)
         self.assertEqual(outcome.status, 0)
-        self.assertIn("R\ufffdti", SeenPage(outcome.output.decode("utf-8")).articles[0].words)
+        self.assertIn("Réti", SeenPage(outcome.output.decode("utf-8")).articles[0].words)
         self.assertEqual(
             outcome.error,
-            "pops-page: standard input: title or author of problem 1, and of 1 more, isn't utf-8;"
-            " --encoding names another, as latin-1\n",
+            "pops-page: standard input: title or author of problem 1, and of 1 more, isn't utf-8"
+            " and is read as latin-1; --encoding names another\n",
         )
 
     def test_each_article_has_a_link_to_itself(self) -> None:
@@ -199,6 +199,59 @@ class Words(unittest.TestCase):
         (article,) = page_of(CHECKED).articles
         self.assertEqual(article.diagrams, 0)
         self.assertIn("The report shows no board.", article.words)
+
+
+class Unfinished(unittest.TestCase):
+    def test_stopped_problems_are_marked(self) -> None:
+        report = CHECKED + b"problem 2\nh#1\nplay\n1.Kh8-g8 Ra1-a8#\n"
+        mark = b"unfinished: stopped after 5 s (some.pop, line 9)\n\n"
+        article = page_of(report + mark).articles[1]
+        self.assertEqual(article.words.count(mark.decode().strip()), 1)
+        self.assertIn("1.Kh8-g8 Ra1-a8#", article.words)
+
+    def test_a_report_that_ends_inside_a_problem(self) -> None:
+        for end in (b"problem 2\n", b"problem 2\nh#1\nplay\n1.Kh8-g8 Ra1-a8#\n1.Kh8-g8"):
+            outcome = support.companion("pops-page", text=CHECKED + end)
+            self.assertEqual(outcome.status, 1)
+            self.assertEqual(outcome.error, "pops-page: the report ends inside problem 2\n")
+            article = SeenPage(outcome.output.decode("utf-8")).articles[1]
+            self.assertIn("unfinished: the report ends here", article.words)
+
+
+class Inputs(unittest.TestCase):
+    """What the input of a report adds, and twins as one problem."""
+
+    TWINS = (
+        b"BeginProblem\nTitle A pair a)\nAuthor A. A.\nOrigin Die Schwalbe 1977\n"
+        b"Pieces White Kg6 Ra1 Black Kh8\nStipulation h#1\n"
+        b"NextProblem\nTitle A pair b)\nAuthor A. A.\nRemark b) Move a1 b2\n"
+        b"Pieces White Kg6 Rb2 Black Kh8\nStipulation h#1\n"
+        b"NextProblem\nTitle Another\nPieces White Kg6 Ra1 Black Kh8\nStipulation h#1\nEndProblem"
+    )
+
+    def shown(self, *words: str) -> SeenPage:
+        with tempfile.TemporaryDirectory() as room:
+            given = Path(room) / "given.pop"
+            given.write_bytes(self.TWINS)
+            words = tuple(str(given) if word == "GIVEN" else word for word in words)
+            return page_of(support.run([support.pops(), str(given)]).output, *words)
+
+    def test_origin(self) -> None:
+        page = self.shown("--input", "GIVEN")
+        self.assertIn("Die Schwalbe 1977", page.articles[0].words)
+
+    def test_twins_share_a_diagram(self) -> None:
+        for words, said in ((["--input", "GIVEN"], "Move a1 b2"), ([], "white Ra1 to b2")):
+            twins, other = self.shown(*words).articles
+            self.assertEqual((twins.diagrams, len(twins.men), other.diagrams), (1, 3, 1))
+            self.assertEqual(twins.words.count("A pair"), 1)
+            self.assertIn(f"b) {said}", twins.words)
+            self.assertIn("problems 1 to 2", twins.words)
+            self.assertEqual((twins.name, other.name), ("problem-1", "problem-3"))
+            self.assertLess(twins.words.index("1.Kh8-g8 Ra1-a8#"), twins.words.index(f"b) {said}"))
+
+    def test_apart(self) -> None:
+        self.assertEqual(len(self.shown("--apart").articles), 3)
 
 
 class Command(unittest.TestCase):
@@ -215,13 +268,13 @@ class Command(unittest.TestCase):
         self.assertIn("<h1>Old &amp; new</h1>", page)
         self.assertEqual(len(SeenPage(page).articles), 1)
 
-    def test_a_cut_report_leaves_the_old_page(self) -> None:
+    def test_a_wrong_report_leaves_the_old_page(self) -> None:
         with tempfile.TemporaryDirectory() as room:
             target = Path(room) / "page.html"
             target.write_text("old")
-            outcome = support.companion("pops-page", "-o", str(target), text=b"problem 1\n#1\n")
+            outcome = support.companion("pops-page", "-o", str(target), text=b"problem 1\n#0.5\n")
             self.assertEqual(outcome.status, 1)
-            self.assertIn("standard input is no report of pops: line 3", outcome.error)
+            self.assertIn("standard input is no report of pops: line 2", outcome.error)
             self.assertEqual(target.read_text(), "old")
             self.assertEqual(len(list(Path(room).iterdir())), 1)
 

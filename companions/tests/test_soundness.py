@@ -13,7 +13,7 @@ import support
 import test_pages
 
 from pops_review.duals import Place, late_partings, tree_duals
-from pops_review.given import given_problems
+from pops_texts.given import given_problems
 from pops_review.judging import Judgement, Verdict, judged
 from pops_review.posing import AnswersError, ShortAnswers, posed_problems, shorter
 from pops_texts.problem_text import text_of_problems
@@ -351,7 +351,7 @@ class Answers(unittest.TestCase):
     def test_answers_are_found_by_their_titles(self) -> None:
         answers = ShortAnswers(items(self.REPORT))
         self.assertEqual(answers.of(self.problem(2, "h#3")), ("1.Kh8-g8 Ra1-a8#",))
-        self.assertIsNone(answers.of(self.problem(2, "h#4")))
+        self.assertEqual(answers.of(self.problem(2, "h#4")), ("1.Kh8-g8 Ra1-a8#",))
         self.assertIsNone(answers.of(self.problem(1, "h#3")))
         self.assertEqual(answers.of(self.problem(1, "#1")), ())
 
@@ -501,14 +501,153 @@ class Collection(unittest.TestCase):
                 b"1 problem: 1 sound, 0 undecided, 0 unsound, 0 faulty\n"))  # fmt: skip
 
 
+class Unfinished(unittest.TestCase):
+    """Problems that were stopped, and a report that ends inside a problem."""
+
+    ONE = "problem 1\n#1\nplay\n1.Ra1-a8#\nsolutions: 1\n\n"
+    MARK = "unfinished: stopped after 5 s (six.pop, line 9)\n\n"
+
+    def found(self, text: str, *words: str) -> List[str]:
+        outcome = run_here.companion("pops-test", *words, text=text.encode())
+        self.assertEqual((outcome.status, outcome.error), (1, ""))
+        return outcome.output.decode().splitlines()
+
+    def test_more_solutions_than_wanted_are_a_cook(self) -> None:
+        lines = "1.Kh8-g8 Ra1-a8#\n1.Kh8-g8 Rb1-b8#\n"
+        for end in (self.MARK, "1.Kh8-g8 Rc1-", ""):
+            with self.subTest(end):
+                found = self.found(f"problem 2\nh#1\nplay\n{lines}{end}")
+                self.assertEqual(found[2], "problem 2: unsound: h#1")
+                self.assertEqual(found[3], "  cooked: at least 2 solutions, 1 wanted")
+                self.assertEqual(found[4:6], ["    " + line for line in lines.splitlines()])
+
+    def test_the_wanted_number_or_none_is_undecided(self) -> None:
+        reason = "stopped after 5 s (six.pop, line 9)"
+        for lines, said in (
+            ("1.Ra1-a6\n  1...b7*a6\n", f"unfinished: at least 1 key, 1 wanted ({reason})"),
+            ("", f"unfinished: no key so far ({reason})"),
+        ):
+            with self.subTest(said):
+                found = self.found(f"problem 1\n#2\nplay\n{lines}{self.MARK}")
+                self.assertEqual(found[:2], ["problem 1: undecided: #2", f"  {said}"])
+
+    def test_a_key_that_mates_at_once_is_short_and_no_other(self) -> None:
+        """What is missing below the other key may take longer."""
+        tree = "1.Ra1-a8#\n1.Ra1-a2\n  1...Kh8-g8\n    2.Ra2-a8#\n"
+        found = self.found(f"problem 1\n#3\nplay\n{tree}{self.MARK}", "--solutions", "2")
+        self.assertIn("  at least 1 short solution", found)
+        self.assertIn("    1.Ra1-a8#", found)
+
+    def test_a_report_that_ends_above_the_solutions(self) -> None:
+        for text in ("problem 1\n", "problem 1\ntitle: A\n8 kbK.....\n", "problem 1\n#1\n"):
+            with self.subTest(text):
+                found = self.found(text)
+                self.assertTrue(found[0].startswith("problem 1: undecided"), found)
+                self.assertIn("the report ends here", found[1])
+
+    def test_set_play_alone_decides_nothing(self) -> None:
+        found = self.found(f"problem 1\nh#1\nset\n1...Ra1-a8#\n{self.MARK}")
+        self.assertIn("no solution so far", found[1])
+        found = self.found(f"problem 1\nh#1\nset\n1...Ra1-a8#\nplay\n{self.MARK}")
+        self.assertIn("no solution so far", found[1])
+
+    def test_play_that_is_done_beside_set_play_that_isnt(self) -> None:
+        text = (
+            f"problem 1\nh#1\nset\n1...Ra1-a8#\nplay\n1.Kh8-g8 Ra1-a8#\nsolutions: 1\n{self.MARK}"
+        )
+        outcome = run_here.companion("pops-test", text=text.encode())
+        self.assertEqual(outcome.output.decode().splitlines()[0], "problem 1: sound: h#1")
+
+    def test_the_file_of_unfinished_problems_fills_the_gaps(self) -> None:
+        two = self.ONE.replace("problem 1", "problem 2")
+        three = f"problem 3\n#1\nplay\n1.Ra1-a8#\n1.Rb1-b8#\n{self.MARK}"
+        with tempfile.TemporaryDirectory() as room:
+            report = Path(room) / "some.report"
+            report.write_text(self.ONE + two)
+            rest = Path(room) / "some.report.unfinished"
+            rest.write_text(three)
+            wanted = ["problem 1: sound: #1", "problem 2: sound: #1", "problem 3: unsound: #1"]
+            self.assertEqual(self.found("", str(report))[:3], wanted)
+            other = rest.rename(Path(room) / "rest")
+            words = [str(report), "--unfinished", str(other)]
+            self.assertEqual(self.found("", *words)[:3], wanted)
+            other.write_text(three.replace("problem 3", "problem 2"))
+            outcome = run_here.companion("pops-test", *words)
+        self.assertEqual((outcome.status, outcome.output), (3, b""))
+        self.assertIn("--unfinished isn't of", outcome.error)
+
+    def test_what_pops_many_keeps_of_a_problem_in_parts(self) -> None:
+        """Set play and play both have no total there."""
+        text = (
+            "problem 1\nh#1\nset\n1...Ra1-a8#\nplay\n1.Kh8-g8 Ra1-a8#\n1.Kh8-g8 Rb1-b8#\n"
+            "unfinished: stopped with 2 of 9 parts done (six.pop, line 1)\n\n"
+        )
+        self.assertIn("  cooked: at least 2 solutions, 1 wanted", self.found(text))
+
+
+class Names(unittest.TestCase):
+    """Titles and authors of problems whose report shows none."""
+
+    def test_of_faulty_and_missing_problems(self) -> None:
+        text = (
+            b"BeginProblem\nTitle One\nAuthor A. A.\nPieces Kg6\nStipulation #1\n"
+            b"NextProblem\nTitle Two\nAuthor B. B.\nStipulation #2\nEndProblem\n"
+        )
+        report = b"problem 1\nline 4: fault 4: colour expected before men\n\n"
+        with tempfile.TemporaryDirectory() as room:
+            given = Path(room) / "given.pop"
+            given.write_bytes(text)
+            words = ["--input", str(given)]
+            outcome = run_here.companion("pops-test", *words, text=report)
+            rows = run_here.companion("pops-test", *words, "--csv", text=report).output.decode()
+            page = run_here.companion("pops-test", *words, "--page", text=report).output.decode()
+        lines = outcome.output.decode().splitlines()
+        self.assertEqual(lines[0], "problem 1: faulty: #1, One (A. A.)")
+        self.assertEqual(lines[2], "problem 2: undecided: #2, Two (B. B.)")
+        named = [(row["title"], row["author"]) for row in csv.DictReader(io.StringIO(rows))]
+        self.assertEqual(named, [("One", "A. A."), ("Two", "B. B.")])
+        self.assertEqual(page.count("#2, Two (B. B.)"), 2)
+
+    def test_text_lines_before_the_problem_have_no_effect(self) -> None:
+        (given,) = given_problems(b"Title No\nBeginProblem Stipulation #1\nAuthor A\nEndProblem")
+        self.assertEqual((given.title, given.author), (None, b"A"))
+
+    def test_origin_title_and_author_as_pops_takes_them(self) -> None:
+        text = b"BeginProblem\nTitle  One \nTITLE Two\t\nOri Here\nOrigin There\nAut\nEndProblem"
+        (given,) = given_problems(text)
+        self.assertEqual((given.title, given.author), (b"Two", None))
+        self.assertEqual(given.origin, b"Here; There")
+
+
+class Warnings(unittest.TestCase):
+    def test_nightriders_without_knights(self) -> None:
+        board = "".join(f"{rank} ........\n" for rank in range(8, 2, -1))
+        for men, is_warned in (("N......k", True), ("NS.....k", False), ("S......k", False)):
+            text = f"problem 1\n{board}2 ........\n1 {men}\n  abcdefgh\n#1\nplay\nsolutions: 0\n\n"
+            outcome = run_here.companion("pops-test", text=text.encode())
+            warned = b"N is a nightrider here, and there is no knight" in outcome.output
+            self.assertEqual(warned, is_warned)
+
+    def test_text_after_the_end(self) -> None:
+        with tempfile.TemporaryDirectory() as room:
+            given = Path(room) / "given.pop"
+            given.write_bytes(b"BeginProblem Sti #1 EndProblem\n\nBeg Sti #2 Next End\n")
+            words = ["--input", str(given)]
+            report = b"problem 1\n#1\nplay\n1.Ra1-a8#\nsolutions: 1\n\n"
+            outcome = run_here.companion("pops-test", *words, text=report)
+        self.assertIn("the text goes on in line 3: 2 problems are lost", outcome.error)
+        self.assertEqual(outcome.status, 0)
+
+
 class Command(unittest.TestCase):
     REPORT = b"problem 1\n#1\nplay\n1.Ra1-a8#\nsolutions: 1\n\n"
 
     def test_texts_that_are_no_report(self) -> None:
         for text, said in (
             (b"", "standard input is empty: no report of pops"),
-            (b"BeginProblem\n", "standard input is no report of pops: line 1"),
-            (self.REPORT[:-1], "standard input is no report of pops: line 6"),
+            (b"Nothing\n", "standard input is no report of pops: line 1"),
+            (b"begin\n", "standard input is an input of pops, no report: solve it first"),
+            (self.REPORT + b"\n", "standard input is no report of pops: line 7"),
         ):
             with self.subTest(text):
                 outcome = run_here.companion("pops-test", text=text)
@@ -519,8 +658,8 @@ class Command(unittest.TestCase):
         with tempfile.TemporaryDirectory() as room:
             target = Path(room) / "soundness.txt"
             target.write_text("old")
-            cut = self.REPORT + b"problem 2\n"
-            outcome = run_here.companion("pops-test", "-o", str(target), text=cut)
+            wrong = self.REPORT + b"problem two\n"
+            outcome = run_here.companion("pops-test", "-o", str(target), text=wrong)
             self.assertEqual((outcome.status, target.read_text()), (3, "old"))
             outcome = run_here.companion("pops-test", "-o", str(target), text=self.REPORT)
             self.assertEqual((outcome.status, outcome.output), (0, b""))
@@ -532,7 +671,7 @@ class Command(unittest.TestCase):
         for words, text, said in (
             (["--input", collection], self.REPORT, "problem 1 has another stipulation there"),
             (["--input", collection], b"problem 1\n#2\nsound\n\n" * 2, "with several joined"),
-            (["--short", collection], self.REPORT, "is no report of pops: line 1"),
+            (["--short", collection], self.REPORT, "is an input of pops, no report"),
             (["--short", "nowhere.report"], self.REPORT, "cannot open nowhere.report"),
         ):
             with self.subTest(said):
@@ -559,9 +698,9 @@ class Command(unittest.TestCase):
             outcome.output.decode().splitlines(),
             [
                 "problem 1: sound: #1",
-                "problem 2: undecided",
+                "problem 2: undecided: #1",
                 "  not in the report",
-                "problem 3: undecided",
+                "problem 3: undecided: #2",
                 "  not in the report",
                 "3 problems: 1 sound, 2 undecided, 0 unsound, 0 faulty",
             ],
@@ -586,7 +725,8 @@ class Command(unittest.TestCase):
             given = Path(room) / "given.pop"
             given.write_text("BeginProblem" + " Sti #1 NextProblem" * 4 + " Sti #1 EndProblem\n")
             outcome = run_here.companion("pops-test", "--input", str(given), text=report)
-        wanted += ["problem 5: undecided", "  not in the report"]
+        wanted = [line.replace("undecided", "undecided: #1") for line in wanted]
+        wanted += ["problem 5: undecided: #1", "  not in the report"]
         total = "5 problems: 2 sound, 3 undecided, 0 unsound, 0 faulty"
         self.assertEqual(outcome.output.decode().splitlines(), [*wanted, total])
 
@@ -633,7 +773,8 @@ class Command(unittest.TestCase):
         outcome = run_here.companion("pops-test", "--encoding", "latin-1", text=report)
         self.assertIn("sound: #1, Réti \ufffd[1m<b>\n", outcome.output.decode())
         outcome = run_here.companion("pops-test", "--page", text=report)
-        self.assertIn("R\ufffdti \ufffd[1m&lt;b&gt;", outcome.output.decode())
+        self.assertIn("Réti \ufffd[1m&lt;b&gt;", outcome.output.decode())
+        self.assertIn("title or author of problem 1 isn't utf-8 and is read as", outcome.error)
 
     def test_help_and_version(self) -> None:
         outcome = support.companion("pops-test", "--help")

@@ -1,14 +1,17 @@
-"""What an input of pops says of its problems: the words that pops reads, and the Remarks."""
+"""What an input of pops says of its problems: the words that pops reads, and the text lines."""
 
 import re
 from dataclasses import dataclass
+from enum import Enum
 from typing import Iterator, List, Optional, Tuple
 
 from pops_many.cutting import Piece, cut
 from pops_texts.stipulation import Stipulation
 
 _WORD = re.compile(rb"[^\t\n\x0b\x0c\r ]+")
-_TEXT_WORDS = ("title", "author", "origin", "remark")
+# The most bytes of a title or an author in a report, and what is cut off at both ends.
+LONGEST_TEXT = 200
+_BLANKS = b" \t\v\f\r"
 _WANTED = re.compile(
     rb"\s*(?:solutions?\s*:?\s*([0-9]{1,9})|([0-9]{1,9})\s+solutions?)\s*\.?\s*", re.IGNORECASE
 )
@@ -19,15 +22,50 @@ def is_form_of(word: bytes, command: str) -> bool:
     return len(word) >= 3 and command.encode("ascii").startswith(word.lower())
 
 
+class TextWord(Enum):
+    """A word that begins a text line; its value is the word in small letters."""
+
+    TITLE = "title"
+    AUTHOR = "author"
+    ORIGIN = "origin"
+    REMARK = "remark"
+
+
 @dataclass(frozen=True)
 class GivenProblem:
     """A problem of an input. `words` are those between its first and its last word, text lines
-    left out; there are none where the first or the last word is missing.
+    left out; there are none where the first or the last word is missing. `line` is the line of the
+    input on which it begins, from 1.
     """
 
     number: int
+    line: int
     words: Tuple[bytes, ...]
-    remarks: Tuple[bytes, ...]
+    texts: Tuple[Tuple[TextWord, bytes], ...]
+
+    def lines_of(self, word: TextWord) -> List[bytes]:
+        """The text lines of a word, without the blanks at both ends, empty ones left out."""
+        texts = (text.strip(_BLANKS) for kind, text in self.texts if kind is word)
+        return [text for text in texts if text]
+
+    @property
+    def title(self) -> Optional[bytes]:
+        """Its title, the last one as in a report."""
+        return _last(self.lines_of(TextWord.TITLE))
+
+    @property
+    def author(self) -> Optional[bytes]:
+        """Its author, the last one as in a report."""
+        return _last(self.lines_of(TextWord.AUTHOR))
+
+    @property
+    def origin(self) -> Optional[bytes]:
+        """Where it was published: its Origin lines, joined."""
+        return b"; ".join(self.lines_of(TextWord.ORIGIN)) or None
+
+    @property
+    def remarks(self) -> List[bytes]:
+        return self.lines_of(TextWord.REMARK)
 
     @property
     def stipulation(self) -> Optional[Stipulation]:
@@ -51,6 +89,10 @@ class GivenProblem:
         return wanted
 
 
+def _last(texts: List[bytes]) -> Optional[bytes]:
+    return texts[-1][:LONGEST_TEXT] if texts else None
+
+
 def given_problems(text: bytes) -> List[GivenProblem]:
     """The problems of an input, numbered as pops numbers them."""
     return [_given(text, piece) for piece in cut(text)]
@@ -58,20 +100,28 @@ def given_problems(text: bytes) -> List[GivenProblem]:
 
 def _given(text: bytes, piece: Piece) -> GivenProblem:
     words: List[bytes] = []
-    remarks: List[bytes] = []
+    texts: List[Tuple[TextWord, bytes]] = []
     for word, line_rest in _words(text[piece.start : piece.stop]):
-        if line_rest is None:
+        kind = _text_word(word)
+        if kind is None:
+            if piece.number == 1 and not words:
+                # Text lines before BeginProblem have no effect.
+                texts.clear()
             words.append(word)
-        elif is_form_of(word, "remark"):
-            remarks.append(line_rest)
+        else:
+            texts.append((kind, line_rest))
     framed = piece.closed
     if piece.number == 1:
         framed = framed and words[:1] != [] and is_form_of(words[0], "beginproblem")
         words = words[1:]
-    return GivenProblem(piece.number, tuple(words) if framed else (), tuple(remarks))
+    return GivenProblem(piece.number, piece.line, tuple(words) if framed else (), tuple(texts))
 
 
-def _words(block: bytes) -> Iterator[Tuple[bytes, Optional[bytes]]]:
+def _text_word(word: bytes) -> Optional[TextWord]:
+    return next((kind for kind in TextWord if is_form_of(word, kind.value)), None)
+
+
+def _words(block: bytes) -> Iterator[Tuple[bytes, bytes]]:
     """The words of a problem; that of a text line has the rest of its line beside it."""
     place = 0
     while True:
@@ -79,10 +129,10 @@ def _words(block: bytes) -> Iterator[Tuple[bytes, Optional[bytes]]]:
         if found is None:
             return
         place = found.end()
-        if any(is_form_of(found[0], word) for word in _TEXT_WORDS):
+        if _text_word(found[0]) is not None:
             line_end = block.find(b"\n", place)
             stop = len(block) if line_end < 0 else line_end
             yield found[0], block[place:stop]
             place = stop
         else:
-            yield found[0], None
+            yield found[0], b""

@@ -1,0 +1,210 @@
+"""pops-export: an import of what it writes gives the same problems."""
+
+import re
+import tempfile
+import unittest
+from dataclasses import replace
+from pathlib import Path
+from typing import NamedTuple, Sequence, Set
+
+import run_here
+import support
+
+from pops_export.problems import Problem, joined, options_of, read_problems
+from pops_export.yaml_form import solution_lines
+from pops_import.words import Unreadable
+from pops_import.yaml_text import documents
+from pops_texts.report import SoundItem, read_report
+
+IMPORTED = sorted((Path(__file__).resolve().parent / "data" / "import").glob("*.pop"))
+TWINS = b"""\
+BeginProblem
+Title A pair
+Author Loyd, Samuel; Solver, Bert
+Origin Die Schwalbe 1977
+Remark a note: "one" \\ two
+Remark solutions 2
+Pieces White Kg6 Ra1 Black Kh8
+Stipulation h#1
+Option SetPlay MaxSolutions 5
+Twin Move a1 b2
+Twin Continued Add White Rc1, Black Pa7
+Twin Rotate 180 Stipulation h=1
+EndProblem
+"""
+
+
+class Same(NamedTuple):
+    """What stays the same: the problems, and what their Remarks say.
+
+    A Remark that all twins had may stand with the first one alone.
+    """
+
+    problems: Sequence[Problem]
+    remarks: Set[str]
+
+
+def same(text: str) -> Same:
+    problems = read_problems(text).problems
+    return Same(
+        [replace(problem, remarks=()) for problem in problems],
+        {remark for problem in problems for remark in problem.remarks},
+    )
+
+
+def exported(form: str, *words: str, text: bytes = b"") -> str:
+    outcome = run_here.companion("pops-export", "--to", form, *words, text=text)
+    assert outcome.status == 0 and outcome.error == "", outcome
+    return outcome.output.decode("utf-8")
+
+
+class RoundTrips(unittest.TestCase):
+    def test_imported_files_rows_and_examples(self) -> None:
+        tried = 0
+        for path in [*IMPORTED, *support.stored_inputs()]:
+            text = path.read_text("utf-8", "replace")
+            try:
+                reading = read_problems(text)
+            except Unreadable:
+                continue
+            if reading.left_out or not reading.problems:
+                continue
+            wanted = same(text)
+            for form in ("popeye", "yaml"):
+                for words in ([], ["--apart"]):
+                    with self.subTest(path.name, form=form, words=words):
+                        self.assertEqual(same(exported(form, *words, str(path))), wanted)
+                        tried += 1
+        self.assertGreater(tried, 200)
+
+    def test_what_pops_reports_of_them(self) -> None:
+        """The text that comes back has the same report, titles and all."""
+        for path in IMPORTED[::4]:
+            wanted = support.run([support.pops(), "--check", str(path)]).output
+            for form in ("popeye", "yaml"):
+                with self.subTest(path.name, form=form):
+                    back = run_here.companion(
+                        "pops-import", text=exported(form, str(path)).encode()
+                    )
+                    self.assertEqual(back.status, 0)
+                    report = support.run([support.pops(), "--check"], back.output).output
+                    self.assertEqual(report, wanted)
+
+
+class Twins(unittest.TestCase):
+    def setUp(self) -> None:
+        self.text = run_here.companion("pops-import", text=TWINS).output
+
+    def test_they_are_one_problem_again(self) -> None:
+        text = exported("popeye", text=self.text)
+        self.assertEqual(text.count("Pieces "), 1)
+        self.assertIn("Title A pair\n", text)
+        self.assertIn("Twin Move a1 b2\n", text)
+        self.assertIn("Twin continued Add white Rc1 black Pa7\n", text)
+        self.assertIn("Twin Rotate 180 Stipulation h=1\n", text)
+        back = run_here.companion("pops-import", text=text.encode())
+        self.assertEqual(same(back.output.decode()), same(self.text.decode()))
+
+    def test_apart(self) -> None:
+        self.assertEqual(exported("popeye", "--apart", text=self.text).encode(), self.text)
+
+    def test_twins_that_were_changed_stay_apart(self) -> None:
+        for old, new in (("Rb2", "Rb3"), ("Remark b) Move", "Remark Move"), ("pair b)", "pair c)")):
+            with self.subTest(new):
+                other = self.text.decode().replace(old, new)
+                self.assertNotEqual(other, self.text.decode())
+                self.assertGreater(exported("popeye", text=other.encode()).count("Pieces "), 1)
+
+    def test_a_missing_twin_ends_the_problem(self) -> None:
+        problems = read_problems(self.text.decode()).problems
+        self.assertEqual([len(one.twins) for one in joined(problems)], [3])
+        self.assertEqual([len(one.twins) for one in joined(problems[1:])], [0, 0, 0])
+        self.assertEqual([len(one.twins) for one in joined(problems[:1] + problems[2:])], [0] * 3)
+
+
+class Yaml(unittest.TestCase):
+    def test_the_keys(self) -> None:
+        text = run_here.companion("pops-import", text=TWINS).output
+        (document,) = documents(exported("yaml", text=text))
+        node = document.node()
+        assert isinstance(node, dict)
+        self.assertEqual(node["authors"], ["Loyd, Samuel", "Solver, Bert"])
+        self.assertEqual(node["algebraic"], {"white": ["Kg6", "Ra1"], "black": ["Kh8"]})
+        self.assertEqual(node["options"], ["SetPlay", "MaxSolutions 5"])
+        self.assertEqual((node["stipulation"], node["intended-solutions"]), ("h#1", "2"))
+        self.assertEqual(node["comments"], ['a note: "one" \\ two'])
+
+    def test_solutions(self) -> None:
+        example = support.REPOSITORY / "examples" / "morphy_1856"
+        report = f"{example}.report"
+        (document,) = documents(exported("yaml", f"{example}.pop", "--report", report))
+        node = document.node()
+        assert isinstance(node, dict)
+        lines = str(node["solution"]).split("\n")
+        self.assertEqual(lines[:3], ["1.Ra1-a6 !", "    1...b7*a6", "        2.b6-b7 #"])
+
+    def test_signs_of_moves(self) -> None:
+        report = (
+            b"problem 1\nh#1.5\nset\nsolutions: 0\nplay\n"
+            b"1...f7-f8=Q+ 2.Kg8*h8[+wRh1]= 0-0#\nsolutions: 1\n\n"
+        )
+        (item,) = read_report(iter(report.replace(b"h8[+wRh1]=", b"h8[+wRh1]").splitlines(True)))
+        assert isinstance(item, SoundItem)
+        self.assertEqual(solution_lines(item), ["1...f7-f8=Q + 2.Kg8*h8[+wRh1] 0-0 #"])
+
+    def test_solutions_of_another_report(self) -> None:
+        with tempfile.TemporaryDirectory() as room:
+            report = Path(room) / "other.report"
+            report.write_bytes(b"problem 1\n#1\nsound\n\n")
+            words = ["--to", "yaml", "--report", str(report)]
+            outcome = run_here.companion(
+                "pops-export", *words, text=TWINS.split(b"Twin")[0] + b"End"
+            )
+        self.assertEqual((outcome.status, outcome.output), (1, b""))
+        self.assertIn("problem 1 is #1 there, not h#1", outcome.error)
+
+
+class Document(unittest.TestCase):
+    def test_the_example(self) -> None:
+        """It is the problem that the example of pops-import gives, with its report."""
+        document = (support.REPOSITORY / "docs" / "COMPANIONS.md").read_text("utf-8")
+        blocks = [
+            re.findall(r"\n\n((?:    [^\n]*\n|\n(?=    ))+)", document.split(f"\n## {name}\n")[1])
+            for name in ("pops-import", "pops-export")
+        ]
+        pair = re.sub("^    ", "", blocks[0][2], flags=re.M)
+        wanted = re.sub("^    ", "", blocks[1][0], flags=re.M)
+        with tempfile.TemporaryDirectory() as room:
+            report = Path(room) / "pair.report"
+            report.write_bytes(support.run([support.pops()], pair.encode()).output)
+            text = exported("yaml", "--report", str(report), text=pair.encode())
+        self.assertEqual(text, wanted)
+
+
+class Command(unittest.TestCase):
+    def test_options_with_values(self) -> None:
+        text = "SetPlay MaxSolutions 5 EnPassant d6 NoCastling a1h8 NoBoard"
+        wanted = ["SetPlay", "MaxSolutions 5", "EnPassant d6", "NoCastling a1h8", "NoBoard"]
+        self.assertEqual(list(options_of(text)), wanted)
+
+    def test_problems_that_pops_cant_read_are_left_out(self) -> None:
+        text = b"BeginProblem\nPieces White Kg6\nNextProblem\n" + TWINS.split(b"\n", 1)[1]
+        outcome = run_here.companion("pops-export", "--to", "popeye", text=text)
+        self.assertEqual(outcome.status, 1)
+        self.assertIn("standard input, line 1, problem 1: left out: there is no", outcome.error)
+        self.assertEqual(outcome.output.count(b"BeginProblem"), 1)
+
+    def test_mistakes(self) -> None:
+        for words, status in (
+            ([], 2),
+            (["--to", "pgn"], 2),
+            (["--to", "popeye", "--report", "x"], 2),
+            (["--to", "yaml", "nowhere.pop"], 3),
+            (["--to", "yaml"], 1),
+        ):
+            with self.subTest(words):
+                self.assertEqual(run_here.companion("pops-export", *words).status, status)
+
+
+if __name__ == "__main__":
+    unittest.main()

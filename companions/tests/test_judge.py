@@ -1,0 +1,149 @@
+"""pops-judge: one sheet of a collection; runs that are stopped, and a program of tries."""
+
+import tempfile
+import unittest
+from pathlib import Path
+from typing import List
+
+import support
+import test_pages
+import test_soundness
+
+from pops_review.judging_run import lines_below_head
+
+ONE = b"BeginProblem\nTitle A mate\nOrigin A & B 1900\nPieces White Kg6 Ra1 Black Kg8\nStipulation #1\n"
+TWO = b"NextProblem\nTitle A help\nPieces White Kg6 Ra1 Black Kh8\nStipulation h#1\nEndProblem\n"
+
+
+class Judging(unittest.TestCase):
+    def setUp(self) -> None:
+        room = tempfile.TemporaryDirectory()
+        self.addCleanup(room.cleanup)
+        self.room = Path(room.name)
+        self.text = self.room / "some.pop"
+        self.text.write_bytes(ONE + TWO)
+        self.sheet = self.room / "sheet.html"
+
+    def script(self, name: str, text: str) -> str:
+        path = self.room / name
+        path.write_text("#!/bin/sh\n" + text)
+        path.chmod(0o755)
+        return str(path)
+
+    def judged(self, *words: str, pops: str = "", text: str = "") -> support.Outcome:
+        words = ("--pops", pops or support.pops(), "-o", str(self.sheet), *words)
+        return support.companion("pops-judge", text or str(self.text), *words)
+
+    def articles(self) -> List[test_pages.SeenArticle]:
+        return test_pages.SeenPage(self.sheet.read_text("utf-8")).articles
+
+    def files(self) -> List[str]:
+        return sorted(path.name for path in self.room.iterdir())
+
+    def test_the_collection_of_known_soundness(self) -> None:
+        outcome = self.judged(text=str(test_soundness.COLLECTION))
+        self.assertEqual((outcome.status, outcome.error), (1, ""))
+        verdicts = [verdict for verdict, _ in test_soundness.Collection.WANTED]
+        lines = outcome.output.decode().splitlines()
+        self.assertEqual([line.split(": ")[1] for line in lines[:-1]], verdicts)
+        self.assertEqual(lines[-1], "11 problems: 5 sound, 1 undecided, 4 unsound, 1 faulty")
+        articles = self.articles()
+        self.assertEqual(len(articles), len(verdicts))
+        for article, (verdict, findings) in zip(articles, test_soundness.Collection.WANTED):
+            self.assertIn(verdict, article.words)
+            for text in findings:
+                self.assertIn(text, article.words)
+        self.assertEqual(self.files(), ["sheet.html", "some.pop"])
+
+    def test_sound_problems_and_their_origin(self) -> None:
+        outcome = self.judged("--heading", "Ours & yours")
+        self.assertEqual((outcome.status, outcome.error), (0, ""))
+        one, two = self.articles()
+        self.assertIn("A & B 1900", one.words)
+        self.assertIn("play\n1.Ra1-a8#\nsolutions: 1", one.words)
+        self.assertIn("play\n1.Kh8-g8 Ra1-a8#\nsolutions: 1", two.words)
+        self.assertIn("<h1>Ours &amp; yours</h1>", self.sheet.read_text("utf-8"))
+
+    def test_a_problem_that_takes_longer_is_taken_up_again(self) -> None:
+        """In its time it shows two keys of one: unsound, whatever is missing."""
+        head = "problem 1\\n#1\\nplay\\n1.Ra1-a8#\\n1.Rb1-b8#\\n"
+        slow = self.script(
+            "slow",
+            f"text=$(cat)\ncase $text in *'A mate'*) printf '{head}'; exec sleep 60 ;; esac\n"
+            f"printf '%s' \"$text\" | '{support.pops()}' \"$@\"\n",
+        )
+        outcome = self.judged("--seconds", "0.5", pops=slow)
+        self.assertEqual(outcome.status, 1)
+        self.assertIn("some problems took longer: --resume", outcome.error)
+        lines = outcome.output.decode().splitlines()
+        self.assertEqual(lines[0], "problem 1: unsound: #1")
+        self.assertIn("cooked: at least 2 keys, 1 wanted", self.articles()[0].words)
+        self.assertTrue((self.room / "sheet.html.work").is_dir())
+
+        refused = self.judged()
+        self.assertEqual(refused.status, 2)
+        self.assertIn("keeps a run that was stopped: go on with --resume", refused.error)
+        again = self.judged("--resume")
+        self.assertEqual((again.status, again.error), (0, ""))
+        self.assertEqual(again.output.decode().splitlines()[0], "problem 1: sound: #1, A mate")
+        self.assertEqual(self.files(), ["sheet.html", "slow", "some.pop"])
+
+    def test_another_text_isnt_taken_up(self) -> None:
+        work = self.room / "sheet.html.work"
+        work.mkdir()
+        (work / "input.pop").write_bytes(ONE + b"EndProblem\n")
+        outcome = self.judged("--resume")
+        self.assertEqual(outcome.status, 2)
+        self.assertIn("sheet.html.work is of another text: remove it", outcome.error)
+
+    def test_tries_where_the_program_is(self) -> None:
+        tries = self.script(
+            "tries",
+            "cat > /dev/null\nprintf 'problem 1\\ntitle: A mate\\n8 ......k.\\n#1\\n1.Ra1-a8#!\\n\\n'\n",
+        )
+        outcome = self.judged("--pops-tries", tries)
+        self.assertEqual((outcome.status, outcome.error), (0, ""))
+        one, two = self.articles()
+        self.assertIn("tries and threats", one.words)
+        self.assertIn("1.Ra1-a8#!", one.words)
+        self.assertNotIn("tries and threats", two.words)
+        missing = self.judged("--pops-tries", "nowhere/tries")
+        self.assertEqual(missing.status, 3)
+
+    def test_the_lines_of_tries(self) -> None:
+        text = "problem 1\n1 K.......\n  abcdefgh\ns#2 Circe\nplay\n1.a2-a3!\n\n"
+        self.assertEqual(lines_below_head(text), ["play", "1.a2-a3!"])
+        self.assertEqual(lines_below_head("problem 1\nline 2: fault 14: square expected\n\n"), [])
+
+    def test_twins_have_one_verdict(self) -> None:
+        self.text.write_bytes(
+            b"BeginProblem\nTitle A pair a)\nPieces White Kg6 Ra1 Black Kh8\nStipulation h#1\n"
+            b"NextProblem\nTitle A pair b)\nRemark b) Add c1\n"
+            b"Pieces White Kg6 Ra1c1 Black Kh8\nStipulation h#1\nEndProblem\n"
+        )
+        outcome = self.judged()
+        self.assertEqual(
+            outcome.output.decode().splitlines(),
+            [
+                "problems 1 to 2: unsound: h#1, A pair",
+                "1 problem: 0 sound, 0 undecided, 1 unsound, 0 faulty",
+            ],
+        )
+        (article,) = self.articles()
+        self.assertIn("b) Add c1: ", article.words)
+        outcome = self.judged("--apart")
+        self.assertEqual(
+            outcome.output.decode().splitlines()[0], "problem 1: sound: h#1, A pair a)"
+        )
+
+    def test_texts_that_are_no_input(self) -> None:
+        self.text.write_bytes(b"problem 1\n")
+        outcome = self.judged()
+        self.assertEqual((outcome.status, outcome.output), (3, b""))
+        self.assertIn("some.pop is no input of pops: pops-import makes one", outcome.error)
+        self.assertEqual(self.judged("--seconds", "-1").status, 2)
+        self.assertEqual(support.companion("pops-judge", str(self.text)).status, 2)
+
+
+if __name__ == "__main__":
+    unittest.main()

@@ -1,0 +1,90 @@
+// @ts-check
+// A fault with all that is known of its problem, and what an explanation is made of.
+'use strict';
+
+/**
+ * An explanation with the places that it speaks of.
+ * @param {string} text
+ * @param {...Span} marks
+ * @returns {Explanation}
+ */
+function explained(text, ...marks) {
+  const places = new Map(marks.map(({ from, to }) => [`${from} ${to}`, { from, to }]));
+  return { text, marks: [...places.values()].sort((one, next) => one.from - next.from) };
+}
+
+/** A word as explanations name it; of a long one the beginning. */
+function quoted({ word }) {
+  const letters = [...characters.shown(word)];
+  return `\`${letters.length > 48 ? `${letters.slice(0, 48).join('')}..` : letters.join('')}\``;
+}
+
+/** The first explanation that some causes give. */
+function firstOf(causes) {
+  for (const it of causes) if (it) return it;
+  throw new Error('no cause');
+}
+
+const wholeOf = ({ from, to, end }) => ({ from, to: end ?? to });
+const partOf = (word, from, to) => ({ from: word.from + from, to: word.from + to });
+const sideName = colour => (colour === 'w' ? 'White' : 'Black');
+const colourWord = colour => COLOUR_NAMES[colour];
+
+class FaultCase {
+  static NAMES = [...reading.COMMAND_NAMES, ...reading.TEXT_NAMES, ...CONDITIONS, ...reading.OPTIONS, ...reading.COLOURS];
+
+  /** The fault of a problem of a text. */
+  constructor(text, read) {
+    Object.assign(this, { text, read, word: read.at, plain: read.at.word, quoted: quoted(read.at) });
+    this.words = read.tokens.filter(token => !reading.isTextLine(token));
+    this.textLines = read.tokens.filter(reading.isTextLine);
+  }
+
+  get before() { return this.words[this.words.indexOf(this.word) - 1] ?? null; }
+  get next() { return this.words[this.words.indexOf(this.word) + 1] ?? null; }
+
+  /** Where the word before the faulty one stands, also if it ends the problem before. */
+  get spanBefore() {
+    const start = Math.max(this.word.from - 400, 0);
+    const found = /([^\t\n\v\f\r ]+)[\t\n\v\f\r ]+$/.exec(this.text.slice(start, this.word.from));
+    return found && { from: start + found.index, to: start + found.index + found[1].length };
+  }
+
+  /** The text line right before the faulty word. */
+  get lineAbove() {
+    const token = this.read.tokens[this.read.tokens.indexOf(this.word) - 1];
+    return token && reading.isTextLine(token) ? token : null;
+  }
+
+  /** An explanation that marks the faulty word, and these places too. */
+  says(text, ...marks) {
+    return explained(text, this.word, ...marks);
+  }
+
+  /** Whether these words could stand in place of the faulty one. */
+  fits(text) {
+    const { read } = this;
+    const copy = { ...read, colours: [...read.colours], men: new Map(read.men), openers: [...read.openers] };
+    const words = text.split(/\s+/).filter(Boolean);
+    const isBegun = !read.isFirst || this.word !== this.words[0];
+    for (const [place, word] of words.entries()) {
+      if (reading.named(word, reading.TEXT_NAMES)) return true;
+      const isFit = isBegun || place > 0 ? reading.step(copy, { word, from: 0, to: 0 }) === null : reading.named(word, ['BeginProblem']);
+      if (!isFit) return false;
+    }
+    return words.length > 0;
+  }
+
+  /** The words of pops that could stand in place of the faulty one. */
+  namesHere() {
+    return FaultCase.NAMES.filter(name => this.fits(name));
+  }
+
+  /** The commands that open sections of this kind in the problem. */
+  openersOf(section) {
+    return this.read.openers.filter(it => reading.named(it.word, [section]));
+  }
+}
+
+/** The text word of a text line in full. */
+const textNameOf = line => reading.named(line.word, reading.TEXT_NAMES);

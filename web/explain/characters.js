@@ -1,0 +1,54 @@
+// @ts-check
+// Characters that don't show, or that look like others.
+'use strict';
+
+const characters = (() => {
+  const KNOWN = EXPLANATIONS.characters;
+  const pairsOf = ([others, ours]) => new Map([...others].map((it, index) => [it, ours[index]]));
+  const LIKE = { cyrillic: pairsOf(KNOWN.cyrillic), greek: pairsOf(KNOWN.greek) };
+  const FIGURINES = pairsOf(KNOWN.figurines);
+  const BLANK = /[\p{Zs}\p{Zl}\p{Zp}]/u;
+  const FORMAT = /\p{Cf}/u;
+  const CONTROL = /[\p{Cc}\p{Co}\p{Cs}\p{Cn}]/u;
+  const WIDE = /[\uff01-\uff60\uffe0-\uffe6]/u;
+
+  const codeOf = letter => letter.codePointAt(0).toString(16).toUpperCase().padStart(4, '0');
+  const isWideBlank = letter => BLANK.test(letter);
+  const isInvisible = letter => letter > '\x7f' && (BLANK.test(letter) || FORMAT.test(letter));
+  const isHidden = letter => letter !== ' ' && (isInvisible(letter) || CONTROL.test(letter));
+  const tables = [...Object.values(LIKE), FIGURINES];
+
+  /** The text, with each character that doesn't show as `<U+00A0>`. */
+  const shown = text => [...text].map(letter => (isHidden(letter) ? `<U+${codeOf(letter)}>` : letter)).join('');
+
+  /** The name of a character, as `no-break space`. */
+  const nameOf = letter => KNOWN.names[codeOf(letter)] ?? `character U+${codeOf(letter)}`;
+
+  /** The characters that don't show, or show as a blank and are none, with their places. */
+  const invisible = text => [...text].map((letter, place) => ({ letter, place })).filter(it => isInvisible(it.letter));
+
+  /** The text with a blank for each such character that takes room, and nothing for the others. */
+  function withBlanks(text) {
+    const changed = [...text].map(letter => (!isInvisible(letter) ? letter : isWideBlank(letter) ? ' ' : ''));
+    return changed.join('').split(/\s+/).filter(Boolean).join(' ');
+  }
+
+  const plainLetter = letter => tables.find(table => table.has(letter))?.get(letter)
+    ?? (WIDE.test(letter) ? letter.normalize('NFKC') : letter);
+
+  /** The text with plain letters in place of those that look like them. */
+  const plain = text => [...text].map(plainLetter).join('');
+
+  /** The first letter that looks like one of ours; undefined if there is none. */
+  const lookAlike = text => [...text].find(letter => plainLetter(letter) !== letter);
+
+  const isFigurine = letter => FIGURINES.has(letter);
+
+  /** The script of a letter that looks like one of ours, as `a Greek`. */
+  const scriptOf = letter => KNOWN.scripts[Object.keys(LIKE).find(name => LIKE[name].has(letter)) ?? 'fullwidth'];
+
+  /** The text with its letters alone, as `pieces` of `pièces`. */
+  const withoutAccents = text => text.replaceAll('ß', 'ss').normalize('NFKD').replace(/\p{Mn}/gu, '');
+
+  return { shown, nameOf, invisible, isWideBlank, withBlanks, plain, lookAlike, isFigurine, scriptOf, withoutAccents };
+})();

@@ -1,0 +1,82 @@
+// @ts-check
+// Explains the faults of a report by the text that it is of, as pops-explain does.
+'use strict';
+
+const explaining = (() => {
+  const { FAULT } = reading;
+  const LONGEST_LINE = 160;
+  const ROOM_BEFORE = 60;
+  const CAUSES = {
+    [FAULT.beginMissing]: misplacedCauses.beginMissing, [FAULT.misplaced]: misplacedCauses.misplaced,
+    [FAULT.tooLong]: misplacedCauses.tooLong, [FAULT.colourMissing]: menCauses.colourMissing,
+    [FAULT.badStipulation]: stipulationCauses.bad, [FAULT.secondStipulation]: stipulationCauses.second,
+    [FAULT.stipulationMissing]: endingCauses.stipulationMissing, [FAULT.noMen]: endingCauses.noMen,
+    [FAULT.badNumber]: optionCauses.badNumber, [FAULT.squareMissing]: optionCauses.squareMissing,
+  };
+  const SINGLE = {
+    [FAULT.squareTaken]: menCauses.squareTaken, [FAULT.pawnOutside]: menCauses.pawnOutside, [FAULT.secondKing]: menCauses.secondKing,
+    [FAULT.secondCondition]: optionCauses.secondCondition, [FAULT.enPassantImpossible]: optionCauses.enPassantImpossible,
+    [FAULT.noCastlingSquare]: optionCauses.noCastlingSquare, [FAULT.kingMissing]: menCauses.kingMissing, [FAULT.inCheck]: menCauses.inCheck,
+  };
+
+  /** The faults of a text as this reading finds them: problem, line, number, and what was read. */
+  function faultsOf(text) {
+    return reading.problemsOf(text).flatMap((problem, index) => {
+      const read = reading.readProblem(problem);
+      return read.fault ? [{ problem: index + 1, line: lineOf(text, read.at?.from ?? text.length), fault: read.fault, read }] : [];
+    });
+  }
+
+  function explanationOf(text, read) {
+    if (!read.at && read.fault === FAULT.endMissing) return firstOf(endingCauses.endMissing(text, read));
+    if (!read.at) return misplacedCauses.noProblem(text, read.tokens.length > 0);
+    const it = new FaultCase(text, read);
+    if (read.fault in SINGLE) return SINGLE[read.fault](it);
+    const isMan = read.fault === FAULT.squareMissing && read.section === 'Pieces';
+    return firstOf((isMan ? menCauses.squareMissing : CAUSES[read.fault])(it));
+  }
+
+  /**
+   * What is wrong with a problem of a text; null where this reading finds another fault than the report.
+   * @param {string} text
+   * @param {{ number: number, fault: { line: number, number: number } }} item
+   * @returns {Explanation | null}
+   */
+  function explain(text, { number, fault }) {
+    const problem = reading.problemsOf(text)[number - 1];
+    const read = problem && reading.readProblem(problem);
+    if (read?.fault !== fault.number || lineOf(text, read.at?.from ?? text.length) !== fault.line) return null;
+    return explanationOf(text, read);
+  }
+
+  /** The lines of a text that hold marks, each in pieces: { text, isMarked }. What doesn't show is made visible. */
+  function markedLines(text, marks) {
+    const lines = new Map();
+    for (const mark of marks) {
+      const line = lineOf(text, mark.from);
+      lines.set(line, [...(lines.get(line) ?? []), mark]);
+    }
+    return [...lines].map(([line, own]) => ({ line, pieces: piecesOf(text, lineAt(text, line), own) }));
+  }
+
+  /** A line in pieces; of a long one the part around its first mark. */
+  function piecesOf(text, { from, to }, marks) {
+    const start = to - from > LONGEST_LINE ? Math.max(from, marks[0].from - ROOM_BEFORE) : from;
+    const stop = Math.min(to, start + LONGEST_LINE);
+    const pieces = [{ text: start > from ? '..' : '', isMarked: false }];
+    let place = start;
+    const add = (end, isMarked) => {
+      pieces.push({ text: characters.shown(text.slice(place, end).replace(/[\t\v\f\r]/g, ' ')), isMarked });
+      place = end;
+    };
+    for (const mark of marks.filter(it => it.from < stop)) {
+      add(Math.max(place, mark.from), false);
+      add(Math.min(Math.max(place, mark.to), stop), true);
+    }
+    add(stop, false);
+    pieces.push({ text: stop < to ? '..' : '', isMarked: false });
+    return pieces.filter(piece => piece.text);
+  }
+
+  return { faultsOf, explanationOf, explain, markedLines };
+})();

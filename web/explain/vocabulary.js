@@ -1,0 +1,45 @@
+// @ts-check
+// Words of Popeye that pops doesn't read, German and French ones, and the men's letters of other languages.
+'use strict';
+
+const vocabulary = (() => {
+  const { popeye, foreign: foreignWords, alphabets } = EXPLANATIONS;
+  const UMLAUTS = { ä: 'ae', ö: 'oe', ü: 'ue', ß: 'ss' };
+  const rowsOf = (kind, instead) => Object.entries(instead).map(([name, text]) => ({ what: sentence(kind), name, instead: text }));
+  const UNREAD = [
+    ...rowsOf('a_command', popeye.commands),
+    ...rowsOf('an_option', popeye.options),
+    ...rowsOf('a_kind_of_men', Object.fromEntries(popeye.kinds.map(name => [name, sentence('two_colours')]))),
+  ];
+
+  /** A word as it is looked up: in small letters, without accents. */
+  const folded = word => [...word.toLowerCase().replace(/[äöüß]/g, letter => UMLAUTS[letter]).normalize('NFD')]
+    .filter(letter => letter < '\u0300').join('');
+  const FOREIGN = new Map(Object.entries(foreignWords).reverse().flatMap(([language, words]) =>
+    Object.entries(words).map(([word, english]) => [folded(word), { language, english }])));
+
+  /** The word of Popeye of which this is a short form, of three letters or more: what it is, and what to do instead. */
+  function unread(word) {
+    const small = word.toLowerCase();
+    const whole = UNREAD.find(it => it.name.toLowerCase() === small);
+    if (whole || small.length < 3 || ['white', 'black'].includes(small)) return whole ?? null;
+    return UNREAD.find(it => it.name.toLowerCase().startsWith(small)) ?? null;
+  }
+
+  /** The German or French word that this is, in full; accents may stand or lack. */
+  const foreign = word => FOREIGN.get(folded(word)) ?? null;
+
+  /** The languages in whose letters these men may be written, the likeliest first. */
+  const alphabetsOf = letters => alphabets.filter(it => [...letters.toUpperCase()].every(letter => it.letters.includes(letter)));
+
+  /** The languages that have this letter. */
+  const alphabetsWith = letter => alphabets.filter(it => it.letters.includes(letter.toUpperCase()));
+
+  /** The kind of man that a letter means in a language, by our letter; undefined if it means none. */
+  function kindIn(alphabet, letter) {
+    const place = alphabet.letters.indexOf(letter.toUpperCase());
+    return place < 0 ? undefined : KINDS[place];
+  }
+
+  return { unread, foreign, folded, alphabetsOf, alphabetsWith, kindIn };
+})();

@@ -1,0 +1,198 @@
+// @ts-check
+// Causes that a word of any section may have: characters, signs, blanks, comments, spelling.
+'use strict';
+
+const wordings = (() => {
+  const SIGNS = EXPLANATIONS.signs;
+  const SIGN = `[${Object.keys(SIGNS).join('').replace(/[\]\\^-]/g, '\\$&')}]`;
+  const COMMENT = /^(#|%|\/\/|\/\*|\*|;|--|<!--|\{|!|")/;
+  const FEN_BOARD = /^(?:[kqrbnp1-8]{1,8}\/){7}[kqrbnp1-8]{1,8}$/i;
+  const HALVES = /^(?:\xff\xfe|\xfe\xff)|^[ -~]\x00|^\x00[ -~]/;
+  const isLower = word => word === word.toLowerCase() && word !== word.toUpperCase();
+  const isAlpha = word => /^\p{L}+$/u.test(word);
+  const trimSigns = word => word.replace(new RegExp(`^${SIGN}+|${SIGN}+$`, 'gu'), '');
+
+  /** A text in UTF-16, two bytes a letter. */
+  const utf16 = it => (HALVES.test(it.text) ? it.says(sentence('utf_16')) : null);
+
+  /** Characters in the word that don't show, or look like blanks. */
+  function invisible(it) {
+    const [odd] = characters.invisible(it.plain);
+    if (!odd) return null;
+    if (odd.letter === '\ufeff') return byteOrderMark(it, odd);
+    const blanks = characters.withBlanks(it.plain);
+    const mended = [blanks, blanks.replaceAll(' ', '')].find(word => it.fits(word));
+    const cure = mended === undefined ? sentence('blank_in_place') : sentence('write', { mended });
+    const looks = sentence(characters.isWideBlank(odd.letter) ? 'looks_like_blank' : 'does_not_show');
+    return it.says(sentence('invisible', { word: it.quoted, name: characters.nameOf(odd.letter), looks, cure }));
+  }
+
+  function byteOrderMark(it, { place }) {
+    const where = sentence(place === 0 ? 'mark_first' : 'mark_inside');
+    const cure = sentence(it.word.from > 0 ? 'mark_joined' : 'mark_save');
+    return it.says(sentence('mark', { where, word: it.quoted, cure }));
+  }
+
+  /** A letter of another alphabet, or a figurine, in place of one of ours. */
+  function lookAlike(it) {
+    const letter = characters.lookAlike(it.plain);
+    if (!letter) return null;
+    const mended = characters.plain(it.plain);
+    if (characters.isFigurine(letter)) return it.says(sentence('figurine', { letter, mended }));
+    if (!it.fits(mended)) return null;
+    const script = characters.scriptOf(letter);
+    return it.says(sentence('look_alike', { letter, word: it.quoted, script, like: characters.plain(letter), mended }));
+  }
+
+  /** A sign that begins a comment elsewhere. */
+  function comment(it) {
+    const found = COMMENT.exec(it.plain);
+    return !found || it.fits(trimSigns(it.plain)) ? null : it.says(sentence('comment', { first: found[1] }));
+  }
+
+  /** A position in FEN. */
+  const position = it => (FEN_BOARD.test(it.plain) ? it.says(sentence('position', { word: it.quoted, plain: it.plain })) : null);
+
+  /** Punctuation that belongs to the word, since only blanks separate words. */
+  function signs(it) {
+    const inside = it.plain.match(new RegExp(SIGN, 'gu')) ?? [];
+    const everySign = new RegExp(SIGN, 'gu');
+    const separated = it.plain.replace(everySign, ' ').split(/\s+/).filter(Boolean).join(' ');
+    const mended = [trimSigns(it.plain), separated, it.plain.replace(everySign, '')].find(word => it.fits(word));
+    if (!inside.length || mended === undefined) return null;
+    const kinds = new Set(inside.map(sign => SIGNS[sign]));
+    if (kinds.size > 1) return it.says(sentence('signs', { signs: [...new Set(inside)].join(' '), word: it.quoted, mended }));
+    const [kind] = kinds;
+    if (inside.length === 1) return it.says(sentence('sign', { kind, word: it.quoted, mended }));
+    return it.says(sentence('sign_often', { kinds: kind + (kind.endsWith('sh') ? 'es' : 's'), word: it.quoted, mended }));
+  }
+
+  /** A word that a blank cuts in two. */
+  function parted(it) {
+    const isName = word => FaultCase.NAMES.some(name => name.toLowerCase() === word.toLowerCase());
+    const withNext = it.plain + (it.next?.word ?? '');
+    if (it.next && it.fits(withNext) && isName(withNext)) return it.says(sentence('parted', { whole: withNext }), it.next);
+    const before = it.spanBefore;
+    const withBefore = before && it.text.slice(before.from, before.to) + it.plain;
+    return before && isName(withBefore) ? it.says(sentence('parted', { whole: withBefore }), before) : null;
+  }
+
+  /** Two words without a blank between them. */
+  function joined(it) {
+    const word = it.plain;
+    if (/^endproblembeg[a-z]*$/i.test(word)) return it.says(sentence('texts_joined', { word: it.quoted }));
+    for (let place = word.length - 1; place > 0; place--) {
+      const [first, second] = [word.slice(0, place), word.slice(place)];
+      const isEnding = isLower(second) && (second.length < 3 || reading.named(first, reading.TEXT_NAMES));
+      if (!isEnding && it.fits(`${first} ${second}`)) return it.says(sentence('joined', { word: it.quoted, first, second }));
+    }
+    return null;
+  }
+
+  /** A word of Popeye that pops doesn't read. */
+  function ofPopeye(it) {
+    const found = vocabulary.unread(it.plain.replace(/[:,;.]+$/, ''));
+    if (!found) return null;
+    const isWhole = it.plain.toLowerCase() === found.name.toLowerCase();
+    return it.says(sentence(isWhole ? 'unread' : 'unread_short', { word: it.quoted, ...found }));
+  }
+
+  /** A German or French word. */
+  function inAnotherLanguage(it) {
+    const found = vocabulary.foreign(it.plain.replace(/[:,;.]+$/, ''));
+    if (!found) return null;
+    const text = sentence('foreign', { word: it.quoted, language: found.language });
+    const there = vocabulary.unread(found.english);
+    return it.says(there ? sentence('foreign_unread', { text, ...there }) : sentence('foreign_written', { text, english: found.english }));
+  }
+
+  /** An accent on a letter of a word of pops. */
+  function accented(it) {
+    const plain = characters.withoutAccents(it.plain);
+    return plain === it.plain || !it.fits(plain) ? null : it.says(sentence('accented', { plain, word: it.quoted }));
+  }
+
+  /** A word of pops with more letters after it. */
+  function lengthened(it) {
+    const word = it.plain.toLowerCase();
+    const isLonger = name => word.startsWith(name.toLowerCase()) && isAlpha(word.slice(name.length)) && it.fits(name);
+    const name = FaultCase.NAMES.find(isLonger);
+    return name ? it.says(sentence('lengthened', { name, word: it.quoted })) : null;
+  }
+
+  /** Two letters of a word of pops. */
+  function tooShort(it) {
+    if ([...it.plain].length !== 2 || !isAlpha(it.plain)) return null;
+    const name = it.namesHere().find(one => one.toLowerCase().startsWith(it.plain.toLowerCase()));
+    return name ? it.says(sentence('too_short', { word: it.quoted, short: name.slice(0, 3), name })) : null;
+  }
+
+  /** A word that is nearly one of pops. */
+  function misspelt(it) {
+    const word = it.plain.toLowerCase();
+    if (word.length < 3) return null;
+    let best = null;
+    let least = Infinity;
+    for (const name of it.namesHere()) {
+      const near = nearness(word, name.toLowerCase());
+      if (near < least) [best, least] = [name, near];
+    }
+    return least > (word.length < 6 ? 1 : 2) ? null : it.says(sentence('misspelt', { word: it.quoted, best }));
+  }
+
+  /** How many letters of the word have to be changed to make it a short form of the name. */
+  function nearness(word, name) {
+    if ([...word].sort().join('') === [...name].sort().join('')) return 1;
+    const forms = [];
+    for (let end = Math.max(3, word.length - 1); end <= Math.min(name.length - 1, word.length + 1); end++) {
+      forms.push(distance(word, name.slice(0, end)) + 0.1);
+    }
+    return Math.min(distance(word, name), ...forms);
+  }
+
+  /** Letters put in, left out, changed or exchanged with a neighbour. */
+  function distance(one, next) {
+    const rows = [Array.from({ length: next.length + 1 }, (_, index) => index)];
+    for (let i = 1; i <= one.length; i++) {
+      const row = [i];
+      for (let j = 1; j <= next.length; j++) {
+        const isSwap = i > 1 && j > 1 && one[i - 1] === next[j - 2] && one[i - 2] === next[j - 1];
+        const least = Math.min(row[j - 1] + 1, rows[i - 1][j] + 1, rows[i - 1][j - 1] + (one[i - 1] === next[j - 1] ? 0 : 1));
+        row.push(isSwap ? Math.min(least, rows[i - 2][j - 2] + 1) : least);
+      }
+      rows.push(row);
+    }
+    return rows.at(-1).at(-1);
+  }
+
+  /** A line that seems to go on with the text line above it. */
+  function restOfAText(it) {
+    const above = it.lineAbove;
+    if (!above || lineOf(it.text, above.from) !== lineOf(it.text, it.word.from) - 1) return null;
+    return it.says(sentence('rest_of_a_text', { name: textNameOf(above) }), wholeOf(above));
+  }
+
+  /** The causes that lie in single characters. */
+  function* charactersIn(it) {
+    yield utf16(it);
+    yield invisible(it);
+    yield lookAlike(it);
+  }
+
+  /** The causes that lie in how a word of pops is written. */
+  function* spelling(it) {
+    yield accented(it);
+    yield joined(it);
+    yield lengthened(it);
+    yield tooShort(it);
+    yield misspelt(it);
+  }
+
+  /** Whether only carriage returns end the lines of a text. */
+  const isOldMac = text => text.includes('\r') && !text.includes('\n');
+
+  return {
+    utf16, invisible, lookAlike, comment, position, signs, parted, joined, ofPopeye, inAnotherLanguage, restOfAText, charactersIn,
+    spelling, isOldMac,
+  };
+})();

@@ -1,0 +1,145 @@
+// @ts-check
+// Moves played on the board, and problems that go on from a position. Nothing here judges a move: the engine does.
+'use strict';
+/** @typedef {{ said: string, label: string, half: number, colour: string, kind: string, from: string, to: string, captures: boolean, enPassant: boolean, castling: string | null, promotion: string | null, rebirth: { square: string, man: string } | null, mark: null }} Move */
+const HOME_SQUARES = ['a1', 'e1', 'h1', 'a8', 'e8', 'h8'];
+// The squares of rebirth in Circe, of White and of Black: of queens; of rooks, bishops and knights on light and on dark squares.
+const REBIRTHS = { Q: ['d1', 'd8'], light: { R: ['h1', 'a8'], B: ['f1', 'c8'], S: ['b1', 'g8'] }, dark: { R: ['a1', 'h8'], B: ['c1', 'f8'], S: ['g1', 'b8'] } };
+
+/** The square on which a man captured on a square is reborn in Circe; null for a king. (The manual, The rules in force) */
+function rebirthSquare([colour, kind], square) {
+  const isWhite = colour === 'w';
+  if (kind === 'K') return null;
+  if (kind === 'P') return square[0] + (isWhite ? '2' : '7');
+  if (kind === 'G' || kind === 'N') return square[0] + (isWhite ? '8' : '1');
+  const [file, rank] = placeOf(square);
+  const squares = kind === 'Q' ? REBIRTHS.Q : REBIRTHS[(file + rank) % 2 ? 'light' : 'dark'][kind];
+  return squares[isWhite ? 0 : 1];
+}
+
+/** Whether a move is one of a pawn to its last rank. */
+const promotes = (men, from, to) => men.get(from)?.[1] === 'P' && to[1] === (men.get(from)[0] === 'w' ? '8' : '1');
+
+function castlingOf(men, from, to) {
+  const [colour, kind] = men.get(from);
+  const rank = colour === 'w' ? '1' : '8';
+  const side = { [`g${rank}`]: ['0-0', 'h', 'fg'], [`c${rank}`]: ['0-0-0', 'a', 'bcd'] }[to];
+  if (kind !== 'K' || from !== `e${rank}` || !side) return null;
+  const [said, corner, between] = side;
+  const isFree = [...between].every(file => !men.has(file + rank));
+  return isFree && men.get(corner + rank) === `${colour}R` ? said : null;
+}
+
+/**
+ * The move of a man from a square to another, as a report would write it.
+ * @param {Men} men
+ * @param {{ from: string, to: string, promotion: string | null, half: number, isCirce: boolean }} asked
+ * @returns {Move}
+ */
+function moveBetween(men, { from, to, promotion, half, isCirce }) {
+  const [colour, kind] = men.get(from);
+  const castling = castlingOf(men, from, to);
+  const enPassant = kind === 'P' && from[0] !== to[0] && !men.has(to) && men.get(to[0] + from[1]) === `${other(colour)}P`;
+  const place = enPassant ? to[0] + from[1] : to;
+  const taken = men.get(place);
+  const move = { half, colour, kind, from, to, captures: Boolean(taken), enPassant, castling, promotion, rebirth: null, mark: null, said: '', label: '' };
+  if (taken && isCirce) move.rebirth = rebirthOf(after(men, move), taken, place);
+  const said = saidMove(move);
+  return { ...move, said, label: said };
+}
+
+function rebirthOf(men, taken, place) {
+  const square = rebirthSquare(taken, place);
+  return square && !men.has(square) ? { square, man: taken } : null;
+}
+
+function saidMove({ kind, from, to, captures, enPassant, castling, promotion, rebirth }) {
+  if (castling) return castling;
+  return (kind === 'P' ? '' : kind) + from + (captures ? '*' : '-') + to + (enPassant ? ' ep.' : '')
+    + (promotion ? `=${promotion}` : '') + (rebirth ? `[+${rebirth.man}${rebirth.square}]` : '');
+}
+
+/** The number of a half-move of this colour after some moves: in help play Black makes the odd ones, in battle play White. */
+function halfAfter(moves, colour, { isHelp, isHalf }) {
+  const last = moves.at(-1)?.half ?? (isHalf ? 1 : 0);
+  const isOdd = (colour === 'w') !== isHelp;
+  return last + ((last + 1) % 2 === (isOdd ? 1 : 0) ? 1 : 2);
+}
+
+/**
+ * What is asked of the position after a half-move of a problem: the stipulation, and whether Black's moves are asked for, as set
+ * play; null if the play is over there.
+ * @param {string} stipulation
+ * @param {number} half
+ */
+function stipulationAfter(stipulation, half) {
+  const found = /^([sh]?)([#=])([0-9]+)(\.5)?$/i.exec(stipulation);
+  if (!found) return null;
+  const [, form, goal, number, point] = found;
+  if (form.toLowerCase() === 'h') {
+    const left = 2 * Number(number) + (point ? 2 : 0) - half;
+    return left > 0 ? { word: `${form}${goal}${left >> 1}${left % 2 ? '.5' : ''}`, isSet: false } : null;
+  }
+  const last = 2 * Number(number) - (form ? 0 : 1);
+  return half < last ? { word: `${form}${goal}${Number(number) - (half >> 1)}`, isSet: half % 2 === 1 } : null;
+}
+
+/** The square that a pawn has just crossed; null if the move isn't a double step. */
+function crossedBy({ kind, from, to }) {
+  const isDouble = kind === 'P' && from[0] === to[0] && Math.abs(Number(from[1]) - Number(to[1])) === 2;
+  return isDouble ? from[0] + (Number(from[1]) + Number(to[1])) / 2 : null;
+}
+
+/** The squares that NoCastling has to name after some moves: men at home that have moved. A man reborn there may castle. */
+function barredAfter(men, moves, barred) {
+  const touched = new Set(barred);
+  for (const { from, to, castling, rebirth } of moves) {
+    for (const square of [from, to]) touched.add(square);
+    if (castling) for (const file of 'ah') touched.add(file + from[1]);
+    if (rebirth) touched.delete(rebirth.square);
+  }
+  const isHome = square => men.get(square) === `${square[1] === '1' ? 'w' : 'b'}${square[0] === 'e' ? 'K' : 'R'}`;
+  return HOME_SQUARES.filter(square => touched.has(square) && isHome(square));
+}
+
+const movesSaid = moves => moves.map(labelOf).join(' ');
+
+/**
+ * The text with the position after some moves in place of the problem's own; its stipulation stays.
+ * @param {string} text
+ * @param {{ from: number }} block
+ * @param {{ men: Men, moves: Move[] }} reached
+ */
+function withReached(text, block, { men, moves }) {
+  const fields = fieldsOf(text, block);
+  const [turn, last] = [turnOf(fields), moves.at(-1)];
+  const crossed = turn === last.colour ? null : crossedBy(last);
+  return withFen(text, block.from, { men, turn, noCastling: barredAfter(men, moves, barredIn(fields)), crossed });
+}
+
+/**
+ * The text with a problem more after this one: the position after some moves, and what is left to play; null if that is nothing.
+ * @param {string} text
+ * @param {{ end: number }} block
+ * @param {{ men: Men, moves: Move[] }} reached
+ */
+function withProblemAfter(text, block, { men, moves }) {
+  const fields = fieldsOf(text, block);
+  const asked = stipulationAfter(valueOf(fields, 'stipulation') ?? '', moves.at(-1).half);
+  if (!asked) return null;
+  const crossed = asked.isSet ? null : crossedBy(moves.at(-1));
+  const barred = barredAfter(men, moves, barredIn(fields));
+  const options = [
+    ...(asked.isSet ? ['SetPlay'] : []), ...(valueOf(fields, 'Variation') === null ? [] : ['Variation']),
+    ...(crossed ? [`EnPassant ${crossed}`] : []), ...(barred.length ? [`NoCastling ${barred.join('')}`] : []),
+  ];
+  const condition = valueOf(fields, 'condition');
+  const lines = [
+    `Title ${[valueOf(fields, 'title'), 'after', movesSaid(moves)].filter(Boolean).join(' ')}`, `Pieces${sidesOf(men)}`,
+    `Stipulation ${asked.word}`, ...(condition ? [`Condition ${condition}`] : []), ...(options.length ? [`Option ${options.join(' ')}`] : []),
+  ];
+  const isOpen = block.end === text.length;
+  const before = text.slice(0, block.end);
+  const lead = before.endsWith('\n') ? '' : '\n';
+  return `${before}${lead}NextProblem\n${lines.join('\n')}\n${isOpen ? 'EndProblem\n' : ''}${text.slice(block.end)}`;
+}

@@ -1,0 +1,104 @@
+// @ts-check
+// Twins as one problem, as pops-page shows them: problems that follow one another, whose titles differ by their labels only.
+// A label is `a)`, `b)` .. or a number, with or without `duplex`, at the end of the title.
+'use strict';
+/** @typedef {{ title: string | null, author: string | null, origin: string | null, remarks: string[] }} Given */
+/** @typedef {{ text: string, number: number, isDuplex: boolean }} Label */
+const LABEL = /^(?:([^]*) )??(?:([a-z]|[0-9]{2,3})\)( duplex)?|(duplex))$/;
+// A twin with more changed squares is shown by a diagram of its own.
+const MOST_CHANGES = 4;
+
+/**
+ * What a text says of each of its problems, in its text lines.
+ * @param {string} text
+ * @returns {Given[]}
+ */
+function givenOf(text) {
+  return reading.problemsOf(text).map(({ tokens, isFirst }) => {
+    // Text lines before BeginProblem have no effect.
+    const first = isFirst ? tokens.findIndex(token => !reading.isTextLine(token)) : 0;
+    const lines = name => tokens.slice(Math.max(first, 0)).filter(token => token.command === name).map(token => text.slice(token.to, token.end).trim()).filter(Boolean);
+    const last = name => lines(name).at(-1) ?? null;
+    return { title: last('title'), author: last('author'), origin: lines('origin').join('; ') || null, remarks: lines('remark') };
+  });
+}
+
+/**
+ * A title without its label, and the label; that is empty if there is none.
+ * @param {string | null} title
+ * @returns {{ title: string | null, label: Label }}
+ */
+function labelled(title) {
+  const found = LABEL.exec(title ?? '');
+  if (!found) return { title, label: { text: '', number: 0, isDuplex: false } };
+  const [, own = null, letter, duplex = '', bare] = found;
+  if (bare) return { title: own, label: { text: bare, number: 0, isDuplex: true } };
+  const number = /[a-z]/.test(letter) ? letter.charCodeAt(0) - 96 : Number(letter);
+  return { title: own, label: { text: `${letter})${duplex}`, number, isDuplex: Boolean(duplex) } };
+}
+
+/** Whether a problem is the next twin of another. */
+function continues(one, before) {
+  const [{ label }, { label: last }] = [one, before];
+  const isLater = label.number > last.number || (label.number === last.number && label.isDuplex && !last.isDuplex);
+  if (one.number !== before.number + 1 || !isLater) return false;
+  if (!last.text && !(label.isDuplex && label.number === 0)) return false;
+  const isSame = (one.title ?? '') === (before.title ?? '') && one.author === before.author;
+  return isSame && (one.title !== null || Boolean(last.text));
+}
+
+/**
+ * Numbered problems in groups of twins.
+ * @template T
+ * @param {T[]} problems each with { number, title, author }
+ * @returns {(T & { label: Label })[][]}
+ */
+function twinGroups(problems) {
+  const groups = [];
+  for (const problem of problems) {
+    const one = { ...problem, ...labelled(problem.title), whole: problem.title };
+    const last = groups.at(-1)?.at(-1);
+    if (last && continues(one, last)) groups.at(-1).push(one);
+    else groups.push([one]);
+  }
+  return groups;
+}
+
+/** What the Remark of a twin says of it, as `Move a1 b2`; empty if none does. */
+function saidOfTwin(label, remarks) {
+  const letter = label.text.split(' ')[0];
+  const remark = letter.endsWith(')') ? remarks.find(it => it.startsWith(`${letter} `)) : undefined;
+  return remark ? remark.slice(letter.length + 1) : '';
+}
+
+/**
+ * What a twin changes of the first one's men, in words.
+ * @type {(men: Men, first: Men) => string[]}
+ */
+function changesOfMen(men, first) {
+  const named = ([square, man]) => `${COLOUR_NAMES[man[0]]} ${man[1]}${square}`;
+  const gone = [...first].filter(([square, man]) => men.get(square) !== man);
+  const added = [...men].filter(([square, man]) => first.get(square) !== man);
+  const said = [];
+  const left = gone.filter(one => {
+    const at = added.findIndex(([, man]) => man === one[1]);
+    if (at < 0) return true;
+    said.push(`${named(one)} to ${added[at][0]}`);
+    added.splice(at, 1);
+    return false;
+  });
+  return [...said, ...left.map(one => `without ${named(one)}`), ...added.map(one => `with ${named(one)}`)];
+}
+
+/**
+ * What makes a twin of the first problem of its group, and whether it needs a diagram of its own.
+ * @param {{ men: Men | null, asked: string | null, label: Label, remarks: string[] }} twin
+ * @param {{ men: Men | null, asked: string | null }} first
+ */
+function twinChange(twin, first) {
+  const men = twin.men && first.men ? changesOfMen(twin.men, first.men) : [];
+  const isLarge = men.length > MOST_CHANGES || twin.label.isDuplex;
+  const computed = [...men, ...(twin.asked && first.asked && twin.asked !== first.asked ? [twin.asked] : [])].join(', ');
+  const said = [saidOfTwin(twin.label, twin.remarks), twin.label.isDuplex ? 'colours reversed' : ''].filter(Boolean).join(', ');
+  return { said: said || (isLarge ? '' : computed), isLarge };
+}
