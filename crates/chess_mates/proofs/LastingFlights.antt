@@ -44,6 +44,20 @@ all_guard a k q r b n p g y kings queens rooks bishops knights pawns grasshopper
     let words = bit_or (bit_or (bit_or (bit_or (bit_or (bit_or (bit_or k q) r) b) n) p) g) y in
     record { guards = search (rules, of_all a (λ x s. AreReached x s words), reached_left, reached_right) depth 12 }
 
+-- the targets, told by what each kind reaches and by the squares to which kings and pawns go
+abbrev told : ℕ → ℕ → ℕ → ℕ → ℕ → ℕ → ℕ → ℕ → ℕ → ℕ → OpenTargets
+told k q r b n p g y f w = record {
+  kings = k;
+  queens = bit_or q (bit_and p 18374686479671623935);
+  rooks = r;
+  bishops = b;
+  knights = bit_or n (bit_and p 18374686479671623935);
+  pawns = p;
+  grasshoppers = bit_or g f;
+  nightriders = bit_or y f;
+  guarded = w;
+}
+
 module _ (a : Attackers) where
   -- but for pawns and kings the targets are what they reach, and more
   piece_targets_of : (k : Kind) (w v : ℕ) → same_kind k Pawn ≡ false → same_kind k King ≡ false → HoldsOf a (λ x s. AreReached x s w) k
@@ -63,20 +77,10 @@ module _ (a : Attackers) where
   pub are_open_targets : (k q r b n p g y f w : ℕ) → AreGuarded a w → HoldsOf a (λ x s. AreTargets x s k) King → HoldsOf a (λ x s. AreReached x s q) Queen
       → HoldsOf a (λ x s. AreReached x s r) Rook → HoldsOf a (λ x s. AreReached x s b) Bishop → HoldsOf a (λ x s. AreReached x s n) Knight
       → HoldsOf a (λ x s. AreTargets x s p) Pawn → HoldsOf a (λ x s. AreReached x s g) Grasshopper → HoldsOf a (λ x s. AreReached x s y) Nightrider
-      → (a.fairy_promotions ≡ true → f ≡ bit_and p 18374686479671623935) → AreOpenTargets a (record {
-        kings = k;
-        queens = bit_or q (bit_and p 18374686479671623935);
-        rooks = r;
-        bishops = b;
-        knights = bit_or n (bit_and p 18374686479671623935);
-        pawns = p;
-        grasshoppers = bit_or g f;
-        nightriders = bit_or y f;
-        guarded = w;
-      })
+      → (a.fairy_promotions ≡ true → f ≡ bit_and p 18374686479671623935) → AreOpenTargets a (told k q r b n p g y f w)
   are_open_targets k q r b n p g y f w guards kings queens rooks bishops knights pawns grasshoppers nightriders fairies = record {
     guards = guards;
-    targets = of_all a (λ x s. AreTargets x s (targets_for o x.kind)) kings (piece_targets_of Queen q _ refl refl queens)
+    targets = of_all a (λ x s. AreTargets x s (targets_for (told k q r b n p g y f w) x.kind)) kings (piece_targets_of Queen q _ refl refl queens)
         (plain_targets_of Rook r refl refl rooks) (plain_targets_of Bishop b refl refl bishops) (piece_targets_of Knight n _ refl refl knights) pawns
         (piece_targets_of Grasshopper g f refl refl grasshoppers) (piece_targets_of Nightrider y f refl refl nightriders);
     promoted = λ s x i. record {
@@ -86,24 +90,8 @@ module _ (a : Attackers) where
           by z.kind t (on_both p 18374686479671623935 t goes (last_rank_on x.colour t low (and_parts _ _ last).1)) (become.promoted last);
     };
   } where
-    ahead : ℕ
-    ahead = bit_and p 18374686479671623935
-
-    o : OpenTargets
-    o = record {
-      kings = k;
-      queens = bit_or q ahead;
-      rooks = r;
-      bishops = b;
-      knights = bit_or n ahead;
-      pawns = p;
-      grasshoppers = bit_or g f;
-      nightriders = bit_or y f;
-      guarded = w;
-    }
-
     by : (j : Kind) (t : ℕ) → (bit_at (bit_and p 18374686479671623935) t == 1) ≡ true → is_promotion a.fairy_promotions j ≡ true
-        → (bit_at (targets_for o (counts_as j)) t == 1) ≡ true
+        → (bit_at (targets_for (told k q r b n p g y f w) (counts_as j)) t == 1) ≡ true
     by Queen t on may = on_right q _ t on
     by Rook t on may = on_right q _ t on
     by Bishop t on may = on_right q _ t on

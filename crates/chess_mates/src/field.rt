@@ -241,6 +241,7 @@ pub(crate) fn castling_is_harmless(siege: &Siege, field: &Field) -> bool
 }
 
 // Tells the targets of the attackers, were all others gone: where captures do more, or against many attackers, nothing.
+#[inline(always)]
 pub(crate) fn tell_targets<R: Rules>(siege: &Siege, targets: &mut OpenTargets)
     ensures { AreOpenTargets siege.now.men targets.new }
 {
@@ -266,6 +267,7 @@ fn ends_of(squares: Squares) -> Squares
 // The squares to which no other man may come lest the king, who stays, keeps no flight whatever is played: those that no
 // attacker reaches, were all others gone, if they can't all be taken with one move; two of them, if these can't.
 #[tactic(auto, using(chess_rules::proofs::listing_moves::Targeting::every_square_on))]
+#[inline(always)]
 pub(crate) fn needed_squares(siege: &Siege, targets: &OpenTargets) -> Squares
     requires { AreOpenTargets siege.now.men targets.now }
     ensures { AreNeeded siege.now result }

@@ -42,6 +42,7 @@ impl ToldSteps {
 }
 
 // Whether the king keeps a flight after the step, whatever is played then.
+#[inline(always)]
 fn keeps_flight_at<R: Rules>(siege: &Siege, targets: &OpenTargets, to: Square) -> bool
     requires { AreOpenTargets siege.now.men targets.now }
     ensures { result ≡ true → KeepsFlight R.rule siege.now to }
@@ -122,6 +123,7 @@ fn plain_squares<R: Rules>(siege: &Siege) -> Squares
 // Those of the squares to which he steps by a legal move, if they are told: not where faced men stand still, nor for few
 // squares, nor if he castles or, where captures do more, captures on one of them.
 #[tactic(auto, using(crate::proofs::ExactSteps::unreached_are))]
+#[inline(always)]
 pub(crate) fn exact_steps<R: Rules>(siege: &Siege, squares: Squares) -> Option<Squares>
     ensures { IfSome result (λ w. AreExactSteps R.rule siege.now squares w) }
 {
