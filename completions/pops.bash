@@ -15,11 +15,21 @@ _pops_options() {
       own='--output --each --index --jobs --check --no-board --seconds --unfinished --split --split-after --split-depth
         --pops-part --resume --journal --pops --sshlogin --remote-pops --remote-pops-part --ssh'
       ;;
-    pops-page) own='--output --heading --encoding' ;;
-    pops-diagram) own='--svg --png --latex --output --width --encoding' ;;
-    pops2json) own='--output --array --schema --encoding' ;;
-    pops-test) own='--input --solutions --pose --short --csv --page --heading --all --output --encoding' ;;
-    pops-explain) own='--output --pops' ;;
+    pops-page) own='--output --heading --input --unfinished --apart --encoding' ;;
+    pops-diagram) own='--svg --png --latex --output --width --input --apart --encoding' ;;
+    pops2json) own='--output --array --schema --input --encoding' ;;
+    pops-test)
+      own='--input --solutions --pose --short --unfinished --csv --page --heading --apart --all --output --encoding'
+      ;;
+    pops-judge)
+      own='--output --heading --seconds --jobs --solutions --resume --apart --all --pops --pops-tries --encoding'
+      ;;
+    pops-export) own='--to --report --apart --output --encoding' ;;
+    pops-find)
+      own='--add --near --play --report --author --title --stipulation --condition --men --count --most --output
+        --encoding'
+      ;;
+    pops-explain) own='--output --all --fix --pops' ;;
   esac
   # shellcheck disable=SC2086
   echo --help --version $own
@@ -31,6 +41,7 @@ _pops() {
   esac
   case $program,$before in
     fen2pop,--condition | fen2pop,-c) mapfile -t COMPREPLY < <(compgen -W 'Circe Madrasi' -- "$word") ;;
+    pops-export,--to) mapfile -t COMPREPLY < <(compgen -W 'popeye yaml' -- "$word") ;;
     pops-part,--phase) mapfile -t COMPREPLY < <(compgen -W 'set play' -- "$word") ;;
     pops-part,--depth) mapfile -t COMPREPLY < <(compgen -W '1 2 3 4' -- "$word") ;;
     pops-part,--item | pops-part,--part) ;;
@@ -39,10 +50,11 @@ _pops() {
       ;;
     # Any file is offered for what an option wants, and below where a report or positions are read.
     pops-*,-*) ;;
-    pops,* | pops-many,* | pops-explain,*)
+    pops,* | pops-many,* | pops-explain,* | pops-judge,* | pops-export,*)
       mapfile -t COMPREPLY < <(compgen -f -X '!*.pop' -- "$word"; compgen -d -- "$word")
       ;;
   esac
 }
 complete -o filenames -o bashdefault -o default -F _pops \
-  pops pops-part fen2pop pops-import pops-many pops-page pops-diagram pops2json pops-test pops-compare pops-explain
+  pops pops-part fen2pop pops-import pops-export pops-many pops-page pops-diagram pops2json pops-test pops-judge \
+  pops-compare pops-explain pops-find

@@ -112,11 +112,15 @@ class Rest(NamedTuple):
     @property
     def text(self) -> str:
         """What is lost, and what to write instead."""
-        said = f"nothing after the first EndProblem is read, and the text goes on in line {self.line}"
+        said = (
+            f"nothing after the first EndProblem is read, and the text goes on in line {self.line}"
+        )
         if not self.problems:
             return said
         lost = "1 problem is" if self.problems == 1 else f"{self.problems} problems are"
-        return f"{said}: {lost} lost. Write NextProblem for EndProblem and the BeginProblem after it"
+        return (
+            f"{said}: {lost} lost. Write NextProblem for EndProblem and the BeginProblem after it"
+        )
 
 
 def rest_of(text: bytes) -> Optional[Rest]:

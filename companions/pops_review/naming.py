@@ -13,9 +13,7 @@ def shown(text: Optional[bytes], encoding: str) -> str:
     return printable(titles.shown(text or b"", encoding))
 
 
-def described(
-    item: Optional[AnyItem], encoding: str, given: Optional[GivenProblem] = None
-) -> str:
+def described(item: Optional[AnyItem], encoding: str, given: Optional[GivenProblem] = None) -> str:
     """Stipulation, title and author: `#5, Excelsior (Sam Loyd)`; empty where none are known.
 
     Of a problem without these in its report, `given` has them.

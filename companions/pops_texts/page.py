@@ -126,8 +126,12 @@ class Page:
         texts = (
             ("title", group.title),
             ("author", None if group.author is None else shown(group.author, self.encoding)),
-            ("origin", None if given is None or given.origin is None else
-             shown(given.origin, self.encoding)),
+            (
+                "origin",
+                None
+                if given is None or given.origin is None
+                else shown(given.origin, self.encoding),
+            ),
         )
         return "".join(
             f'<p class="{label}">{_safe(text)}</p>\n' for label, text in texts if text is not None
@@ -186,6 +190,4 @@ def _phase(phase: Phase) -> str:
     solutions = f"<pre{many}>{lines}</pre>\n" if phase.lines else ""
     is_done = phase.total is not None or not phase.is_possible
     total = f'<p class="total">{_safe(phase.last_line)}</p>\n' if is_done else ""
-    return (
-        f'<section class="phase">\n<h3>{phase.kind.value}</h3>\n{solutions}{total}</section>\n'
-    )
+    return f'<section class="phase">\n<h3>{phase.kind.value}</h3>\n{solutions}{total}</section>\n'

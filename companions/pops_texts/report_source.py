@@ -71,7 +71,9 @@ def _merged(
     if is_one and len(others) == len(more) and not others.keys() & set(numbers):
         return sorted([*items, *more], key=lambda item: item.number)
     if must_fit:
-        message = f"--unfinished isn't of {name}: both have a problem, or a file holds several reports"
+        message = (
+            f"--unfinished isn't of {name}: both have a problem, or a file holds several reports"
+        )
         raise CommandError(Status.FAULTY, message)
     return items
 

@@ -1,5 +1,6 @@
 """pops-export: an import of what it writes gives the same problems."""
 
+import re
 import tempfile
 import unittest
 from dataclasses import replace
@@ -82,7 +83,9 @@ class RoundTrips(unittest.TestCase):
             wanted = support.run([support.pops(), "--check", str(path)]).output
             for form in ("popeye", "yaml"):
                 with self.subTest(path.name, form=form):
-                    back = run_here.companion("pops-import", text=exported(form, str(path)).encode())
+                    back = run_here.companion(
+                        "pops-import", text=exported(form, str(path)).encode()
+                    )
                     self.assertEqual(back.status, 0)
                     report = support.run([support.pops(), "--check"], back.output).output
                     self.assertEqual(report, wanted)
@@ -138,9 +141,7 @@ class Yaml(unittest.TestCase):
         node = document.node()
         assert isinstance(node, dict)
         lines = str(node["solution"]).split("\n")
-        self.assertEqual(
-            lines[:3], ["1.Ra1-a6 !", "    1...b7*a6", "        2.b6-b7 #"]
-        )
+        self.assertEqual(lines[:3], ["1.Ra1-a6 !", "    1...b7*a6", "        2.b6-b7 #"])
 
     def test_signs_of_moves(self) -> None:
         report = (
@@ -156,9 +157,28 @@ class Yaml(unittest.TestCase):
             report = Path(room) / "other.report"
             report.write_bytes(b"problem 1\n#1\nsound\n\n")
             words = ["--to", "yaml", "--report", str(report)]
-            outcome = run_here.companion("pops-export", *words, text=TWINS.split(b"Twin")[0] + b"End")
+            outcome = run_here.companion(
+                "pops-export", *words, text=TWINS.split(b"Twin")[0] + b"End"
+            )
         self.assertEqual((outcome.status, outcome.output), (1, b""))
         self.assertIn("problem 1 is #1 there, not h#1", outcome.error)
+
+
+class Document(unittest.TestCase):
+    def test_the_example(self) -> None:
+        """It is the problem that the example of pops-import gives, with its report."""
+        document = (support.REPOSITORY / "docs" / "COMPANIONS.md").read_text("utf-8")
+        blocks = [
+            re.findall(r"\n\n((?:    [^\n]*\n|\n(?=    ))+)", document.split(f"\n## {name}\n")[1])
+            for name in ("pops-import", "pops-export")
+        ]
+        pair = re.sub("^    ", "", blocks[0][2], flags=re.M)
+        wanted = re.sub("^    ", "", blocks[1][0], flags=re.M)
+        with tempfile.TemporaryDirectory() as room:
+            report = Path(room) / "pair.report"
+            report.write_bytes(support.run([support.pops()], pair.encode()).output)
+            text = exported("yaml", "--report", str(report), text=pair.encode())
+        self.assertEqual(text, wanted)
 
 
 class Command(unittest.TestCase):

@@ -416,7 +416,7 @@ class Yaml(unittest.TestCase):
             (r'a: "\uD83D\uDE00"', {"a": "\U0001f600"}),
             ("a: http://b.c/d", {"a": "http://b.c/d"}),
             ("a:b: c", {"a:b": "c"}),
-            ('"a b": c\n\'d: e\': f', {"a b": "c", "d: e": "f"}),
+            ("\"a b\": c\n'd: e': f", {"a b": "c", "d: e": "f"}),
             ("a:\n- b\n- c\nd: e", {"a": ["b", "c"], "d": "e"}),
             ("a:\n  - b\n  -\n    c\n  -\nd: e", {"a": ["b", "c", None], "d": "e"}),
             ("- a: b\n  c: d\n- e: f", [{"a": "b", "c": "d"}, {"e": "f"}]),
@@ -508,7 +508,7 @@ class Robustness(unittest.TestCase):
         """What is posed is read by pops, but for checks, which are left to it."""
         chance = random.Random(5)
         texts = [path.read_text("utf-8") for path in made_files()]
-        words = "Twin Pieces White a1 Kb2 #2 Condition Circe Option Continued Move ; = ] \" - : #"
+        words = 'Twin Pieces White a1 Kb2 #2 Condition Circe Option Continued Move ; = ] " - : #'
         outputs = []
         for _ in range(400):
             parts = re.split(r"(\s+)", chance.choice(texts))

@@ -46,9 +46,7 @@ class Judging(unittest.TestCase):
         verdicts = [verdict for verdict, _ in test_soundness.Collection.WANTED]
         lines = outcome.output.decode().splitlines()
         self.assertEqual([line.split(": ")[1] for line in lines[:-1]], verdicts)
-        self.assertEqual(
-            lines[-1], "11 problems: 5 sound, 1 undecided, 4 unsound, 1 faulty"
-        )
+        self.assertEqual(lines[-1], "11 problems: 5 sound, 1 undecided, 4 unsound, 1 faulty")
         articles = self.articles()
         self.assertEqual(len(articles), len(verdicts))
         for article, (verdict, findings) in zip(articles, test_soundness.Collection.WANTED):
@@ -134,7 +132,9 @@ class Judging(unittest.TestCase):
         (article,) = self.articles()
         self.assertIn("b) Add c1: ", article.words)
         outcome = self.judged("--apart")
-        self.assertEqual(outcome.output.decode().splitlines()[0], "problem 1: sound: h#1, A pair a)")
+        self.assertEqual(
+            outcome.output.decode().splitlines()[0], "problem 1: sound: h#1, A pair a)"
+        )
 
     def test_texts_that_are_no_input(self) -> None:
         self.text.write_bytes(b"problem 1\n")

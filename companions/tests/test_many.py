@@ -47,7 +47,9 @@ class TextAfterTheEnd(unittest.TestCase):
         text = SIX + b"BeginProblem\nEndProblem\n"
         words = [sys.executable, str(support.COMPANIONS / "pops-many"), "--pops", support.pops()]
         done = subprocess.run(words, input=text, capture_output=True)
-        self.assertEqual((done.returncode, done.stdout), (0, support.run([support.pops()], text).output))
+        self.assertEqual(
+            (done.returncode, done.stdout), (0, support.run([support.pops()], text).output)
+        )
         self.assertEqual(
             done.stderr.decode(),
             "pops-many: standard input: nothing after the first EndProblem is read, and the text"

@@ -552,7 +552,9 @@ class Unfinished(unittest.TestCase):
         self.assertIn("no solution so far", found[1])
 
     def test_play_that_is_done_beside_set_play_that_isnt(self) -> None:
-        text = f"problem 1\nh#1\nset\n1...Ra1-a8#\nplay\n1.Kh8-g8 Ra1-a8#\nsolutions: 1\n{self.MARK}"
+        text = (
+            f"problem 1\nh#1\nset\n1...Ra1-a8#\nplay\n1.Kh8-g8 Ra1-a8#\nsolutions: 1\n{self.MARK}"
+        )
         outcome = run_here.companion("pops-test", text=text.encode())
         self.assertEqual(outcome.output.decode().splitlines()[0], "problem 1: sound: h#1")
 

@@ -1,0 +1,340 @@
+"""pops-find: collections in a file, what is found by words, by men, by play, and near a position."""
+
+import random
+import tempfile
+import time
+import unittest
+from pathlib import Path
+from typing import Dict, List, Optional
+
+import run_here
+import support
+
+from pops_find.boards import board_of, differences, men_of, variants
+from pops_find.collection import Collection, CollectionError
+from pops_find.entries import Entry, men_in, mirrored_play, plays_of
+from pops_texts.chess import Man, Square
+
+MORPHY = "White Kc8 Ra1 Pb6 Black Ka8 Bb8 Pa7b7"
+
+
+def board(pieces: str) -> str:
+    return board_of(dict(men_in(pieces)))
+
+
+def entry(number: int, pieces: str, play: Optional[str] = None) -> Entry:
+    return Entry("some.pop", number, f"T{number}", "A. A.", "", "#2", "", board(pieces), play)
+
+
+def moved(pieces: str, squares: Dict[str, str], colours: bool = False) -> str:
+    """The position with men on other squares, worked out square by square."""
+    men = {}
+    for square, man in men_in(pieces):
+        colour = man.colour.opponent if colours else man.colour
+        men[Square.of_name(squares[square.name])] = Man(colour, man.kind)
+    return board_of(men)
+
+
+def image(of: str) -> Dict[str, str]:
+    """Where each square goes; the squares of file a, then of b, and so on are given in words."""
+    files, ranks = "abcdefgh", "12345678"
+    names = [file + rank for file in files for rank in ranks]
+    images = {
+        "left to right": [file + rank for file in files[::-1] for rank in ranks],
+        "top to bottom": [file + rank for file in files for rank in ranks[::-1]],
+        "half turn": [file + rank for file in files[::-1] for rank in ranks[::-1]],
+        "a1 to a8": [file + rank for rank in ranks[::-1] for file in files],
+        "a1 to h1": [file + rank for rank in ranks for file in files[::-1]],
+        "one to the right": [file + rank for file in files[1:] + "a" for rank in ranks],
+    }
+    return dict(zip(names, images[of]))
+
+
+class Positions(unittest.TestCase):
+    def test_boards_and_men(self) -> None:
+        text = board(MORPHY)
+        self.assertEqual(text[:8], "kbK.....")
+        self.assertEqual(len(text), 64)
+        self.assertEqual(board_of(men_of(text)), text)
+        for wrong in ("Kg6", "White Xg6", "White g6", "Green Kg6"):
+            with self.subTest(wrong), self.assertRaises(ValueError):
+                dict(men_in(wrong))
+
+    def test_variants_of_a_position(self) -> None:
+        known = {variant.board: variant.how for variant in variants(board(MORPHY))}
+        for of, how in (
+            ("left to right", "mirrored left to right"),
+            ("top to bottom", "mirrored top to bottom"),
+            ("half turn", "turned by 180 degrees"),
+        ):
+            with self.subTest(of):
+                self.assertEqual(known[moved(MORPHY, image(of))], (how,))
+                both = known[moved(MORPHY, image(of), colours=True)]
+                self.assertEqual(both, (how, "colours reversed"))
+        for of in ("a1 to a8", "a1 to h1"):
+            self.assertEqual(len(known[moved(MORPHY, image(of))]), 1)
+        self.assertEqual(known[board(MORPHY)], ())
+
+    def test_shifts_stay_on_the_board(self) -> None:
+        """Three files wide and eight ranks high: five shifts to the right, none up or down."""
+        known = {variant.board: variant.how for variant in variants(board(MORPHY))}
+        shifted = moved(MORPHY, image("one to the right"))
+        self.assertEqual(known[shifted], ("shifted 1 right",))
+        shifts = [how for how in known.values() if len(how) == 1 and how[0].startswith("shifted")]
+        self.assertEqual(len(shifts), 5)
+        self.assertTrue(all(len(men_of(one)) == 7 for one in known))
+
+    def test_differences(self) -> None:
+        for other, wanted in (
+            (MORPHY, []),
+            (MORPHY.replace("Ra1", "Ra2"), ["white Ra1 on a2"]),
+            (MORPHY.replace(" Ra1", ""), ["without white Ra1"]),
+            (MORPHY.replace("a7b7", "a7b7h7"), ["with black Ph7"]),
+            (MORPHY.replace("Ra1", "Qa1"), ["white Qa1 for white Ra1"]),
+            (MORPHY.replace("Ra1", "Qa2"), ["white Qa2 for white Ra1"]),
+        ):
+            with self.subTest(other):
+                self.assertEqual(differences(board(MORPHY), board(other)), wanted)
+
+
+class Near(unittest.TestCase):
+    def setUp(self) -> None:
+        room = tempfile.TemporaryDirectory()
+        self.addCleanup(room.cleanup)
+        self.path = str(Path(room.name) / "mine.db")
+        self.collection = Collection(self.path, new=True)
+        self.addCleanup(self.collection.close)
+
+    def found(self, *positions: str, asked: str = MORPHY) -> List[str]:
+        self.collection.add("some.pop", [entry(n, it) for n, it in enumerate(positions, 1)])
+        hits = self.collection.near(board(asked))
+        return [f"{hit.entry.number}: {hit.text}" for hit in hits]
+
+    def test_same_and_one_man_apart(self) -> None:
+        found = self.found(
+            MORPHY.replace("Ra1", "Ra2"),
+            MORPHY,
+            MORPHY.replace(" Ra1", ""),
+            MORPHY.replace("a7b7", "a7b7h7"),
+            MORPHY.replace("Ra1", "Qb1"),
+            MORPHY.replace("Ra1", "Ra2").replace("b6", "b5"),
+            MORPHY.replace(" Ra1", "").replace("a7b7", "a7"),
+        )
+        self.assertEqual(
+            found,
+            [
+                "2: the same position",
+                "1: white Ra1 on a2",
+                "3: without white Ra1",
+                "4: with black Ph7",
+                "5: white Qb1 for white Ra1",
+            ],
+        )
+
+    def test_moved_and_one_man_apart(self) -> None:
+        found = self.found(
+            "White Kf8 Rh1 Pg6 Black Kh8 Bg8 Ph7",
+            "White Kd8 Rb1 Pc6 Black Kb8 Bc8 Pb7c7",
+            "White Kh1 Bg1 Ph2g2 Black Kf1 Rh8 Pg3",
+        )
+        self.assertEqual(
+            found,
+            [
+                "2: shifted 1 right",
+                "3: turned by 180 degrees; colours reversed",
+                "1: mirrored left to right; without black Pg7",
+            ],
+        )
+
+    def test_plain_comparison_of_made_positions(self) -> None:
+        """All positions one man apart are found, and no others: each is compared with each."""
+        chance = random.Random(61)
+        kinds = "White K|White Q|White R|Black K|Black S".split("|")
+        positions = []
+        for _ in range(300):
+            squares = chance.sample(["a1", "a2", "b1", "b2", "h8", "g8", "g7"], len(kinds))
+            chosen = list(zip(kinds, squares))[: chance.randint(3, 5)]
+            positions.append(" ".join(f"{kind.split()[0]} {kind[-1]}{at}" for kind, at in chosen))
+        self.collection.add("made", [entry(n, it) for n, it in enumerate(positions, 1)])
+        for asked in positions[:20]:
+            wanted = {
+                number
+                for number, other in enumerate(positions, 1)
+                if self.plainly_near(board(asked), board(other))
+            }
+            found = {hit.entry.number for hit in self.collection.near(board(asked)) if not hit.how}
+            self.assertLessEqual(found, wanted)
+            every = {hit.entry.number for hit in self.collection.near(board(asked))}
+            self.assertLessEqual(wanted, every)
+
+    @staticmethod
+    def plainly_near(one: str, other: str) -> bool:
+        """Whether at most one man goes and at most one comes."""
+        before, after = men_of(one), men_of(other)
+        gone = [square for square in before if after.get(square) != before[square]]
+        new = [square for square in after if before.get(square) != after[square]]
+        return len(gone) <= 1 and len(new) <= 1
+
+    def test_ten_thousand_problems(self) -> None:
+        chance = random.Random(17)
+        made = []
+        for number in range(10_000):
+            squares = chance.sample(range(64), chance.randint(5, 16))
+            letters = ["."] * 64
+            for place, letter in zip(squares, "Kk" + "".join(chance.choices("QRBSPqrbsp", k=14))):
+                letters[place] = letter
+            text = "".join(letters)
+            made.append(Entry("made", number, "", "", "", "#2", "", text, None))
+        self.collection.add("made", made)
+        began = time.monotonic()
+        for one in made[:20]:
+            self.assertIn(one, [hit.entry for hit in self.collection.near(one.board)])
+        self.assertLess(time.monotonic() - began, 20 * 0.5)
+
+    def test_problems_of_a_file_take_the_place_of_its_older_ones(self) -> None:
+        self.assertEqual(len(self.found(MORPHY, MORPHY)), 2)
+        self.assertEqual(len(self.found(MORPHY)), 1)
+        self.collection.add("other.pop", [entry(1, MORPHY)])
+        self.assertEqual(len(self.collection), 2)
+        self.assertEqual(len(self.collection.near(board(MORPHY))), 2)
+
+
+class Play(unittest.TestCase):
+    def test_keys_and_mates_of_a_report(self) -> None:
+        report = (support.REPOSITORY / "examples" / "morphy_1856.report").read_bytes()
+        self.assertEqual(plays_of(report), {1: "Ra1-a6: Ra6*a7#, b6-b7#"})
+        lines = b"problem 1\nh#1\nplay\n1.Kh8-g8 Rb1-b8#\n1.Kh8-g8 Ra1-a8#\nsolutions: 2\n\n"
+        self.assertEqual(plays_of(lines), {1: "1.Kh8-g8 Ra1-a8# | 1.Kh8-g8 Rb1-b8#"})
+        bare = b"problem 1\n#2\nplay\n1.Ra1-a6\nsolutions: 1\n\nproblem 2\n#1\nsound\n\n"
+        self.assertEqual(plays_of(bare), {})
+
+    def test_mirrored(self) -> None:
+        self.assertEqual(mirrored_play("Ra1-a6: Ra6*a7#, b6-b7#"), "Rh1-h6: Rh6*h7#, g6-g7#")
+        self.assertEqual(mirrored_play("1.Kh8-g8 Ra1-a8#"), "1.Ka8-b8 Rh1-h8#")
+        self.assertEqual(mirrored_play("a2-a1=Q: b2#"), "h2-h1=Q: g2#")
+
+    def test_found_by_it(self) -> None:
+        examples = support.REPOSITORY / "examples"
+        with tempfile.TemporaryDirectory() as room:
+            path = f"{room}/mine.db"
+            report = str(examples / "morphy_1856.report")
+            words = ["--add", str(examples / "morphy_1856.pop"), "--report", report]
+            outcome = run_here.companion("pops-find", path, *words)
+            self.assertEqual((outcome.status, outcome.error), (0, ""))
+            mirrored = Path(room) / "mirrored.pop"
+            mirrored.write_text(
+                "BeginProblem\nPieces White Kf8 Rh1 Pg6 Black Kh8 Bg8 Pg7h7\nStipulation #2\n"
+                "Option Variation\nEndProblem\n"
+            )
+            other = Path(room) / "mirrored.report"
+            other.write_bytes(support.run([support.pops(), str(mirrored)]).output)
+            outcome = run_here.companion("pops-find", path, "--play", str(other))
+        self.assertEqual((outcome.status, outcome.error), (0, ""))
+        self.assertIn(b"    mirrored left to right; the same key and mates\n", outcome.output)
+
+
+class Command(unittest.TestCase):
+    def setUp(self) -> None:
+        room = tempfile.TemporaryDirectory()
+        self.addCleanup(room.cleanup)
+        self.room = Path(room.name)
+        self.path = str(self.room / "mine.db")
+        self.examples = support.REPOSITORY / "examples"
+
+    def run_on(self, *words: str) -> support.Outcome:
+        return run_here.companion("pops-find", self.path, *words)
+
+    def added(self, *names: str) -> None:
+        outcome = self.run_on("--add", *(str(self.examples / name) for name in names))
+        self.assertEqual((outcome.status, outcome.error), (0, ""))
+
+    def numbers(self, *words: str) -> int:
+        outcome = self.run_on(*words)
+        self.assertEqual(outcome.status, 0 if b"problem " in outcome.output else 1)
+        return outcome.output.count(b", problem ")
+
+    def test_words_and_men(self) -> None:
+        self.added("excelsior_1861.pop", "morphy_1856.pop", "help_mate.pop", "circe.pop")
+        for words, number in (
+            (["--author", "LOYD"], 1),
+            (["--author", "lo%d"], 0),
+            (["--title", "excel", "--stipulation", "#5"], 1),
+            (["--title", "excel", "--stipulation", "#4"], 0),
+            (["--stipulation", "h#1"], 1),
+            (["--men", "White Kc8 Black Pa7b7"], 1),
+            (["--men", "White Kc7"], 0),
+            (["--count", "3+4"], 1),
+        ):
+            with self.subTest(words):
+                self.assertEqual(self.numbers(*words), number)
+
+    def test_reports_and_yaml(self) -> None:
+        yaml = Path(__file__).resolve().parent / "data" / "import" / "yacpdb.yaml"
+        outcome = self.run_on("--add", str(self.examples / "morphy_1856.report"), str(yaml))
+        self.assertEqual(outcome.status, 1)
+        self.assertIn("left out: pops knows no", outcome.error)
+        self.assertEqual(self.numbers("--author", "Loyd, Samuel"), 1)
+        self.assertEqual(self.numbers("--author", "Morphy"), 1)
+
+    def test_a_page_of_anticipations(self) -> None:
+        self.added("morphy_1856.pop")
+        new = self.room / "new.pop"
+        new.write_text(
+            "BeginProblem\nTitle Mine & yours\nPieces White Kf8 Rh1 Pg6 Black Kh8 Bg8 Ph7\n"
+            "Stipulation #2\nNextProblem\nPieces White Ka1 Black Kh8\nStipulation h#5\nEndProblem\n"
+        )
+        page = self.room / "page.html"
+        outcome = self.run_on("--near", str(new), "-o", str(page))
+        self.assertEqual((outcome.status, outcome.error), (0, ""))
+        text = outcome.output.decode()
+        self.assertIn("problem 1: #2, Mine & yours: 1 problem found\n", text)
+        self.assertIn("    mirrored left to right; with black Pb7\n", text)
+        self.assertIn("problem 2: h#5: nothing found\n", text)
+        html = page.read_text("utf-8")
+        self.assertEqual(html.count('<svg class="diagram"'), 3)
+        self.assertIn("Mine &amp; yours", html)
+
+    def test_the_example_of_the_documents(self) -> None:
+        self.added("morphy_1856.pop")
+        new = self.room / "new.pop"
+        new.write_text(
+            "BeginProblem\nTitle Mine\nPieces White Kf8 Rh1 Pg6 Black Kh8 Bg8 Ph7\n"
+            "Stipulation #2\nEndProblem\n"
+        )
+        text = self.run_on("--near", str(new)).output.decode()
+        shown = "".join(f"    {line}\n" for line in text.splitlines())
+        document = (support.REPOSITORY / "docs" / "COMPANIONS.md").read_text("utf-8")
+        self.assertIn(shown.replace(f"{self.examples}/", ""), document)
+
+    def test_a_problem_of_the_collection_doesnt_find_itself(self) -> None:
+        self.added("morphy_1856.pop")
+        outcome = self.run_on("--near", str(self.examples / "morphy_1856.pop"))
+        self.assertEqual(outcome.status, 1)
+
+    def test_mistakes(self) -> None:
+        self.added("morphy_1856.pop")
+        for words, status in (
+            ([], 2),
+            (["--near", "a", "--author", "b"], 2),
+            (["--near", "a", "--play", "b"], 2),
+            (["--report", "a", "--author", "b"], 2),
+            (["--men", "Kg6"], 2),
+            (["--count", "3"], 2),
+            (["--near", "nowhere.pop"], 3),
+            (["--play", str(self.examples / "README.md")], 3),
+        ):
+            with self.subTest(words):
+                self.assertEqual(self.run_on(*words).status, status)
+
+    def test_files_that_are_no_collection(self) -> None:
+        self.assertEqual(self.run_on("--author", "x").status, 3)
+        Path(self.path).write_bytes(b"not a database, but a text of some length\n" * 100)
+        outcome = self.run_on("--author", "x")
+        self.assertEqual(outcome.status, 3)
+        self.assertIn("mine.db", outcome.error)
+        with self.assertRaises(CollectionError):
+            Collection(self.path, new=True)
+
+
+if __name__ == "__main__":
+    unittest.main()

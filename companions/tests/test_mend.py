@@ -1,0 +1,171 @@
+"""pops-explain --all and --fix: what is mended is what the explanation says, and no fault comes of it."""
+
+import tempfile
+import unittest
+from pathlib import Path
+from typing import List
+
+import run_here
+import support
+from test_explain import slips
+
+from pops_explain.mending import further_faults, mend
+from pops_explain.notices import notices
+from pops_many.cutting import cut
+
+PIECES = "Pieces White Kg6 Ra1 Black Kg8"
+
+
+def text_of(*lines: str) -> bytes:
+    return "\n".join(["BeginProblem", *lines, "EndProblem", ""]).encode("utf-8")
+
+
+def faults(text: bytes) -> int:
+    """How many faults pops reports of a text."""
+    return support.run([support.pops(), "--check", "--no-board"], text).output.count(b": fault ")
+
+
+class Mending(unittest.TestCase):
+    def test_every_slip(self) -> None:
+        """Nothing is left of a slip that counts as mended; what can't be mended stays as it is."""
+        mended = 0
+        for slip in slips():
+            with self.subTest(f"line {slip.place} of the list"):
+                made = mend(slip.text)
+                if not made.mended:
+                    self.assertEqual(made.text, slip.text)
+                elif not made.left:
+                    mended += 1
+                    self.assertEqual(faults(made.text), 0)
+        self.assertGreater(mended, 120)
+
+    def test_what_is_written(self) -> None:
+        for wrong, right in (
+            ("Pieces White Kg6 Ta1 Black Kg8", PIECES),
+            ("Pieces White: Kg6, Ra1, Black Kg8", PIECES),
+            ("Pieces White Kg6\u00a0Ra1 Black Kg8", PIECES),
+            ("Pieces White Kg6 R a1 Black Kg8", PIECES),
+            ("Pieces White Kg6 Ra1a1 Black Kg8", PIECES),
+            ("Pieces Kg6 Ra1 Black Kg8", "Pieces Kg6 Ra1 Black Kg8"),
+            ("Pieces White Kg6 Ra1 Blakc Kg8", PIECES),
+        ):
+            with self.subTest(wrong):
+                made = mend(text_of(wrong, "Stipulation #1"))
+                self.assertEqual(made.text, text_of(right, "Stipulation #1"))
+        for wrong, right in (
+            ("Stipulation 2#", "Stipulation #2"),
+            ("Stipulation h#2½", "Stipulation h#2.5"),
+            ("Stipulation h# 2", "Stipulation h#2"),
+            ("Stipulation mate", "Stipulation mate"),
+            ("Stipulation #2\nOption Variatons", "Stipulation #2\nOption Variation"),
+            ("Stipulation #2\nSetPlay", "Stipulation #2\nOption SetPlay"),
+            ("Stipulation #2\n# a comment", "Stipulation #2\nRemark # a comment"),
+            ("Stipulation #2\nStipulation #2", "Stipulation #2\n"),
+        ):
+            with self.subTest(wrong):
+                self.assertEqual(mend(text_of(PIECES, wrong)).text, text_of(PIECES, right))
+
+    def test_men_of_another_language_are_left(self) -> None:
+        """In German B is the pawn: to write the other letters in English would leave it a bishop."""
+        for lines in (
+            ["Pieces White Kg6 Da1 La2 Bb4 Black Kg8", "Stipulation #1"],
+            ["Steine Weiss Kg6 Ta1 Bb4 Schwarz Kg8", "Stipulation #1"],
+        ):
+            with self.subTest(lines):
+                made = mend(text_of(*lines))
+                self.assertEqual((made.text, made.mended), (text_of(*lines), 0))
+
+    def test_several_problems_and_blocks(self) -> None:
+        text = text_of("Titel A", PIECES, "Stipulation 2#", "NextProblem", PIECES, "Stip:", "#1")
+        made = mend(text + text_of(PIECES, "Stipulation #1,"))
+        self.assertEqual((made.mended, made.left, faults(made.text)), (5, 0, 0))
+        self.assertEqual(len(cut(made.text)), 3)
+
+    def test_the_end_is_added(self) -> None:
+        text = f"BeginProblem\n{PIECES}\nStipulation #1".encode()
+        self.assertEqual(mend(text).text, text + b"\nEndProblem\n")
+
+    def test_texts_of_other_systems(self) -> None:
+        text = text_of("Title A", PIECES, "Stipulation #1")
+        self.assertEqual(mend(text.replace(b"\n", b"\r")).text, text)
+        self.assertEqual(mend(text.decode().encode("utf-16")).text, text)
+
+
+class Further(unittest.TestCase):
+    def found(self, *lines: str) -> List[str]:
+        """Line, number and marked words of the faults after the first one."""
+        text = text_of(*lines)
+        return [
+            f"{it.line}: {it.kind.value}: "
+            + " | ".join(text[mark.start : mark.stop].decode() for mark in it.explanation.marks)
+            for it in further_faults(text, 1)
+        ]
+
+    def test_each_fault_once_at_its_place_in_the_text(self) -> None:
+        found = self.found(
+            "Titel A", "Pieces White: Kg6, Ta1 Black Kg8", "Stipulation 2#", "Option Variatons"
+        )
+        wanted = ["3: 2: White:", "3: 14: Kg6,", "3: 2: Ta1", "4: 8: 2#", "5: 2: Variatons"]
+        self.assertEqual(found, wanted)
+
+    def test_a_word_that_cannot_be_mended_is_passed_over(self) -> None:
+        found = self.found(PIECES, "Condition Koeko", "Stipulation 2#", "Option Nothing")
+        self.assertEqual(found, ["4: 8: 2#", "5: 2: Nothing"])
+
+    def test_what_lacks_for_a_word_passed_over_is_no_fault(self) -> None:
+        self.assertEqual(self.found(PIECES, "Stipulation ser-h#3"), [])
+        self.assertEqual(self.found("Stipulation #1", "Pieces White Kg6 Black Xg8"), [])
+
+    def test_a_problem_with_one_fault_has_no_other(self) -> None:
+        self.assertEqual(self.found(PIECES, "Stipulation 2#"), [])
+
+
+class Notices(unittest.TestCase):
+    def test_names_nightriders_and_lost_text(self) -> None:
+        text = (
+            b"BeginProblem\nAuthor R\xe9ti\nPieces White Kg6\n Na1 Black Kg8\nStipulation #1\n"
+            b"NextProblem\nPieces White Kg6 Na1 Sb1 Black Kg8\nStipulation #1\nEndProblem\nmore\n"
+        )
+        found = [(notice.line, notice.problem) for notice in notices(text)]
+        self.assertEqual(found, [(2, 1), (4, 1), (10, None)])
+        self.assertEqual(list(notices(text_of(PIECES, "Stipulation #1"))), [])
+
+
+class Command(unittest.TestCase):
+    def setUp(self) -> None:
+        room = tempfile.TemporaryDirectory()
+        self.addCleanup(room.cleanup)
+        self.room = Path(room.name)
+        self.input = self.room / "two.pop"
+        self.input.write_bytes(text_of("Titel A", PIECES, "Stipulation 2#"))
+
+    def test_all(self) -> None:
+        outcome = run_here.companion("pops-explain", "--all", str(self.input))
+        text = outcome.output.decode()
+        self.assertEqual((outcome.status, outcome.error), (1, ""))
+        self.assertIn("two.pop:4: problem 1: fault 8: bad stipulation\n", text)
+        self.assertTrue(text.endswith("\n1 problem, 1 faulty, 2 faults\n"))
+        first = run_here.companion("pops-explain", str(self.input)).output.decode()
+        self.assertNotIn("fault 8", first)
+        self.assertTrue(text.startswith(first.split("\n\n")[0]))
+
+    def test_fix(self) -> None:
+        outcome = run_here.companion("pops-explain", "--fix", str(self.input))
+        fixed = self.room / "two.fixed.pop"
+        self.assertEqual(outcome.status, 1)
+        self.assertEqual(outcome.error, f"pops-explain: {fixed}: 2 corrected\n")
+        self.assertEqual(fixed.read_bytes(), text_of("Title A", PIECES, "Stipulation #2"))
+        again = run_here.companion("pops-explain", "--fix", str(fixed))
+        self.assertEqual((again.status, again.error), (0, ""))
+        self.assertEqual(len(list(self.room.iterdir())), 2)
+
+    def test_nothing_to_correct(self) -> None:
+        self.input.write_bytes(text_of(PIECES, "Stipulation mate"))
+        outcome = run_here.companion("pops-explain", "--fix", str(self.input))
+        said = f"pops-explain: {self.input}: nothing could be corrected\n"
+        self.assertEqual((outcome.status, outcome.error), (1, said))
+        self.assertEqual(run_here.companion("pops-explain", "--fix").status, 2)
+
+
+if __name__ == "__main__":
+    unittest.main()
