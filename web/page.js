@@ -102,6 +102,7 @@ function follow() {
     ? say('count', { number: block.number, all, white: countOf(men, 'w'), black: countOf(men, 'b') }) : say('none');
   showFields(block);
   if (document.activeElement !== element('fen')) element('fen').value = block ? fenOfBlock(textNow(), block) : '';
+  showContents();
   showTail();
   for (const [id, step] of [['undo', -1], ['redo', 1]]) element(id).disabled = !state.steps.has(step);
   if (textNow().length < LONG_TEXT) keep('pops', textNow());
@@ -434,31 +435,6 @@ async function makeLink() {
   }
 }
 
-// What is printed: the problem on the board with its solutions.
-function fillPrint() {
-  const block = blockNow();
-  const fields = block ? fieldsOf(textNow(), block) : {};
-  const item = textNow() === state.solved ? state.items.find(it => it.number === state.number) : null;
-  const part = (tag, name, text) => {
-    const made = document.createElement(tag);
-    made.className = name;
-    made.textContent = text;
-    return made;
-  };
-  const diagram = document.createElement('div');
-  const men = block ? menOf(block).men : new Map();
-  diagram.innerHTML = diagramOf(men);
-  const below = part('div', 'below', '');
-  const asked = item?.asked?.line ?? [valueOf(fields, 'stipulation'), valueOf(fields, 'condition')].filter(Boolean).join(' ');
-  const count = `(${countOf(men, 'w')}+${countOf(men, 'b')})`;
-  below.append(part('span', 'asked', asked), part('span', 'count', count));
-  const left = document.createElement('div');
-  left.append(part('h2', 'title', valueOf(fields, 'title') ?? ''), part('p', 'author', valueOf(fields, 'author') ?? ''), diagram, below);
-  const lines = (item?.phases ?? []).flatMap(phase => [phase.kind, ...phase.lines, phase.total ?? say('beginning')]);
-  const many = lines.length > 300 ? 'most' : lines.length > 70 ? 'many' : '';
-  element('print').replaceChildren(left, part('pre', many, lines.join('\n')));
-}
-
 function fillWords() {
   document.documentElement.lang = language;
   for (const it of document.querySelectorAll('[data-word]')) it.textContent = say(it.dataset.word);
@@ -573,6 +549,7 @@ function listen() {
   area.onkeyup = placed;
   area.onscroll = placeMarks;
   element('next').onclick = addProblem;
+  element('problems').onchange = () => goToProblem(Number(element('problems').value));
   element('solve').onclick = solve;
   element('stop').onclick = () => state.solving?.stop();
   element('forget').onclick = () => {

@@ -20,6 +20,7 @@ const WORDS = {
     fenTaken: 'the position of the FEN was set', fenBlack: '; in it Black is to move: see who starts in the stipulation',
     playing: 'play moves', fromHere: 'Solve from here', makeProblem: 'Make it the problem', line: 'the position shown', promotion: 'what the pawn becomes',
     over: 'the play is over here: nothing is left to solve',
+    goTo: 'go to', twins: 'twins', twin: 'diagram',
     title: 'Title', author: 'Author', origin: 'Source',
     stipulation: 'Stipulation', condition: 'Condition', noCondition: 'none',
     setPlay: 'set play', variation: 'variations', noBoard: 'no board', maxSolutions: 'most solutions', enPassant: 'en passant',
