@@ -5,7 +5,7 @@ use Rattle.pop_text.proofs.scanner.keep_run.Goals as goal
 pub returns-then-part-room-clause-kept : goal.returns-then-part-room-clause-kept
 returns-then-part-room-clause-kept c =
     let few : length (c.args.word.now.items ++ c.args.part.now) ≤ 160 = omega (arith, length-append c.args.word.now.items c.args.part.now) in
-    c.extend.ensures ∙ sym (take_all 160 (c.args.word.now.items ++ c.args.part.now) few)
+    (search rules) ∙ sym (take_all 160 (c.args.word.now.items ++ c.args.part.now) few)
 
 pub returns-else-part-room-clause-kept : goal.returns-else-part-room-clause-kept
 returns-else-part-room-clause-kept c = search (rules, take_room)
