@@ -1,12 +1,11 @@
 //! A run over a text.
-use pop_run::run::run;
-use pop_run::settings::Settings;
-use pop_run::status::Status;
+use pop_run::{Settings, Status, run};
 use pop_text::trial_sink::TrialSink;
 use pop_text::trial_source::TrialSource;
 
 pub(crate) fn settings(check: bool) -> Settings {
     Settings {
+        file: None,
         check,
         no_board: false,
     }

@@ -1,7 +1,6 @@
 //! The worked rows, each through `run`.
 use crate::report::{gives, settings};
-use pop_run::run::run;
-use pop_run::status::Status;
+use pop_run::{Status, run};
 use pop_text::trial_sink::TrialSink;
 use pop_text::trial_source::TrialSource;
 
