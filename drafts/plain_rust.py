@@ -2,7 +2,7 @@
 """Turns crates/*/src/*.rt of a tree into one plain Rust crate. strip.py TREE OUT"""
 import re, sys, os, pathlib
 TREE, OUT = pathlib.Path(sys.argv[1]), pathlib.Path(sys.argv[2])
-CRATES = ['chess_core','chess_rules','chess_mates','pop_text','pop_input','pop_events','pop_battle','pop_solve','pop_print','pop_run']
+CRATES = ['chess_core','chess_rules','chess_mates','pop_text','pop_input','pop_events','pop_battle','pop_solve','pop_print','run_settings','pop_run']
 CRATES = [c for c in CRATES if (TREE/'crates'/c).exists()]
 EXT = ['arrayvec','memchr','itoa']
 
@@ -149,7 +149,7 @@ fn main() {
     for a in std::env::args().skip(1) { match a.as_str() { "--check" => check = true, "--no-board" => no_board = true, _ => file = Some(a) } }
     let input: Box<dyn Read> = match file { Some(f) => Box::new(std::fs::File::open(f).unwrap()), None => Box::new(std::io::stdin()) };
     let mut out = Out(std::io::stdout().lock());
-    let status = pop_run::run::run(&pop_run::settings::Settings { check, no_board }, &mut In(input), &mut out);
+    let status = pop_run::run(&pop_run::Settings { file: None, check, no_board }, &mut In(input), &mut out);
     out.0.flush().unwrap();
     use pop_run::status::Status;
     std::process::exit(match status { Status::Sound => 0, Status::Faulty => 1, _ => 3 });

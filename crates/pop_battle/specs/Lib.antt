@@ -1,4 +1,5 @@
 pub mod Plays
 pub mod Game
 pub mod Chess
+pub mod Walks
 pub mod ties

@@ -13,7 +13,8 @@ ghost use Rattle.pop_battle.specs.Chess.{chess};
 ghost use Rattle.pop_battle.specs.declared.aim.Battle.TheVariants.{Direct};
 ghost use Rattle.pop_battle.specs.declared.frame.Stretch.TheVariants.{Killer};
 ghost use Rattle.pop_battle.specs.ties.Calls.{Finds};
-ghost use Rattle.pop_battle.specs.ties.Counts.{HasCounted, smallest_tree, walk_count};
+ghost use Rattle.pop_battle.specs.Walks.{walk_count};
+ghost use Rattle.pop_battle.specs.ties.Counts.{HasCounted, smallest_tree};
 ghost use Rattle.pop_battle.specs.ties.Frames.{moves_ahead, moves_unlooked};
 ghost use Rattle.pop_battle.specs.ties.Values.{value};
 

@@ -8,7 +8,8 @@ ghost use Rattle.chess_rules.specs.ties.Places.{IsPlaceIn, moves_behind};
 ghost use Rattle.pop_input.specs.declared.stipulation.Goal.TheVariants.{Mate};
 ghost use Rattle.pop_battle.specs.Chess.{chess};
 ghost use Rattle.pop_battle.specs.declared.aim.Battle.TheVariants.{Selfmate};
-ghost use Rattle.pop_battle.specs.ties.Counts.{HasCounted, smallest_below, smallest_tree, walk_count};
+ghost use Rattle.pop_battle.specs.Walks.{walk_count};
+ghost use Rattle.pop_battle.specs.ties.Counts.{HasCounted, smallest_below, smallest_tree};
 ghost use Rattle.pop_battle.specs.ties.Values.{joined_value, value};
 ghost use Rattle.pop_battle.specs.ties.Passing.{IsNextLeft};
 

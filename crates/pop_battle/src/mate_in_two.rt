@@ -6,7 +6,8 @@ ghost use Rattle.chess_rules.specs.Play.{position_after};
 ghost use Rattle.pop_input.specs.declared.stipulation.Goal.TheVariants.{Mate};
 ghost use Rattle.pop_battle.specs.Chess.{chess};
 ghost use Rattle.pop_battle.specs.declared.aim.Battle.TheVariants.{Direct};
-ghost use Rattle.pop_battle.specs.ties.Counts.{HasCounted, smallest_tree, walk_count};
+ghost use Rattle.pop_battle.specs.Walks.{walk_count};
+ghost use Rattle.pop_battle.specs.ties.Counts.{HasCounted, smallest_tree};
 ghost use Rattle.pop_battle.specs.ties.Values.{value};
 
 use crate::aim::Battle;

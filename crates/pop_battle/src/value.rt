@@ -15,7 +15,8 @@ ghost use Rattle.pop_battle.specs.ties.Marks.{is_for_mate};
 ghost use Rattle.pop_input.specs.declared.stipulation.Goal.TheVariants.{Mate};
 ghost use Rattle.pop_battle.specs.Game.{can_move as has_move};
 ghost use Rattle.pop_battle.specs.declared.aim.Battle.TheVariants.{Selfmate};
-ghost use Rattle.pop_battle.specs.ties.Counts.{HasCounted, smallest_tree, walk_count};
+ghost use Rattle.pop_battle.specs.Walks.{walk_count};
+ghost use Rattle.pop_battle.specs.ties.Counts.{HasCounted, smallest_tree};
 ghost use Rattle.pop_battle.specs.declared.aim.Battle.TheVariants.{Direct};
 ghost use Rattle.pop_battle.specs.ties.Values.{seeks, joined_value, value};
 

@@ -22,5 +22,5 @@ pub use Rattle.pop_run.specs.Report.{Choice, choice_of, is_faulty, report, repor
 unfoldable pub use Rattle.pop_run.specs.Report.{entries_in, entry_text, status_of}
 pub use Rattle.pop_run.specs.Run.{Runs, has_grown, input_met, taken_of}
 pub use Rattle.pop_run.specs.declared.status.Status.TheVariants.{Faulty, InputFailed, OutputFailed, Sound}
-pub use Rattle.pop_run.specs.declared.status.StepOutcome.TheVariants.{Finished, Problem}
-pub use Rattle.pop_run.specs.ties.Sessions.{RunState, Steps, TakesItem, first_state, status_with, step_outcome}
+pub use Rattle.pop_run.specs.declared.status.Step.TheVariants.{Finished, Problem}
+pub use Rattle.pop_run.specs.ties.Sessions.{RunState, Steps, TakesItem, first_state, status_with, step_of}

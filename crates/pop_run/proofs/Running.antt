@@ -1,6 +1,6 @@
 -- A run, step by step.
 use Rattle.pop_run.proofs.Basics.{Appends, Begins, Bool, Choice, End, Entry, Err, Finished, IfSome, Input, IsSeen, List, None, Ok, Open, Option, OutputFailed, Problem, Reads, Result, RunState, Runs, Some, Standing, Steps, TakesItem, Writes, [], ap, append-nil, append_assoc, appends_kept, appends_none, appends_then, arith, begins_later}
-use Rattle.pop_run.proofs.Basics.{begins_longer, consumes_then, entries_in, entries_left, entry_text, failures_after, false, first_state, has_grown, input_met, is_err, is_faulty, length, length-append, length-take, limit, list_any, not, refl, report_from, status_of, status_with, step_outcome, sym, taken_of, tells_failure, true, ℕ, ◌++◌, ◌+◌, ◌^◌, ◌||◌, ◌∙◌, ◌∷◌, ◌≡◌, ◌≤◌}
+use Rattle.pop_run.proofs.Basics.{begins_longer, consumes_then, entries_in, entries_left, entry_text, failures_after, false, first_state, has_grown, input_met, is_err, is_faulty, length, length-append, length-take, limit, list_any, not, refl, report_from, status_of, status_with, step_of, sym, taken_of, tells_failure, true, ℕ, ◌++◌, ◌+◌, ◌^◌, ◌||◌, ◌∙◌, ◌∷◌, ◌≡◌, ◌≤◌}
 use Rattle.std.proofs.lemmas.Bool.{lt-ltb}
 use Rattle.pop_text.specs.declared.sink.SinkFault.{SinkFault}
 use Rattle.pop_input.specs.ties.Standing.{first_standing}
@@ -14,7 +14,7 @@ use Rattle.pop_run.specs.ties.Sessions.{ends}
 -- an item that was read and printed so is what a step answers of it
 pub item_done : {A : Type 0} (old new : RunState) (had left before now : Option (List ℕ)) (entry : Entry) (printed : Result A SinkFault)
     → TakesItem old new had left entry → new.stopped ≡ is_err printed → Writes before now (entry_text old.choice old.number entry) printed
-    → Steps old new had left before now (step_outcome printed (not (is_faulty entry)))
+    → Steps old new had left before now (step_of printed (not (is_faulty entry)))
 item_done old new had left before now entry printed takes stopped written = grind arith
 
 -- From the beginning to now these items were read, and their report was written.

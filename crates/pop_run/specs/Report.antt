@@ -10,16 +10,12 @@ use Rattle.pop_solve.specs.Events.{events_of}
 use Rattle.pop_print.specs.Events.{event_text}
 use Rattle.pop_print.specs.Faults.{fault_text}
 use Rattle.pop_print.specs.Heads.{head_text}
-use Rattle.pop_run.specs.declared.settings.Settings.{Settings}
+use Rattle.run_settings.specs.declared.Settings.{Settings}
+pub use Rattle.pop_run.specs.declared.choice.Choice.{Choice}
 use Rattle.pop_run.specs.declared.status.Status.{Status}
 use Rattle.pop_run.specs.declared.status.Status.TheVariants.{Sound, Faulty, InputFailed}
 
--- what a report takes of the settings: whether problems are tested alone, and whether boards are left out
-pub record Choice : Type 0 where
-  pub check : Bool
-  pub no_board : Bool
-
--- the same of settings
+-- what a report takes of the settings: whether problems are only tested, and whether boards are left out
 abbrev pub choice_of : Settings → Choice
 choice_of settings = record { check = settings.check; no_board = settings.no_board }
 

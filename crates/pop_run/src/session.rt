@@ -8,17 +8,18 @@ ghost use Rattle.pop_input.specs.FaultKinds.{number_of};
 ghost use Rattle.pop_input.specs.declared.fault_kind.FaultKind.TheVariants.{DeviceFailed};
 ghost use Rattle.pop_input.specs.ties.Standing.{work_left};
 ghost use Rattle.pop_run.specs.Report.{choice_of};
-ghost use Rattle.pop_run.specs.ties.Sessions.{HasMore, Steps, first_state, is_problem, status_with as with_item, step_outcome};
+ghost use Rattle.pop_run.specs.ties.Sessions.{HasMore, Steps, first_state, is_problem, status_with as with_item, step_of};
 
-use crate::settings::Settings;
+use crate::choice::Choice;
 use crate::solutions::print_sound;
-use crate::status::{Status, StepOutcome};
+use crate::status::{Status, Step};
 use pop_input::fault_kind::FaultKind;
 use pop_input::item::{Fault, Item, Last};
 use pop_input::reader::Reader;
 use pop_print::print_fault;
 use pop_text::sink::{Sink, SinkFault};
 use pop_text::source::Source;
+use run_settings::Settings;
 use std::marker::Model;
 
 /// A run over the items of an input. Contracts see its place among them.
@@ -29,14 +30,13 @@ pub struct Session {
     so_far: Status,
     last: Last,
     has_stopped: bool,
-    settings: Settings,
+    choice: Choice,
 }
 
 impl Model for Session {
     ghost use Rattle.std.specs.Prelude.{◌≡◌, ◌≤◌, ◌+◌, ◌^◌, length};
     ghost use Rattle.pop_text.specs.Words.{limit};
     ghost use Rattle.pop_input.specs.ties.Standing.{work_left};
-    ghost use Rattle.pop_run.specs.Report.{choice_of};
     ghost use Rattle.pop_run.specs.ties.Sessions.{RunState, ends, says_last};
 
     ghost Value = { RunState };
@@ -46,7 +46,7 @@ impl Model for Session {
       number = s.next_number;
       status = s.so_far;
       stopped = s.has_stopped;
-      choice = choice_of s.settings;
+      choice = s.choice;
     } };
 
     ghost invariant = { λ s. (s.next_number + work_left s.reader ≤ 2 ^ 31)
@@ -55,10 +55,17 @@ impl Model for Session {
 }
 
 impl Session {
-    /// All items are still to come.
-    #[tactic(auto, unfolding(pop_text::specs::Words::limit))]
+    /// Returns a session before its first item. It keeps the two flags of the settings; `file` it leaves to its caller.
     pub fn new(settings: &Settings) -> Session
         ensures { result ≡ first_state (choice_of settings.now) }
+    {
+        Session::with(Choice::of(settings))
+    }
+
+    // Returns a session before its first item, with these flags.
+    #[tactic(auto, unfolding(pop_text::specs::Words::limit))]
+    pub(crate) fn with(choice: Choice) -> Session
+        ensures { result ≡ first_state choice }
     {
         Session {
             reader: Reader::new(),
@@ -66,20 +73,22 @@ impl Session {
             so_far: Status::Sound,
             last: Last::No,
             has_stopped: false,
-            settings: *settings,
+            choice,
         }
     }
 
-    /// Reads the next item and writes its report; behind the last item it writes nothing and answers the status of all.
-    /// Of the input it uses the bytes up to the end of the word that closes the item, and none behind it.
+    /// Reads the next item and writes its report. It uses the input's bytes up to the end of the word that closes the item,
+    /// and none after it. After the last item it calls neither source nor sink and returns the status of all items.
     ///
-    /// `SinkFault` where the sink fails: a beginning of the item's report is then written. From then on each call
-    /// answers `SinkFault`, reads nothing and writes nothing. Behind the last item neither is asked either.
+    /// # Errors
+    ///
+    /// `SinkFault` if the sink fails: a beginning of the item's report is then written. Every later call returns
+    /// `SinkFault` and calls neither source nor sink.
     pub fn step<S: Source, W: Sink>(
         &mut self,
         source: &mut S,
         sink: &mut W,
-    ) -> Result<StepOutcome, SinkFault>
+    ) -> Result<Step, SinkFault>
         requires source { HasMore self.old → self.old.at.at.end ≡ End.Open
             → S.failures source.old < greatest_count }
         requires sink { HasMore self.old → W.failures sink.old < greatest_count }
@@ -104,16 +113,16 @@ impl Session {
             return Err(SinkFault);
         }
         if self.last == Last::Yes {
-            return Ok(StepOutcome::Finished(self.so_far));
+            return Ok(Step::Finished(self.so_far));
         }
         let number = self.next_number;
         let item = self.reader.next_problem(source);
         match &item {
-            Item::End => Ok(StepOutcome::Finished(self.so_far)),
+            Item::End => Ok(Step::Finished(self.so_far)),
             Item::Sound(problem, last) => {
                 self.next_number += 1;
                 self.last = *last;
-                let printed = print_sound(sink, number, problem, &self.settings);
+                let printed = print_sound(sink, number, problem, self.choice);
                 self.answer(printed, true)
             }
             Item::Faulty(fault, last) => {
@@ -127,19 +136,15 @@ impl Session {
     }
 
     // Stops where the sink failed.
-    fn answer(
-        &mut self,
-        printed: Result<(), SinkFault>,
-        sound: bool,
-    ) -> Result<StepOutcome, SinkFault>
-        ensures step { result ≡ step_outcome printed sound }
+    fn answer(&mut self, printed: Result<(), SinkFault>, sound: bool) -> Result<Step, SinkFault>
+        ensures step { result ≡ step_of printed sound }
         ensures place { self.new ≡ record self.old {
           stopped = self.old.stopped
               || is_err printed;
         } }
     {
         match printed {
-            Ok(()) => Ok(StepOutcome::Problem { sound }),
+            Ok(()) => Ok(Step::Problem { sound }),
             Err(fault) => {
                 self.has_stopped = true;
                 Err(fault)

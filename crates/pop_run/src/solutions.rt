@@ -6,9 +6,9 @@ ghost use Rattle.pop_input.specs.Blocks.{Sound as SoundEntry};
 ghost use Rattle.pop_input.specs.Posed.{rule_of};
 ghost use Rattle.pop_solve.specs.Events.{events, events_of};
 ghost use Rattle.pop_print.specs.Events.{event_text};
-ghost use Rattle.pop_run.specs.Report.{choice_of, entry_text, findings};
+ghost use Rattle.pop_run.specs.Report.{entry_text, findings};
 
-use crate::settings::Settings;
+use crate::choice::Choice;
 use chess_rules::{Circe, Madrasi, Orthodox, Rules};
 use pop_input::condition::Condition;
 use pop_input::problem::Problem;
@@ -22,17 +22,17 @@ pub(crate) fn print_sound<W: Sink>(
     sink: &mut W,
     number: u64,
     problem: &Problem,
-    settings: &Settings,
+    choice: Choice,
 ) -> Result<(), SinkFault>
     requires { W.failures sink.old < greatest_count }
     ensures bytes { Writes (W.taken sink.old) (W.taken sink.new)
-        (entry_text (choice_of settings.now) number (SoundEntry problem.now)) result }
+        (entry_text choice number (SoundEntry problem.now)) result }
     ensures counted { W.failures sink.new ≡ count_after result (W.failures sink.old) }
 {
-    if settings.check {
-        print_checked(sink, number, problem, settings.no_board)
+    if choice.check {
+        print_checked(sink, number, problem, choice.no_board)
     } else {
-        print_solved(sink, number, problem, settings.no_board)
+        print_solved(sink, number, problem, choice.no_board)
     }
 }
 

@@ -15,7 +15,7 @@ pub enum Status {
 
 /// What a step of a session did.
 #[derive(Clone, Copy, PartialEq, Eq)]
-pub enum StepOutcome {
+pub enum Step {
     /// One item was read and reported; a sound one was solved, or tested alone.
     Problem { sound: bool },
     /// No item was left. The status is that of all items.

@@ -1,23 +1,23 @@
 -- What the clauses of the settings exclude: settings that others' words choose, flags that weren't given, and a refusal of words that are right.
-use Rattle.pop_settings.proofs.Basics.{List, None, Some, Text, [], codes, false, inl, inr, matches_of, one_of, refl, sym, takes, true, ◌∙◌, ◌≡◌}
+use Rattle.pop_settings.proofs.Basics.{List, None, Some, Text, [], codes, false, inl, inr, matches_of, refl, sym, takes, true, ◌∙◌, ◌≡◌}
 use Rattle.std.specs.Prelude.{is_some, ◌∷◌}
-use Rattle.clap.specs.Walk.{Row}
+use Rattle.clap.specs.Walk.{Row, first_of}
 use Rattle.clap.specs.declared.builder.value_parser.Reading.TheVariants.{AsWritten}
+use Rattle.run_settings.specs.declared.Settings.{Settings as PopsSettings}
 use Rattle.pop_settings.specs.pops.CommandLine as pops
 use Rattle.pop_settings.specs.pops_part.CommandLine as part
 unfoldable use Rattle.pop_settings.specs.pops_part.CommandLine.{wanted_by}
 unfoldable use Rattle.pop_settings.specs.pops_part.Numbers.{depth_in, number_in, phase_in, range_in}
 use Rattle.pop_settings.specs.declared.arg_fault.ArgFault.TheVariants.{Usage}
-use Rattle.pop_settings.specs.declared.pops.settings.Settings.{Settings as PopsSettings}
-use Rattle.pop_settings.specs.declared.pops_part.settings.PhaseName.TheVariants.{Set, Play}
-use Rattle.pop_settings.specs.declared.pops_part.settings.Settings.{Settings as PartSettings}
-use Rattle.pop_settings.specs.declared.pops_part.settings.Wanted.{Wanted}
-use Rattle.pop_settings.specs.declared.pops_part.settings.Wanted.TheVariants.{List as ListOf, Parts}
+use Rattle.pop_settings.specs.declared.pops_part.wanted.PhaseName.TheVariants.{Set, Play}
+use Rattle.pop_settings.specs.declared.pops_part.wanted.Settings.{Settings as PartSettings}
+use Rattle.pop_settings.specs.declared.pops_part.wanted.Wanted.{Wanted}
+use Rattle.pop_settings.specs.declared.pops_part.wanted.Wanted.TheVariants.{List as ListOf, Parts}
 
 -- `pops`: a flag is set exactly where it was given
-pub no_other_flag : (words : List Text) (s : PopsSettings) → one_of (codes "check") (matches_of pops.command words) ≡ None
-    → one_of (codes "no-board") (matches_of pops.command words) ≡ Some (codes "true") → pops.IsSettings words s → (s.check ≡ false) × (s.no_board ≡ true)
-no_other_flag words s absent given is = (is.check.absent absent, is.no_board.set given)
+pub no_other_flag : (words : List Text) (s : PopsSettings) → first_of (codes "check") (matches_of pops.command words) ≡ None
+    → first_of (codes "no-board") (matches_of pops.command words) ≡ Some (codes "true") → pops.IsSettings words s → (s.check ≡ false) × (s.no_board ≡ true)
+no_other_flag words s absent given is = (is.check ∙ rw absent refl, is.no_board ∙ rw given refl)
 
 -- words that the command takes aren't told as wrong
 pub taken_words_are_right : (words : List Text) → takes pops.command words ≡ true → pops.IsMemoryIfTaken words Usage → ⊥

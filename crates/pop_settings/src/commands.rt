@@ -1,10 +1,11 @@
 //! Options and values of a command.
-ghost use Rattle.std.specs.Prelude.{◌≡◌, IfOk, false};
+ghost use Rattle.std.specs.Prelude.{◌≡◌, IfOk, false, option_map};
 ghost use Rattle.clap.specs.Simple.{App, app_of, new_rule, with_rule};
-ghost use Rattle.clap.specs.Walk.{rule_of};
-ghost use Rattle.pop_settings.specs.Commands.{flag, option_with_value};
+ghost use Rattle.clap.specs.Matches.{found_of};
+ghost use Rattle.clap.specs.Walk.{first_of, rows_of, rule_of};
+ghost use Rattle.pop_settings.specs.Commands.{flag, is_set, option_with_value};
 
-use clap::{Arg, ArgAction, Command};
+use clap::{Arg, ArgAction, ArgMatches, Command};
 use std::alloc::{AllocError, Global};
 
 // The command with one more argument, where there was memory for it so far.
@@ -58,4 +59,21 @@ pub(crate) fn with_value<'a>(
 {
     let value = Arg::new(alloc, name);
     with(command, value)
+}
+
+// Returns the text of the value `name`, or `None` if none was given.
+pub(crate) fn text_of<'a>(matches: &ArgMatches<'a>, name: &str) -> Option<&'a str>
+    ensures { option_map (λ s. s.now) result ≡ first_of name.now (rows_of (found_of matches.now)) }
+{
+    matches.get_str(name)
+}
+
+// Whether the flag `name` was given.
+pub(crate) fn is_set(matches: &ArgMatches<'_>, name: &str) -> bool
+    ensures { result ≡ is_set name.now (rows_of (found_of matches.now)) }
+{
+    match text_of(matches, name) {
+        Some(text) => "true" == text,
+        None => false,
+    }
 }

@@ -1,3 +1,2 @@
 //! The settings of `pops`.
 pub mod command_line;
-pub mod settings;

@@ -1,4 +1,7 @@
 //! The settings of `pops-part`.
 pub mod command_line;
-pub mod settings;
 pub mod values;
+pub mod wanted;
+
+pub use command_line::settings;
+pub use wanted::{NamedParts, PhaseName, Settings, Wanted};

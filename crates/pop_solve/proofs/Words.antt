@@ -44,7 +44,8 @@ unfoldable pub use Rattle.pop_battle.specs.ties.Frames.{work_behind, to_open, wa
 pub use Rattle.pop_solve.specs.ties.Phases.{Gives, IsGiven, IsKeys, IsOpened, OpensOn, Walks, begins_solution, phase_paths}
 unfoldable pub use Rattle.pop_solve.specs.ties.Phases.{IsNarrow, IsStanding, beginning_count, kept_paths, left_of, rest_fewest, rest_open}
 pub use Rattle.pop_solve.specs.ties.Plans.{is_help_play, plan_of, has_variations, tree_with, walk_of}
-pub use Rattle.pop_solve.specs.ties.Seen.{StandsOn, is_stop, is_unstopped, is_walked_once, phase_walk}
+pub use Rattle.pop_solve.specs.ties.Seen.{StandsOn}
+pub use Rattle.pop_solve.specs.Walks.{is_stop, is_unstopped, is_walked_once, phase_walk}
 pub use Rattle.pop_solve.specs.ties.Walk.{GoesTo, IsCounted, IsEnded, IsNextOf, IsWalking, Opens, Steps, Tries, ends_at_goal, fewest_half_moves, fewest_for, seeks_last}
 unfoldable pub use Rattle.pop_solve.specs.ties.Walk.{IsRoomy, are_whites, fewest_left, fewest_walked, least_length_from, is_followed, is_given, walk_length, shown_length, path, shown_paths, to_come, walk_work}
 pub use Rattle.std.proofs.lemmas.List.{drop-drop, map-id, nil_from_length}

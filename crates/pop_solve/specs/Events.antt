@@ -16,10 +16,12 @@ use Rattle.pop_solve.specs.Tree.{tree, set_tree}
 use Rattle.pop_input.specs.Posed.{Posed, rule_of}
 use Rattle.pop_input.specs.Stipulations.{is_help, first_half, half_moves}
 use Rattle.pop_battle.specs.Chess.{chess, is_impossible, set_start}
-use Rattle.pop_events.specs.Shown.{Shown, nothing_shown, shown_move}
-use Rattle.pop_events.specs.declared.event.Event.{Event}
+pub use Rattle.pop_events.specs.Shown.{Shown, mark_of, nothing_shown, shown_move}
+pub use Rattle.pop_events.specs.declared.event.Event.{Event}
 use Rattle.pop_events.specs.declared.event.Event.TheVariants.{Phase as PhaseEvent, Line, Node, Impossible, Total}
-use Rattle.pop_events.specs.declared.event.Phase.{Phase}
+pub use Rattle.pop_events.specs.declared.event.Phase.{Phase}
+pub use Rattle.pop_events.specs.declared.shown.Mark.{Mark}
+pub use Rattle.pop_events.specs.declared.shown.Side.{Side}
 use Rattle.pop_events.specs.declared.event.Phase.TheVariants.{Set, Play}
 
 -- moves one after another: a line, or those that lead to a node of a tree

@@ -1,3 +1,5 @@
 pub mod Tree
 pub mod Events
+pub mod Walks
+pub mod Laws
 pub mod ties

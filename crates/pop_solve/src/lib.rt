@@ -2,10 +2,14 @@
 #![tactic(auto)]
 
 pub mod guess;
+pub mod laws;
 pub mod phases;
 pub mod plan;
 pub mod search;
 mod showing;
 pub mod walk;
 
+pub use laws::no_path_comes_twice;
+pub use pop_battle::frame::Frame;
+pub use pop_events::{Event, Mark, Phase, Shown, Side};
 pub use search::Search;

@@ -58,10 +58,11 @@ impl<R: Rules, const N: usize> Search<R, N> {
     ghost use Rattle.pop_input.specs.Posed.{rule_of};
     ghost use Rattle.pop_input.specs.Stipulations.{half_moves, is_help};
     ghost use Rattle.pop_solve.specs.Events.{events, event_of, play_start};
-    ghost use Rattle.pop_solve.specs.ties.Seen.{fewest_tried, is_never_stopped, is_walked_once, whole_walk, StandsOn};
+    ghost use Rattle.pop_solve.specs.Walks.{is_never_stopped, is_walked_once, whole_walk};
+    ghost use Rattle.pop_solve.specs.ties.Seen.{fewest_tried, StandsOn};
 
-    /// A search that has given nothing: the play's first position is on its board, and no frame is in use. `N` is at least the
-    /// half-moves of the play plus one, and `R` are the rules of the problem's condition.
+    /// Returns a search before its first event: the play's first position is on its board, and no frame is in use. `N` is at
+    /// least the half-moves of the play plus one, and `R` are the rules of the problem's condition.
     pub fn new(problem: &Problem) -> Self
         requires room { half_moves problem.now.stipulation < N }
         requires rule { R.rule ≡ rule_of problem.now.condition }
@@ -83,8 +84,8 @@ impl<R: Rules, const N: usize> Search<R, N> {
         }
     }
 
-    /// The next event; `None` behind the last, and then for good. After a line or node the board stands where its path
-    /// leads; where there is none it stands on the play's first position.
+    /// Returns the next event, or `None` after the last one and on every later call. After a line or node the board has the
+    /// position to which its path leads; after `None` it has the play's first position.
     pub fn next(&mut self) -> Option<Event>
         ensures event { result ≡ option_map (event_of R.rule self.old.problem)
             (slice_get self.old.left 0) }
@@ -112,7 +113,7 @@ impl<R: Rules, const N: usize> Search<R, N> {
         event
     }
 
-    /// The frames in use: after a line or node one more than the moves of its path.
+    /// Returns the number of frames in use: after a line or node one more than its path has moves.
     pub fn depth(&self) -> usize
         ensures depth { result ≡ self.now.depth }
         ensures most { result ≤ half_moves self.now.problem.stipulation + 1 }
@@ -120,7 +121,7 @@ impl<R: Rules, const N: usize> Search<R, N> {
         self.frames.len()
     }
 
-    /// The events given so far, up to the greatest u64.
+    /// Returns the number of events returned so far, up to the greatest u64.
     pub fn given(&self) -> u64
         ensures ending { self.now.left ≡ drop
             (length (events R.rule self.now.problem) - length self.now.left)
@@ -131,11 +132,15 @@ impl<R: Rules, const N: usize> Search<R, N> {
         self.given
     }
 
-    /// The frames opened for a half-move so far, the test of mate apart, up to the greatest u64. In help play, and where
-    /// keys alone are shown, no line of moves is walked twice. Once nothing is left to give, and if no limit ended a phase,
-    /// each line of help play was walked, and in battle play no fewer were opened than a smallest tree has positions, for
-    /// each tested move. A position that is told without its board, behind the last move but one of help play, counts as
-    /// opened.
+    /// Returns the number of positions tried so far, with or without a frame, up to the greatest u64. A position counts when
+    /// the search tries its moves; the test whether the goal is reached counts nothing.
+    ///
+    /// Direct mates try the last moves of both sides without frames, selfmates White's last move. Selfmates and help play
+    /// decide some positions before the last half-move without playing the move that leads there. All these count.
+    ///
+    /// In help play, and if only keys are shown, it is at most the walk count, which has each list of moves once. After the
+    /// last event, if no limit stopped a phase, it is the walk count in help play; in direct mates and selfmates it is at
+    /// least the number of positions in a smallest tree for each tested move. Counts are own.
     pub fn opened(&self) -> u64
         ensures opened { result ≡ self.now.opened }
         ensures most { is_walked_once self.now.problem ≡ true

@@ -8,9 +8,7 @@ use pop_events::event::Phase;
 use pop_parts::asked::{Asked, Outcome};
 use pop_parts::list::list_parts;
 use pop_parts::show::show_parts;
-use pop_run::run::run;
-use pop_run::settings::Settings;
-use pop_run::status::Status;
+use pop_run::{Choice, Status, report};
 
 /// The bytes that a page has room for.
 const ROOM: usize = 1 << 22;
@@ -45,10 +43,10 @@ pub extern "C" fn pops_report(
     if output.len() < ROOM {
         return refuse(written);
     }
-    let settings = Settings { check, no_board };
+    let choice = Choice { check, no_board };
     let mut source = TextSource::new(input);
     let mut sink = KeptSink::<ROOM>::new();
-    let status = run(&settings, &mut source, &mut sink);
+    let status = report(choice, &mut source, &mut sink);
     *written = hand_out(&sink, output);
     status_number(status)
 }

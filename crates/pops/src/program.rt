@@ -2,12 +2,8 @@
 ghost use Rattle.std.specs.Prelude.{◌≡◌, ◌≤◌};
 ghost use Rattle.pops.specs.ExitStatus.{exit_status_of};
 
-use pop_run::run::run;
-use pop_run::settings::Settings as Choice;
-use pop_run::status::Status;
-use pop_settings::arg_fault::ArgFault;
-use pop_settings::pops::command_line::settings;
-use pop_settings::pops::settings::Settings;
+use pop_run::{Settings, Status, run};
+use pop_settings::{ArgFault, settings};
 use pop_text::read_source::ReadSource;
 use pop_text::write_sink::WriteSink;
 use std::fs;
@@ -65,11 +61,7 @@ fn report<R: Read + Drop, W: Write + Drop, E: Write + Drop>(
 {
     let mut source = ReadSource::new(input);
     let mut sink = WriteSink::new(output);
-    let choice = Choice {
-        check: settings.check,
-        no_board: settings.no_board,
-    };
-    let status = run(&choice, &mut source, &mut sink);
+    let status = run(settings, &mut source, &mut sink);
     let mut output = sink.into_inner();
     let flushed = output.flush().is_ok();
     match exit_status(status, flushed) {

@@ -2,7 +2,7 @@
 use Rattle.std.proofs.Common.{codes, refl, ◌≡◌}
 use Rattle.pop_events.specs.declared.event.Phase.TheVariants.{Set, Play}
 use Rattle.pop_parts.specs.declared.asked.Outcome.{Outcome}
-use Rattle.pop_settings.specs.declared.pops_part.settings.PhaseName.TheVariants.{Set as SetName, Play as PlayName}
+use Rattle.pop_settings.specs.declared.pops_part.wanted.PhaseName.TheVariants.{Set as SetName, Play as PlayName}
 use Rattle.pops_part.specs.ExitStatus.{message_of, status_of}
 use Rattle.pops_part.specs.Runs.{asked_for}
 use Rattle.pops_part.specs.declared.program.Ending.TheVariants.{Done, Faulty, Refused, InputFailed, OutputFailed}

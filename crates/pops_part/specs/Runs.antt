@@ -12,11 +12,11 @@ use Rattle.pops_part.specs.declared.program.Ending.TheVariants.{OutputFailed}
 use Rattle.pop_events.specs.declared.event.Phase.{Phase}
 use Rattle.pop_events.specs.declared.event.Phase.TheVariants.{Set, Play}
 use Rattle.pop_parts.specs.declared.asked.Asked.{Asked}
-use Rattle.pop_settings.specs.declared.pops_part.settings.NamedParts.{NamedParts}
-use Rattle.pop_settings.specs.declared.pops_part.settings.PhaseName.{PhaseName}
-use Rattle.pop_settings.specs.declared.pops_part.settings.PhaseName.TheVariants.{Set as SetName, Play as PlayName}
-use Rattle.pop_settings.specs.declared.pops_part.settings.Wanted.{Wanted}
-use Rattle.pop_settings.specs.declared.pops_part.settings.Wanted.TheVariants.{List as ListOf, Parts}
+use Rattle.pop_settings.specs.declared.pops_part.wanted.NamedParts.{NamedParts}
+use Rattle.pop_settings.specs.declared.pops_part.wanted.PhaseName.{PhaseName}
+use Rattle.pop_settings.specs.declared.pops_part.wanted.PhaseName.TheVariants.{Set as SetName, Play as PlayName}
+use Rattle.pop_settings.specs.declared.pops_part.wanted.Wanted.{Wanted}
+use Rattle.pop_settings.specs.declared.pops_part.wanted.Wanted.TheVariants.{List as ListOf, Parts}
 
 -- the phase of a name
 abbrev pub phase_named : PhaseName → Phase

@@ -1,12 +1,11 @@
 //! A run over a text.
-use pop_run::run::run;
-use pop_run::settings::Settings;
-use pop_run::status::Status;
+use pop_run::{Settings, Status, run};
 use pop_text::trial_sink::TrialSink;
 use pop_text::trial_source::TrialSource;
 
 pub(crate) fn settings(check: bool) -> Settings {
     Settings {
+        file: None,
         check,
         no_board: false,
     }
@@ -24,8 +23,11 @@ pub(crate) struct Row {
 
 /// Whether a run over the row's input gives its report and status.
 pub(crate) fn gives(row: &Row) -> bool {
-    let mut settings = settings(row.check);
-    settings.no_board = row.no_board;
+    let settings = Settings {
+        file: None,
+        check: row.check,
+        no_board: row.no_board,
+    };
     let mut source = TrialSource::new(row.input, 4096, None);
     let mut sink = TrialSink::<8192>::new(4096, None);
     let status = run(&settings, &mut source, &mut sink);

@@ -8,7 +8,8 @@ use Rattle.chess_rules.specs.ties.Places.{IsPlaceIn, LegalPlace, place_of}
 use Rattle.chess_mates.specs.ties.Mates.{mates}
 use Rattle.pop_battle.specs.Chess.{chess}
 use Rattle.pop_battle.specs.declared.aim.Aim.{Aim}
-use Rattle.pop_battle.specs.ties.Counts.{HasCounted, smallest_tree, walk_count}
+use Rattle.pop_battle.specs.Walks.{walk_count}
+use Rattle.pop_battle.specs.ties.Counts.{HasCounted, smallest_tree}
 use Rattle.pop_battle.specs.ties.Frames.{Frame}
 use Rattle.pop_battle.specs.ties.Values.{value}
 use Rattle.std.specs.Prelude.{◌≡◌, ◌+◌, ◌≤◌, ℕ, Bool, true, List, [], ◌∷◌, Option, Some, IfSome, MatchOption}

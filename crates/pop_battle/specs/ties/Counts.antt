@@ -1,4 +1,4 @@
--- How many lists of moves a search walks over, and how many positions it has to try at least.
+-- How many positions a search has to try at least.
 use Rattle.std.specs.Prelude.{ℕ, zero, suc, ◌+◌, ◌-◌, ◌≤◌, ◌^◌, min, Bool, if◌then◌else◌, List, [], ◌∷◌}
 use Rattle.std.specs.List.{sum_by}
 use Rattle.pop_battle.specs.declared.aim.Battle.{Battle}
@@ -17,12 +17,6 @@ module _ {M : Type 0} where
       else least_of test f n ms
 
 module _ {P M : Type 0} where
-  -- how many lists of fewer than r moves there are, each legal where it stands
-  unfoldable pub walk_count : (P → List M) → (P → M → P) → ℕ → P → ℕ
-  walk_count moves after zero p = 0
-  walk_count moves after (suc r) p = 1 + sum_by (λ m. walk_count moves after r (after p m))
-      (moves p)
-
   -- the move m, after which t half-moves are left, decides p
   abbrev pub decided_by : Battle → Game P M → ℕ → P → M → Bool
   decided_by battle game t p m = decides (seeks battle (suc t))

@@ -15,7 +15,8 @@ use Rattle.chess_rules.specs.ties.Places.{IsPlaceIn, LegalPlace, moves_behind, m
 use Rattle.chess_rules.specs.Play.{undo_of}
 use Rattle.chess_rules.specs.RuleSet.{RuleSet}
 use Rattle.pop_battle.specs.Chess.{chess}
-use Rattle.pop_battle.specs.ties.Counts.{smallest_below, walk_count}
+use Rattle.pop_battle.specs.Walks.{walk_count}
+use Rattle.pop_battle.specs.ties.Counts.{smallest_below}
 use Rattle.pop_battle.specs.ties.Values.{decides, seeks, join, joined_value}
 use Rattle.pop_battle.specs.declared.frame.Stretch.{Stretch}
 use Rattle.pop_battle.specs.declared.frame.Stretch.TheVariants.{Killer, Earlier, Aimed, Others}

@@ -10,7 +10,7 @@ use Rattle.pop_battle.specs.Game.{path_end}
 use Rattle.pop_parts.specs.PhaseParts.{part_count}
 use Rattle.pop_events.specs.declared.event.Phase.{Phase}
 use Rattle.pop_battle.specs.declared.killers.Killers.{Killers}
-use Rattle.pop_battle.specs.ties.Counts.{walk_count}
+use Rattle.pop_battle.specs.Walks.{walk_count}
 
 -- what a contract sees of a search of a part: the problem, the phase, the part's first moves, the events still to come, the
 -- position on the board, the frames in use, those opened so far, up to the greatest u64, and the moves that decided its tests last

@@ -12,8 +12,8 @@ use Rattle.pop_input.specs.ties.Used.{UsesEntry}
 use Rattle.pop_run.specs.Report.{Choice, entry_text, is_faulty, tells_failure}
 use Rattle.pop_run.specs.declared.status.Status.{Status}
 use Rattle.pop_run.specs.declared.status.Status.TheVariants.{Sound, Faulty, InputFailed}
-use Rattle.pop_run.specs.declared.status.StepOutcome.{StepOutcome}
-use Rattle.pop_run.specs.declared.status.StepOutcome.TheVariants.{Problem, Finished}
+use Rattle.pop_run.specs.declared.status.Step.{Step}
+use Rattle.pop_run.specs.declared.status.Step.TheVariants.{Problem, Finished}
 
 -- the place among the items, the next item's number, the status so far, whether the sink failed, and what is printed
 pub record RunState : Type 0 where
@@ -67,7 +67,7 @@ pub record TakesItem (old new : RunState) (had left : Option (List ℕ)) (entry 
 
 -- what a step does that begins at old
 abbrev pub Steps : RunState → RunState → Option (List ℕ) → Option (List ℕ) → Option (List ℕ)
-    → Option (List ℕ) → Result StepOutcome SinkFault → Type 0
+    → Option (List ℕ) → Result Step SinkFault → Type 0
 Steps old new had left before now (Ok (Problem sound)) =
     (entry : Entry) × TakesItem old new had left entry
     × Appends before now (entry_text old.choice old.number entry)
@@ -80,12 +80,12 @@ Steps old new had left before now (Err fault) =
     × Begins before now (entry_text old.choice old.number entry) × (new.stopped ≡ true)
 
 -- the step is a problem
-abbrev pub is_problem : Result StepOutcome SinkFault → Bool
+abbrev pub is_problem : Result Step SinkFault → Bool
 is_problem (Ok (Problem sound)) = true
 is_problem (Ok (Finished status)) = false
 is_problem (Err fault) = false
 
 -- what a step answers where an item was printed so
-abbrev pub step_outcome : {A : Type 0} → Result A SinkFault → Bool → Result StepOutcome SinkFault
-step_outcome (Ok done) sound = Ok (Problem sound)
-step_outcome (Err fault) sound = Err fault
+abbrev pub step_of : {A : Type 0} → Result A SinkFault → Bool → Result Step SinkFault
+step_of (Ok done) sound = Ok (Problem sound)
+step_of (Err fault) sound = Err fault

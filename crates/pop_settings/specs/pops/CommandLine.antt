@@ -1,14 +1,14 @@
 -- The command line `pops [--check] [--no-board] [FILE]`, and the settings of its words (own).
-use Rattle.std.specs.Prelude.{◌≡◌, ◌≢◌, List, [], codes, Option, Some, None, Bool, true, false, option_map, string_bytes}
-use Rattle.clap.specs.Walk.{Row, Rule, Text, first_of, one_of}
+use Rattle.std.specs.Prelude.{◌≡◌, ◌≢◌, List, [], codes, true, option_map, string_bytes}
+use Rattle.clap.specs.Walk.{Row, Rule, Text, first_of}
 use Rattle.clap.specs.Simple.{App, new_app, new_rule, with_rule, matches_of}
 use Rattle.clap.specs.Faults.{fault_of}
 use Rattle.clap.specs.Takes.{takes}
 use Rattle.clap.specs.Kinds.{Kinds}
-use Rattle.pop_settings.specs.Commands.{flag}
+use Rattle.run_settings.specs.declared.Settings.{Settings}
+use Rattle.pop_settings.specs.Commands.{flag, is_set}
 use Rattle.pop_settings.specs.declared.arg_fault.ArgFault.{ArgFault}
 use Rattle.pop_settings.specs.declared.arg_fault.ArgFault.TheVariants.{Usage, Memory}
-use Rattle.pop_settings.specs.declared.pops.settings.Settings.{Settings}
 
 -- the option --check
 abbrev pub check : Rule
@@ -23,17 +23,11 @@ abbrev pub command : App
 command = with_rule (with_rule (with_rule (new_app (codes "pops")) check) no_board)
     (new_rule (codes "file"))
 
--- a flag as clap reads its text
-pub record IsFlag (text : Option Text) (flag : Bool) : Type 0 where
-  pub absent : text ≡ None → flag ≡ false
-  pub set : text ≡ Some (codes "true") → flag ≡ true
-  pub unset : text ≡ Some (codes "false") → flag ≡ false
-
 -- the settings are those that clap's matches choose
 pub record IsChosen (rows : List Row) (s : Settings) : Type 0 where
   pub file : option_map string_bytes s.file ≡ first_of (codes "file") rows
-  pub check : IsFlag (one_of (codes "check") rows) s.check
-  pub no_board : IsFlag (one_of (codes "no-board") rows) s.no_board
+  pub check : s.check ≡ is_set (codes "check") rows
+  pub no_board : s.no_board ≡ is_set (codes "no-board") rows
 
 -- the settings are those of the words, of which the first is the program's name
 abbrev pub IsSettings : List Text → Settings → Type 0
@@ -47,6 +41,6 @@ refusals words = fault_of command words
 abbrev pub IsMemoryIfTaken : List Text → ArgFault → Type 0
 IsMemoryIfTaken words fault = takes command words ≡ true → fault ≡ Memory
 
--- words are told as wrong only where the command refuses them
+-- words are wrong only where the command refuses them
 abbrev pub IsUsageIfRefused : List Text → ArgFault → Type 0
 IsUsageIfRefused words fault = fault ≡ Usage → refusals words ≢ []

@@ -1,20 +1,18 @@
 -- The command lines of `pops-part`, and the settings of their words (own).
 use Rattle.std.specs.Prelude.{◌≡◌, ◌≢◌, ◌⊎◌, ◌||◌, ◌≤◌, ℕ, Bool, true, false, if◌then◌else◌, List, [], codes, Option, Some, None, is_some, option_map, option_and_then, string_bytes}
-use Rattle.std.specs.Option.{option_map_or}
-use Rattle.std.specs.Str.{bytes_eq}
 use Rattle.clap.specs.Walk.{Row, Text, first_of}
 use Rattle.clap.specs.Simple.{App, new_app, new_rule, with_rule, matches_of}
 use Rattle.clap.specs.Faults.{fault_of}
 use Rattle.clap.specs.Takes.{takes}
 use Rattle.clap.specs.Kinds.{Kinds}
-use Rattle.pop_settings.specs.Commands.{flag, option_with_value}
+use Rattle.pop_settings.specs.Commands.{flag, is_set, option_with_value}
 use Rattle.pop_settings.specs.pops_part.Numbers.{depth_in, number_in, phase_in, range_in}
 use Rattle.pop_settings.specs.declared.arg_fault.ArgFault.{ArgFault}
 use Rattle.pop_settings.specs.declared.arg_fault.ArgFault.TheVariants.{Usage, Memory}
-use Rattle.pop_settings.specs.declared.pops_part.settings.PhaseName.{PhaseName}
-use Rattle.pop_settings.specs.declared.pops_part.settings.Settings.{Settings}
-use Rattle.pop_settings.specs.declared.pops_part.settings.Wanted.{Wanted}
-use Rattle.pop_settings.specs.declared.pops_part.settings.Wanted.TheVariants.{List as ListOf, Parts}
+use Rattle.pop_settings.specs.declared.pops_part.wanted.PhaseName.{PhaseName}
+use Rattle.pop_settings.specs.declared.pops_part.wanted.Settings.{Settings}
+use Rattle.pop_settings.specs.declared.pops_part.wanted.Wanted.{Wanted}
+use Rattle.pop_settings.specs.declared.pops_part.wanted.Wanted.TheVariants.{List as ListOf, Parts}
 use Rattle.pop_settings.specs.declared.pops_part.values.Range.{Range}
 
 -- pops-part [--list] [--depth D] [--item I] [--phase P] [--part A[..B]] [FILE]
@@ -24,10 +22,6 @@ command = with_rule (with_rule (with_rule (with_rule (with_rule (with_rule
     (option_with_value (codes "item")))
     (option_with_value (codes "phase"))) (option_with_value (codes "part")))
     (new_rule (codes "file"))
-
--- the flag --list is there: clap then gives it the text `true`
-abbrev pub is_listing : List Row → Bool
-is_listing rows = option_map_or (bytes_eq (codes "true")) (first_of (codes "list") rows) false
 
 -- an option is there
 abbrev pub is_given : Text → List Row → Bool
@@ -61,7 +55,7 @@ parts_wanted _ _ _ _ = None
 
 -- what the words want, by clap's matches of them; none where they are of neither form
 unfoldable pub wanted_by : List Row → Option Wanted
-wanted_by rows = if is_listing rows
+wanted_by rows = if is_set (codes "list") rows
     then list_wanted (has_others rows) (depth_said (first_of (codes "depth") rows))
     else parts_wanted (option_and_then number_in (first_of (codes "item") rows))
     (option_and_then phase_in (first_of (codes "phase") rows))

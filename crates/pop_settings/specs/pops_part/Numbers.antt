@@ -2,8 +2,8 @@
 use Rattle.std.specs.Prelude.{ℕ, ◌+◌, ◌-◌, ◌*◌, ◌==◌, ◌&&◌, nat_le, nat_lt, Bool, if◌then◌else◌, List, [], ◌∷◌, fold, take, drop, length, codes, Option, Some, None}
 use Rattle.std.specs.List.{list_all, prefix_len}
 use Rattle.std.specs.Str.{bytes_eq}
-use Rattle.pop_settings.specs.declared.pops_part.settings.PhaseName.{PhaseName}
-use Rattle.pop_settings.specs.declared.pops_part.settings.PhaseName.TheVariants.{Set, Play}
+use Rattle.pop_settings.specs.declared.pops_part.wanted.PhaseName.{PhaseName}
+use Rattle.pop_settings.specs.declared.pops_part.wanted.PhaseName.TheVariants.{Set, Play}
 use Rattle.pop_settings.specs.declared.pops_part.values.Range.{Range}
 
 -- `.`

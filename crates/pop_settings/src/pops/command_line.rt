@@ -9,10 +9,10 @@ ghost use Rattle.clap.specs.Kinds.{FailsBy};
 ghost use Rattle.pop_settings.specs.pops.CommandLine.{command, refusals, IsChosen, IsMemoryIfTaken, IsSettings, IsUsageIfRefused};
 
 use crate::arg_fault::{ArgFault, fault_told};
-use crate::commands::{with_flag, with_value};
-use crate::pops::settings::Settings;
+use crate::commands::{is_set, text_of, with_flag, with_value};
 use clap::error::ErrorKind;
 use clap::{ArgMatches, Command, Error};
+use run_settings::Settings;
 use std::alloc::Global;
 
 /// The settings of the words, of which the first is the program's name.
@@ -25,11 +25,10 @@ pub fn settings(alloc: Global, words: &[&str]) -> Result<Settings, ArgFault>
     ensures taken { IfOk result (λ s. refusals (map (λ s. s.now) words.now) ≡ []) }
     ensures usage { IfErr result (IsUsageIfRefused (map (λ s. s.now) words.now)) }
 {
-    let matches = match arg_matches(alloc, words) {
-        Ok(matches) => matches,
-        Err(error) => return Err(fault_told(&error)),
-    };
-    settings_of(alloc, &matches)
+    match arg_matches(alloc, words) {
+        Ok(matches) => settings_of(alloc, &matches),
+        Err(error) => Err(fault_told(&error)),
+    }
 }
 
 // What the options choose, or `Memory`.
@@ -37,7 +36,7 @@ fn settings_of(alloc: Global, matches: &ArgMatches<'_>) -> Result<Settings, ArgF
     ensures chosen { IfOk result (IsChosen (rows_of (found_of matches.now))) }
     ensures refused { IfErr result (λ fault. fault ≡ ArgFault.Memory) }
 {
-    let file = match matches.get_str("file") {
+    let file = match text_of(matches, "file") {
         Some(file) => match String::from_str(alloc, file) {
             Ok(file) => Some(file),
             Err(_) => return Err(ArgFault::Memory),
@@ -46,8 +45,8 @@ fn settings_of(alloc: Global, matches: &ArgMatches<'_>) -> Result<Settings, ArgF
     };
     Ok(Settings {
         file,
-        check: matches.get_flag("check"),
-        no_board: matches.get_flag("no-board"),
+        check: is_set(matches, "check"),
+        no_board: is_set(matches, "no-board"),
     })
 }
 

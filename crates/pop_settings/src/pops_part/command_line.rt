@@ -1,10 +1,8 @@
 //! The command lines `pops-part --list [--depth D] [FILE]` and
 //! `pops-part --item I --phase set|play --part A[..B] [--depth D] [FILE]`.
-ghost use Rattle.std.specs.Prelude.{◌≡◌, ◌≢◌, ◌≤◌, ◌||◌, IfErr, IfOk, IfSome, [], codes, false, is_some, map, option_and_then, option_map, true};
-ghost use Rattle.std.specs.Option.{option_map_or};
-ghost use Rattle.std.specs.Str.{bytes_eq};
+ghost use Rattle.std.specs.Prelude.{◌≡◌, ◌≢◌, ◌≤◌, ◌||◌, IfErr, IfOk, IfSome, [], is_some, map, option_and_then, option_map, true};
 ghost use Rattle.clap.specs.Values.{kind_of};
-ghost use Rattle.clap.specs.Walk.{first_of, rows_of};
+ghost use Rattle.clap.specs.Walk.{rows_of};
 ghost use Rattle.clap.specs.Matches.{found_of};
 ghost use Rattle.clap.specs.Simple.{matches_of};
 ghost use Rattle.clap.specs.Takes.{takes};
@@ -13,9 +11,9 @@ ghost use Rattle.pop_settings.specs.pops_part.CommandLine.{command, depth_said, 
 ghost use Rattle.pop_settings.specs.pops_part.Numbers.{number_in, phase_in, range_in};
 
 use crate::arg_fault::{ArgFault, fault_told};
-use crate::commands::{with_flag, with_option, with_value};
-use crate::pops_part::settings::{NamedParts, Settings, Wanted};
+use crate::commands::{is_set, text_of, with_flag, with_option, with_value};
 use crate::pops_part::values::{depth_of, number_of, phase_of, range_of};
+use crate::pops_part::wanted::{NamedParts, Settings, Wanted};
 use clap::error::ErrorKind;
 use clap::{ArgMatches, Command, Error};
 use std::alloc::Global;
@@ -67,18 +65,11 @@ fn wanted_of(matches: &ArgMatches<'_>) -> Option<Wanted>
     let item = text_of(matches, "item");
     let phase = text_of(matches, "phase");
     let part = text_of(matches, "part");
-    if is_listing(text_of(matches, "list")) {
+    if is_set(matches, "list") {
         list_of(is_any(item, phase, part), depth)
     } else {
         parts_of(item, phase, part, depth)
     }
-}
-
-// The text that stands for a name.
-fn text_of<'a>(matches: &ArgMatches<'a>, name: &str) -> Option<&'a str>
-    ensures { option_map (λ s. s.now) result ≡ first_of name.now (rows_of (found_of matches.now)) }
-{
-    matches.get_str(name)
 }
 
 // Whether one of these options is there.
@@ -88,17 +79,6 @@ fn is_any(item: Option<&str>, phase: Option<&str>, part: Option<&str>) -> bool
         || is_some (option_map (λ s. s.now) part.entry))) }
 {
     item.is_some() || phase.is_some() || part.is_some()
-}
-
-// Whether the flag of a list is there, by its text.
-fn is_listing(list: Option<&str>) -> bool
-    ensures { result
-        ≡ option_map_or (bytes_eq (codes "true")) (option_map (λ s. s.now) list.entry) false }
-{
-    match list {
-        Some(text) => "true" == text,
-        None => false,
-    }
 }
 
 // How many moves tell parts apart, by what is said of it.

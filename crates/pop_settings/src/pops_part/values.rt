@@ -3,7 +3,7 @@ ghost use Rattle.std.specs.Prelude.{◌≡◌, ◌≤◌, IfSome};
 ghost use Rattle.std.specs.List.{prefix_len};
 ghost use Rattle.pop_settings.specs.pops_part.Numbers.{depth_in, is_digit, last_in, number_in, ordered_range, phase_in, range_from, range_in};
 
-use crate::pops_part::settings::PhaseName;
+use crate::pops_part::wanted::PhaseName;
 
 // The greatest number.
 const MOST: u64 = 999_999_999_999_999_999;

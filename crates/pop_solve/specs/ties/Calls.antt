@@ -4,7 +4,8 @@ use Rattle.chess_rules.specs.Legal.{moves as legal_moves}
 use Rattle.chess_rules.specs.Play.{position_after}
 use Rattle.chess_rules.specs.RuleSet.{RuleSet}
 use Rattle.pop_battle.specs.Chess.{chess}
-use Rattle.pop_battle.specs.ties.Counts.{HasCounted, walk_count}
+use Rattle.pop_battle.specs.Walks.{walk_count}
+use Rattle.pop_battle.specs.ties.Counts.{HasCounted}
 use Rattle.pop_battle.specs.declared.aim.Battle.{Battle}
 use Rattle.pop_battle.specs.declared.aim.Play.TheVariants.{Help as HelpPlay, Battle as BattlePlay}
 use Rattle.pop_solve.specs.declared.plan.Plan.{Plan}

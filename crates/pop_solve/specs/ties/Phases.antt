@@ -10,7 +10,8 @@ use Rattle.pop_input.specs.Stipulations.{is_help}
 use Rattle.pop_battle.specs.ties.Frames.{Frame, to_open}
 use Rattle.pop_solve.specs.ties.Walk.{fewest_left, path, to_come, IsEnded, IsWalking, IsCounted, are_whites}
 use Rattle.pop_solve.specs.Events.{BareEvent, Path, impossible, is_set, total, play_start, events_from, path_event, phase_start, phase_half_moves, event_of, events}
-use Rattle.pop_solve.specs.ties.Seen.{fewest_from, fewest_tried, is_never_stopped, is_unstopped, is_walked_once, walk_from, whole_walk, StandsOn}
+use Rattle.pop_solve.specs.Walks.{is_never_stopped, is_unstopped, is_walked_once, walk_from, whole_walk}
+use Rattle.pop_solve.specs.ties.Seen.{fewest_from, fewest_tried, StandsOn}
 use Rattle.pop_events.specs.declared.event.Event.{Event}
 use Rattle.pop_events.specs.declared.event.Phase.{Phase}
 use Rattle.pop_events.specs.declared.event.Phase.TheVariants.{Play}

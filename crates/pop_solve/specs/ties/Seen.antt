@@ -1,19 +1,16 @@
 -- What contracts see of a search: the events still to come, the board, the frames in use, and the counts.
 use Rattle.chess_rules.specs.Play.{position_after}
 use Rattle.chess_rules.specs.Legal.{moves as legal_moves}
-use Rattle.std.specs.Prelude.{◌≡◌, ℕ, ◌+◌, Bool, false, not, ◌==◌, ◌&&◌, ◌||◌, true, if◌then◌else◌, List, length}
-use Rattle.std.specs.List.{list_all}
+use Rattle.std.specs.Prelude.{◌≡◌, ℕ, ◌+◌, ◌==◌, true, if◌then◌else◌, List, length}
 use Rattle.chess_core.specs.Position.{Position}
 use Rattle.chess_rules.specs.RuleSet.{RuleSet}
 use Rattle.pop_battle.specs.Game.{path_end}
 use Rattle.pop_battle.specs.Chess.{chess}
-use Rattle.pop_battle.specs.ties.Counts.{walk_count}
 use Rattle.pop_solve.specs.ties.Walk.{fewest_walked}
 use Rattle.pop_input.specs.Posed.{Posed}
-use Rattle.pop_input.specs.Stipulations.{is_help}
 use Rattle.pop_events.specs.declared.event.Phase.{Phase}
 use Rattle.pop_events.specs.declared.event.Phase.TheVariants.{Set, Play}
-use Rattle.pop_solve.specs.Events.{BareEvent, events, first_phase, impossible, is_barred, is_set, line, opening, phase_half_moves, phase_start, total, tree_node}
+use Rattle.pop_solve.specs.Events.{BareEvent, first_phase, impossible, is_barred, is_set, line, opening, phase_half_moves, phase_start, total, tree_node}
 use Rattle.pop_solve.specs.ties.Plans.{plan_of}
 
 -- after an event: the board where its path leads, and one frame more than the path has moves
@@ -27,23 +24,6 @@ StandsOn rule problem (tree_node phase path) board
     depth = (board ≡ path_end (position_after rule) (phase_start problem phase) path)
     × (depth ≡ length path + 1)
 StandsOn rule problem (total count stopped) board depth = Unit {0}
-
--- how many lists of fewer moves than its half-moves, each legal where it stands, a phase has: none where it is barred
-abbrev pub phase_walk : RuleSet → Posed → Phase → ℕ
-phase_walk rule problem phase =
-    if is_barred rule problem phase then 0
-    else walk_count (legal_moves rule) (position_after rule) (phase_half_moves problem phase)
-    (phase_start problem phase)
-
--- the same of all phases from one on
-abbrev pub walk_from : RuleSet → Posed → Phase → ℕ
-walk_from rule problem phase =
-    if is_set phase then phase_walk rule problem Set + phase_walk rule problem Play
-    else phase_walk rule problem Play
-
--- the same of all phases of a problem
-abbrev pub whole_walk : RuleSet → Posed → ℕ
-whole_walk rule problem = walk_from rule problem (first_phase problem)
 
 -- the fewest positions that have to be tried to show a phase of a battle: the first, and for each move of White and each first
 -- move those of a smallest tree that decides it, for any other move that is shown the position behind it
@@ -64,27 +44,6 @@ fewest_from rule problem phase =
 -- the same of all phases of a problem
 abbrev pub fewest_tried : RuleSet → Posed → ℕ
 fewest_tried rule problem = fewest_from rule problem (first_phase problem)
-
--- whether the limit of solutions ended a phase
-abbrev pub is_stop : BareEvent → Bool
-is_stop (opening phase) = false
-is_stop impossible = false
-is_stop (line phase path) = false
-is_stop (tree_node phase path) = false
-is_stop (total count stopped) = stopped
-
--- the limit of solutions ended none of these phases
-abbrev pub is_unstopped : List BareEvent → Bool
-is_unstopped left = list_all (λ bare. not (is_stop bare)) left
-
--- it ended no phase of the problem
-abbrev pub is_never_stopped : RuleSet → Posed → Bool
-is_never_stopped rule problem = is_unstopped (events rule problem)
-
--- problems whose walk makes no move twice: help play, and keys alone
-abbrev pub is_walked_once : Posed → Bool
-is_walked_once problem = is_help problem.stipulation.form
-    || (not problem.variation && not problem.set_play)
 
 -- what a contract sees of a search
 pub record Seen : Type 0 where

@@ -19,7 +19,8 @@ use Rattle.pop_battle.specs.Game.{Game}
 use Rattle.pop_battle.specs.ties.Counts.{smallest_tree}
 use Rattle.pop_battle.specs.ties.Values.{seeks, value}
 use Rattle.pop_battle.specs.Chess.{chess}
-use Rattle.pop_battle.specs.ties.Frames.{AreKnown, Frame, learned, moved, position, IsLinked, work_behind, to_open, left_at_top}
+pub use Rattle.pop_battle.specs.ties.Frames.{Frame}
+use Rattle.pop_battle.specs.ties.Frames.{AreKnown, learned, moved, position, IsLinked, work_behind, to_open, left_at_top}
 use Rattle.pop_battle.specs.ties.Passing.{AreSettled, Passes}
 use Rattle.pop_solve.specs.declared.plan.Plan.{Plan}
 use Rattle.pop_battle.specs.ties.Marks.{is_for_mate}

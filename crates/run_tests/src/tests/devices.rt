@@ -3,9 +3,7 @@ ghost use Rattle.std.specs.Prelude.{◌<◌};
 
 use crate::counted::Counted;
 use crate::report::settings;
-use pop_run::run::run;
-use pop_run::session::Session;
-use pop_run::status::{Status, StepOutcome};
+use pop_run::{Session, Status, Step, run};
 use pop_text::sink::SinkFault;
 use pop_text::source::Source;
 use pop_text::trial_sink::TrialSink;
@@ -238,9 +236,9 @@ fn calls_of_a_step(rt: HostRuntime) {
     let second = session.step(&mut source, &mut sink);
     let calls_of_both = source.calls;
     let third = session.step(&mut source, &mut sink);
-    assert!(rt; first == Ok(StepOutcome::Problem { sound: true }));
-    assert!(rt; second == Ok(StepOutcome::Problem { sound: true }));
-    assert!(rt; third == Ok(StepOutcome::Finished(Status::Sound)));
+    assert!(rt; first == Ok(Step::Problem { sound: true }));
+    assert!(rt; second == Ok(Step::Problem { sound: true }));
+    assert!(rt; third == Ok(Step::Finished(Status::Sound)));
     assert!(rt; (calls_of_first, calls_of_both, source.calls) == (71, 128, 128));
 }
 
@@ -250,7 +248,7 @@ fn calls_of_a_step_behind_a_fault(rt: HostRuntime) {
     let mut source = Counted::new(TrialSource::new(THREE, 1, None));
     let mut sink = TrialSink::<ROOM>::new(4096, None);
     let mut session = Session::new(&settings(false));
-    assert!(rt; session.step(&mut source, &mut sink) == Ok(StepOutcome::Problem { sound: false }));
+    assert!(rt; session.step(&mut source, &mut sink) == Ok(Step::Problem { sound: false }));
     assert_eq!(rt; source.calls, 103);
 }
 
@@ -260,10 +258,10 @@ fn steps_behind_the_last_item(rt: HostRuntime) {
     let mut source = Counted::new(TrialSource::new(PROBLEM, 1, None));
     let mut sink = Counted::new(TrialSink::<ROOM>::new(4096, None));
     let mut session = Session::new(&settings(false));
-    assert!(rt; session.step(&mut source, &mut sink) == Ok(StepOutcome::Problem { sound: true }));
+    assert!(rt; session.step(&mut source, &mut sink) == Ok(Step::Problem { sound: true }));
     let calls = (source.calls, sink.calls);
-    assert!(rt; session.step(&mut source, &mut sink) == Ok(StepOutcome::Finished(Status::Sound)));
-    assert!(rt; session.step(&mut source, &mut sink) == Ok(StepOutcome::Finished(Status::Sound)));
+    assert!(rt; session.step(&mut source, &mut sink) == Ok(Step::Finished(Status::Sound)));
+    assert!(rt; session.step(&mut source, &mut sink) == Ok(Step::Finished(Status::Sound)));
     assert!(rt; calls == (source.calls, sink.calls));
     assert!(rt; sink.device.text() == REPORT);
 }

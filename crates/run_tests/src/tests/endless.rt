@@ -1,7 +1,6 @@
 //! Inputs without end: 2^30 + 8,192 bytes, more than a run reads. The limit is 2^30 bytes.
 use crate::report::settings;
-use pop_run::run::run;
-use pop_run::status::Status;
+use pop_run::{Status, run};
 use pop_text::trial_sink::TrialSink;
 use pop_text::trial_source::TrialSource;
 

@@ -1,6 +1,6 @@
 //! Each row through `run`. Written from `tests/rows` by `tests/rows_agree --write`: make changes there.
 use crate::report::{Row, gives};
-use pop_run::status::Status;
+use pop_run::Status;
 
 // Inputs that end too soon, or begin with bytes of other encodings.
 const CUT: [Row; 12] = [

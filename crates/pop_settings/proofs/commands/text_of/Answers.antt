@@ -1,7 +1,7 @@
 use Rattle.pop_settings.proofs.Basics.{◌∙◌}
 use Rattle.clap.specs.Matches.{found_of}
 use Rattle.clap.proofs.WalkLemmas.{first_value-rows}
-use Rattle.pop_settings.proofs.pops_part.command_line.text_of.Goals as goal
+use Rattle.pop_settings.proofs.commands.text_of.Goals as goal
 
 pub returns : goal.returns
 returns c = c.get_str.ensures ∙ first_value-rows (found_of c.args.matches.now) c.args.name.now

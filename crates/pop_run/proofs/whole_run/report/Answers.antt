@@ -1,9 +1,9 @@
 use Rattle.pop_run.proofs.Basics.{ap, arith, failures_then, inl, refl, ◌+◌, ◌∙◌}
 use Rattle.pop_run.proofs.Running.{progress_start, progress_step, run_ends, run_cut, ended_most, cut_most, ended_reads, cut_reads, failed_once}
-use Rattle.pop_run.proofs.run.run.Goals as goal
+use Rattle.pop_run.proofs.whole_run.report.Goals as goal
 
 pub loop-sound-init : goal.loop-sound-init
-loop-sound-init g c = rw c.new-session.ensures (record { progress = progress_start _ _ _; seen = tt; read_failures = refl; write_failures = refl })
+loop-sound-init g c = rw c.with-session.ensures (record { progress = progress_start _ _ _; seen = tt; read_failures = refl; write_failures = refl })
 
 pub loop-sound-preserved : goal.loop-sound-preserved
 loop-sound-preserved g c =

@@ -1,0 +1,66 @@
+//! A whole run.
+ghost use Rattle.std.specs.Prelude.{◌<◌, ◌≤◌, ◌+◌, ◌^◌, IfSome, length};
+ghost use Rattle.pop_text.specs.Bytes.{greatest_count};
+ghost use Rattle.pop_run.specs.Report.{choice_of};
+ghost use Rattle.pop_run.specs.Run.{FailsOnce, ReadsUpTo, Runs, has_grown, input_met, taken_of};
+
+use crate::choice::Choice;
+use crate::session::Session;
+use crate::status::{Status, Step};
+use pop_text::sink::Sink;
+use pop_text::source::Source;
+use run_settings::Settings;
+
+/// Reads all items of the source, writes their report into the sink and returns the status.
+///
+/// It writes exactly the report of the input, which settings and input alone decide. If the sink fails, it has written a
+/// beginning of the report, writes nothing more and returns `OutputFailed`. It takes at most 2^30 + 4,096 bytes from the
+/// source, of which at most 4,096 come after the first EndProblem, and uses none of these. At most one source call and one
+/// sink call fail. `file` it leaves to its caller.
+pub fn run<S: Source, W: Sink>(settings: &Settings, source: &mut S, sink: &mut W) -> Status
+    requires source { S.failures source.old < greatest_count }
+    requires sink { W.failures sink.old < greatest_count }
+    ensures headline { IfSome (S.remaining source.old) (λ had.
+        Runs (choice_of settings.now)
+        (input_met (has_grown (S.failures source.old) (S.failures source.new))
+        had (S.remaining source.new))
+        (W.taken sink.old) (W.taken sink.new)
+        (has_grown (W.failures sink.old) (W.failures sink.new)) result) }
+    ensures reads { IfSome (S.remaining source.old) (λ had.
+        ReadsUpTo (input_met (has_grown (S.failures source.old) (S.failures source.new))
+        had (S.remaining source.new)) (taken_of had (S.remaining source.new))) }
+    ensures once { FailsOnce (S.failures source.old) (S.failures source.new)
+        × FailsOnce (W.failures sink.old) (W.failures sink.new) }
+    ensures taken { IfSome (S.remaining source.old)
+        (λ had. length (taken_of had (S.remaining source.new)) ≤ 2 ^ 30 + 4096) }
+{
+    report(Choice::of(settings), source, sink)
+}
+
+/// Does what `run` does, for callers that have the flags alone.
+pub fn report<S: Source, W: Sink>(choice: Choice, source: &mut S, sink: &mut W) -> Status
+    requires source { S.failures source.old < greatest_count }
+    requires sink { W.failures sink.old < greatest_count }
+    ensures headline { IfSome (S.remaining source.old) (λ had.
+        Runs choice
+        (input_met (has_grown (S.failures source.old) (S.failures source.new))
+        had (S.remaining source.new))
+        (W.taken sink.old) (W.taken sink.new)
+        (has_grown (W.failures sink.old) (W.failures sink.new)) result) }
+    ensures reads { IfSome (S.remaining source.old) (λ had.
+        ReadsUpTo (input_met (has_grown (S.failures source.old) (S.failures source.new))
+        had (S.remaining source.new)) (taken_of had (S.remaining source.new))) }
+    ensures once { FailsOnce (S.failures source.old) (S.failures source.new)
+        × FailsOnce (W.failures sink.old) (W.failures sink.new) }
+    ensures taken { IfSome (S.remaining source.old)
+        (λ had. length (taken_of had (S.remaining source.new)) ≤ 2 ^ 30 + 4096) }
+{
+    let mut session = Session::with(choice);
+    loop {
+        match session.step(source, sink) {
+            Ok(Step::Problem { sound: _sound }) => {}
+            Ok(Step::Finished(status)) => return status,
+            Err(_) => return Status::OutputFailed,
+        }
+    }
+}
