@@ -24,7 +24,7 @@ const WORDS = {
     lostProblem: 'Problem {number} was left out: {reason}', importEnds: 'the text ends too early', importEnd: 'the end',
     importMissing: 'a word is missing before {word}', importMan: 'pops knows no man {word}', importTwice: '{square} is given twice',
     importForsyth: 'the board in Forsyth notation hasn’t eight ranks of eight squares', importCondition: 'pops knows no condition {word}',
-    importOption: 'the option {word} isn’t read', importTwin: 'the twin {word} isn’t read', importSquare: 'a square is missing',
+    importOption: 'the option {word} isn’t read here (pops-import reads more)', importTwin: 'the twin {word} isn’t read', importSquare: 'a square is missing',
     importNoMan: 'no man is on {square}', importWord: '{word} isn’t read', importYaml: 'a line of YAML isn’t read: {line}',
     goTo: 'go to', twins: 'twins', twin: 'diagram',
     title: 'Title', author: 'Author', origin: 'Source',

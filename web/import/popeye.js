@@ -13,7 +13,16 @@ const popeye = (() => {
     a1h1: ([file, rank]) => [7 - file, rank], a1a8: ([file, rank]) => [file, 7 - rank], a1h8: ([file, rank]) => [7 - rank, 7 - file],
     a8h1: ([file, rank]) => [rank, file],
   };
-  const englishOf = (word, names) => reading.named(word, names) ?? names.find(name => name === vocabulary.foreign(word)?.english);
+  const COLOURS = { English: ['White', 'Black'], German: ['Weiss', 'Schwarz'], French: ['Blancs', 'Noirs'] };
+  const englishOf = (word, names) => reading.named(characters.withoutAccents(word), names)
+    ?? names.find(name => name === vocabulary.foreign(word)?.english);
+
+  /** The change of a twin that a word means; undefined if it means none. */
+  function changeOf(word, language) {
+    const table = Object.entries(EXPLANATIONS.twinnings[language] ?? {});
+    const found = table.find(([name]) => name.toLowerCase() === vocabulary.folded(word));
+    return found?.[1] ?? reading.named(word, CHANGES);
+  }
 
   /** The words of an input, one by one; that of a text line takes the rest of its line. */
   class Words {
@@ -54,8 +63,8 @@ const popeye = (() => {
   }
 
   function colourOf(word, language) {
-    const name = language === 'English' ? reading.named(word, reading.COLOURS, 1) : vocabulary.foreign(word)?.english;
-    return { White: 'w', Black: 'b' }[name] ?? null;
+    const place = COLOURS[language].findIndex(name => name.toLowerCase().startsWith(vocabulary.folded(word)));
+    return place < 0 ? null : 'wb'[place];
   }
 
   /** Takes men with their colours up to another word. */
@@ -66,7 +75,7 @@ const popeye = (() => {
       const next = colourOf(word, words.language);
       const squares = reading.squaresIn(word.slice(1));
       const kind = vocabulary.kindIn(ALPHABETS[words.language], word[0]);
-      if (!next && isChange(word) && !squares.length) break;
+      if (!next && changeOf(word, words.language) && !squares.length) break;
       if (next) colour = next;
       else if (!colour || !kind || !squares.length) throw new Unposed(say('importMan', { word }));
       else men.push(...squares.map(square => [square, colour + kind]));
@@ -74,8 +83,6 @@ const popeye = (() => {
     }
     return men;
   }
-
-  const isChange = word => Boolean(reading.named(word, CHANGES));
 
   function withMenOf(men, added) {
     const placed = new Map(men);
@@ -112,7 +119,7 @@ const popeye = (() => {
 
   function takeConditions(words) {
     const given = [];
-    while (words.peek() !== null && !words.command() && !isChange(words.peek())) given.push(words.take());
+    while (words.peek() !== null && !words.command() && !changeOf(words.peek(), words.language)) given.push(words.take());
     const names = given.map(word => reading.named(word, CONDITIONS));
     if (names.some(name => !name)) throw new Unposed(say('importCondition', { word: given.join(' ') }));
     return names;
@@ -143,9 +150,10 @@ const popeye = (() => {
 
   function takeTwin(words, draft) {
     const twin = { label: '', isContinued: false, changes: [] };
-    while (words.peek() !== null && isChange(words.peek())) {
-      const name = reading.named(words.take(), CHANGES);
+    while (words.peek() !== null && changeOf(words.peek(), words.language)) {
+      const name = changeOf(words.take(), words.language);
       if (name === 'Continued') twin.isContinued = true;
+      else if (!MAKERS[name]) throw new Unposed(say('importTwin', { word: name }));
       else twin.changes.push(MAKERS[name](words, draft));
     }
     if (!twin.changes.length) throw new Unposed(say('importTwin', { word: words.peek() ?? '' }));
@@ -222,7 +230,7 @@ const popeye = (() => {
   function mirroring(words) {
     const axis = words.value();
     const corners = axis.replace(/[^a-h1-8]/g, '');
-    const place = MIRRORS[corners];
+    const place = MIRRORS[corners] ?? MIRRORS[corners.slice(2) + corners.slice(0, 2)];
     if (!place) throw new Unposed(say('importTwin', { word: `Mirror ${axis}` }));
     return ofMen(`Mirror ${corners.slice(0, 2)}<-->${corners.slice(2)}`, men => movedAll(men, place));
   }
@@ -262,7 +270,7 @@ const popeye = (() => {
     Twin: takeTwin,
     ZeroPosition: (words, draft) => {
       draft.isZero = true;
-      if (words.peek() !== null && isChange(words.peek())) takeTwin(words, draft);
+      if (words.peek() !== null && changeOf(words.peek(), words.language)) takeTwin(words, draft);
     },
   };
 
@@ -275,9 +283,10 @@ const popeye = (() => {
       if (!name) throw new Unposed(say('importWord', { word: words.peek() }));
       words.take();
       if (TEXTS.includes(name)) draft.texts.push([name === 'Award' ? 'Remark' : name, words.restOfLine()]);
-      else if (READERS[name]) READERS[name](words, draft);
+      else if (READERS[name] && (name === 'Twin' || !draft.twins.length)) READERS[name](words, draft);
       else throw new Unposed(say('importWord', { word: name }));
     }
+    if (draft.isZero && !draft.twins.length) throw new Unposed(say('importTwin', { word: 'ZeroPosition' }));
     return draft;
   }
 

@@ -9,7 +9,7 @@ const yaml = (() => {
 
   /** The lines of a document that say something: { indent, text }. */
   function linesOf(document) {
-    return document.split('\n').map(line => ({ indent: line.length - line.trimStart().length, text: withoutComment(line).trim(), raw: line }));
+    return document.split('\n').filter(line => !line.startsWith('%')).map(line => ({ indent: line.length - line.trimStart().length, text: withoutComment(line).trim(), raw: line }));
   }
 
   function scalar(text) {
@@ -19,10 +19,32 @@ const yaml = (() => {
     return text;
   }
 
-  /** The items of `[a, b]`; commas inside quotation marks separate nothing. */
+  /** The value of `[a, b]` or `{a: b}`, in which others may stand. */
   function flow(text) {
-    const items = text.slice(1, -1).match(/"(?:[^"\\]|\\.)*"|'(?:[^']|'')*'|[^,]+/g) ?? [];
-    return items.map(it => it.trim()).filter(Boolean).map(scalar);
+    const parts = text.match(/"(?:[^"\\]|\\.)*"|'(?:[^']|'')*'|[[\]{},]|:(?=\s|$)|(?:[^[\]{},:]|:(?!\s|$))+/g).map(it => it.trim()).filter(Boolean);
+    const value = flowValue(parts);
+    if (parts.length) throw new Unposed(say('importYaml', { line: text }));
+    return value;
+  }
+
+  function flowValue(parts) {
+    const first = parts.shift();
+    if (first === undefined) throw new Unposed(say('importEnds'));
+    if (first !== '[' && first !== '{') return scalar(first);
+    const isList = first === '[';
+    const found = isList ? [] : {};
+    while (parts[0] !== (isList ? ']' : '}')) {
+      if (isList) found.push(flowValue(parts));
+      else {
+        const key = scalar(parts.shift() ?? '');
+        if (parts.shift() !== ':') throw new Unposed(say('importYaml', { line: key }));
+        found[key.toLowerCase()] = flowValue(parts);
+      }
+      if (parts[0] === ',') parts.shift();
+      if (!parts.length) throw new Unposed(say('importEnds'));
+    }
+    parts.shift();
+    return found;
   }
 
   class Reader {
@@ -38,8 +60,7 @@ const yaml = (() => {
     /** The value after a key: on its line, or in the lines below that are indented more. */
     value(text, indent) {
       if (/^[|>]/.test(text)) return this.block(indent);
-      if (/^\[/.test(text)) return flow(this.toEnd(text, ']'));
-      if (/^\{/.test(text)) throw new Unposed(say('importYaml', { line: text }));
+      if (/^[[{]/.test(text)) return flow(this.toEnd(text, text[0] === '[' ? ']' : '}'));
       if (text) return scalar(text);
       const next = this.line;
       if (!next || next.indent < indent || (next.indent === indent && !next.text.startsWith('-'))) return '';
@@ -126,7 +147,7 @@ const yaml = (() => {
   /** The problems of a collection as drafts to be read; null if it is none. */
   function readersOf(text) {
     if (!/^\s*algebraic\s*:/m.test(text)) return null;
-    const documents = text.replaceAll('\r\n', '\n').split(/^---.*$|^\.\.\.\s*$/m).filter(document => document.trim());
+    const documents = text.replaceAll('\r\n', '\n').split(/^---.*$|^\.\.\.\s*$/m).filter(document => document.replace(/^%.*$/gm, '').trim());
     return documents.map(document => () => draftOf(document));
   }
 
