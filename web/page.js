@@ -185,12 +185,14 @@ function takeFen(text) {
   return true;
 }
 
-// Takes a whole text, or a position in FEN.
+// Takes a whole text, one of another program, or a position in FEN.
 function takeText(text) {
   if (takeFen(text)) return;
+  const made = text.length < LONG_TEXT ? imported(text) : null;
   state.number = 1;
-  setText(text);
+  setText(made?.text ?? text);
   element('text').setSelectionRange(0, 0);
+  if (made) note([say(made.text ? 'imported' : 'importedNone'), ...made.lost].join(' '));
 }
 
 async function takeFile(file) {
@@ -200,8 +202,10 @@ async function takeFile(file) {
     return;
   }
   const { text, isUtf8 } = textOfBytes(new Uint8Array(await file.arrayBuffer()));
+  note('');
   takeText(text);
-  note(say(isUtf8 ? 'fileTaken' : 'fileLatin', { name: file.name }));
+  const said = element('note').textContent;
+  note([say(isUtf8 ? 'fileTaken' : 'fileLatin', { name: file.name }), said].filter(Boolean).join('. '));
 }
 
 function pasted(event) {
@@ -210,7 +214,7 @@ function pasted(event) {
   const isText = event.target === element('text');
   if (isField || !text) return;
   if (readFen(text)) takeFen(text);
-  else if (!isText && blocksOf(text).length) takeText(text);
+  else if ((!isText && blocksOf(text).length) || (text.length < LONG_TEXT && imported(text)?.text)) takeText(text);
   else return;
   event.preventDefault();
 }
