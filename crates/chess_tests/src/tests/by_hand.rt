@@ -195,7 +195,7 @@ const MATES: [(Rule, &str, &str); 11] = [
 ];
 
 // The rules, a position of Black's, his legal move, and whether it is told that no mate follows.
-const HARMLESS: [(Rule, &str, &str, bool); 15] = [
+const HARMLESS: [(Rule, &str, &str, bool); 17] = [
     // A rook takes one file or one rank, and the king has more.
     (Rule::Orthodox, "8/8/8/3k4/8/8/8/K6R b", "d5e5", true),
     (Rule::Circe, "8/8/8/3k4/8/8/8/K6R b", "d5e5", true),
@@ -212,10 +212,13 @@ const HARMLESS: [(Rule, &str, &str, bool); 15] = [
         "e8c8",
         false,
     ),
-    // A pawn before its last rank may become anybody.
-    (Rule::Orthodox, "8/P7/8/4k3/8/8/8/K7 b", "e5e4", false),
-    // Two steps are looked for from any square, so this pawn counts as one that may be promoted.
-    (Rule::Orthodox, "8/8/P7/4k3/8/8/8/K7 b", "e5e4", false),
+    // The pawn becomes a queen with check, who leaves flights.
+    (Rule::Orthodox, "8/P7/8/4k3/8/8/8/K7 b", "e5e4", true),
+    (Rule::Orthodox, "8/8/P7/4k3/8/8/8/K7 b", "e5e4", true),
+    // The pawn opens its own line: the queen or rook that it becomes mates along the file.
+    (Rule::Orthodox, "2R5/p2P4/8/8/8/8/5K2/3k4 b", "a7a6", false),
+    // It mates as a knight alone.
+    (Rule::Orthodox, "6br/p4P1k/7p/8/8/8/8/B1K5 b", "a7a6", false),
     // A grasshopper comes next to the king on few squares.
     (Rule::Orthodox, "8/8/8/4k3/8/8/8/K6G b", "e5e4", true),
     // The king takes the last man; a man takes the rook, and may be taken himself. Of captures in Circe nothing is told.
