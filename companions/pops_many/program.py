@@ -21,12 +21,11 @@ PAUSE = 20
 _PIECE = 1 << 16
 
 LOOKED_FOR = (
-    "the built program (default: $POPS, the one built in this repository, the one installed with"
-    " the companions (../../../bin/pops from their folder), the one on the PATH); nothing is built"
+    "the program (default: $POPS, the one built in this repository or released with its sources,"
+    " the one installed with the companions (../../../bin/pops from their folder), the one on the"
+    " PATH); nothing is built"
 )
 _COMPANIONS = Path(__file__).resolve().parent.parent
-_BUILT = Path("crates", "pops", "out", "pops")
-_PARTS_BUILT = Path("crates", "pops_part", "out", "pops_part")
 
 
 class MissingError(Exception):
@@ -46,10 +45,10 @@ def find(named: Optional[str]) -> str:
             raise MissingError(f"there is no program {named}")
         return _without_script(found)
     repository = _COMPANIONS.parent
-    places = [repository / _BUILT]
+    places = ["pops"]
     if _COMPANIONS.parts[-3:] == ("share", "pops", "companions"):
-        places.append(_COMPANIONS.parents[2] / "bin" / "pops")
-    for found in [shutil.which(str(place)) for place in places] + [shutil.which("pops")]:
+        places.insert(0, str(_COMPANIONS.parents[2] / "bin" / "pops"))
+    for found in [_of_sources(repository, "pops"), *map(shutil.which, places)]:
         if found is not None:
             return _without_script(found)
     if _is_repository(repository):
@@ -58,23 +57,26 @@ def find(named: Optional[str]) -> str:
 
 
 def find_part_program(named: Optional[str], pops: str) -> str:
-    """The program of parts: as named, $POPS_PART, beside pops, built with it, or on the PATH."""
+    """The program of parts: as named, $POPS_PART, from the repository of pops or beside it, from
+    this repository, or on the PATH."""
     named = named or os.environ.get("POPS_PART")
     if named:
         found = shutil.which(named)
         if found is None:
             raise MissingError(f"there is no program {named}")
-        return _without_script(found, _PARTS_BUILT)
+        return _without_script(found, "pops-part")
     folder = Path(pops).resolve().parent
-    repository = _COMPANIONS.parent
-    repositories = [*list(folder.parents)[2:3], repository]
-    built = [str(place / _PARTS_BUILT) for place in repositories]
-    for place in (str(folder / "pops-part"), *built, "pops-part"):
-        found = shutil.which(place)
+    # (built in crates/pops/out, or released in release)
+    above = list(folder.parents)
+    repositories = [it for it in above[2:3] + above[:1] if _is_repository(it)]
+    beside = [] if repositories else [shutil.which(str(folder / "pops-part"))]
+    repositories.append(_COMPANIONS.parent)
+    of_sources = [_of_sources(it, "pops-part") for it in repositories]
+    for found in (*beside, *of_sources, shutil.which("pops-part")):
         if found is not None:
-            return _without_script(found, _PARTS_BUILT)
-    if _is_repository(repository):
-        raise _unbuilt(repository, _PARTS_BUILT)
+            return _without_script(found, "pops-part")
+    if _is_repository(_COMPANIONS.parent):
+        raise _unbuilt(_COMPANIONS.parent, "pops-part")
     raise MissingError("there is no program pops-part, for --split: name it with --pops-part")
 
 
@@ -82,24 +84,33 @@ def _is_repository(folder: Path) -> bool:
     return (folder / "crates" / "pops").is_dir()
 
 
-def _without_script(found: str, program: Path = _BUILT) -> str:
-    """What was found; for a repository's script, which would build the program, the built one."""
+def _of_sources(repository: Path, name: str) -> Optional[str]:
+    """The program of a repository's sources, built or released, if there is one."""
+    script = repository / "find-program"
+    if not _is_repository(repository) or not script.is_file():
+        return None
+    found = subprocess.run([str(script), name], stdin=subprocess.DEVNULL, stdout=subprocess.PIPE)
+    return os.fsdecode(found.stdout).rstrip("\n") or None
+
+
+def _without_script(found: str, name: str = "pops") -> str:
+    """What was found; for a repository's script, which may build, the program of its sources."""
     folder = Path(found).resolve().parent
     if not _is_repository(folder):
         return found
-    built = shutil.which(str(folder / program))
-    if built is None:
-        raise _unbuilt(folder, program)
-    return built
+    program = _of_sources(folder, name)
+    if program is None:
+        raise _unbuilt(folder, name)
+    return program
 
 
-def _unbuilt(repository: Path, program: Path = _BUILT) -> MissingError:
-    script = program.name.replace("_", "-")
-    words = [str(repository / script), str(repository / "examples" / "mate_in_one.pop")]
-    if program != _BUILT:
+def _unbuilt(repository: Path, name: str = "pops") -> MissingError:
+    words = [str(repository / name), str(repository / "examples" / "mate_in_one.pop")]
+    if name != "pops":
         words.insert(1, "--list")
     return MissingError(
-        f"{script} isn't built: build it by {' '.join(words)}, or name a built one with --{script}"
+        f"there is no {name} of these sources: build it by {' '.join(words)},"
+        f" or name one with --{name}"
     )
 
 

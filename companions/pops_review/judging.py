@@ -148,9 +148,11 @@ def _judge_unfinished(
     if is_short and asked:
         judgement.short_solutions = len(asked)
         judgement.find(Weight.FLAW, f"at least {counted(len(asked), 'short solution')}", asked)
+    if found > wanted:
+        judgement.find(Weight.OPEN, f"unfinished: {item.unfinished}")
+        return
     so_far = f"at least {counted(found, word)}, {wanted} wanted" if found else f"no {word} so far"
-    shown = () if found > wanted else lines
-    judgement.find(Weight.OPEN, f"unfinished: {so_far} ({item.unfinished})", shown)
+    judgement.find(Weight.OPEN, f"unfinished: {so_far} ({item.unfinished})", lines)
 
 
 def missing(number: int) -> Judgement:

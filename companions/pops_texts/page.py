@@ -10,8 +10,9 @@ from pops_texts.given import GivenProblem
 from pops_texts.report import (
     AnyItem,
     FaultyItem,
-    HeadlessItem,
+    Node,
     Phase,
+    PhaseKind,
     SoundItem,
     named_items,
 )
@@ -153,6 +154,18 @@ def _twin(group: Group, twin: Twin) -> str:
     )
 
 
+def _in_words(phase: Phase) -> str:
+    """What the total of the play means to a composer: no solution, or several keys."""
+    if phase.kind is not PhaseKind.PLAY or phase.total is None or phase.total.stopped:
+        return ""
+    if phase.total.count == 0:
+        return " <span>(no solution)</span>"
+    is_of_keys = any(isinstance(solution, Node) for solution in phase.solutions)
+    return (
+        f" <span>({phase.total.count} keys)</span>" if is_of_keys and phase.total.count > 1 else ""
+    )
+
+
 def _solutions(item: AnyItem) -> str:
     if isinstance(item, FaultyItem):
         fault = item.fault
@@ -189,5 +202,5 @@ def _phase(phase: Phase) -> str:
     many = ' class="many"' if len(phase.lines) > _LINES_OF_A_COLUMN else ""
     solutions = f"<pre{many}>{lines}</pre>\n" if phase.lines else ""
     is_done = phase.total is not None or not phase.is_possible
-    total = f'<p class="total">{_safe(phase.last_line)}</p>\n' if is_done else ""
+    total = f'<p class="total">{_safe(phase.last_line)}{_in_words(phase)}</p>\n' if is_done else ""
     return f'<section class="phase">\n<h3>{phase.kind.value}</h3>\n{solutions}{total}</section>\n'

@@ -1,4 +1,4 @@
-"""What `companions/try-browser` does with the page that `./page` builds: a problem entered by mouse, solved, folded, walked
+"""What `companions/try-browser` does with the page that solves: a problem entered by mouse, solved, folded, walked
 through, stopped, printed; texts pasted and dropped, hostile ones too; nothing asked of any server."""
 
 import json

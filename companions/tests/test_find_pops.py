@@ -1,5 +1,6 @@
 """Where the companions look for pops and pops-part; none of them builds them."""
 
+import hashlib
 import os
 import shutil
 import subprocess
@@ -21,6 +22,10 @@ except MissingError as error:
 """
 
 
+# What a repository's script needs.
+TOOLS = "bash cut dirname find grep readlink sed sh sha256sum sort uname xargs".split()
+
+
 class Room(unittest.TestCase):
     """A room with repositories, folders of companions, and a program pops on the PATH."""
 
@@ -30,6 +35,10 @@ class Room(unittest.TestCase):
         self.room = Path(room.name).resolve()
         self.built = self.room / "built"
         self.elsewhere = self.program(self.room / "path" / "pops")
+        self.tools = self.room / "tools"
+        self.tools.mkdir()
+        for name in TOOLS:
+            (self.tools / name).symlink_to(str(shutil.which(name)))
 
     def program(self, path: Path) -> Path:
         """A program that notes that it was run, as no test expects."""
@@ -48,11 +57,34 @@ class Room(unittest.TestCase):
         return folder
 
     def repository(self) -> Path:
+        """A repository without programs; its own script says which are of its sources."""
         root = self.room / "repository"
         self.companions(root / "companions")
         (root / "crates" / "pops").mkdir(parents=True)
+        (root / "crates.txt").write_text("pops:\npops_part:\n")
+        (root / "HANDLES").write_text("Handles allowed: none.\n")
+        for name in ("pops", "pops_part"):
+            source = root / "crates" / name / "src" / "main.rt"
+            source.parent.mkdir(parents=True)
+            source.write_text("fn main() {}\n")
+        shutil.copy(support.REPOSITORY / "find-program", root)
         self.program(root / "pops")
         return root
+
+    def released(self, root: Path) -> Path:
+        """Makes a release of the sources as they stand. The released pops."""
+        (root / "release").mkdir()
+        for name in ("pops", "pops-part"):
+            (root / "release" / name).write_text("#!/bin/sh\necho a report\n")
+            (root / "release" / name).chmod(0o755)
+        words = [str(root / "find-program"), "--sources"]
+        sources = subprocess.run(words, capture_output=True, check=True).stdout.decode()
+        sums = [
+            f"{hashlib.sha256((root / 'release' / name).read_bytes()).hexdigest()}  {name}\n"
+            for name in ("pops", "pops-part")
+        ]
+        (root / "release" / "BUILT").write_text(f"# sources {sources}{''.join(sums)}")
+        return root / "release" / "pops"
 
     def found(
         self,
@@ -70,7 +102,8 @@ class Room(unittest.TestCase):
         more: Optional[Dict[str, str]] = None,
         path: Optional[Path] = None,
     ) -> str:
-        environment = {"PATH": str(path or self.elsewhere.parent), **(more or {})}
+        path = path or self.elsewhere.parent
+        environment = {"PATH": f"{path}:{self.tools}", **(more or {})}
         done = subprocess.run(
             [sys.executable, "-B", "-c", FINDS.format(call=call)],
             cwd=companions,
@@ -85,8 +118,8 @@ class Room(unittest.TestCase):
 class Places(Room):
     def unbuilt(self, root: Path) -> str:
         return (
-            f"missing: pops isn't built: build it by {root}/pops {root}/examples/mate_in_one.pop,"
-            " or name a built one with --pops"
+            f"missing: there is no pops of these sources: build it by {root}/pops"
+            f" {root}/examples/mate_in_one.pop, or name one with --pops"
         )
 
     def test_the_named_one_comes_first(self) -> None:
@@ -108,6 +141,21 @@ class Places(Room):
         self.assertEqual(self.found(root / "companions", path=nowhere), self.unbuilt(root))
         built = self.program(root / "crates" / "pops" / "out" / "pops")
         self.assertEqual(self.found(root / "companions"), str(built))
+
+    def test_the_released_one_of_a_repository(self) -> None:
+        root = self.repository()
+        released = self.released(root)
+        self.assertEqual(self.found(root / "companions"), str(released))
+        away = self.companions(self.room / "away")
+        self.assertEqual(self.found(away, str(root / "pops")), str(released))
+        built = self.program(root / "crates" / "pops" / "out" / "pops")
+        self.assertEqual(self.found(root / "companions"), str(built))
+        with (root / "crates" / "pops" / "src" / "main.rt").open("a") as source:
+            source.write("// changed\n")
+        os.utime(built, (1, 1))
+        self.assertEqual(self.found(root / "companions"), str(self.elsewhere))
+        nowhere = self.room / "nowhere"
+        self.assertEqual(self.found(root / "companions", path=nowhere), self.unbuilt(root))
 
     def test_a_repositorys_script_is_never_run(self) -> None:
         root = self.repository()
@@ -150,14 +198,17 @@ class PartPrograms(Room):
         companions = root / "companions"
         script = f"{root}/pops-part --list {root}/examples/mate_in_one.pop"
         unbuilt = (
-            f"missing: pops-part isn't built: build it by {script},"
-            " or name a built one with --pops-part"
+            f"missing: there is no pops-part of these sources: build it by {script},"
+            " or name one with --pops-part"
         )
         self.assertEqual(self.found_part(companions, self.elsewhere), unbuilt)
         own = self.program(root / "crates" / "pops_part" / "out" / "pops_part")
         self.assertEqual(self.found_part(companions, self.elsewhere), str(own))
         self.assertEqual(self.found_part(companions, Path("/pops")), str(own))
         crates = self.room / "other" / "crates"
+        crates.mkdir(parents=True)
+        (crates.parent / "crates.txt").write_text("pops:\npops_part:\n")
+        shutil.copy(support.REPOSITORY / "find-program", crates.parent)
         other = self.program(crates / "pops_part" / "out" / "pops_part")
         pops = self.program(crates / "pops" / "out" / "pops")
         self.assertEqual(self.found_part(companions, pops), str(other))
@@ -167,6 +218,14 @@ class PartPrograms(Room):
         self.assertEqual(self.found_part(companions, self.elsewhere, str(named)), str(named))
         scripts = self.program(root / "pops-part")
         self.assertEqual(self.found_part(companions, pops, str(scripts)), str(own))
+
+    def test_the_released_one_beside_the_released_pops(self) -> None:
+        root = self.repository()
+        released = self.released(root)
+        away = self.companions(self.room / "away")
+        beside = str(released.with_name("pops-part"))
+        self.assertEqual(self.found_part(away, released), beside)
+        self.assertEqual(self.found_part(root / "companions", self.elsewhere), beside)
 
     def test_no_part_program(self) -> None:
         away = self.companions(self.room / "away")

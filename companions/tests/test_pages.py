@@ -201,6 +201,23 @@ class Words(unittest.TestCase):
         self.assertIn("The report shows no board.", article.words)
 
 
+class Totals(unittest.TestCase):
+    def test_what_they_mean(self) -> None:
+        for play, total, wanted in (
+            ("", "solutions: 0", "(no solution)"),
+            ("1.Ra1-a8#\n1.Rb1-b8#\n", "solutions: 2", "(2 keys)"),
+            ("1.Ra1-a8#\n", "solutions: 1", None),
+            ("1.Ra1-a8#\n", "solutions: 1, stopped", None),
+        ):
+            with self.subTest(total):
+                report = f"problem 1\n#1\nplay\n{play}{total}\n\n".encode()
+                (article,) = page_of(report).articles
+                meant = [word for word in article.words if word.startswith("(")]
+                self.assertEqual(meant, [wanted] if wanted else [])
+        help_lines = b"problem 1\nh#0.5\nplay\n1...Ra1-a8#\n1...Rb1-b8#\nsolutions: 2\n\n"
+        self.assertNotIn("(2 keys)", page_of(help_lines).articles[0].words)
+
+
 class Unfinished(unittest.TestCase):
     def test_stopped_problems_are_marked(self) -> None:
         report = CHECKED + b"problem 2\nh#1\nplay\n1.Kh8-g8 Ra1-a8#\n"
