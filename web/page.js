@@ -192,7 +192,7 @@ function takeText(text) {
   state.number = 1;
   setText(made?.text ?? text);
   element('text').setSelectionRange(0, 0);
-  if (made) note([say(made.text ? 'imported' : 'importedNone'), ...made.lost].join(' '));
+  if (made) note([say(made.text ? 'imported' : 'importedNone'), ...made.lost].join('. '));
 }
 
 async function takeFile(file) {

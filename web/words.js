@@ -20,7 +20,7 @@ const WORDS = {
     fenTaken: 'the position of the FEN was set', fenBlack: '; in it Black is to move: see who starts in the stipulation',
     playing: 'play moves', fromHere: 'Solve from here', makeProblem: 'Make it the problem', line: 'the position shown', promotion: 'what the pawn becomes',
     over: 'the play is over here: nothing is left to solve',
-    imported: 'the text became problems of pops.', importedNone: 'no problem of this text can be posed.',
+    imported: 'the text became problems of pops', importedNone: 'no problem of this text can be posed',
     lostProblem: 'Problem {number} was left out: {reason}', importEnds: 'the text ends too early', importEnd: 'the end',
     importMissing: 'a word is missing before {word}', importMan: 'pops knows no man {word}', importTwice: '{square} is given twice',
     importForsyth: 'the board in Forsyth notation hasn’t eight ranks of eight squares', importCondition: 'pops knows no condition {word}',

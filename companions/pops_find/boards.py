@@ -1,6 +1,6 @@
 """Positions as strings of 64 letters, how they are moved over the board, and how they differ.
 
-The letters are those of a printed board without line ends: rank 8 first, a point for an empty
+The letters come from a printed board without line ends: rank 8 first, a point for an empty
 square. The square of a letter is its place in the string, 0 for a8 to 63 for h1.
 """
 
@@ -67,7 +67,7 @@ def _keys() -> Dict[Tuple[int, str], int]:
 
 
 def hashes(board: str) -> List[int]:
-    """The hash of a position, then those of the position without each of its men."""
+    """The hash of a position, then one hash for each man: of the position without it."""
     keys = _keys()
     own = [keys[place, letter] for place, letter in enumerate(board) if letter != EMPTY]
     whole = 0

@@ -1,7 +1,7 @@
 """A collection in an SQLite file: problems are added, and found by words, men and positions.
 
-A position one man apart is found by hashes: the file has those of each position and of the position
-without each of its men, and a search asks for those of all variants of the position in question.
+A position one man apart is found by hashes: the file has a hash of each position, and of the position
+without each of its men; a search looks up the hashes of all variants of a position.
 """
 
 import sqlite3
@@ -88,7 +88,7 @@ class Collection:
         return int(self._data.execute("SELECT count(*) FROM problems").fetchone()[0])
 
     def add(self, source: str, entries: Iterable[Entry]) -> int:
-        """Adds the problems of a source in place of those that it had; returns their number."""
+        """Adds the problems of a source, whose older ones go; returns their number."""
         try:
             with self._data:
                 self._remove(source)

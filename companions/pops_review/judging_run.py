@@ -29,7 +29,7 @@ TRIES_LOOKED_FOR = (
 
 @dataclass(frozen=True)
 class Runs:
-    """How problems are solved: by this program, with so many processes, for so many seconds each.
+    """How problems are solved: by which program, in how many processes, for how many seconds each.
 
     `tries` is the program pops-tries, if there is one.
     """

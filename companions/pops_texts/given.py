@@ -70,10 +70,10 @@ class GivenProblem:
     @property
     def stipulation(self) -> Optional[Stipulation]:
         """Its stipulation; None where pops would find a fault in it."""
-        for word, behind in zip(self.words, self.words[1:]):
+        for word, following in zip(self.words, self.words[1:]):
             if is_form_of(word, "stipulation"):
                 try:
-                    return Stipulation.of_text(behind.decode("latin-1").lower())
+                    return Stipulation.of_text(following.decode("latin-1").lower())
                 except ValueError:
                     return None
         return None

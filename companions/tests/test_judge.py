@@ -72,7 +72,7 @@ class Judging(unittest.TestCase):
             f"text=$(cat)\ncase $text in *'A mate'*) printf '{head}'; exec sleep 60 ;; esac\n"
             f"printf '%s' \"$text\" | '{support.pops()}' \"$@\"\n",
         )
-        outcome = self.judged("--seconds", "0.5", pops=slow)
+        outcome = self.judged("--seconds", "3", pops=slow)
         self.assertEqual(outcome.status, 1)
         self.assertIn("some problems took longer: --resume", outcome.error)
         lines = outcome.output.decode().splitlines()

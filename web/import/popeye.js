@@ -117,9 +117,13 @@ const popeye = (() => {
     return word;
   }
 
-  function takeConditions(words) {
+  function takeConditionWords(words) {
     const given = [];
     while (words.peek() !== null && !words.command() && !changeOf(words.peek(), words.language)) given.push(words.take());
+    return given;
+  }
+
+  function conditionsOf(given) {
     const names = given.map(word => reading.named(word, CONDITIONS));
     if (names.some(name => !name)) throw new Unposed(say('importCondition', { word: given.join(' ') }));
     return names;
@@ -256,8 +260,8 @@ const popeye = (() => {
       return { text: `Stipulation ${stipulation}`, make: setting => ({ ...setting, stipulation }) };
     },
     Condition: words => {
-      const conditions = takeConditions(words);
-      return { text: ['Condition', ...conditions].join(' '), make: setting => ({ ...setting, conditions }) };
+      const given = takeConditionWords(words);
+      return { text: ['Condition', ...given].join(' '), make: setting => ({ ...setting, conditions: conditionsOf(given) }) };
     },
   };
 
@@ -265,7 +269,7 @@ const popeye = (() => {
     Pieces: (words, draft) => { draft.setting.men = withMenOf(draft.setting.men, takeMen(words)); },
     Forsyth: (words, draft) => { draft.setting.men = new Map(takeForsyth(words)); },
     Stipulation: (words, draft) => { draft.setting.stipulation = takeStipulation(words, draft); },
-    Condition: (words, draft) => { draft.setting.conditions.push(...takeConditions(words)); },
+    Condition: (words, draft) => { draft.setting.conditions.push(...conditionsOf(takeConditionWords(words))); },
     Option: takeOptions,
     Twin: takeTwin,
     ZeroPosition: (words, draft) => {

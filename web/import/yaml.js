@@ -100,7 +100,9 @@ const yaml = (() => {
         const key = KEY.exec(next.text);
         if (!key) throw new Unposed(say('importYaml', { line: next.text }));
         this.at++;
-        found[scalar(key[1]).toLowerCase()] = this.value(key[2] ?? '', indent);
+        const name = scalar(key[1]).toLowerCase();
+        if (name in found) throw new Unposed(say('importYaml', { line: next.text }));
+        found[name] = this.value(key[2] ?? '', indent);
       }
       return found;
     }
@@ -120,7 +122,8 @@ const yaml = (() => {
   function draftOf(document) {
     const found = objectOf(document);
     const sides = ['white', 'black'].map(side => [side, textsOf(found.algebraic?.[side])]).filter(([, men]) => men.length);
-    if (textsOf(found.algebraic?.neutral).length) throw new Unposed(say('importMan', { word: 'neutral' }));
+    const unknown = Object.keys(found.algebraic ?? {}).find(side => side !== 'white' && side !== 'black');
+    if (unknown !== undefined) throw new Unposed(say('importMan', { word: unknown }));
     const twins = Object.entries(found.twins ?? {}).filter(([label]) => label !== 'a');
     const counts = textsOf(found['intended-solutions']).join('');
     const lines = [
