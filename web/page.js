@@ -102,6 +102,7 @@ function follow() {
     ? say('count', { number: block.number, all, white: countOf(men, 'w'), black: countOf(men, 'b') }) : say('none');
   showFields(block);
   if (document.activeElement !== element('fen')) element('fen').value = block ? fenOfBlock(textNow(), block) : '';
+  showContents();
   showTail();
   for (const [id, step] of [['undo', -1], ['redo', 1]]) element(id).disabled = !state.steps.has(step);
   if (textNow().length < LONG_TEXT) keep('pops', textNow());
@@ -184,12 +185,14 @@ function takeFen(text) {
   return true;
 }
 
-// Takes a whole text, or a position in FEN.
+// Takes a whole text, one of another program, or a position in FEN.
 function takeText(text) {
   if (takeFen(text)) return;
+  const made = text.length < LONG_TEXT ? imported(text) : null;
   state.number = 1;
-  setText(text);
+  setText(made?.text ?? text);
   element('text').setSelectionRange(0, 0);
+  if (made) note([say(made.text ? 'imported' : 'importedNone'), ...made.lost].join('. '));
 }
 
 async function takeFile(file) {
@@ -199,8 +202,10 @@ async function takeFile(file) {
     return;
   }
   const { text, isUtf8 } = textOfBytes(new Uint8Array(await file.arrayBuffer()));
+  note('');
   takeText(text);
-  note(say(isUtf8 ? 'fileTaken' : 'fileLatin', { name: file.name }));
+  const said = element('note').textContent;
+  note([say(isUtf8 ? 'fileTaken' : 'fileLatin', { name: file.name }), said].filter(Boolean).join('. '));
 }
 
 function pasted(event) {
@@ -209,7 +214,7 @@ function pasted(event) {
   const isText = event.target === element('text');
   if (isField || !text) return;
   if (readFen(text)) takeFen(text);
-  else if (!isText && blocksOf(text).length) takeText(text);
+  else if ((!isText && blocksOf(text).length) || (text.length < LONG_TEXT && imported(text)?.text)) takeText(text);
   else return;
   event.preventDefault();
 }
@@ -434,31 +439,6 @@ async function makeLink() {
   }
 }
 
-// What is printed: the problem on the board with its solutions.
-function fillPrint() {
-  const block = blockNow();
-  const fields = block ? fieldsOf(textNow(), block) : {};
-  const item = textNow() === state.solved ? state.items.find(it => it.number === state.number) : null;
-  const part = (tag, name, text) => {
-    const made = document.createElement(tag);
-    made.className = name;
-    made.textContent = text;
-    return made;
-  };
-  const diagram = document.createElement('div');
-  const men = block ? menOf(block).men : new Map();
-  diagram.innerHTML = diagramOf(men);
-  const below = part('div', 'below', '');
-  const asked = item?.asked?.line ?? [valueOf(fields, 'stipulation'), valueOf(fields, 'condition')].filter(Boolean).join(' ');
-  const count = `(${countOf(men, 'w')}+${countOf(men, 'b')})`;
-  below.append(part('span', 'asked', asked), part('span', 'count', count));
-  const left = document.createElement('div');
-  left.append(part('h2', 'title', valueOf(fields, 'title') ?? ''), part('p', 'author', valueOf(fields, 'author') ?? ''), diagram, below);
-  const lines = (item?.phases ?? []).flatMap(phase => [phase.kind, ...phase.lines, phase.total ?? say('beginning')]);
-  const many = lines.length > 300 ? 'most' : lines.length > 70 ? 'many' : '';
-  element('print').replaceChildren(left, part('pre', many, lines.join('\n')));
-}
-
 function fillWords() {
   document.documentElement.lang = language;
   for (const it of document.querySelectorAll('[data-word]')) it.textContent = say(it.dataset.word);
@@ -573,6 +553,7 @@ function listen() {
   area.onkeyup = placed;
   area.onscroll = placeMarks;
   element('next').onclick = addProblem;
+  element('problems').onchange = () => goToProblem(Number(element('problems').value));
   element('solve').onclick = solve;
   element('stop').onclick = () => state.solving?.stop();
   element('forget').onclick = () => {

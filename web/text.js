@@ -14,8 +14,17 @@ const NEW_PROBLEM = 'BeginProblem\nStipulation #2\nEndProblem\n';
 const isShort = (word, full) => word.length >= 3 && full.toLowerCase().startsWith(word.toLowerCase());
 const commandOf = word => COMMANDS.find(command => isShort(word, command));
 
+// A function that keeps its last result: the page reads the same text many times.
+function remembered(make) {
+  let last = null;
+  return text => {
+    if (last?.text !== text) last = { text, made: make(text) };
+    return last.made;
+  };
+}
+
 // The words of a text with their places; what stands behind a text command in its line is no word.
-function wordsOf(text) {
+const wordsOf = remembered(text => {
   const words = [];
   const pattern = /[^ \t\n\v\f\r]+/g;
   for (let found; (found = pattern.exec(text));) {
@@ -28,10 +37,10 @@ function wordsOf(text) {
     }
   }
   return words;
-}
+});
 
 // The problems of a text: the words of each, from behind its opening word up to its closing one.
-function blocksOf(text) {
+const blocksOf = remembered(text => {
   const blocks = [];
   let open = null;
   for (const word of wordsOf(text)) {
@@ -45,7 +54,7 @@ function blocksOf(text) {
     else if (open) open.words.push(word);
   }
   return blocks;
-}
+});
 
 // The problem that a place of the text stands in or behind.
 function blockAt(text, place) {

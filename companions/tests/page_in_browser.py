@@ -144,7 +144,8 @@ def faulty(page: Page) -> None:
     page.solve()
     marks = page.browser.run("[...document.querySelectorAll('#gutter span')].map(it => it.dataset.line).join()")
     page.holds(marks == "2,6", f"marked lines: {marks}")
-    page.holds("another word in place of a command" in page.told("tree"), "the manual's words")
+    page.holds("It is the rook in German: write `Ra1`" in page.told("tree"), "the words of pops-explain")
+    page.holds(page.browser.run("document.querySelector('#tree mark').textContent") == "Ta1", "the faulty word is marked")
     page.picture("faults.png")
     page.browser.click("#tree .fault button")
     selected = page.browser.run("(it => it.value.slice(it.selectionStart, it.selectionEnd))(document.getElementById('text'))")
@@ -221,6 +222,29 @@ def given(page: Page) -> None:
     page.holds(not page.told("kept-list"), "forgotten")
 
 
+def composed(page: Page) -> None:
+    """A man dragged from the palette; a FEN pasted while a solution is stepped through; a move played, and solved from there."""
+    browser = page.browser
+    browser.size(1280, 800)
+    page.open("BeginProblem\nPieces White Kd6 Qh8 Rc7 Black Ke1\nStipulation #2\nOption Variation\nEndProblem\n")
+    browser.drag("#men [data-tool=bP]", "#a6")
+    page.holds("Black Ke1 Pa6" in page.text(), f"dragged from the palette: {page.text()}")
+    page.solve()
+    browser.click("#tree .move")
+    browser.run(GIVEN % json.dumps(["paste", "4k2r/8/8/8/8/8/8/4K2R w K - 0 1"]))
+    page.holds("Pieces White Ke1 Rh1 Black Ke8 Rh8\n" in page.text() and "NoCastling h8" in page.text(), f"a FEN: {page.text()}")
+    browser.click("#undo")
+    page.holds("Pieces White Kd6 Qh8 Rc7 Black Ke1 Pa6\n" in page.text(), "one undo for a FEN")
+    browser.click("#playing")
+    browser.drag("#h8", "#h2")
+    page.holds(page.told("reached") == "1.Qh8-h2", f"played: {page.told('reached')}")
+    page.picture("played.png")
+    browser.click("#fromHere")
+    browser.wait(SOLVED)
+    page.holds("1...Ke1-f1" in page.told("tree") and "1...Ke1-d1" not in page.told("tree"), "the refutation of a try")
+    page.holds(browser.run("document.getElementById('problems').value") == "2", "the position is a problem of its own")
+
+
 def without_memory(page: Page) -> None:
     """A browser without 64-bit memory, or one that says so."""
     browser = page.browser
@@ -253,7 +277,11 @@ def narrow(page: Page) -> None:
     )
     page.holds(not nameless, f"without a name: {nameless}")
     browser.run("scrollTo(0, 0)")
+    page.holds(browser.run("document.getElementById('solve').getBoundingClientRect().bottom") < 200, "Solve is next to the board")
     page.picture("narrow.png")
+    browser.click("#tree .move")
+    top, bottom = browser.run("(it => [it.top, it.bottom])(document.getElementById('squares').getBoundingClientRect())")
+    page.holds(0 <= top < bottom < 400, f"the board stays in sight: {top} to {bottom}")
 
 
 LOOKS: List[Callable[[Page], None]] = [
@@ -263,6 +291,7 @@ LOOKS: List[Callable[[Page], None]] = [
     grown,
     faulty,
     given,
+    composed,
     without_memory,
     hostile,
     narrow,

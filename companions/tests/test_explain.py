@@ -13,9 +13,10 @@ import made_inputs
 import support
 
 from pops_explain.explaining import ExplainedFault, explain
+from pops_explain.sentences import DATA
 from pops_explain.showing import marked
 from pops_explain.vocabulary import foreign
-from pops_import.language import foreign_words
+from pops_import.language import LANGUAGES, Twinning, foreign_words, meaning
 from pops_texts.report import read_report
 
 BASE = ["BeginProblem", "Pieces White Kg6 Ra1 Black Kg8", "Stipulation #1", "EndProblem"]
@@ -165,6 +166,13 @@ class Documents(unittest.TestCase):
             self.assertIsNotNone(known, wanted)
             if wanted.language == "German":
                 self.assertEqual(known, wanted)
+
+
+    def test_every_change_of_twins_in_another_language_is_known(self) -> None:
+        for name, words in DATA["twinnings"].items():
+            table = next(it for it in LANGUAGES if it.name == name).twinnings
+            for word, english in words.items():
+                self.assertEqual(meaning(word.lower(), table), Twinning(english))
 
 
 class Marks(unittest.TestCase):

@@ -1,0 +1,74 @@
+// @ts-check
+// The problems of the text: a list to go to, and the twins of the problem on the board.
+'use strict';
+const LONGEST_NAME = 60;
+
+/**
+ * The problems of a text with their numbers and what names them.
+ * @param {string} text
+ */
+function contentsOf(text) {
+  return blocksOf(text).map(block => {
+    const fields = fieldsOf(text, block);
+    const { men } = menOf(block);
+    const asked = [valueOf(fields, 'stipulation'), valueOf(fields, 'condition')].filter(Boolean).join(' ') || null;
+    const [title, author] = ['title', 'author'].map(name => valueOf(fields, name) || null);
+    return { number: block.number, title, author, asked, men };
+  });
+}
+
+/** A problem as the list names it: its number, then title and stipulation, or stipulation and men. */
+function nameOfProblem({ number, title, asked, men }) {
+  const name = [title, asked, title ? '' : sidesOf(men).trim()].filter(Boolean).join(' · ');
+  return `${number}. ${name.slice(0, LONGEST_NAME)}`;
+}
+
+/** The group of twins that a problem belongs to, each with what changes in it; empty if it has no twins. */
+function twinsOf(text, contents, number) {
+  const group = twinGroups(contents).find(twins => twins.some(twin => twin.number === number)) ?? [];
+  if (group.length < 2) return [];
+  const given = givenOf(text);
+  return group.map((twin, index) => {
+    const remarks = given[twin.number - 1]?.remarks ?? [];
+    const change = index ? twinChange({ ...twin, remarks }, group[0]).said : saidOfTwin(twin.label, remarks);
+    return { ...twin, change };
+  });
+}
+
+function goToProblem(number) {
+  endTyping();
+  leave();
+  state.number = number;
+  follow();
+  const block = blockNow();
+  const area = element('text');
+  area.setSelectionRange(block.from, block.from);
+  area.scrollTop = Math.max(0, (lineOf(textNow(), block.from) - 2) * LINE_PIXELS);
+}
+
+/** Shows the list if there is more than one problem, and the twins of the one on the board. */
+function showContents() {
+  const contents = contentsOf(textNow());
+  const names = contents.map(nameOfProblem);
+  const list = element('problems');
+  element('contents').hidden = contents.length < 2;
+  if (list.dataset.names !== names.join('\n')) {
+    list.dataset.names = names.join('\n');
+    list.replaceChildren(...names.map((name, index) => new Option(name, String(index + 1))));
+  }
+  list.value = String(blockNow()?.number ?? 1);
+  showTwins(twinsOf(textNow(), contents, blockNow()?.number));
+}
+
+function showTwins(twins) {
+  const now = blockNow()?.number;
+  element('twins').hidden = !twins.length;
+  const buttons = twins.map(({ number, label, change }) => {
+    const made = makeButton([label.text || say('twin'), change].join(' '), () => goToProblem(number));
+    made.textContent = label.text || say('twin');
+    made.setAttribute('aria-pressed', String(number === now));
+    return made;
+  });
+  const change = twins.find(twin => twin.number === now)?.change ?? '';
+  element('twins').replaceChildren(...buttons, madeWith('span', change));
+}

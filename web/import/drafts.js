@@ -1,0 +1,83 @@
+// @ts-check
+// Problems as other programs give them, with their twins, and the text of pops that they become. What pops can't read is
+// left out, with the reason.
+'use strict';
+/** @typedef {{ men: Men, stipulation: string, conditions: string[] }} Setting */
+/** @typedef {{ text: string, make: (setting: Setting) => Setting }} Change */
+/** @typedef {{ label: string, isContinued: boolean, changes: Change[] }} DraftTwin */
+/** @typedef {{ texts: [string, string][], setting: Setting, options: string[], notes: string[], twins: DraftTwin[], isZero: boolean }} Draft */
+
+/** Why a problem can't be read or posed. */
+class Unposed extends Error {}
+
+const drafts = (() => {
+  const letterOf = index => `${String.fromCharCode(97 + index)})`;
+
+  /** @returns {Draft} */
+  const empty = () => ({ texts: [], setting: { men: new Map(), stipulation: '', conditions: [] }, options: [], notes: [], twins: [], isZero: false });
+
+  /** The diagram and its twins: the label of each, the words of its changes, and a function that makes its setting. */
+  function settingsOf({ setting, twins, isZero }) {
+    const found = isZero ? [] : [{ label: twins.length ? letterOf(0) : '', said: '', make: () => setting }];
+    let last = () => setting;
+    for (const { label, isContinued, changes } of twins) {
+      const base = isContinued ? last : () => setting;
+      last = () => changes.reduce((before, change) => change.make(before), base());
+      const said = [...(isContinued ? ['continued'] : []), ...changes.map(change => change.text)].join(', ');
+      found.push({ label: label || letterOf(found.length), said, make: last });
+    }
+    return found;
+  }
+
+  const linesOf = (texts, name) => texts.filter(([one]) => one === name).map(([, text]) => text);
+
+  /** The lines of one problem, between the words that open and end it. */
+  function problemLines({ texts, options, notes }, { label, said, make }, isFirst) {
+    const setting = make();
+    const title = [linesOf(texts, 'Title').join('; '), label].filter(Boolean).join(' ');
+    const author = linesOf(texts, 'Author').join('; ');
+    const remarks = [...(isFirst ? linesOf(texts, 'Remark') : []), ...(said ? [`${label} ${said}`] : []), ...notes];
+    return [
+      ...(title ? [`Title ${title}`] : []), ...(author ? [`Author ${author}`] : []),
+      ...linesOf(texts, 'Origin').map(text => `Origin ${text}`), ...remarks.map(text => `Remark ${text}`),
+      `Pieces${sidesOf(setting.men)}`, `Stipulation ${setting.stipulation}`,
+      ...(setting.conditions.length ? [`Condition ${setting.conditions.join(' ')}`] : []),
+      ...(options.length ? [`Option ${options.join(' ')}`] : []),
+    ];
+  }
+
+  /** Refuses a problem that pops would find a fault in. */
+  function checked(lines) {
+    const text = ['BeginProblem', ...lines, 'EndProblem', ''].join('\n');
+    const [fault] = explaining.faultsOf(text);
+    if (fault) throw new Unposed(explaining.explanationOf(text, fault.read).text);
+    return lines;
+  }
+
+  /**
+   * The text of drafts, and why some were left out.
+   * @param {(() => Draft)[]} readers each reads a problem, or throws Unposed
+   */
+  function textOf(readers) {
+    const problems = [];
+    const lost = [];
+    const attempt = (number, act) => {
+      try {
+        act();
+      } catch (fault) {
+        if (!(fault instanceof Unposed)) throw fault;
+        lost.push(say('lostProblem', { number, reason: fault.message }));
+      }
+    };
+    readers.forEach((read, index) => attempt(String(index + 1), () => {
+      const draft = read();
+      settingsOf(draft).forEach((one, place) => attempt([index + 1, one.label].filter(Boolean).join(' '), () => {
+        problems.push(checked(problemLines(draft, one, place === 0)));
+      }));
+    }));
+    const text = problems.length ? `BeginProblem\n${problems.map(lines => lines.join('\n')).join('\nNextProblem\n')}\nEndProblem\n` : null;
+    return { text, lost };
+  }
+
+  return { empty, letterOf, textOf };
+})();

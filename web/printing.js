@@ -1,0 +1,46 @@
+// @ts-check
+// What is printed: the problem on the board with its solutions, twins under one diagram.
+'use strict';
+const MANY_LINES = 70;
+const MOST_LINES = 300;
+
+function fillPrint() {
+  const contents = contentsOf(textNow());
+  const own = contents.find(it => it.number === blockNow()?.number) ?? null;
+  const twins = own ? twinsOf(textNow(), contents, own.number) : [];
+  const shown = twins.length ? twins : own ? [{ ...own, label: { text: '' }, change: '' }] : [];
+  element('print').replaceChildren(printedDiagram(shown[0] ?? null), printedLines(shown));
+}
+
+function printedPart(tag, name, text) {
+  const made = madeWith(tag, text);
+  made.className = name;
+  return made;
+}
+
+function printedDiagram(first) {
+  const men = first?.men ?? new Map();
+  const block = first && blocksOf(textNow())[first.number - 1];
+  const origin = block ? valueOf(fieldsOf(textNow(), block), 'origin') : null;
+  const diagram = document.createElement('div');
+  diagram.innerHTML = diagramOf(men);
+  const below = printedPart('div', 'below', '');
+  below.append(printedPart('span', 'asked', first?.asked ?? ''), printedPart('span', 'count', `(${countOf(men, 'w')}+${countOf(men, 'b')})`));
+  const made = document.createElement('div');
+  made.append(
+    printedPart('h2', 'title', first?.title ?? ''), printedPart('p', 'author', first?.author ?? ''), printedPart('p', 'origin', origin ?? ''),
+    diagram, below,
+  );
+  return made;
+}
+
+function printedLines(shown) {
+  const isSolved = textNow() === state.solved;
+  const lines = shown.flatMap(({ number, label, change, asked }, index) => {
+    const item = isSolved ? state.items.find(it => it.number === number) : null;
+    const head = label.text ? [[label.text, change || (index ? asked : '')].filter(Boolean).join(' ')] : [];
+    return [...head, ...(item?.phases ?? []).flatMap(phase => [phase.kind, ...phase.lines, phase.total ?? say('beginning')])];
+  });
+  const many = lines.length > MOST_LINES ? 'most' : lines.length > MANY_LINES ? 'many' : '';
+  return printedPart('pre', many, lines.join('\n'));
+}
