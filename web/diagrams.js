@@ -108,7 +108,7 @@ function twinOf(twin, group) {
 
 function solutionsSaid(item) {
   if (item.fault) return `<p class="fault">${safe(`line ${item.fault.line}: fault ${item.fault.number}: ${item.fault.text}`)}</p>\n`;
-  return item.isChecked ? '<p>sound <small>(no fault in the text; not solved)</small></p>\n' : item.phases.map(phaseOf).join('');
+  return item.isChecked ? '<p>sound <small>(no fault in the text; not solved)</small></p>\n' : item.phases.map(phase => phaseOf(phase, item.asked.isHelp)).join('');
 }
 
 function positionOf(item) {
@@ -123,10 +123,17 @@ function positionOf(item) {
   return `${diagramOf(men)}\n${below} <span class="count">${count}</span></p>\n${fairy.join('')}`;
 }
 
-function phaseOf(phase) {
+// What the total of the play means to a composer: no solution, or several keys.
+function totalInWords({ kind, count, isStopped, isPossible }, isHelp) {
+  if (kind !== 'play' || !isPossible || isStopped) return '';
+  if (count === 0) return ' <span>(no solution)</span>';
+  return !isHelp && count > 1 ? ` <span>(${count} keys)</span>` : '';
+}
+
+function phaseOf(phase, isHelp) {
   const lines = safe(phase.lines.join('\n')).replace(/[^\s-]+-\S+/g, '<span>$&</span>');
   const many = phase.lines.length > LINES_OF_A_COLUMN ? ' class="many"' : '';
   const solutions = phase.lines.length ? `<pre${many}>${lines}</pre>\n` : '';
-  const total = phase.total ? `<p class="total">${safe(phase.total)}</p>\n` : '';
+  const total = phase.total ? `<p class="total">${safe(phase.total)}${totalInWords(phase, isHelp)}</p>\n` : '';
   return `<section class="phase">\n<h3>${phase.kind}</h3>\n${solutions}${total}</section>\n`;
 }
