@@ -1,7 +1,8 @@
 -- What the clauses of a page's calls exclude: a text that is cut before the room is full, one that is lost, a faulty text told as
 -- sound, a missing part told as shown.
 use Rattle.std.proofs.Common.{List, ap, arith, length, refl, ℕ, ◌∙◌, ◌≡◌, ◌≢◌}
-use Rattle.pop_run.specs.Report.{Choice, report, status}
+use Rattle.pop_run.specs.declared.choice.Choice.{Choice}
+use Rattle.pop_run.specs.Report.{report, status}
 use Rattle.pop_run.specs.declared.status.Status.TheVariants.{Faulty, OutputFailed, Sound}
 use Rattle.pop_parts.specs.Parts.{list_text, outcome_of, text_of}
 use Rattle.pop_parts.specs.declared.asked.Asked.{Asked}

@@ -3,7 +3,8 @@ use Rattle.std.proofs.Common.{Bool, List, Some, [], ap, ap₂, arith, false, len
 use Rattle.std.proofs.Math.Seq.{take-append_seam}
 use Rattle.pop_text.specs.Bytes.{Begins}
 use Rattle.pop_input.specs.Blocks.{Entry}
-use Rattle.pop_run.specs.Report.{Choice, entries_in, report, status, status_of}
+use Rattle.pop_run.specs.declared.choice.Choice.{Choice}
+use Rattle.pop_run.specs.Report.{entries_in, report, status, status_of}
 use Rattle.pop_run.specs.declared.status.Status.TheVariants.{OutputFailed}
 use Rattle.pop_parts.specs.Parts.{list_text, outcome_of, text_of}
 use Rattle.pop_parts.specs.declared.asked.Asked.{Asked}

@@ -3,7 +3,7 @@ use Rattle.std.specs.Prelude.{◌≡◌, ℕ, ◌^◌, ◌==◌, List, [], lengt
 use Rattle.pop_text.specs.Words.{Input, Clean}
 use Rattle.pop_events.specs.declared.event.Phase.{Phase}
 use Rattle.pop_events.specs.declared.event.Phase.TheVariants.{Set, Play}
-use Rattle.pop_run.specs.Report.{Choice}
+use Rattle.pop_run.specs.declared.choice.Choice.{Choice}
 use Rattle.pop_run.specs.Run.{Runs}
 use Rattle.pop_run.specs.declared.status.Status.{Status}
 use Rattle.pop_run.specs.declared.status.Status.TheVariants.{Sound, Faulty, InputFailed, OutputFailed}

@@ -1,6 +1,6 @@
 -- What a page is shown of a text is what the programs write of it: the same bytes, and the same status.
 use Rattle.std.proofs.Common.{List, Some, [], ap, false, sym, take, ℕ, ◌∙◌, ◌≡◌, ◌≢◌}
-use Rattle.pop_run.specs.Report.{Choice}
+use Rattle.pop_run.specs.declared.choice.Choice.{Choice}
 use Rattle.pop_run.specs.Run.{Runs}
 use Rattle.pop_run.specs.declared.status.Status.{Status}
 use Rattle.pop_run.specs.declared.status.Status.TheVariants.{OutputFailed}
