@@ -61,8 +61,8 @@ pub record ArePromoted (b : Bool) (o : OpenTargets) (x : Man) (s : ℕ) : Type 0
       → is_promoting x t ≡ true → MayBecome b x t z
       → (bit_at (targets_for o (counts_as z.kind)) t == 1) ≡ true
 
--- each of these men has its targets among those of its kind, pawns that promote have theirs among the
--- targets of what they become, and all that these men reach now is guarded
+-- the targets of each of these men are among those for its kind, the targets of promoting pawns are among
+-- those for what they become, and all that these men reach now is guarded
 pub record AreOpenTargets (a : Attackers) (o : OpenTargets) : Type 0 where
   pub guards : AreGuarded a o.guarded
   pub targets : (s : ℕ) (x : Man) → IsAttacker a x s → AreTargets x s (targets_for o x.kind)
