@@ -50,7 +50,7 @@ fn count_from(word: Squares, from: u8) -> u16
 }
 
 // Returns the squares where a move of this man, not a king, needs a test of its own: those on fairy lines
-// of its king, and those of en passant, rebirth and promotion.
+// of its king, and the squares of en passant, rebirth and promotion.
 #[tactic(auto, using(crate::proofs::listing_moves::SurelyLegal::unsure_word))]
 fn unsure_squares<R: Rules>(board: &Board, man: Man) -> Squares
     ensures { result ≡ word (is_unsure R.rule board.now man) }

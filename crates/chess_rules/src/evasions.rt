@@ -23,7 +23,7 @@ use chess_core::board::Board;
 use chess_core::man::{Colour, Kind, Man, Move};
 use chess_core::square::{Square, Squares};
 
-// Returns whether a rider or hopper among the fairy men stands on the square.
+// Returns whether a rider or hopper among the fairy men is on the square.
 fn has_fairy_lines_on(board: &Board, square: Square) -> bool
     ensures { result ≡ has_fairy_lines_of (man_on board.now.men square) }
 {

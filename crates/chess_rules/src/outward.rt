@@ -26,7 +26,7 @@ use chess_core::man::{Colour, Gait, Kind};
 use chess_core::square::{Square, Squares};
 
 /// Returns the squares from which a man of this colour and kind could capture on `to`. For all but hoppers
-/// these are the squares that such a man of the other colour reaches from `to`.
+/// these are the squares that a man of the kind, of the other colour, reaches from `to`.
 #[inline(always)]
 pub fn comes_as(occupied: Squares, colour: Colour, kind: Kind, to: Square) -> Squares
     ensures { (men : List (Option Man)) → occupied ≡ occupied_squares men
@@ -55,7 +55,7 @@ pub(crate) fn reached_by(
     those_reaching(sight.occupied, men, square, colour, kind)
 }
 
-// Returns those of `squares`, all men of this colour and kind, from which they reach the square.
+// Returns which of `squares`, all men of this colour and kind, reach the square.
 pub(crate) fn those_reaching(
     occupied: Squares,
     squares: Squares,
@@ -74,7 +74,7 @@ pub(crate) fn those_reaching(
 }
 
 // Returns the squares of the rooks and queens of this colour that reach the square along its file or rank.
-// The first test is cheap and mostly enough: no such man stands on these lines.
+// The first test is cheap and mostly enough: no rook or queen is on these lines.
 #[tactic(auto, using(crate::proofs::attacks::Attacking::met, crate::proofs::attacks::Attacking::met_none))]
 fn straight_attackers(board: &Board, sight: Sight, square: Square, colour: Colour) -> Squares
     ensures { (men : List (Option Man)) → AreSeen board.now.men men colour sight
@@ -119,8 +119,8 @@ fn leaping_attackers(
     squares_seen(board, sight, colour, kind) & comes_as(sight.occupied, colour, kind, square)
 }
 
-// Returns those of `squares`, all grasshoppers of this colour, from which they reach the square.
-// Grasshoppers hop along a queen's lines only, and mostly none stands on one: that test comes first.
+// Returns which of `squares`, all grasshoppers of this colour, reach the square.
+// Grasshoppers hop along a queen's lines only, and mostly none is on one: that test comes first.
 fn hoppers_reaching(occupied: Squares, squares: Squares, square: Square, colour: Colour) -> Squares
     ensures { (men : List (Option Man)) → occupied ≡ occupied_squares men
         → squares ≡ squares_of men colour Grasshopper

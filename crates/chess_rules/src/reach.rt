@@ -41,7 +41,7 @@ pub(crate) fn reach_as(board: &Board, colour: Colour, kind: Kind, from: Square) 
     reach_over(occupied(board), colour, kind, from)
 }
 
-// Returns whether a man stands on `from` and could capture an enemy on `to`.
+// Returns whether a man is on `from` and could capture an enemy on `to`.
 #[tactic(auto, using(crate::proofs::Bits::word_has), unfolding(crate::specs::Reaches::reaches))]
 pub(crate) fn reaches(board: &Board, from: Square, to: Square) -> bool
     ensures { result ≡ reaches board.now.men from to }

@@ -132,7 +132,7 @@ fn line_riders(board: &Board, colour: Colour, lines: RiderLines) -> Squares
     board.squares(colour, lines.rider()) | board.squares(colour, Kind::Queen)
 }
 
-// Returns the squares of the colour's riders that stand on one of these lines of the square.
+// Returns the squares of the colour's riders that are on one of these lines of the square.
 #[tactic(auto, using(crate::proofs::rays::Riding::riders_are))]
 fn riders_on_lines(board: &Board, colour: Colour, square: Square, lines: RiderLines) -> Squares
     ensures { result ≡ word (is_line_rider board.now.men colour (rider_along lines)
@@ -142,7 +142,7 @@ fn riders_on_lines(board: &Board, colour: Colour, square: Square, lines: RiderLi
 }
 
 // Returns the squares that a rider on the square reaches along these lines, or nothing if no rider of the
-// colour stands on them, as is mostly so.
+// colour is on them, as is mostly so.
 fn rides_to_riders(board: &Board, colour: Colour, square: Square, lines: RiderLines) -> Squares
     ensures { AreRides board.now.men colour (rider_along lines) (steps_along lines) square result }
 {
@@ -227,7 +227,7 @@ pub struct KingSafety {
 }
 
 /// Returns the safety of the colour's king. `straight` and `diagonal` are the squares that a rook and a
-/// bishop on its square reach, if an enemy rider stands on those lines; `lines` are its fairy lines.
+/// bishop on its square reach, if an enemy rider is on those lines; `lines` are its fairy lines.
 #[inline(always)]
 pub fn safety_seen(
     board: &Board,

@@ -33,7 +33,7 @@ pub trait Sift {
 
     ghost fits: { Self → RuleSet → Position → Type 0 };
 
-    /// Returns those of the squares to which a legal move of the man on `from` may pass the test, and
+    /// Returns the squares, out of `squares`, to which a legal move of the man on `from` may pass the test, and
     /// perhaps others. Contracts don't see what the filter caches for later calls.
     fn sift<R: Rules>(&mut self, board: &Board, from: Square, squares: Squares) -> Squares
         requires well_formed { IsWellFormed board.now }

@@ -275,7 +275,7 @@ fn reborn_man(man: Option<Man>, square: Option<Square>) -> Option<(Man, Square)>
     }
 }
 
-/// Returns the move of `man` as it is shown, once it is played; `there` is the man that stood on the
+/// Returns the move of `man` as it is shown, once it is played; `there` is the man that was on the
 /// arrival before.
 #[tactic(auto, unfolding(pop_events::specs::Shown::shown_of))]
 pub fn shown_of(man: Option<Man>, there: Option<Man>, by: &Move, undo: &Undo, mark: Mark) -> Shown

@@ -16,7 +16,7 @@ use chess_rules::moves::Moves;
 use chess_rules::rules::Rules;
 
 /// For each number of half-moves below 32, the last two moves that decided a position with that many
-/// half-moves left. A direct mate tries them first in the next such position; a killer may be any number of
+/// half-moves left. A direct mate tries them first in the next position like it; a killer may be any number of
 /// a triple, since a bad guess only costs time. A selfmate tries moves in order: its last deciding move is
 /// no good guess.
 #[derive(Drop)]
@@ -106,7 +106,7 @@ impl<R: Rules> Killers<R> {
         }
     }
 
-    /// Makes sure that the kept threats are those of the board's position, if any are kept.
+    /// Makes sure that the kept threats belong to the board's position, if any are kept.
     pub fn tell_threats(&mut self, board: &Board)
         requires well_formed { IsWellFormed board.now }
         ensures { IfSome self.new.threats (λ t. AreThreatsOf R.rule board.now t) }

@@ -22,7 +22,7 @@ is_leaping_man (Some x) c =
     same_colour x.colour c
     && (same_kind x.kind King || same_kind x.kind Knight || same_kind x.kind Pawn)
 
--- a queen or a man of kind k, of this colour, stands on s, and a rider on t reaches s by one of the steps
+-- a queen or a man of kind k, of this colour, is on s, and a rider on t reaches s by one of the steps
 unfoldable pub is_met : List (Option Man) → Colour → Kind → List Step → ℕ → ℕ → Bool
 is_met men c k ds t s = (is_man (man_on men s) c k || is_man (man_on men s) c Queen)
     && list_any (rides men t s) ds

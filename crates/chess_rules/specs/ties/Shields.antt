@@ -53,13 +53,13 @@ is_on_fairy_line_at men (Some k) c t = is_on_fairy_line men (other c) k t
 unfoldable pub may_stand_between : List (Option Man) → Colour → ℕ → Bool
 may_stand_between men c t = is_on_fairy_line_at men (king_square men c) c t
 
--- a queen or a man of kind j, of colour e, stands on q, on one of the lines from k by these steps
+-- a queen or a man of kind j, of colour e, is on q, on one of the lines from k by these steps
 abbrev pub is_line_rider : List (Option Man) → Colour → Kind → List Step → ℕ → ℕ → Bool
 is_line_rider men e j ds k q =
     (is_man (man_on men q) e j || is_man (man_on men q) e Queen) && is_on_some ds k q
 
 -- w holds the squares that a rider on k reaches by these steps; it may be empty if no rider of colour e
--- stands on these lines
+-- is on these lines
 abbrev pub AreRides : List (Option Man) → Colour → Kind → List Step → ℕ → ℕ → Type 0
 AreRides men e j ds k w =
     (w ≡ word (λ t. list_any (rides men k t) ds))

@@ -52,7 +52,7 @@ pub record AreArrived (before men : List (Option Man)) (x : Man) (m : Move) (v :
   pub others : (s : ℕ) → is_of_colour (man_on men s) (other x.colour) ≡ true
       → man_on men s ≡ man_on before s
 
--- men of the other colour than c stand on all squares of w
+-- men of the other colour than c are on all squares of w
 pub record AreOthers (men : List (Option Man)) (c : Colour) (w : ℕ) : Type 0 where
   pub side : (s : ℕ) → s < 64 → (bit_at w s == 1) ≡ true
       → is_of_colour (man_on men s) (other c) ≡ true
