@@ -44,7 +44,7 @@ next_some word from p pos fits =
 pub kept_from : (word from t : ℕ) → from < 64 → t < 64 → (bit_at (from_on word from) t == 1) ≡ (nat_le from t && bit_at word t == 1)
 kept_from word from t p q = grind (arith, cases_lt t from, bit_from_on word from t, bit_below word from t)
 
--- none of them lies behind the last square
+-- no square lies after the last one
 pub none_from : (word from t : ℕ) → 64 ≤ from → t < 64 → (bit_at 0 t == 1) ≡ (nat_le from t && bit_at word t == 1)
 none_from word from t p q = grind (arith, bit_at-zero t)
 
@@ -97,7 +97,7 @@ on_right a b i h = true_from_ne_false _ (λ e. let off = off_right a b i e in cc
 pub joined : (p q : ℕ → Bool) (k l : ℕ) → k ≡ word p → l ≡ word q → bit_or k l ≡ word (λ s. p s || q s)
 joined p q k l h i = (λ j. bit_or (h j) (i j)) ∙ squares_either p q
 
--- and those of both words
+-- the intersection of two bitboards holds the squares of both tests
 pub shared : (p q : ℕ → Bool) (k l : ℕ) → k ≡ word p → l ≡ word q → bit_and k l ≡ word (λ s. p s && q s)
 shared p q k l h i = (λ j. bit_and (h j) (i j)) ∙ squares_both p q
 

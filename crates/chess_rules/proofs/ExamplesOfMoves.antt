@@ -46,7 +46,7 @@ en_passant_in_circe : man_on (position_after circe passing (go e5 d6)).men d7 �
 unfolding legal_moves
 en_passant_in_circe = refl
 
--- without the crossed square there is no such capture
+-- without the en passant square the capture isn't legal
 en_passant_wants_the_crossed_square : is_legal orthodox (record passing { crossed = None }) (go e5 d6) ≡ false
 unfolding legal_moves
 en_passant_wants_the_crossed_square = refl
@@ -74,7 +74,7 @@ bishop_is_reborn : (man_on (position_after circe bishop_at_home (go a1 a8)).men 
 unfolding legal_moves
 bishop_is_reborn = (refl, refl)
 
--- the same with a rook on a8, which is its home: it is captured for good
+-- White Kg6 Ra1, Black Kg8 Ra8, in Circe: a8 is the rook's home square, so it is captured and disappears
 abbrev rook_at_home : Position
 rook_at_home = position (on White King g6 ∷ on White Rook a1 ∷ on Black King g8 ∷ on Black Rook a8 ∷ []) White
 
@@ -94,7 +94,7 @@ nightrider_mates : (is_legal orthodox promotion (promoting e7 e8 Nightrider) ≡
 unfolding legal_moves
 nightrider_mates = (refl, refl)
 
--- without one in the diagram there is no such promotion, and a king there is never
+-- without a nightrider in the diagram promotion to one isn't legal; promotion to a king never is
 no_nightrider_without_one : (is_legal orthodox (record promotion { in_diagram = [] }) (promoting e7 e8 Nightrider) ≡ false)
     × (is_legal orthodox promotion (promoting e7 e8 King) ≡ false)
 unfolding legal_moves

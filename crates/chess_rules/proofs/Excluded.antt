@@ -83,7 +83,7 @@ arriving_man_shuts = (refl, refl)
 pub promotion_needs_its_man : (may_promote (position [] White) Grasshopper ≡ false) × (may_promote (position [] White) Queen ≡ true)
 promotion_needs_its_man = (refl, refl)
 
--- the last per_origin triples are those of a man on h8
+-- the last per_origin triples are the triples of a man on h8
 pub last_triples_are_from_h8 : (triple_at (per_origin * h8)).from ≡ h8
 unfolding triple_at
 last_triples_are_from_h8 = refl
@@ -144,7 +144,7 @@ pub rider_gets_to_the_next_square : rides (set_up []) a1 a2 (step_by 0 0 1 0) �
 unfolding rides is_clear along
 rider_gets_to_the_next_square = refl
 
--- looked for from a6, a grasshopper that hops over a5 stands on a4, and not on a5
+-- from a6, the grasshopper that hops over a5 is on a4, and not on a5
 pub grasshopper_stands_behind_its_hurdle : (hopped_from (set_up (on Black Pawn a5 ∷ [])) a6 a4 (step_by 0 0 0 1) ≡ true)
     × (hopped_from (set_up (on Black Pawn a5 ∷ [])) a6 a5 (step_by 0 0 0 1) ≡ false)
 unfolding hopped_from rides_on along
@@ -186,7 +186,7 @@ any_square_may_meet_a_fairy_check w t small are = true_from_ne_false _ (λ e.
 abbrev unmet : ℕ → ℕ → Bool
 unmet t s = (is_of_colour (man_on rook_check.men s) Black && reaches rook_check.men s a1) && not (is_evasion rook_check.men White a1 s t)
 
--- the rook's check is met where no such enemy is
+-- the rook's check is parried if no enemy of the kind above is there
 met_there : (w t : ℕ) → t < 64 → ((s : ℕ) → s < 64 → unmet t s ≡ false) → AreEvasions orthodox rook_check.men White w → (bit_at w t == 1) ≡ true
 unfolding king_square squares
 met_there w t small none are = true_from_ne_false _ (λ e.
@@ -305,7 +305,7 @@ pub queens_are_paralysed : (in_check madrasi queen_faces_queen.men White ≡ tru
 unfolding check_after_a_move
 queens_are_paralysed = (refl, refl)
 
--- what the examples of shields compute with beside it
+-- what the examples of blockers compute with as well
 lines_to_a_king : Unit {0}
 unfolding may_expose cannot_expose may_stand_between is_on_fairy_line is_plain is_reached is_ahead is_on_some is_shut is_behind
 lines_to_a_king = tt
@@ -315,7 +315,7 @@ lines_to_a_king = tt
 abbrev hurdle_comes : Position
 hurdle_comes = position (on White King a1 ∷ on White Rook h2 ∷ on Black King h8 ∷ on Black Grasshopper a8 ∷ []) White
 
--- so the move to a2 uncovers the king: the arrival tells, the origin doesn't
+-- so the move to a2 uncovers the king: its arrival decides, not its origin
 pub arriving_man_is_a_hurdle : (may_expose hurdle_comes.men White h2 ≡ false) × (may_stand_between hurdle_comes.men White h2 ≡ false)
     × (may_stand_between hurdle_comes.men White a2 ≡ true) × (cannot_expose orthodox hurdle_comes White (go h2 a2) ≡ false)
     × (is_pseudo_legal orthodox hurdle_comes (go h2 a2) ≡ true) × (in_check orthodox hurdle_comes.men White ≡ false)
@@ -346,7 +346,7 @@ pub nightriders_line_is_shut : (may_stand_between (shut_nightrider Nightrider).m
 unfolding lines_to_a_king check_after_a_move
 nightriders_line_is_shut = (refl, refl, refl, refl, refl)
 
--- a stretch without a move ends before a move to one of the word's squares
+-- a range without a move ends before a move to one of the bitboard's squares
 ends_at : (p : Position) (s w k b : ℕ) → (bit_at w (k / per_arrival) == 1) ≡ true
     → is_pseudo_legal orthodox p (record { from = s; to = k / per_arrival; promo = promotion_at (k % per_arrival) }) ≡ true → IsBarrenFrom p s w 0 b → b ≤ k
 ends_at p s w k b on may barren = grind (arith, cases_lt, false≢true)

@@ -26,8 +26,8 @@ pub ruleset unforced = (one_quiet, no_mates)
 abbrev aim_of : Battle → Aim
 aim_of battle = record { battle = battle; goal = Mate }
 
--- these moves are still to be tried, with t half-moves left after each: joined their values are v, and with them so many
--- positions are counted, at least and at most
+-- these moves are still to be tried, with t half-moves left after each: v joins their values, and with them
+-- at least and at most this many positions are counted
 pub record AreTried (battle : Battle) (rule : RuleSet) (t : ℕ) (p : Position) (ahead : List Move) (v : Bool) (before least most counted : ℕ) : Type 0 where
   pub joined : cond (seeks battle (suc t)) (list_any (λ m. value battle (chess Mate rule) t (position_after rule p m)) ahead)
       (list_all (λ m. value battle (chess Mate rule) t (position_after rule p m)) ahead) ≡ v
@@ -106,7 +106,7 @@ module _ (battle : Battle) (rule : RuleSet) (p : Position) where
   unfolding joined_value
   begins t ahead before counted same long trees few one = grind arith
 
-  -- those of the last defence but one, where there is one
+  -- with a legal move, the value of the position joins the values of all moves
   whole : can_move (chess Mate rule) p ≡ true → value battle (chess Mate rule) 2 p ≡ joined_value battle (chess Mate rule) 2 p (moves rule p)
   whole some = value-open battle (chess Mate rule) 2 p (omega arith) some (unreached Mate rule p some)
 

@@ -165,7 +165,7 @@ module _ (rule : RuleSet) (h d : ℕ) (p : Position) where
           behind = λ goal. s.behind goal ∙ rw (whole, x.come goal) refl;
         }
 
-  -- with no frame left there is no such beginning
+  -- with no frame left there is no list of first moves
   pub numbered-none : (old mid : List Frame) (board : Position) (number left : ℕ) → mid ≡ [] → SeeksNumbered rule h d p old mid board number left
       → FindsNumbered rule h d p old mid board number None
   unfolding beginnings_to_come
@@ -177,7 +177,7 @@ no-frames frames e = search (rules, nil_from_length)
 
 -- before all beginnings
 module _ (rule : RuleSet) (p : Position) (f : Frame) (left : f.left ≡ 0) where
-  -- the walk over beginnings stands on the root of the phase
+  -- the walk over first moves begins at the root of the phase
   pub seeking-begun : (h d : ℕ) (board : Position) → f.known ≡ None → 1 ≤ d → d ≤ h → board ≡ p → IsWellFormed board → IsSeeking rule h d p (f ∷ []) board
   unfolding IsLinked IsRoomy AreKnown position are_idle
   seeking-begun h d board unknown some room e sound = search rules

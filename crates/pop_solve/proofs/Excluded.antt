@@ -46,19 +46,19 @@ module _ (rule : RuleSet) (problem : Posed) (event : Event) (board : Position) (
   impossible_is_given_once old new g = no_event_stays _ g
 
 module _ (rule : RuleSet) (problem : Posed) where
-  -- each event given counts one
+  -- each event counts one
   pub one_event_is_counted : (bare : BareEvent) (left : List BareEvent) (before after : ℕ) → IsGiven rule problem (bare ∷ left) before
       → IsGiven rule problem left after → after ≡ min (before + 1) (2 ^ 64 - 1)
   one_event_is_counted bare left before after g h = omega (arith, g.counts, h.counts, g.within)
 
-  -- a search that has given nothing has opened nothing, where no line of moves is walked twice
+  -- a search before its first event has tried nothing, if no line of moves is walked twice
   pub nothing_is_opened_at_first : (frames : List Frame) (opened : ℕ) → is_walked_once problem ≡ true
       → IsOpened rule problem (Before (first_phase problem)) frames opened → opened ≡ 0
   unfolding rest_open
   nothing_is_opened_at_first frames opened once o = omega (arith, o.most once)
 
 module _ (rule : RuleSet) (plan : Plan) (p : Position) (place before after : ℕ) (rest : List Move) where
-  -- with one half-move left no mate behind the place is passed over
+  -- with one half-move left no mate after the cursor is passed over
   pub no_mate_is_passed_over : GoesTo rule plan 1 p place rest before after
       → filter (is_mating rule p) (moves_behind rule p place) ≡ filter (is_mating rule p) rest
   no_mate_is_passed_over t = grind (arith, filter-append)

@@ -27,7 +27,7 @@ module _ {P M : Type 0} (game : Game P M) (q : P) where
   unfolding first_number wins
   zero_loses n = refl
 
-  -- the half-moves of the first test that holds are those of the least number of moves
+  -- the half-moves of the first successful test match the least number of moves
   pub least_moves-direct : (n : ℕ) → least_length_from Direct game q n 1 + 1 ≡ 2 * least_moves Direct game (suc n) q
   least_moves-direct n = search (rules, first_number, by_twos n 0, first_number-shift, first_number-is, zero_loses n)
 

@@ -63,7 +63,8 @@ module _ {M : Type 0} where
 in_unless : {X : Type 0} (g : Bool) (xs : List X) (x : X) → Contains (cond g [] xs) x ↔ ((g ≡ false) × Contains xs x)
 in_unless g xs x = search rules
 
--- Q holds of no paths, and of nodes of moves that are Ok, as those of a position are, over lists of which it holds: so it holds of trees
+-- Q holds of no paths, and of nodes of moves that are Ok (a position's moves are) over lists for which it
+-- holds: so it holds of trees
 pub record HoldsOfTrees {P M : Type 0} (game : Game P M) (Ok : List M → Type 0) (Q : List (List M) → Type 0) : Type 0 where
   pub moves : (p : P) → Ok (game.moves p)
   pub some : (test : M → Bool) (ms : List M) → Ok ms → Ok (filter test ms)

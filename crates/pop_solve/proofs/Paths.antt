@@ -25,7 +25,7 @@ cut-at frames n k f e at less = rw e (take_more frames k f less) ∙ ap (λ x. t
 pub some-taken : (frames : List Frame) (k : ℕ) → 0 < k → k ≤ length frames → 0 < length (take k frames)
 some-taken frames k some most = omega (arith, length-take k frames, some, most)
 
--- a frame stands on others
+-- a frame on top of others
 pub record IsTopped (upper lower : List Frame) (f : Frame) : Type 0 where
   pub cut : upper ≡ lower ++ f ∷ []
   pub some : 0 < length lower
@@ -86,7 +86,7 @@ module _ (rule : RuleSet) where
   pub linked-take : (p : Position) (frames : List Frame) (n : ℕ) → IsLinked rule p (reverse frames) → IsLinked rule p (reverse (take n frames))
   linked-take p frames n l = grind (arith, take-append-drop n frames, reverse-append (take n frames) (drop n frames), linked-cut)
 
-  -- a frame and those that it stands on
+  -- a frame and the frames below it
   module _ {upper lower : List Frame} {f : Frame} (top : IsTopped upper lower f) where
     stacked : reverse upper ≡ f ∷ reverse lower
     stacked = popped upper lower f top.cut
@@ -117,7 +117,7 @@ module _ (rule : RuleSet) where
     -- once its move was taken back
     module _ (h : ℕ) (p board after : Position) (r : IsWalking rule h p (reverse upper) board)
         (before : (q : Position) → CameFromAt rule f board q → after ≡ q) where
-      -- the walk stands on the frames below
+      -- the walk on the frames below
       pub back-walking : IsWalking rule h p (reverse lower) after
       back-walking = let r2 = rw stacked at r in search (rules, walking-close rule h p f (reverse lower) board after r2, length-reverse)
 
@@ -139,7 +139,7 @@ module _ (rule : RuleSet) where
       pub back-shown : (goal : Goal) → shown_move goal rule after f.by ≡ last_shown goal rule p (path (reverse upper))
       back-shown goal = search (rules, back-walking, stacked, length-reverse, path-more, last-append, path_end-path)
 
-  -- the lowest frame stands on the first position
+  -- the lowest frame is at the first position
   pub first-position : (p : Position) (frames : List Frame) (k : ℕ) → k ≤ 1 → position rule p (reverse (take k frames)) ≡ p
   unfolding position
   first-position p frames k few = search (rules, length-reverse)

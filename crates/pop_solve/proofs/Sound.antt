@@ -14,7 +14,7 @@ pub start_sound : (problem : Posed) → IsSound problem → (phase : Phase) → 
 unfolding is_crossed_right
 start_sound problem s phase = search rules
 
--- help play and battles, told by the form
+-- help play and battles, by the form
 pub helps-form : (form : Form) → is_help_play (play_of form) ≡ is_help form
 helps-form form = search rules
 

@@ -5,7 +5,7 @@ use Rattle.pop_solve.proofs.Lengths.{length-more}
 use Rattle.pop_solve.proofs.GoingOn.{length_most, walk_length-keys, given-battle, walk_length-help, cases, least_length_from-least}
 use Rattle.pop_solve.proofs.Least.{least_moves-direct, least_moves-selfmate}
 
--- the half-moves of a battle of so many moves
+-- the half-moves of a battle with this number of moves
 abbrev pub halves : Battle → ℕ → ℕ
 halves Direct k = 2 * k - 1
 halves Selfmate k = 2 * k

@@ -131,7 +131,7 @@ module _ (rule : RuleSet) (h : ℕ) (top : Frame) (old new : List Frame) (taken 
   back_walking p board after depth r d lowest before =
       let r2 = rw (popped old new top taken) at r in search (rules, walking-close rule h p top (reverse new) board after r2, length-reverse)
 
--- with no frame left the board stands on the first position
+-- with no frame left the board has the first position
 pub walking_back : (rule : RuleSet) (h : ℕ) (p board : Position) (frames : List Frame) → IsWalking rule h p (reverse frames) board → length frames ≡ 0
     → board ≡ p
 unfolding position

@@ -85,7 +85,7 @@ goes_without_king rule p x m well is small other_man = record {
 -- where a king stands once a man has moved
 ruleset king_moves = (goes_without_king, king_is, king_stands, king_stays_king, moved_arrival, moved_plainly, moved_sound)
 
--- the mover's king stands on the arrival if he went, else where he stood
+-- the mover's king is on the arrival if it moved, otherwise where it was
 pub king_is_after : (rule : RuleSet) (p : Position) (x : Man) (m : Move) → IsWellFormed p → IsMade rule p x m → m.to < 64 → is_castling x m ≡ false
     → king_square (arrived p x m) p.turn ≡ king_after p x m
 king_is_after rule p x m well is small castling = grind (arith, and_from, cases_Bool, cond-false, cond-true, same_colour-refl, king_moves)

@@ -18,7 +18,7 @@ pub record IsShift (men after : List (Option Man)) (a b : ℕ) (z : Man) : Type 
   pub others : (q : ℕ) (y : Man) → man_on after q ≡ Some y → q ≢ b → man_on men q ≡ Some y
   pub arrived : (y : Man) → man_on after b ≡ Some y → y ≡ z
 
--- a man that goes, and captures on its arrival alone, makes such a shift
+-- a move that captures only on its arrival is a shift
 pub gone_shift : (men : List (Option Man)) (a : ℕ) (o : Option ℕ) (b : ℕ) (z : Man) → b < length men → ((s : ℕ) → is_square o s ≡ true → s ≡ b)
     → IsShift men (gone_to men a o b z) a b z
 gone_shift men a o b z small taken = grind (arith, gone_to, there_now, kept_now, left_now, cases_Bool)
@@ -59,7 +59,7 @@ shut : (men : List (Option Man)) (c : Colour) (a k : ℕ) (l : RiderLines) → I
     → is_shut men (other c) (rider_along l) (steps_along l) k a ≡ false
 shut men c a k l g = grind arith
 
--- what keeps one square from shutting a line to a man that stands on another
+-- what keeps one square from blocking a line to a man on another
 pub not_parted : (men : List (Option Man)) (a k s : ℕ) (e : Colour) (j : Kind) (ds : List Step) → is_shut men e j ds k a ≡ false
     → (is_man (man_on men s) e j || is_man (man_on men s) e Queen) ≡ true → s < 64 → is_on_some ds k s ≡ true
     → (list_any (rides men k a) ds ≡ true) × (list_any (rides men s a) ds ≡ true) → ⊥
@@ -182,7 +182,7 @@ not_attacked rule men e k h =
     let reached = some_square_true (λ s. is_of_colour (man_on men s) e && reaches men s k) in
     grind (arith, some_square_false (is_attacker rule men k e) 64, reached, and_parts, and_from)
 
--- what is asked of a shift, so that the king of colour c isn't in check after it
+-- what must hold of a shift for the king of colour c not to be in check after it
 record IsHarmless (men : List (Option Man)) (c : Colour) (a b : ℕ) (z : Man) : Type 0 where
   pub one : AtMostOneKing men
   pub king : is_man (Some z) c King ≡ true → king_square men c ≡ Some a
@@ -287,7 +287,7 @@ pub cannot_expose_parts : (rule : RuleSet) (p : Position) (x : Man) (c : Colour)
 unfolding cannot_expose is_plain capture_square
 cannot_expose_parts rule p x c m here h = grind (arith, and_parts, not-true, second_fails, cond-false, and_right)
 
--- such a move doesn't leave its mover in check
+-- a move that can't expose the king doesn't leave it in check
 pub cannot_expose_own : (rule : RuleSet) (p : Position) (m : Move) → IsWellFormed p → is_pseudo_legal rule p m ≡ true → m.to < 64
     → cannot_expose rule p p.turn m ≡ true → in_check rule (position_after rule p m).men p.turn ≡ false
 cannot_expose_own rule p m well may small h =
@@ -331,7 +331,7 @@ pub checkers_are : (men : List (Option Man)) (c e : Colour) (k w : ℕ) → e �
 unfolding is_checker
 checkers_are men c e k w enemy at h = search (rules, squares_same, enemy, at, h)
 
--- whether there is one, told by their word
+-- an enemy reaches the king exactly if the bitboard of these enemies isn't 0
 reached_by_word : (men : List (Option Man)) (c e : Colour) (k w : ℕ) → e ≡ other c → w ≡ word (reaching men e k) → not (w == 0) ≡ is_reached men k (other c)
 unfolding is_reached
 reached_by_word men c e k w enemy h = search (rules, not_zero, enemy, h)
@@ -353,14 +353,14 @@ shield_squares_some men c e k r w n enemy at reachers none h i =
     let unreached : is_reached men k (other c) ≡ false = sym (reached_by_word men c e k r enemy reachers) ∙ ap (λ (v : ℕ). not (v == 0)) none in
     joined _ _ _ _ (h ∙ joined _ _ _ _ (squares_either _ _) refl) i ∙ squares_same _ _ (λ t less. grind (arith, at, unreached))
 
--- else it is told by the rest
+-- from a square that isn't a blocker's the other parts of the test decide
 pub cannot_expose_to : (rule : RuleSet) (p : Position) (x : Man) (c : Colour) (m : Move) (w s : ℕ) (b r : Bool) → man_on p.men s ≡ Some x
     → w ≡ word (may_expose p.men c) → s ≡ m.from → s < 64 → b ≡ (bit_at w s == 1) → b ≡ false
     → r ≡ (not (may_stand_between p.men c m.to) && is_plain rule p x m) → r ≡ cannot_expose rule p c m
 unfolding cannot_expose
 cannot_expose_to rule p x c m w s b r here h same small e off rest = search (rules, word_has)
 
--- where nobody stands on the origin, the answer is no
+-- if nobody is on the origin, the test fails
 pub cannot_expose_nobody : (rule : RuleSet) (p : Position) (c : Colour) (m : Move) → man_on p.men m.from ≡ None → false ≡ cannot_expose rule p c m
 unfolding cannot_expose
 cannot_expose_nobody rule p c m none = rw none refl
@@ -371,7 +371,7 @@ pub off_shields : (men : List (Option Man)) (c : Colour) (w t : ℕ) (b : Bool) 
 unfolding may_expose may_stand_between
 off_shields men c w t b h small e off = search (rules, word_has, or_parts)
 
--- and the word of the fairy lines tells of the others
+-- the bitboard of the fairy lines decides for the other squares
 pub between_is : (men : List (Option Man)) (c : Colour) (w t : ℕ) (b : Bool) → w ≡ word (may_stand_between men c) → t < 64 → b ≡ (bit_at w t == 1)
     → b ≡ may_stand_between men c t
 between_is men c w t b h small e = e ∙ word_has (may_stand_between men c) w t h small

@@ -112,7 +112,7 @@ module _ {X Y : Type 0} (R : X → X → Type 0) (S : Y → Y → Type 0) where
       pairs_of S (f x) (map f xs) (λ y c. let w = from_map f xs y c in rw (w.2) at (keeps x w.0 (pairs_first R x xs a w.0 w.1)))
       (pairs_map f xs keeps (pairs_later R x xs a))
 
-  -- joined lists: each in order, and those of an element before those of a later one
+  -- joined lists are sorted if each is, and the elements of each come before the elements of later ones
   pub pairs_flat_map : (f : X → List Y) (xs : List X) → AllPairs R xs → ((x : X) → AllPairs S (f x))
       → ((x y : X) → R x y → (a b : Y) → Contains (f x) a → Contains (f y) b → S a b) → AllPairs S (flat_map f xs)
   pairs_flat_map f [] a each across = pairs_nil S

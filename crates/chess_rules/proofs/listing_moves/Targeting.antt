@@ -94,7 +94,7 @@ own_moves p rule m (Some x) e h = false_by (is_pseudo_legal rule p m) (λ y. gri
 abbrev pub arrival_from : ℕ → ℕ
 arrival_from a = (a + per_arrival - 1) / per_arrival
 
--- two stretches of one origin without a move, one behind the other, are one
+-- two adjacent ranges of one origin without a move make one
 pub from-join : (p : Position) (s z a b c : ℕ) → IsBarrenFrom p s z a b → IsBarrenFrom p s z b c → IsBarrenFrom p s z a c
 from-join p s z a b c x y = search rules
 

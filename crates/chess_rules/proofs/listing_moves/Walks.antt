@@ -56,7 +56,7 @@ module _ (rule : RuleSet) (p : Position) (test : Move → Bool) (needs : (m : Mo
       → test m ≡ false
   none-move s w m are at small h = search (rules, cases_Bool)
 
-  -- of an origin's candidates none passes over a stretch without a move
+  -- over a range without a move no candidate of an origin passes
   pub none-from : (s w a b : ℕ) → b ≤ per_origin → AreCandidates rule p test s w → IsBarrenFrom p s w a b
       → HaveNone test (per_origin * s + a) (per_origin * s + b)
   none-from s w a b le are h = record {

@@ -19,7 +19,7 @@ pub record Passed (s : ℕ) (d : Step) (i q : ℕ) : Type 0 where
   pub at : along s d i ≡ Some q
   pub small : q < 64
 
--- a line that gets to a square of the board passes only such squares before it
+-- a line that reaches a square of the board crosses only squares of the board before it
 pub passes : (s t : ℕ) (d : Step) (k i : ℕ) → s < 64 → i ≤ k → along s d k ≡ Some t → (q : ℕ) × Passed s d i q
 unfolding along
 passes s t d k i p le h =

@@ -11,7 +11,7 @@ one (Some q) = if ltb q 64 then 1 * 2 ^ q % 2 ^ 64 else 0
 one_is : (o : Option ℕ) → one o ≡ word (is_square o)
 one_is o = search (rules, word_empty, cases_lt, cond-true, ltb, lt-ltb, word_only, cond-false, le-ltb, differs)
 
--- that of those of a list: so each square is computed once, and not tested against all 64
+-- the bitboard of a list of squares: each square is computed once, and not tested against all 64
 abbrev each : List (Option ℕ) → ℕ
 each [] = 0
 each (o ∷ os) = bit_or (one o) (each os)
@@ -111,7 +111,7 @@ aside_at s i d = two_at (λ q. along q (step_by 2 0 0 0) 1) (λ q. along q (step
 abbrev on : Direction → ℕ → ℕ
 on x s = get_or (get_or RAYS (direction_number x) []) s 0
 
--- those of four directions in one word
+-- the lines of four directions in one bitboard
 abbrev joined : Direction → Direction → Direction → Direction → ℕ → ℕ
 joined a b c e s = bit_or (bit_or (bit_or (on a s) (on b s)) (on c s)) (on e s)
 

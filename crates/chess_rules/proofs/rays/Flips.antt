@@ -53,7 +53,7 @@ straight-back men s t = rides_turned straight_steps men s t refl
 pub diagonal-back : (men : List (Option Man)) (s t : ℕ) → s < 64 → t < 64 → list_any (rides men s t) diagonal_steps ≡ list_any (rides men t s) diagonal_steps
 diagonal-back men s t = rides_turned diagonal_steps men s t refl
 
--- the steps of a kind lead back by those of its like of the other colour
+-- the steps of a kind lead back by the steps of the same kind of the other colour
 steps_oppose : (c : Colour) (k : Kind) → (opposed (kind_steps c k) (kind_steps (other c) k) ≡ true) × (opposed (kind_steps (other c) k) (kind_steps c k) ≡ true)
 steps_oppose c k = grind arith
 

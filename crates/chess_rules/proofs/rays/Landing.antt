@@ -6,7 +6,7 @@ use Rattle.chess_rules.proofs.attacks.FairyLines.{knight_directions, queen_direc
 use Rattle.chess_rules.proofs.rays.Ahead.{Ordered, ordered}
 use Rattle.chess_rules.proofs.rays.Ends.{stays}
 
--- men stand on the same squares, t apart
+-- the same squares are occupied, except perhaps t
 pub record StandAlike (men others : List (Option Man)) (t : ℕ) : Type 0 where
   pub alike : (q : ℕ) → q ≢ t → is_some (man_on men q) ≡ is_some (man_on others q)
 
@@ -50,7 +50,7 @@ ways_alike Hopper men others s t d o a = any_range_same (λ k. is_square (along 
     (λ k lo hi. let end = square_is (along s d k) t in
     grind (arith, cases_Bool, end, a.alike, not_yet s t d k (k - 1) o, clear_alike men others s t d k (k - 2) o a, and_left))
 
--- for two boards that differ in who stands on the target
+-- for two boards that differ only on the target
 pub reaches_alike : (men others : _) (c : Colour) (j : Kind) (s t : ℕ) → StandAlike men others t → reaches_as men c j s t ≡ reaches_as others c j s t
 unfolding reaches_as
 reaches_alike men others c j s t a =

@@ -9,7 +9,8 @@ bit_small d s = grind (arith, bit_at-lt d s)
 abbrev placed : ℕ → ℕ → Option Man
 placed d s = if bit_at d s == 1 then Some (record { colour = White; kind = Pawn }) else None
 
--- on such a board a man stands on a square exactly where it is one of the word
+-- on the board with men exactly on a bitboard's squares, a man is on a square exactly if the bitboard holds
+-- it
 pub one_on : (d s : ℕ) → s < 64 → is_some (man_on (men_on d) s) ≡ (bit_at d s == 1)
 unfolding squares
 one_on d s small = grind (arith, get_or-map-range_with_len (placed d) 0 64 s s None small (omega arith))
