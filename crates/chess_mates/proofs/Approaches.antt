@@ -22,7 +22,7 @@ abbrev is_after : Colour → ℕ → ℕ → ℕ → Bool
 is_after White k s t = t == k + s
 is_after Black k s t = s == k + t
 
--- the word of the squares from which those of w are k squares after
+-- the bitboard of the squares that are k squares before a square of w
 abbrev before : Colour → ℕ → ℕ → ℕ
 before White w k = w / 2 ^ k
 before Black w k = w * 2 ^ k % 2 ^ 64

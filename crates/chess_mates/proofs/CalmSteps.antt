@@ -6,7 +6,7 @@ use Rattle.chess_mates.proofs.KingsApart.{kings_apart}
 use Rattle.chess_mates.proofs.QuietSteps.{one_fails}
 use Rattle.chess_mates.proofs.Stepping.{occupied_stepped, on_flight, on_left, on_others, stands, stepped}
 
--- what is asked of the squares: the men of colour c are looked at, but for their king, who goes from k to t
+-- what must hold of the squares: the men of colour c count, except their king, which goes from k to t
 record IsLeft (men : List (Option Man)) (a : ℕ) (o : Option ℕ) (b : ℕ) (z : Man) (u : Option ℕ) (t : ℕ) (c : Colour) : Type 0 where
   pub arrival : b < length men
   pub flight : t < length men

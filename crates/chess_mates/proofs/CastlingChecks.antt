@@ -18,7 +18,7 @@ is_end s d = list_all (λ n. not (is_some (along s d n))) (range_with_len 1 7)
 abbrev is_half : ℕ → Bool
 is_half h = h == 3 || h == 5 || h == 59 || h == 61
 
--- no square is right behind h on a line from elsewhere, the two beside h on its rank apart
+-- no square is right beyond h on a line from elsewhere, except the two next to h on its rank
 abbrev is_beside_alone : ℕ → Step → Bool
 is_beside_alone h d = not (is_some (along h (back d) 1)) || not (is_some (along h d 1)) || is_square (along h d 1) (h + 1)
     || is_square (along h d 1) (h - 1)
@@ -70,7 +70,7 @@ module _ (men after : List (Option Man)) (b s k : ℕ) (free : Frees after men b
   reached t holds none e Nightrider h = rode knight_directions h
   reached t holds none e j h = h
 
--- what stands on a straight line with both of the king's squares stands on one with the rook's
+-- a man on a straight line with both of the king's squares is on one with the rook's
 abbrev is_lined_up : ℕ → ℕ → ℕ → ℕ → Bool
 is_lined_up a c h k = not (is_on_some straight_steps k h && is_on_some straight_steps k a) || (k == c || is_on_some straight_steps k c)
 
@@ -130,7 +130,7 @@ module _ (rule : RuleSet) (p : Position) (x : Man) (m : Move) (well : IsWellForm
   frees_corner : Frees castled stepped (corner m)
   frees_corner = frees stepped castled (corner m) (halfway m) rook.0 rook_shift
 
-  -- what is asked, so that castling gives no check to the king of colour c
+  -- what must hold for castling to give no check to the king of colour c
   module _ (c : Colour) (enemy_of : same_colour x.colour c ≡ false) (covered : may_expose p.men c m.from ≡ false)
       (aside : may_stand_between p.men c m.to ≡ false) (king_off : may_check_from p.men c x m.to ≡ false)
       (rook_off : may_check_from p.men c (enemy c Rook) (halfway m) ≡ false) where
@@ -184,7 +184,7 @@ module _ (rule : RuleSet) (p : Position) (x : Man) (m : Move) (well : IsWellForm
         let off_to : k ≢ m.to = λ e. grind (arith, rook_shift.others k y.0 y.1 off_half, king_shift.arrived y.0, enemy_of, and_parts) in
         grind (arith, king_shift.others k y.0 (rook_shift.others k y.0 y.1 off_half) off_to)
 
-    -- for castlings told by words: neither king nor rook gives check, nor is one uncovered
+    -- for castlings described by bitboards: neither king nor rook gives check, and none is uncovered
     pub castling_gives_no_check : in_check rule (position_after rule p m).men c ≡ false
     castling_gives_no_check = rw after_is (unchecked rule castled c (λ k small here.
         not_attacked rule castled (other c) k (castled_unreached k (king_is p.men c k well.kings small (king_stood k here)) (king_stood k here) small)))

@@ -3,7 +3,7 @@ use Rattle.chess_mates.proofs.Chess.{AreApproaches, AreCheckOrigins, AreCheckTar
 use Rattle.chess_mates.proofs.Hurdles.{on_either}
 use Rattle.chess_mates.proofs.CheckTargets.{targets_lack}
 
--- for men who are told by the word of their kind
+-- a square in the bitboard of a kind holds a man of the kind
 pub man_of_word : (men : _) (c : Colour) (k : Kind) (w s : ℕ) → w ≡ squares_of men c k → s < 64 → (bit_at w s == 1) ≡ true
     → man_on men s ≡ Some (record { colour = c; kind = k })
 unfolding squares_of

@@ -24,7 +24,7 @@ on_either a b i h off = grind (arith, eqb-true, bit_at_or, unset, bit_at-lt, eq-
 pub on_one : (a b i : ℕ) → (bit_at (bit_or a b) i == 1) ≡ true → ((bit_at a i == 1) ≡ true) ⊎ ((bit_at b i == 1) ≡ true)
 on_one a b i h = search (rules, cases_Bool, on_either)
 
--- for reach told over a word of hurdles
+-- for squares reached over a bitboard of hurdles
 pub reached_is : (d : ℕ) (x : Man) (s r : ℕ) → d < 2 ^ 64 → ((men : List (Option Man)) → d ≡ occupied_squares men → r ≡ word (reaches_as men x.colour x.kind s))
     → IsReached d x s r
 unfolding reached_over

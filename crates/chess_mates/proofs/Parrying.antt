@@ -82,7 +82,7 @@ module _ (men after : List (Option Man)) (a b s t k : ℕ) (z : Man) (c : Colour
   unreached_after : is_reached after k (other c) ≡ false
   unreached_after = unreached mid after s t z shift_second c k covered small (unlined_before men mid (other c) k t fairy_stood too) (quiet mid s t)
 
--- whoever stands on b, if he doesn't reach k, the others reach it or not
+-- if the man on b doesn't reach k, replacing it by another doesn't change what the others reach
 pub unreached_in_place : (men : List (Option Man)) (b k : ℕ) (z : Man) (c : Colour) → b < length men → is_some (man_on men b) ≡ true
     → (is_of_colour (man_on men b) c && reaches men b k) ≡ false → is_reached (with_man men b z) k c ≡ false → is_reached men k c ≡ false
 unfolding is_reached reaches
@@ -145,7 +145,7 @@ pub no_mate_with_parry : (rule : RuleSet) (p : Position) (m : Move) → is_mate 
 unfolding mates
 no_mate_with_parry rule p m parried = sym (and_right _ _ parried)
 
--- after a move of which parries are told
+-- after a move whose parries are computed
 module _ (rule : RuleSet) (p : Position) (m : Move) (x : Man) (k : ℕ) (well : IsWellFormed p) (may : is_pseudo_legal rule p m ≡ true)
     (here : man_on p.men m.from ≡ Some x) (told : AreParriesTold rule p x m) (small : m.to < 64) (king : king_square p.men (other p.turn) ≡ Some k) where
   abbrev q : Position
@@ -347,7 +347,7 @@ module _ (rule : RuleSet) (p : Position) (m : Move) (x : Man) (k : ℕ) (well : 
           let side = ap (λ (c : Colour). same_colour c (other p.turn)) (arriving_colour x m.promo ∙ is_m.mine) ∙ other_differs p.turn in
           false≢true (sym side ∙ ap (λ (v : Option Man). is_of_colour v (other p.turn)) (sym e) ∙ enemy)
 
-      -- nor does he stand on the king's square
+      -- the parrying man isn't on the king's square
       away : is_square (Some k) n.from ≡ false
       away =
           let there = king_there q.men q.turn k king_q in
@@ -529,7 +529,7 @@ nobody_between men p b k a o f occupied lines between free none =
       none = λ t lt on. none t lt (seen_bit _ a (bit_or o f) t held lt on (off t on));
     }
 
--- for `is_untaken`: of those who take him all stand on the king's square
+-- for `is_untaken`: all men that take the checker are on the king's square
 pub kings_alone : (w n k s : ℕ) → n ≡ word (is_square (Some k)) → (bit_and w (bit_not w64 n) == 0) ≡ true → s < 64 → (bit_at w s == 1) ≡ true
     → is_square (Some k) s ≡ true
 kings_alone w n k s only none lt on =

@@ -74,7 +74,7 @@ pawn_leaves w e c q n s x z t small on leaves queens knights may = elim (cases_B
   by last Knight may = leaves_right w e (bit_or c q) n _ t (knights last)
   by last _ may = absurd (false≢true may)
 
--- for `critical_of_going`: whoever else stands on the board
+-- for `critical_of_going`: on any board
 pub leaves_untaken : (d k w e c : ℕ) (x : Man) (t : ℕ) → LeavesOne w e c x t → LeavesUntaken d k w e c x t
 leaves_untaken d k w e c x t h = record {
   left = λ b small off there.

@@ -324,7 +324,7 @@ step_left w a o t f x flight small on are only off =
     let apart : f ≢ t = λ e. grind (arith, off_right a o t off, word_has _ o t only small, eq-eqb) in
     search (rules, apart, are.inside, off_left a o t off, false_from_ne_true, false≢true, flight, on)
 
--- where nothing is told no square is left out
+-- if all squares are returned, no square is left out
 pub all_left : {P : Type 0} (t : ℕ) → t < 64 → (bit_at 18446744073709551615 t == 1) ≡ false → P
 all_left t small off = absurd (false≢true (sym off ∙ every_square_on t small))
 

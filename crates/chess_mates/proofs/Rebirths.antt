@@ -6,7 +6,7 @@ use Rattle.chess_mates.proofs.Checking.{no_check, unchecked}
 abbrev LacksGrasshopper : List (Option Man) → Colour → Type 0
 LacksGrasshopper men e = (s : ℕ) → is_man (man_on men s) e Grasshopper ≡ false
 
--- once y stands on r too, lines are shut and none is opened
+-- y is put on r too: lines are blocked and none is opened
 module _ (men : List (Option Man)) (r : ℕ) (y : Man) where
   was_vacant : (o : Option ℕ) → is_vacant_at (with_man men r y) o ≡ true → is_vacant_at men o ≡ true
   was_vacant o h = grind (arith, man_on-with_cases, false≢true)

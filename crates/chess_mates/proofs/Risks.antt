@@ -89,7 +89,7 @@ pub none_checks : (checks squares s : ℕ) → not (bit_and checks squares == 0)
 none_checks checks squares s none on = false_by _ (λ h.
     none_on (bit_and checks squares) s (true_from_ne_false _ (λ some. false≢true (sym none ∙ ap not some))) (on_both checks squares s h on))
 
--- for check squares told from the king's square
+-- for check squares computed from the king's square
 pub check_word : (d k w : ℕ) (x : Man) → d < 2 ^ 64 → same_kind x.kind Grasshopper ≡ false
     → ((men : List (Option Man)) → d ≡ occupied_squares men → w ≡ word (reaches_as men (other x.colour) x.kind k)) → IsCheckWord d k x w
 check_word d k w x fits kind h = record {

@@ -380,7 +380,7 @@ module _ (rule : RuleSet) (p : Position) (m : Move) (x : Man) (v : Siege) (k : �
         | inl old ↦ search (rules, old, before, last, stood_q h z, somebody h low, free.own h on low apart, free.enemies h on low apart, false≢true)
       ]
 
-      -- whoever stands elsewhere than where the two came stands on a later hurdle
+      -- a man elsewhere than on the two arrivals is on a later hurdle
       standing : (d h : ℕ) (z : Man) → AreLaterHurdles v k n.from d → h < 64 → h ≢ k → h ≢ n.to → man_on r.men h ≡ Some z
           → ((bit_at d h == 1) ≡ true) ⊎ (h ≡ m.to)
       standing d h z are low apart off there = elim (stood_r h z there) [

@@ -9,7 +9,7 @@ use Rattle.chess_mates.proofs.Risks.{denied_on, none_at, none_on}
 pub hopper_is : (k : Kind) → is_hopper (gait_of k) ≡ true → k ≡ Grasshopper
 hopper_is k hop = grind (arith, false≢true)
 
--- an attacker that is a hopper stands on a square of the grasshoppers' word
+-- an attacker that is a hopper is on a square of the grasshoppers' bitboard
 pub grasshopper_on : (a : Attackers) (q : ℕ) (z : Man) → IsAttacker a z q → is_hopper (gait_of z.kind) ≡ true → (bit_at a.grasshoppers q == 1) ≡ true
 grasshopper_on a q z i hop = rw (hopper_is z.kind hop) at i.on
 

@@ -6,7 +6,7 @@ use Rattle.chess_rules.proofs.making_moves.Plays.{length-without_at}
 abbrev pub stepped : List (Option Man) → ℕ → Option ℕ → ℕ → Man → ℕ → Option ℕ → ℕ → Man → List (Option Man)
 stepped men a o b z k u t x = gone_to (gone_to men a o b z) k u t x
 
--- what is asked of the squares, and of the men on them: those of colour c look for an attack
+-- what must hold of the squares and of the men on them; attacks by colour c count
 pub record IsStep (men : List (Option Man)) (a : ℕ) (o : Option ℕ) (b k : ℕ) (u : Option ℕ) (t : ℕ) (x : Man) (c : Colour) : Type 0 where
   pub arrival : b < length men
   pub flight : t < length men
@@ -43,7 +43,7 @@ module _ (men : List (Option Man)) (a : ℕ) (o : Option ℕ) (b : ℕ) (z : Man
         → man_on (stepped men a o b z k u t x) q ≡ man_on (gone_to men a o b z) q
     on_others q h ne off = search (rules, kept_now, or_from, taken_nowhere)
 
-    -- who stands on a square once the man has arrived
+    -- the man on a square after the arrival
     pub stands_arrived : (q : ℕ) → b < length men → ((s : ℕ) → is_square u s ≡ true → s ≡ t) → q ≡ b → q ≢ t → b ≢ k
         → man_on (stepped men a o b z k u t x) q ≡ Some z
     stands_arrived q arrival h e ne off = search (rules, on_others, there_now)
@@ -94,7 +94,7 @@ module _ (men : List (Option Man)) (a : ℕ) (o : Option ℕ) (b k : ℕ) (u : O
     ]
   ]
 
-  -- the words are those of the men once a man of the other side has come to b too
+  -- the bitboards describe the men after a man of the other side has come to b too
   pub seen_stepped : AreSeen men (stepped men a o b x k u t x) c (sight_with (sight_lifted men a o b k) t)
   unfolding squares_of
   seen_stepped = search (rules, attacker_stands, occupied_stepped, squares_both, squares_not)
