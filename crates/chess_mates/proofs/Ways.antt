@@ -93,7 +93,7 @@ module _ (rule : RuleSet) (p : Position) (x : Man) (v : ToldThreats) (well : IsW
   inside : (w t : ℕ) → w < 2 ^ 64 → (bit_at w t == 1) ≡ true → t < 64
   inside w t fits on = grind (arith, bit_at_above w 64 t fits, cases_lt t 64)
 
-  -- only the squares of l among those of w are risky, if elsewhere the king keeps a flight when the man
+  -- among the squares of w only the ones in l are risky, if elsewhere the king keeps a flight when the man
   -- arrives
   pub unkept_are_risky : (s w l r : ℕ) → man_on p.men s ≡ Some x → w < 2 ^ 64 → same_kind x.kind King ≡ false
       → ((t : ℕ) → t < 64 → (bit_at w t == 1) ≡ true → (bit_at l t == 1) ≡ false → (captures_do_more rule ≡ false) × KeepsFlightBeside v.siege t)

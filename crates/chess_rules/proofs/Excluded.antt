@@ -310,8 +310,8 @@ lines_to_a_king : Unit {0}
 unfolding may_expose cannot_expose may_stand_between is_on_fairy_line is_plain is_reached is_ahead is_on_some is_shut is_behind
 lines_to_a_king = tt
 
--- White Ka1 Rh2, Black Kh8 Ga8: on a2 the rook is the hurdle over which the grasshopper gives check, though the rook stood on no line to
--- the king
+-- White Ka1 Rh2, Black Kh8 Ga8: on a2 the rook is the hurdle over which the grasshopper gives check, though
+-- the rook was on no line to the king
 abbrev hurdle_comes : Position
 hurdle_comes = position (on White King a1 ∷ on White Rook h2 ∷ on Black King h8 ∷ on Black Grasshopper a8 ∷ []) White
 
