@@ -296,11 +296,11 @@ impl Scanner {
         }
     }
 
-    /// Reads the next word into `word`, which `next_word` would return. `word` keeps no old bytes.
+    /// Reads into `word` the word that `next_word` would return, in place of the old one.
     ///
     /// # Errors
     ///
-    /// Those of `next_word`.
+    /// Fails exactly when `next_word` would, with the same fault.
     pub fn read_word<S: Source>(
         &mut self,
         source: &mut S,

@@ -54,7 +54,7 @@ pub extern "C" fn pops_report(
 /// Writes the list of the input's parts to the front of `output`, one line an item, and its length in bytes to
 /// `written`. A part of help play fixes `depth` first moves; 0 counts as 1.
 ///
-/// The results are those of `pops_report`.
+/// The result means what it means for `pops_report`.
 #[unsafe(no_mangle)]
 pub extern "C" fn pops_list(
     depth: usize,

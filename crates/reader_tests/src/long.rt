@@ -1,7 +1,7 @@
 //! Texts of more than three reading windows, in which words, blanks and lines cross the windows' ends.
 use std::alloc::AllocError;
 
-/// The number of bytes after which a long text repeats: those of a sound problem, 346, and of a faulty one, 367 to 371.
+/// The number of bytes after which a long text repeats: a sound problem of 346 bytes, and a faulty one of 367 to 371.
 pub(crate) const PERIOD: usize = 715;
 
 // Adds a sound problem with a title, blanks of each kind and a long text line.
