@@ -5,7 +5,9 @@ use arrayvec::ArrayVec;
 /// A phase of a problem, which has its own solutions: set play, in which the other side starts, or the play.
 #[derive(Clone, Copy, PartialEq, Eq)]
 pub enum Phase {
+    /// Set play.
     Set,
+    /// The play.
     Play,
 }
 
@@ -19,8 +21,8 @@ pub enum Event {
         half: u32,
         moves: ArrayVec<Shown, 32>,
     },
-    /// A move of battle play in the tree of a solution. `depth` is the number of moves above it; `half` is the number of
-    /// its half-move, counted from 1.
+    /// A move of battle play in the tree of a solution. `depth` is the number of moves above it; `half` is the number
+    /// of its half-move, counted from 1.
     Node {
         depth: u32,
         half: u32,

@@ -39,7 +39,7 @@ impl<'a> Model for TrialSource<'a> {
 
 impl<'a> TrialSource<'a> {
     /// Returns a source of the text, of at most `at_most` bytes a call, 1 or more, that fails once before byte
-    /// `fails_at`, counted from 0.
+    /// `fails_at`, counted from 0, if there is one.
     pub fn new(text: &'a [u8], at_most: usize, fails_at: Option<usize>) -> TrialSource<'a>
         requires { 0 < at_most }
         ensures remaining { ⟦<TrialSource<'a> as Source>⟧.remaining result ≡ Some text.now }
@@ -64,7 +64,7 @@ impl<'a> TrialSource<'a> {
     }
 
     /// Returns a source of the text over and over, `length` bytes in all, of at most `at_most` bytes a call, 1 or more,
-    /// that fails once before byte `fails_at`, counted from 0.
+    /// that fails once before byte `fails_at`, counted from 0, if there is one.
     pub fn repeated(
         text: &'a [u8],
         length: usize,

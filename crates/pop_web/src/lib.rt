@@ -9,9 +9,9 @@
 //! let report = &output[..written];
 //! ```
 //!
-//! The interface is `pops_report`, `pops_list` and `pops_part`, which are exported by these names. The modules
-//! `text_source` and `kept_sink` are internal: a source and a sink in memory. `specs/Page.antt` defines what the calls
-//! return. No call allocates.
+//! The interface is `pops_report`, `pops_list` and `pops_part`, which are exported by these names. They use a source
+//! and a sink in memory, `text_source` and `kept_sink`. `specs/Page.antt` defines what the calls return. No call
+//! allocates.
 #![tactic(auto)]
 
 pub mod kept_sink;

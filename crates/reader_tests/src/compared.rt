@@ -41,7 +41,7 @@ fn read(input: &[u8], at_most: usize, failed: bool) -> ArrayVec<Told, ITEMS>
     items
 }
 
-/// Returns whether both readers find the same items, if the input ends cleanly and if the source fails at its end.
+/// Returns whether both readers find equal items, both for a clean end of the input and for a source that fails there.
 pub(crate) fn agree(input: &[u8], at_most: usize) -> bool
     requires { 0 < at_most }
 {
