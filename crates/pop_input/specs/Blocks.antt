@@ -66,7 +66,7 @@ closing_of (TextLine line keyword text) = None
 abbrev pub closes_none : Token → Bool
 closes_none token = not (closes (closing_of token))
 
--- the blocks of a token, which is this command, and of the tokens after it, whose blocks are given
+-- the blocks of tokens, by the command that the first token is, if any, the first token, and the blocks of the others
 abbrev pub before_blocks : Option Command → Token → List (List Token) → List (List Token)
 before_blocks (Some Next) token blocks = (token ∷ []) ∷ blocks
 before_blocks (Some Last) token blocks = (token ∷ []) ∷ []
