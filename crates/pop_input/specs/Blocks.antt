@@ -26,7 +26,7 @@ words_in ((TextLine line keyword text) ∷ tokens) = words_in tokens
 -- The words and text lines of a problem. In the first block the problem begins after the first word, BeginProblem; in a
 -- later block it is the whole block.
 
--- whether a problem has begun after these tokens of a block, the first block or a later one
+-- whether a problem has begun after these tokens of a block: in the first block if a word is among them, later always
 abbrev pub has_begun : Bool → List Token → Bool
 has_begun false tokens = true
 has_begun true [] = false
