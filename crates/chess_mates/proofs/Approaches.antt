@@ -7,7 +7,7 @@ use Rattle.std.proofs.lemmas.Nat.{pow_pos, shr-shr}
 pub bit_down : (w k s : ℕ) → bit_at (w / 2 ^ k) s ≡ bit_at w (k + s)
 bit_down w k s = ap (λ x. x % 2) (shr-shr w k s)
 
--- the same word moved up: its squares are so much higher
+-- the squares of a word moved up by k are higher by k
 pub bit_up : (w k s : ℕ) → k ≤ s → s < 64 → bit_at (w * 2 ^ k % 2 ^ 64) s ≡ bit_at w (s - k)
 bit_up w k s from small =
     let all = w * 2 ^ k in

@@ -35,7 +35,7 @@ bare x b lt = agree_below_at (is_bare (step_of x)) (λ b. true) 64 b refl lt
 end_none : (s : ℕ) (d : Step) (n t : ℕ) → is_end s d ≡ true → 1 ≤ n → n ≤ 7 → along s d n ≡ Some t → ⊥
 end_none s d n t h low le at = search (rules, all_at, false≢true)
 
--- so a man in a corner stands between no two squares
+-- a man in a corner stands between no two squares
 corner_beside : (x : Direction) (b s k : ℕ) → is_corner b ≡ true → b < 64 → s < 64 → IsBeside b s k (step_of x)
 corner_beside x b s k h inside small = λ n i at low lt le. false_from_ne_true _ (λ y.
     let here : along s (step_of x) i ≡ Some b = square_is _ b y in
@@ -144,7 +144,7 @@ module _ (rule : RuleSet) (p : Position) (x : Man) (m : Move) (well : IsWellForm
       unfolding may_stand_between may_check_from
       king_steps = search (rules, unreached, king_shift, parts, or_parts, stood, small, at, aside, king_off)
 
-      -- nor does the rook from halfway
+      -- once the king has castled, the rook doesn't reach the other king from halfway
       rook_strikes : is_of_colour (man_on castled (halfway m)) (other c) ≡ true → reaches castled (halfway m) k ≡ true → ⊥
       unfolding reaches reaches_as is_on_some may_check_from
       rook_strikes side hit =
@@ -160,7 +160,8 @@ module _ (rule : RuleSet) (p : Position) (x : Man) (m : Move) (well : IsWellForm
           (grind (arith, lined, goes_on p.men k m.from straight_steps both.0, or_cases, and_from, eqb-true)) (both.0, the_way.2)) before in
           grind (arith, rook_off, at, rode, or_parts)
 
-      -- nor another man, who would have reached him before the rook went
+      -- once the king has castled, no other man reaches the other king: it would have reached it before the
+      -- rook went
       man_strikes : (s : ℕ) (o : Option Man) → man_on castled s ≡ o → s < 64 → s ≢ halfway m → is_of_colour o (other c) ≡ true → reaches castled s k ≡ true → ⊥
       unfolding reaches is_reached
       man_strikes s None there lt ne side hit = cc

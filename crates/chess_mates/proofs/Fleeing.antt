@@ -34,7 +34,7 @@ on_second a b i h = search (rules, bit_at-lt, bit_at_and, eq-eqb, eqb-true)
 pub unseen_bit : (test : ℕ → Bool) (n w t : ℕ) → w ≡ word test → t < 64 → (bit_at (bit_and n (bit_not w64 w)) t == 1) ≡ true → (bit_at w t == 1) ≡ false
 unseen_bit test n w t h small on = search (rules, on_second, squares_not, word_has)
 
--- and for one of the first that the test leaves out
+-- a square of the first word that the test leaves out is in the difference
 pub seen_bit : (test : ℕ → Bool) (n w t : ℕ) → w ≡ word test → t < 64 → (bit_at n t == 1) ≡ true → (bit_at w t == 1) ≡ false
     → (bit_at (bit_and n (bit_not w64 w)) t == 1) ≡ true
 seen_bit test n w t h small on off = search (rules, bit_at_and, eq-eqb, eqb-true, squares_not, word_has)
@@ -75,7 +75,7 @@ module _ (rule : RuleSet) (p : Position) (m : Move) (x : Man) (k : ℕ) (i : IsS
   no_own_arrives = grind (arith, arriving_colour, is_made, other_differs)
 
   module _ (small : m.to < 64) where
-    -- its king stands where he stood
+    -- the king of the side that waits keeps its square
     pub king_seen : king_square (position_after rule p m).men (other p.turn) ≡ Some k
     king_seen = search (rules, after_seen, king_waits rule p x m (other p.turn) i.well_formed is_made small refl, i.king)
 
@@ -96,7 +96,7 @@ module _ (rule : RuleSet) (p : Position) (m : Move) (x : Man) (k : ℕ) (i : IsS
       ]
     ]
 
-    -- but where he has come
+    -- a free square other than the arrival may be stepped to
     free_elsewhere : (t : ℕ) → t ≢ m.to → is_free t ≡ true → is_arrival_free (other p.turn) (man_on (arrived p x m) t) ≡ true
     free_elsewhere t ne free = grind (arith, cases_Bool, left_now, kept_now, or_parts)
 
@@ -218,7 +218,7 @@ module _ (rule : RuleSet) (q : Position) (x : Man) (k t : ℕ) (i : IsKingStep r
   unfolding is_pseudo_legal
   may_step = grind (arith, open_parts, king_is_no_pawn, king_is_able, and_left, cond-false, or_left, steps_there, and_from)
 
-  -- and nobody is reborn by it
+  -- by a step of the king to an open square nobody is reborn
   pub simple_step : IsSimple rule q x (step_to k t)
   simple_step =
       let way = open_parts rule q.men q.turn k t i.near in
@@ -227,7 +227,7 @@ module _ (rule : RuleSet) (q : Position) (x : Man) (k t : ℕ) (i : IsKingStep r
         rebirth = search (rules, no_capture, way.nobody, and_left, king_is_no_pawn);
       }
 
-  -- and it is legal exactly where nobody attacks the square then
+  -- a step of the king to an open square is legal exactly where nobody attacks the square after it
   pub step_is : is_legal rule q (step_to k t) ≡ not (is_attacked rule (arrived q x (step_to k t)) t (other q.turn))
   unfolding is_legal
   step_is =

@@ -27,7 +27,7 @@ reached_left x s a b h = record { inside = λ men t small r. on_left a b t (h.in
 pub reached_right : (x : Man) (s a b : ℕ) → AreReached x s b → AreReached x s (bit_or a b)
 reached_right x s a b h = record { inside = λ men t small r. on_right a b t (h.inside men t small r) }
 
--- the same for targets
+-- targets stay targets in a larger word
 pub targets_left : (x : Man) (s a b : ℕ) → AreTargets x s a → AreTargets x s (bit_or a b)
 targets_left x s a b h = record { inside = λ p t small may. on_left a b t (h.inside p t small may) }
 
@@ -59,7 +59,7 @@ told k q r b n p g y f w = record {
 }
 
 module _ (a : Attackers) where
-  -- but for pawns and kings the targets are what they reach, and more
+  -- for a kind other than pawn and king the targets are what it reaches, and more
   piece_targets_of : (k : Kind) (w v : ℕ) → same_kind k Pawn ≡ false → same_kind k King ≡ false → HoldsOf a (λ x s. AreReached x s w) k
       → HoldsOf a (λ x s. AreTargets x s (bit_or w v)) k
   piece_targets_of k w v none piece h s small on = record {

@@ -35,7 +35,7 @@ unfolding some_square squares
 some_before f g each h =
     elim (any_range_cases f 0 64) [ inl w ↦ some_square_true g w.0 w.2 (each w.0 w.3) | inr none ↦ absurd (false≢true (sym (any_range_false f 0 64 none) ∙ h)) ]
 
--- and fewer squares lie on fairy lines
+-- where fewer men stand, fewer squares lie on fairy lines
 unlined_before : (men mid : List (Option Man)) (e : Colour) (k t : ℕ) → ((j : Kind) (q : ℕ) → is_man (man_on mid q) e j ≡ true
     → is_man (man_on men q) e j ≡ true) → is_on_fairy_line men e k t ≡ false → is_on_fairy_line mid e k t ≡ false
 unfolding is_on_fairy_line
@@ -236,7 +236,7 @@ module _ (rule : RuleSet) (p : Position) (m : Move) (x : Man) (k : ℕ) (well : 
                 covered_y off_line aside off
           ]
 
-      -- so it is no mate
+      -- where the check is parried, it is no mate
       no_mate_where_parried : is_mate rule q ≡ false
       no_mate_where_parried =
           let turn = turn_after rule p m may in
@@ -331,7 +331,7 @@ module _ (rule : RuleSet) (p : Position) (m : Move) (x : Man) (k : ℕ) (well : 
   -- nobody parries the check of a man who isn't taken, if nobody comes between
   module _ (o w : ℕ) (i : IsUntaken o w x m.to k) (occupied : o ≡ occupied_squares q.men)
       (takers : w ≡ word (λ s. is_of_colour (man_on q.men s) (other p.turn) && reaches q.men s m.to)) (u : NobodyComes q.men (other p.turn) m.to k) where
-    -- nor is anybody captured en passant
+    -- nobody is captured en passant
     uncrossed : q.crossed ≡ None
     unfolding position_after position_after_by
     uncrossed = search (rules, here, i.piece, cond-false, and_left)
@@ -363,7 +363,7 @@ module _ (rule : RuleSet) (p : Position) (m : Move) (x : Man) (k : ℕ) (well : 
           let set : (bit_at w n.from == 1) ≡ true = word_has _ w n.from takers inside ∙ and_from _ _ side goes in
           false≢true (sym away ∙ i.untaken n.from inside set)
 
-      -- nor does he come between
+      -- the man doesn't interpose
       apart : (bit_at u.squares n.to == 1) ≡ false
       unfolding can_castle may_castle
       apart = false_from_ne_true _ (λ h.
@@ -386,7 +386,7 @@ module _ (rule : RuleSet) (p : Position) (m : Move) (x : Man) (k : ℕ) (well : 
         rebirth = λ h. absurd (false≢true (sym told.reborn ∙ h));
       }
 
-      -- so the check stays
+      -- the check stays
       still : in_check rule (position_after rule q n).men q.turn ≡ true
       unfolding is_reached reaches
       still =
@@ -451,7 +451,7 @@ module _ (p : Position) (m : Move) (k w l d : ℕ) (shields : w ≡ word (may_ex
       search (rules, shields, straight, diagonal, squares_either, squares_not) in
       words ∙ squares_same _ _ (λ s b. grind (arith, on_line_is, on))
 
-  -- and beside one from elsewhere
+  -- for `unpinned_squares`: beside a move from elsewhere
   pub unpinned_alone : (bit_at (bit_or l d) m.from == 1) ≡ false → bit_not w64 w ≡ word (is_unpinned p m k)
   unpinned_alone off =
       let words : bit_not w64 w ≡ word (λ s. not (may_expose p.men (other p.turn) s)) = search (rules, shields, squares_not) in

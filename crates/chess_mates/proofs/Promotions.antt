@@ -51,7 +51,7 @@ pub unpromoted_leaves : (w e c s : ℕ) (x z : Man) (t : ℕ) → t < 64 → (bi
     → (bit_and s 18374686479671623935 == 0) ≡ true → MayBecome false x t z → LeavesOne w e c z t
 unpromoted_leaves w e c s x z t small on leaves none may = rw (unchanged false x z t (no_last_rank x s t none small on) may) leaves
 
--- and on them
+-- for `critical_of_pawn`: on the last ranks too
 pub pawn_leaves : (w e c q n s : ℕ) (x z : Man) (t : ℕ) → t < 64 → (bit_at s t == 1) ≡ true → LeavesOne w e c x t
     → ((bit_at (bit_and s 18374686479671623935) t == 1) ≡ true → LeavesOne w e q (record { colour = x.colour; kind = Queen }) t)
     → ((bit_at (bit_and s 18374686479671623935) t == 1) ≡ true → LeavesOne w e n (record { colour = x.colour; kind = Knight }) t)

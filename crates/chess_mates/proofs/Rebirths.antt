@@ -20,7 +20,7 @@ module _ (men : List (Option Man)) (r : ℕ) (y : Man) where
   unfolding reaches_as
   reached e v1 s t g h = search (rules, any_kept (rides (with_man men r y) s t) (rides men s t), rode, false≢true)
 
-  -- so y gives the king of his colour no check
+  -- the reborn man y gives the king of its own colour no check
   module _ (c : Colour) (own : same_colour y.colour (other c) ≡ false) (mortal : same_kind y.kind King ≡ false) (lacks : LacksGrasshopper men (other c))
       (one : AtMostOneKing men) where
     struck : (k s : ℕ) → is_attacker circe (with_man men r y) k (other c) s ≡ true → is_attacker orthodox men k (other c) s ≡ true

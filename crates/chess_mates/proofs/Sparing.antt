@@ -314,7 +314,7 @@ module _ (rule : RuleSet) (p : Position) (m : Move) (x : Man) (v : Siege) (k : �
       stood_r : (s : ℕ) (z : Man) → man_on r.men s ≡ Some z → Stood s z ⊎ ((z.colour ≡ p.turn) × IsNew s)
       stood_r s z there = search (rules, same_or_new s, stood q y n s z (omega (arith, to, well_q.size)), same_man)
 
-      -- of the attackers nobody is new
+      -- no attacker is new
       enemy_r : (s : ℕ) (z : Man) → man_on r.men s ≡ Some z → z.colour ≡ other p.turn → Stood s z
       enemy_r s z there enemy = search (rules, stood_r s z there, one_side z p.turn enemy)
 
@@ -361,7 +361,7 @@ module _ (rule : RuleSet) (p : Position) (m : Move) (x : Man) (v : Siege) (k : �
               ∙ (u.are.rides s z a (λ e. ne (sym e)) rider near).inside m.from from reach))
               (λ rider on reach. (u.are.kept n.from from_small on).1 refl) h)))
 
-          -- nor y, from a square from which he doesn't check
+          -- y reaches no king from a square from which it gives no check
           quiet_off : (bit_at w.checks n.to == 1) ≡ false → reaches_as men y.colour y.kind n.to k ≡ false
           unfolding reached_over
           quiet_off quiet =

@@ -132,7 +132,7 @@ free_are v k w o only fits none = search (rules, off_left, off_right, free) wher
 pub unsprung_left : (v : Siege) (k t a b : ℕ) → IsUnsprung v k t a → IsUnsprung v k t (bit_or a b)
 unsprung_left v k t a b h = record { springboards = h.springboards; are = h.are; free = h.free; within = λ s on. on_left a b s (h.within s on) }
 
--- the same for the second word
+-- for the second of two words of springboards that are joined
 pub unsprung_right : (v : Siege) (k t a b : ℕ) → IsUnsprung v k t b → IsUnsprung v k t (bit_or a b)
 unsprung_right v k t a b h = record { springboards = h.springboards; are = h.are; free = h.free; within = λ s on. on_right a b s (h.within s on) }
 

@@ -21,7 +21,7 @@ not_mine x c e = grind arith
 pub free_man : (c : Colour) (o : Option Man) → is_of_colour o c ≡ false → is_man o (other c) King ≡ false → is_arrival_free c o ≡ true
 free_man c o side king = grind (arith, false≢true)
 
--- but not where his side stands
+-- a man may not arrive where its own side stands
 pub unfree : (c : Colour) (o : Option Man) → is_arrival_free c o ≡ true → is_of_colour o c ≡ true → ⊥
 unfree c o free side = grind (arith, and_parts, not-true, false≢true)
 

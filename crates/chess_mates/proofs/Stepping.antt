@@ -48,7 +48,7 @@ module _ (men : List (Option Man)) (a : ℕ) (o : Option ℕ) (b : ℕ) (z : Man
         → man_on (stepped men a o b z k u t x) q ≡ Some z
     stands_arrived q arrival h e ne off = search (rules, on_others, there_now)
 
-    -- and once the king has stepped
+    -- the squares occupied once the king has stepped
     pub stands : (q : ℕ) → b < length men → t < length men → ((s : ℕ) → is_square u s ≡ true → s ≡ t)
         → ((is_occupied_after men a o b q && not (k == q)) || t == q) ≡ is_some (man_on (stepped men a o b z k u t x) q)
     stands q arrival flight h = grind (arith, gone_to, length-set, length-without_at, occupied_now)
@@ -69,7 +69,7 @@ module _ (men : List (Option Man)) (a : ℕ) (o : Option ℕ) (b : ℕ) (z y : M
       → StandAlike (stepped men a o b z k u t x) (stepped men a o b y k u t x) t
   arrival_alike arrival flight h = search (rules, stands)
 
-  -- so they do for each kind of arriving man
+  -- whichever man has arrived, the men elsewhere are equal
   pub same_elsewhere : (q : ℕ) → t < length men → ((s : ℕ) → is_square u s ≡ true → s ≡ t) → (q ≡ b → q ≡ t)
       → man_on (stepped men a o b z k u t x) q ≡ man_on (stepped men a o b y k u t x) q
   same_elsewhere q flight h off = search (rules, man_on-with_other, on_flight, on_left, on_others)

@@ -13,7 +13,7 @@ no_step_back : (t : ℕ) → t < 64 → list_any (leaps t t) queen_steps ≡ fal
 unfolding along leaps
 no_step_back t small = agree_below_at (λ n. list_any (leaps n n) queen_steps) (λ _. false) 64 t refl small
 
--- the same men around the king belong to the same position
+-- two values of `Siege` with equal men around the king belong to one position
 like_fits : (rule : RuleSet) (p : Position) (v w : Siege) → IsLike v w → IsSiegeOf rule p v → IsSiegeOf rule p w
 like_fits rule p v w l fits = search (rules, l.men, l.own, l.enemies, l.king, l.castled, l.closed, fits)
 

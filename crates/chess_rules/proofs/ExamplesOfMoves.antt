@@ -19,12 +19,13 @@ castling_wants_the_rook_unmoved : is_legal orthodox (record castling { unmoved =
 unfolding legal_moves
 castling_wants_the_rook_unmoved = refl
 
--- the same with a black grasshopper on d1: after castling it hops over f1 to g1
+-- the position for castling with a black grasshopper added on d1: after castling it hops over f1 to g1
 abbrev guarded : Position
 guarded = record (position (on White King e1 ∷ on White Rook h1 ∷ on White Rook e8 ∷ on White Rook g8 ∷ on Black King f3 ∷ on Black Grasshopper d1 ∷ [])
     White) { unmoved = with_unmoved (with_unmoved none_unmoved e1) h1 }
 
--- so castling isn't legal, and Rh1-f1, which mates without it, doesn't, since the grasshopper captures there
+-- with the grasshopper on d1 castling isn't legal; Rh1-f1 isn't mate, since the grasshopper captures there,
+-- and is mate without it
 grasshopper_forbids_castling : (is_legal orthodox guarded (go e1 g1) ≡ false) × (is_mate orthodox (position_after orthodox guarded (go h1 f1)) ≡ false)
     × (is_mate orthodox (position_after orthodox castling (go h1 f1)) ≡ true)
 unfolding legal_moves
@@ -78,7 +79,7 @@ bishop_is_reborn = (refl, refl)
 abbrev rook_at_home : Position
 rook_at_home = position (on White King g6 ∷ on White Rook a1 ∷ on Black King g8 ∷ on Black Rook a8 ∷ []) White
 
--- so this is mate
+-- the capture Ra1xa8 is mate
 rook_vanishes : is_mate circe (position_after circe rook_at_home (go a1 a8)) ≡ true
 unfolding legal_moves
 rook_vanishes = refl

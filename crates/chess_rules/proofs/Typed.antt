@@ -34,7 +34,7 @@ position xs c = record {
 abbrev pub go : ℕ → ℕ → Move
 go a b = record { from = a; to = b; promo = None }
 
--- the same with a promotion
+-- a promotion: the move from one square to another, and the kind that the pawn becomes
 abbrev pub promoting : ℕ → ℕ → Kind → Move
 promoting a b k = record { from = a; to = b; promo = Some k }
 
@@ -45,7 +45,7 @@ unfolding reaches reaches_as rides hops leaps is_clear along squares some_square
     mark_unmoved
 check_after_a_move = tt
 
--- and what the legal moves and mate
+-- what decides which moves are legal, and whether a position is mate
 unfoldable pub legal_moves : Unit {0}
 unfolding check_after_a_move is_legal moves triples is_mate
 legal_moves = tt

@@ -40,7 +40,7 @@ module _ (rule : RuleSet) (p : Position) where
       → true ≡ is_some o → true ≡ some_good (chess Mate rule) (is_goal_reached Mate rule) p
   mate_behind b next o found some = grind (arith, some_mates b, none_joined)
 
-  -- so does one found before it
+  -- a mate found before the killer mates
   pub mate_before : (a b next : ℕ) (q : Position) (o : Option Move)
       → MatchOption o (mates_between rule q a b ≡ []) (λ m. mates_between rule q a b ≡ m ∷ mates_between rule q next b)
       → a ≡ 0 → q ≡ p → true ≡ is_some o → true ≡ some_good (chess Mate rule) (is_goal_reached Mate rule) p

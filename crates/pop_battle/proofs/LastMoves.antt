@@ -14,7 +14,7 @@ none_mates : (test : Move → Bool) (ms : List Move) → filter test ms ≡ [] �
 none_mates test [] none = refl
 none_mates test (m ∷ ms) none = grind arith
 
--- nor where none does
+-- Black needn't mate where no move mates
 pub no_mates : (rule : RuleSet) (q : Position) → mates_behind rule q 0 ≡ [] → value Selfmate (chess Mate rule) 1 q ≡ false
 unfolding mates_behind
 no_mates rule q none = rw (value-forced Selfmate (chess Mate rule) q refl) (none_mates (is_mating rule q) (moves rule q) (rw (← behind_start rule q) none))
@@ -54,7 +54,7 @@ module _ {battle : Battle} {rule : RuleSet} {t : ℕ} {p : Position} {v : Bool} 
       (a : AreTried battle rule t p ahead v before least most counted)
       (told : (count ≤ counted + walk_count (moves rule) (position_after rule) t (position_after rule p m))
       × HasCounted counted count (smallest_tree battle (chess Mate rule) t (position_after rule p m))) where
-    -- so is it at a move that decides
+    -- where a move decides, the count is right
     pub stops : value battle (chess Mate rule) t (position_after rule p m) ≡ seeks battle (suc t) → (count ≤ most) × HasCounted before count least
     stops e = grind (arith, trees-next battle (chess Mate rule) t p m later, walk-next rule (aim_of battle) t p ahead later m here)
 

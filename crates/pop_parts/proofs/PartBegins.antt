@@ -191,7 +191,7 @@ module _ (rule : RuleSet) (problem : Posed) (sound : IsSound problem) (phase : P
   begun-passed opened passed = begun-none opened (rw passed refl) (λ help full.
       absurd (false≢true (sym passed ∙ follows-help plan game root left q (help-play problem.stipulation.form help))))
 
-  -- it is followed
+  -- the move is followed
   abbrev entered : List Frame
   entered = opened_frame m (undo_of rule board m) (walk_length plan.play (has_variations plan.tree) game left q) ∷ old
 

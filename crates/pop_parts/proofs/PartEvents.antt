@@ -75,7 +75,7 @@ module _ (rule : RuleSet) (problem : Posed) (phase : Phase) where
     begun-first = beginning_count-next help _ _ _ _ refl (λ b. some)
 
     module _ (stand : Position) (stays : stand ≡ board) (next : ℕ) (n : next ≡ 0 + more (length frames)) where
-      -- then the part is after that path
+      -- once the part's own path is shown, the part is after that path
       pub first-stands : Stands front (Within next) frames stand
       unfolding StandsInPart part_paths
       first-stands = search (rules, first-asks, counts-next, kept-first, begun-first)
@@ -106,7 +106,7 @@ module _ (rule : RuleSet) (problem : Posed) (phase : Phase) where
       pub room-here : more (length frames) ≤ problem.max_solutions - count
       room-here = grind (arith, path-length, length-reverse, deep-here, nat_tests)
 
-      -- it fits a line's room
+      -- the frames of a solution fit a line's room
       pub few-here : IsSound problem → length frames ≤ 33
       few-here s = few frames board s w.walking
 
@@ -124,7 +124,7 @@ module _ (rule : RuleSet) (problem : Posed) (phase : Phase) where
         unfolding part_left part_paths
         given-gives next n event e = rw (same, stays) (search (rules, gives-next, deep-here))
 
-    -- its end
+    -- the end of the part
     module _ (mid : List Frame) (now : Position) (w : Walked mid now false) where
       -- the part's total is given
       pub ended-gives : (new : List Frame) (board : Position) (depth : ℕ) (event : Event) → event ≡ Total count (eqb count problem.max_solutions)
@@ -137,7 +137,7 @@ module _ (rule : RuleSet) (problem : Posed) (phase : Phase) where
         unfolding to_open StandsInPart part_paths
         nothing_open none = search rules
 
-        -- and its positions were all opened
+        -- at the end of the part its positions were all opened
         pub ended-opens : (new : List Frame) (before after : ℕ) → new ≡ []
             → Opens rule (plan_of problem) (phase_start problem phase) old mid before after
             → IsPartOpened rule problem phase front old before → IsPartOpened rule problem phase front (reverse new) after

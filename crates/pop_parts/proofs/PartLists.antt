@@ -36,7 +36,7 @@ module _ {A B : Type 0} where
   map-each f g [] same = refl
   map-each f g (x ∷ xs) same = rw (same x, map-each f g xs same) refl
 
--- of what is joined over moves in order, that of one, where that of every other is empty
+-- a list joined over moves in order is the list of one move, where every other move's is empty
 module _ {B : Type 0} (F : Move → List B) (m : Move) (apart : (x : Move) → eqb (order_number m) (order_number x) ≡ false → F x ≡ []) where
   behind-none : (ms : List Move) → ((x : Move) → Contains ms x → order_number m < order_number x) → flat_map F ms ≡ []
   behind-none [] less = refl
@@ -132,7 +132,7 @@ module _ (game : Game Position Move) (order : (p : Position) → AllPairs Preced
       ∙ ap (map (λ line. m ∷ line)) rest
       ∙ map-map (λ line. m ∷ line) (λ line. front ++ line) (lines_to_goal game (h - length front) (path_end game.after (game.after p m) front)))
 
-  -- they stand in the order of the moves
+  -- the beginnings stand in the order of the moves
   pub beginnings-stand : (d : ℕ) (p : Position) → AllPairs (StandsBefore Precedes) (beginnings game d p)
   unfolding beginnings
   beginnings-stand zero p = grind (arith, pairs_of, none_in_nil, pairs_nil)
@@ -145,7 +145,7 @@ module _ (game : Game Position Move) (order : (p : Position) → AllPairs Preced
       let y = from_map (λ rest. n ∷ rest) (beginnings game d (game.after p n)) b e in
       grind (arith, x, y))
 
-  -- of the beginnings a line that can be played begins with one alone
+  -- a line that can be played begins with exactly one of the beginnings
   pub beginnings-one : (d : ℕ) (p : Position) (line : List Move) → IsPlayable game p line → d ≤ length line
       → filter (λ front. begins_path front line) (beginnings game d p) ≡ take d line ∷ []
   unfolding beginnings begins_path
@@ -191,7 +191,7 @@ root-part other G m ms order c =
     alone : (b : Bool) → filter (begins_so (m ∷ [])) (cond b (((m ∷ []) ∷ G m) ∷ []) []) ≡ cond b (((m ∷ []) ∷ G m) ∷ []) []
     alone b = search (rules, same-number)
 
--- and these of all moves, one move after another
+-- the solutions of all moves, one move after another
 pub each-own : {B : Type 0} (other : Move → Bool) (N : Move → B) (ms : List Move)
     → flat_map (λ x. map N (filter other (x ∷ []))) ms ≡ map N (filter other ms)
 each-own other N [] = refl

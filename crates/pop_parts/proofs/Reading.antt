@@ -64,7 +64,7 @@ pub reads_as_a_run : (new : Standing) (had left : Option (List ℕ)) (n m : ℕ)
 reads_as_a_run new None left n m s seen few reads = tt
 reads_as_a_run new (Some r) left n m s seen few reads = rw (grew_broken new.at.end n m reads) (stopped_reads new r left s seen few)
 
--- and no further than an item, where no more of the words used close one
+-- a call that stops has read no further than an item, where no more of the words used close one
 pub reads_items : (number : ℕ) (new : Standing) (had left : Option (List ℕ)) (n m : ℕ) (s : Stopped new had left) → (1 ≤ number → closings s.tokens ≤ number)
     → IsSeen new.at.end left → length new.at.window ≤ 4096 → m ≡ failures_after Open new.at.end n
     → IfSome had (λ r. ReadsItems number (input_met (has_grown n m) r left) (taken_of r left))

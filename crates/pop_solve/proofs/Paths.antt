@@ -72,7 +72,7 @@ module _ (goal : Goal) (rule : RuleSet) where
   path_end-path p (f ∷ (g ∷ below)) = search (rules, path_end-append, path_end-path p (g ∷ below))
 
 module _ (rule : RuleSet) where
-  -- and leads to its position
+  -- the path with one frame more leads on by that frame's move
   pub position-more : (p : Position) (f : Frame) (fs : List Frame) → 0 < length fs → position rule p (f ∷ fs) ≡ position_after rule (position rule p fs) f.by
   unfolding position
   position-more p f fs some = search rules
@@ -100,7 +100,7 @@ module _ (rule : RuleSet) where
     unfolding IsLinked
     forth-is_legal p l = search (rules, stacked, length-reverse)
 
-    -- and leads to its own
+    -- played again from its position, the move leads to the upper frames' position
     pub forth-position : (p : Position) → position rule p (reverse upper) ≡ position_after rule (position rule p (reverse lower)) f.by
     forth-position p = grind (arith, stacked, position-more, length-reverse)
 
@@ -109,7 +109,7 @@ module _ (rule : RuleSet) where
         → before ≡ position rule p (reverse lower) → position_after rule before f.by ≡ board
     forth-again h p board before frames e r at = search (rules, forth-position)
 
-    -- it is the last of the moves that are shown
+    -- the move is the last of the moves that are shown
     pub forth-along : (goal : Goal) (p : Position) → moves_shown goal rule p (path (reverse upper))
         ≡ moves_shown goal rule p (path (reverse lower)) ++ shown_move goal rule (position rule p (reverse lower)) f.by ∷ []
     forth-along goal p = search (rules, stacked, length-reverse, path-more, along-append, path_end-path)
@@ -125,17 +125,17 @@ module _ (rule : RuleSet) where
       pub back-is_legal : is_legal rule after f.by ≡ true
       back-is_legal = rw back-walking.board_at (forth-is_legal p r.linked)
 
-      -- it leads back
+      -- the move leads back to the board
       pub back-again : position_after rule after f.by ≡ board
       back-again = forth-again h p board after upper refl r back-walking.board_at
 
-      -- and to the goal, where it ends with that
+      -- the move leads to the goal, where it ends with the goal
       pub back-ended : (plan : Plan) → IsEnded rule plan (reverse upper) board → (b : Reached)
           → b ≡ cond (ends_at_goal plan.play (has_variations plan.tree) f.left) Surely Perhaps → b ≡ Surely
           → (chess plan.goal rule).goal (position_after rule after f.by) ≡ true
       back-ended plan ended b e here = search (rules, back-again, stacked)
 
-      -- it is shown as the last of the path
+      -- the move is shown as the last of the path
       pub back-shown : (goal : Goal) → shown_move goal rule after f.by ≡ last_shown goal rule p (path (reverse upper))
       back-shown goal = search (rules, back-walking, stacked, length-reverse, path-more, last-append, path_end-path)
 

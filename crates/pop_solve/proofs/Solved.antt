@@ -80,7 +80,7 @@ module _ {P M : Type 0} where
   tree_by battle game variation n h p ms =
       map (λ m. node m (cond variation (nodes_below battle game n (h - 1) (game.after p m)) [])) (filter (λ m. keeps_win battle game n (game.after p m)) ms)
 
-  -- the same in set play
+  -- the solutions of set play that begin with some moves of the root
   abbrev pub set_by : Battle → Game P M → Bool → ℕ → ℕ → P → List M → List (List (List M))
   set_by battle game variation n h p ms =
       map (λ d. node d (cond variation (continuations battle game n h (game.after p d))

@@ -94,7 +94,7 @@ module _ (rule : RuleSet) (plan : Plan) where
     unfolding walk_work position
     turns-pass = rw (fuel, work_behind-next rule k (position rule p (f ∷ below)) f.place next m e) (omega arith)
 
-    -- so does following it
+    -- following a move takes a turn
     pub turns-enter : (undo : Undo) (tried : ℕ) → walk_work rule h p (opened_frame m undo tried ∷ (moved f next ∷ below)) < walk_work rule h p (f ∷ below)
     unfolding walk_work position
     turns-enter undo tried = search (rules, work_behind-next rule k (position rule p (f ∷ below)) f.place next m e, steps-start rule k q)
@@ -112,7 +112,7 @@ module _ (rule : RuleSet) (plan : Plan) where
   unfolding to_come shown_paths
   come-close h p f below e = search rules
 
-  -- nor does it open anything
+  -- a frame without moves opens nothing
   pub open-close : (p : Position) (f : Frame) (below : List Frame) → (f.left ≡ 0) ⊎ (moves_behind rule (position rule p (f ∷ below)) f.place ≡ [])
       → to_open rule p (f ∷ below) ≡ to_open rule p below
   unfolding to_open walk_behind

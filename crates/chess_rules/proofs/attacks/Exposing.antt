@@ -23,7 +23,7 @@ pub arrives_as : (x : Man) (m : Move) (k : Kind) (w : ℕ) → w ≡ word (is_sq
     → w ≡ word (is_arriving_as x m k)
 arrives_as x m k w h is = h ∙ squares_same _ _ (λ s b. sym (ap (λ (y : Bool). y && is_square (Some m.to) s) is))
 
--- it is in no word of another kind
+-- the arriving man is in no word of another kind
 pub arrives_otherwise : (x : Man) (m : Move) (k : Kind) → same_kind (arriving_man x m.promo).kind k ≡ false → 0 ≡ word (is_arriving_as x m k)
 arrives_otherwise x m k off = word_empty (is_arriving_as x m k) (λ s b. and_left _ (is_square (Some m.to) s) off)
 

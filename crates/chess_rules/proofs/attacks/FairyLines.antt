@@ -25,7 +25,7 @@ its_own s k d n small at low le = ahead_on s k d n 0 s at (omega arith) le (ap (
 abbrev pub IsBeside : ℕ → ℕ → ℕ → Step → Type 0
 IsBeside a s k d = (n i : ℕ) → along s d n ≡ Some k → 1 ≤ i → i < n → n ≤ 7 → is_square (along s d i) a ≡ false
 
--- nor does it pass a right before k, where a hurdle would be
+-- no line from s to k in this direction passes a right before k, where a hurdle would be
 abbrev pub IsNoHurdle : ℕ → ℕ → ℕ → Step → Type 0
 IsNoHurdle a s k d = (n : ℕ) → along s d n ≡ Some k → 2 ≤ n → n ≤ 7 → is_square (along s d (n - 1)) a ≡ false
 
@@ -83,7 +83,8 @@ module _ (men after : List (Option Man)) (e : Colour) (a b k s : ℕ) (i : Frees
       (λ x. is_lined men e Grasshopper k b (back (step_of x))) (search (rules, hop_kept, beside, no_hurdle))
       (backward queen_steps (is_lined men e Grasshopper k a) refl ∙ p) (backward queen_steps (is_lined men e Grasshopper k b) refl ∙ q) h
 
-  -- and so for nightriders
+  -- a nightrider that stands where it stood rides as it rode, and one that has come from a as it would have
+  -- ridden
   pub nightrider_before : WasThere men e Nightrider a b s → list_any (is_lined men e Nightrider k a) knight_steps ≡ false
       → list_any (rides after s k) knight_steps ≡ true → list_any (rides men s k) knight_steps ≡ true
   nightrider_before was p h =
@@ -109,7 +110,7 @@ pub line_passes : (test : ℕ → Bool) (k w r : ℕ) (d : Step) → w ≡ word 
 unfolding ray
 line_passes test k w r d h i some = grind (arith, squares_same, passed test k w r d h i)
 
--- of one on which none stands, no square is
+-- if a line carries no man of this kind, no square of the line is lined with it
 pub line_misses : (test : ℕ → Bool) (k w r : ℕ) (d : Step) → w ≡ word test → r ≡ ray k d → (bit_and r w == 0) ≡ true
     → 0 ≡ word (λ t. is_ahead k d t && some_square (λ q. test q && is_ahead k d q))
 line_misses test k w r d h i none = grind (arith, word_empty, and_right, passed test k w r d h i)

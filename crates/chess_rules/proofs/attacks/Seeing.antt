@@ -39,7 +39,7 @@ pub kept_now : (men : List (Option Man)) (a : ℕ) (o : Option ℕ) (b : ℕ) (z
     → man_on (gone_to men a o b z) q ≡ man_on men q
 kept_now men a o b z q ne h = grind (arith, or_parts, man_on-with_other, ne, h, man_on-without_other, false≢true, eq-eqb)
 
--- so the test says on which squares men stand after the move
+-- the test says on which squares men stand after the move
 pub occupied_now : (men : List (Option Man)) (a : ℕ) (o : Option ℕ) (b : ℕ) (z : Man) (q : ℕ) → b < length men
     → is_occupied_after men a o b q ≡ is_some (man_on (gone_to men a o b z) q)
 occupied_now men a o b z q small = search (rules, cases_Bool, cases_eq, differs, eq-eqb, kept_now, left_now, or_right, there_now)
@@ -82,7 +82,7 @@ king_now : (men : List (Option Man)) (a : ℕ) (o : Option ℕ) (b : ℕ) (z : M
 king_now men a o b z c q i =
     grind (arith, cases_eq q b, there_now men a o b z i.small, cases_Bool (is_square (Some a) q || is_square o q), left_now, or_cases, eqb-true a q, kept_now)
 
--- then the king stands where he stood
+-- if no king goes, arrives or is captured, the king keeps its square
 pub king_stands : (men : List (Option Man)) (a : ℕ) (o : Option ℕ) (b : ℕ) (z : Man) (c : Colour) → IsNoKing men a o b z c
     → king_square (gone_to men a o b z) c ≡ king_square men c
 unfolding king_square squares

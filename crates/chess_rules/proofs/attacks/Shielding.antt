@@ -175,7 +175,7 @@ module _ (men after : List (Option Man)) (a b : ℕ) (z : Man) (i : IsShift men 
               grind (arith, and_parts, cases_eq s b, arrival_strikes (man_on after s), checks_before s (man_on after s) refl p, reached));
         })
 
--- so none attacks him
+-- a king that no enemy reaches isn't attacked
 pub not_attacked : (rule : RuleSet) (men : List (Option Man)) (e : Colour) (k : ℕ) → is_reached men k e ≡ false → is_attacked rule men k e ≡ false
 unfolding is_attacked is_attacker is_reached
 not_attacked rule men e k h =
@@ -235,12 +235,12 @@ pub unreborn_after : (rule : RuleSet) (p : Position) (x : Man) (m : Move) → ma
 unfolding position_after position_after_by reborn_square
 unreborn_after rule p x m here rebirth = search rules
 
--- and nobody castles
+-- where nobody is reborn and nobody castles, the men after the move are those after the arrival
 pub simple_after : (rule : RuleSet) (p : Position) (x : Man) (m : Move) → man_on p.men m.from ≡ Some x → is_castling x m ≡ false
     → (captures_do_more rule ≡ true → capture_square p x m ≡ None) → (position_after rule p m).men ≡ arrived p x m
 simple_after rule p x m here castling rebirth = unreborn_after rule p x m here rebirth ∙ moved_plainly p x m castling
 
--- so it is after a plain move
+-- after a plain move the men are those after the arrival
 pub men_after : (rule : RuleSet) (p : Position) (x : Man) (m : Move) → man_on p.men m.from ≡ Some x → IsPlain rule p x m
     → (position_after rule p m).men ≡ arrived p x m
 men_after rule p x m here plain = simple_after rule p x m here plain.castling plain.rebirth
@@ -305,7 +305,7 @@ pub some_hopper : (men : List (Option Man)) (c : Colour) (w : ℕ) → w ≡ squ
 unfolding has_fairy squares_of
 some_hopper men c w h some = search (rules, differs, or_left, not_zero)
 
--- and where no grasshopper stands, by that of the nightriders
+-- a side without grasshoppers has a fairy man exactly if its word of nightriders isn't empty
 pub some_nightrider : (men : List (Option Man)) (c : Colour) (w n : ℕ) → w ≡ squares_of men c Grasshopper → w ≡ 0 → n ≡ squares_of men c Nightrider
     → not (n == 0) ≡ has_fairy men c
 unfolding has_fairy squares_of
@@ -316,7 +316,7 @@ pub shield_squares_none : (men : List (Option Man)) (c : Colour) → king_square
 unfolding may_expose
 shield_squares_none men c h = word_empty (may_expose men c) (λ s b. ap (λ (o : Option ℕ). may_expose_at men o c s) h)
 
--- nor does an enemy reach him
+-- where a side has no king, no square is a checker's
 pub checkers_none : (men : List (Option Man)) (c : Colour) → king_square men c ≡ None → 0 ≡ word (is_checker men c)
 unfolding is_checker
 checkers_none men c h = word_empty (is_checker men c) (λ s b. ap (λ (o : Option ℕ). is_checker_at men o c s) h)
@@ -344,7 +344,8 @@ shield_squares_all men c e k w enemy at h some =
     let reached : is_reached men k (other c) ≡ true = sym (reached_by_word men c e k w enemy h) ∙ ap not (differs w 0 some) in
     search (rules, every_square, or_left)
 
--- else his own, those that shut a line to him, and those on fairy lines
+-- with a king that no enemy reaches, they are its own square, those that block a line to it, and those on
+-- fairy lines
 pub shield_squares_some : (men : List (Option Man)) (c e : Colour) (k r w n : ℕ) → e ≡ other c → king_square men c ≡ Some k → r ≡ word (reaching men e k)
     → r ≡ 0 → w ≡ bit_or (bit_or (word (is_square (Some k))) (word (is_shut men (other c) Rook straight_steps k)))
     (word (is_shut men (other c) Bishop diagonal_steps k)) → n ≡ word (may_stand_between men c) → bit_or w n ≡ word (may_expose men c)
@@ -365,7 +366,7 @@ pub cannot_expose_nobody : (rule : RuleSet) (p : Position) (c : Colour) (m : Mov
 unfolding cannot_expose
 cannot_expose_nobody rule p c m none = rw none refl
 
--- so one that isn't in their word lies on none
+-- a square that isn't in the word of exposing squares stands between nothing
 pub off_shields : (men : List (Option Man)) (c : Colour) (w t : ℕ) (b : Bool) → w ≡ word (may_expose men c) → t < 64 → b ≡ (bit_at w t == 1) → b ≡ false
     → b ≡ may_stand_between men c t
 unfolding may_expose may_stand_between

@@ -22,7 +22,7 @@ pub between-here : (rule : RuleSet) (p : Position) (a b : ℕ) → a < all_tripl
 unfolding moves_between
 between-here rule p a b lt low h = search (rules, drop_triples)
 
--- and is passed over, if it isn't
+-- a triple at the first place that isn't legal is skipped
 pub between-skip : (rule : RuleSet) (p : Position) (a b : ℕ) → a < all_triples → is_legal rule p (triple_at a) ≡ false
     → moves_between rule p a b ≡ moves_between rule p (a + 1) b
 unfolding moves_between

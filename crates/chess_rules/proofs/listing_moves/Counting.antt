@@ -30,7 +30,8 @@ pub record IsCounted (rule : RuleSet) (p : Position) (start rest count : ℕ) : 
   pub walked : IsWalked (is_legal rule p) reached rest
   pub counted : count ≡ length (moves_between rule p start reached)
 
--- of the moves of one origin those to the squares of a word that were taken are counted, from a place on and before an end
+-- during the walk over one origin's squares, its moves to the squares taken so far have been counted: from
+-- `start` on and before `end`
 pub record IsCountedTo (rule : RuleSet) (p : Position) (s w start end rest count : ℕ) : Type 0 where
   pub at : ℕ
   pub few : at ≤ per_origin
@@ -74,7 +75,8 @@ module _ (rule : RuleSet) (p : Position) where
     abbrev same : h.reached - n ≡ z
     same = grind (arith, h.begin s, next.small, next.here)
 
-    -- those up to a triple of the next origin are those so far and its own before that one
+    -- the moves up to a triple of the next origin are those counted and the next origin's before that
+    -- triple
     pub counted_to : (a : ℕ) → z ≤ a → between start (n + a) ≡ count + between (per_origin * s + z) (per_origin * s + a)
     counted_to a more =
         let before = walk_before (is_legal rule p) h.reached rest s n h.walked next.first (omega (arith, next.small)) (omega (arith, first)) in

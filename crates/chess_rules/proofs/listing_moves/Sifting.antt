@@ -20,7 +20,7 @@ module _ (rule : RuleSet) (p : Position) (test : Move → Bool) where
   pub wanted_origins : (o : ℕ) → AreOrigins (is_legal rule p) o → AreOrigins (is_wanted rule p test) o
   wanted_origins o own = record { elsewhere = λ m from to off. and_left _ (test m) (own.elsewhere m from to off) }
 
-  -- of the squares to which a legal move may go those that a filter takes
+  -- a square left after a filter is taken off isn't one of the filter
   taken_off : (w v t : ℕ) → v < 2 ^ 64 → t < 64 → (bit_at (bit_and w (bit_not w64 v)) t == 1) ≡ true → (bit_at v t == 1) ≡ false
   taken_off w v t fits small on = grind (arith, false_by, eqb-true _ _ on, eqb-true, bit_at_not w64 v t fits small, bit_at_and w (bit_not w64 v) t)
 

@@ -102,7 +102,7 @@ module _ (test : Move → Bool) where
     pub walk_to : HaveNone test start (n + a)
     walk_to = grind (arith, cases_lt, walk_before start rest s n w next.first, next.small)
 
-    -- and past it
+    -- the walk continues after the last of the origin's triples
     pub walk_on : a ≡ per_origin → IsWalked test start left
     walk_on all = record {
       ahead = λ t small on. w.ahead t small (grind (arith, cases_eq s t, next.gone, next.others t));

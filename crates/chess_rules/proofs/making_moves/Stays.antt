@@ -100,7 +100,7 @@ pub captured_mortal : (rule : RuleSet) (p : Position) (x : Man) (m : Move) (z : 
     → captured_man p x m ≡ Some z → same_kind z.kind King ≡ false
 captured_mortal rule p x m z well made h = (captured rule p x m z well made h).0
 
--- and no man of the mover
+-- a captured man is the opponent's
 pub captured_enemy : (rule : RuleSet) (p : Position) (x : Man) (m : Move) (z : Man) → IsWellFormed p → IsMade rule p x m
     → captured_man p x m ≡ Some z → same_colour z.colour p.turn ≡ false
 captured_enemy rule p x m z well made h = (captured rule p x m z well made h).1

@@ -47,7 +47,7 @@ ray_at x s i none d same small =
     entry (line (step_of x)) (get_or RAYS (direction_number x) none) s i d (row x none) same small
     ∙ each_is (map (λ k. along s (step_of x) k) (range_with_len 1 7))
 
--- and one of a table of the squares a step away
+-- an entry of a table of steps is the word of the squares a step away
 near_at : (ds : List Step) (table : List ℕ) (s i d : ℕ) → table ≡ map (near ds) (range_with_len 0 64) → i ≡ s → i < 64
     → get_or table i d ≡ word (λ t. list_any (λ o. is_square o t) (map (λ d. along s d 1) ds))
 near_at ds table s i d is same small = entry (near ds) table s i d is same small ∙ each_is (map (λ d. along s d 1) ds)
@@ -67,7 +67,7 @@ pub white_captures_at : (s i d : ℕ) → i ≡ s → i < 64 → get_or WHITE_CA
 unfolding leaps along
 white_captures_at s i d = near_at (pawn_capture_steps White) WHITE_CAPTURES s i d refl
 
--- and a Black one
+-- the table of the squares that a Black pawn attacks
 pub black_captures_at : (s i d : ℕ) → i ≡ s → i < 64 → get_or BLACK_CAPTURES i d ≡ word (λ t. list_any (leaps s t) (pawn_capture_steps Black))
 unfolding leaps along
 black_captures_at s i d = near_at (pawn_capture_steps Black) BLACK_CAPTURES s i d refl
@@ -97,7 +97,7 @@ pub white_steps_at : (s i d : ℕ) → i ≡ s → i < 64 → get_or WHITE_STEPS
 unfolding along
 white_steps_at s i d = two_at (λ q. along q (forward White) 1) (λ q. along q (forward White) 2) WHITE_STEPS s i d refl
 
--- and of a Black one
+-- the table of the one or two squares ahead of a Black pawn
 pub black_steps_at : (s i d : ℕ) → i ≡ s → i < 64 → get_or BLACK_STEPS i d ≡ word (is_advance Black s)
 unfolding along
 black_steps_at s i d = two_at (λ q. along q (forward Black) 1) (λ q. along q (forward Black) 2) BLACK_STEPS s i d refl
@@ -128,6 +128,6 @@ lines_at a b c e table s i d is same small =
 pub straight_lines_at : (s i d : ℕ) → i ≡ s → i < 64 → get_or STRAIGHT_LINES i d ≡ word (is_on_some straight_steps s)
 straight_lines_at s i d = lines_at East West North South STRAIGHT_LINES s i d refl
 
--- and of the bishop's
+-- the table of the bishop's lines
 pub diagonal_lines_at : (s i d : ℕ) → i ≡ s → i < 64 → get_or DIAGONAL_LINES i d ≡ word (is_on_some diagonal_steps s)
 diagonal_lines_at s i d = lines_at NorthEast SouthEast NorthWest SouthWest DIAGONAL_LINES s i d refl

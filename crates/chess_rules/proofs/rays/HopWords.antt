@@ -29,7 +29,7 @@ lands men s x b t stop p q h =
     let man = second_of_and (is_ahead s (step_of x) b) in
     hop-made men s t (step_of x) (on.0 + 1) (grind (arith, onward s b (step_of x) on.0 1 on.1.at, man, free, ordered x, short x s t (on.0 + 1)))
 
--- and every hop
+-- every hop lands right after the stop
 landed : (men : List (Option Man)) (s : ℕ) (d : Step) (b t : ℕ) → Ordered d → Stops men s d b → s < 64 → t < 64 → hops men s t d ≡ true
     → is_square (along b d 1) t ≡ true
 landed men s d b t line stop p q h =

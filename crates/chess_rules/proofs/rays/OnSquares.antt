@@ -45,7 +45,7 @@ module _ (men : List (Option Man)) where
   pub hop_openly : (s t : ℕ) (st : Step) → hops men s t st ≡ true → rides (men_on 0) s t st ≡ true
   hop_openly s t st h = search (rules, cases_lt, hop-found, on_line, or_left, or_right, ride-made)
 
-  -- and a grasshopper what a queen does
+  -- where a grasshopper hops on some board, a queen rides on the empty board
   pub hops_openly : (b c : Colour) (s t : ℕ) → reaches_as men b Grasshopper s t ≡ true → reaches_as (men_on 0) c Queen s t ≡ true
   unfolding reaches_as
   hops_openly b c s t h = any_kept (hops men s t) (rides (men_on 0) s t) queen_steps (hop_openly s t) h

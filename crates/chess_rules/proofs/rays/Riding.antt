@@ -46,7 +46,7 @@ ridden_from : (men : List (Option Man)) (e : Colour) (j : Kind) (ds : List Step)
     → AreRides men e j ds k n → n ≡ word (λ t. list_any (rides men k t) ds)
 ridden_from men e j ds k w n h some i = grind arith
 
--- then a square shuts a line exactly if the king's square and a rider both see it
+-- a square blocks a line to the king exactly if both the king's square and a rider see it
 pub shut_are : (men : List (Option Man)) (e : Colour) (j : Kind) (ds : List Step) (k w n r : ℕ) → w ≡ word (is_line_rider men e j ds k) → (w ≡ 0 → ⊥)
     → AreRides men e j ds k n → r ≡ word (λ s. some_square (λ q. bit_at w q == 1 && list_any (rides men q s) ds)) → bit_and n r ≡ word (is_shut men e j ds k)
 unfolding is_shut is_behind

@@ -77,7 +77,7 @@ ride_back men s t d p h =
 pub rides-back : (men : List (Option Man)) (s t : ℕ) (d : Step) → s < 64 → t < 64 → rides men s t d ≡ rides men t s (back d)
 rides-back men s t d p q = same_Bool _ _ (ride_back men s t d p) (ride_back men t s (back d) q)
 
--- and so is a hop
+-- a hop is seen from both ends
 pub hops-back : (men : List (Option Man)) (s t : ℕ) (d : Step) → s < 64 → t < 64 → hops men s t d ≡ hopped_from men t s (back d)
 unfolding hopped_from
 hops-back men s t d p q =
