@@ -17,7 +17,7 @@ module _ (p : Position) (k n d r l o : ℕ) (v : Attackers) (none : NoneHops p.m
   abbrev few : List (Option Man)
   few = lifted p.men a k
 
-  -- each hurdle but him still stands
+  -- each hurdle but the man that goes still stands
   still : (e : ℕ) → e < 64 → (bit_at d e == 1) ≡ true → e ≢ a → is_some (man_on few e) ≡ true
   still e small on ne =
       let both = rw hurdles at on in

@@ -75,12 +75,12 @@ pub no_other_man_meets_it_there : is_evasion rook_check.men White a1 a8 b1 ≡ f
 unfolding reaches_as rides is_clear along
 no_other_man_meets_it_there = refl
 
--- a man who arrives on a4 shuts the file: a rook on a8 reached a1 before
+-- a man that arrives on a4 blocks the file: before, a rook on a8 reached a1
 pub arriving_man_shuts : (reaches (set_up (on Black Rook a8 ∷ [])) a8 a1 ≡ true) × (reaches (set_up (on Black Rook a8 ∷ on White Pawn a4 ∷ [])) a8 a1 ≡ false)
 unfolding reaches reaches_as rides is_clear along
 arriving_man_shuts = (refl, refl)
 
--- no pawn becomes a grasshopper where the diagram has none, though he may become a queen
+-- no pawn promotes to a grasshopper where the diagram has none, though it may promote to a queen
 pub promotion_needs_its_man : (may_promote (position [] White) Grasshopper ≡ false) × (may_promote (position [] White) Queen ≡ true)
 promotion_needs_its_man = (refl, refl)
 
@@ -121,7 +121,7 @@ crossing_a_line =
           (with_unmoved none_unmoved e1) h1;
     }
 
--- he doesn't castle, and would without that rook
+-- the king may not castle, and might without that rook
 pub no_castling_through_an_attack : (may_go crossing_a_line (man White King) e1 g1 ≡ true)
     × (can_castle orthodox crossing_a_line (man White King) (go e1 g1) ≡ false) × (can_go orthodox crossing_a_line (man White King) (go e1 g1) ≡ false)
     × (can_castle orthodox (record crossing_a_line { men = without_man crossing_a_line.men f8 }) (man White King) (go e1 g1) ≡ true)
@@ -151,7 +151,7 @@ pub grasshopper_stands_behind_its_hurdle : (hopped_from (set_up (on Black Pawn a
 unfolding hopped_from rides_on along
 grasshopper_stands_behind_its_hurdle = (refl, refl)
 
--- Black's grasshopper is a fairy man of his, of White's none; a rook is none
+-- Black's grasshopper is a fairy man of Black's, not of White's; a rook isn't one
 pub grasshopper_is_seen : (has_fairy (set_up (on Black Grasshopper a1 ∷ [])) Black ≡ true)
     × (has_fairy (set_up (on Black Grasshopper a1 ∷ [])) White ≡ false) × (has_fairy (set_up (on Black Rook a1 ∷ [])) Black ≡ false)
 unfolding has_fairy squares some_square
@@ -251,7 +251,7 @@ pub arriving_man_paralyses : (in_check madrasi rook_faces_rook.men White ≡ tru
 unfolding check_after_a_move
 arriving_man_paralyses = (refl, refl, refl, refl)
 
--- a Black man who gives check, and of whose kind White has none: there is none
+-- a Black man gives check and White has no man of its kind: there is none here
 abbrev moving_checker : ℕ → Bool
 moving_checker s = (is_of_colour (man_on rook_faces_rook.men s) Black && reaches rook_faces_rook.men s h1)
     && not (may_be_paralysed madrasi rook_faces_rook.men White (man_on rook_faces_rook.men s))
