@@ -94,7 +94,7 @@ module _ (rule : RuleSet) (p : Position) (m : Move) (x : Man) (v : Siege) (well 
     enemy_a : is_of_colour (Some a.man) (other p.turn) ≡ true
     enemy_a = rw (a.stands.mine, fits.colour) (same_colour-refl (other p.turn))
 
-    -- he doesn't stand where the king does or arrives
+    -- the man isn't on the king's square, nor on its arrival
     not_from : a.from ≢ m.from
     not_from e = false≢true (sym (not_mine_enemy x p.turn is.mine)
         ∙ ap (λ (o : Option Man). is_of_colour o (other p.turn)) (sym here ∙ ap (man_on p.men) (sym e) ∙ stood_a) ∙ enemy_a)

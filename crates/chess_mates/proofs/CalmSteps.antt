@@ -47,7 +47,7 @@ module _ (men : List (Option Man)) (a : ℕ) (o : Option ℕ) (b : ℕ) (z : Man
       | inr ne ↦ grind (arith, man_on-with_other, reaches_alike_of now then (man_on then s) s e (search (rules, stands, i.arrival, i.flight, i.taken)))
     ]
 
-    -- whom neither he nor any other man of his side reaches
+    -- a square that neither the man on t nor another of its side reaches isn't reached
     unreached : (e : ℕ) → reaches now t e ≡ false → is_reached then e c ≡ false → is_reached now e c ≡ false
     unfolding is_reached
     unreached e apart none = some_square_same _ _ (λ s lt. strikes e s apart) ∙ none

@@ -78,7 +78,8 @@ module _ (men after : List (Option Man)) (a b s t k : ℕ) (z : Man) (c : Colour
     unlined = unlined_before men mid (other c) k s fairy_stood second.unlined;
   }
 
-  -- nobody reaches the king, once one man has gone from a to b and another from s, which is off his lines, to t
+  -- no man reaches the king, once one man has gone from a to b and another to t from s, which is off the
+  -- king's lines
   unreached_after : is_reached after k (other c) ≡ false
   unreached_after = unreached mid after s t z shift_second c k covered small (unlined_before men mid (other c) k t fairy_stood too) (quiet mid s t)
 

@@ -78,7 +78,8 @@ alike_on men t size =
       ];
     }
 
--- where men have gone but from one square, who doesn't hop and doesn't reach that reaches no more
+-- a man that doesn't hop still reaches a square once other men have gone, if a man new on a is out of its
+-- reach
 fewer_but : (few men : List (Option Man)) (c : Colour) (k : Kind) (s t a : ℕ) → length few ≡ 64 → a < 64 → is_hopper (gait_of k) ≡ false
     → ((q : ℕ) → q ≢ a → is_some (man_on few q) ≡ true → is_some (man_on men q) ≡ true)
     → (is_some (man_on few a) ≡ true → reaches_as few c k s a ≡ true → ⊥) → reaches_as men c k s t ≡ true → reaches_as few c k s t ≡ true
@@ -173,7 +174,8 @@ module _ (rule : RuleSet) (p : Position) (m : Move) (x : Man) (k : ℕ) (i : IsS
   abbrev NoneReaches : Colour → ℕ → Type 0
   NoneReaches c e = (s : ℕ) (z : Man) → s < 64 → man_on few s ≡ Some z → same_colour z.colour c ≡ true → reaches_as now z.colour z.kind s e ≡ false
 
-  -- whom neither he nor the king reaches now, nor who stood before, nobody reaches
+  -- a square is reached by no man, if neither the man that came, nor the king, nor a man that was there
+  -- before reaches it
   reached : (c : Colour) (e : ℕ) → NoneReaches c e → (same_colour y.colour c ≡ true → reaches now f e ≡ false)
       → (same_colour x.colour c ≡ true → reaches_as now x.colour x.kind m.to e ≡ false) → is_reached now e c ≡ false
   unfolding is_reached reaches
@@ -183,7 +185,8 @@ module _ (rule : RuleSet) (p : Position) (m : Move) (x : Man) (k : ℕ) (i : IsS
   stands_after q z h off =
       stays_there p x m q simply.captures (λ e. grind (arith, lifted_here p.men m.from k q, eq-eqb)) off ∙ lifted_stood p.men m.from k q z h
 
-  -- where men don't stand still no check is uncovered by who doesn't reach the square that the king leaves
+  -- elsewhere than in Madrasi no check is uncovered by a man that doesn't reach the square that the king
+  -- leaves
   none_uncovers : faced_men_stand_still rule ≡ false → is_legal rule p m ≡ true → king_after p x m ≡ Some m.to
       → is_reached few k (other p.turn) ≡ false → NoneReaches (other p.turn) m.to
   unfolding is_reached reaches is_legal in_check

@@ -27,7 +27,7 @@ denied_on a b i fits small on off = on_both a (bit_not w64 b) i on (bit_denied b
 pub open_arrivals : (d : ℕ) (x : Man) (s w : ℕ) → ((p : Position) (t : ℕ) → t < 64 → may_go p x s t ≡ true → (bit_at w t == 1) ≡ true) → AreArrivals d x s w
 open_arrivals d x s w ways = record { inside = λ t i. ways i.position t i.small i.goes }
 
--- where he doesn't check
+-- a king gives no check off the springboards
 pub king_targets : (x : Man) (g : Field) (checks t : ℕ) → same_kind x.kind King ≡ true → (bit_at g.springboards t == 1) ≡ false → IsNoCheck g checks x t
 king_targets x g checks t king unsprung = search (rules, king_is_no_pawn, no_pawn_arrives)
 

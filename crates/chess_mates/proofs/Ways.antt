@@ -32,7 +32,7 @@ module _ (rule : RuleSet) (p : Position) (x : Man) (v : ToldThreats) (well : IsW
           king = λ f low on. search (rules, false_by, next.kings f low on, fits.kings f low);
         }) v.siege.men fits.men fits.colour fits.promotions kept
 
-    -- beside him, whoever comes elsewhere
+    -- beside the king, wherever the man comes
     man_keeps : same_kind x.kind King ≡ false → captures_do_more rule ≡ false → KeepsFlightBeside v.siege m.to
         → mates_behind rule (position_after rule p m) 0 ≡ []
     man_keeps mortal captures kept =
@@ -159,7 +159,7 @@ needed_are_risky rule v s w n low fits circe needed apart p well threats = recor
       (needed.keeps m.to small (off_second w n m.to off on));
 }
 
--- for `keep_flights`: he comes to none of them
+-- for `keep_flights`: no square to which the man comes is needed
 pub kept_are_risky : (rule : RuleSet) (v : ToldThreats) (s w n : ℕ) → s < 64 → w < 2 ^ 64 → captures_do_more rule ≡ false → AreNeeded v.siege n
     → (bit_and w n == 0) ≡ true → s ≢ v.siege.king → (p : Position) → IsWellFormed p → AreThreatsOf rule p v → AreRisky rule p s w 0
 kept_are_risky rule v s w n low fits circe needed none apart p well threats =

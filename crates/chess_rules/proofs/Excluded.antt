@@ -214,14 +214,16 @@ attacked_square_is_no_flight = (refl, refl)
 abbrev king_and : Colour → Kind → ℕ → List (Option Man)
 king_and c k s = set_up (on White King a1 ∷ on c k s ∷ [])
 
--- a knight on b3 checks him, and so does a nightrider there; on b2 a bishop does, and a rook doesn't; on a8 an enemy rook does, and his own doesn't
+-- the king on a1 is in check by a knight or nightrider on b3, by a bishop on b2 but no rook there, by an
+-- enemy rook on a8 but not by its own
 pub men_check_along_their_lines : (is_checker (king_and Black Knight b3) White b3 ≡ true) × (is_checker (king_and Black Nightrider b3) White b3 ≡ true)
     × (is_checker (king_and Black Bishop b2) White b2 ≡ true) × (is_checker (king_and Black Rook b2) White b2 ≡ false)
     × (is_checker (king_and Black Rook a8) White a8 ≡ true) × (is_checker (king_and White Rook a8) White a8 ≡ false)
 unfolding is_checker check_after_a_move
 men_check_along_their_lines = (refl, refl, refl, refl, refl, refl)
 
--- while the rook gives check, a move may expose him even from h2, on none of his lines; a bishop on a8 gives none
+-- while the rook gives check, a move may leave the king exposed even from h2, which is on none of its
+-- lines; a bishop on a8 gives no check
 pub any_move_may_leave_a_check : (may_expose (king_and Black Rook a8) White h2 ≡ true) × (may_expose (king_and Black Bishop a8) White h2 ≡ false)
 unfolding may_expose is_reached is_on_fairy_line is_ahead is_on_some is_shut is_behind check_after_a_move
 any_move_may_leave_a_check = (refl, refl)
@@ -251,7 +253,7 @@ pub arriving_man_paralyses : (in_check madrasi rook_faces_rook.men White ≡ tru
 unfolding check_after_a_move
 arriving_man_paralyses = (refl, refl, refl, refl)
 
--- a Black man gives check and White has no man of its kind: there is none here
+-- a Black man that gives check, of a kind of which White has none: no square has one
 abbrev moving_checker : ℕ → Bool
 moving_checker s = (is_of_colour (man_on rook_faces_rook.men s) Black && reaches rook_faces_rook.men s h1)
     && not (may_be_paralysed madrasi rook_faces_rook.men White (man_on rook_faces_rook.men s))

@@ -41,7 +41,7 @@ module _ (men : List (Option Man)) where
   unfolding reaches_as
   rides_openly c s t h = any_kept (rides men s t) (rides (men_on 0) s t) knight_steps (ride_openly s t) h
 
-  -- where one hops on some board, he could ride
+  -- where a hop is possible on some board, a ride is possible on the empty one
   pub hop_openly : (s t : ℕ) (st : Step) → hops men s t st ≡ true → rides (men_on 0) s t st ≡ true
   hop_openly s t st h = search (rules, cases_lt, hop-found, on_line, or_left, or_right, ride-made)
 
