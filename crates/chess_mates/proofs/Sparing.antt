@@ -392,7 +392,7 @@ module _ (rule : RuleSet) (p : Position) (m : Move) (x : Man) (v : Siege) (k : �
       ]
 
       -- no hopper reaches t over springboards to which no attacker has come, on a board with no men but
-      -- those of r and the one on t
+      -- the men of r and the one on t
       unhopped : (t w : ℕ) → IsUnsprung v k t w → ((h : ℕ) → (bit_at w h == 1) ≡ true → (bit_at g.hops h == 1) ≡ true)
           → (bit_at w n.to == 1) ≡ false → (men : List (Option Man))
           → ((h : ℕ) (y : Man) → h ≢ t → man_on men h ≡ Some y → (h ≢ k) × (man_on r.men h ≡ Some y))
