@@ -24,7 +24,7 @@ pub square_is_in : has_unmoved (with_unmoved none_unmoved a1) a1 ≡ true
 unfolding has_unmoved mark_unmoved none_unmoved
 square_is_in = refl
 
--- so is h8, the last square
+-- h8, the last square, can be put into the set
 pub h8_is_in : has_unmoved (with_unmoved none_unmoved h8) h8 ≡ true
 unfolding has_unmoved mark_unmoved none_unmoved
 h8_is_in = refl
@@ -67,7 +67,7 @@ pub colour_has_square : side_of (with_man empty a1 white_king) White ≡ 1
 unfolding side_of word word_of squares
 colour_has_square = refl
 
--- and in the word of his kind
+-- the square of a placed man is in the word of its kind
 pub kind_has_square : squares_of (with_man empty b1 white_king) White King ≡ 2
 unfolding squares_of word word_of squares
 kind_has_square = refl
@@ -83,7 +83,7 @@ pub pawn_is_astray : (some_square (is_stray_pawn (with_man empty a1 white_pawn))
 unfolding is_stray_pawn some_square squares
 pawn_is_astray = (refl, refl)
 
--- of two kings the first is found
+-- where a board has two kings of a colour, the lower square is found
 pub first_king_is_found : king_square two_kings White ≡ Some a1
 unfolding king_square squares
 first_king_is_found = refl

@@ -7,7 +7,7 @@ use Rattle.std.proofs.lemmas.Nat.{pow_pos, shr-shr}
 pub bit_down : (w k s : ℕ) → bit_at (w / 2 ^ k) s ≡ bit_at w (k + s)
 bit_down w k s = ap (λ x. x % 2) (shr-shr w k s)
 
--- the same word moved up: its squares are so much higher
+-- the squares of a word moved up by k are higher by k
 pub bit_up : (w k s : ℕ) → k ≤ s → s < 64 → bit_at (w * 2 ^ k % 2 ^ 64) s ≡ bit_at w (s - k)
 bit_up w k s from small =
     let all = w * 2 ^ k in
@@ -22,7 +22,7 @@ abbrev is_after : Colour → ℕ → ℕ → ℕ → Bool
 is_after White k s t = t == k + s
 is_after Black k s t = s == k + t
 
--- the word of the squares from which those of w are k squares after
+-- the bitboard of the squares that are k squares before a square of w
 abbrev before : Colour → ℕ → ℕ → ℕ
 before White w k = w / 2 ^ k
 before Black w k = w * 2 ^ k % 2 ^ 64

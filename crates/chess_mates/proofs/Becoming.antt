@@ -12,7 +12,7 @@ reaches_counted men c Rook s t h = grind (arith, list_any-append, or_left)
 reaches_counted men c Bishop s t h = grind (arith, list_any-append, or_right)
 reaches_counted men c k s t h = h
 
--- so what she leaves is left
+-- a square that is left when the promoted man counts as a queen is left
 pub counted_left : (w t f : ℕ) (z : Man) → IsLeft w (record { colour = z.colour; kind = counts_as z.kind }) t f → IsLeft w z t f
 counted_left w t f z h = record {
   small = h.small;

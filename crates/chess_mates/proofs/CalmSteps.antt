@@ -6,7 +6,7 @@ use Rattle.chess_mates.proofs.KingsApart.{kings_apart}
 use Rattle.chess_mates.proofs.QuietSteps.{one_fails}
 use Rattle.chess_mates.proofs.Stepping.{occupied_stepped, on_flight, on_left, on_others, stands, stepped}
 
--- what is asked of the squares: the men of colour c are looked at, but for their king, who goes from k to t
+-- what must hold of the squares: the men of colour c count, except their king, which goes from k to t
 record IsLeft (men : List (Option Man)) (a : ℕ) (o : Option ℕ) (b : ℕ) (z : Man) (u : Option ℕ) (t : ℕ) (c : Colour) : Type 0 where
   pub arrival : b < length men
   pub flight : t < length men
@@ -104,7 +104,7 @@ module _ (rule : RuleSet) (p : Position) (m : Move) (x : Man) (k : ℕ) (i : IsS
       rw (turned, king_after_step, men_made, after_seen rule p m x k i) (not_attacked rule now_men (other p.turn) s none) in
       one_fails rule after (step_to k t) (after_well_formed rule p m i.well_formed i.pseudo) lawful (quiet rule after (step_to k t) lawful unchecked)
 
-  -- so where no other man of his side does
+  -- no other man of its side reaches the mover's king
   none_of_others : IsQuietTo p.men p.turn (sight_lifted p.men m.from (capture_square p x m) m.to k) k t s → is_reached now_men s (other p.turn) ≡ false
   none_of_others quiet = unreached p.men m.from (capture_square p x m) m.to (arriving_man x m.promo) k taken t (other p.turn) is_left y s apart
       (quiet.unreached _ (seen_left p.men m.from (capture_square p x m) m.to (arriving_man x m.promo) k taken t (other p.turn) is_left))

@@ -70,7 +70,7 @@ others_are_all rule p check none = ap (λ (l : List Move). not (is_nil l)) (by t
   by [] = refl
   by (m ∷ ms) = grind (arith, cases_Bool (is_legal rule p m), cases_Bool (is_of_others p m), none.stays check m, by ms)
 
--- and where theirs aren't either, there are none
+-- where no move of the king is legal and none of another man, no move is left
 pub none_are_left : (rule : RuleSet) (p : Position) → IsWellFormed p → in_check rule p.men p.turn ≡ true → IsFlightless rule p → IsParriless rule p
     → false ≡ not (is_nil (moves rule p))
 unfolding is_mate

@@ -28,7 +28,7 @@ module _ (rule : RuleSet) (p : Position) (x : Man) (m : Move) (well : IsWellForm
           (grind (arith, man_on-without_other, arrived_there)) ∙ arrived_there)
     ]
 
-    -- so he attacks the king who came next to him
+    -- the enemy's king attacks a king that came next to it
     module _ (small : m.to < 64) (king : same_kind x.kind King ≡ true) (near : reaches_as p.men x.colour x.kind m.to k ≡ true) where
       strikes_him : is_attacker rule (position_after rule p m).men m.to (other p.turn) k ≡ true
       unfolding is_attacker reaches_as

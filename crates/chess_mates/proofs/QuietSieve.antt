@@ -25,7 +25,7 @@ open_in_circe rule men c k n w reborn near held = record {
       grind (arith, reached_near men c k n t near, on_first n (bit_not w64 w) t, unseen_bit (λ s. is_some (man_on men s)) n w t held lt on, there);
 }
 
--- and elsewhere
+-- the squares to which the king may step, attacks apart: elsewhere than in Circe
 pub open_elsewhere : (rule : RuleSet) (men : List (Option Man)) (c : Colour) (k n v h : ℕ) → captures_do_more rule ≡ false
     → n ≡ word (λ t. list_any (leaps k t) queen_steps) → v ≡ side_of men (other c) → h ≡ squares_of men c King
     → AreOpen rule men (other c) k (bit_and n (bit_not w64 (bit_or v h)))
@@ -324,11 +324,11 @@ step_left w a o t f x flight small on are only off =
     let apart : f ≢ t = λ e. grind (arith, off_right a o t off, word_has _ o t only small, eq-eqb) in
     search (rules, apart, are.inside, off_left a o t off, false_from_ne_true, false≢true, flight, on)
 
--- where nothing is told no square is left out
+-- if all squares are returned, no square is left out
 pub all_left : {P : Type 0} (t : ℕ) → t < 64 → (bit_at 18446744073709551615 t == 1) ≡ false → P
 all_left t small off = absurd (false≢true (sym off ∙ every_square_on t small))
 
--- so no move is
+-- if all squares are returned, no move is left out
 pub nothing_told : (rule : RuleSet) (p : Position) (m : Move) → IsWellFormed p → is_legal rule p m ≡ true
     → (bit_at 18446744073709551615 m.to == 1) ≡ false → must_reply_with_mate rule p m ≡ false
 nothing_told rule p m well lawful off = all_left m.to (small_arrival rule p m well lawful) off

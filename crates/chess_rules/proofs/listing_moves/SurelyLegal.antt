@@ -11,7 +11,7 @@ sure_unexposed : (rule : RuleSet) (p : Position) (x : Man) (m : Move) → man_on
 unfolding cannot_expose is_plain is_unsure
 sure_unexposed rule p x m here piece from sure = search (rules, and_from, and_left, or_parts)
 
--- of a man who isn't the king and shields him from nobody, each move to such a square is legal
+-- each move to a sure square by a man that isn't the king and blocks no line to it is legal
 pub surely_legal : (rule : RuleSet) (p : Position) (x : Man) (s w v u : ℕ) → IsWellFormed p → man_on p.men s ≡ Some x → s < 64
     → AreCandidates rule p (is_legal rule p) s w → same_kind x.kind King ≡ false → v ≡ word (may_expose p.men p.turn) → (bit_at v s == 1) ≡ false
     → u ≡ word (is_unsure rule p x) → (bit_and w u == 0) ≡ true → AreLegal rule p s w
