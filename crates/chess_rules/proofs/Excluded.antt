@@ -1,37 +1,10 @@
 -- What the clauses on attacks, lines and targets exclude: small positions where a wrong body would differ
 -- from the definitions.
-use Rattle.chess_rules.proofs.Chess.{AreEvasions, AreEvasionsFrom, Bishop, Black, Bool, Colour, Grasshopper, IsBarrenFrom, Kind, King, Knight, List, Man, Nightrider, Option, Pawn, Position, Queen, Rook, RuleSet, Some, White, [], agree_below_at, along, and_from, ap, arith, bit_at, can_castle, can_go, cannot_expose, cases_lt, drop, faces, faces_its_like, false, false≢true, filter, find, has_fairy, has_fairy_lines_of, hopped_from, hops, in_check, is_ahead, is_arrival_free, is_attacked, is_behind, is_checker, is_clear, is_evasion, is_legal, is_man, is_met, is_of_colour, is_on_fairy_line, is_on_some, is_paralysed, is_plain, is_pseudo_legal, is_reached, is_shut, king_square, leaps, madrasi, man_on, may_be_paralysed, may_expose, may_go, may_promote, may_stand_between, moves_between, none_unmoved, not, orthodox, pawn_goes, per_arrival, per_origin, position_after, promotion_at, range_with_len, reaches, reaches_as, refl, rides, rides_on, rules, sight_after, some_square, squares, step_by, steps_to, straight_steps, sym, take, triple_at, triples, true, true_from_ne_false, true≢false, with_unmoved, without_man, word, word_of, ℕ, ◌%◌, ◌&&◌, ◌*◌, ◌+◌, ◌-◌, ◌/◌, ◌<◌, ◌==◌, ◌^◌, ◌∙◌, ◌∷◌, ◌≡◌, ◌≤◌}
-use Rattle.chess_rules.proofs.making_moves.Pseudo.{on_board}
+use Rattle.chess_rules.proofs.Chess.{AreEvasions, AreEvasionsFrom, Bishop, Black, Bool, Colour, Grasshopper, IsBarrenFrom, Kind, King, Knight, List, Man, Nightrider, Option, Pawn, Position, Queen, Rook, RuleSet, Some, White, [], agree_below_at, along, and_from, ap, arith, bit_at, can_castle, can_go, cannot_expose, cases_lt, drop, faces_its_like, false, false≢true, filter, has_fairy, has_fairy_lines_of, hops, in_check, is_ahead, is_arrival_free, is_behind, is_checker, is_clear, is_evasion, is_legal, is_of_colour, is_on_fairy_line, is_on_some, is_paralysed, is_plain, is_pseudo_legal, is_reached, is_shut, king_square, leaps, madrasi, man_on, may_be_paralysed, may_expose, may_go, may_promote, may_stand_between, moves_between, none_unmoved, not, orthodox, pawn_goes, per_arrival, per_origin, position_after, promotion_at, reaches, reaches_as, refl, rides, rules, sight_after, some_square, squares, steps_to, straight_steps, sym, take, triple_at, triples, true, true_from_ne_false, true≢false, with_unmoved, without_man, word, word_of, ℕ, ◌%◌, ◌&&◌, ◌*◌, ◌+◌, ◌-◌, ◌/◌, ◌<◌, ◌==◌, ◌∙◌, ◌∷◌, ◌≡◌, ◌≤◌}
+use Rattle.chess_attacks.proofs.rays.OnSquares.{on_board}
 use Rattle.chess_rules.proofs.attacks.StayingInCheck.{side_there}
-use Rattle.chess_rules.proofs.Typed.{go, man, on, position, promoting, set_up, a1, b1, c1, d1, e1, g1, h1, a2, b2, h2, a3, b3, c3, d3, h3, a4, d5, e4, a5, a6, b6, d6, e5, e7, a8, b8, e8, f8, g8, h8}
+use Rattle.chess_rules.proofs.Typed.{go, man, on, position, promoting, set_up, a1, b1, c1, d1, e1, g1, h1, a2, b2, h2, a3, b3, c3, d3, h3, a4, d5, e4, a5, b6, d6, e5, e7, a8, b8, e8, f8, g8, h8}
 unfoldable pub use Rattle.chess_rules.proofs.Typed.{check_after_a_move}
-
--- White rooks a1 and a8 see each other, and neither is faced by its like: only enemies paralyse
-abbrev own_rooks : List (Option Man)
-own_rooks = set_up (on White Rook a1 ∷ on White Rook a8 ∷ [])
-
--- the rook on a8 reaches the one on a1, which no enemy of its kind faces
-pub own_men_do_not_paralyse : (faces_its_like own_rooks (man White Rook) a1 ≡ false)
-    × (some_square (λ q. is_man (man_on own_rooks q) White Rook && reaches own_rooks q a1) ≡ true)
-unfolding reaches reaches_as rides hops leaps is_clear along squares some_square faces_its_like faces
-own_men_do_not_paralyse = (refl, refl)
-
--- a queen on a8 attacks a1 along the file, as a rook would
-pub queen_attacks_along_a_file : is_met (set_up (on White Queen a8 ∷ [])) White Rook straight_steps a1 a8 ≡ true
-unfolding is_met rides is_clear along
-queen_attacks_along_a_file = refl
-
--- a rook on a1 gets to a8 though men stand beside its file, and not past one in it
-pub rook_passes_men_beside_its_line : (rides (set_up (on White Rook a1 ∷ on Black Pawn b3 ∷ [])) a1 a8 (step_by 0 0 1 0) ≡ true)
-    × (rides (set_up (on White Rook a1 ∷ on Black Pawn a5 ∷ [])) a1 a8 (step_by 0 0 1 0) ≡ false)
-unfolding rides is_clear along
-rook_passes_men_beside_its_line = (refl, refl)
-
--- a grasshopper on a4 hops over a5 to a6, and not to b6
-pub grasshopper_lands_behind_its_hurdle : (hops (set_up (on Black Pawn a5 ∷ [])) a4 a6 (step_by 0 0 1 0) ≡ true)
-    × (hops (set_up (on Black Pawn a5 ∷ [])) a4 b6 (step_by 0 0 1 0) ≡ false)
-unfolding hops is_clear along
-grasshopper_lands_behind_its_hurdle = (refl, refl)
 
 -- White Ka1 Bb3 Pe5, Black Kg8 Pd5, which has just passed d6: the capture en passant opens the bishop's line
 abbrev pub opening_capture : Position
@@ -74,11 +47,6 @@ pub no_other_man_meets_it_there : is_evasion rook_check.men White a1 a8 b1 ≡ f
 unfolding reaches_as rides is_clear along
 no_other_man_meets_it_there = refl
 
--- a man who arrives on a4 shuts the file: a rook on a8 reached a1 before
-pub arriving_man_shuts : (reaches (set_up (on Black Rook a8 ∷ [])) a8 a1 ≡ true) × (reaches (set_up (on Black Rook a8 ∷ on White Pawn a4 ∷ [])) a8 a1 ≡ false)
-unfolding reaches reaches_as rides is_clear along
-arriving_man_shuts = (refl, refl)
-
 -- no pawn becomes a grasshopper where the diagram has none, though he may become a queen
 pub promotion_needs_its_man : (may_promote (position [] White) Grasshopper ≡ false) × (may_promote (position [] White) Queen ≡ true)
 promotion_needs_its_man = (refl, refl)
@@ -88,19 +56,10 @@ pub last_triples_are_from_h8 : (triple_at (per_origin * h8)).from ≡ h8
 unfolding triple_at
 last_triples_are_from_h8 = refl
 
--- of a1 and b1 the first from b1 on is b1
-pub earlier_squares_are_passed : find (λ s. bit_at 3 s == 1) (range_with_len 1 63) ≡ Some b1
-earlier_squares_are_passed = refl
-
 -- with rooks on a1 and b1 the second moves too
 pub next_origin_moves : is_pseudo_legal orthodox (position (on White Rook a1 ∷ on White Rook b1 ∷ []) White) (go b1 b3) ≡ true
 unfolding check_after_a_move
 next_origin_moves = refl
-
--- a White pawn on e4 strikes d5, and not d3
-pub pawn_strikes_forward : (reaches_as [] White Pawn e4 d5 ≡ true) × (reaches_as [] White Pawn e4 d3 ≡ false)
-unfolding reaches_as leaps along
-pawn_strikes_forward = (refl, refl)
 
 -- a man's own men and the enemy king aren't captured, other enemies are
 pub enemies_alone_are_captured : (is_arrival_free White (Some (man Black Rook)) ≡ true) × (is_arrival_free White (Some (man White Rook)) ≡ false)
@@ -133,22 +92,6 @@ pub pawn_steps_over_empty_squares : (pawn_goes (position [] White) (man White Pa
     × (pawn_goes (position (on Black Rook a3 ∷ []) White) (man White Pawn) a2 a4 ≡ false)
 unfolding along
 pawn_steps_over_empty_squares = (refl, refl, refl, refl)
-
--- a knight on a8 doesn't attack a1 along the file, where a rider gets from a1
-pub knight_attacks_along_no_file : is_met (set_up (on White Knight a8 ∷ [])) White Rook straight_steps a1 a8 ≡ false
-unfolding is_met rides is_clear along
-knight_attacks_along_no_file = refl
-
--- a rider on a1 gets to a2
-pub rider_gets_to_the_next_square : rides (set_up []) a1 a2 (step_by 0 0 1 0) ≡ true
-unfolding rides is_clear along
-rider_gets_to_the_next_square = refl
-
--- looked for from a6, a grasshopper that hops over a5 stands on a4, and not on a5
-pub grasshopper_stands_behind_its_hurdle : (hopped_from (set_up (on Black Pawn a5 ∷ [])) a6 a4 (step_by 0 0 0 1) ≡ true)
-    × (hopped_from (set_up (on Black Pawn a5 ∷ [])) a6 a5 (step_by 0 0 0 1) ≡ false)
-unfolding hopped_from rides_on along
-grasshopper_stands_behind_its_hurdle = (refl, refl)
 
 -- Black's grasshopper is a fairy man of his, of White's none; a rook is none
 pub grasshopper_is_seen : (has_fairy (set_up (on Black Grasshopper a1 ∷ [])) Black ≡ true)
@@ -203,12 +146,6 @@ captures_and_shuts_meet_a_check w are = (
   met_there w a4 (omega arith) (λ s lt. agree_below_at (unmet a4) (λ _. false) 64 s refl lt) are,
 )
 
--- a rook on a8 alone attacks a1, which is no flight then
-pub attacked_square_is_no_flight : (word (λ s. is_of_colour (man_on (set_up (on Black Rook a8 ∷ [])) s) Black && reaches (set_up (on Black Rook a8 ∷ [])) s a1)
-    ≡ 2 ^ 56) × (is_reached (set_up (on Black Rook a8 ∷ [])) a1 Black ≡ true)
-unfolding word word_of squares some_square is_reached reaches reaches_as rides hops leaps is_clear along
-attacked_square_is_no_flight = (refl, refl)
-
 -- White Ka1 and one man more
 abbrev king_and : Colour → Kind → ℕ → List (Option Man)
 king_and c k s = set_up (on White King a1 ∷ on c k s ∷ [])
@@ -231,13 +168,6 @@ pub captured_man_is_gone : (bit_at (sight_after opening_capture.men e5 (Some d5)
     × (bit_at (sight_after opening_capture.men e5 (Some d5) d6).standing d5 ≡ 0) × (bit_at (sight_after opening_capture.men e5 (Some d5) d6).standing b3 ≡ 1)
 unfolding word word_of squares
 captured_man_is_gone = (refl, refl, refl, refl, refl)
-
--- rooks on a1 and h1 paralyse each other: in Madrasi neither attacks d1, though it reaches it
-pub paralysed_man_attacks_nothing : (is_attacked orthodox (set_up (on White Rook a1 ∷ on Black Rook h1 ∷ [])) d1 Black ≡ true)
-    × (is_attacked madrasi (set_up (on White Rook a1 ∷ on Black Rook h1 ∷ [])) d1 Black ≡ false)
-    × (is_reached (set_up (on White Rook a1 ∷ on Black Rook h1 ∷ [])) d1 Black ≡ true)
-unfolding is_reached check_after_a_move
-paralysed_man_attacks_nothing = (refl, refl, refl)
 
 -- Madrasi, White Kh1 Rd1, Black Kb8 Rh3, which gives check: on d3 White's rook paralyses it, and only an orthodox rook checks on
 abbrev rook_faces_rook : Position

@@ -1,5 +1,5 @@
 -- What a pseudo-legal move consists of.
-use Rattle.chess_rules.proofs.Chess.{Black, Colour, IsWellFormed, Kind, King, List, Man, Move, None, Option, Pawn, Position, Rook, RuleSet, Some, White, along, along-is, and_parts, arith, can_castle, can_go, cases_lt, cond-false, cond-true, corner, eqb-true, false, file_of, forward, get_or_past, halfway, is_arrival_free, is_home-none, is_home-square, is_pawn_capture, is_pawn_step, is_promotion_right, is_pseudo_legal, is_square, le-ltb, leaps, length, list_any, lt-ltb, man_on, may_castle, or_cases, pawn_capture_steps, rank_of, reaches, reaches_as, rules, same_colour-true, same_kind, same_kind-true, second_rank, true, ℕ, ◌+◌, ◌<◌, ◌≡◌, ◌≢◌, ◌⊎◌}
+use Rattle.chess_rules.proofs.Chess.{Black, Colour, IsWellFormed, Kind, King, List, Man, Move, None, Option, Pawn, Position, Rook, RuleSet, Some, White, along, along-is, and_parts, arith, can_castle, can_go, cond-false, cond-true, corner, eqb-true, false, file_of, forward, halfway, is_arrival_free, is_home-none, is_home-square, is_pawn_capture, is_pawn_step, is_promotion_right, is_pseudo_legal, is_square, le-ltb, leaps, list_any, lt-ltb, man_on, may_castle, or_cases, pawn_capture_steps, rank_of, reaches, reaches_as, rules, same_colour-true, same_kind, same_kind-true, second_rank, true, ℕ, ◌+◌, ◌<◌, ◌≡◌, ◌≢◌, ◌⊎◌}
 use Rattle.chess_rules.proofs.making_moves.Castles.{no_man}
 
 -- the parts of the definition
@@ -30,10 +30,6 @@ ways rule p x m h = search rules
 -- a king is no pawn
 pub king_is_no_pawn : (k : Kind) → same_kind k King ≡ true → same_kind k Pawn ≡ false
 king_is_no_pawn k h = grind arith
-
--- a square with a man is one of the 64
-pub on_board : (men : List (Option Man)) (s : ℕ) (x : Man) → length men ≡ 64 → man_on men s ≡ Some x → s < 64
-on_board men s x size here = search (rules, cases_lt, get_or_past)
 
 -- so many ranks forward
 abbrev pub Advances : Colour → ℕ → ℕ → ℕ → Type 0
