@@ -2,9 +2,10 @@
 -- from the definitions.
 use Rattle.chess_mates.proofs.Chess.{AreCheckTargets, Black, Grasshopper, King, Knight, List, Man, Option, Pawn, Position, Queen, Rook, White, [], arith, bit_at, circe, enemy, false, false≢true, in_check, is_ahead, is_legal, is_on_fairy_line, is_reached, is_shut, may_check_from, may_expose, orthodox, position_after, refl, sym, true, true_from_ne_false, ℕ, ◌==◌, ◌∙◌, ◌∷◌, ◌≡◌}
 use Rattle.chess_rules.specs.ties.Shields.{is_behind}
-use Rattle.chess_rules.proofs.Typed.{go, on, position, set_up}
+use Rattle.chess_attacks.proofs.Typed.{go, on, position, set_up}
 use Rattle.chess_core.specs.SquareNames.{a1, d1, h1, a2, a3, d3, d6, e5, h7, a8, h8}
-use Rattle.chess_rules.proofs.Excluded.{check_after_a_move, opening_capture}
+use Rattle.chess_rules.proofs.Typed.{check_after_a_move}
+use Rattle.chess_rules.proofs.Excluded.{opening_capture}
 
 -- White Ka1 Bb3 Pe5, Black Kg8 Pd5, which has just passed d6 (`opening_capture`): the capture en passant gives check by the bishop
 en_passant_checks : (is_legal orthodox opening_capture (go e5 d6) ≡ true)

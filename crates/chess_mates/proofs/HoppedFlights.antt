@@ -1,10 +1,10 @@
 -- Flights that a grasshopper takes over a hurdle next to them.
 use Rattle.chess_mates.proofs.Chess.{Bool, Direction, East, Grasshopper, Hop, IsApart, IsUntaken, King, List, Man, None, Option, Some, Step, White, agree_below_at, all_at, along, ap, arith, bit_and, bit_at, bit_or, eq-eqb, false, false_from_ne_true, false≢true, hop-found, hops, inl, inr, is_some, is_square, king-back, leaps, list_all, list_any, man_on, men_on, no_reach_there, not, not-true, not_yet, occupied_squares, off_left, off_right, onward, ordered, passes, queen_steps, range_with_len, reaches_as, refl, same_kind, same_kind-true, step_of, sym, true, word, word_has, ℕ, ◌-◌, ◌<◌, ◌==◌, ◌^◌, ◌∙◌, ◌≡◌, ◌≢◌, ◌≤◌}
-use Rattle.chess_rules.proofs.attacks.FairyLines.{queen_directions}
-use Rattle.chess_rules.proofs.rays.Ends.{stays}
-use Rattle.chess_rules.proofs.rays.Ways.{hop-made}
+use Rattle.chess_attacks.proofs.rays.Lined.{queen_directions}
+use Rattle.chess_attacks.proofs.rays.Ends.{stays}
+use Rattle.chess_attacks.proofs.rays.Ways.{hop-made}
 use Rattle.chess_mates.proofs.Fleeing.{on_second}
-use Rattle.chess_rules.proofs.rays.OnSquares.{empty_on, occupied_on, one_on}
+use Rattle.chess_attacks.proofs.rays.OnSquares.{empty_on, occupied_on, one_on}
 use Rattle.chess_mates.proofs.LastingFlights.{on_both}
 use Rattle.chess_mates.proofs.Springboards.{some_direction}
 use Rattle.std.proofs.lemmas.Nat.{and_le_l}

@@ -7,12 +7,13 @@ use Rattle.chess_mates.specs.ties.Attackers.{is_promotion}
 use Rattle.chess_mates.specs.declared.lasting_flights.OpenTargets.{OpenTargets}
 use Rattle.chess_mates.specs.ties.LastingFlights.{AreOpenTargets, AreTargets, LeavesOne, counts_as, targets_for}
 use Rattle.chess_rules.proofs.listing_moves.OpenBoard.{piece_targets}
-use Rattle.chess_rules.specs.ties.Targets.{AreReached, may_go}
+use Rattle.chess_attacks.specs.ties.Lines.{AreReached}
+use Rattle.chess_rules.specs.ties.Targets.{may_go}
 use Rattle.chess_mates.proofs.CheckTargets.{last_rank_on}
 use Rattle.chess_mates.proofs.FarMen.{off_denied}
 use Rattle.chess_mates.proofs.Fleeing.{IsKingOn, king_waits, no_mate_with_flight, step_to}
 use Rattle.chess_mates.proofs.Mating.{mates_behind-end, mates_behind-none, not_mating, turn_after}
-use Rattle.chess_rules.proofs.rays.OnSquares.{hops_openly}
+use Rattle.chess_attacks.proofs.rays.OnSquares.{hops_openly}
 use Rattle.chess_mates.proofs.Standing.{arrival_small, has_one, no_hopper, not_mine, stood}
 
 -- a square of both words

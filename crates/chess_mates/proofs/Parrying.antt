@@ -6,11 +6,11 @@ use Rattle.chess_rules.proofs.attacks.Seeing.{IsCapture, seen_after}
 use Rattle.chess_mates.proofs.Mating.{turn_after}
 use Rattle.chess_mates.proofs.Standing.{captured_there, stays_there, stood as stands_after}
 use Rattle.chess_mates.specs.ties.Parries.{AreBetween, AreParriesTold, IsInterposed, IsParriless, IsShutBy, IsToldBetween, IsUntaken, IsWayBetween, NobodyComes, comes, is_on_line, is_unpinned}
-use Rattle.chess_rules.specs.declared.sight.Sight.{Sight}
+use Rattle.chess_attacks.specs.declared.sight.Sight.{Sight}
 use Rattle.chess_mates.specs.declared.parries.Parries.{Parries}
 use Rattle.chess_mates.specs.declared.parries.Parries.TheVariants.{Impossible, Possible}
 use Rattle.chess_mates.proofs.StayingChecks.{advance_back, advances, frees_after, reaches_still}
-use Rattle.chess_rules.proofs.rays.Parting.{Frees}
+use Rattle.chess_attacks.proofs.rays.Parting.{Frees}
 use Rattle.chess_rules.proofs.theorems.Moves.{mate_is}
 use Rattle.chess_core.proofs.Words.{some_square_told}
 use Rattle.chess_rules.proofs.making_moves.Plays.{length-without_at}

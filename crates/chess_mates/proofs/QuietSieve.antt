@@ -4,15 +4,15 @@ use Rattle.chess_mates.proofs.Barring.{beyond}
 use Rattle.chess_mates.proofs.CalmSteps.{apart, calm, seen_from}
 use Rattle.chess_mates.proofs.Fleeing.{IsKingOn, after_seen, is_made, is_step, king_on, king_seen, men_stepped, on_second, reached_near, step_legal_is, step_taken, step_to, turn_is, unseen_bit}
 use Rattle.chess_mates.proofs.Hurdles.{later_but}
-use Rattle.chess_rules.proofs.rays.OnSquares.{one_on, size_on}
+use Rattle.chess_attacks.proofs.rays.OnSquares.{one_on, size_on}
 use Rattle.chess_mates.proofs.Standing.{captured_there, free_man, king_reaches, no_hopper, not_mine_enemy, some_stays, stays_there, unnamed}
 use Rattle.chess_mates.proofs.Stepping.{IsStep, on_flight, on_left, on_others, stands}
 use Rattle.chess_mates.specs.ties.QuietSteps.{AreQuiet, GoesSimply, IsStepLeft, must_reply_with_mate, sight_without}
 use Rattle.chess_mates.specs.ties.StandingFlights.{NoneHops}
 use Rattle.chess_mates.proofs.Passing.{on_denied}
 use Rattle.chess_rules.proofs.making_moves.Plays.{stays_empty}
-use Rattle.chess_rules.proofs.rays.Tables.{king_step_is_no_castling}
-use Rattle.chess_rules.specs.RuleSet.{faced_men_stand_still}
+use Rattle.chess_attacks.proofs.rays.Tables.{king_step_is_no_castling}
+use Rattle.chess_attacks.specs.RuleSet.{faced_men_stand_still}
 use Rattle.chess_rules.specs.Play.{is_castling}
 
 -- the squares to which the king may step, attacks apart: in Circe

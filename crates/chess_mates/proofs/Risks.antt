@@ -5,7 +5,7 @@ use Rattle.chess_mates.proofs.Hurdles.{on_one, reached_is}
 use Rattle.chess_mates.proofs.KindByKind.{man_is, of_all}
 use Rattle.chess_mates.proofs.LastingFlights.{on_both}
 use Rattle.chess_mates.proofs.Standing.{no_hopper}
-use Rattle.chess_rules.specs.ties.Targets.{AreReached}
+use Rattle.chess_attacks.specs.ties.Lines.{AreReached}
 
 -- no square is one of none
 pub none_at : (w s : ℕ) → w ≡ 0 → (bit_at w s == 1) ≡ true → ⊥

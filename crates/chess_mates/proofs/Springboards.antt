@@ -1,8 +1,8 @@
 -- Springboards: the squares over which hoppers reach a square.
 use Rattle.chess_mates.proofs.Chess.{AreFree, AreSpringboards, Attackers, Bishop, Bool, Direction, East, Grasshopper, Hop, IsAttacker, IsNear, IsReached, IsSprung, IsUnsprung, Kind, King, List, Man, None, North, NorthEast, NorthWest, Option, Rook, Siege, Some, South, SouthEast, SouthWest, Step, West, White, [], along, along-is, any_kept, ap, arith, bit_and, bit_at, bit_not, bit_or, diagonal-back, diagonal_steps, eq-eqb, eqb-true, false, false_by, false≢true, gait_of, hop-found, hops, inl, inr, is_hopper, is_occupied, is_on_some, is_some, is_square, is_vacant_at, king-back, leaps, list_any, list_any-append, man_on, map, men_on, no_reach_there, not_yet, off_left, off_right, on_left, on_right, onward, or_cases, or_left, or_right, ordered, queen_steps, reached_over, reaches_as, refl, ride-made, rides, rules, step_of, straight-back, straight_steps, sym, true, w64, word, word_has, ℕ, ◌-◌, ◌<◌, ◌==◌, ◌^◌, ◌∙◌, ◌∷◌, ◌≡◌, ◌≢◌}
-use Rattle.chess_rules.proofs.rays.OnSquares.{empty_on, hop_openly}
+use Rattle.chess_attacks.proofs.rays.OnSquares.{empty_on, hop_openly}
 use Rattle.chess_mates.proofs.LastingFlights.{on_both}
-use Rattle.chess_rules.proofs.listing_moves.OpenBoard.{rides_on}
+use Rattle.chess_attacks.proofs.rays.OpenBoard.{rides_on}
 use Rattle.chess_mates.proofs.Risks.{denied_on, none_at, none_on}
 
 -- a hopper is a grasshopper

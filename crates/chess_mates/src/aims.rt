@@ -8,19 +8,19 @@ ghost use Rattle.chess_rules.specs.Legal.{is_legal};
 ghost use Rattle.chess_rules.specs.ties.Places.{IsPlaceIn, moves_behind, place_of};
 
 use crate::checks::check_squares_of;
+use chess_attacks::rules::Rules;
+use chess_attacks::words::contains;
 use chess_core::board::Board;
 use chess_core::man::Move;
 use chess_core::square::{Square, Squares};
 use chess_rules::legal_moves::{Known, LegalMoves};
 use chess_rules::moves::{Moves, triple};
-use chess_rules::rules::Rules;
 use chess_rules::sought::{Sought, next_passing};
 use chess_rules::targets::{Kept, TRIPLES};
-use chess_rules::words::contains;
 
 // Returns the squares from which the man on `from`, if there is one, would attack the enemy king on the
 // board as it is.
-#[tactic(auto, using(chess_rules::proofs::Bits::word_empty))]
+#[tactic(auto, using(chess_attacks::proofs::Bits::word_empty))]
 fn aimed_squares(board: &Board, from: Square) -> Squares
     ensures { result ≡ word (aims_with board.now (man_on board.now.men from)) }
 {
@@ -32,7 +32,7 @@ fn aimed_squares(board: &Board, from: Square) -> Squares
 
 /// Returns whether the moving man arrives where it would attack the enemy king on the board as it was
 /// before the move. A search uses this to order moves only.
-#[tactic(auto, using(chess_rules::proofs::Bits::word_has), unfolding(crate::specs::ties::Aims::aims_at_king))]
+#[tactic(auto, using(chess_attacks::proofs::Bits::word_has), unfolding(crate::specs::ties::Aims::aims_at_king))]
 pub fn aims_at_king(board: &Board, m: &Move) -> bool
     ensures { result ≡ aims_at_king board.now m.now }
 {

@@ -5,26 +5,26 @@ ghost use Rattle.chess_core.specs.Position.{man_on, other, same_kind};
 ghost use Rattle.chess_core.specs.declared.man.Kind.TheVariants.{Bishop, King, Pawn, Rook};
 ghost use Rattle.chess_core.specs.WellFormed.{IsWellFormed};
 ghost use Rattle.chess_core.specs.ties.Words.{word};
-ghost use Rattle.chess_rules.specs.Attacks.{in_check};
+ghost use Rattle.chess_attacks.specs.Attacks.{in_check};
 ghost use Rattle.chess_mates.specs.ties.CheckSquares.{AreCastlingTargets, AreCheckSquares, AreCheckTargets, enemy, is_absent, may_check_from, check_squares_for, own_man, are_rebirths_quiet, rule_of_checks};
 ghost use Rattle.chess_rules.specs.ties.Shields.{cannot_expose, may_expose, may_stand_between};
 ghost use Rattle.chess_rules.specs.Legal.{is_legal, is_pseudo_legal};
 ghost use Rattle.chess_rules.specs.Play.{position_after};
-ghost use Rattle.chess_rules.specs.RuleSet.{captures_do_more};
+ghost use Rattle.chess_attacks.specs.RuleSet.{captures_do_more};
 
 use crate::flights::covered_squares;
+use chess_attacks::leaps::squares_aside;
+use chess_attacks::lines::occupied;
+use chess_attacks::outward::comes_as;
+use chess_attacks::rules::{Orthodox, Rules};
+use chess_attacks::sight::sight_after;
+use chess_attacks::words::{contains, only};
 use chess_core::board::Board;
 use chess_core::man::{Colour, Kind, Man, Move};
 use chess_core::square::{Square, Squares};
 use chess_rules::evasions::eventful_captures;
-use chess_rules::leaps::squares_aside;
-use chess_rules::lines::occupied;
-use chess_rules::open_board::open_targets;
-use chess_rules::outward::comes_as;
-use chess_rules::rules::{Orthodox, Rules};
 use chess_rules::shields::{cannot_expose, fairy_lines, safety_seen};
-use chess_rules::sight::sight_after;
-use chess_rules::words::{contains, only};
+use chess_rules::targets::open_targets;
 
 /// The squares from which a move may give check: by exposing the king, or by a man of this kind that
 /// arrives there. A king never gives check by arriving: next to the other king it would be in check itself.
@@ -42,7 +42,7 @@ pub(crate) struct CheckSquares {
 }
 
 // Returns whether this is a fairy kind and the colour has no man of it.
-#[tactic(auto, using(chess_rules::proofs::Bits::not_zero), unfolding(chess_core::specs::ties::Words::squares_of))]
+#[tactic(auto, using(chess_attacks::proofs::Bits::not_zero), unfolding(chess_core::specs::ties::Words::squares_of))]
 fn is_absent(board: &Board, colour: Colour, kind: Kind) -> bool
     ensures { result ≡ is_absent board.now.men (record { colour = colour; kind = kind }) }
 {
@@ -51,7 +51,7 @@ fn is_absent(board: &Board, colour: Colour, kind: Kind) -> bool
 
 // Returns the squares from which an enemy of this kind may give check to the colour's king; all squares for
 // a fairy kind that is absent from the board.
-#[tactic(auto, using(chess_rules::proofs::Bits::word_empty, chess_rules::proofs::Bits::every_square, std::proofs::lemmas::Bool::or_left, chess_core::proofs::Words::squares_same), unfolding(crate::specs::ties::CheckSquares::may_check_from))]
+#[tactic(auto, using(chess_attacks::proofs::Bits::word_empty, chess_attacks::proofs::Bits::every_square, std::proofs::lemmas::Bool::or_left, chess_core::proofs::Words::squares_same), unfolding(crate::specs::ties::CheckSquares::may_check_from))]
 pub(crate) fn check_squares_of(board: &Board, colour: Colour, kind: Kind) -> Squares
     ensures { result ≡ word (may_check_from board.now.men colour (enemy colour kind)) }
 {

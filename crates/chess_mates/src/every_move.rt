@@ -13,18 +13,19 @@ ghost use Rattle.chess_mates.specs.ties.Mates.{is_mating};
 ghost use Rattle.chess_rules.specs.ties.Places.{IsPlaceIn, moves_behind};
 
 use crate::checks::{CheckSquares, check_squares, may_check};
+use chess_attacks::leaps::king_leaps;
+use chess_attacks::outward::is_attacker_seen;
+use chess_attacks::rules::Rules;
+use chess_attacks::sight::sight_after;
+use chess_attacks::words::{contains, take_first};
 use chess_core::board::Board;
 use chess_core::man::{Man, Move};
 use chess_core::square::{Square, Squares};
-use chess_rules::leaps::king_leaps;
 use chess_rules::legal_moves::LegalMoves;
+use chess_rules::making_moves::play::{capture_square, play};
+use chess_rules::making_moves::undoing::unplay;
 use chess_rules::moves::is_mate;
-use chess_rules::outward::is_attacker_seen;
-use chess_rules::play::capture_square;
-use chess_rules::rules::Rules;
-use chess_rules::sight::sight_after;
 use chess_rules::targets::arrivals;
-use chess_rules::words::{contains, take_first};
 
 /// Returns whether the side to move has a legal move and each of its legal moves mates. A move that can't
 /// give check decides it without being played. The board is unchanged.
@@ -48,7 +49,7 @@ pub fn every_move_mates<R: Rules>(board: &mut Board) -> bool
 
 // Returns the squares to which the king on `king` may step, whether attacked or not; none in Circe.
 #[inline(always)]
-#[tactic(auto, using(crate::proofs::QuietSteps::open_steps, chess_rules::proofs::listing_moves::Walks::off_zero))]
+#[tactic(auto, using(crate::proofs::QuietSteps::open_steps, chess_attacks::proofs::Bits::off_zero))]
 fn step_squares<R: Rules>(board: &Board, king: Square) -> Squares
     ensures { (x : Man) → man_on board.now.men king ≡ Some x → same_kind x.kind King ≡ true
         → AreOpen R.rule board.now.men board.now.turn king result }
@@ -78,7 +79,7 @@ fn is_unreached(board: &Board, king: Man, from: Square, to: Square) -> bool
 }
 
 // Returns the first of the squares where no enemy reaches the king after its step.
-#[tactic(auto, using(chess_rules::proofs::HoldTaken::rest_falls, crate::proofs::Hurdles::rest_here, crate::proofs::Hurdles::rest_on))]
+#[tactic(auto, using(chess_attacks::proofs::HoldTaken::rest_falls, crate::proofs::Hurdles::rest_here, crate::proofs::Hurdles::rest_on))]
 fn first_unreached(board: &Board, king: Man, from: Square, squares: Squares) -> Option<Square>
     ensures within { IfSome result (λ t. (t < 64) × ((bit_at squares t == 1) ≡ true)) }
     ensures unreached { IfSome result (λ t. IsUnreached board.now king from t) }
@@ -181,8 +182,8 @@ fn mates_by<R: Rules>(board: &mut Board, m: Move) -> bool
     ensures answer { result ≡ is_mating R.rule board.old m }
     ensures board { board.new ≡ board.old }
 {
-    let undo = R::play(board, m);
+    let undo = play::<R>(board, m);
     let mated = is_mate::<R>(board);
-    R::unplay(board, m, undo);
+    unplay::<R>(board, m, undo);
     mated
 }

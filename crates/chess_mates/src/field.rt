@@ -14,13 +14,13 @@ use crate::lasting_flights::{
     LAST_RANKS, OpenTargets, all_open_targets, keeps_one, open_approaches,
 };
 use crate::siege::Siege;
+use chess_attacks::leaps::king_leaps;
+use chess_attacks::lines::{diagonal_lines, straight_lines};
+use chess_attacks::reach::reach_over;
+use chess_attacks::rules::Rules;
+use chess_attacks::words::{highest, next_bit, only, take_first};
 use chess_core::man::{Colour, Kind, Man};
 use chess_core::square::{Square, Squares};
-use chess_rules::leaps::king_leaps;
-use chess_rules::lines::{diagonal_lines, straight_lines};
-use chess_rules::reach::reach_over;
-use chess_rules::rules::Rules;
-use chess_rules::words::{highest, next_bit, only, take_first};
 
 // A king zone: the king's square; the squares next to it where it might go, attacked or not, and where it
 // might capture an arriving man; the lines from the king's square, straight, diagonal and all; the
@@ -56,7 +56,7 @@ pub(crate) struct Springs {
 }
 
 // Returns the squares next to a defender's king on this square where it might go, attacked or not.
-#[tactic(auto, using(crate::proofs::FarMen::off_denied, chess_rules::proofs::listing_moves::Walks::on_first, chess_rules::proofs::Bits::word_has))]
+#[tactic(auto, using(crate::proofs::FarMen::off_denied, chess_rules::proofs::listing_moves::Walks::on_first, chess_attacks::proofs::Bits::word_has))]
 pub(crate) fn adjacent_squares(siege: &Siege, king: Square) -> Squares
     ensures { AreAdjacent siege.now king result }
 {
@@ -76,7 +76,7 @@ fn capture_squares(siege: &Siege, king: Square) -> Squares
 }
 
 // Returns the nightrider's lines from a king on this square, if the attackers have a nightrider.
-#[tactic(auto, using(crate::proofs::Hurdles::reached_is), unfolding(crate::specs::ties::Siege::reached_over, chess_rules::specs::Reaches::reaches_as))]
+#[tactic(auto, using(crate::proofs::Hurdles::reached_is), unfolding(crate::specs::ties::Siege::reached_over, chess_attacks::specs::Reaches::reaches_as))]
 pub(crate) fn nightrider_lines(siege: &Siege, king: Square) -> Squares
     ensures { siege.now.men.nightriders ≢ 0 → (c : Colour)
         → IsReached siege.now.hurdles (record { colour = c; kind = Nightrider }) king result }
@@ -138,7 +138,7 @@ fn landing_on(siege: &Siege, king: Square, to: Square) -> Landings
 }
 
 // Returns the squares among `squares` that no grasshopper reaches as the men are, with their springboards.
-#[tactic(auto, using(chess_rules::proofs::HoldTaken::rest_falls, crate::proofs::Risks::none_at, crate::proofs::Springboards::landing_anywhere))]
+#[tactic(auto, using(chess_attacks::proofs::HoldTaken::rest_falls, crate::proofs::Risks::none_at, crate::proofs::Springboards::landing_anywhere))]
 fn landings_among(siege: &Siege, king: Square, squares: Squares) -> Landings
     ensures { (f : ℕ) → f < 64 → (bit_at result.squares f == 1) ≡ true
         → IsUnsprung siege.now king f result.springboards }

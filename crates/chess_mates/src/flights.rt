@@ -11,23 +11,24 @@ ghost use Rattle.chess_core.specs.declared.man.Kind.TheVariants.{King};
 ghost use Rattle.chess_mates.specs.ties.Flights.{AreSteps, AreUnsafe, IsSafe, IsSeenFrom, IsTold, sight_lifted, sight_with};
 ghost use Rattle.chess_rules.specs.Legal.{is_pseudo_legal};
 ghost use Rattle.chess_rules.specs.Play.{arriving_man, capture_square, position_after};
-ghost use Rattle.chess_rules.specs.RuleSet.{captures_do_more, faced_men_stand_still};
-ghost use Rattle.chess_rules.specs.ties.Lines.{occupied_squares};
-ghost use Rattle.chess_rules.specs.Reaches.{reaches_as};
-ghost use Rattle.chess_rules.specs.ties.Shields.{is_reached};
-ghost use Rattle.chess_rules.specs.ties.Sight.{AreSeen, is_simple};
+ghost use Rattle.chess_attacks.specs.RuleSet.{captures_do_more, faced_men_stand_still};
+ghost use Rattle.chess_attacks.specs.ties.Lines.{occupied_squares};
+ghost use Rattle.chess_attacks.specs.Reaches.{reaches_as};
+ghost use Rattle.chess_attacks.specs.ties.Outward.{is_reached};
+ghost use Rattle.chess_attacks.specs.ties.Sight.{AreSeen};
+ghost use Rattle.chess_rules.specs.ties.Exposure.{is_simple};
 
+use chess_attacks::leaps::king_leaps;
+use chess_attacks::outward::is_attacker_seen;
+use chess_attacks::reach::reach_over;
+use chess_attacks::rules::Rules;
+use chess_attacks::sight::{Sight, sight_after};
+use chess_attacks::words::{only, take_first};
 use chess_core::board::Board;
 use chess_core::man::{Colour, Kind, Man, Move};
 use chess_core::square::{Square, Squares};
 use chess_rules::exposure::is_simple;
-use chess_rules::leaps::king_leaps;
-use chess_rules::outward::is_attacker_seen;
-use chess_rules::play::{arriving_man, capture_square};
-use chess_rules::reach::reach_over;
-use chess_rules::rules::Rules;
-use chess_rules::sight::{Sight, sight_after};
-use chess_rules::words::{only, take_first};
+use chess_rules::making_moves::play::{arriving_man, capture_square};
 
 /// What is known of the flights of the side to move.
 #[derive(Clone, Copy)]
@@ -113,7 +114,7 @@ pub(crate) fn open_squares<R: Rules>(board: &Board, sight: Sight, king: Square) 
 
 // Returns the first of the squares where no man of the colour, except perhaps the moved man, attacks the
 // enemy king.
-#[tactic(auto, using(chess_rules::proofs::HoldTaken::taken_all, chess_rules::proofs::HoldTaken::taken_none, chess_rules::proofs::HoldTaken::rest_falls))]
+#[tactic(auto, using(chess_attacks::proofs::HoldTaken::taken_all, chess_attacks::proofs::HoldTaken::taken_none, chess_attacks::proofs::HoldTaken::rest_falls))]
 #[inline(always)]
 pub(crate) fn first_safe(
     board: &Board,

@@ -7,11 +7,11 @@ ghost use Rattle.chess_mates.specs.ties.Siege.{AreGuardsWithout, AreReached, IsA
 
 use crate::attackers::Attackers;
 use crate::siege::Siege;
+use chess_attacks::open_board::open_reach;
+use chess_attacks::reach::reach_over;
+use chess_attacks::words::{only, take_first};
 use chess_core::man::{Colour, Kind, Man};
 use chess_core::square::{Square, Squares};
-use chess_rules::open_board::open_reach;
-use chess_rules::reach::reach_over;
-use chess_rules::words::{only, take_first};
 
 // The squares that attackers reach, and those that riders among them reach.
 #[derive(Clone, Copy)]
@@ -21,7 +21,7 @@ pub(crate) struct Guards {
 }
 
 // Returns the squares that the man on `from` reaches over the hurdles.
-#[tactic(auto, using(chess_rules::proofs::rays::OnSquares::occupied_on, crate::proofs::Hurdles::reached_is, chess_rules::proofs::Bits::word_has), unfolding(crate::specs::ties::Siege::reached_over))]
+#[tactic(auto, using(chess_attacks::proofs::rays::OnSquares::occupied_on, crate::proofs::Hurdles::reached_is, chess_attacks::proofs::Bits::word_has), unfolding(crate::specs::ties::Siege::reached_over))]
 pub(crate) fn reach_from(hurdles: Squares, man: Man, from: Square) -> Squares
     ensures all { IsReached hurdles man from result }
     ensures alone { (t : ℕ) → t < 64 → (bit_at result t == 1) ≡ true
@@ -46,7 +46,7 @@ fn reach_towards(hurdles: Squares, man: Man, from: Square, region: Squares) -> S
 
 // Returns the squares that men like this on these squares reach over the hurdles, as far as they could
 // reach the region.
-#[tactic(auto, using(chess_rules::proofs::HoldTaken::taken_all, chess_rules::proofs::HoldTaken::taken_none, chess_rules::proofs::HoldTaken::rest_falls, chess_rules::proofs::listing_moves::Walks::off_zero))]
+#[tactic(auto, using(chess_attacks::proofs::HoldTaken::taken_all, chess_attacks::proofs::HoldTaken::taken_none, chess_attacks::proofs::HoldTaken::rest_falls, chess_attacks::proofs::Bits::off_zero))]
 fn reach_together(hurdles: Squares, man: Man, squares: Squares, region: Squares) -> Squares
     ensures all { (s : ℕ) → s < 64 → (bit_at squares s == 1) ≡ true
         → IsNear man s region → IsReached hurdles man s result }

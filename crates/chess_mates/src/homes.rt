@@ -8,11 +8,11 @@ ghost use Rattle.chess_core.specs.declared.man.Kind.TheVariants.{Pawn};
 ghost use Rattle.chess_mates.specs.ties.Siege.{AreClosed, AreHomes, AreHomesOf};
 ghost use Rattle.chess_rules.specs.Play.{rebirth};
 
+use chess_attacks::rules::Rules;
+use chess_attacks::words::{only, take_first};
 use chess_core::board::Board;
 use chess_core::man::{Colour, Kind};
 use chess_core::square::{Square, Squares};
-use chess_rules::rules::Rules;
-use chess_rules::words::{only, take_first};
 
 // Returns the home squares of a kind other than pawn.
 #[tactic(auto, using(crate::proofs::HomeSquares::home_on))]
@@ -48,7 +48,7 @@ fn pawn_home(colour: Colour, from: Square) -> Squares
 }
 
 // Returns the home squares of the pawns.
-#[tactic(auto, using(chess_rules::proofs::HoldTaken::taken_all, chess_rules::proofs::HoldTaken::taken_none, chess_rules::proofs::HoldTaken::rest_falls))]
+#[tactic(auto, using(chess_attacks::proofs::HoldTaken::taken_all, chess_attacks::proofs::HoldTaken::taken_none, chess_attacks::proofs::HoldTaken::rest_falls))]
 fn pawn_homes(colour: Colour, pawns: Squares) -> Squares
     ensures { (s : ℕ) → s < 64 → (bit_at pawns s == 1) ≡ true → (t r : ℕ) → file_of t ≡ file_of s
         → rebirth colour Pawn t ≡ Some r → (bit_at result r == 1) ≡ true }

@@ -7,15 +7,15 @@ ghost use Rattle.chess_core.specs.declared.man.Man.{Man};
 ghost use Rattle.chess_mates.specs.ties.Siege.{AreLaterHurdles, IsApart, IsUntaken, LeavesUntaken};
 
 use crate::siege::Siege;
+use chess_attacks::leaps::king_leaps;
+use chess_attacks::outward::comes_as;
+use chess_attacks::words::{only, take_first};
 use chess_core::man::{Colour, Kind};
 use chess_core::square::{Square, Squares};
-use chess_rules::leaps::king_leaps;
-use chess_rules::outward::comes_as;
-use chess_rules::words::{only, take_first};
 
 // Returns the squares where a man may be, unless one arrives, after the attacker has left `from` and the
 // king `king`: the hurdles, and in Circe, where attackers are on closed squares, these too.
-#[tactic(auto, using(chess_rules::proofs::Bits::on_left, chess_rules::proofs::Bits::on_right, chess_rules::proofs::Bits::word_has, crate::proofs::Risks::denied_on, std::proofs::lemmas::Bool::ne_eqb))]
+#[tactic(auto, using(chess_attacks::proofs::Bits::on_left, chess_attacks::proofs::Bits::on_right, chess_attacks::proofs::Bits::word_has, crate::proofs::Risks::denied_on, std::proofs::lemmas::Bool::ne_eqb))]
 pub(crate) fn later_hurdles(siege: &Siege, king: Square, from: Square) -> Squares
     ensures { AreLaterHurdles siege.now king from result }
 {
@@ -49,7 +49,7 @@ fn squares_beside(king: Square, flight: Square) -> Squares
 
 // Returns the squares whose occupation might leave no flight of `near` after a grasshopper arrives on one
 // of the targets. A target with another attacker counts only as a recapture there.
-#[tactic(auto, using(chess_rules::proofs::HoldTaken::rest_falls, chess_rules::proofs::listing_moves::Targeting::every_square_on))]
+#[tactic(auto, using(chess_attacks::proofs::HoldTaken::rest_falls, chess_rules::proofs::listing_moves::Targeting::every_square_on))]
 pub(crate) fn critical_of_hops(
     king: Square,
     near: Squares,

@@ -8,10 +8,10 @@ use crate::field::{needed_squares, tell_targets};
 use crate::lasting_flights::OpenTargets;
 use crate::siege::{Siege, siege_of};
 use crate::steps::{exact_steps, flightless_steps};
+use chess_attacks::leaps::king_leaps;
+use chess_attacks::rules::Rules;
 use chess_core::board::Board;
 use chess_core::square::{Square, Squares};
-use chess_rules::leaps::king_leaps;
-use chess_rules::rules::Rules;
 use chess_rules::sift::Sift;
 use std::marker::Model;
 

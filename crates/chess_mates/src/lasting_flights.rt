@@ -6,15 +6,16 @@ ghost use Rattle.chess_core.specs.SquareNames.{e1, e8};
 ghost use Rattle.chess_core.specs.declared.man.Man.{Man};
 ghost use Rattle.chess_mates.specs.declared.attackers.Attackers.{Attackers};
 ghost use Rattle.chess_mates.specs.ties.LastingFlights.{AreApproached, AreOpenTargets, AreTargets, IsLeft, KeepsOne, LeaveOne};
-ghost use Rattle.chess_rules.specs.ties.Sight.{king_after};
-ghost use Rattle.chess_rules.specs.ties.Targets.{AreReached};
+ghost use Rattle.chess_rules.specs.ties.Exposure.{king_after};
+ghost use Rattle.chess_attacks.specs.ties.Lines.{AreReached};
 
 use crate::attackers::Attackers;
+use chess_attacks::open_board::open_reach;
+use chess_attacks::words::{highest, next_bit, only, take_first};
 use chess_core::board::Board;
 use chess_core::man::{Colour, Kind, Man, Move};
 use chess_core::square::{Square, Squares};
-use chess_rules::open_board::{open_reach, open_targets};
-use chess_rules::words::{highest, next_bit, only, take_first};
+use chess_rules::targets::open_targets;
 
 // Supersets of the squares where each kind of a side's men may be after one move on an otherwise empty
 // board, and of the squares that they reach now. A promoted rook or bishop counts as a queen, which reaches
@@ -53,7 +54,7 @@ impl OpenTargets {
 }
 
 // Returns the squares that men of this kind on these squares reach on otherwise empty boards.
-#[tactic(auto, using(chess_rules::proofs::HoldTaken::taken_all, chess_rules::proofs::HoldTaken::taken_none, chess_rules::proofs::HoldTaken::rest_falls, crate::proofs::Risks::none_on))]
+#[tactic(auto, using(chess_attacks::proofs::HoldTaken::taken_all, chess_attacks::proofs::HoldTaken::taken_none, chess_attacks::proofs::HoldTaken::rest_falls, crate::proofs::Risks::none_on))]
 #[inline(always)]
 fn open_reach_of(colour: Colour, kind: Kind, squares: Squares) -> Squares
     ensures { (s : ℕ) → s < 64 → (bit_at squares s == 1) ≡ true
@@ -74,7 +75,7 @@ fn open_reach_of(colour: Colour, kind: Kind, squares: Squares) -> Squares
 
 // Returns the squares to which men of this kind on these squares could go, including steps and castling, on
 // otherwise empty boards.
-#[tactic(auto, using(chess_rules::proofs::HoldTaken::taken_all, chess_rules::proofs::HoldTaken::taken_none, chess_rules::proofs::HoldTaken::rest_falls, crate::proofs::Risks::none_on))]
+#[tactic(auto, using(chess_attacks::proofs::HoldTaken::taken_all, chess_attacks::proofs::HoldTaken::taken_none, chess_attacks::proofs::HoldTaken::rest_falls, crate::proofs::Risks::none_on))]
 #[inline(always)]
 fn open_targets_of(colour: Colour, kind: Kind, squares: Squares) -> Squares
     ensures { (s : ℕ) → s < 64 → (bit_at squares s == 1) ≡ true
@@ -185,7 +186,7 @@ fn taking_squares(man: Man, flight: Square) -> Squares
 }
 
 // Returns whether one of the squares remains wherever the man arrives on a target.
-#[tactic(auto, using(chess_rules::proofs::HoldTaken::taken_all, chess_rules::proofs::HoldTaken::taken_none, chess_rules::proofs::HoldTaken::rest_falls))]
+#[tactic(auto, using(chess_attacks::proofs::HoldTaken::taken_all, chess_attacks::proofs::HoldTaken::taken_none, chess_attacks::proofs::HoldTaken::rest_falls))]
 fn leaves_one_each(squares: Squares, man: Man, targets: Squares) -> bool
     ensures { result ≡ true → (t : ℕ) → t < 64 → (bit_at targets t == 1) ≡ true
         → (f : ℕ) × IsLeft squares man t f }

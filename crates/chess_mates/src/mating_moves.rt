@@ -2,7 +2,7 @@
 ghost use Rattle.std.specs.Prelude.{◌≡◌, ⊤, ℕ, ◌≤◌, ◌<◌, ◌∷◌, [], ◌&&◌, IfSome, MatchOption, None, Some, ◌==◌, false, not, true};
 ghost use Rattle.chess_core.specs.Position.{other};
 ghost use Rattle.chess_core.specs.WellFormed.{IsWellFormed};
-ghost use Rattle.chess_rules.specs.Attacks.{in_check};
+ghost use Rattle.chess_attacks.specs.Attacks.{in_check};
 ghost use Rattle.chess_mates.specs.ties.CheckSquares.{AreCheckSquares};
 ghost use Rattle.chess_mates.specs.ties.Flights.{IsTold};
 ghost use Rattle.chess_mates.specs.ties.Parries.{AreParries};
@@ -19,13 +19,15 @@ use crate::flights::{Flights, flights_after};
 use crate::origins::check_origins;
 use crate::parries::{Parries, parries_after};
 use crate::standing_flights::{StandingFlights, standing_flights};
+use chess_attacks::rules::{Rules, in_check};
 use chess_core::board::Board;
 use chess_core::man::{Colour, Move};
 use chess_core::square::{Square, Squares};
 use chess_rules::legal::is_pseudo_legal;
+use chess_rules::making_moves::play::play;
+use chess_rules::making_moves::undoing::unplay;
 use chess_rules::moves::{Moves, has_legal_move, triple};
 use chess_rules::other_moves::others_have_move;
-use chess_rules::rules::{Rules, in_check};
 use chess_rules::sought::{Sought, next_passing};
 use chess_rules::targets::{Kept, TRIPLES, arrivals};
 use std::alloc::AllocError;
@@ -256,7 +258,7 @@ fn mating_origins<R: Rules>(board: &Board, squares: &CheckSquares) -> Squares
 
 // Returns a superset of the squares to which the man on `from` must go to mate: elsewhere it gives no
 // check, or a flight remains.
-#[tactic(auto, using(chess_rules::proofs::listing_moves::Walks::off_zero, crate::proofs::Mating::no_mate_quietly))]
+#[tactic(auto, using(chess_attacks::proofs::Bits::off_zero, crate::proofs::Mating::no_mate_quietly))]
 fn mate_targets<R: Rules>(board: &Board, clues: &MateClues, from: Square) -> Squares
     requires well_formed { IsWellFormed board.now }
     requires clues { AreMateClues R.rule board.now clues.now }
@@ -320,9 +322,9 @@ fn gives_mate<R: Rules>(board: &mut Board, m: Move, flights: Flights, parries: P
     ensures board { board.new ≡ board.old }
 {
     let mover = board.turn();
-    let undo = R::play(board, m);
+    let undo = play::<R>(board, m);
     let mated = is_mated_by::<R>(board, mover, flights, parries);
-    R::unplay(board, m, undo);
+    unplay::<R>(board, m, undo);
     mated
 }
 

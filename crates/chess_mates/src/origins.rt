@@ -9,12 +9,12 @@ ghost use Rattle.chess_mates.specs.ties.CheckSquares.{AreCheckOrigins, AreCheckS
 
 use crate::checks::{CheckSquares, may_check_from_everywhere, targets_off_shields};
 use crate::pawn_approaches::pawns_before;
+use chess_attacks::rules::Rules;
+use chess_attacks::words::{next_bit, only, take_first};
 use chess_core::board::Board;
 use chess_core::man::{Kind, Man};
 use chess_core::square::{Square, Squares};
-use chess_rules::open_board::open_targets;
-use chess_rules::rules::Rules;
-use chess_rules::words::{next_bit, only, take_first};
+use chess_rules::targets::open_targets;
 
 // Returns the squares of the mover's men of this kind whose moves can't expose the enemy king.
 #[inline(always)]
@@ -54,7 +54,7 @@ fn is_far<R: Rules>(board: &Board, man: Man, from: Square, targets: Squares) -> 
 // Returns the squares of the mover's men of this kind, not kings, that could reach no check square on an
 // empty board.
 #[inline(always)]
-#[tactic(auto, using(chess_rules::proofs::HoldTaken::rest_falls, crate::proofs::Hurdles::rest_on, crate::proofs::FarMen::far_either, chess_rules::proofs::listing_moves::Walks::off_zero, crate::proofs::FarMen::far_one))]
+#[tactic(auto, using(chess_attacks::proofs::HoldTaken::rest_falls, crate::proofs::Hurdles::rest_on, crate::proofs::FarMen::far_either, chess_attacks::proofs::Bits::off_zero, crate::proofs::FarMen::far_one))]
 fn far_men<R: Rules>(board: &Board, squares: &CheckSquares, kind: Kind) -> Squares
     requires well_formed { IsWellFormed board.now }
     requires squares { AreCheckSquares board.now.men (other board.now.turn) squares.now }
@@ -84,7 +84,7 @@ fn far_men<R: Rules>(board: &Board, squares: &CheckSquares, kind: Kind) -> Squar
 // Returns the square of the mover's king if it could reach no check square on an empty board, castling
 // included.
 #[inline(always)]
-#[tactic(auto, using(chess_rules::proofs::listing_moves::Walks::off_zero, crate::proofs::FarMen::far_one))]
+#[tactic(auto, using(chess_attacks::proofs::Bits::off_zero, crate::proofs::FarMen::far_one))]
 fn far_king<R: Rules>(board: &Board, squares: &CheckSquares) -> Squares
     requires well_formed { IsWellFormed board.now }
     requires squares { AreCheckSquares board.now.men (other board.now.turn) squares.now }

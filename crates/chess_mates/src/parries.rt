@@ -11,26 +11,27 @@ ghost use Rattle.chess_core.specs.declared.man.Man.{Man};
 ghost use Rattle.chess_core.specs.ties.Words.{squares_of, word};
 ghost use Rattle.chess_mates.specs.ties.CheckSquares.{AreCheckSquares};
 ghost use Rattle.chess_mates.specs.ties.Parries.{AreBetween, AreParries, AreParriesTold, IsShutBy, IsToldBetween, IsUntaken, comes, is_unpinned};
-ghost use Rattle.chess_rules.specs.Legal.{forward, is_pseudo_legal};
+ghost use Rattle.chess_attacks.specs.Reaches.{forward};
+ghost use Rattle.chess_rules.specs.Legal.{is_pseudo_legal};
 ghost use Rattle.chess_rules.specs.Play.{position_after};
 ghost use Rattle.std.specs.Int.{bit_at};
-ghost use Rattle.chess_rules.specs.Reaches.{reaches, reaches_as};
-ghost use Rattle.chess_rules.specs.ties.Lines.{occupied_squares};
-ghost use Rattle.chess_rules.specs.ties.Sight.{AreSeen};
+ghost use Rattle.chess_attacks.specs.Reaches.{reaches, reaches_as};
+ghost use Rattle.chess_attacks.specs.ties.Lines.{occupied_squares};
+ghost use Rattle.chess_attacks.specs.ties.Sight.{AreSeen};
 
 use crate::checks::CheckSquares;
+use chess_attacks::leaps::{king_leaps, pawn_advances};
+use chess_attacks::lines::{diagonal_lines, straight_lines};
+use chess_attacks::outward::attackers_seen;
+use chess_attacks::reach::reach_over;
+use chess_attacks::rules::Rules;
+use chess_attacks::sight::{Sight, sight_after};
+use chess_attacks::words::{contains, next_bit, only, take_first};
 use chess_core::board::Board;
 use chess_core::man::{Colour, Kind, Man, Move};
 use chess_core::square::{Square, Squares};
-use chess_rules::leaps::{king_leaps, pawn_advances};
-use chess_rules::lines::{diagonal_lines, straight_lines};
-use chess_rules::outward::attackers_seen;
-use chess_rules::play::capture_square;
-use chess_rules::reach::reach_over;
-use chess_rules::rules::Rules;
+use chess_rules::making_moves::play::capture_square;
 use chess_rules::shields::{cannot_expose, fairy_lines};
-use chess_rules::sight::{Sight, sight_after};
-use chess_rules::words::{contains, next_bit, only, take_first};
 
 /// What is known of parries of a check by legal moves of men other than the king.
 #[derive(Clone, Copy)]
@@ -157,7 +158,7 @@ fn is_approached(
 }
 
 // Returns what is known of men that interpose between the arrived man and the king on `king`.
-#[tactic(auto, using(chess_rules::proofs::HoldTaken::rest_falls, crate::proofs::Hurdles::rest_on))]
+#[tactic(auto, using(chess_attacks::proofs::HoldTaken::rest_falls, crate::proofs::Hurdles::rest_on))]
 #[inline(always)]
 fn parries_between(
     board: &Board,

@@ -24,18 +24,18 @@ use crate::guards::{leapt_squares, ridden_squares};
 use crate::lasting_flights::{LAST_RANKS, king_after, open_approaches};
 use crate::siege::siege_of;
 use crate::steps::exact_steps;
+use chess_attacks::leaps::king_leaps;
+use chess_attacks::lines::occupied;
+use chess_attacks::outward::is_attacker_seen;
+use chess_attacks::rules::Rules;
+use chess_attacks::sight::Sight;
+use chess_attacks::words::{only, take_first};
 use chess_core::board::Board;
 use chess_core::man::{Colour, Kind, Man, Move};
 use chess_core::square::{Square, Squares};
 use chess_rules::exposure::is_simple;
-use chess_rules::leaps::king_leaps;
-use chess_rules::lines::occupied;
-use chess_rules::outward::is_attacker_seen;
-use chess_rules::play::capture_square;
-use chess_rules::rules::Rules;
+use chess_rules::making_moves::play::capture_square;
 use chess_rules::sift::Sift;
-use chess_rules::sight::Sight;
-use chess_rules::words::{only, take_first};
 
 // Returns the sight after the enemy king, lifted from `king`, is put on `to`; the king isn't among the
 // standing men.
@@ -205,7 +205,7 @@ fn stopping_squares(board: &Board, sight: Sight, man: Man, to: Square) -> Square
 }
 
 // Returns the squares where the lifted man's arrival may stop all the steps.
-#[tactic(auto, using(chess_rules::proofs::HoldTaken::rest_falls, chess_rules::proofs::listing_moves::Targeting::every_square_on))]
+#[tactic(auto, using(chess_attacks::proofs::HoldTaken::rest_falls, chess_rules::proofs::listing_moves::Targeting::every_square_on))]
 fn holding_squares(board: &Board, sight: Sight, man: Man, steps: Squares) -> Squares
     ensures { (t : ℕ) → t < 64 → (bit_at result t == 1) ≡ false
         → (f : ℕ) × IsStepLeft board.now sight steps man t f }

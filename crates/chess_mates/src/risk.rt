@@ -21,11 +21,12 @@ use crate::hopped_flights::{critical_of_hops, later_hurdles};
 use crate::lasting_flights::{LAST_RANKS, open_approaches};
 use crate::pawn_approaches::pawns_before;
 use crate::siege::{Siege, lifted_from};
+use chess_attacks::open_board::open_reach;
+use chess_attacks::reach::reach_over;
+use chess_attacks::words::{contains, next_bit, only, take_first};
 use chess_core::man::{Colour, Kind, Man};
 use chess_core::square::{Square, Squares};
-use chess_rules::open_board::{open_reach, open_targets};
-use chess_rules::reach::reach_over;
-use chess_rules::words::{contains, next_bit, only, take_first};
+use chess_rules::targets::open_targets;
 
 // The squares where a defender's arrival might allow mate, and the squares of all lines on which hurdles
 // matter.
@@ -71,7 +72,7 @@ fn critical_with(near: Squares, enemies: Squares, man: Man, to: Square) -> Squar
 
 // Returns the squares whose occupation by a defender might leave none of `near`, wherever the man arrives
 // on a target.
-#[tactic(auto, using(chess_rules::proofs::HoldTaken::rest_falls, chess_rules::proofs::HoldTaken::taken_all, chess_rules::proofs::HoldTaken::taken_none))]
+#[tactic(auto, using(chess_attacks::proofs::HoldTaken::rest_falls, chess_attacks::proofs::HoldTaken::taken_all, chess_attacks::proofs::HoldTaken::taken_none))]
 fn critical_after(near: Squares, enemies: Squares, man: Man, targets: Squares) -> Squares
     ensures { (t : ℕ) → t < 64 → (bit_at targets t == 1) ≡ true
         → LeavesOne near enemies result man t }
@@ -185,7 +186,7 @@ fn watched_squares(guards: &Guards, king: Square, reached: Squares, targets: Squ
 }
 
 // Returns the squares among `squares` on which the king can't capture the arriving man.
-#[tactic(auto, using(crate::proofs::Risks::bit_denied, chess_rules::proofs::Bits::off_left, chess_rules::proofs::Bits::off_right, chess_rules::proofs::listing_moves::Walks::off_second))]
+#[tactic(auto, using(crate::proofs::Risks::bit_denied, chess_attacks::proofs::Bits::off_left, chess_attacks::proofs::Bits::off_right, chess_rules::proofs::listing_moves::Walks::off_second))]
 fn uncaptured_squares(field: &Field, guards: &Guards, squares: Squares) -> Squares
     ensures { (t : ℕ) → t < 64 → (bit_at squares t == 1) ≡ true
         → (bit_at result t == 1) ≡ false → ((bit_at field.now.captures t == 1) ≡ true)
@@ -263,7 +264,7 @@ fn risk_from(siege: &Siege, field: &Field, man: Man, from: Square, checks: Squar
 }
 
 // Returns the risk of men like this on these squares.
-#[tactic(auto, using(chess_rules::proofs::HoldTaken::rest_falls, chess_rules::proofs::HoldTaken::taken_all, chess_rules::proofs::HoldTaken::taken_none))]
+#[tactic(auto, using(chess_attacks::proofs::HoldTaken::rest_falls, chess_attacks::proofs::HoldTaken::taken_all, chess_attacks::proofs::HoldTaken::taken_none))]
 #[inline(always)]
 fn risk_together(siege: &Siege, field: &Field, man: Man, squares: Squares, checks: Squares) -> Risk
     ensures { (s : ℕ) → s < 64 → (bit_at squares s == 1) ≡ true

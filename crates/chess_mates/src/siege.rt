@@ -10,11 +10,11 @@ ghost use Rattle.chess_mates.specs.ties.Siege.{AreCastlingSquares, AreHurdles, I
 
 use crate::attackers::{Attackers, attackers_on, has_fairy_promotions};
 use crate::homes::closed_squares;
+use chess_attacks::rules::Rules;
+use chess_attacks::words::{contains, only};
 use chess_core::board::Board;
 use chess_core::man::{Colour, Kind};
 use chess_core::square::{Square, Squares};
-use chess_rules::rules::Rules;
-use chess_rules::words::{contains, only};
 
 // The men around the defender's king on `king`: the squares of the defender's men, of the attackers and of
 // the hurdles, those to which an attacking rook may castle, and the closed ones, to which the king isn't
@@ -32,7 +32,7 @@ pub(crate) struct Siege {
 
 // Returns the square `next` beside the king if the side may castle with the rook in the corner: the rook
 // has the right to, and no man of its own is on that square.
-#[tactic(auto, using(chess_rules::proofs::Bits::word_has))]
+#[tactic(auto, using(chess_attacks::proofs::Bits::word_has))]
 fn castling_square(board: &Board, own: Squares, corner: Square, next: Square) -> Squares
     ensures { (has_unmoved board.now.unmoved corner ≡ false)
         ⊎ ((bit_at own next == 1) ≡ true) ⊎ ((bit_at result next == 1) ≡ true) }

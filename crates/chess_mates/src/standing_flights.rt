@@ -11,12 +11,12 @@ ghost use Rattle.chess_mates.specs.ties.StandingFlights.{AreStandingFlights, Non
 use crate::attackers::attackers_on;
 use crate::guards::{leapt_squares, ridden_squares};
 use crate::quiet_steps::{barring_squares, free_steps, none_hops, unsimple_squares};
+use chess_attacks::lines::occupied;
+use chess_attacks::rules::Rules;
+use chess_attacks::words::{contains, highest, next_bit, only};
 use chess_core::board::Board;
 use chess_core::man::Man;
 use chess_core::square::{Square, Squares};
-use chess_rules::lines::occupied;
-use chess_rules::rules::Rules;
-use chess_rules::words::{contains, highest, next_bit, only};
 
 // Against more men a king seldom has flights that remain: the search for them isn't worth its time.
 const MOST_MEN: u32 = 12;

@@ -12,10 +12,10 @@ use crate::guards::{leapt_squares, ridden_squares};
 use crate::lasting_flights::{OpenTargets, keeps_one};
 use crate::risk::risk_at;
 use crate::siege::Siege;
+use chess_attacks::leaps::king_leaps;
+use chess_attacks::rules::Rules;
+use chess_attacks::words::{contains, only, take_first};
 use chess_core::square::{Square, Squares};
-use chess_rules::leaps::king_leaps;
-use chess_rules::rules::Rules;
-use chess_rules::words::{contains, only, take_first};
 
 // Steps of the king, the risky steps among them, after which a reply might mate, and the rules for which this was
 // computed.
@@ -70,7 +70,7 @@ fn risky_step<R: Rules>(siege: &Siege, targets: &OpenTargets, to: Square) -> Squ
 }
 
 // Returns which of the steps might allow mate.
-#[tactic(auto, using(chess_rules::proofs::HoldTaken::taken_all, chess_rules::proofs::HoldTaken::taken_none, chess_rules::proofs::HoldTaken::rest_falls))]
+#[tactic(auto, using(chess_attacks::proofs::HoldTaken::taken_all, chess_attacks::proofs::HoldTaken::taken_none, chess_attacks::proofs::HoldTaken::rest_falls))]
 fn risky_among<R: Rules>(siege: &Siege, targets: &OpenTargets, steps: Squares) -> Squares
     requires { AreOpenTargets siege.now.men targets.now }
     ensures { (t : ℕ) → t < 64 → (bit_at steps t == 1) ≡ true → (bit_at result t == 1) ≡ false
@@ -111,7 +111,7 @@ fn tells_steps(siege: &Siege) -> bool
 }
 
 // Returns the squares next to the king; in Circe only the empty ones.
-#[tactic(auto, using(chess_rules::proofs::Bits::word_has))]
+#[tactic(auto, using(chess_attacks::proofs::Bits::word_has))]
 fn plain_squares<R: Rules>(siege: &Siege) -> Squares
     ensures { (t : ℕ) → t < 64 → (bit_at result t == 1) ≡ true → IsPlainStep R.rule siege.now t }
 {
@@ -155,7 +155,7 @@ fn unbarred_steps<R: Rules>(siege: &Siege, steps: Squares) -> Squares
 }
 
 // Returns which of the steps might allow mate; the steps are legal ones and perhaps others.
-#[tactic(auto, using(chess_rules::proofs::Basics::cases_Bool))]
+#[tactic(auto, using(chess_attacks::proofs::Basics::cases_Bool))]
 fn risky_steps<R: Rules>(siege: &Siege, targets: &OpenTargets, steps: Squares) -> Squares
     requires { AreOpenTargets siege.now.men targets.now }
     ensures { (t : ℕ) → t < 64 → (bit_at steps t == 1) ≡ true → (bit_at result t == 1) ≡ false
@@ -209,7 +209,7 @@ fn flightless_step<R: Rules>(siege: &Siege, targets: &OpenTargets, to: Square) -
 }
 
 // Returns the steps after which the king may keep no flight.
-#[tactic(auto, using(chess_rules::proofs::HoldTaken::taken_all, chess_rules::proofs::HoldTaken::taken_none, chess_rules::proofs::HoldTaken::rest_falls))]
+#[tactic(auto, using(chess_attacks::proofs::HoldTaken::taken_all, chess_attacks::proofs::HoldTaken::taken_none, chess_attacks::proofs::HoldTaken::rest_falls))]
 pub(crate) fn flightless_steps<R: Rules>(
     siege: &Siege,
     targets: &OpenTargets,

@@ -11,7 +11,7 @@ ghost use Rattle.chess_mates.specs.ties.Siege.{AreThreats, IsRiskBehind, IsSafeM
 ghost use Rattle.chess_mates.specs.ties.Threats.{AreMere, ArePlain, AreRisky, AreThreatsOf, IsPassing, IsTold};
 ghost use Rattle.chess_rules.specs.Legal.{is_legal};
 ghost use Rattle.chess_rules.specs.Play.{position_after};
-ghost use Rattle.chess_rules.specs.RuleSet.{captures_do_more};
+ghost use Rattle.chess_attacks.specs.RuleSet.{captures_do_more};
 ghost use Rattle.chess_rules.specs.ties.Targets.{may_go};
 
 use crate::field::{needed_squares, tell_targets};
@@ -20,13 +20,13 @@ use crate::pawn_approaches::capturers_before;
 use crate::risk::{Risk, RiskBehind, critical_from, kept_risk};
 use crate::siege::{Siege, is_of, siege_of};
 use crate::steps::{ToldSteps, exact_steps, kept_risky_steps};
+use chess_attacks::leaps::{king_leaps, pawn_advances};
+use chess_attacks::rules::Rules;
+use chess_attacks::words::only;
 use chess_core::board::Board;
 use chess_core::man::{Colour, Kind, Man, Move};
 use chess_core::square::{Square, Squares};
-use chess_rules::leaps::{king_leaps, pawn_advances};
-use chess_rules::rules::Rules;
 use chess_rules::sift::Sift;
-use chess_rules::words::only;
 use std::marker::Model;
 
 // Returns the squares more than a step away, if an enemy pawn could capture on the square right ahead of a
@@ -79,7 +79,7 @@ fn altering_squares(board: &Board, man: Man, from: Square) -> Squares
 
 // Returns the squares about which threats say nothing for the man on `from`: special moves, and in Circe
 // captures and promotions too.
-#[tactic(auto, using(chess_rules::proofs::Bits::off_left, chess_rules::proofs::Bits::off_right))]
+#[tactic(auto, using(chess_attacks::proofs::Bits::off_left, chess_attacks::proofs::Bits::off_right))]
 fn unplain_squares<R: Rules>(board: &Board, man: Man, from: Square) -> Squares
     ensures plain { ArePlain board.now man from result }
     ensures mere { captures_do_more R.rule ≡ true → AreMere board.now man from result }

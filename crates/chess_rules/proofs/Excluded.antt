@@ -1,37 +1,10 @@
 -- What the clauses on attacks, lines and targets exclude: small positions where a wrong body would differ
 -- from the definitions.
-use Rattle.chess_rules.proofs.Chess.{AreEvasions, AreEvasionsFrom, Bishop, Black, Bool, Colour, Grasshopper, IsBarrenFrom, Kind, King, Knight, List, Man, Nightrider, Option, Pawn, Position, Queen, Rook, RuleSet, Some, White, [], agree_below_at, along, and_from, ap, arith, bit_at, can_castle, can_go, cannot_expose, cases_lt, drop, faces, faces_its_like, false, false≢true, filter, find, has_fairy, has_fairy_lines_of, hopped_from, hops, in_check, is_ahead, is_arrival_free, is_attacked, is_behind, is_checker, is_clear, is_evasion, is_legal, is_man, is_met, is_of_colour, is_on_fairy_line, is_on_some, is_paralysed, is_plain, is_pseudo_legal, is_reached, is_shut, king_square, leaps, madrasi, man_on, may_be_paralysed, may_expose, may_go, may_promote, may_stand_between, moves_between, none_unmoved, not, orthodox, pawn_goes, per_arrival, per_origin, position_after, promotion_at, range_with_len, reaches, reaches_as, refl, rides, rides_on, rules, sight_after, some_square, squares, step_by, steps_to, straight_steps, sym, take, triple_at, triples, true, true_from_ne_false, true≢false, with_unmoved, without_man, word, word_of, ℕ, ◌%◌, ◌&&◌, ◌*◌, ◌+◌, ◌-◌, ◌/◌, ◌<◌, ◌==◌, ◌^◌, ◌∙◌, ◌∷◌, ◌≡◌, ◌≤◌}
-use Rattle.chess_rules.proofs.making_moves.Pseudo.{on_board}
+use Rattle.chess_rules.proofs.Chess.{AreEvasions, AreEvasionsFrom, Bishop, Black, Bool, Colour, Grasshopper, IsBarrenFrom, Kind, King, Knight, List, Man, Nightrider, Option, Pawn, Position, Queen, Rook, RuleSet, Some, White, [], agree_below_at, along, and_from, ap, arith, bit_at, can_castle, can_go, cannot_expose, cases_lt, drop, faces_its_like, false, false≢true, filter, has_fairy, has_fairy_lines_of, hops, in_check, is_ahead, is_arrival_free, is_behind, is_checker, is_clear, is_evasion, is_legal, is_of_colour, is_on_fairy_line, is_on_some, is_paralysed, is_plain, is_pseudo_legal, is_reached, is_shut, king_square, leaps, madrasi, man_on, may_be_paralysed, may_expose, may_go, may_promote, may_stand_between, moves_between, none_unmoved, not, orthodox, pawn_goes, per_arrival, per_origin, position_after, promotion_at, reaches, reaches_as, refl, rides, rules, sight_after, some_square, squares, steps_to, straight_steps, sym, take, triple_at, triples, true, true_from_ne_false, true≢false, with_unmoved, without_man, word, word_of, ℕ, ◌%◌, ◌&&◌, ◌*◌, ◌+◌, ◌-◌, ◌/◌, ◌<◌, ◌==◌, ◌∙◌, ◌∷◌, ◌≡◌, ◌≤◌}
+use Rattle.chess_attacks.proofs.rays.OnSquares.{on_board}
 use Rattle.chess_rules.proofs.attacks.StayingInCheck.{side_there}
-use Rattle.chess_rules.proofs.Typed.{go, man, on, position, promoting, set_up, a1, b1, c1, d1, e1, g1, h1, a2, b2, h2, a3, b3, c3, d3, h3, a4, d5, e4, a5, a6, b6, d6, e5, e7, a8, b8, e8, f8, g8, h8}
+use Rattle.chess_rules.proofs.Typed.{go, man, on, position, promoting, set_up, a1, b1, c1, d1, e1, g1, h1, a2, b2, h2, a3, b3, c3, d3, h3, a4, d5, e4, a5, b6, d6, e5, e7, a8, b8, e8, f8, g8, h8}
 unfoldable pub use Rattle.chess_rules.proofs.Typed.{check_after_a_move}
-
--- White rooks a1 and a8 see each other, and neither is faced by its like: only enemies paralyse
-abbrev own_rooks : List (Option Man)
-own_rooks = set_up (on White Rook a1 ∷ on White Rook a8 ∷ [])
-
--- the rook on a8 reaches the one on a1, which no enemy of its kind faces
-pub own_men_do_not_paralyse : (faces_its_like own_rooks (man White Rook) a1 ≡ false)
-    × (some_square (λ q. is_man (man_on own_rooks q) White Rook && reaches own_rooks q a1) ≡ true)
-unfolding reaches reaches_as rides hops leaps is_clear along squares some_square faces_its_like faces
-own_men_do_not_paralyse = (refl, refl)
-
--- a queen on a8 attacks a1 along the file, as a rook would
-pub queen_attacks_along_a_file : is_met (set_up (on White Queen a8 ∷ [])) White Rook straight_steps a1 a8 ≡ true
-unfolding is_met rides is_clear along
-queen_attacks_along_a_file = refl
-
--- a rook on a1 gets to a8 though men stand beside its file, and not past one in it
-pub rook_passes_men_beside_its_line : (rides (set_up (on White Rook a1 ∷ on Black Pawn b3 ∷ [])) a1 a8 (step_by 0 0 1 0) ≡ true)
-    × (rides (set_up (on White Rook a1 ∷ on Black Pawn a5 ∷ [])) a1 a8 (step_by 0 0 1 0) ≡ false)
-unfolding rides is_clear along
-rook_passes_men_beside_its_line = (refl, refl)
-
--- a grasshopper on a4 hops over a5 to a6, and not to b6
-pub grasshopper_lands_behind_its_hurdle : (hops (set_up (on Black Pawn a5 ∷ [])) a4 a6 (step_by 0 0 1 0) ≡ true)
-    × (hops (set_up (on Black Pawn a5 ∷ [])) a4 b6 (step_by 0 0 1 0) ≡ false)
-unfolding hops is_clear along
-grasshopper_lands_behind_its_hurdle = (refl, refl)
 
 -- White Ka1 Bb3 Pe5, Black Kg8 Pd5, which has just passed d6: the capture en passant opens the bishop's line
 abbrev pub opening_capture : Position
@@ -47,8 +20,7 @@ en_passant_meets : (in_check orthodox passing_check.men White ≡ true) × (is_p
 unfolding check_after_a_move
 en_passant_meets = (refl, refl, refl)
 
--- the squares to which the pawn must go to leave no check hold d6, though a man on d6 meets the check in no
--- other way
+-- so the squares to which the pawn must go to leave no check hold d6, which meets it in no other way
 pub crossed_square_may_meet_a_check : (w : ℕ) → AreEvasionsFrom orthodox passing_check e5 w → (bit_at w d6 == 1) ≡ true
 crossed_square_may_meet_a_check w are = search (rules, true_from_ne_false, true≢false, en_passant_meets, are)
 
@@ -66,7 +38,7 @@ king_goes : (in_check orthodox rook_check.men White ≡ true) × (is_pseudo_lega
 unfolding check_after_a_move
 king_goes = (refl, refl, refl)
 
--- the squares to which the king must go to leave no check hold b1
+-- so the squares to which the king must go hold b1
 pub king_may_leave_a_check : (w : ℕ) → AreEvasionsFrom orthodox rook_check a1 w → (bit_at w b1 == 1) ≡ true
 king_may_leave_a_check w are = true_from_ne_false _ (λ e. true≢false (sym (are.elsewhere (go a1 b1) refl (omega arith) king_goes.1 e) ∙ king_goes.2))
 
@@ -75,33 +47,19 @@ pub no_other_man_meets_it_there : is_evasion rook_check.men White a1 a8 b1 ≡ f
 unfolding reaches_as rides is_clear along
 no_other_man_meets_it_there = refl
 
--- a man that arrives on a4 blocks the file: before, a rook on a8 reached a1
-pub arriving_man_shuts : (reaches (set_up (on Black Rook a8 ∷ [])) a8 a1 ≡ true) × (reaches (set_up (on Black Rook a8 ∷ on White Pawn a4 ∷ [])) a8 a1 ≡ false)
-unfolding reaches reaches_as rides is_clear along
-arriving_man_shuts = (refl, refl)
-
--- no pawn promotes to a grasshopper where the diagram has none, though it may promote to a queen
+-- no pawn becomes a grasshopper where the diagram has none, though he may become a queen
 pub promotion_needs_its_man : (may_promote (position [] White) Grasshopper ≡ false) × (may_promote (position [] White) Queen ≡ true)
 promotion_needs_its_man = (refl, refl)
 
--- the last per_origin triples are the triples of a man on h8
+-- the last per_origin triples are those of a man on h8
 pub last_triples_are_from_h8 : (triple_at (per_origin * h8)).from ≡ h8
 unfolding triple_at
 last_triples_are_from_h8 = refl
-
--- the first square from b1 on, of the word of a1 and b1, is b1
-pub earlier_squares_are_passed : find (λ s. bit_at 3 s == 1) (range_with_len 1 63) ≡ Some b1
-earlier_squares_are_passed = refl
 
 -- with rooks on a1 and b1 the second moves too
 pub next_origin_moves : is_pseudo_legal orthodox (position (on White Rook a1 ∷ on White Rook b1 ∷ []) White) (go b1 b3) ≡ true
 unfolding check_after_a_move
 next_origin_moves = refl
-
--- a White pawn on e4 strikes d5, and not d3
-pub pawn_strikes_forward : (reaches_as [] White Pawn e4 d5 ≡ true) × (reaches_as [] White Pawn e4 d3 ≡ false)
-unfolding reaches_as leaps along
-pawn_strikes_forward = (refl, refl)
 
 -- a man's own men and the enemy king aren't captured, other enemies are
 pub enemies_alone_are_captured : (is_arrival_free White (Some (man Black Rook)) ≡ true) × (is_arrival_free White (Some (man White Rook)) ≡ false)
@@ -121,7 +79,7 @@ crossing_a_line =
           (with_unmoved none_unmoved e1) h1;
     }
 
--- the king may not castle, and might without that rook
+-- he doesn't castle, and would without that rook
 pub no_castling_through_an_attack : (may_go crossing_a_line (man White King) e1 g1 ≡ true)
     × (can_castle orthodox crossing_a_line (man White King) (go e1 g1) ≡ false) × (can_go orthodox crossing_a_line (man White King) (go e1 g1) ≡ false)
     × (can_castle orthodox (record crossing_a_line { men = without_man crossing_a_line.men f8 }) (man White King) (go e1 g1) ≡ true)
@@ -135,23 +93,7 @@ pub pawn_steps_over_empty_squares : (pawn_goes (position [] White) (man White Pa
 unfolding along
 pawn_steps_over_empty_squares = (refl, refl, refl, refl)
 
--- a knight on a8 doesn't attack a1 along the file, where a rider gets from a1
-pub knight_attacks_along_no_file : is_met (set_up (on White Knight a8 ∷ [])) White Rook straight_steps a1 a8 ≡ false
-unfolding is_met rides is_clear along
-knight_attacks_along_no_file = refl
-
--- a rider on a1 gets to a2
-pub rider_gets_to_the_next_square : rides (set_up []) a1 a2 (step_by 0 0 1 0) ≡ true
-unfolding rides is_clear along
-rider_gets_to_the_next_square = refl
-
--- from a6, the grasshopper that hops over a5 is on a4, and not on a5
-pub grasshopper_stands_behind_its_hurdle : (hopped_from (set_up (on Black Pawn a5 ∷ [])) a6 a4 (step_by 0 0 0 1) ≡ true)
-    × (hopped_from (set_up (on Black Pawn a5 ∷ [])) a6 a5 (step_by 0 0 0 1) ≡ false)
-unfolding hopped_from rides_on along
-grasshopper_stands_behind_its_hurdle = (refl, refl)
-
--- Black's grasshopper is a fairy man of Black's, not of White's; a rook isn't one
+-- Black's grasshopper is a fairy man of his, of White's none; a rook is none
 pub grasshopper_is_seen : (has_fairy (set_up (on Black Grasshopper a1 ∷ [])) Black ≡ true)
     × (has_fairy (set_up (on Black Grasshopper a1 ∷ [])) White ≡ false) × (has_fairy (set_up (on Black Rook a1 ∷ [])) Black ≡ false)
 unfolding has_fairy squares some_square
@@ -171,7 +113,7 @@ abbrev orthodox_checker : ℕ → Bool
 orthodox_checker s =
     (is_of_colour (man_on grasshopper_check s) Black && reaches grasshopper_check s a1) && not (has_fairy_lines_of (man_on grasshopper_check s))
 
--- a grasshopper's check may be met on every square
+-- so a grasshopper's check may be met everywhere
 pub any_square_may_meet_a_fairy_check : (w t : ℕ) → t < 64 → AreEvasions orthodox grasshopper_check White w → (bit_at w t == 1) ≡ true
 unfolding check_after_a_move
 any_square_may_meet_a_fairy_check w t small are = true_from_ne_false _ (λ e.
@@ -187,7 +129,7 @@ any_square_may_meet_a_fairy_check w t small are = true_from_ne_false _ (λ e.
 abbrev unmet : ℕ → ℕ → Bool
 unmet t s = (is_of_colour (man_on rook_check.men s) Black && reaches rook_check.men s a1) && not (is_evasion rook_check.men White a1 s t)
 
--- the rook's check is parried if no enemy of the kind above is there
+-- the rook's check is met where no such enemy is
 met_there : (w t : ℕ) → t < 64 → ((s : ℕ) → s < 64 → unmet t s ≡ false) → AreEvasions orthodox rook_check.men White w → (bit_at w t == 1) ≡ true
 unfolding king_square squares
 met_there w t small none are = true_from_ne_false _ (λ e.
@@ -196,7 +138,7 @@ met_there w t small none are = true_from_ne_false _ (λ e.
     let on = on_board rook_check.men u.checker enemy.0 refl enemy.1.0 in
     grind (arith, none u.checker on, u.enemy, u.here, u.check, u.no_evasion))
 
--- White may capture the rook on a8, or interpose on a4
+-- so a man may capture the rook on a8, or shut the file on a4
 pub captures_and_shuts_meet_a_check : (w : ℕ) → AreEvasions orthodox rook_check.men White w → ((bit_at w a8 == 1) ≡ true) × ((bit_at w a4 == 1) ≡ true)
 unfolding reaches reaches_as rides hops leaps is_clear along
 captures_and_shuts_meet_a_check w are = (
@@ -204,26 +146,18 @@ captures_and_shuts_meet_a_check w are = (
   met_there w a4 (omega arith) (λ s lt. agree_below_at (unmet a4) (λ _. false) 64 s refl lt) are,
 )
 
--- a rook on a8 alone attacks a1, which is no flight then
-pub attacked_square_is_no_flight : (word (λ s. is_of_colour (man_on (set_up (on Black Rook a8 ∷ [])) s) Black && reaches (set_up (on Black Rook a8 ∷ [])) s a1)
-    ≡ 2 ^ 56) × (is_reached (set_up (on Black Rook a8 ∷ [])) a1 Black ≡ true)
-unfolding word word_of squares some_square is_reached reaches reaches_as rides hops leaps is_clear along
-attacked_square_is_no_flight = (refl, refl)
-
 -- White Ka1 and one man more
 abbrev king_and : Colour → Kind → ℕ → List (Option Man)
 king_and c k s = set_up (on White King a1 ∷ on c k s ∷ [])
 
--- the king on a1 is in check by a knight or nightrider on b3, by a bishop on b2 but no rook there, by an
--- enemy rook on a8 but not by its own
+-- a knight on b3 checks him, and so does a nightrider there; on b2 a bishop does, and a rook doesn't; on a8 an enemy rook does, and his own doesn't
 pub men_check_along_their_lines : (is_checker (king_and Black Knight b3) White b3 ≡ true) × (is_checker (king_and Black Nightrider b3) White b3 ≡ true)
     × (is_checker (king_and Black Bishop b2) White b2 ≡ true) × (is_checker (king_and Black Rook b2) White b2 ≡ false)
     × (is_checker (king_and Black Rook a8) White a8 ≡ true) × (is_checker (king_and White Rook a8) White a8 ≡ false)
 unfolding is_checker check_after_a_move
 men_check_along_their_lines = (refl, refl, refl, refl, refl, refl)
 
--- while the rook gives check, a move may leave the king exposed even from h2, which is on none of its
--- lines; a bishop on a8 gives no check
+-- while the rook gives check, a move may expose him even from h2, on none of his lines; a bishop on a8 gives none
 pub any_move_may_leave_a_check : (may_expose (king_and Black Rook a8) White h2 ≡ true) × (may_expose (king_and Black Bishop a8) White h2 ≡ false)
 unfolding may_expose is_reached is_on_fairy_line is_ahead is_on_some is_shut is_behind check_after_a_move
 any_move_may_leave_a_check = (refl, refl)
@@ -234,13 +168,6 @@ pub captured_man_is_gone : (bit_at (sight_after opening_capture.men e5 (Some d5)
     × (bit_at (sight_after opening_capture.men e5 (Some d5) d6).standing d5 ≡ 0) × (bit_at (sight_after opening_capture.men e5 (Some d5) d6).standing b3 ≡ 1)
 unfolding word word_of squares
 captured_man_is_gone = (refl, refl, refl, refl, refl)
-
--- rooks on a1 and h1 paralyse each other: in Madrasi neither attacks d1, though it reaches it
-pub paralysed_man_attacks_nothing : (is_attacked orthodox (set_up (on White Rook a1 ∷ on Black Rook h1 ∷ [])) d1 Black ≡ true)
-    × (is_attacked madrasi (set_up (on White Rook a1 ∷ on Black Rook h1 ∷ [])) d1 Black ≡ false)
-    × (is_reached (set_up (on White Rook a1 ∷ on Black Rook h1 ∷ [])) d1 Black ≡ true)
-unfolding is_reached check_after_a_move
-paralysed_man_attacks_nothing = (refl, refl, refl)
 
 -- Madrasi, White Kh1 Rd1, Black Kb8 Rh3, which gives check: on d3 White's rook paralyses it, and only an orthodox rook checks on
 abbrev rook_faces_rook : Position
@@ -253,7 +180,7 @@ pub arriving_man_paralyses : (in_check madrasi rook_faces_rook.men White ≡ tru
 unfolding check_after_a_move
 arriving_man_paralyses = (refl, refl, refl, refl)
 
--- a Black man that gives check, of a kind of which White has none: no square has one
+-- a Black man who gives check, and of whose kind White has none: there is none
 abbrev moving_checker : ℕ → Bool
 moving_checker s = (is_of_colour (man_on rook_faces_rook.men s) Black && reaches rook_faces_rook.men s h1)
     && not (may_be_paralysed madrasi rook_faces_rook.men White (man_on rook_faces_rook.men s))
@@ -262,7 +189,7 @@ moving_checker_there : (s : ℕ) → s < 64 → moving_checker s ≡ false
 unfolding check_after_a_move
 moving_checker_there s lt = agree_below_at moving_checker (λ _. false) 64 s refl lt
 
--- in Madrasi a White man that goes to d3 may meet the check
+-- so a White man who goes to d3 may meet the check
 pub men_of_the_checkers_kind_may_meet_its_check : (w : ℕ) → AreEvasions madrasi rook_faces_rook.men White w → (bit_at w d3 == 1) ≡ true
 unfolding king_square squares
 men_of_the_checkers_kind_may_meet_its_check w are = true_from_ne_false _ (λ e.
@@ -275,7 +202,7 @@ men_of_the_checkers_kind_may_meet_its_check w are = true_from_ne_false _ (λ e.
 abbrev promotion_faces_rook : Position
 promotion_faces_rook = position (on White King h1 ∷ on White Pawn e7 ∷ on Black King a3 ∷ on Black Rook h8 ∷ []) White
 
--- the pawn's promotion to a rook ends the check, the promotion to a queen doesn't
+-- so the pawn's promotion may end the check
 pub promoted_man_paralyses : (in_check madrasi promotion_faces_rook.men White ≡ true)
     × (is_pseudo_legal madrasi promotion_faces_rook (promoting e7 e8 Rook) ≡ true)
     × (in_check madrasi (position_after madrasi promotion_faces_rook (promoting e7 e8 Rook)).men White ≡ false)
@@ -283,7 +210,7 @@ pub promoted_man_paralyses : (in_check madrasi promotion_faces_rook.men White �
 unfolding check_after_a_move
 promoted_man_paralyses = (refl, refl, refl, refl)
 
--- the squares to which the pawn must go to leave no check hold e8
+-- and the squares to which the pawn must go to leave no check hold e8
 pub promotion_may_meet_a_check : (w : ℕ) → AreEvasionsFrom madrasi promotion_faces_rook e7 w → (bit_at w e8 == 1) ≡ true
 promotion_may_meet_a_check w are = search (rules, true_from_ne_false, true≢false, promoted_man_paralyses, are)
 
@@ -291,15 +218,14 @@ promotion_may_meet_a_check w are = search (rules, true_from_ne_false, true≢fal
 abbrev king_faces_king : Position
 king_faces_king = position (on White King a1 ∷ on Black King c3 ∷ []) White
 
--- a king that faces a king isn't paralysed: Black's gives check
+-- so Black's king isn't paralysed and gives check
 pub kings_are_never_paralysed : (faces_its_like (position_after madrasi king_faces_king (go a1 b2)).men (man Black King) c3 ≡ true)
     × (is_paralysed madrasi (position_after madrasi king_faces_king (go a1 b2)).men c3 ≡ false)
     × (in_check madrasi (position_after madrasi king_faces_king (go a1 b2)).men White ≡ true)
 unfolding check_after_a_move
 kings_are_never_paralysed = (refl, refl, refl)
 
--- White Kh1 Qd1, Black Kb8 Qh3, which gives check: a queen that faces a queen is paralysed, here after
--- Qd1-d3
+-- but queens are: White Kh1 Qd1, Black Kb8 Qh3, which gives check, and the queen goes to d3
 abbrev queen_faces_queen : Position
 queen_faces_queen = position (on White King h1 ∷ on White Queen d1 ∷ on Black King b8 ∷ on Black Queen h3 ∷ []) White
 
@@ -309,17 +235,17 @@ pub queens_are_paralysed : (in_check madrasi queen_faces_queen.men White ≡ tru
 unfolding check_after_a_move
 queens_are_paralysed = (refl, refl)
 
--- what the examples of blockers compute with as well
+-- what the examples of shields compute with beside it
 lines_to_a_king : Unit {0}
 unfolding may_expose cannot_expose may_stand_between is_on_fairy_line is_plain is_reached is_ahead is_on_some is_shut is_behind
 lines_to_a_king = tt
 
--- White Ka1 Rh2, Black Kh8 Ga8: on a2 the rook is the hurdle over which the grasshopper gives check, though
--- the rook was on no line to the king
+-- White Ka1 Rh2, Black Kh8 Ga8: on a2 the rook is the hurdle over which the grasshopper gives check, though the rook stood on no line to
+-- the king
 abbrev hurdle_comes : Position
 hurdle_comes = position (on White King a1 ∷ on White Rook h2 ∷ on Black King h8 ∷ on Black Grasshopper a8 ∷ []) White
 
--- the move to a2 exposes the king: the arrival is a line square, the origin isn't
+-- so the move to a2 uncovers the king: the arrival tells, the origin doesn't
 pub arriving_man_is_a_hurdle : (may_expose hurdle_comes.men White h2 ≡ false) × (may_stand_between hurdle_comes.men White h2 ≡ false)
     × (may_stand_between hurdle_comes.men White a2 ≡ true) × (cannot_expose orthodox hurdle_comes White (go h2 a2) ≡ false)
     × (is_pseudo_legal orthodox hurdle_comes (go h2 a2) ≡ true) × (in_check orthodox hurdle_comes.men White ≡ false)
@@ -331,7 +257,7 @@ arriving_man_is_a_hurdle = (refl, refl, refl, refl, refl, refl, refl)
 abbrev hurdle_goes : Position
 hurdle_goes = position (on White King a1 ∷ on White Rook a2 ∷ on White Knight a4 ∷ on Black King h8 ∷ on Black Grasshopper a8 ∷ []) White
 
--- a move from a4 may expose the king, and Na4-b6 does
+-- so a move from a4 may uncover the king, and Na4-b6 does
 pub leaving_man_opens_a_hop : (is_shut hurdle_goes.men Black Rook straight_steps a1 a4 ≡ false) × (may_stand_between hurdle_goes.men Black a4 ≡ false)
     × (may_expose hurdle_goes.men White a4 ≡ true) × (is_pseudo_legal orthodox hurdle_goes (go a4 b6) ≡ true)
     × (in_check orthodox hurdle_goes.men White ≡ false) × (in_check orthodox (position_after orthodox hurdle_goes (go a4 b6)).men White ≡ true)
@@ -342,8 +268,7 @@ leaving_man_opens_a_hop = (refl, refl, refl, refl, refl, refl)
 abbrev shut_nightrider : Kind → Position
 shut_nightrider k = position (on White King c1 ∷ on White Bishop d3 ∷ on Black King h8 ∷ on Black k e5 ∷ []) White
 
--- d3 lies on a fairy line to the king with a nightrider on e5, on none with a knight; Bd3-e4 exposes the
--- king
+-- so d3 lies on a fairy line to the king, on none with a knight, and Bd3-e4 uncovers him
 pub nightriders_line_is_shut : (may_stand_between (shut_nightrider Nightrider).men White d3 ≡ true)
     × (may_stand_between (shut_nightrider Knight).men White d3 ≡ false)
     × (is_pseudo_legal orthodox (shut_nightrider Nightrider) (go d3 e4) ≡ true) × (in_check orthodox (shut_nightrider Nightrider).men White ≡ false)
@@ -351,17 +276,17 @@ pub nightriders_line_is_shut : (may_stand_between (shut_nightrider Nightrider).m
 unfolding lines_to_a_king check_after_a_move
 nightriders_line_is_shut = (refl, refl, refl, refl, refl)
 
--- a range without a move ends before a move to one of the bitboard's squares
+-- a stretch without a move ends before a move to one of the word's squares
 ends_at : (p : Position) (s w k b : ℕ) → (bit_at w (k / per_arrival) == 1) ≡ true
     → is_pseudo_legal orthodox p (record { from = s; to = k / per_arrival; promo = promotion_at (k % per_arrival) }) ≡ true → IsBarrenFrom p s w 0 b → b ≤ k
 ends_at p s w k b on may barren = grind (arith, cases_lt, false≢true)
 
--- a range without a move ends before the move of a rook from a1 to b1
+-- of a rook on a1 to b1, and of a pawn that becomes a queen on e8
 pub stretch_ends_at_a_move : (w b : ℕ) → (bit_at w b1 == 1) ≡ true → IsBarrenFrom (position (on White Rook a1 ∷ []) White) a1 w 0 b → b ≤ per_arrival
 unfolding check_after_a_move
 stretch_ends_at_a_move w b there barren = ends_at (position (on White Rook a1 ∷ []) White) a1 w 7 b there refl barren
 
--- a range without a move ends before the promotion to a queen of a pawn that goes from e7 to e8
+-- of a pawn on e7 to e8, where it becomes a queen
 pub stretch_ends_at_a_promotion : (w b : ℕ) → (bit_at w e8 == 1) ≡ true → IsBarrenFrom (position (on White Pawn e7 ∷ []) White) e7 w 0 b
     → b ≤ per_arrival * e8 + 1
 unfolding check_after_a_move

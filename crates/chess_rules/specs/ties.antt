@@ -1,14 +1,11 @@
 pub mod Counting
 pub mod Evasions
+pub mod Exposure
 pub mod Games
 pub mod Idle
-pub mod Lines
-pub mod Outward
 pub mod Places
 pub mod Playing
 pub mod Shields
 pub mod Sifting
-pub mod Sight
-pub mod Taking
 pub mod Targets
 pub mod Undoing

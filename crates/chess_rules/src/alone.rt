@@ -6,9 +6,9 @@ ghost use Rattle.chess_rules.specs.ties.Targets.{IsAimed};
 
 use crate::exposure::exposes;
 use crate::legal::is_pseudo_legal;
-use crate::rules::Rules;
 use crate::targets::{arrivals, is_promoting};
-use crate::words::contains;
+use chess_attacks::rules::Rules;
+use chess_attacks::words::contains;
 use chess_core::board::Board;
 use chess_core::man::Move;
 

@@ -15,10 +15,10 @@ use crate::evasions::eventful_captures;
 use crate::legal::is_legal;
 use crate::legal_moves::Known;
 use crate::moves::triple;
-use crate::rules::Rules;
 use crate::shields::fairy_lines;
 use crate::targets::{PER_ARRIVAL, PER_ORIGIN, next_from, promoting_squares};
-use crate::words::{contains, only, squares_from, take_first};
+use chess_attacks::rules::Rules;
+use chess_attacks::words::{contains, only, squares_from, take_first};
 use chess_core::board::Board;
 use chess_core::man::{Colour, Kind, Man, Move};
 use chess_core::square::{Square, Squares};
@@ -185,7 +185,7 @@ fn count_of_piece<R: Rules>(
 // Returns the number of legal moves of the man on `from` among its triples from `start` up to but not
 // including `end`, by testing each.
 #[inline(never)]
-#[tactic(auto, using(crate::proofs::Bits::word_has), unfolding(chess_core::specs::ties::Words::squares_of))]
+#[tactic(auto, using(chess_attacks::proofs::Bits::word_has), unfolding(chess_core::specs::ties::Words::squares_of))]
 fn count_one_by_one<R: Rules>(
     board: &mut Board,
     known: Known,

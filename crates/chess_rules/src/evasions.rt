@@ -3,22 +3,21 @@ ghost use Rattle.std.specs.Prelude.{◌≡◌, ◌==◌, if◌then◌else◌, is
 ghost use Rattle.chess_core.specs.Position.{man_on};
 ghost use Rattle.chess_core.specs.WellFormed.{IsWellFormed};
 ghost use Rattle.chess_core.specs.ties.Words.{word};
-ghost use Rattle.chess_rules.specs.Attacks.{in_check};
+ghost use Rattle.chess_attacks.specs.Attacks.{in_check};
 ghost use Rattle.chess_rules.specs.ties.Evasions.{AreEvasionsFrom, AreEvasions, has_fairy_lines_of, has_like, may_be_paralysed, may_paralyse_anew};
 ghost use Rattle.chess_rules.specs.ties.Shields.{cannot_expose, is_checker, is_plain, may_expose};
 ghost use Rattle.chess_rules.specs.Legal.{is_pseudo_legal};
 ghost use Rattle.chess_rules.specs.Play.{position_after};
-ghost use Rattle.chess_rules.specs.RuleSet.{captures_do_more, faced_men_stand_still};
+ghost use Rattle.chess_attacks.specs.RuleSet.{captures_do_more, faced_men_stand_still};
 ghost use Rattle.chess_rules.specs.ties.Targets.{is_promoting};
 
 use crate::exposure::exposes;
-use crate::lines::occupied;
-use crate::open_board::open_targets;
-use crate::reach::reach_as;
-use crate::rules::Rules;
 use crate::shields::{cannot_expose, has_fairy_lines, is_plain};
-use crate::targets::promoting_squares;
-use crate::words::{contains, next_bit, only};
+use crate::targets::{open_targets, promoting_squares};
+use chess_attacks::lines::occupied;
+use chess_attacks::reach::reach_as;
+use chess_attacks::rules::Rules;
+use chess_attacks::words::{contains, next_bit, only};
 use chess_core::board::Board;
 use chess_core::man::{Colour, Kind, Man, Move};
 use chess_core::square::{Square, Squares};
@@ -34,7 +33,7 @@ fn has_fairy_lines_on(board: &Board, square: Square) -> bool
 }
 
 // Returns whether the colour has a man of the same kind as the man on the square.
-#[tactic(auto, using(crate::proofs::Bits::not_zero), unfolding(chess_core::specs::ties::Words::squares_of))]
+#[tactic(auto, using(chess_attacks::proofs::Bits::not_zero), unfolding(chess_core::specs::ties::Words::squares_of))]
 fn has_like(board: &Board, colour: Colour, square: Square) -> bool
     ensures { result ≡ has_like board.now.men colour (man_on board.now.men square) }
 {

@@ -6,17 +6,19 @@ ghost use Rattle.chess_core.specs.Squares.{some_square};
 ghost use Rattle.chess_core.specs.ties.Words.{word};
 ghost use Rattle.chess_core.specs.declared.man.Man.{Man};
 ghost use Rattle.chess_core.specs.WellFormed.{IsWellFormed};
-ghost use Rattle.chess_rules.specs.Attacks.{in_check, is_attacked, is_paralysed};
+ghost use Rattle.chess_attacks.specs.Attacks.{in_check, is_attacked, is_paralysed};
 ghost use Rattle.chess_rules.specs.Legal.{is_pseudo_legal};
 ghost use Rattle.chess_rules.specs.Play.{position_after};
-ghost use Rattle.chess_rules.specs.Reaches.{reaches};
-ghost use Rattle.chess_rules.specs.ties.Sight.{AreArrived, AreOthers, AreSeen, is_arriving_as, is_simple, king_after, own_after};
+ghost use Rattle.chess_attacks.specs.Reaches.{reaches};
+ghost use Rattle.chess_rules.specs.ties.Exposure.{AreArrived, AreOthers, is_arriving_as, is_simple, king_after, own_after};
+ghost use Rattle.chess_attacks.specs.ties.Sight.{AreSeen};
 
-use crate::outward::{attackers_seen, is_attacker_seen, those_reaching};
-use crate::play::{arriving_man, capture_square, is_castling};
-use crate::rules::{Rules, in_check};
-use crate::sight::{Sight, sight_after};
-use crate::words::{only, take_first};
+use crate::making_moves::play::{arriving_man, capture_square, is_castling, play};
+use crate::making_moves::undoing::unplay;
+use chess_attacks::outward::{attackers_seen, is_attacker_seen, those_reaching};
+use chess_attacks::rules::{Rules, in_check};
+use chess_attacks::sight::{Sight, sight_after};
+use chess_attacks::words::{only, take_first};
 use chess_core::board::Board;
 use chess_core::man::{Kind, Man, Move};
 use chess_core::square::{Square, Squares};
@@ -79,7 +81,7 @@ fn is_faced_after(
 }
 
 // Returns whether the enemy man on the square is paralysed after the move.
-#[tactic(auto, using(crate::proofs::attacks::Exposing::faced_king, crate::proofs::attacks::Exposing::none_paralysed, crate::proofs::attacks::Exposing::paralysed_by), unfolding(crate::specs::Attacks::is_paralysed))]
+#[tactic(auto, using(crate::proofs::attacks::Exposing::faced_king, crate::proofs::attacks::Exposing::none_paralysed, crate::proofs::attacks::Exposing::paralysed_by), unfolding(chess_attacks::specs::Attacks::is_paralysed))]
 fn is_paralysed_after<R: Rules>(
     board: &Board,
     sight: Sight,
@@ -187,8 +189,8 @@ fn exposes_played<R: Rules>(board: &mut Board, m: Move) -> bool
     ensures board { board.new ≡ board.old }
 {
     let mover = board.turn();
-    let undo = R::play(board, m);
+    let undo = play::<R>(board, m);
     let exposed = in_check::<R>(board, mover);
-    R::unplay(board, m, undo);
+    unplay::<R>(board, m, undo);
     exposed
 }

@@ -12,11 +12,11 @@ ghost use Rattle.chess_rules.specs.ties.Targets.{AreCandidates, AreKept, AreOrig
 use crate::evasions::{evasion_squares, evasions_from};
 use crate::legal::is_legal;
 use crate::moves::{Moves, triple};
-use crate::rules::Rules;
 use crate::shields::king_safety;
 use crate::sift::{Sift, Sifted, next_left, some_taken};
 use crate::sought::{Sought, next_passing};
 use crate::targets::{Kept, TRIPLES, arrivals};
+use chess_attacks::rules::Rules;
 use chess_core::board::Board;
 use chess_core::man::Move;
 use chess_core::square::{Square, Squares};

@@ -8,10 +8,10 @@ ghost use Rattle.chess_rules.specs.ties.Targets.{AreCandidates, AreOrigins, IsAi
 
 use crate::legal::is_legal;
 use crate::legal_moves::{Known, LegalMoves, candidates, own_origins};
-use crate::rules::Rules;
 use crate::sought::{Sought, next_passing};
 use crate::targets::{Kept, TRIPLES};
-use crate::words::contains;
+use chess_attacks::rules::Rules;
+use chess_attacks::words::contains;
 use chess_core::board::Board;
 use chess_core::man::{Kind, Move};
 use chess_core::square::{Square, Squares};

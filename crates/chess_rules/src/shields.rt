@@ -8,21 +8,21 @@ ghost use Rattle.chess_core.specs.Squares.{is_square, some_square};
 ghost use Rattle.chess_core.specs.Steps.{diagonal_steps, straight_steps};
 ghost use Rattle.chess_core.specs.declared.man.Man.{Man};
 ghost use Rattle.chess_core.specs.declared.man.Kind.TheVariants.{Bishop, Queen, Rook};
-ghost use Rattle.chess_rules.specs.ties.Lines.{is_on_some, occupied_squares};
-ghost use Rattle.chess_rules.specs.Reaches.{reaches, rides};
+ghost use Rattle.chess_attacks.specs.ties.Lines.{is_on_some, occupied_squares};
+ghost use Rattle.chess_attacks.specs.Reaches.{reaches, rides};
 ghost use Rattle.chess_core.specs.ties.Words.{squares_of, word};
 ghost use Rattle.chess_rules.specs.ties.Shields.{AreRides, cannot_expose, has_fairy, has_fairy_lines, is_checker, is_plain, is_line_rider, is_shut, may_expose, may_stand_between, rider_along, steps_along};
-ghost use Rattle.chess_rules.specs.RuleSet.{captures_do_more};
+ghost use Rattle.chess_attacks.specs.RuleSet.{captures_do_more};
 
-use crate::lines::{
+use crate::making_moves::play::is_castling;
+use chess_attacks::lines::{
     diagonal_lines, diagonal_rides, knight_lines_with, occupied, queen_lines_with, straight_lines,
     straight_rides,
 };
-use crate::outward::{fairy_attackers, leapers_seen};
-use crate::play::is_castling;
-use crate::rules::Rules;
-use crate::sight::sight_now;
-use crate::words::{contains, only, take_first};
+use chess_attacks::outward::{fairy_attackers, leapers_seen};
+use chess_attacks::rules::Rules;
+use chess_attacks::sight::sight_now;
+use chess_attacks::words::{contains, only, take_first};
 use chess_core::board::Board;
 use chess_core::man::{Colour, Kind, Man, Move};
 use chess_core::square::{Square, Squares};
@@ -110,7 +110,7 @@ impl RiderLines {
 }
 
 // Returns the squares that riders on these squares reach along the lines.
-#[tactic(auto, using(crate::proofs::HoldTaken::is_taken, crate::proofs::HoldTaken::rest_falls, crate::proofs::rays::Riding::ridden_all, crate::proofs::rays::Riding::ridden_more))]
+#[tactic(auto, using(chess_attacks::proofs::HoldTaken::is_taken, chess_attacks::proofs::HoldTaken::rest_falls, crate::proofs::attacks::Riding::ridden_all, crate::proofs::attacks::Riding::ridden_more))]
 fn ridden_squares(occupied: Squares, riders: Squares, lines: RiderLines) -> Squares
     ensures { (men : List (Option Man)) → occupied ≡ occupied_squares men
         → result ≡ word (λ s. some_square
@@ -133,7 +133,7 @@ fn line_riders(board: &Board, colour: Colour, lines: RiderLines) -> Squares
 }
 
 // Returns the squares of the colour's riders that are on one of these lines of the square.
-#[tactic(auto, using(crate::proofs::rays::Riding::riders_are))]
+#[tactic(auto, using(crate::proofs::attacks::Riding::riders_are))]
 fn riders_on_lines(board: &Board, colour: Colour, square: Square, lines: RiderLines) -> Squares
     ensures { result ≡ word (is_line_rider board.now.men colour (rider_along lines)
         (steps_along lines) square) }

@@ -9,10 +9,10 @@ ghost use Rattle.chess_rules.specs.ties.Targets.{AreCandidates};
 
 use crate::counting::{Candidates, Legality, count_origin};
 use crate::legal_moves::{Known, candidates, own_origins};
-use crate::rules::Rules;
 use crate::sought::next_of_man;
 use crate::targets::{PER_ORIGIN, TRIPLES};
-use crate::words::{squares_from, take_first};
+use chess_attacks::rules::Rules;
+use chess_attacks::words::{squares_from, take_first};
 use chess_core::board::Board;
 use chess_core::man::Move;
 use chess_core::square::{Square, Squares};
@@ -25,7 +25,7 @@ pub trait Sift {
     ghost use Rattle.chess_core.specs.Position.{Position};
     ghost use Rattle.chess_core.specs.declared.man.Move.{Move};
     ghost use Rattle.chess_rules.specs.Legal.{is_legal};
-    ghost use Rattle.chess_rules.specs.RuleSet.{RuleSet};
+    ghost use Rattle.chess_attacks.specs.RuleSet.{RuleSet};
     ghost use Rattle.chess_rules.specs.ties.Counting.{AreExact};
     ghost use Rattle.chess_rules.specs.ties.Targets.{AreCandidates};
 

@@ -8,9 +8,9 @@ ghost use Rattle.chess_rules.specs.ties.Places.{HaveNone, all_triples, per_origi
 ghost use Rattle.chess_rules.specs.ties.Targets.{AreCandidates, AreKept, AreOrigins, IsAimed, passes_to};
 
 use crate::moves::triple;
-use crate::rules::Rules;
 use crate::targets::{Kept, PER_ARRIVAL, PER_ORIGIN, next_from};
-use crate::words::{contains, squares_from, take_first};
+use chess_attacks::rules::Rules;
+use chess_attacks::words::{contains, squares_from, take_first};
 use chess_core::board::Board;
 use chess_core::man::{Kind, Move};
 use chess_core::square::{Square, Squares};
@@ -22,7 +22,7 @@ pub trait Sought {
     ghost use Rattle.std.specs.Prelude.{Bool, ◌≡◌, true, false};
     ghost use Rattle.chess_core.specs.Position.{Position};
     ghost use Rattle.chess_core.specs.declared.man.Move.{Move};
-    ghost use Rattle.chess_rules.specs.RuleSet.{RuleSet};
+    ghost use Rattle.chess_attacks.specs.RuleSet.{RuleSet};
     ghost use Rattle.chess_rules.specs.Legal.{is_pseudo_legal};
 
     ghost test: { RuleSet → Position → Move → Bool };
@@ -166,7 +166,7 @@ fn next_of_piece<R: Rules, S: Sought>(
 // up to but not including `end`; `end` if there is none. Triples are counted from the first with this
 // origin. The board is unchanged. Inlined: a call costs more than it saves.
 #[inline(always)]
-#[tactic(auto, using(crate::proofs::Bits::word_has), unfolding(chess_core::specs::ties::Words::squares_of))]
+#[tactic(auto, using(chess_attacks::proofs::Bits::word_has), unfolding(chess_core::specs::ties::Words::squares_of))]
 pub(crate) fn next_of_man<R: Rules, S: Sought>(
     board: &mut Board,
     sought: &S,

@@ -1,19 +1,21 @@
 //! The squares where a man may arrive, and the numbers of its triples.
-ghost use Rattle.std.specs.Prelude.{◌≡◌, ◌==◌, ℕ, ◌<◌, ◌≤◌, ◌&&◌};
+ghost use Rattle.std.specs.Prelude.{◌≡◌, ◌==◌, ℕ, ◌<◌, ◌≤◌, ◌&&◌, true};
 ghost use Rattle.chess_core.specs.Castling.{has_unmoved};
-ghost use Rattle.chess_core.specs.Position.{man_on};
+ghost use Rattle.chess_core.specs.Position.{man_on, Position};
 ghost use Rattle.chess_core.specs.Squares.{rank_of};
 ghost use Rattle.chess_core.specs.ties.Words.{word};
 ghost use Rattle.chess_rules.specs.Legal.{is_arrival_free, last_rank};
 ghost use Rattle.chess_rules.specs.ties.Places.{IsBarrenFrom, IsNamed, per_origin};
 ghost use Rattle.chess_rules.specs.ties.Targets.{is_promoting, is_arrival, may_go, pawn_goes, steps_to};
+ghost use Rattle.std.specs.Int.{bit_at};
 
-use crate::leaps::{king_leaps, pawn_advances, squares_aside};
 use crate::legal::{last_rank, second_rank};
-use crate::lines::occupied;
-use crate::reach::reach_as;
-use crate::rules::Rules;
-use crate::words::{next_bit, only};
+use chess_attacks::leaps::{king_leaps, pawn_advances, squares_aside};
+use chess_attacks::lines::occupied;
+use chess_attacks::open_board::open_reach;
+use chess_attacks::reach::reach_as;
+use chess_attacks::rules::Rules;
+use chess_attacks::words::{next_bit, only};
 use chess_core::board::Board;
 use chess_core::man::{Colour, Kind, Man};
 use chess_core::square::{Square, Squares};
@@ -47,6 +49,21 @@ pub fn steps_to(man: Man, from: Square) -> Squares
         squares_aside(from)
     } else {
         0
+    }
+}
+
+/// Returns a superset of the squares to which the man on `from` could move on some board, castling
+/// included.
+#[tactic(auto, using(crate::proofs::listing_moves::OpenBoard::king_targets, crate::proofs::listing_moves::OpenBoard::pawn_targets, crate::proofs::listing_moves::OpenBoard::piece_targets))]
+pub fn open_targets(man: Man, from: Square) -> Squares
+    ensures { (p : Position) (t : ℕ) → t < 64 → may_go p man from t ≡ true
+        → (bit_at result t == 1) ≡ true }
+{
+    let reached = open_reach(man, from);
+    match man.kind {
+        Kind::Pawn => reached | pawn_advances(man.colour, from),
+        Kind::King => reached | steps_to(man, from),
+        _ => reached,
     }
 }
 

@@ -7,7 +7,7 @@ use crate::compared::first_unlike;
 use crate::plain::Rule;
 use crate::setup::posed;
 use chess_core::{Board, Diagram};
-use chess_rules::{Circe, Madrasi, Moves, Orthodox, Rules};
+use chess_rules::{Circe, Madrasi, Moves, Orthodox, Rules, play, unplay};
 
 // The counts of a comparison.
 #[derive(Clone, Copy)]
@@ -52,9 +52,9 @@ fn compare_on<R: Rules>(board: &mut Board, rule: Rule, length: u32) -> Tally
     }
     let mut place = Moves::<R>::start();
     while let Some(m) = place.next(board) {
-        let undo = R::play(board, m);
+        let undo = play::<R>(board, m);
         let below = compare_on::<R>(board, rule, length - 1);
-        R::unplay(board, m, undo);
+        unplay::<R>(board, m, undo);
         positions = positions.saturating_add(below.positions);
         unlike = unlike.saturating_add(below.unlike);
     }

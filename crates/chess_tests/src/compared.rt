@@ -7,7 +7,7 @@ use crate::probe::{is_same, shows};
 use arrayvec::ArrayVec;
 use chess_core::{Board, Colour, Move, Square};
 use chess_mates::{MatingMoves, next_mate};
-use chess_rules::{LegalMoves, Moves, Rules, has_legal_move, in_check, is_mate};
+use chess_rules::{LegalMoves, Moves, Rules, has_legal_move, in_check, is_mate, play, unplay};
 
 // What the chess crates are tested for.
 #[derive(Clone, Copy, Debug)]
@@ -240,9 +240,9 @@ fn unlike_of_play<R: Rules>(board: &mut Board, plain: &Plain, rule: Rule) -> Opt
     let before = *board;
     let mut place = Moves::<R>::start();
     while let Some(m) = place.next(board) {
-        let undo = R::play(board, m);
+        let undo = play::<R>(board, m);
         let question = unlike_after::<R>(board, &plain.after(rule, &m), rule);
-        R::unplay(board, m, undo);
+        unplay::<R>(board, m, undo);
         if question.is_some() {
             return question;
         }

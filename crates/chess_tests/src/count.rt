@@ -9,7 +9,7 @@ use crate::setup::posed;
 use chess_core::{Board, Diagram, Move};
 use chess_rules::exposure::is_simple;
 use chess_rules::shields::{cannot_expose, shield_squares};
-use chess_rules::{Circe, Madrasi, Moves, Orthodox, Rules};
+use chess_rules::{Circe, Madrasi, Moves, Orthodox, Rules, play, unplay};
 
 // The counts of a walk along all lines of moves.
 #[derive(Clone, Copy)]
@@ -74,9 +74,9 @@ fn walk_on<R: Rules>(board: &mut Board, length: u32) -> Walk
         if length == 1 && !is_told::<R>(board, &m) {
             played = played.saturating_add(1);
         }
-        let undo = R::play(board, m);
+        let undo = play::<R>(board, m);
         let below = walk_on::<R>(board, length - 1);
-        R::unplay(board, m, undo);
+        unplay::<R>(board, m, undo);
         lines = lines.saturating_add(below.lines);
         played = played.saturating_add(below.played);
         changed = changed.saturating_add(below.changed);

@@ -10,7 +10,7 @@ use chess_core::{Board, Colour, Diagram, Kind, Move, Square};
 use chess_mates::MatingMoves;
 use chess_mates::quiet_steps::QuietSteps;
 use chess_mates::threats::Threats;
-use chess_rules::{Circe, Madrasi, Moves, Orthodox, Rules, is_mate};
+use chess_rules::{Circe, Madrasi, Moves, Orthodox, Rules, is_mate, play, unplay};
 
 // Returns whether two boards agree in all that they say.
 pub(crate) fn is_same(one: &Board, two: &Board) -> bool {
@@ -84,7 +84,7 @@ fn after_move<R: Rules>(diagram: &Diagram, wanted: Move) -> Option<Board>
     let mut place = Moves::<R>::start();
     while let Some(m) = place.next(&mut board) {
         if m == wanted {
-            let _undo = R::play(&mut board, m);
+            let _undo = play::<R>(&mut board, m);
             return Some(board);
         }
     }
@@ -137,9 +137,9 @@ fn leads_and_back<R: Rules>(diagram: &Diagram, wanted: Move, after: &Board) -> b
     let mut place = Moves::<R>::start();
     while let Some(m) = place.next(&mut board) {
         if m == wanted {
-            let undo = R::play(&mut board, m);
+            let undo = play::<R>(&mut board, m);
             let leads = is_same(&board, after);
-            R::unplay(&mut board, m, undo);
+            unplay::<R>(&mut board, m, undo);
             return leads && is_same(&board, &before);
         }
     }

@@ -8,7 +8,7 @@ use crate::family::Family;
 use crate::motif::Motif;
 use crate::plain::{Plain, Rule};
 use chess_core::{Board, Kind, Move, Square};
-use chess_rules::{Circe, Madrasi, Moves, Orthodox, Rules};
+use chess_rules::{Circe, Madrasi, Moves, Orthodox, Rules, play};
 
 // A position where the chess crates and the plain rules differ: its number in the family, the half-moves
 // that lead to it, and the question.
@@ -143,7 +143,7 @@ fn play_drawn<R: Rules>(board: &mut Board, draw: &mut Draw) -> bool
     }
     match next {
         Some(m) => {
-            let _undo = R::play(board, m);
+            let _undo = play::<R>(board, m);
             true
         }
         None => false,

@@ -19,7 +19,7 @@ pub use Rattle.chess_rules.specs.Legal.{is_nil}
 unfoldable pub use Rattle.chess_rules.specs.Legal.{is_legal, is_mate, is_stalemate, moves}
 pub use Rattle.chess_core.specs.Undo.{Undo}
 unfoldable pub use Rattle.chess_rules.specs.Play.{undo_of}
-pub use Rattle.chess_rules.specs.RuleSet.{RuleSet}
+pub use Rattle.chess_attacks.specs.RuleSet.{RuleSet}
 pub use Rattle.chess_rules.specs.ties.Places.{IsPlaceIn, LegalPlace}
 unfoldable pub use Rattle.chess_rules.specs.ties.Places.{moves_behind, moves_between}
 pub use Rattle.chess_rules.specs.ties.Sifting.{IsSifted}

@@ -3,7 +3,7 @@ ghost use Rattle.std.specs.Prelude.{◌≡◌, ◌∷◌, [], ◌&&◌, IfSome, 
 ghost use Rattle.chess_core.specs.Diagrams.{position_of};
 ghost use Rattle.chess_core.specs.Position.{Position};
 ghost use Rattle.chess_core.specs.WellFormed.{IsWellFormed};
-ghost use Rattle.chess_rules.specs.Attacks.{in_check};
+ghost use Rattle.chess_attacks.specs.Attacks.{in_check};
 ghost use Rattle.chess_rules.specs.Legal.{is_legal};
 ghost use Rattle.chess_rules.specs.ties.Places.{IsPlaceIn, moves_behind, moves_between, place_of};
 ghost use Rattle.chess_mates.specs.ties.Mates.{IsNextMate, mates_behind};
@@ -23,10 +23,10 @@ use chess_core::man::{Man, Move};
 use chess_core::square::Square;
 use chess_mates::every_move::every_move_mates;
 use chess_mates::mating_moves::MatingMoves;
-use chess_rules::legal_moves::LegalMoves;
-use chess_rules::moves::{Moves, has_legal_move, is_mate, is_stalemate};
-use chess_rules::play::{Undo, is_castling};
-use chess_rules::rules::{Rules, in_check};
+use chess_rules::{
+    LegalMoves, Moves, Rules, Undo, has_legal_move, in_check, is_castling, is_mate, is_stalemate,
+    unplay,
+};
 use pop_events::shown::{Mark, Shown, Side};
 use pop_input::stipulation::Goal;
 
@@ -177,7 +177,7 @@ pub fn retract<R: Rules>(board: &mut Board, by: Move, undo: Undo)
     requires came { (p : Position) × CameBy R.rule by undo board.old p }
     ensures before { (p : Position) → CameBy R.rule by undo board.old p → board.new ≡ p }
 {
-    R::unplay(board, by, undo);
+    unplay::<R>(board, by, undo);
 }
 
 /// Returns what the last move did to the side to move: check, mate, stalemate or nothing. It looks for

@@ -3,10 +3,7 @@ ghost use Rattle.std.specs.Prelude.{◌≡◌, ⊤};
 ghost use Rattle.pop_battle.specs.ties.Frames.{unordered};
 
 use chess_core::man::Move;
-use chess_rules::legal_moves::LegalMoves;
-use chess_rules::moves::Moves;
-use chess_rules::play::Undo;
-use chess_rules::rules::Rules;
+use chess_rules::{LegalMoves, Moves, Rules, Undo};
 use std::alloc::AllocError;
 use std::marker::Model;
 

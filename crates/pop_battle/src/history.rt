@@ -2,7 +2,7 @@
 ghost use Rattle.std.specs.Prelude.{◌≡◌};
 
 use crate::killers::Killers;
-use chess_rules::rules::Rules;
+use chess_rules::Rules;
 
 /// What a search remembers: the moves that decided tests, and the number of positions that it has tried, up
 /// to the greatest u64.

@@ -12,8 +12,7 @@ use crate::aim::Battle;
 use chess_core::board::Board;
 use chess_core::man::Move;
 use chess_mates::threats::Threats;
-use chess_rules::moves::Moves;
-use chess_rules::rules::Rules;
+use chess_rules::{Moves, Rules};
 
 /// For each number of half-moves below 32, the last two moves that decided a position with that many
 /// half-moves left. A direct mate tries them first in the next position like it; a killer may be any number of

@@ -5,7 +5,7 @@ ghost use Rattle.chess_core.specs.WellFormed.{IsWellFormed};
 ghost use Rattle.chess_mates.specs.ties.Mates.{allows_mate};
 ghost use Rattle.chess_rules.specs.Legal.{is_legal, moves as legal_moves};
 ghost use Rattle.chess_rules.specs.Play.{position_after};
-ghost use Rattle.chess_rules.specs.RuleSet.{captures_do_more};
+ghost use Rattle.chess_attacks.specs.RuleSet.{captures_do_more};
 ghost use Rattle.chess_rules.specs.ties.Places.{IsPlaceIn};
 ghost use Rattle.chess_rules.specs.ties.Sifting.{SomeFails};
 ghost use Rattle.pop_input.specs.declared.stipulation.Goal.TheVariants.{Mate};
@@ -28,9 +28,7 @@ use chess_core::board::Board;
 use chess_core::man::{Kind, Move};
 use chess_core::square::Square;
 use chess_mates::kept_flights::KeptFlights;
-use chess_rules::legal_moves::LegalMoves;
-use chess_rules::moves::Moves;
-use chess_rules::rules::Rules;
+use chess_rules::{LegalMoves, Moves, Rules, play};
 use pop_input::stipulation::Goal;
 
 /// Returns whether White, to move, mates at once. The mating move becomes the killer; without one the
@@ -58,7 +56,7 @@ fn lets_mate<R: Rules>(by: Move, board: &mut Board, history: &mut History<R>) ->
     ensures tried { HasCounted history.old.opened history.new.opened 1 }
 {
     history.opened = history.opened.saturating_add(1);
-    let undo = R::play(board, by);
+    let undo = play::<R>(board, by);
     let mates = has_mate::<R>(board, &mut history.killers);
     retract::<R>(board, by, undo);
     mates

@@ -19,8 +19,7 @@ use crate::killers::Killers;
 use chess_core::board::Board;
 use chess_core::man::Move;
 use chess_mates::quiet_steps::QuietSteps;
-use chess_rules::legal_moves::LegalMoves;
-use chess_rules::rules::Rules;
+use chess_rules::{LegalMoves, Rules, play};
 use pop_input::stipulation::Goal;
 
 /// Returns whether Black must mate after this move by White. The move isn't played if Black's king then has
@@ -41,7 +40,7 @@ fn forces_mate<R: Rules>(
     if steps.follow::<R>(board, &by) || killers.rule_out_mate(board, &by) {
         return false;
     }
-    let undo = R::play(board, by);
+    let undo = play::<R>(board, by);
     let forced = must_mate::<R>(board);
     retract::<R>(board, by, undo);
     forced

@@ -18,7 +18,7 @@ use crate::last_defence::value_of_last_defence;
 use crate::stretches::{next_tried, order_of};
 use chess_core::board::Board;
 use chess_core::man::Move;
-use chess_rules::rules::Rules;
+use chess_rules::{Rules, play};
 
 /// Returns whether White mates next after this move, whatever Black's defence.
 #[tactic(auto, using(chess_rules::proofs::listing_moves::Calls::playing))]
@@ -33,7 +33,7 @@ fn leaves_no_defence<R: Rules>(by: Move, board: &mut Board, history: &mut Histor
     ensures tried { HasCounted history.old.opened history.new.opened
         (smallest_tree Direct (chess Mate R.rule) 2 (position_after R.rule board.old by)) }
 {
-    let undo = R::play(board, by);
+    let undo = play::<R>(board, by);
     let mates = value_of_last_defence::<R>(board, history);
     retract::<R>(board, by, undo);
     mates

@@ -16,9 +16,7 @@ use crate::killers::Killers;
 use chess_core::board::Board;
 use chess_core::man::Move;
 use chess_mates::aims::{aims_at_king, next_aimed};
-use chess_rules::legal_moves::LegalMoves;
-use chess_rules::moves::Moves;
-use chess_rules::rules::Rules;
+use chess_rules::{LegalMoves, Moves, Rules};
 
 /// Returns which moves come right after the killers: those that give check or attack next to the king, if
 /// White has two or more moves left to mate; otherwise none.

@@ -35,8 +35,7 @@ use crate::stretches::{next_tried, order_of};
 use arrayvec::ArrayVec;
 use chess_core::board::Board;
 use chess_core::man::Move;
-use chess_rules::legal_moves::LegalMoves;
-use chess_rules::rules::Rules;
+use chess_rules::{LegalMoves, Rules, play};
 use pop_input::stipulation::Goal;
 
 /// Returns whether the side to move needs just one good move with `left` half-moves left, since it is White
@@ -222,7 +221,7 @@ fn descend<R: Rules, const N: usize>(
 {
     frames.push(top);
     let left = top.left - 1;
-    let undo = R::play(board, by);
+    let undo = play::<R>(board, by);
     let mut known = None;
     let answer = value_at_once::<R>(aim, left, board, &mut known, history);
     if answer.is_some() {

@@ -6,10 +6,10 @@ use Rattle.chess_core.specs.declared.man.Kind.{Kind}
 use Rattle.chess_core.specs.declared.man.Kind.TheVariants.{King}
 use Rattle.chess_core.specs.declared.man.Man.{Man}
 use Rattle.chess_core.specs.declared.man.Move.{Move}
-use Rattle.chess_rules.specs.Attacks.{in_check}
+use Rattle.chess_attacks.specs.Attacks.{in_check}
 use Rattle.chess_rules.specs.Legal.{is_mate, is_stalemate}
 use Rattle.chess_rules.specs.Play.{is_castling, position_after, undo_of}
-use Rattle.chess_rules.specs.RuleSet.{RuleSet}
+use Rattle.chess_attacks.specs.RuleSet.{RuleSet}
 use Rattle.chess_core.specs.Undo.{Undo}
 use Rattle.pop_input.specs.Stipulations.{is_for_stalemate}
 use Rattle.pop_input.specs.declared.stipulation.Goal.{Goal}

@@ -4,7 +4,7 @@ use Rattle.pop_input.proofs.Words.{colour_of, command_of, condition_of, entries_
 use Rattle.chess_core.specs.Squares.{some_square, squares}
 use Rattle.chess_core.specs.Steps.{along}
 use Rattle.chess_core.specs.declared.man.Colour.TheVariants.{White, Black}
-use Rattle.chess_rules.specs.Reaches.{hops, is_clear, leaps, reaches, reaches_as, rides}
+use Rattle.chess_attacks.specs.Reaches.{hops, is_clear, leaps, reaches, reaches_as, rides}
 use Rattle.pop_input.specs.Blocks.{Faulty}
 use Rattle.pop_input.specs.declared.condition.Condition.TheVariants.{Madrasi}
 use Rattle.pop_input.specs.declared.stipulation.Goal.TheVariants.{Mate, Stalemate}

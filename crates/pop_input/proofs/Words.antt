@@ -18,7 +18,7 @@ pub use Rattle.chess_core.specs.declared.man.Colour.{Colour}
 pub use Rattle.chess_core.specs.declared.man.Kind.{Kind}
 pub use Rattle.chess_core.specs.declared.man.Kind.TheVariants.{King, Rook}
 pub use Rattle.chess_core.specs.declared.man.Man.{Man}
-unfoldable pub use Rattle.chess_rules.specs.Attacks.{faces, faces_its_like, in_check, is_attacked, is_paralysed, is_attacker}
+unfoldable pub use Rattle.chess_attacks.specs.Attacks.{faces, faces_its_like, in_check, is_attacked, is_paralysed, is_attacker}
 pub use Rattle.pop_text.proofs.Left.{longer, no_short_form}
 pub use Rattle.pop_text.proofs.Plain.{plain_no_closing, takes_none}
 pub use Rattle.pop_text.proofs.Using.{asks_none, asks_then, consumes_then, uses_none, uses_then}

@@ -8,7 +8,7 @@ use Rattle.chess_core.specs.Position.{AtMostOneKing, man_on, other}
 use Rattle.chess_core.specs.WellFormed.{is_crossed_right, is_home, is_pawn_inside}
 use Rattle.chess_core.specs.declared.man.Man.{Man}
 use Rattle.chess_core.specs.declared.man.Unmoved.{Unmoved}
-use Rattle.chess_rules.specs.Attacks.{in_check}
+use Rattle.chess_attacks.specs.Attacks.{in_check}
 use Rattle.pop_input.specs.Posed.{Posed, rule_of}
 use Rattle.pop_input.specs.Drafts.{Draft}
 use Rattle.pop_input.specs.Stipulations.{starting_side, has_king_to_mate, is_in_range}

@@ -3,8 +3,8 @@ use Rattle.std.specs.Prelude.{◌≡◌, ◌≤◌, ℕ, Bool, true, false, List
 use Rattle.chess_core.specs.Diagrams.{Diagram, position_of}
 use Rattle.chess_core.specs.Position.{other}
 use Rattle.chess_core.specs.WellFormed.{IsWellFormed}
-use Rattle.chess_rules.specs.Attacks.{in_check}
-use Rattle.chess_rules.specs.RuleSet.{RuleSet, orthodox, circe, madrasi}
+use Rattle.chess_attacks.specs.Attacks.{in_check}
+use Rattle.chess_attacks.specs.RuleSet.{RuleSet, orthodox, circe, madrasi}
 use Rattle.pop_input.specs.Stipulations.{starting_side, has_king_to_mate, is_in_range}
 use Rattle.pop_input.specs.declared.condition.Condition.{Condition}
 use Rattle.pop_input.specs.declared.condition.Condition.TheVariants.{Circe, Madrasi}

@@ -1,7 +1,7 @@
 -- The list of an input's parts, and the text of requested parts (own layout).
 use Rattle.std.specs.Prelude.{ℕ, ◌+◌, ◌-◌, ◌^◌, ◌==◌, nat_le, min, Bool, true, not, ◌&&◌, if◌then◌else◌, List, [], ◌∷◌, ◌++◌, map, take, drop, length, slice_get, codes, decimal, Option, Some, None}
 use Rattle.std.specs.List.{flat_map, list_any}
-use Rattle.chess_rules.specs.RuleSet.{RuleSet}
+use Rattle.chess_attacks.specs.RuleSet.{RuleSet}
 use Rattle.pop_text.specs.Words.{Input}
 use Rattle.pop_input.specs.Blocks.{Entry, Sound, Faulty}
 use Rattle.pop_input.specs.Posed.{Posed, rule_of}

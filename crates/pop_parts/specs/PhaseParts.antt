@@ -3,7 +3,7 @@
 use Rattle.std.specs.Prelude.{ℕ, zero, suc, ◌-◌, ◌==◌, min, Bool, true, false, ◌&&◌, ◌||◌, if◌then◌else◌, List, [], ◌∷◌, ◌++◌, map, take, filter, length, Option, None, slice_get}
 use Rattle.std.specs.List.{flat_map}
 use Rattle.chess_core.specs.MoveOrder.{order_number}
-use Rattle.chess_rules.specs.RuleSet.{RuleSet}
+use Rattle.chess_attacks.specs.RuleSet.{RuleSet}
 use Rattle.pop_input.specs.Posed.{Posed}
 use Rattle.pop_input.specs.Stipulations.{is_help}
 use Rattle.pop_battle.specs.Chess.{chess}

@@ -17,9 +17,7 @@ ghost use Rattle.pop_solve.specs.ties.Walk.{path};
 use arrayvec::ArrayVec;
 use chess_core::board::Board;
 use chess_core::man::Move;
-use chess_rules::moves::Moves;
-use chess_rules::play::Undo;
-use chess_rules::rules::Rules;
+use chess_rules::{Moves, Rules, Undo, play};
 use pop_battle::chess::next_move;
 use pop_battle::frame::{Frame, Order, Stretch};
 use pop_events::event::Phase;
@@ -88,7 +86,7 @@ fn seek<R: Rules, const N: usize>(
     if frames.len() == depth {
         return Some(by);
     }
-    let undo = R::play(board, by);
+    let undo = play::<R>(board, by);
     frames.push(idle(by, undo));
     None
 }

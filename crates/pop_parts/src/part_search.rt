@@ -19,7 +19,7 @@ use crate::parts_left::PartsLeft;
 use arrayvec::ArrayVec;
 use chess_core::board::Board;
 use chess_core::man::Move;
-use chess_rules::rules::Rules;
+use chess_rules::{Rules, play};
 use pop_battle::chess::{reaches_goal, retract};
 use pop_battle::frame::Frame;
 use pop_battle::history::History;
@@ -59,7 +59,7 @@ fn may_lead<R: Rules>(plan: Plan, left: usize, by: Move, board: &mut Board) -> b
     if !ends_with_mate(plan, left + 1) {
         return true;
     }
-    let undo = R::play(board, by);
+    let undo = play::<R>(board, by);
     let mates = reaches_goal::<R>(plan.goal, board);
     retract::<R>(board, by, undo);
     mates

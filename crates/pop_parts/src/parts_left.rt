@@ -6,7 +6,7 @@ use crate::beginnings::{part_depth, seek_numbered, set_out};
 use crate::part_search::PartSearch;
 use arrayvec::ArrayVec;
 use chess_core::board::Board;
-use chess_rules::rules::Rules;
+use chess_rules::Rules;
 use pop_battle::frame::Frame;
 use pop_battle::killers::Killers;
 use pop_events::event::Phase;

@@ -4,7 +4,7 @@ ghost use Rattle.pop_input.specs.Posed.{rule_of};
 ghost use Rattle.pop_parts.specs.PhaseParts.{parts};
 
 use crate::beginnings::count_parts;
-use chess_rules::rules::Rules;
+use chess_rules::Rules;
 use pop_events::event::Phase;
 use pop_input::problem::Problem;
 

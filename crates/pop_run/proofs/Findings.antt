@@ -2,7 +2,7 @@
 use Rattle.pop_run.proofs.Basics.{Appends, Begins, List, Option, Some, [], ap, append_assoc, appends_none, appends_then, begins_later, begins_longer, drop, event_of, events, events_of, flat_map, map, refl, slice_get, sym, ℕ, ◌++◌, ◌∙◌, ◌∷◌, ◌≡◌}
 use Rattle.std.specs.Option.{option_map}
 use Rattle.std.proofs.lemmas.Option.{none-some, same_Some}
-use Rattle.chess_rules.specs.RuleSet.{RuleSet}
+use Rattle.chess_attacks.specs.RuleSet.{RuleSet}
 use Rattle.pop_input.specs.Posed.{Posed, rule_of}
 
 -- From before to now the texts of the first events were written, and the texts of these events are still to come.

@@ -1,7 +1,7 @@
 -- Laws of the definitions (own).
 use Rattle.std.specs.Prelude.{◌≢◌, List, take}
 use Rattle.std.specs.List.{AllPairs, flat_map}
-use Rattle.chess_rules.specs.RuleSet.{RuleSet}
+use Rattle.chess_attacks.specs.RuleSet.{RuleSet}
 use Rattle.pop_input.specs.Posed.{Posed}
 use Rattle.pop_events.specs.declared.event.Phase.{Phase}
 use Rattle.pop_solve.specs.Events.{Path, solutions}

@@ -13,8 +13,7 @@ use crate::plan::Plan;
 use arrayvec::ArrayVec;
 use chess_core::board::Board;
 use chess_core::man::Move;
-use chess_rules::moves::Moves;
-use chess_rules::rules::Rules;
+use chess_rules::{Moves, Rules, play};
 use pop_battle::aim::{Aim, Battle, Play};
 use pop_battle::chess::next_move;
 use pop_battle::frame::Frame;
@@ -73,7 +72,7 @@ fn cost_of_defence<R: Rules>(
         (position_after R.rule board.now by)) }
 {
     let mut stand = *board;
-    let _undo = R::play(&mut stand, by);
+    let _undo = play::<R>(&mut stand, by);
     let (wins, opened) = cost_of_test::<R>(aim, left, &stand, killers);
     if wins { None } else { Some(opened) }
 }
@@ -140,7 +139,7 @@ pub fn guess_killers<R: Rules>(
         goal: plan.goal,
     };
     let mut stand = *board;
-    let _undo = R::play(&mut stand, by);
+    let _undo = play::<R>(&mut stand, by);
     for half in 1..left / 2 {
         let tried = 2 * half;
         let _cost = cost_of_test::<R>(aim, tried, &stand, killers);

@@ -2,7 +2,7 @@
 use crate::phases::{Stage, advance, first_phase};
 use arrayvec::ArrayVec;
 use chess_core::board::Board;
-use chess_rules::rules::Rules;
+use chess_rules::Rules;
 use pop_battle::frame::Frame;
 use pop_battle::history::History;
 use pop_battle::killers::Killers;

@@ -16,7 +16,7 @@ ghost use Rattle.std.specs.Prelude.{◌≡◌, ◌+◌, ◌<◌, ◌≤◌, ℕ,
 use crate::plan::Plan;
 use arrayvec::ArrayVec;
 use chess_core::board::Board;
-use chess_rules::rules::Rules;
+use chess_rules::{Rules, play};
 use pop_battle::aim::Play;
 use pop_battle::chess::{Reached, mark_after, retract, shown_of};
 use pop_battle::frame::Frame;
@@ -76,7 +76,7 @@ fn play_shown<R: Rules>(goal: Goal, reached: Reached, frame: &Frame<R>, board: &
     let by = frame.by;
     let man = board.man_at(by.from);
     let there = board.man_at(by.to);
-    let undo = R::play(board, by);
+    let undo = play::<R>(board, by);
     let mark = mark_after::<R>(goal, reached, board);
     shown_of(man, there, &by, &undo, mark)
 }

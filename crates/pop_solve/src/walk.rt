@@ -27,9 +27,7 @@ use arrayvec::ArrayVec;
 use chess_core::board::Board;
 use chess_core::man::Move;
 use chess_mates::threats::Threats;
-use chess_rules::legal_moves::LegalMoves;
-use chess_rules::moves::Moves;
-use chess_rules::rules::Rules;
+use chess_rules::{LegalMoves, Moves, Rules, play};
 use pop_battle::aim::{Aim, Battle, Play};
 use pop_battle::chess::{is_for_mate, next_mate, next_move, reaches_goal, retract};
 use pop_battle::frame::{Frame, Order, Stretch};
@@ -251,7 +249,7 @@ pub fn enter<R: Rules, const N: usize>(
         (position_after R.rule board.old by) history.old.opened history.new.opened }
 {
     let root = frames.len() == 1;
-    let undo = R::play(board, by);
+    let undo = play::<R>(board, by);
     let tested = tested_in(plan.play, root, left + 1);
     if let Some(battle) = tested {
         let aim = Aim {

@@ -2,8 +2,8 @@
 use crate::plain_words::{Token, is_short, last_line, tokens, without_leading, without_trailing};
 use crate::summary::{CORNERS, Summary, Told, digest};
 use arrayvec::ArrayVec;
+use chess_attacks::{Circe, Madrasi, Orthodox, in_check};
 use chess_core::{Board, Colour, Diagram, Kind, Man, Square};
-use chess_rules::{Circe, Madrasi, Orthodox, in_check};
 use pop_input::FaultKind;
 
 /// More items than any input of these tests has.

@@ -4,8 +4,7 @@ ghost use Rattle.chess_core.specs.WellFormed.{IsWellFormed};
 use crate::plain::{can_move, first_diagram, is_goal_reached};
 use crate::row::half_moves;
 use chess_core::Board;
-use chess_rules::rules::{Circe, Madrasi, Orthodox, Rules};
-use chess_rules::{Moves, in_check};
+use chess_rules::{Circe, Madrasi, Moves, Orthodox, Rules, in_check, play};
 use pop_input::condition::Condition;
 use pop_input::problem::Problem;
 use pop_input::stipulation::{Form, Goal};
@@ -23,7 +22,7 @@ fn walk_count<R: Rules>(board: &Board, half_moves: usize) -> u64
     let mut moves = Moves::<R>::start();
     while let Some(by) = moves.next(&mut here) {
         let mut there = here;
-        let _undo = R::play(&mut there, by);
+        let _undo = play::<R>(&mut there, by);
         count = count.saturating_add(walk_count::<R>(&there, half_moves - 1));
     }
     count
@@ -96,7 +95,7 @@ fn smallest<R: Rules>(battle: Battle, board: &Board, left: usize) -> Shown
     let mut moves = Moves::<R>::start();
     while let Some(by) = moves.next(&mut here) {
         let mut there = here;
-        let _undo = R::play(&mut there, by);
+        let _undo = play::<R>(&mut there, by);
         let after = smallest::<R>(battle, &there, left - 1);
         all = all.saturating_add(after.positions);
         if after.wins == whites {
@@ -139,7 +138,7 @@ fn try_all<R: Rules>(problem: &Problem) -> Tried {
     let mut moves = Moves::<R>::start();
     while let Some(by) = moves.next(&mut here) {
         let mut there = here;
-        let _undo = R::play(&mut there, by);
+        let _undo = play::<R>(&mut there, by);
         let after = smallest::<R>(battle, &there, left);
         tried.positions = tried.positions.saturating_add(after.positions);
         if after.wins {

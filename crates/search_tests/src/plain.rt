@@ -6,7 +6,7 @@ ghost use Rattle.chess_core.specs.WellFormed.{IsWellFormed};
 use crate::row::{half_moves, tell};
 use arrayvec::ArrayVec;
 use chess_core::{Board, Diagram, Kind, Man, Move, Square};
-use chess_rules::{Moves, Rules, has_legal_move, in_check};
+use chess_rules::{Moves, Rules, has_legal_move, in_check, play};
 use pop_events::{Event, Mark, Phase, Shown, Side};
 use pop_input::problem::Problem;
 use pop_input::stipulation::{Form, Goal};
@@ -166,12 +166,12 @@ fn is_lost<R: Rules>(goal: Goal, board: &Board, moves: u8) -> bool
     let mut every = true;
     while let Some(defence) = defences.next(&mut here) {
         let mut there = here;
-        let _undo = R::play(&mut there, defence);
+        let _undo = play::<R>(&mut there, defence);
         let mut answers = Moves::<R>::start();
         let mut some = false;
         while let Some(answer) = answers.next(&mut there) {
             let mut after = there;
-            let _undo = R::play(&mut after, answer);
+            let _undo = play::<R>(&mut after, answer);
             some = is_lost::<R>(goal, &after, moves - 1) || some;
         }
         every = every && some;
@@ -192,12 +192,12 @@ fn self_wins<R: Rules>(goal: Goal, board: &Board, moves: u8) -> bool
     let mut some = false;
     while let Some(by) = tries.next(&mut here) {
         let mut there = here;
-        let _undo = R::play(&mut there, by);
+        let _undo = play::<R>(&mut there, by);
         let mut defences = Moves::<R>::start();
         let mut every = can_move::<R>(&there);
         while let Some(defence) = defences.next(&mut there) {
             let mut after = there;
-            let _undo = R::play(&mut after, defence);
+            let _undo = play::<R>(&mut after, defence);
             every = (is_goal_reached::<R>(goal, &after) || self_wins::<R>(goal, &after, moves - 1))
                 && every;
         }
@@ -221,7 +221,7 @@ fn keeps<R: Rules>(goal: Goal, selfmate: bool, board: &Board, moves: u8) -> bool
     let mut every = can_move::<R>(board);
     while let Some(defence) = defences.next(&mut here) {
         let mut after = here;
-        let _undo = R::play(&mut after, defence);
+        let _undo = play::<R>(&mut after, defence);
         every = (is_goal_reached::<R>(goal, &after) || self_wins::<R>(goal, &after, further))
             && every;
     }
@@ -244,7 +244,7 @@ fn wins<R: Rules>(goal: Goal, selfmate: bool, board: &Board, moves: u8) -> bool
     let mut some = false;
     while let Some(by) = tries.next(&mut here) {
         let mut after = here;
-        let _undo = R::play(&mut after, by);
+        let _undo = play::<R>(&mut after, by);
         some = is_lost::<R>(goal, &after, moves - 1) || some;
     }
     some
@@ -282,7 +282,7 @@ fn white<R: Rules>(told: &mut Told, battle: Battle, board: &Board, moves: u8, de
     let mut tries = Moves::<R>::start();
     while let Some(by) = tries.next(&mut here) {
         let mut there = here;
-        let _undo = R::play(&mut there, by);
+        let _undo = play::<R>(&mut there, by);
         if keeps::<R>(battle.goal, battle.selfmate, &there, moves) {
             told.node(depth, shown::<R>(battle.goal, &here, &there, by));
             if left > 0 && !is_goal_reached::<R>(battle.goal, &there) {
@@ -303,7 +303,7 @@ fn black<R: Rules>(told: &mut Told, battle: Battle, board: &Board, depth: u32, l
     let mut defences = Moves::<R>::start();
     while let Some(defence) = defences.next(&mut here) {
         let mut there = here;
-        let _undo = R::play(&mut there, defence);
+        let _undo = play::<R>(&mut there, defence);
         told.node(depth, shown::<R>(battle.goal, &here, &there, defence));
         if !is_goal_reached::<R>(battle.goal, &there) {
             let moves = least::<R>(battle.goal, battle.selfmate, &there, battle.moves);
@@ -328,7 +328,7 @@ fn set<R: Rules>(told: &mut Told, battle: Battle, board: &Board, left: u8)
     let mut moves = Moves::<R>::start();
     while let Some(by) = moves.next(&mut here) {
         let mut there = here;
-        let _undo = R::play(&mut there, by);
+        let _undo = play::<R>(&mut there, by);
         let mates = is_goal_reached::<R>(battle.goal, &there);
         let further = battle.moves.saturating_sub(1);
         if battle.selfmate && mates || wins::<R>(battle.goal, battle.selfmate, &there, further) {
@@ -364,7 +364,7 @@ fn help<R: Rules>(
     let mut moves = Moves::<R>::start();
     while let Some(by) = moves.next(&mut here) {
         let mut there = here;
-        let _undo = R::play(&mut there, by);
+        let _undo = play::<R>(&mut there, by);
         let mut longer = path;
         longer[len] = shown::<R>(goal, &here, &there, by);
         help::<R>(told, goal, &there, left - 1, longer, len + 1);

@@ -5,7 +5,7 @@ ghost use Rattle.pop_input.specs.Stipulations.{half_moves};
 
 use crate::plain::solve;
 use arrayvec::ArrayVec;
-use chess_rules::rules::{Circe, Madrasi, Orthodox, Rules};
+use chess_rules::{Circe, Madrasi, Orthodox, Rules};
 use pop_events::event::Event;
 use pop_input::condition::Condition;
 use pop_input::item::Item;

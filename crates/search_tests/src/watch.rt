@@ -4,7 +4,7 @@ ghost use Rattle.pop_input.specs.Posed.{rule_of};
 
 use crate::row::half_moves;
 use arrayvec::ArrayVec;
-use chess_rules::rules::{Circe, Madrasi, Orthodox, Rules};
+use chess_rules::{Circe, Madrasi, Orthodox, Rules};
 use pop_events::{Event, Mark, Phase, Shown};
 use pop_input::condition::Condition;
 use pop_input::problem::Problem;

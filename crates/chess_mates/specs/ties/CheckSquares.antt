@@ -11,12 +11,12 @@ use Rattle.chess_core.specs.declared.man.Colour.{Colour}
 use Rattle.chess_core.specs.declared.man.Kind.{Kind}
 use Rattle.chess_core.specs.declared.man.Kind.TheVariants.{King, Queen, Rook, Bishop, Knight, Pawn, Grasshopper, Nightrider}
 use Rattle.chess_mates.specs.declared.checks.CheckSquares.{CheckSquares}
-use Rattle.chess_rules.specs.Attacks.{in_check}
+use Rattle.chess_attacks.specs.Attacks.{in_check}
 use Rattle.chess_rules.specs.Legal.{is_legal}
 use Rattle.chess_rules.specs.Play.{position_after}
-use Rattle.chess_rules.specs.Reaches.{reaches_as}
-use Rattle.chess_rules.specs.RuleSet.{RuleSet, captures_are_reborn, orthodox}
-use Rattle.chess_rules.specs.ties.Lines.{is_two_files_aside}
+use Rattle.chess_attacks.specs.Reaches.{reaches_as}
+use Rattle.chess_attacks.specs.RuleSet.{RuleSet, captures_are_reborn, orthodox}
+use Rattle.chess_attacks.specs.ties.Lines.{is_two_files_aside}
 use Rattle.chess_rules.specs.ties.Shields.{may_expose, may_stand_between}
 use Rattle.chess_rules.specs.ties.Targets.{may_go}
 

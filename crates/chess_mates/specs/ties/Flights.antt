@@ -12,15 +12,16 @@ use Rattle.chess_core.specs.declared.man.Man.{Man}
 use Rattle.chess_core.specs.declared.man.Move.{Move}
 use Rattle.chess_mates.specs.declared.flights.Flights.{Flights}
 use Rattle.chess_mates.specs.declared.flights.Flights.TheVariants.{Left, NoneLeft, Untold}
-use Rattle.chess_rules.specs.Attacks.{in_check}
+use Rattle.chess_attacks.specs.Attacks.{in_check}
 use Rattle.chess_rules.specs.Legal.{is_arrival_free, is_legal, is_pseudo_legal}
 use Rattle.chess_rules.specs.Play.{capture_square}
-use Rattle.chess_rules.specs.Reaches.{reaches_as}
-use Rattle.chess_rules.specs.RuleSet.{RuleSet, captures_do_more}
-use Rattle.chess_rules.specs.ties.Shields.{is_reached}
+use Rattle.chess_attacks.specs.Reaches.{reaches_as}
+use Rattle.chess_attacks.specs.RuleSet.{RuleSet, captures_do_more}
+use Rattle.chess_attacks.specs.ties.Outward.{is_reached}
 use Rattle.chess_rules.specs.ties.Sifting.{is_of_others}
-use Rattle.chess_rules.specs.ties.Sight.{AreSeen, is_simple, sight_after}
-use Rattle.chess_rules.specs.declared.sight.Sight.{Sight}
+use Rattle.chess_attacks.specs.ties.Sight.{AreSeen, sight_after}
+use Rattle.chess_rules.specs.ties.Exposure.{is_simple}
+use Rattle.chess_attacks.specs.declared.sight.Sight.{Sight}
 
 -- the king on this square, if there is one, may go to t
 abbrev pub is_flight_at : RuleSet → Position → Option ℕ → ℕ → Bool

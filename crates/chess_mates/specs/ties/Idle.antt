@@ -4,7 +4,7 @@ use Rattle.std.proofs.lemmas.Bool.{and_left}
 use Rattle.chess_core.specs.Position.{Position}
 use Rattle.chess_core.specs.declared.man.Move.{Move}
 use Rattle.chess_rules.specs.Legal.{is_pseudo_legal}
-use Rattle.chess_rules.specs.RuleSet.{RuleSet}
+use Rattle.chess_attacks.specs.RuleSet.{RuleSet}
 use Rattle.chess_rules.specs.ties.Idle.{is_legal-idle}
 use Rattle.chess_mates.specs.ties.Mates.{mates}
 

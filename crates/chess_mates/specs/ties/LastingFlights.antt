@@ -13,8 +13,9 @@ use Rattle.chess_core.specs.declared.man.Move.{Move}
 use Rattle.chess_mates.specs.declared.attackers.Attackers.{Attackers}
 use Rattle.chess_mates.specs.declared.lasting_flights.OpenTargets.{OpenTargets}
 use Rattle.chess_mates.specs.ties.Attackers.{IsAttacker, is_promotion}
-use Rattle.chess_rules.specs.Reaches.{leaps, reaches_as}
-use Rattle.chess_rules.specs.ties.Targets.{AreReached, is_promoting, may_go}
+use Rattle.chess_attacks.specs.Reaches.{leaps, reaches_as}
+use Rattle.chess_attacks.specs.ties.Lines.{AreReached}
+use Rattle.chess_rules.specs.ties.Targets.{is_promoting, may_go}
 
 -- w holds each square from which x reaches t on some board
 pub record AreApproached (x : Man) (t w : ℕ) : Type 0 where

@@ -2,7 +2,7 @@
 use Rattle.std.specs.Prelude.{◌≡◌, ℕ, Bool, true, not, ◌&&◌, ◌-◌, List, [], ◌∷◌, ◌++◌, filter}
 use Rattle.chess_core.specs.Position.{Position, other}
 use Rattle.chess_core.specs.declared.man.Move.{Move}
-use Rattle.chess_rules.specs.RuleSet.{RuleSet}
+use Rattle.chess_attacks.specs.RuleSet.{RuleSet}
 use Rattle.chess_rules.specs.Legal.{is_legal, is_mate, is_nil}
 use Rattle.chess_rules.specs.Play.{position_after}
 use Rattle.chess_rules.specs.ties.Places.{moves_behind, moves_between}

@@ -6,8 +6,9 @@ use Rattle.chess_core.specs.Position.{Position, is_man, is_of_colour, man_on, ot
 use Rattle.chess_core.specs.Squares.{is_square, some_square}
 use Rattle.chess_mates.specs.declared.parries.Parries.{Parries}
 use Rattle.chess_mates.specs.declared.parries.Parries.TheVariants.{Impossible, Possible, Unknown}
-use Rattle.chess_rules.specs.Attacks.{in_check}
-use Rattle.chess_rules.specs.Legal.{forward, is_legal, is_mate}
+use Rattle.chess_attacks.specs.Attacks.{in_check}
+use Rattle.chess_attacks.specs.Reaches.{forward}
+use Rattle.chess_rules.specs.Legal.{is_legal, is_mate}
 use Rattle.chess_core.specs.Steps.{along, diagonal_steps, straight_steps}
 use Rattle.chess_core.specs.declared.man.Colour.{Colour}
 use Rattle.chess_core.specs.declared.man.Colour.TheVariants.{White}
@@ -15,9 +16,9 @@ use Rattle.chess_core.specs.declared.man.Kind.TheVariants.{Bishop, King, Pawn, R
 use Rattle.chess_core.specs.declared.man.Man.{Man}
 use Rattle.chess_core.specs.declared.man.Move.{Move}
 use Rattle.chess_core.specs.ties.Words.{word}
-use Rattle.chess_rules.specs.Reaches.{reaches, reaches_as}
-use Rattle.chess_rules.specs.RuleSet.{RuleSet, captures_do_more, faced_men_stand_still}
-use Rattle.chess_rules.specs.ties.Lines.{is_advance, is_on_some, occupied_squares}
+use Rattle.chess_attacks.specs.Reaches.{reaches, reaches_as}
+use Rattle.chess_attacks.specs.RuleSet.{RuleSet, captures_do_more, faced_men_stand_still}
+use Rattle.chess_attacks.specs.ties.Lines.{is_advance, is_on_some, occupied_squares}
 use Rattle.chess_rules.specs.ties.Shields.{cannot_expose, is_fairy, may_expose, may_stand_between}
 use Rattle.chess_rules.specs.ties.Sifting.{is_of_others}
 

@@ -13,11 +13,11 @@ use Rattle.chess_mates.specs.ties.LastingFlights.{IsLeft}
 use Rattle.chess_mates.specs.ties.Mates.{is_mating}
 use Rattle.chess_rules.specs.Legal.{moves}
 use Rattle.chess_rules.specs.Play.{capture_square, is_castling, position_after}
-use Rattle.chess_rules.specs.RuleSet.{RuleSet, captures_do_more, faced_men_stand_still}
-use Rattle.chess_rules.specs.declared.sight.Sight.{Sight}
-use Rattle.chess_rules.specs.ties.Lines.{occupied_squares}
-use Rattle.chess_rules.specs.ties.Shields.{is_reached}
-use Rattle.chess_rules.specs.ties.Sight.{AreSeen}
+use Rattle.chess_attacks.specs.RuleSet.{RuleSet, captures_do_more, faced_men_stand_still}
+use Rattle.chess_attacks.specs.declared.sight.Sight.{Sight}
+use Rattle.chess_attacks.specs.ties.Lines.{occupied_squares}
+use Rattle.chess_attacks.specs.ties.Outward.{is_reached}
+use Rattle.chess_attacks.specs.ties.Sight.{AreSeen}
 use Rattle.chess_rules.specs.ties.Targets.{is_promoting}
 
 -- each reply to the move mates

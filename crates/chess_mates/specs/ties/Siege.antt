@@ -23,9 +23,9 @@ use Rattle.chess_mates.specs.declared.steps.ToldSteps.{ToldSteps}
 use Rattle.chess_mates.specs.ties.Attackers.{AreAttackers, IsAttacker, is_promotion}
 use Rattle.chess_mates.specs.ties.LastingFlights.{AreApproached, IsLeft, KeepsOne, MayBecome}
 use Rattle.chess_rules.specs.Play.{rebirth}
-use Rattle.chess_rules.specs.Reaches.{leaps, reaches_as}
-use Rattle.chess_rules.specs.RuleSet.{RuleSet, captures_do_more, faced_men_stand_still}
-use Rattle.chess_rules.specs.ties.Lines.{is_on_some, men_on}
+use Rattle.chess_attacks.specs.Reaches.{leaps, reaches_as}
+use Rattle.chess_attacks.specs.RuleSet.{RuleSet, captures_do_more, faced_men_stand_still}
+use Rattle.chess_attacks.specs.ties.Lines.{is_on_some, men_on}
 use Rattle.chess_rules.specs.ties.Targets.{is_promoting, may_go}
 
 -- x on s reaches t if exactly the squares of d are occupied

@@ -6,8 +6,8 @@ use Rattle.chess_core.specs.Steps.{gait_of, is_hopper}
 use Rattle.chess_core.specs.declared.man.Man.{Man}
 use Rattle.chess_mates.specs.declared.standing_flights.StandingFlights.{StandingFlights}
 use Rattle.chess_mates.specs.ties.Flights.{is_open}
-use Rattle.chess_rules.specs.RuleSet.{RuleSet}
-use Rattle.chess_rules.specs.ties.Shields.{is_reached}
+use Rattle.chess_attacks.specs.RuleSet.{RuleSet}
+use Rattle.chess_attacks.specs.ties.Outward.{is_reached}
 
 -- no hopper is on the board
 pub record NoneHops (men : List (Option Man)) : Type 0 where

@@ -12,10 +12,10 @@ use Rattle.chess_mates.specs.declared.siege.Siege.{Siege}
 use Rattle.chess_mates.specs.ties.Mates.{mates_behind}
 use Rattle.chess_mates.specs.ties.Siege.{IsSiege, IsSiegeOf, IsWhole}
 use Rattle.chess_core.specs.Steps.{pawn_capture_steps}
-use Rattle.chess_rules.specs.Reaches.{leaps}
+use Rattle.chess_attacks.specs.Reaches.{leaps}
 use Rattle.chess_rules.specs.Legal.{is_legal}
 use Rattle.chess_rules.specs.Play.{capture_square, halfway, is_castling, is_double_step, position_after}
-use Rattle.chess_rules.specs.RuleSet.{RuleSet, captures_are_reborn, captures_do_more}
+use Rattle.chess_attacks.specs.RuleSet.{RuleSet, captures_are_reborn, captures_do_more}
 use Rattle.chess_rules.specs.ties.Targets.{is_promoting, may_go}
 
 -- threats can be computed: captures only remove men, which may be reborn

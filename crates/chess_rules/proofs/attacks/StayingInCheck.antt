@@ -4,9 +4,10 @@ use Rattle.chess_rules.proofs.attacks.Shielding.{IsPlain, IsShift, arrived_shift
 use Rattle.chess_rules.proofs.attacks.Exposing.{free_of_own}
 use Rattle.chess_rules.proofs.listing_moves.Targeting.{every_square_on}
 use Rattle.chess_rules.proofs.making_moves.Fits.{arrived}
-use Rattle.chess_rules.proofs.rays.Flips.{backward, opposed, rides_turned}
-use Rattle.chess_rules.proofs.rays.Parting.{line_open}
-use Rattle.chess_rules.proofs.making_moves.Pseudo.{made, on_board}
+use Rattle.chess_attacks.proofs.rays.Flips.{backward, opposed, rides_turned}
+use Rattle.chess_attacks.proofs.rays.Parting.{line_open}
+use Rattle.chess_rules.proofs.making_moves.Pseudo.{made}
+use Rattle.chess_attacks.proofs.rays.OnSquares.{on_board}
 use Rattle.chess_rules.proofs.making_moves.Stays.{after_well_formed}
 
 -- what stood elsewhere stands there

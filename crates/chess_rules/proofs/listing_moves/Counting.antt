@@ -5,9 +5,10 @@ use Rattle.std.specs.Prelude.{count_ones}
 use Rattle.chess_rules.proofs.Chess.{AreCandidates, AreLegal, Bool, HaveNone, IsBarrenFrom, Move, None, Pawn, Position, RuleSet, all_triples, ap, arith, bit_at, bit_at-lt, cases_Bool, cases_eq, cases_lt, differs, false, from_bool, inl, inr, is_legal, is_legal-idle, is_man, length, length-append, length-take, man_on, moves_between, ones-le, passes_to, per_arrival, per_origin, pow_mono, promotion_at, refl, rules, shr-shr, shr_below, suc, sym, triple_at, true, zero, ℕ, ◌%◌, ◌&&◌, ◌*◌, ◌+◌, ◌-◌, ◌/◌, ◌<◌, ◌==◌, ◌^◌, ◌∙◌, ◌≡◌, ◌≤◌}
 use Rattle.chess_rules.proofs.listing_moves.Between.{between-here, between-none, between-none-is_legal, between-past, between-skip, between_cut}
 use Rattle.chess_rules.proofs.listing_moves.Targeting.{arrival_from, named_by, no_promotion_here, some_named}
-use Rattle.chess_rules.proofs.listing_moves.Walks.{IsWalked, none-from, none-plain, none-to, off_zero, triple_of, walk_before}
-use Rattle.chess_rules.proofs.Basics.{nat_le}
-use Rattle.chess_rules.specs.ties.Taking.{IsTaken}
+use Rattle.chess_rules.proofs.listing_moves.Walks.{IsWalked, none-from, none-plain, none-to, triple_of, walk_before}
+use Rattle.chess_attacks.proofs.Bits.{off_zero}
+use Rattle.chess_attacks.proofs.Basics.{nat_le}
+use Rattle.chess_attacks.specs.ties.Taking.{IsTaken}
 
 bit_is : (n : ℕ) → n < 2 → n ≡ from_bool (n == 1)
 bit_is n less = grind arith

@@ -1,5 +1,5 @@
 -- Elements of lists made from other lists, and sorted lists.
-use Rattle.chess_rules.proofs.Basics.{AllPairs, AllPairs-cons, Bool, Contains, Contains-append_cases, Contains-append_left, Contains-append_right, Contains-get_or, List, [], ap, arith, cond, false, false≢true, filter, flat_map, get_or, get_or-map, get_or-range_with_len, inl, inr, length-map, length-range_with_len, map, range_with_len, refl, suc, sym, true, ℕ, ◌++◌, ◌+◌, ◌-◌, ◌<◌, ◌∙◌, ◌∷◌, ◌≡◌, ◌≤◌, ◌⊎◌}
+use Rattle.chess_attacks.proofs.Basics.{AllPairs, AllPairs-cons, Bool, Contains, Contains-append_cases, Contains-append_left, Contains-append_right, Contains-get_or, List, [], ap, arith, cond, false, false≢true, filter, flat_map, get_or, get_or-map, get_or-range_with_len, inl, inr, length-map, length-range_with_len, map, range_with_len, refl, suc, sym, true, ℕ, ◌++◌, ◌+◌, ◌-◌, ◌<◌, ◌∙◌, ◌∷◌, ◌≡◌, ◌≤◌, ◌⊎◌}
 
 module _ {X : Type 0} where
   -- an empty list has no elements

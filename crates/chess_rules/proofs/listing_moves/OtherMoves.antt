@@ -3,7 +3,7 @@ use Rattle.chess_rules.proofs.Chess.{AreCandidates, AreOrigins, HaveNone, IsAime
 use Rattle.chess_rules.proofs.listing_moves.Places.{moves_behind-here, moves_behind-start}
 use Rattle.chess_rules.proofs.listing_moves.Sifting.{sifted_missing, wanted-none}
 use Rattle.chess_rules.proofs.listing_moves.Walks.{off_second}
-use Rattle.chess_rules.proofs.making_moves.Pseudo.{on_board}
+use Rattle.chess_attacks.proofs.rays.OnSquares.{on_board}
 
 module _ (rule : RuleSet) (p : Position) where
   -- the king's square left out

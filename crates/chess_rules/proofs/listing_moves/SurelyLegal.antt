@@ -3,7 +3,8 @@ use Rattle.chess_rules.proofs.Chess.{AreCandidates, AreLegal, Bool, IsAimed, IsW
 use Rattle.chess_rules.proofs.attacks.Shielding.{cannot_expose_own}
 use Rattle.chess_rules.proofs.listing_moves.Arrivals.{aimed_plain, goes_on, may_go_aimed}
 use Rattle.chess_rules.proofs.listing_moves.Targeting.{no_pawn_arrives}
-use Rattle.chess_rules.proofs.listing_moves.Walks.{off_second, off_zero}
+use Rattle.chess_rules.proofs.listing_moves.Walks.{off_second}
+use Rattle.chess_attacks.proofs.Bits.{off_zero}
 
 -- a move to a square that is sure changes nothing else, and uncovers no king
 sure_unexposed : (rule : RuleSet) (p : Position) (x : Man) (m : Move) → man_on p.men m.from ≡ Some x → same_kind x.kind King ≡ false

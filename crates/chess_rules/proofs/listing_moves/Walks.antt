@@ -1,8 +1,9 @@
 -- Walking from candidate to candidate misses no move.
-use Rattle.chess_rules.proofs.Chess.{AreCandidates, AreEvasionsFrom, AreOrigins, Bool, HaveNone, IsAimed, IsBarrenFrom, IsNamed, Move, None, Pawn, Position, RuleSet, all_triples, and_parts, and_right, ap, arith, bit_and, bit_at, bit_at-lt, bit_at-zero, bit_at_and, cases_Bool, cases_eq, cases_lt, eq-eqb, eqb-true, false, false≢true, is_arrival, is_legal, is_legal-idle, is_man, is_pseudo_legal, is_some, man_on, not, passes_to, per_arrival, per_origin, promotion_at, refl, rules, side_of, triple_at, true, word, word_has, ℕ, ◌%◌, ◌&&◌, ◌*◌, ◌+◌, ◌-◌, ◌/◌, ◌<◌, ◌==◌, ◌≡◌, ◌≤◌}
-use Rattle.chess_rules.proofs.Basics.{nat_le}
-use Rattle.chess_rules.specs.ties.Taking.{IsTaken}
+use Rattle.chess_rules.proofs.Chess.{AreCandidates, AreEvasionsFrom, AreOrigins, Bool, HaveNone, IsAimed, IsBarrenFrom, IsNamed, Move, None, Pawn, Position, RuleSet, all_triples, and_parts, and_right, ap, arith, bit_and, bit_at, bit_at-lt, bit_at_and, cases_Bool, cases_eq, cases_lt, eq-eqb, eqb-true, false, false≢true, is_arrival, is_legal, is_legal-idle, is_man, is_pseudo_legal, is_some, man_on, not, passes_to, per_arrival, per_origin, promotion_at, refl, rules, side_of, triple_at, true, word, word_has, ℕ, ◌%◌, ◌&&◌, ◌*◌, ◌+◌, ◌-◌, ◌/◌, ◌<◌, ◌==◌, ◌≡◌, ◌≤◌}
+use Rattle.chess_attacks.proofs.Basics.{nat_le}
+use Rattle.chess_attacks.specs.ties.Taking.{IsTaken}
 use Rattle.chess_rules.proofs.listing_moves.Targeting.{arrival_from, arrival_needed, false_by, named_by, no_pawn_arrives, no_promotion_here, own_moves, some_named}
+use Rattle.chess_attacks.proofs.Bits.{off_zero}
 
 -- squares of two words
 pub on_first : (a b i : ℕ) → (bit_at (bit_and a b) i == 1) ≡ true → (bit_at a i == 1) ≡ true
@@ -11,10 +12,6 @@ on_first a b i h = search (rules, bit_at-lt, bit_at_and, eq-eqb, eqb-true)
 -- a square of the first word that isn't in both isn't in the second
 pub off_second : (a b i : ℕ) → (bit_at (bit_and a b) i == 1) ≡ false → (bit_at a i == 1) ≡ true → (bit_at b i == 1) ≡ false
 off_second a b i h on = search (rules, bit_at_and, eq-eqb, eqb-true, false_by)
-
--- the word 0 has no square
-pub off_zero : (i : ℕ) → (bit_at 0 i == 1) ≡ false
-off_zero i = rw (bit_at-zero i) refl
 
 -- an origin's triples by their numbers
 pub triple_of : (s a : ℕ) → a < per_origin → triple_at (per_origin * s + a) ≡ record { from = s; to = a / per_arrival; promo = promotion_at (a % per_arrival) }

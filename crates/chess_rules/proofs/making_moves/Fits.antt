@@ -2,9 +2,10 @@
 use Rattle.chess_rules.proofs.Chess.{CanCastle, CanMove, Colour, HasNoKing, IsAt, IsSome, IsWellFormed, Kind, King, List, Man, Move, None, Option, Pawn, Position, RuleSet, Some, and_parts, arith, arriving_man, capture_square, cases_Bool, cond-false, cond-true, corner, eq-eqb, eqb-true, false, false_from_ne_true, file_of, halfway, inl, inr, is_castling, is_crossed_right, is_diagonal, is_man, is_man-without, is_promotion_right, is_some, is_square, leaps, list_any, man_on, man_on-without_none, man_on-without_other, queen_steps, rank_of, reaches, reaches_as, refl, rules, same_colour, same_kind, same_kind-true, square_at, square_at-is, sym, true, was_passed, with_man, without_at, without_man, ℕ, ◌&&◌, ◌∙◌, ◌≡◌, ◌≢◌}
 use Rattle.chess_rules.proofs.making_moves.Castles.{no_king_left, same_colour_self}
 use Rattle.chess_rules.proofs.making_moves.Plays.{stays_empty}
-use Rattle.chess_rules.proofs.making_moves.Pseudo.{IsCastle, IsMade, IsPawnTake, king_castles, king_is_no_pawn, made, on_board, pawn_goes, pawn_reaches, ways}
-use Rattle.chess_rules.proofs.rays.Ends.{square_is}
-use Rattle.chess_rules.proofs.rays.Tables.{king_step_is_no_castling}
+use Rattle.chess_rules.proofs.making_moves.Pseudo.{IsCastle, IsMade, IsPawnTake, king_castles, king_is_no_pawn, made, pawn_goes, pawn_reaches, ways}
+use Rattle.chess_attacks.proofs.rays.OnSquares.{on_board}
+use Rattle.chess_attacks.proofs.rays.Ends.{square_is}
+use Rattle.chess_attacks.proofs.rays.Tables.{king_step_is_no_castling}
 
 -- an enemy is on the capture square, not on the origin, and is no king
 pub record IsTaken (p : Position) (m : Move) (s : ℕ) : Type 0 where

@@ -6,7 +6,7 @@ use Rattle.chess_core.specs.Squares.{is_square}
 use Rattle.chess_core.specs.ties.Words.{word}
 use Rattle.chess_core.specs.declared.man.Man.{Man}
 use Rattle.chess_rules.specs.Legal.{is_legal}
-use Rattle.chess_rules.specs.RuleSet.{RuleSet, captures_do_more}
+use Rattle.chess_attacks.specs.RuleSet.{RuleSet, captures_do_more}
 use Rattle.chess_rules.specs.declared.counting.Candidates.{Candidates}
 use Rattle.chess_rules.specs.declared.counting.Legality.TheVariants.{Sure}
 use Rattle.chess_rules.specs.declared.legal_moves.Known.{Known}

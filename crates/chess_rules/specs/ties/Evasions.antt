@@ -7,12 +7,12 @@ use Rattle.chess_core.specs.declared.man.Man.{Man}
 use Rattle.chess_core.specs.declared.man.Move.{Move}
 use Rattle.chess_core.specs.declared.man.Colour.{Colour}
 use Rattle.chess_core.specs.declared.man.Kind.TheVariants.{Queen}
-use Rattle.chess_rules.specs.Attacks.{in_check}
+use Rattle.chess_attacks.specs.Attacks.{in_check}
 use Rattle.chess_rules.specs.Legal.{is_pseudo_legal}
 use Rattle.chess_rules.specs.Play.{position_after}
-use Rattle.chess_rules.specs.Reaches.{reaches, reaches_as}
+use Rattle.chess_attacks.specs.Reaches.{reaches, reaches_as}
 use Rattle.chess_rules.specs.ties.Shields.{has_fairy_lines}
-use Rattle.chess_rules.specs.RuleSet.{RuleSet, faced_men_stand_still}
+use Rattle.chess_attacks.specs.RuleSet.{RuleSet, faced_men_stand_still}
 
 -- a move to t parries the check by the man on q to the king of colour c on k: it captures the checker, or
 -- arrives between them, on a square that a queen reaches from both

@@ -12,11 +12,12 @@ use Rattle.chess_core.specs.declared.man.Kind.TheVariants.{Queen, Rook, Bishop, 
 use Rattle.chess_rules.specs.Play.{is_castling}
 use Rattle.std.specs.List.{list_any}
 use Rattle.chess_core.specs.Steps.{Step, diagonal_steps, gait_of, is_leaper, knight_steps, queen_steps, straight_steps}
-use Rattle.chess_rules.specs.ties.Lines.{is_ahead, is_on_some}
-use Rattle.chess_rules.specs.Reaches.{reaches, rides}
+use Rattle.chess_attacks.specs.ties.Lines.{is_lined, is_on_some}
+use Rattle.chess_attacks.specs.Reaches.{reaches, rides}
 use Rattle.chess_rules.specs.declared.shields.RiderLines.{RiderLines}
 use Rattle.chess_rules.specs.declared.shields.RiderLines.TheVariants.{Straight, Diagonal}
-use Rattle.chess_rules.specs.RuleSet.{RuleSet, captures_do_more}
+use Rattle.chess_attacks.specs.RuleSet.{RuleSet, captures_do_more}
+use Rattle.chess_attacks.specs.ties.Outward.{is_reached}
 
 -- men of this kind are fairy men that move along lines: riders or hoppers
 abbrev pub has_fairy_lines : Kind → Bool
@@ -27,15 +28,6 @@ unfoldable pub has_fairy : List (Option Man) → Colour → Bool
 has_fairy men c =
     some_square (λ s. is_man (man_on men s) c Grasshopper)
     || some_square (λ s. is_man (man_on men s) c Nightrider)
-
--- some man of colour e reaches k, paralysed or not
-unfoldable pub is_reached : List (Option Man) → ℕ → Colour → Bool
-is_reached men k e = some_square (λ s. is_of_colour (man_on men s) e && reaches men s k)
-
--- t is on a line from k by this step, and a man of colour e and kind j is on the line too
-abbrev pub is_lined : List (Option Man) → Colour → Kind → ℕ → ℕ → Step → Bool
-is_lined men e j k t d = is_ahead k d t && some_square
-    (λ q. is_man (man_on men q) e j && is_ahead k d q)
 
 -- t is on a queen's line from k that carries a grasshopper of colour e, or on a nightrider's line from k
 -- that carries a nightrider of colour e

@@ -1,5 +1,5 @@
 -- Arrival squares, candidate squares, and ranges of triples without a move (own).
-use Rattle.std.specs.Prelude.{◌≡◌, ℕ, ◌<◌, Bool, false, true, not, ◌&&◌, ◌||◌, ◌==◌, List, Option, Some, None, is_some, if◌then◌else◌}
+use Rattle.std.specs.Prelude.{◌≡◌, ℕ, ◌<◌, Bool, false, true, not, ◌&&◌, ◌||◌, ◌==◌, Option, Some, None, is_some, if◌then◌else◌}
 use Rattle.std.specs.Int.{bit_at}
 use Rattle.chess_core.specs.Castling.{has_unmoved}
 use Rattle.chess_core.specs.Position.{Position, man_on, same_colour, same_kind}
@@ -8,10 +8,11 @@ use Rattle.chess_core.specs.Steps.{along, step_by}
 use Rattle.chess_core.specs.declared.man.Kind.TheVariants.{King, Pawn}
 use Rattle.chess_core.specs.declared.man.Man.{Man}
 use Rattle.chess_core.specs.declared.man.Move.{Move}
-use Rattle.chess_rules.specs.Attacks.{is_paralysed}
-use Rattle.chess_rules.specs.Legal.{forward, is_arrival_free, last_rank, is_pawn_step}
-use Rattle.chess_rules.specs.Reaches.{reaches_as}
-use Rattle.chess_rules.specs.RuleSet.{RuleSet}
+use Rattle.chess_attacks.specs.Attacks.{is_paralysed}
+use Rattle.chess_attacks.specs.Reaches.{forward}
+use Rattle.chess_rules.specs.Legal.{is_arrival_free, last_rank, is_pawn_step}
+use Rattle.chess_attacks.specs.Reaches.{reaches_as}
+use Rattle.chess_attacks.specs.RuleSet.{RuleSet}
 use Rattle.chess_rules.specs.declared.targets.Kept.{Kept}
 
 -- a pawn goes one or two squares forward, a king two files to either side
@@ -33,12 +34,6 @@ may_go p x s t =
     if same_kind x.kind Pawn then (reaches_as p.men x.colour x.kind s t
     && (is_some (man_on p.men t) || is_square p.crossed t)) || pawn_goes p x s t
     else reaches_as p.men x.colour x.kind s t || (has_unmoved p.unmoved s && steps_to x s t)
-
--- w holds each square that x on s reaches on some board
-pub record AreReached (x : Man) (s w : ℕ) : Type 0 where
-  pub inside : (men : List (Option Man)) (t : ℕ) → t < 64
-      → reaches_as men x.colour x.kind s t ≡ true
-      → (bit_at w t == 1) ≡ true
 
 -- this man, if there is one, is the mover's, isn't paralysed and goes to t, which holds no man of the mover
 -- and no king

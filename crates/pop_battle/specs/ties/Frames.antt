@@ -13,7 +13,7 @@ use Rattle.chess_core.specs.Undo.{Undo}
 use Rattle.chess_mates.specs.ties.Aims.{aims_at_king}
 use Rattle.chess_rules.specs.ties.Places.{IsPlaceIn, LegalPlace, moves_behind, moves_between, place_of}
 use Rattle.chess_rules.specs.Play.{undo_of}
-use Rattle.chess_rules.specs.RuleSet.{RuleSet}
+use Rattle.chess_attacks.specs.RuleSet.{RuleSet}
 use Rattle.pop_battle.specs.Chess.{chess}
 use Rattle.pop_battle.specs.Walks.{walk_count}
 use Rattle.pop_battle.specs.ties.Counts.{smallest_below}

@@ -5,7 +5,7 @@ use Rattle.chess_core.specs.declared.man.Move.{Move}
 use Rattle.chess_rules.specs.ties.Places.{moves_behind}
 use Rattle.chess_mates.specs.ties.Mates.{allows_mate}
 use Rattle.chess_rules.specs.Legal.{is_legal}
-use Rattle.chess_rules.specs.RuleSet.{RuleSet}
+use Rattle.chess_attacks.specs.RuleSet.{RuleSet}
 
 -- the moves after `place` are `over`, of which `what` holds, and then `rest`, the moves after a later place
 pub record Passes (rule : RuleSet) (p : Position) (place : ℕ) (rest : List Move)

@@ -3,7 +3,7 @@ ghost use Rattle.std.specs.Prelude.{◌≡◌, ◌<◌, None, Some, MatchBool};
 ghost use Rattle.chess_core.specs.Castling.{mark_unmoved};
 ghost use Rattle.chess_core.specs.Diagrams.{position_of};
 ghost use Rattle.chess_core.specs.WellFormed.{IsWellFormed};
-ghost use Rattle.chess_rules.specs.Attacks.{in_check};
+ghost use Rattle.chess_attacks.specs.Attacks.{in_check};
 ghost use Rattle.pop_input.specs.Posed.{rule_of};
 ghost use Rattle.pop_input.specs.Ends.{counts_as_unmoved, diagram_fault, diagram_of, position_fault, unmoved_of};
 ghost use Rattle.pop_input.specs.Blocks.{posed_entry};
@@ -16,11 +16,11 @@ use crate::fault_kind::FaultKind;
 use crate::item::{Fault, Item, Last};
 use crate::problem::{Problem, Texts};
 use crate::stipulation::{Form, Stipulation};
+use chess_attacks::{Circe, Madrasi, Orthodox, in_check};
 use chess_core::board::Board;
 use chess_core::diagram::Diagram;
 use chess_core::man::{Colour, Unmoved};
 use chess_core::square::Square;
-use chess_rules::rules::{Circe, Madrasi, Orthodox, in_check};
 use pop_text::text::Text;
 
 impl Draft {

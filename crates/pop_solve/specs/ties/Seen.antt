@@ -4,7 +4,7 @@ use Rattle.chess_rules.specs.Play.{position_after}
 use Rattle.chess_rules.specs.Legal.{moves as legal_moves}
 use Rattle.std.specs.Prelude.{◌≡◌, ℕ, ◌+◌, ◌==◌, true, if◌then◌else◌, List, length}
 use Rattle.chess_core.specs.Position.{Position}
-use Rattle.chess_rules.specs.RuleSet.{RuleSet}
+use Rattle.chess_attacks.specs.RuleSet.{RuleSet}
 use Rattle.pop_battle.specs.Game.{path_end}
 use Rattle.pop_battle.specs.Chess.{chess}
 use Rattle.pop_solve.specs.ties.Walk.{fewest_walked}

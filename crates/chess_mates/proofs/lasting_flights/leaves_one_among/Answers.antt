@@ -1,7 +1,7 @@
 use Rattle.chess_mates.proofs.Chess.{bit_and, bit_at, cases_Bool, eq-eqb, eqb-true, inl, inr, off_second, off_zero, rules, sym, ◌==◌, ◌∙◌}
 use Rattle.chess_mates.proofs.Hurdles.{found_on}
 use Rattle.chess_mates.proofs.lasting_flights.leaves_one_among.Goals as goal
-use Rattle.chess_rules.proofs.rays.Firsts.{has_bit, top_bit}
+use Rattle.chess_attacks.proofs.rays.Firsts.{has_bit, top_bit}
 
 pub highest-last-requires : goal.highest-last-requires
 highest-last-requires c =

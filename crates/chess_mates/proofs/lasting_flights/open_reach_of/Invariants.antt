@@ -1,5 +1,5 @@
 use Rattle.chess_mates.proofs.Chess.{HoldTaken}
-use Rattle.chess_rules.specs.ties.Targets.{AreReached}
+use Rattle.chess_attacks.specs.ties.Lines.{AreReached}
 use Rattle.chess_mates.proofs.lasting_flights.open_reach_of.Given as goal
 
 abbrev pub invariant-loop-from : goal.invariant-loop-from

@@ -3,7 +3,7 @@ use Rattle.chess_mates.proofs.Hurdles.{found_on}
 use Rattle.chess_mates.proofs.KeptFlights.{on_highest}
 use Rattle.chess_mates.proofs.QuietSieve.{all_left}
 use Rattle.chess_mates.proofs.standing_flights.taking_squares.Goals as goal
-use Rattle.chess_rules.proofs.rays.Firsts.{has_bit}
+use Rattle.chess_attacks.proofs.rays.Firsts.{has_bit}
 
 pub returns-in_default : goal.returns-in_default
 returns-in_default c = λ t small off. all_left t small off

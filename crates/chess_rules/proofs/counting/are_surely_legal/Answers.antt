@@ -1,5 +1,5 @@
 use Rattle.chess_rules.proofs.Chess.{arith, sym, ◌∙◌}
-use Rattle.chess_rules.proofs.listing_moves.Walks.{off_zero}
+use Rattle.chess_attacks.proofs.Bits.{off_zero}
 use Rattle.chess_rules.proofs.counting.are_surely_legal.Goals as goal
 
 pub returns-then-squares-eq0 : goal.returns-then-squares-eq0

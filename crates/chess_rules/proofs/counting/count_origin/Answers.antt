@@ -1,4 +1,4 @@
-use Rattle.chess_rules.proofs.Basics.{arith}
+use Rattle.chess_attacks.proofs.Basics.{arith}
 use Rattle.chess_rules.proofs.listing_moves.Counting.{count_by_word, count_whole}
 use Rattle.chess_rules.proofs.counting.count_origin.Goals as goal
 

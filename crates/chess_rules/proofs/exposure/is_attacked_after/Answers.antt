@@ -1,5 +1,5 @@
-use Rattle.chess_rules.proofs.Basics.{rules}
-use Rattle.chess_rules.proofs.attacks.Attacking.{attacked_plainly}
+use Rattle.chess_attacks.proofs.Basics.{rules}
+use Rattle.chess_attacks.proofs.attacks.Attacking.{attacked_plainly}
 use Rattle.chess_rules.proofs.attacks.Exposing.{attacked_after}
 use Rattle.chess_rules.proofs.exposure.is_attacked_after.Goals as goal
 

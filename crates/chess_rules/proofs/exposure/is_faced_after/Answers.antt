@@ -1,4 +1,4 @@
-use Rattle.chess_rules.proofs.Basics.{◌∙◌}
+use Rattle.chess_attacks.proofs.Basics.{◌∙◌}
 use Rattle.chess_rules.proofs.attacks.Exposing.{faced_after}
 use Rattle.chess_rules.proofs.exposure.is_faced_after.Goals as goal
 

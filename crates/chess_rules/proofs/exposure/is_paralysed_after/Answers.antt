@@ -1,4 +1,4 @@
-use Rattle.chess_rules.proofs.Basics.{rules}
+use Rattle.chess_attacks.proofs.Basics.{rules}
 use Rattle.chess_rules.proofs.attacks.Exposing.{paralysed_by}
 use Rattle.chess_rules.proofs.exposure.is_paralysed_after.Goals as goal
 

@@ -1,5 +1,5 @@
 use Rattle.chess_rules.proofs.Chess.{arith, refl}
-use Rattle.chess_rules.proofs.HoldTaken.{none_fails, one_fails, pass_next}
+use Rattle.chess_attacks.proofs.HoldTaken.{none_fails, one_fails, pass_next}
 use Rattle.chess_rules.proofs.exposure.some_free_after.Goals as goal
 
 pub returns-then-not-is_paralysed_after : goal.returns-then-not-is_paralysed_after

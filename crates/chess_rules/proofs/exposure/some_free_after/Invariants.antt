@@ -1,5 +1,5 @@
 use Rattle.chess_rules.proofs.Chess.{AreArrived, AreOthers, List, Man, Option, is_paralysed}
-use Rattle.chess_rules.proofs.HoldTaken.{PassTaken}
+use Rattle.chess_attacks.proofs.HoldTaken.{PassTaken}
 use Rattle.chess_rules.proofs.exposure.some_free_after.Given as goal
 
 abbrev pub invariant-loop-square : goal.invariant-loop-square

@@ -1,5 +1,5 @@
-use Rattle.chess_rules.proofs.attacks.Attacking.{attackers_are}
-use Rattle.chess_rules.proofs.rays.Riding.{met_by_rides}
+use Rattle.chess_attacks.proofs.attacks.Attacking.{attackers_are}
+use Rattle.chess_rules.proofs.attacks.Riding.{met_by_rides}
 use Rattle.chess_rules.proofs.shields.checkers_of.Goals as goal
 
 pub returns : goal.returns

@@ -1,4 +1,4 @@
-use Rattle.chess_rules.proofs.Basics.{rules}
+use Rattle.chess_attacks.proofs.Basics.{rules}
 use Rattle.chess_rules.proofs.attacks.FairyLines.{fairy_lines_are, no_king_lined}
 use Rattle.chess_rules.proofs.shields.lines_with_fairy_men.Goals as goal
 

@@ -1,5 +1,5 @@
 use Rattle.chess_rules.proofs.Chess.{List, Man, Option, bit_or, occupied_squares, steps_along, word, ◌≡◌}
-use Rattle.chess_rules.proofs.rays.Riding.{ridden_by}
+use Rattle.chess_rules.proofs.attacks.Riding.{ridden_by}
 use Rattle.chess_rules.proofs.shields.ridden_squares.Given as goal
 
 abbrev pub invariant-loop-rider : goal.invariant-loop-rider

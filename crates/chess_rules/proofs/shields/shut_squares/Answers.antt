@@ -1,5 +1,5 @@
-use Rattle.chess_rules.proofs.Basics.{rules}
-use Rattle.chess_rules.proofs.rays.Riding.{none_shut, shut_are}
+use Rattle.chess_attacks.proofs.Basics.{rules}
+use Rattle.chess_rules.proofs.attacks.Riding.{none_shut, shut_are}
 use Rattle.chess_rules.proofs.shields.shut_squares.Goals as goal
 
 pub returns-then-riders-eq0 : goal.returns-then-riders-eq0

@@ -1,5 +1,6 @@
 use Rattle.chess_rules.proofs.Chess.{arith}
-use Rattle.chess_rules.proofs.listing_moves.Walks.{none-plain, off_zero}
+use Rattle.chess_rules.proofs.listing_moves.Walks.{none-plain}
+use Rattle.chess_attacks.proofs.Bits.{off_zero}
 use Rattle.chess_rules.proofs.sought.next_of_piece.Goals as goal
 
 pub returns-then-number-end-clause-none : goal.returns-then-number-end-clause-none

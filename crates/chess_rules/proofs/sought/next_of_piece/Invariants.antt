@@ -1,5 +1,5 @@
 use Rattle.chess_rules.proofs.Chess.{None, bit_at, false, true, ℕ, ◌<◌, ◌==◌, ◌≡◌, ◌≤◌}
-use Rattle.chess_rules.proofs.HoldTaken.{HoldTaken}
+use Rattle.chess_attacks.proofs.HoldTaken.{HoldTaken}
 use Rattle.chess_rules.proofs.listing_moves.Targeting.{arrival_from}
 use Rattle.chess_rules.proofs.sought.next_of_piece.Given as goal
 

@@ -1,4 +1,4 @@
-use Rattle.chess_rules.proofs.Basics.{arith, rules}
+use Rattle.chess_attacks.proofs.Basics.{arith, rules}
 use Rattle.chess_rules.proofs.listing_moves.Places.{first_behind-end, first_behind-here, first_behind-none, moves_behind-end, moves_behind-next, moves_behind-none, place_of_none, place_of_triple}
 use Rattle.chess_rules.proofs.legal_moves.LegalMoves.next.Goals as goal
 

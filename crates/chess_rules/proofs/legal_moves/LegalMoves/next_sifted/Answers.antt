@@ -1,5 +1,5 @@
 use Rattle.chess_rules.proofs.listing_moves.Sifting.{next_sifted}
-use Rattle.chess_rules.proofs.Basics.{arith}
+use Rattle.chess_attacks.proofs.Basics.{arith}
 use Rattle.chess_rules.proofs.legal_moves.LegalMoves.next_sifted.Goals as goal
 
 pub returns-clause-passed : goal.returns-clause-passed

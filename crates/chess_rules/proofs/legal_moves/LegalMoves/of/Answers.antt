@@ -1,4 +1,4 @@
-use Rattle.chess_rules.proofs.Basics.{rules}
+use Rattle.chess_attacks.proofs.Basics.{rules}
 use Rattle.chess_rules.proofs.legal_moves.LegalMoves.of.Goals as goal
 
 pub returns-clause-place : goal.returns-clause-place

@@ -1,0 +1,11 @@
+pub mod Basics
+pub mod Chess
+pub mod Typed
+pub mod ExamplesOfReach
+pub mod Tests
+pub mod Bits
+pub mod LowestBit
+pub mod HoldTaken
+pub mod rays
+pub mod attacks
+pub mod Excluded

@@ -1,0 +1,2 @@
+-- What attacks a square.
+pub mod Attacking

@@ -1,0 +1,4 @@
+pub mod Attacks
+pub mod Reaches
+pub mod RuleSet
+pub mod ties

@@ -1,0 +1,4 @@
+pub mod Lines
+pub mod Outward
+pub mod Sight
+pub mod Taking

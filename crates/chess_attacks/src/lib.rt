@@ -1,0 +1,37 @@
+//! Where men move and what they attack: attack, paralysis and check in orthodox chess, Circe and Madrasi.
+//!
+//! ```rust
+//! use chess_attacks::{Orthodox, Rules, in_check};
+//! use chess_core::{Board, Colour, Diagram, Kind, Man, Square};
+//!
+//! // White Kg6 Ra8, Black Kg8.
+//! let mut diagram = Diagram::new();
+//! for (number, colour, kind) in [
+//!     (46, Colour::White, Kind::King),
+//!     (56, Colour::White, Kind::Rook),
+//!     (62, Colour::Black, Kind::King),
+//! ] {
+//!     let _ = diagram.put(Square::numbered(number), Man { colour, kind });
+//! }
+//! if diagram.is_well_formed() {
+//!     let board = Board::of(&diagram);
+//!     assert!(rt; in_check::<Orthodox>(&board, Colour::Black));
+//!     assert!(rt; Orthodox::attacked(&board, Square::numbered(63), Colour::White));
+//! }
+//! ```
+//!
+//! The items re-exported at the root are the interface. The public modules serve `chess_rules` and
+//! `chess_mates` only: bitboards of lines, leaps, rides and attackers. No call changes a board or allocates.
+#![tactic(auto)]
+
+mod geometry;
+pub mod leaps;
+pub mod lines;
+pub mod open_board;
+pub mod outward;
+pub mod reach;
+pub mod rules;
+pub mod sight;
+pub mod words;
+
+pub use crate::rules::{Circe, Madrasi, Orthodox, Rules, in_check};

@@ -1,5 +1,0 @@
-use Rattle.chess_rules.proofs.Chess.{both_lists, rules}
-use Rattle.chess_rules.proofs.lines.queen_rides.Goals as goal
-
-pub returns : goal.returns
-returns c = search (rules, both_lists, c.straight_rides.ensures, c.diagonal_rides.ensures)

@@ -1,9 +1,0 @@
-use Rattle.chess_rules.proofs.Chess.{rules, ◌<◌}
-use Rattle.chess_rules.proofs.rays.Ahead.{ordered}
-use Rattle.chess_rules.proofs.rays.Stopping.{ride_is}
-use Rattle.chess_rules.proofs.lines.ride.Goals as goal
-
-pub returns : goal.returns
-returns c = λ men held.
-    let small : c.args.from < 64 = rw c.index-small.ensures.value at c.index-small.ensures.small in
-    search (rules, ride_is, ordered, small, c.ray-ray.ensures, held, c.up_to_first.ensures)

@@ -1,5 +1,0 @@
-use Rattle.chess_rules.proofs.Chess.{four, rules}
-use Rattle.chess_rules.proofs.lines.steep_rides.Goals as goal
-
-pub returns : goal.returns
-returns c = search (rules, four, c.ride.ensures, c.ride-2.ensures, c.ride-3.ensures, c.ride-4.ensures)

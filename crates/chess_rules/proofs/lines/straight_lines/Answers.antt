@@ -1,6 +1,0 @@
-use Rattle.chess_rules.proofs.Basics.{rules}
-use Rattle.chess_rules.proofs.rays.Computed.{straight_lines_at}
-use Rattle.chess_rules.proofs.lines.straight_lines.Goals as goal
-
-pub returns : goal.returns
-returns c = search (rules, straight_lines_at)

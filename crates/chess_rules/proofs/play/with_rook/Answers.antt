@@ -1,5 +1,0 @@
-use Rattle.chess_rules.proofs.Basics.{rules}
-use Rattle.chess_rules.proofs.play.with_rook.Goals as goal
-
-pub returns-then-is : goal.returns-then-is
-returns-then-is c = search rules
