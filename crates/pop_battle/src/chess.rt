@@ -7,8 +7,8 @@ ghost use Rattle.chess_rules.specs.Attacks.{in_check};
 ghost use Rattle.chess_rules.specs.Legal.{is_legal};
 ghost use Rattle.chess_rules.specs.ties.Places.{IsPlaceIn, moves_behind, moves_between, place_of};
 ghost use Rattle.chess_mates.specs.ties.Mates.{IsNextMate, mates_behind};
-ghost use Rattle.pop_input.specs.declared.stipulation.Goal.{Goal};
-ghost use Rattle.pop_input.specs.declared.stipulation.Goal.TheVariants.{Mate};
+ghost use Rattle.pop_stipulation.specs.declared.stipulation.Goal.{Goal};
+ghost use Rattle.pop_stipulation.specs.declared.stipulation.Goal.TheVariants.{Mate};
 ghost use Rattle.pop_battle.specs.ties.Calls.{Finds, IsOnMate};
 ghost use Rattle.pop_battle.specs.Chess.{chess, is_impossible, set_start};
 ghost use Rattle.pop_events.specs.Shown.{castling_side, mark_of, reborn_man, shown_of};
@@ -28,7 +28,7 @@ use chess_rules::moves::{Moves, has_legal_move, is_mate, is_stalemate};
 use chess_rules::play::{Undo, is_castling};
 use chess_rules::rules::{Rules, in_check};
 use pop_events::shown::{Mark, Shown, Side};
-use pop_input::stipulation::Goal;
+use pop_stipulation::stipulation::Goal;
 
 /// The place among the moves of the board's position, of which something may be known already.
 pub(crate) fn moves_at<R: Rules>(

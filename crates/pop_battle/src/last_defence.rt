@@ -8,7 +8,7 @@ ghost use Rattle.chess_rules.specs.Play.{position_after};
 ghost use Rattle.chess_rules.specs.RuleSet.{captures_do_more};
 ghost use Rattle.chess_rules.specs.ties.Places.{IsPlaceIn};
 ghost use Rattle.chess_rules.specs.ties.Sifting.{SomeFails};
-ghost use Rattle.pop_input.specs.declared.stipulation.Goal.TheVariants.{Mate};
+ghost use Rattle.pop_stipulation.specs.declared.stipulation.Goal.TheVariants.{Mate};
 ghost use Rattle.pop_battle.specs.Chess.{chess};
 ghost use Rattle.pop_battle.specs.declared.aim.Battle.TheVariants.{Direct};
 ghost use Rattle.pop_battle.specs.declared.frame.Stretch.TheVariants.{Killer};
@@ -31,7 +31,7 @@ use chess_mates::kept_flights::KeptFlights;
 use chess_rules::legal_moves::LegalMoves;
 use chess_rules::moves::Moves;
 use chess_rules::rules::Rules;
-use pop_input::stipulation::Goal;
+use pop_stipulation::stipulation::Goal;
 
 /// Whether White, who is to move, mates at once. The move that does is remembered for the next such position, until one has
 /// none.

@@ -5,7 +5,7 @@ ghost use Rattle.chess_mates.specs.ties.QuietSteps.{must_reply_with_mate};
 ghost use Rattle.chess_rules.specs.Legal.{is_legal, moves as legal_moves};
 ghost use Rattle.chess_rules.specs.Play.{position_after};
 ghost use Rattle.chess_rules.specs.ties.Places.{IsPlaceIn, moves_behind};
-ghost use Rattle.pop_input.specs.declared.stipulation.Goal.TheVariants.{Mate};
+ghost use Rattle.pop_stipulation.specs.declared.stipulation.Goal.TheVariants.{Mate};
 ghost use Rattle.pop_battle.specs.Chess.{chess};
 ghost use Rattle.pop_battle.specs.declared.aim.Battle.TheVariants.{Selfmate};
 ghost use Rattle.pop_battle.specs.Walks.{walk_count};
@@ -21,7 +21,7 @@ use chess_core::man::Move;
 use chess_mates::quiet_steps::QuietSteps;
 use chess_rules::legal_moves::LegalMoves;
 use chess_rules::rules::Rules;
-use pop_input::stipulation::Goal;
+use pop_stipulation::stipulation::Goal;
 
 /// Whether Black must mate after White's move. It isn't played where a quiet step of Black's king follows, or no mate.
 #[tactic(auto, using(chess_rules::proofs::listing_moves::Calls::playing, crate::proofs::LastMoves::unforced, crate::proofs::Values::last_half_move))]

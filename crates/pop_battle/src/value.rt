@@ -12,7 +12,7 @@ ghost use Rattle.pop_battle.specs.ties.Frames.{IsTesting, IsOpenedOn, CameFrom, 
 ghost use Rattle.pop_battle.specs.Chess.{chess};
 ghost use Rattle.pop_battle.specs.ties.Calls.{Evaluates};
 ghost use Rattle.pop_battle.specs.ties.Marks.{is_for_mate};
-ghost use Rattle.pop_input.specs.declared.stipulation.Goal.TheVariants.{Mate};
+ghost use Rattle.pop_stipulation.specs.declared.stipulation.Goal.TheVariants.{Mate};
 ghost use Rattle.pop_battle.specs.Game.{can_move as has_move};
 ghost use Rattle.pop_battle.specs.declared.aim.Battle.TheVariants.{Selfmate};
 ghost use Rattle.pop_battle.specs.Walks.{walk_count};
@@ -37,7 +37,7 @@ use chess_core::board::Board;
 use chess_core::man::Move;
 use chess_rules::legal_moves::LegalMoves;
 use chess_rules::rules::Rules;
-use pop_input::stipulation::Goal;
+use pop_stipulation::stipulation::Goal;
 
 /// Whether one good move is enough with `left` half-moves left.
 pub fn seeks(battle: Battle, left: usize) -> bool

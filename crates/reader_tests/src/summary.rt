@@ -3,7 +3,7 @@ use chess_core::{Colour, Diagram, Kind, Man, Square};
 use pop_input::condition::Condition;
 use pop_input::item::Item;
 use pop_input::problem::Problem;
-use pop_input::stipulation::{Form, Goal};
+use pop_stipulation::stipulation::{Form, Goal};
 
 /// A problem: its men by their letters, small for Black, and all that it says besides.
 #[derive(Clone, Copy, PartialEq, Eq)]

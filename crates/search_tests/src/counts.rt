@@ -8,7 +8,7 @@ use chess_rules::rules::{Circe, Madrasi, Orthodox, Rules};
 use chess_rules::{Moves, in_check};
 use pop_input::condition::Condition;
 use pop_input::problem::Problem;
-use pop_input::stipulation::{Form, Goal};
+use pop_stipulation::stipulation::{Form, Goal};
 
 /// How many lists of fewer moves than `half_moves` there are, each legal where it stands.
 #[tactic(auto, using(chess_rules::proofs::listing_moves::Calls::playing))]
