@@ -1,4 +1,4 @@
--- The king's legal steps, told by the squares that his attackers reach.
+-- The king's legal steps, from the squares that its attackers reach.
 use Rattle.chess_mates.proofs.Chess.{AreReached, Attackers, Grasshopper, IfSome, IsAttackedOver, IsNear, IsSiege, IsSiegeOf, IsWellFormed, IsWhole, Man, Move, None, Option, Position, RuleSet, Siege, Some, and_from, and_parts, ap, arith, arrived, bit_and, bit_at, bit_not, capture_of_piece, capture_square, captures_do_more, cases_Bool, faced_men_stand_still, false, false_by, false_from_ne_true, false≢true, inl, inr, is_arrival, is_arrival_free, is_attacked, is_hopper, is_legal, is_open, is_pseudo_legal-from_legal, leaps, list_any, made, man_on, men_on, no_pawn_arrives, not, on_first, other, queen_steps, reached_over, reaches_as, refl, rules, same_kind, same_kind-true, sym, true, true_from_ne_false, w64, word, word_has, ℕ, ◌<◌, ◌==◌, ◌^◌, ◌∙◌, ◌≡◌, ◌≢◌}
 use Rattle.chess_mates.proofs.Fleeing.{IsKingOn, IsKingStep, king_on, may_step, step_is, step_to}
 use Rattle.chess_mates.proofs.FarMen.{off_denied}

@@ -1,4 +1,5 @@
--- What the clauses of check squares and targets exclude: small positions in which the definitions say otherwise than a wrong body would.
+-- What the clauses on check squares and targets exclude: small positions where a wrong body would differ
+-- from the definitions.
 use Rattle.chess_mates.proofs.Chess.{AreCheckTargets, Black, Grasshopper, King, Knight, List, Man, Option, Pawn, Position, Queen, Rook, White, [], arith, bit_at, circe, enemy, false, false≢true, in_check, is_ahead, is_legal, is_on_fairy_line, is_reached, is_shut, may_check_from, may_expose, orthodox, position_after, refl, sym, true, true_from_ne_false, ℕ, ◌==◌, ◌∙◌, ◌∷◌, ◌≡◌}
 use Rattle.chess_rules.specs.ties.Shields.{is_behind}
 use Rattle.chess_rules.proofs.Typed.{go, on, position, set_up}

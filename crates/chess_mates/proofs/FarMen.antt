@@ -1,4 +1,4 @@
--- Men who couldn't come to a check square give no check.
+-- Men that could reach no check square give no check.
 use Rattle.chess_mates.proofs.Chess.{AreApproaches, AreCheckOrigins, AreCheckTargets, Colour, Kind, King, Man, Move, None, Option, Position, RuleSet, Some, arith, bit_and, bit_at, bit_at-lt, bit_at_and, bit_at_not, bit_not, bit_or, cases_Bool, eq-eqb, eqb-true, false, false_by, false≢true, is_legal, is_pseudo_legal-from_legal, is_square, man_on, may_go, off_second, off_zero, on_first, own_man, own_moves, refl, rules, same_colour-true, same_kind, same_kind-true, side_of, squares_of, sym, true, w64, word, word_has, ℕ, ◌<◌, ◌==◌, ◌^◌, ◌∙◌, ◌≡◌}
 use Rattle.chess_mates.proofs.Hurdles.{on_either}
 use Rattle.chess_mates.proofs.CheckTargets.{targets_lack}

@@ -1,4 +1,4 @@
--- What men reach over hurdles, the squares of a word, and later on the board.
+-- What men reach over hurdles, and what they reach later on the board.
 use Rattle.chess_mates.proofs.Chess.{AreReached, Attackers, Bishop, Bool, Colour, Grasshopper, IsAttackedOver, IsNear, IsReached, IsReachedFrom, Kind, King, Knight, List, Man, Nightrider, None, Option, Pawn, Queen, Rook, Some, Step, [], along, arith, bit_at, bit_at-lt, bit_at_or, bit_or, cases_Bool, cases_eq, diagonal_steps, eq-eqb, eqb-true, false, false≢true, find, find_first, gait_of, inl, inr, is_hopper, is_leaper, is_rider, is_some, is_vacant_at, knight_steps, leaps, list_any, man_on, men_on, not, not-true, occupied_squares, on_left, on_right, or_cases, or_left, or_right, other, queen_steps, range_with_len, reached_over, reaches_as, refl, ride-found, ride-made, rides, rules, same_kind, same_kind-true, squares_for, straight_steps, suc, sym, true, word, word_has, zero, ℕ, ◌-◌, ◌<◌, ◌==◌, ◌^◌, ◌||◌, ◌∙◌, ◌∷◌, ◌≡◌, ◌≢◌, ◌≤◌, ◌⊎◌}
 use Rattle.chess_rules.proofs.rays.OnSquares.{empty_on, occupied_on}
 use Rattle.chess_rules.specs.ties.Taking.{IsTaken}

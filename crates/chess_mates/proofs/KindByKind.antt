@@ -1,4 +1,4 @@
--- What holds of attackers kind by kind holds of all.
+-- A property of attackers of each kind is one of all attackers.
 use Rattle.chess_mates.proofs.Chess.{Attackers, Bishop, Colour, Grasshopper, IsAttacker, Kind, King, Knight, Man, Nightrider, Pawn, Queen, Rook, ap, bit_at, refl, squares_for, subst, sym, true, ℕ, ◌<◌, ◌==◌, ◌∙◌, ◌≡◌}
 
 -- a man by his colour and his kind

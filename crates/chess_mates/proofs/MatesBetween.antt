@@ -1,4 +1,4 @@
--- The mates between two places, and the walk that finds them.
+-- The mates between two cursors, and the walk that finds them.
 use Rattle.chess_mates.proofs.Chess.{HaveNone, IsNextMate, Position, RuleSet, [], all_triples, append_cancel_right, arith, cases_lt, filter, filter-append, first_of_and, is_mating, mates, mates_behind, mates_between, min, moves_behind, moves_behind-here, moves_between, place_of_triple, second_of_and, triple_at, true, ℕ, ◌++◌, ◌+◌, ◌<◌, ◌∷◌, ◌≡◌, ◌≤◌}
 use Rattle.chess_rules.proofs.listing_moves.Between.{behind_cut, between-none, between-past}
 use Rattle.chess_mates.proofs.Mating.{mates_behind-end, mates_behind-none, mates_numbered}

@@ -1,4 +1,4 @@
--- The moves that mate, by their numbers.
+-- The moves that mate, by number.
 use Rattle.chess_mates.proofs.Chess.{HaveNone, Move, Position, RuleSet, [], all_triples, and_left, and_right, arith, cases_Bool, false, first_of_and, in_check, is_legal, is_legal-idle, is_mate, is_mating, is_pseudo_legal, is_pseudo_legal-from_legal, maker, mates, mates_behind, moves_behind-end, moves_behind-here, moves_behind-start, not-true, other, position_after, position_after_by, refl, rules, second_of_and, sym, triple_at, true, ℕ, ◌+◌, ◌<◌, ◌∙◌, ◌∷◌, ◌≡◌, ◌≤◌}
 use Rattle.chess_rules.proofs.listing_moves.Sifting.{wanted-none}
 

@@ -1,4 +1,5 @@
--- Castling gives no check where the rook doesn't see the enemy king from his new square, and the king leaves no line to him.
+-- Castling gives no check if the rook doesn't reach the enemy king from its new square and the king leaves
+-- no line to it.
 use Rattle.chess_mates.proofs.Chess.{Bishop, Colour, Grasshopper, IsMade, IsWellFormed, Kind, Man, Move, Nightrider, Position, Rook, RuleSet, Some, Step, and_left, and_right, any_false, arith, eqb-true, false, false_by, halfway, in_check, is_castling, is_fairy, is_lined, is_man, is_on_fairy_line, is_on_some, is_reached, is_rider, is_shut, king_square, king_there, knight_steps, man_on, may_check_from, may_expose, may_stand_between, or_from, other, position_after, queen_steps, reaches_as, refl, rules, some_square_false, straight-back, straight_steps, true, ℕ, ◌<◌, ◌==◌, ◌≡◌}
 use Rattle.chess_rules.proofs.listing_moves.OpenBoard.{rides_on}
 use Rattle.chess_mates.proofs.CastlingChecks.{castling_gives_no_check}

@@ -1,4 +1,4 @@
--- Steps of the king that give no check, told without playing them.
+-- Steps of the king that give no check, found without playing them.
 use Rattle.chess_mates.proofs.Chess.{AreOpen, AreSeen, Bool, Colour, IsUnreached, IsWellFormed, King, List, Man, Move, Position, RuleSet, Some, [], and_from, and_parts, ap, arith, bit_and, bit_at, capture_square, captures_do_more, cond-true, exposed_is, false, is_arrival, is_legal, is_mating, is_open, king_after, king_square, leaps, list_all, list_any, man_on, moves, moves_are_the_legal_moves, not, not_attacked, on_first, other, queen_steps, rules, same_colour, same_colour-true, same_kind, sight_after, subst, sym, true, word, word_has, ℕ, ◌<◌, ◌==◌, ◌∷◌, ◌≡◌}
 use Rattle.chess_mates.proofs.Fleeing.{IsKingStep, king_on, may_step, on_second, reached_near, simple_step, step_to}
 use Rattle.chess_rules.proofs.listing_moves.Members.{in_cases, none_in_nil}

@@ -1,4 +1,4 @@
--- A man who is reborn gives his own king no check, but as a grasshopper's hurdle.
+-- A reborn man gives check to its own king only as a grasshopper's hurdle.
 use Rattle.chess_mates.proofs.Chess.{AreCheckSquares, AtMostOneKing, CheckSquares, Colour, Grasshopper, IsWellFormed, Kind, King, List, Man, Move, None, Option, Position, RuleSet, Some, Step, all_kept, along, and_from, and_parts, any_kept, are_rebirths_quiet, arith, arrived, bit_at, can_castle, cannot_expose, capture_square, captured_enemy, captured_mortal, cases_Bool, check_squares_for, circe, cond-false, cond-true, false, false_from_ne_true, false≢true, in_check, is_absent, is_attacked, is_attacker, is_castling, is_clear, is_man, is_man-without, is_paralysed, is_pseudo_legal, is_square, is_vacant_at, king_is, length, list_all, made, man_on, man_on-with_cases, man_on_at, man_there, may_castle, may_check_from, moved_men, moved_sound, not-true, on_board, orthodox, other, other_twice, position_after, position_after_by, put_at, range_with_len, reaches, reaches_as, reborn_square, refl, rides, rule_of_checks, rules, same_colour, same_kind, some_square_false, some_square_true, sym, true, unreborn_after, with_man, without_man, ℕ, ◌&&◌, ◌-◌, ◌<◌, ◌==◌, ◌∙◌, ◌≡◌}
 use Rattle.chess_mates.proofs.Checking.{no_check, unchecked}
 

@@ -1,4 +1,5 @@
--- Bits of words: the first from a place on, one alone, words that are not 0, and words of several lines joined.
+-- Bitboards: the first square from a number on, a single square, bitboards that aren't empty, and unions of
+-- lines.
 use Rattle.chess_rules.proofs.Basics.{Bool, List, None, Some, [], ap, arith, bit_and, bit_at, bit_at-lt, bit_at-pow_other, bit_at-pow_same, bit_at-trailing_zeros, bit_at-zero, bit_at_and, bit_at_mask_below, bit_at_mask_inside, bit_at_or, bit_not, bit_or, cases_eq, cases_lt, eq-eqb, eqb-true, false, false_from_ne_true, find, list_any, list_any-append, nat_le, not, one_shl, ones_shl, range_with_len, refl, rules, sym, trailing_zeros, true, true_from_ne_false, w64, ℕ, ◌%◌, ◌*◌, ◌++◌, ◌-◌, ◌<◌, ◌==◌, ◌^◌, ◌&&◌, ◌||◌, ◌∙◌, ◌∷◌, ◌≡◌, ◌≤◌}
 use Rattle.chess_core.proofs.Ranges.{find_range_none, find_range_some}
 use Rattle.chess_core.proofs.Words.{square_bit, square_word, squares_both, squares_either, squares_none, squares_not, squares_same, squares_some}

@@ -1,4 +1,4 @@
--- Moves of all sorts, computed from the definitions.
+-- Moves of all kinds, computed from the definitions.
 use Rattle.chess_rules.proofs.Chess.{Bishop, Black, Grasshopper, King, Nightrider, None, Pawn, Position, Rook, Some, White, [], circe, false, is_legal, is_mate, kinds, madrasi, man_on, map, none_unmoved, orthodox, position_after, refl, same_kind, true, with_unmoved, ◌∷◌, ◌≡◌}
 use Rattle.chess_rules.proofs.Typed.{legal_moves, go, man, on, position, promoting, a1, d1, e1, f1, g1, h1, f2, h2, b3, f3, h3, d5, e5, d6, g6, d7, e7, a8, b8, c8, e8, g8, h8}
 

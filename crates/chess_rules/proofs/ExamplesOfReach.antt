@@ -1,4 +1,4 @@
--- How men go and give check, computed from the definitions.
+-- How men move and give check, computed from the definitions.
 use Rattle.chess_rules.proofs.Chess.{Black, Grasshopper, King, Knight, List, Man, Nightrider, Option, Pawn, Rook, White, [], along, faces, faces_its_like, false, hops, in_check, is_attacked, is_attacker, is_clear, is_paralysed, king_square, leaps, madrasi, orthodox, reaches, reaches_as, refl, rides, some_square, squares, true, with_man, ◌∷◌, ◌≡◌}
 use Rattle.chess_rules.proofs.Typed.{man, on, set_up, a1, e1, f1, a3, b3, a4, a5, e5, a6, f6, d7, e7, f7, g7, b8}
 

@@ -1,4 +1,5 @@
--- What the clauses of attack, of lines and of targets exclude: small positions in which the definitions say otherwise than a wrong body would.
+-- What the clauses on attacks, lines and targets exclude: small positions where a wrong body would differ
+-- from the definitions.
 use Rattle.chess_rules.proofs.Chess.{AreEvasions, AreEvasionsFrom, Bishop, Black, Bool, Colour, Grasshopper, IsBarrenFrom, Kind, King, Knight, List, Man, Nightrider, Option, Pawn, Position, Queen, Rook, RuleSet, Some, White, [], agree_below_at, along, and_from, ap, arith, bit_at, can_castle, can_go, cannot_expose, cases_lt, drop, faces, faces_its_like, false, false≢true, filter, find, has_fairy, has_fairy_lines_of, hopped_from, hops, in_check, is_ahead, is_arrival_free, is_attacked, is_behind, is_checker, is_clear, is_evasion, is_legal, is_man, is_met, is_of_colour, is_on_fairy_line, is_on_some, is_paralysed, is_plain, is_pseudo_legal, is_reached, is_shut, king_square, leaps, madrasi, man_on, may_be_paralysed, may_expose, may_go, may_promote, may_stand_between, moves_between, none_unmoved, not, orthodox, pawn_goes, per_arrival, per_origin, position_after, promotion_at, range_with_len, reaches, reaches_as, refl, rides, rides_on, rules, sight_after, some_square, squares, step_by, steps_to, straight_steps, sym, take, triple_at, triples, true, true_from_ne_false, true≢false, with_unmoved, without_man, word, word_of, ℕ, ◌%◌, ◌&&◌, ◌*◌, ◌+◌, ◌-◌, ◌/◌, ◌<◌, ◌==◌, ◌^◌, ◌∙◌, ◌∷◌, ◌≡◌, ◌≤◌}
 use Rattle.chess_rules.proofs.making_moves.Pseudo.{on_board}
 use Rattle.chess_rules.proofs.attacks.StayingInCheck.{side_there}

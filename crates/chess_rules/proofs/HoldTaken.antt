@@ -1,4 +1,4 @@
--- Loops that take the squares of a word one after another.
+-- Loops that remove the squares of a bitboard one after another.
 use Rattle.chess_rules.proofs.Chess.{Bool, None, Option, Some, and_from, and_right, arith, bit_at, cases_Bool, cases_eq, false, false≢true, inl, inr, not, refl, some_square, some_square_false, some_square_true, subst, sym, true, ℕ, ◌&&◌, ◌<◌, ◌==◌, ◌||◌, ◌∙◌, ◌≡◌}
 use Rattle.chess_rules.proofs.attacks.Attacking.{some_square_same}
 use Rattle.std.specs.Prelude.{IfSome}

@@ -1,4 +1,4 @@
--- The last half-moves where mate is the goal, tried without frames: their value, and how many positions they take.
+-- The last half-moves, for mate, tried without frames: their value, and how many positions count.
 use Rattle.pop_battle.proofs.Words.{AreTaken, Battle, Bool, Direct, HasCounted, IfSome, Killer, LegalPlace, List, Mate, Move, None, Option, Order, Passes, Position, RuleSet, Selfmate, Some, [], arith, can_move, chess, cond, eqb, false, filter, is_goal_reached, is_legal, is_mating, is_some, joined_value, length, list_all, list_any, mates_behind, min, moves, moves_ahead, moves_behind, must_reply_with_mate, nat_tests, not, position_after, refl, rules, seeks, smallest_below, smallest_tree, true, value, walk_count, ℕ, ◌&&◌, ◌++◌, ◌+◌, ◌-◌, ◌<◌, ◌^◌, ◌∷◌, ◌≡◌, ◌≤◌, suc, sym, walk_among, ◌∙◌, Aim}
 use Rattle.pop_battle.proofs.Boards.{behind_start, each_one, unreached, walk_count-some}
 use Rattle.pop_battle.proofs.SmallestTrees.{tree-one, trees-end, trees-next, trees-start}

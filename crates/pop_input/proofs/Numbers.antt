@@ -46,7 +46,7 @@ word_small begun draft text = grind (arith, small_if, role_small)
 
 -- Faults.
 
--- no fault, or one with its line and such a number
+-- a fault with its line: no fault, or one numbered from 1 to 19
 abbrev pub SmallFault : Option Fault → Type 0
 SmallFault None = Unit {0}
 SmallFault (Some fault) = (1 ≤ fault.number) × (fault.number ≤ 19)

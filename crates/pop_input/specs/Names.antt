@@ -21,7 +21,7 @@ use Rattle.pop_input.specs.declared.names.Awaited.TheVariants.{Number, OneSquare
 use Rattle.pop_input.specs.declared.names.TextWord.{TextWord}
 use Rattle.pop_input.specs.declared.names.TextWord.TheVariants.{Title, Author, Origin, Remark}
 
--- the entry of a table whose name the word is, in full or as a short form
+-- the value of a word in a table of names, each in full or as a short form
 abbrev pub entry_named : {A : Type 0} → List (List ℕ × A) → List ℕ → Option A
 entry_named table text = option_map (λ entry. entry.1)
     (find (λ entry. is_short_form entry.0 text) table)

@@ -3,8 +3,8 @@
 /// A fairy condition of a problem (Popeye manual, Circe and Madrasi).
 #[derive(Clone, Copy, PartialEq, Eq)]
 pub enum Condition {
-    /// A captured man is reborn on its square of the initial position.
+    /// Circe: a captured man is reborn on its square of rebirth, if that is free.
     Circe,
-    /// A man that is attacked by an enemy man of its own kind is paralysed.
+    /// Madrasi: a man that is attacked by an enemy man of its own kind is paralysed.
     Madrasi,
 }

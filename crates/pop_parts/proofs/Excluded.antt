@@ -1,4 +1,5 @@
--- What the clauses of a list and of parts exclude: text of parts that are refused, a failed sink told as another end or another end as a failed sink,
+-- What the clauses of lists and parts exclude: text of parts that don't exist, a failed sink reported as
+-- another end, or another end as a failed sink,
 -- words used behind the item that is asked for, parts that are numbered from 0, and solutions in a part with whose moves they don't begin.
 use Rattle.pop_parts.proofs.Words.{Appends, Bool, Entry, Faulty, Input, List, Lists, Move, None, Option, Phase, Posed, ReadsItems, RuleSet, Shows, Some, Sound, Word, [], ap, arith, begins_path, begins_so, closings, codes, entries_in, entry_numbered, eqb, false, list_any, outcome_at, part_numbered, parts, refl, slice_get, status_of, tells_failure, text_at, text_in, true, ℕ, ◌∷◌, ◌≡◌, ◌≢◌, ◌≤◌}
 unfoldable use Rattle.pop_input.specs.Names.{command_of}

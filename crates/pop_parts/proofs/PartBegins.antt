@@ -1,4 +1,4 @@
--- How a part begins: behind its first moves stand its solutions.
+-- How a part begins: its solutions come after its first moves.
 use Rattle.pop_parts.proofs.Words.{AreKnown, BareEvent, Bool, Counts, Frame, Game, IsCounted, IsInPart, IsLinked, IsPartOpened, IsRoomy, IsSound, IsWalking, List, Move, Phase, Posed, Position, RuleSet, StandsInPart, [], after_well_formed, ap, append-nil, arith, begun_at, cut-at, eqb, events_left, false, false≢true, game_of, get_or, has_variations, help-play, inl, inr, is_followed, is_for_mate, is_given, is_help, is_legal, is_mate, is_pseudo_legal-from_legal, legal_moves, length, length-append, length-reverse, map, min, moves_behind, nat_tests, nil_from_length, part_events, part_left, part_paths, part_solutions, path, path-length, path-more, path_end, path_end-append, path_end-path, phase_half_moves, phase_paths, phase_start, plan_of, position, position-more, position_after, refl, reverse, rules, seeks_last, shown_paths, some-taken, suc, sym, take, to_come, to_open, true, undo_of, walk_count, walk_length, ℕ, ◌++◌, ◌+◌, ◌-◌, ◌<◌, ◌^◌, ◌∙◌, ◌∷◌, ◌≡◌, ◌≤◌}
 use Rattle.pop_solve.specs.declared.plan.Plan.{Plan}
 use Rattle.pop_battle.proofs.Boards.{behind_start, for_mate}

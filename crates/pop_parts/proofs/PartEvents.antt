@@ -1,4 +1,4 @@
--- What a search of one part gives at a call, and what it opens.
+-- What a call of `PartSearch::next` returns, and what it counts.
 use Rattle.pop_parts.proofs.Words.{BareEvent, Bool, Frame, Gives, IsEnded, IsPartOpened, IsSound, IsWalking, List, Move, Opens, Phase, Posed, Position, RuleSet, StandsInPart, StandsOn, Walks, [], arith, beginning_count, beginning_count-next, begins_solution, cond, eqb, event_of, events_left, false, help-play, in_range, is_help, keep-next, kept_paths, length, length-reverse, nat_tests, part_left, part_paths, path, path-length, path_end-path, path_event, phase_half_moves, phase_paths, phase_start, plan_of, refl, reverse, rules, to_open, true, ℕ, ◌+◌, ◌-◌, ◌<◌, ◌||◌, ◌∷◌, ◌≡◌, ◌≤◌}
 use Rattle.pop_events.specs.declared.event.Event.{Event}
 use Rattle.pop_events.specs.declared.event.Event.TheVariants.{Total}

@@ -1,4 +1,4 @@
--- Lists of moves that begin as a part does: each stands in one part, and the parts joined are all of them.
+-- Lists of moves that begin as a part does: each is in one part, and the parts joined are all of them.
 use Rattle.pop_parts.proofs.Words.{AllPairs, Bool, Contains, Game, IsPlayable, List, Move, Position, Precedes, StandsBefore, [], ap, append-nil, arith, beginnings, begins_path, begins_so, cond, eqb, false, filter, filter-append, first_in, flat_map, flat_map-append, from_flat_map, from_map, in_cases, in_flat_map, in_map, inr, later_in, length, lines_to_goal, map, map-append, map-id, nat_tests, none_in_nil, pairs_flat_map, pairs_map, pairs_nil, pairs_of, path_end, refl, rules, suc, sym, take, true, zero, ℕ, ◌&&◌, ◌++◌, ◌-◌, ◌<◌, ◌∙◌, ◌∷◌, ◌≡◌, ◌≤◌}
 use Rattle.std.proofs.lemmas.List.Folds.{flat_map-map}
 use Rattle.std.proofs.lemmas.Simd.{map-map}

@@ -1,4 +1,4 @@
--- The parts of a phase joined are the phase, and each solution stands in one part.
+-- The parts of a phase joined are the phase, and each solution is in one part.
 use Rattle.pop_parts.proofs.Words.{AllPairs, Bool, Contains, IsPlayable, IsSound, List, Move, Phase, Posed, Precedes, RuleSet, StandsBefore, [], ap, arith, battle-form, beginnings, begins_so, cond, eqb, false, filter, flat_map, flat_map_single, from_filter, from_map, game_of, help-form, help_lines, is_barred, is_help, legal_moves, length, lines_to_goal, map, min, moves_in_order, nat_tests, none_in_nil, pairs_nil, part_depth, part_solutions, parts, phase_half_moves, phase_start, play_of, refl, set_tree, solutions, solutions_by, some_way, subst, suc, sym, true, zero, ℕ, ◌||◌, ◌↔◌, ◌∙◌, ◌∷◌, ◌≡◌, ◌≤◌}
 use Rattle.pop_battle.specs.declared.aim.Battle.{Battle}
 use Rattle.pop_battle.specs.declared.aim.Play.{Play as PlayOfSides}

@@ -1,4 +1,4 @@
--- Parts one behind another.
+-- Parts one after another.
 use Rattle.pop_parts.proofs.Words.{Appends, Begins, IsPrinting, List, Move, Option, Phase, Posed, RuleSet, Some, [], ap, arith, drop, flat_map, length, length-drop, part_text, printing_breaks_off, printing_goes_on, refl, slice_get, suc, take, text_if, zero, ℕ, ◌+◌, ◌-◌, ◌<◌, ◌∙◌, ◌∷◌, ◌≡◌, ◌≤◌}
 
 -- what stands behind a place begins with what stands there

@@ -1,4 +1,4 @@
--- The walk over beginnings: what a step leaves of those still to come.
+-- The walk over first moves: what a step leaves of the lists still to come.
 use Rattle.pop_parts.proofs.Words.{AreKnown, CameFrom, CameFromAt, Frame, IfSome, IsLinked, IsPlaceIn, IsRoomy, IsWalking, IsWellFormed, LegalPlace, List, Move, None, Option, Position, RuleSet, Some, Undo, [], after_well_formed, ap, append-nil, append_assoc, arith, beginnings, chess, drop, is_legal, is_pseudo_legal-from_legal, is_some, length, length-append, length-reverse, map, map-append, map-id, min, moves_behind, nil_from_length, path, position, position_after, refl, reverse, rules, slice_get, suc, sym, true, undo_of, walk_work, zero, ℕ, ◌++◌, ◌+◌, ◌-◌, ◌<◌, ◌^◌, ◌∙◌, ◌∷◌, ◌≡◌, ◌≢◌, ◌≤◌}
 use Rattle.std.proofs.Math.Seq.{drop-nil}
 use Rattle.pop_stipulation.specs.declared.stipulation.Goal.{Goal}

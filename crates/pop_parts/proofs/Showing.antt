@@ -1,4 +1,4 @@
--- The parts that are asked for, in the input that was met.
+-- The requested parts, in the input that was read.
 use Rattle.pop_parts.proofs.Words.{Appends, Begins, Bool, Entry, Faulty, IfSome, IsSeen, Item, List, NextItem, None, Open, Option, Reached, Reads, ReadsItems, Shows, Some, Sound, Standing, UsesItem, [], any_more, ap, arith, closings, entries_in, entry_in, entry_numbered, failures_after, false, first_standing, grew_broken, has_grown, input_met, is_failure, item_reached, item_stops, last_few, length, length-append, list_any, outcome_at, reached_few, reached_start, reads_then, refl, slice_get, start_few, stopped_last, stops_few, sym, taken_of, tells_failure, text_at, ℕ, ◌++◌, ◌+◌, ◌-◌, ◌<◌, ◌||◌, ◌∙◌, ◌∷◌, ◌≡◌, ◌≢◌, ◌≤◌}
 use Rattle.std.proofs.lemmas.Option.{slice_get_past}
 use Rattle.pop_text.proofs.Appending.{appends_none}

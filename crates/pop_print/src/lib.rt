@@ -11,7 +11,7 @@
 //! assert!(rt; sink.text() == b"set\nsolutions: 1\n");
 //! ```
 //!
-//! The interface is the four functions `print_head`, `print_event`, `print_fault` and `print_checked`, and `line`, which
+//! The interface is `print_head`, `print_event`, `print_fault` and `print_checked`, and the module `line`, which
 //! pop_parts uses too. Each function puts whole lines together in a buffer of fixed size and then hands them to the
 //! sink. No call allocates. `specs/` define the texts, one file for each module.
 #![tactic(auto)]

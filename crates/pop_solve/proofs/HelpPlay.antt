@@ -1,4 +1,4 @@
--- The lists of help play.
+-- The lists of moves in help play.
 use Rattle.pop_solve.proofs.Words.{AllPairs, Contains, Game, List, [], arith, false≢true, first_in, from_flat_map, from_map, in_cases, in_flat_map, in_map, inr, length, lines_to_goal, map, none_in_nil, pairs_flat_map, pairs_map, pairs_nil, pairs_of, path_end, refl, suc, true, zero, ℕ, ◌∷◌, ◌≡◌}
 use Rattle.pop_solve.proofs.theorems.Lists.{IsPlayable, StandsBefore}
 

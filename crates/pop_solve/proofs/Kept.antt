@@ -1,4 +1,4 @@
--- The first solutions of a phase, by the paths that begin them.
+-- The first solutions of a phase, from the paths that begin them.
 use Rattle.pop_solve.proofs.Words.{Battle, BattlePlay, Bool, Frame, Game, IsWalking, List, Plan, PlayOfSides, Position, RuleSet, Steps, Walks, [], append-nil, arith, beginning_count, begins_solution, chess, cond, eqb, false, is_help_play, kept_paths, length, moves_behind, nat_tests, is_given, path, position, refl, rules, shown_paths, suc, to_come, true, zero, ℕ, ◌&&◌, ◌+◌, ◌-◌, ◌<◌, ◌||◌, ◌∷◌, ◌≡◌, ◌⊎◌, and_parts, HelpPlay, map-id, nil_from_length}
 use Rattle.pop_solve.proofs.Paths.{path-length}
 

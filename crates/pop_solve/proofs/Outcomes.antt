@@ -1,4 +1,4 @@
--- The outcomes of a step, for frames listed from the top down.
+-- The outcomes of a step, with frames listed from the top down.
 use Rattle.pop_solve.proofs.Words.{AreKnown, Bool, CameFrom, CameFromAt, Counts, Frame, GoesTo, HelpPlay, IfSome, IsCounted, IsLinked, IsPlaceIn, IsRoomy, IsWalking, are_whites, LegalPlace, List, Move, Option, Plan, Position, RuleSet, Steps, [], after_well_formed, ap, arith, chess, eqb, false, fewest_left, fewest_walked, shown_paths, is_followed, is_given, walk_length, inl, inr, is_legal, is_pseudo_legal-from_legal, length, min, moves_behind, opened_frame, path, position, refl, rules, suc, to_come, to_open, true, walk_work, undo_of, has_variations, walk_behind, ℕ, ◌+◌, ◌-◌, ◌<◌, ◌^◌, ◌∷◌, ◌≡◌, ◌⊎◌, position_after}
 use Rattle.pop_battle.specs.ties.Frames.{learned, moved}
 use Rattle.pop_battle.proofs.Tests.{came_from}

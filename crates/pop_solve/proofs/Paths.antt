@@ -1,4 +1,4 @@
--- The path to the top frame, and what is shown of it.
+-- The path to the top frame, and how it is shown.
 use Rattle.pop_solve.proofs.Words.{CameFrom, CameFromAt, Frame, Goal, IsEnded, IsLinked, IsWalking, List, Move, Plan, Position, RuleSet, [], ap, arith, chess, cond, drop, ends_at_goal, get_or, is_legal, left_at_top, length, length-append, length-reverse, length-take, path, path_end, position, refl, reverse, reverse-append, rules, moves_shown, last_shown, shown_move, subst, sym, take, take-append-drop, take_all, take_more, true, has_variations, ℕ, ◌++◌, ◌+◌, ◌-◌, ◌<◌, ◌∙◌, ◌∷◌, ◌≡◌, ◌≤◌, position_after}
 use Rattle.pop_solve.proofs.Outcomes.{CameFrom-deep, walking-close}
 use Rattle.pop_battle.specs.declared.chess.Reached.{Reached}

@@ -1,4 +1,4 @@
--- What is to come from the root frame of a phase is the phase's solutions.
+-- The paths to come from the root frame of a phase are the phase's solutions.
 use Rattle.pop_solve.proofs.Words.{Battle, BattlePlay, Bool, Form, Frame, Game, HelpPlay, IsSound, List, Phase, Plan, Play, PlayOfSides, Posed, RuleSet, Set, [], continuations, ap, arith, beginning_count, best_moves, cond, false, filter, flat_map, game_of, half_moves_of, help_lines, is_help_play, is_help, kept_paths, keeps_win, length, list_all, map, moves_behind, nat_tests, node, nodes_below, phase_half_moves, phase_paths, phase_start, plan_of, play_of, refl, rules, seeks, is_in_set_play, set_tree, shown_paths, has_variations, solutions, solutions_by, suc, sym, take, tree_with, true, value, zero, ℕ, ◌++◌, ◌+◌, ◌-◌, ◌∙◌, ◌∷◌, ◌≡◌, legal_moves, list_all-append}
 use Rattle.pop_solve.proofs.Sound.{helps-form, some_way}
 use Rattle.pop_solve.proofs.Battles.{value-wins, value-self_wins}

@@ -1,4 +1,4 @@
--- What a sound problem's play rests on, and how the sides play.
+-- What a sound problem guarantees, and how its sides play.
 use Rattle.pop_solve.proofs.Words.{Battle, BattlePlay, Form, HelpPlay, arith, false, is_help_play, is_help, play_of, rules, IsSound, IsWellFormed, Phase, Posed, half_moves, is_crossed_right, phase_start, sym, ap, true, ◌≡◌, ◌≤◌, ◌∙◌}
 
 -- a problem has 1 to 32 half-moves

@@ -1,4 +1,4 @@
--- What the walk shows is the tree that the definitions name.
+-- The walk shows exactly the tree of the definitions.
 use Rattle.pop_solve.proofs.Words.{Battle, BattlePlay, Bool, Direct, Game, HelpPlay, List, Plan, Selfmate, [], continuations, ap, append-nil, arith, best_moves, cond, eqb, every_move, false, fewest_half_moves, filter, least_length_from, flat_map, flat_map_single, is_followed, is_given, walk_length, keeps_win, least_moves, lines_to_goal, list_all, map, nat_tests, node, nodes_below, not, shown_length, refl, rules, seeks, shown_paths, suc, sym, true, value, has_variations, zero, ℕ, ◌%◌, ◌*◌, ◌++◌, ◌+◌, ◌-◌, ◌/◌, ◌<◌, ◌||◌, ◌∙◌, ◌∷◌, ◌≡◌, ◌≤◌, inl, inr}
 use Rattle.pop_solve.proofs.Battles.{value-is_lost, value-is_self_lost, value-zero}
 use Rattle.pop_solve.proofs.Lengths.{length-more}

@@ -1,4 +1,5 @@
--- The outcomes of a step for frames listed from the bottom up, as the code holds them, and what its calls hand on.
+-- The outcomes of a step, with frames listed from the bottom up, as the code holds them, and what its calls
+-- return.
 use Rattle.pop_solve.proofs.Words.{all_triples, AreKnown, Bool, CameFrom, CameFromAt, Counts, Frame, GoesTo, IfSome, IsNextMate, IsNextOf, IsPlaceIn, IsRoomy, IsWalking, LegalPlace, List, MatchOption, Mate, Option, Plan, Position, RuleSet, Steps, [], ap, append-nil, arith, chess, eqb, false, is_followed, is_given, walk_length, inl, inr, is_legal, length, length-append, length-reverse, get_or, take, mates_behind, nat_tests, moves_behind, moves_behind-end, position, refl, reverse, reverse-append, rules, seeks_last, suc, sym, true, undo_of, has_variations, ℕ, ◌++◌, ◌+◌, ◌-◌, ◌<◌, ◌∙◌, ◌∷◌, ◌≡◌, ◌≤◌, ◌⊎◌, Move, position_after, opened_frame, nil_from_length}
 use Rattle.std.proofs.lemmas.List.{same_from_push, take_all, take_more}
 use Rattle.pop_battle.specs.ties.Frames.{learned, moved}

@@ -1,4 +1,4 @@
--- A move that goes to no square at which a check is met is not legal.
+-- A move that doesn't arrive where a check is parried isn't legal.
 use Rattle.chess_rules.proofs.Chess.{AreEvasions, AreEvasionsFrom, IsWellFormed, King, Man, Move, Position, RuleSet, Some, and_left, and_parts, and_right, ap, arith, bit_and, bit_at, bit_not, bit_or, captures_do_more, cases_Bool, faced_men_stand_still, false, is_castling, is_plain, is_promoting, is_some, is_square, man_on, may_go, off_left, off_right, refl, rules, same_kind, true, w64, word, word_has, ℕ, ◌<◌, ◌==◌, ◌∙◌, ◌≡◌}
 use Rattle.chess_rules.proofs.attacks.StayingInCheck.{check_unmet}
 use Rattle.chess_rules.proofs.listing_moves.Targeting.{arrival_needed, every_square_on, false_by, no_promotion_here}

@@ -1,4 +1,4 @@
--- Lines of grasshoppers and nightriders to a square: what stands elsewhere changes nothing on them.
+-- Lines of grasshoppers and nightriders to a square: men off the lines don't matter.
 use Rattle.chess_rules.proofs.Chess.{Bool, Colour, Direction, East, EastNorthEast, EastSouthEast, Grasshopper, Kind, List, Man, Nightrider, None, North, NorthEast, NorthNorthEast, NorthNorthWest, NorthWest, Option, Some, South, SouthEast, SouthSouthEast, SouthSouthWest, SouthWest, Step, West, WestNorthWest, WestSouthWest, [], along, and_from, and_left, and_right, any_range_true, ap, arith, bit_and, bit_or, eq-eqb, false, false_from_ne_true, false≢true, has_fairy, hops, is_ahead, is_lined, is_man, is_occupied, is_on_fairy_line, is_on_fairy_line_at, is_square, joined, king_square, knight_steps, list_any, man_on, may_stand_between, not, not_zero, or_cases, or_left, or_parts, or_right, other, place, queen_steps, ray, refl, rides, rules, some_square, some_square_false, some_square_true, squares_both, squares_of, squares_same, step_of, sym, true, word, word_empty, ℕ, ◌&&◌, ◌-◌, ◌<◌, ◌==◌, ◌||◌, ◌∙◌, ◌∷◌, ◌≡◌, ◌≤◌, ◌⊎◌}
 use Rattle.chess_rules.proofs.rays.Ahead.{ordered}
 use Rattle.chess_rules.proofs.attacks.Attacking.{some_square_same}

@@ -1,4 +1,4 @@
--- The men that an attack sees once a move is made.
+-- The men that attacks depend on after a move.
 use Rattle.chess_rules.proofs.Chess.{AreSeen, Bool, Colour, Kind, King, List, Man, None, Option, Some, and_left, ap, arith, bit_and, bit_not, cases_Bool, cases_eq, differs, eq-eqb, eqb-true, every_square, false, false≢true, is_man, is_of_colour, is_some, is_square, joined, king_square, length, man_on, man_on-with_other, man_on-without_other, man_on-without_same, not, or_cases, or_parts, or_right, other, refl, rules, same_colour, shared, sight_after, squares, squares_either, squares_not, squares_of, squares_same, true, w64, with_man, without_at, without_man, word, ℕ, ◌&&◌, ◌<◌, ◌||◌, ◌∙◌, ◌≡◌, ◌≢◌}
 use Rattle.chess_rules.proofs.making_moves.Plays.{stays_empty}
 

@@ -1,4 +1,4 @@
--- A plain move from a square that a queen on the king's doesn't see opens no line to the king.
+-- A plain move from a square that a queen on the king's square doesn't reach opens no line to the king.
 use Rattle.chess_rules.proofs.Chess.{AtMostOneKing, Bishop, Bool, Colour, Diagonal, Direction, East, Grasshopper, IsWellFormed, Kind, King, List, Man, Move, Nightrider, None, North, NorthEast, NorthWest, Option, Position, Queen, Rook, RuleSet, Some, South, SouthEast, SouthWest, Step, Straight, West, [], and_from, and_parts, and_right, any_kept, ap, arith, arriving_man, bit_at, bit_not, bit_or, cannot_expose, capture_square, captures_do_more, cases_Bool, cases_eq, cond-false, cond-true, diagonal_steps, differs, eq-eqb, every_square, false, false_from_ne_true, false≢true, find_first, find_square_some, has_fairy, hops, in_check, inl, inr, is_attacked, is_attacked_at, is_attacker, is_behind, is_castling, is_checker, is_checker_at, is_man, is_of_colour, is_on_fairy_line, is_on_some, is_plain, is_promotion_right, is_pseudo_legal, is_reached, is_shut, is_square, joined, king_square, knight_steps, length, list_any, list_any-append, man_on, may_expose, may_expose_at, may_stand_between, moved_men, not, not-true, not_zero, or_cases, or_left, or_parts, or_right, other, position_after, position_after_by, queen_steps, reaches, reaches_as, reborn_square, refl, rider_along, rides, rules, same_colour, same_kind, second_fails, some_square_false, some_square_true, squares, squares_either, squares_of, squares_same, step_of, steps_along, straight_steps, sym, true, w64, word, word_empty, word_has, ℕ, ◌&&◌, ◌<◌, ◌==◌, ◌||◌, ◌∙◌, ◌∷◌, ◌≡◌, ◌≢◌}
 use Rattle.chess_rules.specs.declared.shields.RiderLines.{RiderLines}
 use Rattle.chess_rules.proofs.rays.Ends.{square_is}

@@ -1,4 +1,4 @@
--- The legal moves between two places.
+-- The legal moves between two cursors.
 use Rattle.std.proofs.Math.Seq.{take-add}
 use Rattle.chess_rules.proofs.Chess.{HaveNone, List, Move, Position, RuleSet, [], all_triples, ap, arith, drop, drop-drop, false, filter-append, is_legal, moves, moves_behind, moves_between, refl, rules, sym, take, take-append-drop, triple_at, triples, true, ℕ, ◌++◌, ◌+◌, ◌-◌, ◌<◌, ◌∙◌, ◌∷◌, ◌≡◌, ◌≤◌}
 use Rattle.chess_rules.proofs.listing_moves.Places.{drop_triples, drop_triples_past, moves_behind-start, over, place_of_triple}

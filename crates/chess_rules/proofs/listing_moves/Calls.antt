@@ -1,4 +1,4 @@
--- The calls of `next` over one position.
+-- Successive calls of `next` on one position.
 use Rattle.chess_rules.proofs.Chess.{List, MatchOption, Move, Option, Position, RuleSet, [], and_parts, arith, drop, drop-drop, is_legal, is_pseudo_legal, moves, moves_behind, place_of, refl, slice_get, suc, true, zero, ℕ, ◌+◌, ◌∷◌, ◌≡◌}
 use Rattle.chess_rules.proofs.listing_moves.Places.{moves_behind-end}
 

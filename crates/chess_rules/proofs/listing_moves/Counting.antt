@@ -1,4 +1,4 @@
--- How many legal moves lie between two places.
+-- The number of legal moves between two cursors.
 use Rattle.std.proofs.lemmas.List.Sums.{count_by-le-length, length-filter}
 use Rattle.std.specs.Int.Count.{ones_step}
 use Rattle.std.specs.Prelude.{count_ones}

@@ -1,4 +1,4 @@
--- The elements of lists that are made of others, and lists whose elements stand in order.
+-- Elements of lists made from other lists, and sorted lists.
 use Rattle.chess_rules.proofs.Basics.{AllPairs, AllPairs-cons, Bool, Contains, Contains-append_cases, Contains-append_left, Contains-append_right, Contains-get_or, List, [], ap, arith, cond, false, false≢true, filter, flat_map, get_or, get_or-map, get_or-range_with_len, inl, inr, length-map, length-range_with_len, map, range_with_len, refl, suc, sym, true, ℕ, ◌++◌, ◌+◌, ◌-◌, ◌<◌, ◌∙◌, ◌∷◌, ◌≡◌, ◌≤◌, ◌⊎◌}
 
 module _ {X : Type 0} where

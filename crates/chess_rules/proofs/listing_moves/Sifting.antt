@@ -1,4 +1,4 @@
--- The legal moves that a sieve takes, passed over by walking from candidate to candidate.
+-- Walking from candidate to candidate passes over the legal moves that a filter takes.
 use Rattle.chess_rules.proofs.Chess.{AreCandidates, AreLegal, AreOrigins, AreSifted, Bool, HaveNone, IsSifted, Move, None, Position, RuleSet, SomeFails, [], all_triples, and_le_l, and_left, ap, append-nil, append_assoc, append_cancel_right, arith, bit_and, bit_at, bit_at-trailing_zeros, bit_at_and, bit_not, cases_Bool, cases_lt, eq-eqb, eqb-true, false, filter, filter-append, is_legal, is_wanted, length, moves_behind, moves_between, passes_to, refl, rules, second_fails, sym, trailing_zeros, triple_at, true, w64, ℕ, ◌++◌, ◌+◌, ◌<◌, ◌==◌, ◌^◌, ◌∙◌, ◌∷◌, ◌≡◌, ◌≤◌}
 use Rattle.std.proofs.lemmas.Nat.Bits.{bit_at_not}
 use Rattle.chess_rules.proofs.listing_moves.Between.{behind_cut, between-past}

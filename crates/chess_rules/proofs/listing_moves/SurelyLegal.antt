@@ -1,4 +1,4 @@
--- Moves that are legal without a look.
+-- Moves that are legal without a test of each.
 use Rattle.chess_rules.proofs.Chess.{AreCandidates, AreLegal, Bool, IsAimed, IsWellFormed, King, Man, Move, None, Pawn, Position, RuleSet, Some, and_from, and_left, arith, bit_and, bit_at, bit_or, cannot_expose, captures_do_more, eqb-true, false, if◌then◌else◌, is_legal, is_plain, is_promoting, is_some, is_square, is_unsure, joined, last_rank, man_on, may_expose, may_stand_between, or_parts, rank_of, refl, rules, same_kind, squares_same, sym, true, word, word_empty, word_has, ℕ, ◌&&◌, ◌<◌, ◌==◌, ◌∙◌, ◌≡◌}
 use Rattle.chess_rules.proofs.attacks.Shielding.{cannot_expose_own}
 use Rattle.chess_rules.proofs.listing_moves.Arrivals.{aimed_plain, goes_on, may_go_aimed}

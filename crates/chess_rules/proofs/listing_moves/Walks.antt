@@ -1,4 +1,4 @@
--- No move is missed by walking from candidate to candidate.
+-- Walking from candidate to candidate misses no move.
 use Rattle.chess_rules.proofs.Chess.{AreCandidates, AreEvasionsFrom, AreOrigins, Bool, HaveNone, IsAimed, IsBarrenFrom, IsNamed, Move, None, Pawn, Position, RuleSet, all_triples, and_parts, and_right, ap, arith, bit_and, bit_at, bit_at-lt, bit_at-zero, bit_at_and, cases_Bool, cases_eq, cases_lt, eq-eqb, eqb-true, false, false≢true, is_arrival, is_legal, is_legal-idle, is_man, is_pseudo_legal, is_some, man_on, not, passes_to, per_arrival, per_origin, promotion_at, refl, rules, side_of, triple_at, true, word, word_has, ℕ, ◌%◌, ◌&&◌, ◌*◌, ◌+◌, ◌-◌, ◌/◌, ◌<◌, ◌==◌, ◌≡◌, ◌≤◌}
 use Rattle.chess_rules.proofs.Basics.{nat_le}
 use Rattle.chess_rules.specs.ties.Taking.{IsTaken}

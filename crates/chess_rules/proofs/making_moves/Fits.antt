@@ -1,4 +1,4 @@
--- A move that may be made can be made on the board.
+-- A pseudo-legal move can be made on the board.
 use Rattle.chess_rules.proofs.Chess.{CanCastle, CanMove, Colour, HasNoKing, IsAt, IsSome, IsWellFormed, Kind, King, List, Man, Move, None, Option, Pawn, Position, RuleSet, Some, and_parts, arith, arriving_man, capture_square, cases_Bool, cond-false, cond-true, corner, eq-eqb, eqb-true, false, false_from_ne_true, file_of, halfway, inl, inr, is_castling, is_crossed_right, is_diagonal, is_man, is_man-without, is_promotion_right, is_some, is_square, leaps, list_any, man_on, man_on-without_none, man_on-without_other, queen_steps, rank_of, reaches, reaches_as, refl, rules, same_colour, same_kind, same_kind-true, square_at, square_at-is, sym, true, was_passed, with_man, without_at, without_man, ℕ, ◌&&◌, ◌∙◌, ◌≡◌, ◌≢◌}
 use Rattle.chess_rules.proofs.making_moves.Castles.{no_king_left, same_colour_self}
 use Rattle.chess_rules.proofs.making_moves.Plays.{stays_empty}

@@ -1,4 +1,4 @@
--- What a move that may be made is made of, check to the mover apart.
+-- What a pseudo-legal move consists of.
 use Rattle.chess_rules.proofs.Chess.{Black, Colour, IsWellFormed, Kind, King, List, Man, Move, None, Option, Pawn, Position, Rook, RuleSet, Some, White, along, along-is, and_parts, arith, can_castle, can_go, cases_lt, cond-false, cond-true, corner, eqb-true, false, file_of, forward, get_or_past, halfway, is_arrival_free, is_home-none, is_home-square, is_pawn_capture, is_pawn_step, is_promotion_right, is_pseudo_legal, is_square, le-ltb, leaps, length, list_any, lt-ltb, man_on, may_castle, or_cases, pawn_capture_steps, rank_of, reaches, reaches_as, rules, same_colour-true, same_kind, same_kind-true, second_rank, true, ℕ, ◌+◌, ◌<◌, ◌≡◌, ◌≢◌, ◌⊎◌}
 use Rattle.chess_rules.proofs.making_moves.Castles.{no_man}
 

@@ -1,4 +1,4 @@
--- The position before a move, found again.
+-- Taking a move back restores the position before it.
 use Rattle.chess_rules.proofs.Chess.{CanCastle, CanReturn, IsSome, IsWellFormed, Kind, List, Man, Move, None, Option, Position, RuleSet, Some, and_parts, arith, arriving_man, before_by, capture_square, captured_man, cases_Bool, corner, halfway, inl, inr, is_castling, is_crossed_right, is_promotion_right, is_pseudo_legal, leaving_man, length, length-set, man_on, man_on-with_same, man_on-without_other, man_on-without_same, man_on_at, moved_men, position_after, position_after_by, put_at, reborn_square, refl, return_square, returned_men, rules, same_kind-true, true, uncastled_men, undo_by, undo_of, without_at, without_man, ℕ, ◌<◌, ◌∙◌, ◌≡◌}
 use Rattle.chess_core.specs.Undo.{Undo}
 use Rattle.chess_rules.proofs.making_moves.Pseudo.{made}

@@ -1,4 +1,4 @@
--- A well-formed position stays well formed.
+-- A move leads from a well-formed position to a well-formed one.
 use Rattle.chess_rules.proofs.Chess.{AtMostOneKing, AtMostOneKing-without, Bool, Colour, HasNoKing, IsWellFormed, Kind, King, List, Man, Move, None, Option, Pawn, Position, Rook, RuleSet, Some, and_from, and_parts, arith, arriving_man, capture_square, captured_man, captures_are_reborn, cases_Bool, cases_eq, cases_lt, cond-false, cond-true, corner, eq-eqb, eqb-true, false, file_of, halfway, has_unmoved, has_unmoved-mark_other, has_unmoved-parts, inl, inr, is_castling, is_crossed_right, is_double_step, is_home, is_home-none, is_man, is_pawn_inside, is_promotion_right, is_pseudo_legal, is_vacant, length, length-set, man_on, man_on-with_other, man_on-with_same, man_on-without_none, man_on-without_other, man_on-without_same, man_on_at, move_man, moved_men, ne_eqb, not-true, or_cases, other, position_after, position_after_by, put_at, rank_of, rebirth, reborn_square, refl, rules, same_colour, same_colour-refl, same_kind, same_kind-true, second_fails, second_rank, set_past, square_at-is, true, unmoved_after, unmoved_with_rook, unmoved_without_at, was_passed, with_man, without_at, without_man, without_unmoved, ℕ, if◌then◌else◌, ◌<◌, ◌≡◌, ◌≢◌, ◌⊎◌}
 use Rattle.chess_core.specs.declared.man.Unmoved.{Unmoved}
 use Rattle.chess_rules.proofs.making_moves.Fits.{arrived, arrived_other, can_move, castle_of, corner_stays, no_capture, pawn_is_no_king, taken}

@@ -1,4 +1,4 @@
--- Lines looked at from their other end.
+-- Lines seen from their other end.
 use Rattle.chess_rules.proofs.Chess.{Bool, None, Option, Some, Step, add-mul, along, and_from, arith, cond, eq-eqb, eqb-true, false≢true, file_of, first_of_and, is_on_board, is_square, le-leb, leb-true, rank_of, refl, rules, second_of_and, some_is, square_at, true, ℕ, ◌&&◌, ◌*◌, ◌+◌, ◌-◌, ◌<◌, ◌≡◌, ◌≤◌}
 
 -- the step the other way

@@ -1,4 +1,4 @@
--- The square of a word that a line passes first, its lowest bit or its highest, and the squares that it doesn't pass behind it.
+-- The first square of a bitboard on a line, its lowest or highest bit, and the squares up to it.
 use Rattle.chess_rules.proofs.Chess.{IsStop, IsUpTo, Step, arith, bit_at, bit_at-lt, bit_at-trailing_zeros, bit_at_above, bit_at_mask_below, bit_at_mask_inside, bit_at_or, bit_at_set_other, bit_at_set_same, bit_of, bit_or, cases_eq, cases_lt, false, ones_shl, or_lt, pow-suc, rises, rules, square_word, suc, trailing_zeros, true, w64, zero, ℕ, ◌%◌, ◌*◌, ◌+◌, ◌-◌, ◌<◌, ◌^◌, ◌≡◌, ◌≤◌}
 use Rattle.chess_rules.proofs.LowestBit.{less_one}
 use Rattle.std.proofs.lemmas.Nat.{xor_lt}

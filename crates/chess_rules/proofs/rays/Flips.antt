@@ -1,4 +1,4 @@
--- Lists of steps that hold each step with its opposite.
+-- Lists of steps that contain the opposite of each of their steps.
 use Rattle.chess_rules.proofs.Chess.{Bool, Colour, Gait, Hopper, Kind, Leaper, List, Man, Option, Rider, Step, [], and_parts, arith, diagonal_steps, eqb-true, false, false≢true, gait_of, goes_by, hopped_from, hops, is_hopper, kind_steps, leaps, list_all, list_any, or_cases, other, queen_steps, reaches_as, refl, rides, rules, same_Bool, straight_steps, sym, true, ℕ, ◌&&◌, ◌<◌, ◌==◌, ◌∷◌, ◌≡◌}
 use Rattle.chess_rules.proofs.rays.Ends.{back, return_square}
 use Rattle.chess_rules.proofs.rays.Ways.{hops-back, rides-back}

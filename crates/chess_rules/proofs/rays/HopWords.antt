@@ -1,4 +1,4 @@
--- The word of a hop.
+-- The bitboard of a hop.
 use Rattle.chess_rules.proofs.Chess.{Bool, Direction, IsStop, List, Man, None, Option, Some, Step, along, ap, arith, bit_at-trailing_zeros, cases_eq, cases_lt, eq-eqb, false, false_from_ne_true, false≢true, first_of_and, hopped_from, hops, inl, inr, is_ahead, is_occupied, is_some, is_square, is_vacant_at, man_on, passing_order_by, place, ray, refl, rides, rides_on, rises, rules, same_Bool, second_of_and, square_word_small, squares_same, step_of, sym, trailing_zeros, true, w64, word, word_empty, word_lacks, ℕ, ◌&&◌, ◌+◌, ◌-◌, ◌<◌, ◌^◌, ◌∙◌, ◌≡◌, ◌≢◌, ◌≤◌}
 use Rattle.chess_rules.proofs.rays.Ahead.{Ordered, Passed, not_later, onward, ordered, passes}
 use Rattle.chess_rules.proofs.rays.Computed.{eighth}

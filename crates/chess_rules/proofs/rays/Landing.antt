@@ -1,4 +1,4 @@
--- What a man reaches doesn't depend on who stands on the square that it reaches.
+-- What a man reaches doesn't depend on the man on the square that it reaches.
 use Rattle.chess_rules.proofs.Basics.{Bool, List, Option, Some, [], and_left, arith, cases_Bool, false, false_from_ne_true, is_some, list_all, list_any, or_from, range_with_len, refl, rules, suc, zero, ℕ, ◌&&◌, ◌+◌, ◌-◌, ◌<◌, ◌||◌, ◌∙◌, ◌∷◌, ◌≡◌, ◌≢◌, ◌≤◌}
 use Rattle.chess_rules.proofs.Chess.{Bishop, Black, Colour, Direction, East, Gait, Hopper, Kind, Knight, Leaper, Man, Nightrider, North, NorthEast, NorthWest, Pawn, Rider, Rook, South, SouthEast, SouthWest, Step, West, White, along, any_range_false, any_range_same, gait_of, goes_by, hops, is_clear, is_occupied, is_square, kind_steps, leaps, man_on, place, reaches_as, rides, step_of}
 use Rattle.chess_rules.proofs.rays.Ends.{square_is}

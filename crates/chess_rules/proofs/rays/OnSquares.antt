@@ -1,4 +1,4 @@
--- Boards with men on the squares of a word alone, and lines where there are none.
+-- Boards with men exactly on the squares of a bitboard, and lines on the empty board.
 use Rattle.chess_rules.proofs.Chess.{Colour, Grasshopper, List, Man, Nightrider, None, Option, Pawn, Queen, Some, Step, White, any_kept, ap, arith, bit_at, bit_at-lt, bit_at-zero, bit_of, cases_lt, get_or-map-range_with_len, hops, if◌then◌else◌, knight_steps, is_occupied, is_some, is_vacant_at, length, length-map-range_with_len, man_on, men_on, occupied_squares, or_left, or_right, queen_steps, reaches_as, rides, rules, square_word, squares, sym, true, ℕ, ◌<◌, ◌==◌, ◌^◌, ◌||◌, ◌∙◌, ◌≡◌}
 use Rattle.chess_rules.proofs.making_moves.Pseudo.{on_board}
 use Rattle.chess_rules.proofs.rays.Ways.{hop-found, ride-found, ride-made}

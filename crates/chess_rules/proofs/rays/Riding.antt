@@ -1,4 +1,4 @@
--- The words of the squares that shut lines.
+-- Bitboards of the squares that block lines.
 use Rattle.std.proofs.lemmas.Nat.Bits.{same_from_bits}
 use Rattle.std.specs.Int.Bits.{or_zero_r}
 use Rattle.chess_rules.proofs.HoldTaken.{none_passes, some_taken}

@@ -1,4 +1,4 @@
--- A ride: the line as far as the first man on it.
+-- A ride: the line up to the first man on it.
 use Rattle.chess_rules.proofs.Chess.{Bool, IsStop, IsUpTo, List, Man, Option, Some, Step, along, and_from, any_range_cases, any_range_false, any_range_true, ap, arith, bit_and, bit_at, cases_lt, eq-eqb, eqb-true, false, false_from_ne_true, false≢true, first_of_and, inl, inr, is_ahead, is_some, is_square, is_vacant_at, le-leb, leb-true, man_on, not, passing_order_by, place, ray, refl, rides, rises, same_Bool, second_of_and, shared, squares_both, squares_same, sym, true, word, word_has, ℕ, ◌&&◌, ◌<◌, ◌∙◌, ◌≡◌, ◌≤◌}
 use Rattle.chess_rules.proofs.rays.Ahead.{Ordered, earlier, passes}
 use Rattle.chess_rules.proofs.rays.Ends.{square_is}

@@ -1,4 +1,4 @@
--- Rides and hops told by how many steps they take.
+-- Rides and hops by their number of steps.
 use Rattle.chess_rules.proofs.Chess.{Bool, List, Man, Option, Some, Step, all_at, all_range_true, along, and_from, and_parts, any_range_cases, any_range_false, any_range_true, ap, arith, eq-eqb, false≢true, first_of_and, hopped_from, hops, is_clear, is_occupied, is_square, is_vacant_at, list_all, list_any, range_with_len, refl, rides, rides_on, rules, same_Bool, second_of_and, true, ℕ, ◌&&◌, ◌+◌, ◌-◌, ◌<◌, ◌∙◌, ◌≡◌, ◌≤◌}
 use Rattle.chess_rules.proofs.rays.Ends.{back, mirrored, square_is, stays}
 

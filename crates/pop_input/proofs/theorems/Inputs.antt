@@ -21,7 +21,7 @@ line_behind lines = 1 + count_by is_line_end lines
 abbrev pub rest_of : Input → List ℕ → Input
 rest_of input rest = record { bytes = rest; ending = input.ending }
 
--- the words of whole lines are those of the lines without their last line end
+-- whole lines have the same words without their last line end
 last_end : (front : List ℕ) → tokens_at 1 (front ++ 10 ∷ []) ≡ tokens_at 1 front
 last_end front = ap (λ (w : Words). w.tokens) (words_behind 1 front [] End) ∙ append-nil (tokens_at 1 front)
 

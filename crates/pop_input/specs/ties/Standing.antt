@@ -50,7 +50,7 @@ abbrev pub next_behind : Last → Next
 next_behind Yes = Nothing
 next_behind No = Later
 
--- what next_problem does
+-- what `next_problem` does
 abbrev pub NextItem : Standing → Standing → Option (List ℕ) → Option (List ℕ) → Item → Type 0
 NextItem old new had left (Sound problem last) = Reads old new had left (SoundEntry problem ∷ [])
     × (new.next ≡ next_behind last)

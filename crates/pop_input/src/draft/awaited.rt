@@ -46,7 +46,7 @@ impl Draft {
         }
     }
 
-    /// Reads a word of squares after NoCastling. More words of squares may follow.
+    /// Reads squares after NoCastling, as one word. More words with squares may follow.
     pub(crate) fn take_barred(&mut self, word: &ShortWord<'_>) -> Option<FaultKind>
         ensures fault { result ≡ role_fault self.old BarredSquares word.now }
         ensures draft { result ≡ None → self.new ≡ draft_by BarredSquares self.old word.now }

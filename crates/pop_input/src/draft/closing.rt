@@ -26,9 +26,8 @@ use pop_text::text::Text;
 impl Draft {
     /// Returns the problem that the words pose, or the fault at its end, in this line.
     ///
-    /// The first test that fails decides. In order: there is a stipulation; there are men; a pawn can
-    /// have just passed over the en passant square; the side to be mated has a king; the side that isn't to move isn't
-    /// in check.
+    /// The first test that fails decides. In order: there is a stipulation; there are men; a pawn can have just passed
+    /// over the en passant square; the side to be mated has a king; the side that isn't to move isn't in check.
     #[tactic(auto, unfolding(crate::specs::Blocks::posed_entry))]
     pub(crate) fn posed_item(&self, title: &Text, author: &Text, line: u64, last: Last) -> Item
         ensures { result ≡ item_of (posed_entry self.now title.now author.now line) last }

@@ -18,7 +18,7 @@ use chess_core::man::{Kind, Man};
 use chess_core::square::Square;
 
 impl Draft {
-    /// Reads a colour, or a letter and the squares of such men, and returns its fault, if any.
+    /// Reads a colour, or the letter of a kind and the squares of its men, and returns the word's fault, if any.
     pub(crate) fn take_pieces(&mut self, word: &ShortWord<'_>) -> Option<FaultKind>
         ensures fault { result ≡ role_fault self.old (Within (Some Pieces)) word.now }
         ensures draft { result ≡ None → self.new
