@@ -132,7 +132,7 @@ fn summary_of(problem: &Problem) -> Summary {
 pub(crate) fn tell(item: &Item) -> Option<Told> {
     match item {
         Item::Sound(problem, _) => Some(Told::Sound(summary_of(problem))),
-        Item::Faulty(fault, _) => Some(Told::Faulty(fault.number, fault.line)),
+        Item::Faulty(fault, _) => Some(Told::Faulty(fault.number(), fault.line)),
         Item::End => None,
     }
 }
