@@ -26,8 +26,8 @@ pub use Rattle.chess_rules.specs.ties.Sifting.{IsSifted}
 pub use Rattle.chess_mates.specs.ties.Mates.{MatingPlace, is_mating, mates_between}
 pub use Rattle.chess_mates.specs.ties.QuietSteps.{must_reply_with_mate}
 unfoldable pub use Rattle.chess_mates.specs.ties.Mates.{mates_behind}
-pub use Rattle.pop_input.specs.declared.stipulation.Goal.{Goal}
-pub use Rattle.pop_input.specs.declared.stipulation.Goal.TheVariants.{Mate}
+pub use Rattle.pop_stipulation.specs.declared.stipulation.Goal.{Goal}
+pub use Rattle.pop_stipulation.specs.declared.stipulation.Goal.TheVariants.{Mate}
 pub use Rattle.pop_battle.specs.Chess.{chess, is_goal_reached}
 pub use Rattle.pop_battle.specs.Game.{Game, can_move, every_move, some_move}
 pub use Rattle.pop_battle.specs.declared.aim.Battle.{Battle}

@@ -6,8 +6,8 @@ use Rattle.chess_attacks.specs.Attacks.{in_check}
 use Rattle.chess_rules.specs.Legal.{is_mate, is_stalemate, moves}
 use Rattle.chess_rules.specs.Play.{position_after}
 use Rattle.chess_attacks.specs.RuleSet.{RuleSet}
-use Rattle.pop_input.specs.declared.stipulation.Goal.{Goal}
-use Rattle.pop_input.specs.declared.stipulation.Goal.TheVariants.{Mate, Stalemate}
+use Rattle.pop_stipulation.specs.declared.stipulation.Goal.{Goal}
+use Rattle.pop_stipulation.specs.declared.stipulation.Goal.TheVariants.{Mate, Stalemate}
 use Rattle.pop_battle.specs.Game.{Game}
 
 -- the goal is reached in q: the side to move is mated, or stalemated

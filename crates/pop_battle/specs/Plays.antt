@@ -1,6 +1,6 @@
 -- How a stipulation is played (Codex).
-use Rattle.pop_input.specs.declared.stipulation.Form.{Form}
-use Rattle.pop_input.specs.declared.stipulation.Form.TheVariants.{Direct as DirectForm, SelfMate, Help, HelpHalf}
+use Rattle.pop_stipulation.specs.declared.stipulation.Form.{Form}
+use Rattle.pop_stipulation.specs.declared.stipulation.Form.TheVariants.{Direct as DirectForm, SelfMate, Help, HelpHalf}
 use Rattle.pop_battle.specs.declared.aim.Battle.TheVariants.{Direct, Selfmate}
 use Rattle.pop_battle.specs.declared.aim.Play.{Play}
 use Rattle.pop_battle.specs.declared.aim.Play.TheVariants.{Help as HelpPlay, Battle as BattlePlay}

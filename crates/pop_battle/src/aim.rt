@@ -2,7 +2,7 @@
 ghost use Rattle.std.specs.Prelude.{◌≡◌};
 ghost use Rattle.pop_battle.specs.Plays.{play_of};
 
-use pop_input::stipulation::{Form, Goal};
+use pop_stipulation::stipulation::{Form, Goal};
 
 /// Who is to reach the goal against the other side's will (Codex).
 #[derive(Clone, Copy, PartialEq, Eq)]

@@ -7,8 +7,8 @@ ghost use Rattle.chess_attacks.specs.Attacks.{in_check};
 ghost use Rattle.chess_rules.specs.Legal.{is_legal};
 ghost use Rattle.chess_rules.specs.ties.Places.{IsPlaceIn, moves_behind, moves_between, place_of};
 ghost use Rattle.chess_mates.specs.ties.Mates.{IsNextMate, mates_behind};
-ghost use Rattle.pop_input.specs.declared.stipulation.Goal.{Goal};
-ghost use Rattle.pop_input.specs.declared.stipulation.Goal.TheVariants.{Mate};
+ghost use Rattle.pop_stipulation.specs.declared.stipulation.Goal.{Goal};
+ghost use Rattle.pop_stipulation.specs.declared.stipulation.Goal.TheVariants.{Mate};
 ghost use Rattle.pop_battle.specs.ties.Calls.{Finds, IsOnMate};
 ghost use Rattle.pop_battle.specs.Chess.{chess, is_impossible, set_start};
 ghost use Rattle.pop_events.specs.Shown.{castling_side, mark_of, reborn_man, shown_of};
@@ -28,7 +28,7 @@ use chess_rules::{
     unplay,
 };
 use pop_events::shown::{Mark, Shown, Side};
-use pop_input::stipulation::Goal;
+use pop_stipulation::stipulation::Goal;
 
 /// Returns the legal-move cursor of the board's position, moved to `place`; it starts from `known` if that
 /// is there.

@@ -8,7 +8,7 @@ ghost use Rattle.chess_rules.specs.Play.{position_after};
 ghost use Rattle.chess_attacks.specs.RuleSet.{captures_do_more};
 ghost use Rattle.chess_rules.specs.ties.Places.{IsPlaceIn};
 ghost use Rattle.chess_rules.specs.ties.Sifting.{SomeFails};
-ghost use Rattle.pop_input.specs.declared.stipulation.Goal.TheVariants.{Mate};
+ghost use Rattle.pop_stipulation.specs.declared.stipulation.Goal.TheVariants.{Mate};
 ghost use Rattle.pop_battle.specs.Chess.{chess};
 ghost use Rattle.pop_battle.specs.declared.aim.Battle.TheVariants.{Direct};
 ghost use Rattle.pop_battle.specs.declared.frame.Stretch.TheVariants.{Killer};
@@ -29,7 +29,7 @@ use chess_core::man::{Kind, Move};
 use chess_core::square::Square;
 use chess_mates::kept_flights::KeptFlights;
 use chess_rules::{LegalMoves, Moves, Rules, play};
-use pop_input::stipulation::Goal;
+use pop_stipulation::stipulation::Goal;
 
 /// Returns whether White, to move, mates at once. The mating move becomes the killer; without one the
 /// killer is cleared.

@@ -5,7 +5,7 @@ ghost use Rattle.chess_mates.specs.ties.QuietSteps.{must_reply_with_mate};
 ghost use Rattle.chess_rules.specs.Legal.{is_legal, moves as legal_moves};
 ghost use Rattle.chess_rules.specs.Play.{position_after};
 ghost use Rattle.chess_rules.specs.ties.Places.{IsPlaceIn, moves_behind};
-ghost use Rattle.pop_input.specs.declared.stipulation.Goal.TheVariants.{Mate};
+ghost use Rattle.pop_stipulation.specs.declared.stipulation.Goal.TheVariants.{Mate};
 ghost use Rattle.pop_battle.specs.Chess.{chess};
 ghost use Rattle.pop_battle.specs.declared.aim.Battle.TheVariants.{Selfmate};
 ghost use Rattle.pop_battle.specs.Walks.{walk_count};
@@ -20,7 +20,7 @@ use chess_core::board::Board;
 use chess_core::man::Move;
 use chess_mates::quiet_steps::QuietSteps;
 use chess_rules::{LegalMoves, Rules, play};
-use pop_input::stipulation::Goal;
+use pop_stipulation::stipulation::Goal;
 
 /// Returns whether Black must mate after this move by White. The move isn't played if Black's king then has
 /// a quiet step, or if no mate can follow.

@@ -10,7 +10,7 @@
 //! use pop_battle::history::History;
 //! use pop_battle::killers::Killers;
 //! use pop_battle::value::value_of;
-//! use pop_input::stipulation::Goal;
+//! use pop_stipulation::Goal;
 //!
 //! // White Kg6 Ra1, Black Kg8: White mates in one half-move.
 //! let mut diagram = Diagram::new();

@@ -12,7 +12,7 @@ ghost use Rattle.pop_battle.specs.ties.Frames.{IsTesting, IsOpenedOn, CameFrom, 
 ghost use Rattle.pop_battle.specs.Chess.{chess};
 ghost use Rattle.pop_battle.specs.ties.Calls.{Evaluates};
 ghost use Rattle.pop_battle.specs.ties.Marks.{is_for_mate};
-ghost use Rattle.pop_input.specs.declared.stipulation.Goal.TheVariants.{Mate};
+ghost use Rattle.pop_stipulation.specs.declared.stipulation.Goal.TheVariants.{Mate};
 ghost use Rattle.pop_battle.specs.Game.{can_move as has_move};
 ghost use Rattle.pop_battle.specs.declared.aim.Battle.TheVariants.{Selfmate};
 ghost use Rattle.pop_battle.specs.Walks.{walk_count};
@@ -36,7 +36,7 @@ use arrayvec::ArrayVec;
 use chess_core::board::Board;
 use chess_core::man::Move;
 use chess_rules::{LegalMoves, Rules, play};
-use pop_input::stipulation::Goal;
+use pop_stipulation::stipulation::Goal;
 
 /// Returns whether the side to move needs just one good move with `left` half-moves left, since it is White
 /// who moves.

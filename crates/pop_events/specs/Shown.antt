@@ -11,8 +11,8 @@ use Rattle.chess_rules.specs.Legal.{is_mate, is_stalemate}
 use Rattle.chess_rules.specs.Play.{is_castling, position_after, undo_of}
 use Rattle.chess_attacks.specs.RuleSet.{RuleSet}
 use Rattle.chess_core.specs.Undo.{Undo}
-use Rattle.pop_input.specs.Stipulations.{is_for_stalemate}
-use Rattle.pop_input.specs.declared.stipulation.Goal.{Goal}
+use Rattle.pop_stipulation.specs.Stipulations.{is_for_stalemate}
+use Rattle.pop_stipulation.specs.declared.stipulation.Goal.{Goal}
 use Rattle.pop_events.specs.declared.shown.Mark.{Mark}
 use Rattle.pop_events.specs.declared.shown.Mark.TheVariants.{Plain, Check, Mate, Stalemate}
 use Rattle.pop_events.specs.declared.shown.Side.{Side}

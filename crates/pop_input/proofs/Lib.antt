@@ -7,8 +7,7 @@ pub mod Used
 pub mod Blocks
 pub mod Items
 pub mod Ends
-pub mod Numbers
-pub mod Numbered
+pub mod DeviceFaults
 mod Rows
 pub mod Excluded
 pub mod Naming

@@ -2,7 +2,7 @@
 use Rattle.std.proofs.Common.{rules}
 use Rattle.pop_input.proofs.Words.{ArePut, Bool, Diagram, EnPassantImpossible, IsWellFormed, List, Man, None, Option, Some, Draft, Stipulation, arith, cases_Bool, diagram_fault, diagram_of, false, has_king_to_mate, has_men, has_unmoved, in_check, is_crossed_right, is_home, man_on, mark_unmoved, none_unmoved, other, position_fault, position_of, refl, rule_of, starting_side, true, unmoved_of, ℕ, ◌≡◌}
 use Rattle.chess_core.specs.declared.man.Unmoved.{Unmoved}
-use Rattle.pop_input.specs.declared.stipulation.Form.{Form}
+use Rattle.pop_stipulation.specs.declared.stipulation.Form.{Form}
 
 module _ (men : List (Option Man)) (barred : Unmoved) where
   -- on each square with castling rights is the man that castles from it

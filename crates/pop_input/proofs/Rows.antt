@@ -7,8 +7,8 @@ use Rattle.chess_core.specs.declared.man.Colour.TheVariants.{White, Black}
 use Rattle.chess_attacks.specs.Reaches.{hops, is_clear, leaps, reaches, reaches_as, rides}
 use Rattle.pop_input.specs.Blocks.{Faulty}
 use Rattle.pop_input.specs.declared.condition.Condition.TheVariants.{Madrasi}
-use Rattle.pop_input.specs.declared.stipulation.Goal.TheVariants.{Mate, Stalemate}
-use Rattle.pop_input.specs.declared.stipulation.Form.TheVariants.{Direct, Help}
+use Rattle.pop_stipulation.specs.declared.stipulation.Goal.TheVariants.{Mate, Stalemate}
+use Rattle.pop_stipulation.specs.declared.stipulation.Form.TheVariants.{Direct, Help}
 
 abbrev items_by : Ending → List ℕ → List Entry
 items_by ending bytes = entries_of true (words_of (record { bytes = bytes; ending = ending }))

@@ -34,13 +34,12 @@ pub use Rattle.pop_input.specs.Blocks.{Entry, Sound, before_blocks, block_entrie
 unfoldable pub use Rattle.pop_input.specs.Blocks.{posed_entry}
 pub use Rattle.pop_input.specs.Ends.{ArePut, counts_as_unmoved, diagram_fault, diagram_of, posed_of, position_fault}
 unfoldable pub use Rattle.pop_input.specs.Ends.{unmoved_of}
-pub use Rattle.pop_input.specs.FaultKinds.{at_line, fault_at, number_of}
-unfoldable pub use Rattle.pop_input.specs.FaultKinds.{kind_numbered}
+pub use Rattle.pop_input.specs.FaultKinds.{at_line, fault_at, is_device_failure, number_of}
 pub use Rattle.pop_input.specs.Names.{closes, or_else}
 unfoldable pub use Rattle.pop_input.specs.Names.{awaited_of, colour_of, command_of, condition_of, kind_of, option_of, section_of, text_word_of}
 pub use Rattle.pop_input.specs.Posed.{rule_of}
 pub use Rattle.pop_input.specs.Drafts.{Draft, no_men, nothing_said, put_men, draft_after, draft_of}
-pub use Rattle.pop_input.specs.Stipulations.{has_king_to_mate, starting_side}
+pub use Rattle.pop_stipulation.specs.Stipulations.{has_king_to_mate, starting_side}
 pub use Rattle.pop_input.specs.Values.{before_squares, is_digit, most_solutions, square_by, squares_from, stipulation_in_small_letters, value_of}
 unfoldable pub use Rattle.pop_input.specs.Values.{limit_of, squares_named, stipulation_of}
 pub use Rattle.pop_input.specs.WordFaults.{barred_fault, begin_fault, condition_fault, control_fault, fault_if, fault_of, letter_fault, man_fault, men_fault, pieces_fault, put_fault, role_fault, stipulation_fault}
@@ -54,8 +53,8 @@ pub use Rattle.pop_input.specs.declared.names.Command.{Command}
 pub use Rattle.pop_input.specs.declared.names.Command.TheVariants.{Enter}
 pub use Rattle.pop_input.specs.declared.names.TextWord.{TextWord}
 pub use Rattle.pop_input.specs.declared.reader.Next.TheVariants.{First, Later, Nothing}
-pub use Rattle.pop_input.specs.declared.stipulation.Stipulation.{Stipulation}
+pub use Rattle.pop_stipulation.specs.declared.stipulation.Stipulation.{Stipulation}
 pub use Rattle.pop_input.specs.ties.Closings.{IsNew, ReadsWord, TakesLine, cut_fault, ended_by, ended_item, entry_now, item_of, last_of, noted_text, said_after, text_with, told_of_cut}
-pub use Rattle.pop_input.specs.ties.Standing.{IsNumbered, NextItem, Reads, Standing, entries_at, entries_left, next_behind}
+pub use Rattle.pop_input.specs.ties.Standing.{HasFailed, NextItem, Reads, Standing, entries_at, entries_left, next_behind}
 pub use Rattle.pop_input.specs.ties.Tokens.{CutsOff, NextToken, TakesNothing, TakesPart, UsesSome, UsesToken}
 pub use Rattle.pop_input.specs.ties.Used.{IsClosed, IsInputOver, IsUnclosed, UsesEntry, UsesItem, UsesTokens}

@@ -15,7 +15,7 @@ use Rattle.pop_input.specs.declared.names.Command.{Command}
 use Rattle.pop_input.specs.declared.names.Command.TheVariants.{Begin, Enter, Next, Last}
 use Rattle.pop_input.specs.declared.names.TextWord.{TextWord}
 use Rattle.pop_input.specs.declared.names.TextWord.TheVariants.{Title, Author}
-use Rattle.pop_input.specs.declared.stipulation.Stipulation.{Stipulation}
+use Rattle.pop_stipulation.specs.declared.stipulation.Stipulation.{Stipulation}
 
 -- the words among tokens, in order
 abbrev pub words_in : List Token → List (List ℕ)

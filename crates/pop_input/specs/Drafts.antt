@@ -21,7 +21,7 @@ use Rattle.pop_input.specs.declared.names.OptionWord.{OptionWord}
 use Rattle.pop_input.specs.declared.names.OptionWord.TheVariants.{SetPlay, Variation, NoBoard, Awaits}
 use Rattle.pop_input.specs.declared.names.Awaited.{Awaited}
 use Rattle.pop_input.specs.declared.names.Awaited.TheVariants.{Number, OneSquare, Squares, MoreSquares}
-use Rattle.pop_input.specs.declared.stipulation.Stipulation.{Stipulation}
+use Rattle.pop_stipulation.specs.declared.stipulation.Stipulation.{Stipulation}
 use Rattle.pop_input.specs.declared.switches.Switches.{Switches}
 
 -- The context of a word: the open section, and the value that an option expects.

@@ -11,9 +11,9 @@ use Rattle.chess_core.specs.declared.man.Unmoved.{Unmoved}
 use Rattle.chess_attacks.specs.Attacks.{in_check}
 use Rattle.pop_input.specs.Posed.{Posed, rule_of}
 use Rattle.pop_input.specs.Drafts.{Draft}
-use Rattle.pop_input.specs.Stipulations.{starting_side, has_king_to_mate, is_in_range}
-use Rattle.pop_input.specs.declared.stipulation.Form.{Form}
-use Rattle.pop_input.specs.declared.stipulation.Stipulation.{Stipulation}
+use Rattle.pop_stipulation.specs.Stipulations.{starting_side, has_king_to_mate, is_in_range}
+use Rattle.pop_stipulation.specs.declared.stipulation.Form.{Form}
+use Rattle.pop_stipulation.specs.declared.stipulation.Stipulation.{Stipulation}
 
 -- The diagram.
 

@@ -1,21 +1,10 @@
 -- The kinds of faults and their numbers (own). Their texts are in pop_print.
-use Rattle.std.specs.Prelude.{ℕ, ◌==◌, List, [], ◌∷◌, find, Option, option_map}
+use Rattle.std.specs.Prelude.{ℕ, Bool, true, false, Option, option_map}
 use Rattle.pop_input.specs.declared.item.Fault.{Fault}
 use Rattle.pop_input.specs.declared.fault_kind.FaultKind.{FaultKind}
 use Rattle.pop_input.specs.declared.fault_kind.FaultKind.TheVariants.{BeginProblemMissing, WordMisplaced, WordTooLong, ColourMissing, SquareTaken, PawnOnOuterRank, SecondKing}
 use Rattle.pop_input.specs.declared.fault_kind.FaultKind.TheVariants.{BadStipulation, SecondStipulation, StipulationMissing, NoMen, SecondCondition, BadLimit, SquareMissing}
 use Rattle.pop_input.specs.declared.fault_kind.FaultKind.TheVariants.{EnPassantImpossible, NoneCastlesThere, KingMissing, WaitingSideInCheck, EndProblemMissing, InputTooLong, DeviceFailed}
-
--- all kinds, in the order of their numbers
-abbrev pub fault_kinds : List FaultKind
-fault_kinds =
-    BeginProblemMissing ∷ WordMisplaced ∷ WordTooLong ∷ ColourMissing ∷ SquareTaken
-    ∷ PawnOnOuterRank ∷ SecondKing
-    ∷ BadStipulation ∷ SecondStipulation ∷ StipulationMissing ∷ NoMen ∷ SecondCondition ∷ BadLimit
-    ∷ SquareMissing
-    ∷ EnPassantImpossible ∷ NoneCastlesThere ∷ KingMissing ∷ WaitingSideInCheck ∷ EndProblemMissing
-    ∷ InputTooLong
-    ∷ DeviceFailed ∷ []
 
 -- the number of a kind
 abbrev pub number_of : FaultKind → ℕ
@@ -41,13 +30,14 @@ number_of EndProblemMissing = 19
 number_of InputTooLong = 20
 number_of DeviceFailed = 21
 
--- the kind with this number
-unfoldable pub kind_numbered : ℕ → Option FaultKind
-kind_numbered number = find (λ kind. number_of kind == number) fault_kinds
+-- whether the source of the input has failed
+abbrev pub is_device_failure : FaultKind → Bool
+is_device_failure DeviceFailed = true
+is_device_failure _ = false
 
 -- a fault of this kind in a line
 abbrev pub fault_at : FaultKind → ℕ → Fault
-fault_at kind line = record { number = number_of kind; line = line }
+fault_at kind line = record { kind = kind; line = line }
 
 -- a fault in this line, if there is one
 abbrev pub at_line : ℕ → Option FaultKind → Option Fault

@@ -1,4 +1,3 @@
-pub mod Stipulations
 pub mod Posed
 pub mod Letters
 pub mod Names

@@ -5,10 +5,10 @@ use Rattle.chess_core.specs.Position.{other}
 use Rattle.chess_core.specs.WellFormed.{IsWellFormed}
 use Rattle.chess_attacks.specs.Attacks.{in_check}
 use Rattle.chess_attacks.specs.RuleSet.{RuleSet, orthodox, circe, madrasi}
-use Rattle.pop_input.specs.Stipulations.{starting_side, has_king_to_mate, is_in_range}
+use Rattle.pop_stipulation.specs.Stipulations.{starting_side, has_king_to_mate, is_in_range}
 use Rattle.pop_input.specs.declared.condition.Condition.{Condition}
 use Rattle.pop_input.specs.declared.condition.Condition.TheVariants.{Circe, Madrasi}
-use Rattle.pop_input.specs.declared.stipulation.Stipulation.{Stipulation}
+use Rattle.pop_stipulation.specs.declared.stipulation.Stipulation.{Stipulation}
 
 -- all that a problem states
 pub record Posed : Type 0 where

@@ -4,12 +4,12 @@ use Rattle.std.specs.Char.{to_ascii_lowercase}
 use Rattle.std.specs.List.{list_all}
 use Rattle.chess_core.specs.Squares.{square_at}
 use Rattle.pop_input.specs.Letters.{digit_0, digit_5, digit_9, help_letter, letter_a, mate_sign, point, selfmate_letter, stalemate_sign}
-use Rattle.pop_input.specs.Stipulations.{may_have}
-use Rattle.pop_input.specs.declared.stipulation.Form.{Form}
-use Rattle.pop_input.specs.declared.stipulation.Form.TheVariants.{Direct, SelfMate, Help, HelpHalf}
-use Rattle.pop_input.specs.declared.stipulation.Goal.{Goal}
-use Rattle.pop_input.specs.declared.stipulation.Goal.TheVariants.{Mate, Stalemate}
-use Rattle.pop_input.specs.declared.stipulation.Stipulation.{Stipulation}
+use Rattle.pop_stipulation.specs.Stipulations.{may_have}
+use Rattle.pop_stipulation.specs.declared.stipulation.Form.{Form}
+use Rattle.pop_stipulation.specs.declared.stipulation.Form.TheVariants.{Direct, SelfMate, Help, HelpHalf}
+use Rattle.pop_stipulation.specs.declared.stipulation.Goal.{Goal}
+use Rattle.pop_stipulation.specs.declared.stipulation.Goal.TheVariants.{Mate, Stalemate}
+use Rattle.pop_stipulation.specs.declared.stipulation.Stipulation.{Stipulation}
 
 -- the square that a letter, in capitals or not, and a digit name
 abbrev pub square_by : ℕ → ℕ → Option ℕ

@@ -23,7 +23,7 @@ use Rattle.pop_input.specs.declared.names.Section.{Section}
 use Rattle.pop_input.specs.declared.names.Section.TheVariants.{Pieces, Stipulation as Stipulations, Condition as Conditions, Options}
 use Rattle.pop_input.specs.declared.names.Command.{Command}
 use Rattle.pop_input.specs.declared.names.Command.TheVariants.{Begin, Enter, Next, Last}
-use Rattle.pop_input.specs.declared.stipulation.Stipulation.{Stipulation}
+use Rattle.pop_stipulation.specs.declared.stipulation.Stipulation.{Stipulation}
 
 -- this fault if the condition is true, else none
 abbrev pub fault_if : Bool → FaultKind → Option FaultKind

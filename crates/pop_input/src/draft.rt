@@ -17,12 +17,12 @@ use crate::fault_kind::FaultKind;
 use crate::names::{Awaited, Command, Section};
 use crate::place::{Place, Role};
 use crate::short_word::ShortWord;
-use crate::stipulation::Stipulation;
 use crate::switches::Switches;
 use crate::values::MOST_SOLUTIONS;
 use chess_core::diagram::Diagram;
 use chess_core::man::{Colour, Unmoved};
 use chess_core::square::Square;
+use pop_stipulation::stipulation::Stipulation;
 use std::marker::Model;
 
 /// What the words of a problem say so far. Contracts see it as the record `Draft` of `specs/Drafts.antt`.

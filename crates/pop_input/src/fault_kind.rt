@@ -1,6 +1,6 @@
 //! The kinds of faults. Their texts in a report are in pop_print (`specs/Faults.antt`).
 ghost use Rattle.std.specs.Prelude.{◌≡◌, ◌≤◌};
-ghost use Rattle.pop_input.specs.FaultKinds.{kind_numbered, number_of};
+ghost use Rattle.pop_input.specs.FaultKinds.{is_device_failure, number_of};
 
 /// Why an item isn't sound (own), in the order of their numbers 1 to 21.
 #[derive(Clone, Copy)]
@@ -81,35 +81,10 @@ impl FaultKind {
         }
     }
 
-    /// Returns the kind with this number, or `None` if there is none: 0, or 22 and more.
-    #[tactic(auto, unfolding(crate::specs::FaultKinds::kind_numbered))]
-    pub fn numbered(number: u8) -> Option<FaultKind>
-        ensures { result ≡ kind_numbered number }
+    /// Returns whether the source of the input has failed.
+    pub fn is_device_failure(self) -> bool
+        ensures { result ≡ is_device_failure self }
     {
-        let kind = match number {
-            1 => FaultKind::BeginProblemMissing,
-            2 => FaultKind::WordMisplaced,
-            3 => FaultKind::WordTooLong,
-            4 => FaultKind::ColourMissing,
-            5 => FaultKind::SquareTaken,
-            6 => FaultKind::PawnOnOuterRank,
-            7 => FaultKind::SecondKing,
-            8 => FaultKind::BadStipulation,
-            9 => FaultKind::SecondStipulation,
-            10 => FaultKind::StipulationMissing,
-            11 => FaultKind::NoMen,
-            12 => FaultKind::SecondCondition,
-            13 => FaultKind::BadLimit,
-            14 => FaultKind::SquareMissing,
-            15 => FaultKind::EnPassantImpossible,
-            16 => FaultKind::NoneCastlesThere,
-            17 => FaultKind::KingMissing,
-            18 => FaultKind::WaitingSideInCheck,
-            19 => FaultKind::EndProblemMissing,
-            20 => FaultKind::InputTooLong,
-            21 => FaultKind::DeviceFailed,
-            _ => return None,
-        };
-        Some(kind)
+        matches!(self, FaultKind::DeviceFailed)
     }
 }

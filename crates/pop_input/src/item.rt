@@ -1,6 +1,6 @@
 //! The items of an input.
-ghost use Rattle.std.specs.Prelude.{◌≡◌};
-ghost use Rattle.pop_input.specs.FaultKinds.{fault_at, kind_numbered};
+ghost use Rattle.std.specs.Prelude.{◌≡◌, ◌≤◌};
+ghost use Rattle.pop_input.specs.FaultKinds.{fault_at, number_of};
 
 use crate::fault_kind::FaultKind;
 use crate::problem::Problem;
@@ -8,8 +8,8 @@ use crate::problem::Problem;
 /// Why an item isn't sound, and where.
 #[derive(Clone, Copy)]
 pub struct Fault {
-    /// The number of its kind, 1 to 21.
-    pub number: u8,
+    /// What is wrong.
+    pub kind: FaultKind,
     /// The line at fault, counted from 1.
     pub line: u64,
 }
@@ -19,17 +19,16 @@ impl Fault {
     pub(crate) fn at(kind: FaultKind, line: u64) -> Fault
         ensures { result ≡ fault_at kind line }
     {
-        Fault {
-            number: kind.number(),
-            line,
-        }
+        Fault { kind, line }
     }
 
-    /// Returns the kind of this fault: `Some` for each fault that a `Reader` returns.
-    pub fn kind(&self) -> Option<FaultKind>
-        ensures { result ≡ kind_numbered self.now.number }
+    /// Returns the number of its kind, 1 to 21.
+    pub fn number(&self) -> u8
+        ensures value { result ≡ number_of self.now.kind }
+        ensures least { 1 ≤ result }
+        ensures most { result ≤ 21 }
     {
-        FaultKind::numbered(self.number)
+        self.kind.number()
     }
 }
 

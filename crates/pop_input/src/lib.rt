@@ -18,7 +18,7 @@
 //! }
 //! ```
 //!
-//! The interface is `reader` (`Reader`), `item` (`Item`, `Fault`, `Last`), `problem`, `stipulation`, `condition` and
+//! The interface is `reader` (`Reader`), `item` (`Item`, `Fault`, `Last`), `problem`, `condition` and
 //! `fault_kind`. The other modules are internal: `block` holds one problem while it is read, `draft` what its words say
 //! so far, and `names` and `values` read single words.
 //!
@@ -36,7 +36,6 @@ mod place;
 pub mod problem;
 pub mod reader;
 mod short_word;
-pub mod stipulation;
 mod switches;
 mod token;
 mod values;
@@ -46,4 +45,4 @@ pub use crate::fault_kind::FaultKind;
 pub use crate::item::{Fault, Item, Last};
 pub use crate::problem::Problem;
 pub use crate::reader::{Next, Reader};
-pub use crate::stipulation::{Form, Goal, MOST_MOVES, Stipulation};
+pub use pop_stipulation::{Form, Goal, MOST_MOVES, Stipulation};

@@ -3,9 +3,9 @@ ghost use Rattle.std.specs.Prelude.{◌≡◌};
 ghost use Rattle.pop_input.specs.Posed.{IsSound};
 
 use crate::condition::Condition;
-use crate::stipulation::Stipulation;
 use crate::switches::Switches;
 use chess_core::diagram::Diagram;
+use pop_stipulation::stipulation::Stipulation;
 use pop_text::text::Text;
 use std::marker::Model;
 

@@ -6,7 +6,7 @@ ghost use Rattle.pop_text.specs.ties.Reading.{IsSeen, failures_after};
 ghost use Rattle.pop_text.specs.ties.Plain.{Skips};
 ghost use Rattle.pop_text.specs.declared.scanner.End.{End};
 ghost use Rattle.pop_input.specs.declared.reader.Next.{Next};
-ghost use Rattle.pop_input.specs.ties.Standing.{IsNumbered, NextItem, first_standing, is_item, next_behind as behind, work_left};
+ghost use Rattle.pop_input.specs.ties.Standing.{HasFailed, NextItem, first_standing, is_item, next_behind as behind, work_left};
 ghost use Rattle.pop_input.specs.ties.Used.{UsesItem};
 ghost use Rattle.pop_input.specs.ties.Closings.{ReadsWord, cut_fault, last_of, told_of_cut};
 ghost use Rattle.pop_input.specs.Names.{command_of};
@@ -102,7 +102,7 @@ impl Reader {
         ensures ends { self.old.at.end ≡ End.Open ⊎ self.new.at.end ≡ self.old.at.end }
         ensures counted { S.failures source.new
             ≡ failures_after self.old.at.end self.new.at.end (S.failures source.old) }
-        ensures numbered { IsNumbered self.new.at result }
+        ensures failed { HasFailed self.new.at result }
         ensures less { is_item result ≡ true → work_left self.new < work_left self.old }
     {
         let first = match self.next_block {

@@ -1,6 +1,6 @@
 -- The parts of a phase by their numbers, and their number.
 use Rattle.pop_parts.proofs.Words.{Bool, Phase, Posed, Position, RuleSet, [], arith, beginnings, chess, eqb, false, half_moves, is_barred, not, part_depth, parts, phase_half_moves, phase_start, refl, true, ℕ, ◌||◌, ◌≡◌, ◌≤◌}
-use Rattle.pop_input.specs.declared.stipulation.Goal.{Goal}
+use Rattle.pop_stipulation.specs.declared.stipulation.Goal.{Goal}
 
 -- the moves that distinguish parts are one or more, and at most the half-moves
 pub depth-fits : (problem : Posed) (phase : Phase) (depth : ℕ) → 1 ≤ depth → 1 ≤ phase_half_moves problem phase

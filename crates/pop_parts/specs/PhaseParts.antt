@@ -5,7 +5,7 @@ use Rattle.std.specs.List.{flat_map}
 use Rattle.chess_core.specs.MoveOrder.{order_number}
 use Rattle.chess_attacks.specs.RuleSet.{RuleSet}
 use Rattle.pop_input.specs.Posed.{Posed}
-use Rattle.pop_input.specs.Stipulations.{is_help}
+use Rattle.pop_stipulation.specs.Stipulations.{is_help}
 use Rattle.pop_battle.specs.Chess.{chess}
 use Rattle.pop_solve.specs.Events.{BareEvent, Path, Solution, is_barred, path_event, phase_half_moves, phase_start, solutions, total}
 use Rattle.pop_battle.specs.Game.{Game}

@@ -4,9 +4,9 @@ ghost use Rattle.std.specs.Prelude.{◌≡◌, ◌+◌, ◌-◌, ◌<◌, ◌≤
 ghost use Rattle.arrayvec.specs.ArrayVec.{array_vec_len};
 ghost use Rattle.chess_core.specs.Position.{Position};
 ghost use Rattle.chess_rules.specs.Legal.{is_legal};
-ghost use Rattle.pop_input.specs.declared.stipulation.Goal.{Goal};
+ghost use Rattle.pop_stipulation.specs.declared.stipulation.Goal.{Goal};
 ghost use Rattle.pop_input.specs.Posed.{IsSound, rule_of};
-ghost use Rattle.pop_input.specs.Stipulations.{half_moves};
+ghost use Rattle.pop_stipulation.specs.Stipulations.{half_moves};
 ghost use Rattle.pop_solve.specs.Events.{is_barred, phase_half_moves as half_moves_of_phase, phase_start, play_start};
 ghost use Rattle.pop_battle.specs.Chess.{chess};
 ghost use Rattle.pop_parts.specs.PhaseParts.{beginnings, part_depth as depth_of_parts, part_numbered, parts};

@@ -1,12 +1,9 @@
 //! What a call needs to know of an item.
-ghost use Rattle.std.specs.Prelude.{◌≡◌, ◌==◌, is_some, not, true};
-ghost use Rattle.pop_input.specs.FaultKinds.{number_of};
-ghost use Rattle.pop_input.specs.declared.fault_kind.FaultKind.TheVariants.{DeviceFailed};
+ghost use Rattle.std.specs.Prelude.{◌≡◌, is_some, not, true};
 ghost use Rattle.pop_run.specs.ties.Sessions.{status_with};
 ghost use Rattle.pop_parts.specs.ties.Items.{entry_in, is_failure, status_after as with_item};
 
-use pop_input::fault_kind::FaultKind;
-use pop_input::item::{Fault, Item};
+use pop_input::item::Item;
 use pop_run::status::Status;
 
 /// Returns whether no item is left.
@@ -24,16 +21,9 @@ pub(crate) fn tells_failure(item: &Item) -> bool
     ensures { result ≡ is_failure (entry_in item.now) }
 {
     match item {
-        Item::Faulty(fault, _) => is_device_failure(fault),
+        Item::Faulty(fault, _) => fault.kind.is_device_failure(),
         Item::Sound(_, _) | Item::End => false,
     }
-}
-
-/// Returns whether the fault is that the device failed.
-pub(crate) fn is_device_failure(fault: &Fault) -> bool
-    ensures { result ≡ (fault.now.number == number_of DeviceFailed) }
-{
-    fault.number == FaultKind::DeviceFailed.number()
 }
 
 /// Returns the status after one more item.
@@ -42,7 +32,7 @@ pub(crate) fn status_after(so_far: Status, item: &Item) -> Status
 {
     match item {
         Item::Sound(_, _) | Item::End => so_far,
-        Item::Faulty(fault, _) => status_with_fault(so_far, is_device_failure(fault)),
+        Item::Faulty(fault, _) => status_with_fault(so_far, fault.kind.is_device_failure()),
     }
 }
 

@@ -5,7 +5,7 @@ ghost use Rattle.chess_core.specs.WellFormed.{IsWellFormed};
 ghost use Rattle.chess_rules.specs.Legal.{is_legal, is_mate};
 ghost use Rattle.chess_rules.specs.Play.{position_after};
 ghost use Rattle.pop_input.specs.Posed.{IsSound};
-ghost use Rattle.pop_input.specs.Stipulations.{half_moves, is_help};
+ghost use Rattle.pop_stipulation.specs.Stipulations.{half_moves, is_help};
 ghost use Rattle.pop_solve.specs.Events.{Path, event_of, path_event, phase_half_moves as half_moves_of_phase, phase_start, play_start};
 ghost use Rattle.pop_parts.specs.PhaseParts.{part_events};
 ghost use Rattle.pop_parts.specs.ties.Beginnings.{IsSeeking};
@@ -200,7 +200,7 @@ impl<R: Rules, const N: usize> Model for PartSearch<R, N> {
     ghost use Rattle.std.specs.Prelude.{◌≡◌, ◌<◌, reverse};
     ghost use Rattle.arrayvec.specs.ArrayVec.{array_vec_len};
     ghost use Rattle.pop_input.specs.Posed.{IsSound};
-    ghost use Rattle.pop_input.specs.Stipulations.{half_moves};
+    ghost use Rattle.pop_stipulation.specs.Stipulations.{half_moves};
     ghost use Rattle.pop_parts.specs.ties.PartsSeen.{PartSeen};
     ghost use Rattle.pop_parts.specs.ties.PartStages.{IsPartOpened, part_left, StandsInPart};
 
@@ -232,7 +232,7 @@ impl<R: Rules, const N: usize> PartSearch<R, N> {
     ghost use Rattle.pop_input.specs.Posed.{IsSound};
     ghost use Rattle.std.specs.Option.{option_map};
     ghost use Rattle.pop_input.specs.Posed.{rule_of};
-    ghost use Rattle.pop_input.specs.Stipulations.{half_moves, is_help};
+    ghost use Rattle.pop_stipulation.specs.Stipulations.{half_moves, is_help};
     ghost use Rattle.pop_solve.specs.Events.{event_of, phase_half_moves as half_moves_of_phase, phase_start, play_start};
     ghost use Rattle.pop_parts.specs.ties.Beginnings.{IsSeeking};
     ghost use Rattle.pop_solve.specs.ties.Walk.{path};

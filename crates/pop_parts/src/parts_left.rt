@@ -26,7 +26,7 @@ pub struct PartsLeft<R: Rules, const N: usize> {
 impl<R: Rules, const N: usize> Model for PartsLeft<R, N> {
     ghost use Rattle.std.specs.Prelude.{◌≡◌, ◌<◌, reverse};
     ghost use Rattle.pop_input.specs.Posed.{IsSound};
-    ghost use Rattle.pop_input.specs.Stipulations.{half_moves};
+    ghost use Rattle.pop_stipulation.specs.Stipulations.{half_moves};
     ghost use Rattle.pop_parts.specs.ties.PartsSeen.{LeftSeen};
     ghost use Rattle.pop_parts.specs.ties.Beginnings.{beginnings_to_come, IsBetweenParts};
     ghost use Rattle.pop_solve.specs.Events.{phase_start};
@@ -47,7 +47,7 @@ impl<R: Rules, const N: usize> Model for PartsLeft<R, N> {
 
 impl<R: Rules, const N: usize> PartsLeft<R, N> {
     ghost use Rattle.std.specs.Prelude.{[], ◌≡◌, ◌-◌, ◌<◌, ◌≤◌, MatchOption, None, Some, slice_get, drop};
-    ghost use Rattle.pop_input.specs.Stipulations.{half_moves};
+    ghost use Rattle.pop_stipulation.specs.Stipulations.{half_moves};
     ghost use Rattle.pop_parts.specs.PhaseParts.{part_events, parts};
 
     /// Returns all parts of a phase, or `None` if it has none; `depth` moves distinguish the parts of help

@@ -2,8 +2,7 @@
 ghost use Rattle.std.specs.Prelude.{◌≡◌, ◌<◌, ◌≤◌, ◌==◌, IfOk, IfSome, false, if◌then◌else◌, is_some, map, true, take, drop, length, slice_get, ◌+◌, ◌-◌};
 ghost use Rattle.std.specs.List.{flat_map};
 ghost use Rattle.pop_text.specs.Bytes.{Writes, count_after, greatest_count};
-ghost use Rattle.pop_input.specs.FaultKinds.{number_of};
-ghost use Rattle.pop_input.specs.declared.fault_kind.FaultKind.TheVariants.{DeviceFailed};
+ghost use Rattle.pop_input.specs.FaultKinds.{is_device_failure};
 ghost use Rattle.pop_parts.specs.declared.asked.Outcome.TheVariants.{FaultyItem, InputFailed, NoItem};
 ghost use Rattle.pop_input.specs.Posed.{rule_of};
 ghost use Rattle.pop_solve.specs.Events.{event_of};
@@ -14,7 +13,7 @@ ghost use Rattle.pop_parts.specs.Runs.{ReadsItems, Shows};
 ghost use Rattle.pop_parts.specs.ties.Items.{entry_in, text_if};
 
 use crate::asked::{Asked, Outcome};
-use crate::items::{is_device_failure, is_end, tells_failure};
+use crate::items::{is_end, tells_failure};
 use crate::part_search::PartSearch;
 use crate::parts_left::PartsLeft;
 use crate::searching::parts_in;
@@ -100,10 +99,10 @@ fn show_item<W: Sink>(sink: &mut W, asked: &Asked, item: &Item) -> Result<Outcom
 
 // Returns the outcome for a faulty item.
 fn outcome_of_fault(fault: &Fault) -> Outcome
-    ensures { result ≡ (if fault.now.number == number_of DeviceFailed then InputFailed
+    ensures { result ≡ (if is_device_failure fault.now.kind then InputFailed
         else FaultyItem) }
 {
-    if is_device_failure(fault) {
+    if fault.kind.is_device_failure() {
         Outcome::InputFailed
     } else {
         Outcome::FaultyItem

@@ -1,7 +1,7 @@
 -- The text of faults (own).
-use Rattle.std.specs.Prelude.{ℕ, List, [], ◌++◌, codes, decimal, Option, Some, None}
+use Rattle.std.specs.Prelude.{ℕ, List, ◌++◌, codes, decimal}
 use Rattle.pop_print.specs.Heads.{item_line}
-use Rattle.pop_input.specs.FaultKinds.{kind_numbered}
+use Rattle.pop_input.specs.FaultKinds.{number_of}
 use Rattle.pop_input.specs.declared.item.Fault.{Fault}
 use Rattle.pop_input.specs.declared.fault_kind.FaultKind.{FaultKind}
 use Rattle.pop_input.specs.declared.fault_kind.FaultKind.TheVariants.{BeginProblemMissing, WordMisplaced, WordTooLong, ColourMissing, SquareTaken, PawnOnOuterRank, SecondKing}
@@ -32,14 +32,9 @@ message_of EndProblemMissing = codes "input ended before EndProblem"
 message_of InputTooLong = codes "input too long"
 message_of DeviceFailed = codes "input device failed"
 
--- the text of a kind of fault, or no text without a kind
-abbrev pub message_if : Option FaultKind → List ℕ
-message_if None = []
-message_if (Some kind) = message_of kind
-
 -- the text of a faulty item: its number, the fault with its line, an empty line
 unfoldable pub fault_text : ℕ → Fault → List ℕ
 fault_text number fault =
     item_line number ++ codes "line " ++ decimal fault.line ++ codes ": fault "
-    ++ decimal fault.number
-    ++ codes ": " ++ message_if (kind_numbered fault.number) ++ codes "\n\n"
+    ++ decimal (number_of fault.kind)
+    ++ codes ": " ++ message_of fault.kind ++ codes "\n\n"

@@ -1,7 +1,7 @@
 //! The text of faults.
 ghost use Rattle.std.specs.Prelude.{◌≡◌, ◌<◌, ◌≤◌, ◌+◌, ◌++◌, length};
 ghost use Rattle.pop_text.specs.Bytes.{Writes, count_after, greatest_count};
-ghost use Rattle.pop_print.specs.Faults.{fault_text, message_if as text_if, message_of as text_of_kind};
+ghost use Rattle.pop_print.specs.Faults.{fault_text, message_of as text_of_kind};
 
 use crate::line::{LONGEST, LineBuffer};
 use pop_input::fault_kind::FaultKind;
@@ -15,7 +15,6 @@ use pop_text::sink::{Sink, SinkFault};
 /// `SinkFault` if the sink fails: a beginning of the text is then written.
 pub fn print_fault<W: Sink>(sink: &mut W, number: u64, fault: &Fault) -> Result<(), SinkFault>
     requires sink { W.failures sink.old < greatest_count }
-    requires known { (1 ≤ fault.now.number) × (fault.now.number ≤ 21) }
     ensures bytes { Writes (W.taken sink.old) (W.taken sink.new) (fault_text number fault.now)
         result }
     ensures counted { W.failures sink.new ≡ count_after result (W.failures sink.old) }
@@ -55,17 +54,6 @@ pub(crate) fn message_of(kind: FaultKind) -> &'static [u8]
     }
 }
 
-// Returns the text of a kind of fault, or no text without a kind. Every fault of an item has a kind.
-fn message_if(kind: Option<FaultKind>) -> &'static [u8]
-    ensures text { result.now ≡ text_if kind }
-    ensures short { length result.now ≤ 40 }
-{
-    match kind {
-        Some(kind) => message_of(kind),
-        None => b"",
-    }
-}
-
 impl<const N: usize> LineBuffer<N> {
     #[tactic(auto, unfolding(crate::specs::Faults::fault_text))]
     fn add_fault(&mut self, number: u64, fault: &Fault)
@@ -76,9 +64,9 @@ impl<const N: usize> LineBuffer<N> {
         self.add(b"line ");
         self.add_number(fault.line);
         self.add(b": fault ");
-        self.add_number(u64::from(fault.number));
+        self.add_number(u64::from(fault.number()));
         self.add(b": ");
-        self.add(message_if(fault.kind()));
+        self.add(message_of(fault.kind));
         self.add(b"\n\n");
     }
 }

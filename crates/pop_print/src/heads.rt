@@ -11,7 +11,7 @@ use chess_core::man::{Colour, Man};
 use chess_core::square::Square;
 use pop_input::condition::Condition;
 use pop_input::problem::Problem;
-use pop_input::stipulation::{Form, Goal, Stipulation};
+use pop_stipulation::stipulation::{Form, Goal, Stipulation};
 use pop_text::sink::{Sink, SinkFault};
 use pop_text::text::Text;
 

@@ -3,9 +3,8 @@ use Rattle.std.specs.Prelude.{ℕ, ◌+◌, ◌==◌, List, [], ◌∷◌, ◌++
 use Rattle.std.specs.List.{flat_map, list_any}
 use Rattle.pop_text.specs.Words.{Input, words_of}
 use Rattle.pop_input.specs.Blocks.{Entry, Sound as SoundEntry, Faulty as FaultyEntry, entries_of}
-use Rattle.pop_input.specs.FaultKinds.{number_of}
+use Rattle.pop_input.specs.FaultKinds.{is_device_failure}
 use Rattle.pop_input.specs.Posed.{Posed}
-use Rattle.pop_input.specs.declared.fault_kind.FaultKind.TheVariants.{DeviceFailed}
 use Rattle.pop_solve.specs.Events.{events_of}
 use Rattle.pop_print.specs.Events.{event_text}
 use Rattle.pop_print.specs.Faults.{fault_text}
@@ -47,7 +46,7 @@ report choice input = report_from choice 1 (entries_in input)
 -- whether an item is the fault that the input device failed
 abbrev pub tells_failure : Entry → Bool
 tells_failure (SoundEntry posed) = false
-tells_failure (FaultyEntry fault) = fault.number == number_of DeviceFailed
+tells_failure (FaultyEntry fault) = is_device_failure fault.kind
 
 -- whether an item is a fault
 abbrev pub is_faulty : Entry → Bool

@@ -4,8 +4,7 @@ ghost use Rattle.pop_text.specs.Words.{limit};
 ghost use Rattle.pop_text.specs.Bytes.{count_after, greatest_count};
 ghost use Rattle.pop_text.specs.ties.Reading.{IsSeen, failures_after};
 ghost use Rattle.pop_text.specs.declared.scanner.End.{End};
-ghost use Rattle.pop_input.specs.FaultKinds.{number_of};
-ghost use Rattle.pop_input.specs.declared.fault_kind.FaultKind.TheVariants.{DeviceFailed};
+ghost use Rattle.pop_input.specs.FaultKinds.{is_device_failure};
 ghost use Rattle.pop_input.specs.ties.Standing.{work_left};
 ghost use Rattle.pop_run.specs.Report.{choice_of};
 ghost use Rattle.pop_run.specs.ties.Sessions.{HasMore, Steps, first_state, is_problem, status_with as with_item, step_of};
@@ -155,11 +154,10 @@ impl Session {
 
 // Returns the status after one more fault.
 fn status_with(so_far: Status, fault: &Fault) -> Status
-    ensures { result ≡ with_item so_far (fault.now.number == number_of DeviceFailed) true }
+    ensures { result ≡ with_item so_far (is_device_failure fault.now.kind) true }
 {
-    let failed = FaultKind::DeviceFailed.number();
     match so_far {
-        _ if fault.number == failed => Status::InputFailed,
+        _ if fault.kind.is_device_failure() => Status::InputFailed,
         Status::Sound => Status::Faulty,
         so_far => so_far,
     }

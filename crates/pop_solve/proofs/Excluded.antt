@@ -2,7 +2,7 @@
 -- that are wrong or come too early,
 -- mates passed over, and counts of events and frames that begin or grow otherwise.
 use Rattle.pop_solve.proofs.Words.{ArrayVec, BareEvent, Barred, Before, Bool, Event, Frame, Gives, GoesTo, IsGiven, IsOpened, Line, List, Move, Node, Plan, Posed, Position, RuleSet, Shown, Total, Within, [], allows_mate, ap, arith, eqb, event_of, false, filter, filter-append, first_phase, is_help_play, is_help, is_mating, is_walked_once, kept_paths, left_of, length, length-append, map, min, moves_behind, path_event, phase_paths, rest_open, total, true, ℕ, ◌++◌, ◌+◌, ◌-◌, ◌^◌, ◌<◌, ◌∷◌, ◌≡◌, ◌⊎◌, Walk}
-use Rattle.pop_input.specs.declared.stipulation.Goal.TheVariants.{Stalemate}
+use Rattle.pop_stipulation.specs.declared.stipulation.Goal.TheVariants.{Stalemate}
 
 module _ (rule : RuleSet) (problem : Posed) (old new : List BareEvent) (board : Position) where
   -- no line is given with no frame in use, as after all moves were taken back

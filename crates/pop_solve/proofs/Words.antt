@@ -15,8 +15,8 @@ pub use Rattle.chess_rules.proofs.listing_moves.Members.{first_in, from_filter, 
 pub use Rattle.chess_rules.proofs.theorems.Moves.{Precedes, moves_are_the_legal_moves, moves_differ, moves_in_order}
 pub use Rattle.chess_mates.specs.ties.Mates.{IsNextMate, allows_mate}
 pub use Rattle.pop_input.specs.Posed.{IsSound, Posed}
-pub use Rattle.pop_input.specs.Stipulations.{half_moves, half_moves_of, is_help}
-pub use Rattle.pop_input.specs.declared.stipulation.Form.{Form}
+pub use Rattle.pop_stipulation.specs.Stipulations.{half_moves, half_moves_of, is_help}
+pub use Rattle.pop_stipulation.specs.declared.stipulation.Form.{Form}
 pub use Rattle.pop_battle.specs.Plays.{play_of}
 unfoldable pub use Rattle.pop_events.specs.Shown.{shown_move}
 pub use Rattle.pop_solve.specs.Events.{BareEvent, event_of, events, events_from, first_phase, game_of, impossible, is_barred, is_set, line, opening, path_event, phase_count, phase_half_moves, phase_start, play_start, moves_shown, last_shown, solutions_by, total, tree_node}

@@ -3,7 +3,7 @@
 use Rattle.pop_battle.specs.Plays.{play_of}
 use Rattle.pop_battle.specs.declared.aim.Play.{Play as PlayOfSides}
 use Rattle.pop_battle.specs.declared.aim.Play.TheVariants.{Help as HelpPlay, Battle as BattlePlay}
-use Rattle.pop_input.specs.declared.stipulation.Goal.{Goal}
+use Rattle.pop_stipulation.specs.declared.stipulation.Goal.{Goal}
 use Rattle.chess_rules.specs.Play.{position_after}
 use Rattle.std.specs.Prelude.{ℕ, ◌+◌, ◌-◌, ◌==◌, Bool, true, false, ◌&&◌, if◌then◌else◌, List, [], ◌∷◌, ◌++◌, map, take, length}
 use Rattle.std.specs.List.{flat_map}
@@ -14,7 +14,7 @@ use Rattle.chess_attacks.specs.RuleSet.{RuleSet}
 use Rattle.pop_battle.specs.Game.{Game, help_lines}
 use Rattle.pop_solve.specs.Tree.{tree, set_tree}
 use Rattle.pop_input.specs.Posed.{Posed, rule_of}
-use Rattle.pop_input.specs.Stipulations.{is_help, first_half, half_moves}
+use Rattle.pop_stipulation.specs.Stipulations.{is_help, first_half, half_moves}
 use Rattle.pop_battle.specs.Chess.{chess, is_impossible, set_start}
 pub use Rattle.pop_events.specs.Shown.{Shown, mark_of, nothing_shown, shown_move}
 pub use Rattle.pop_events.specs.declared.event.Event.{Event}

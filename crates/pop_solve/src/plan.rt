@@ -4,7 +4,7 @@ ghost use Rattle.pop_solve.specs.ties.Plans.{plan_of, has_variations, tree_with}
 
 use pop_battle::aim::Play;
 use pop_input::problem::Problem;
-use pop_input::stipulation::Goal;
+use pop_stipulation::stipulation::Goal;
 
 /// What is shown of a battle.
 #[derive(Clone, Copy)]

@@ -28,7 +28,7 @@ impl<R: Rules, const N: usize> Model for Search<R, N> {
     ghost use Rattle.std.specs.Prelude.{◌≡◌, ◌<◌, ◌≤◌, ◌-◌, ◌^◌, min, length, reverse};
     ghost use Rattle.arrayvec.specs.ArrayVec.{array_vec_len};
     ghost use Rattle.pop_input.specs.Posed.{IsSound};
-    ghost use Rattle.pop_input.specs.Stipulations.{half_moves};
+    ghost use Rattle.pop_stipulation.specs.Stipulations.{half_moves};
     ghost use Rattle.pop_solve.specs.Events.{events};
     ghost use Rattle.pop_solve.specs.ties.Seen.{Seen};
     ghost use Rattle.pop_solve.specs.ties.Phases.{left_of, IsStanding, IsGiven, IsOpened};
@@ -56,7 +56,7 @@ impl<R: Rules, const N: usize> Search<R, N> {
     ghost use Rattle.std.specs.Prelude.{[], false, true, ◌≡◌, ◌+◌, ◌-◌, ◌<◌, ◌≤◌, ◌^◌, min, MatchOption, slice_get, drop, length};
     ghost use Rattle.std.specs.Option.{option_map};
     ghost use Rattle.pop_input.specs.Posed.{rule_of};
-    ghost use Rattle.pop_input.specs.Stipulations.{half_moves, is_help};
+    ghost use Rattle.pop_stipulation.specs.Stipulations.{half_moves, is_help};
     ghost use Rattle.pop_solve.specs.Events.{events, event_of, play_start};
     ghost use Rattle.pop_solve.specs.Walks.{is_never_stopped, is_walked_once, whole_walk};
     ghost use Rattle.pop_solve.specs.ties.Seen.{fewest_tried, StandsOn};

@@ -22,7 +22,7 @@ use pop_battle::chess::{Reached, mark_after, retract, shown_of};
 use pop_battle::frame::Frame;
 use pop_battle::value::seeks;
 use pop_events::shown::Shown;
-use pop_input::stipulation::Goal;
+use pop_stipulation::stipulation::Goal;
 
 /// Takes back the move of a frame.
 fn take_back<R: Rules>(frame: &Frame<R>, board: &mut Board)

@@ -16,7 +16,7 @@ ghost use Rattle.pop_solve.specs.ties.Plans.{has_variations};
 ghost use Rattle.pop_battle.specs.ties.Frames.{CameFrom, CameFromAt, Frame as Level, opened_frame};
 ghost use Rattle.pop_battle.specs.Chess.{chess};
 ghost use Rattle.chess_mates.specs.ties.Threats.{AreThreatsOf};
-ghost use Rattle.pop_input.specs.declared.stipulation.Goal.TheVariants.{Mate};
+ghost use Rattle.pop_stipulation.specs.declared.stipulation.Goal.TheVariants.{Mate};
 ghost use Rattle.pop_battle.specs.ties.Marks.{is_for_mate};
 ghost use Rattle.pop_battle.specs.ties.Values.{seeks, value};
 ghost use Rattle.pop_battle.specs.ties.Passing.{IsNextUnsettled};

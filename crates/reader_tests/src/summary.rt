@@ -3,7 +3,7 @@ use chess_core::{Colour, Diagram, Kind, Man, Square};
 use pop_input::condition::Condition;
 use pop_input::item::Item;
 use pop_input::problem::Problem;
-use pop_input::stipulation::{Form, Goal};
+use pop_stipulation::stipulation::{Form, Goal};
 
 /// A problem: its men as letters, small ones for Black, 0 for an empty square, and all else that it states.
 #[derive(Clone, Copy, PartialEq, Eq)]
@@ -132,7 +132,7 @@ fn summary_of(problem: &Problem) -> Summary {
 pub(crate) fn tell(item: &Item) -> Option<Told> {
     match item {
         Item::Sound(problem, _) => Some(Told::Sound(summary_of(problem))),
-        Item::Faulty(fault, _) => Some(Told::Faulty(fault.number, fault.line)),
+        Item::Faulty(fault, _) => Some(Told::Faulty(fault.number(), fault.line)),
         Item::End => None,
     }
 }

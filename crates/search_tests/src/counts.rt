@@ -7,7 +7,7 @@ use chess_core::Board;
 use chess_rules::{Circe, Madrasi, Moves, Orthodox, Rules, in_check, play};
 use pop_input::condition::Condition;
 use pop_input::problem::Problem;
-use pop_input::stipulation::{Form, Goal};
+use pop_stipulation::stipulation::{Form, Goal};
 
 /// Returns the number of lists of fewer than `half_moves` moves, each legal in its position.
 #[tactic(auto, using(chess_rules::proofs::listing_moves::Calls::playing))]

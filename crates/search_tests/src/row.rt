@@ -1,7 +1,7 @@
 //! Rows: problems with known solutions, and all that a search for them must do.
 ghost use Rattle.std.specs.Prelude.{◌≡◌, ◌<◌, ◌≤◌};
 ghost use Rattle.pop_input.specs.Posed.{rule_of};
-ghost use Rattle.pop_input.specs.Stipulations.{half_moves};
+ghost use Rattle.pop_stipulation.specs.Stipulations.{half_moves};
 
 use crate::plain::solve;
 use arrayvec::ArrayVec;

@@ -5,6 +5,7 @@ use Rattle.pop_text.specs.Words.{Input, limit}
 use Rattle.pop_text.specs.ties.Reading.{Reading, first_reading}
 use Rattle.pop_text.specs.ties.Left.{onto_input, MayFollow, words_left}
 use Rattle.pop_input.specs.Blocks.{Entry, Sound as SoundEntry, Faulty as FaultyEntry, entries_of}
+use Rattle.pop_input.specs.FaultKinds.{is_device_failure}
 use Rattle.pop_input.specs.declared.item.Last.{Last}
 use Rattle.pop_input.specs.declared.item.Last.TheVariants.{Yes, No}
 use Rattle.pop_input.specs.declared.item.Item.{Item}
@@ -74,9 +75,8 @@ is_item End = false
 is_item (Sound problem last) = true
 is_item (Faulty fault last) = true
 
--- the fault of an item has a number from 1 to 21, and number 21 only if the source has failed
-abbrev pub IsNumbered : Reading → Item → Type 0
-IsNumbered place (Sound problem last) = Unit {0}
-IsNumbered place (Faulty fault last) = (1 ≤ fault.number) × (fault.number ≤ 21)
-    × (fault.number ≡ 21 → place.end ≡ Broken)
-IsNumbered place End = Unit {0}
+-- the fault that a device failed is reported only if the source has failed
+abbrev pub HasFailed : Reading → Item → Type 0
+HasFailed place (Sound problem last) = Unit {0}
+HasFailed place (Faulty fault last) = is_device_failure fault.kind ≡ true → place.end ≡ Broken
+HasFailed place End = Unit {0}

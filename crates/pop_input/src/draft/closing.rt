@@ -8,19 +8,19 @@ ghost use Rattle.pop_input.specs.Posed.{rule_of};
 ghost use Rattle.pop_input.specs.Ends.{counts_as_unmoved, diagram_fault, diagram_of, position_fault, unmoved_of};
 ghost use Rattle.pop_input.specs.Blocks.{posed_entry};
 ghost use Rattle.pop_input.specs.ties.Closings.{item_of};
-ghost use Rattle.pop_input.specs.Stipulations.{has_king_to_mate};
+ghost use Rattle.pop_stipulation.specs.Stipulations.{has_king_to_mate};
 
 use crate::condition::Condition;
 use crate::draft::Draft;
 use crate::fault_kind::FaultKind;
 use crate::item::{Fault, Item, Last};
 use crate::problem::{Problem, Texts};
-use crate::stipulation::{Form, Stipulation};
 use chess_attacks::{Circe, Madrasi, Orthodox, in_check};
 use chess_core::board::Board;
 use chess_core::diagram::Diagram;
 use chess_core::man::{Colour, Unmoved};
 use chess_core::square::Square;
+use pop_stipulation::stipulation::{Form, Stipulation};
 use pop_text::text::Text;
 
 impl Draft {

@@ -8,9 +8,9 @@ use Rattle.chess_rules.specs.Legal.{is_legal}
 use Rattle.chess_rules.specs.Play.{position_after}
 use Rattle.chess_attacks.specs.RuleSet.{RuleSet}
 use Rattle.chess_rules.specs.ties.Places.{moves_behind}
-use Rattle.pop_input.specs.declared.stipulation.Goal.{Goal}
+use Rattle.pop_stipulation.specs.declared.stipulation.Goal.{Goal}
 use Rattle.pop_input.specs.Posed.{Posed}
-use Rattle.pop_input.specs.Stipulations.{is_help}
+use Rattle.pop_stipulation.specs.Stipulations.{is_help}
 use Rattle.pop_events.specs.declared.event.Phase.{Phase}
 use Rattle.pop_battle.specs.Chess.{chess}
 use Rattle.pop_solve.specs.Events.{Path, phase_half_moves, phase_start}

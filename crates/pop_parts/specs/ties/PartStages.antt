@@ -3,7 +3,7 @@ use Rattle.std.specs.Prelude.{◌≡◌, ℕ, ◌+◌, ◌-◌, ◌≤◌, ◌==
 use Rattle.chess_core.specs.Position.{Position}
 use Rattle.chess_attacks.specs.RuleSet.{RuleSet}
 use Rattle.pop_input.specs.Posed.{Posed}
-use Rattle.pop_input.specs.Stipulations.{is_help}
+use Rattle.pop_stipulation.specs.Stipulations.{is_help}
 use Rattle.pop_solve.specs.Events.{BareEvent, Path, path_event, phase_half_moves, phase_start, play_start, total}
 use Rattle.pop_parts.specs.PhaseParts.{part_count}
 use Rattle.pop_events.specs.declared.event.Phase.{Phase}

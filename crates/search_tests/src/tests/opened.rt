@@ -6,7 +6,7 @@ use crate::watch::{Seen, watch};
 use chess_core::{Kind, Square};
 use pop_input::condition::Condition;
 use pop_input::problem::Problem;
-use pop_input::stipulation::Goal;
+use pop_stipulation::stipulation::Goal;
 use std::process::Abort;
 
 /// The number of generated problems of each sort.

@@ -3,8 +3,7 @@ use Rattle.pop_input.proofs.Items.{block_starts, line_read, long_read, open_read
 use Rattle.pop_input.proofs.Skipping.{skip_read}
 use Rattle.pop_input.proofs.Ends.{word_closes, input_ends, cut_read}
 use Rattle.pop_input.proofs.Used.{closed_item, cut_takes, end_used, some_none, some_run, some_skipped, some_then, word_used}
-use Rattle.pop_input.proofs.Numbers.{cut_told, ended_numbered}
-use Rattle.pop_input.proofs.Numbered.{block_fault_small, word_numbered}
+use Rattle.pop_input.proofs.DeviceFaults.{block_fault_textual, cut_failed, ended_textual, word_closes_textual}
 use Rattle.pop_input.proofs.reader.Reader.next_problem.Goals as goal
 use Rattle.pop_input.proofs.reader.Reader.next_problem.Goals.{in-First, in-Later}
 
@@ -96,16 +95,16 @@ returns-in-Cut-clause-item g c =
     rw told (cut_read _ _ new _ _ i.starts _ _ _ i.block c.loop-keyword.block.fault c.in-Cut.cut refl c.in-Cut.ensures.token
     (c.next_behind-self-inside-in-Cut.ensures ∙ ap (λ t. next_behind t.1) told))
 
-pub returns-in-Some-clause-numbered : goal.returns-in-Some-clause-numbered
-returns-in-Some-clause-numbered g c =
+pub returns-in-Some-clause-failed : goal.returns-in-Some-clause-failed
+returns-in-Some-clause-failed g c =
     rw c.item_at_close.ensures
-    (word_numbered _ _ _ _ _ _ _ _ _ c.loop-keyword.invariant.block _ _ c.in-Word.ensures.token.0 c.read_word.ensures.read c.in-Some.last)
+    (word_closes_textual _ _ _ _ _ _ _ _ _ c.loop-keyword.invariant.block _ _ c.in-Word.ensures.token.0 c.read_word.ensures.read c.in-Some.last)
 
-pub returns-in-Ended-clause-numbered : goal.returns-in-Ended-clause-numbered
-returns-in-Ended-clause-numbered g c =
+pub returns-in-Ended-clause-failed : goal.returns-in-Ended-clause-failed
+returns-in-Ended-clause-failed g c =
     rw c.item_at_end.ensures
-    (ended_numbered c.next_token.new.scanner c.loop-keyword.block c.in-Ended.line (block_fault_small _ _ _ _ _ _ c.loop-keyword.invariant.block))
+    (ended_textual c.next_token.new.scanner c.loop-keyword.block c.in-Ended.line (block_fault_textual _ _ _ _ _ _ c.loop-keyword.invariant.block))
 
-pub returns-in-Cut-clause-numbered : goal.returns-in-Cut-clause-numbered
-returns-in-Cut-clause-numbered g c = rw c.told_of_cut-last.ensures
-    (cut_told _ _ _ _ c.loop-keyword.block.fault c.in-Cut.cut c.in-Cut.ensures.token (block_fault_small _ _ _ _ _ _ c.loop-keyword.invariant.block))
+pub returns-in-Cut-clause-failed : goal.returns-in-Cut-clause-failed
+returns-in-Cut-clause-failed g c = rw c.told_of_cut-last.ensures
+    (cut_failed _ _ _ _ c.loop-keyword.block.fault c.in-Cut.cut c.in-Cut.ensures.token (block_fault_textual _ _ _ _ _ _ c.loop-keyword.invariant.block))

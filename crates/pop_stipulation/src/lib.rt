@@ -1,0 +1,15 @@
+//! What a chess problem asks for: who starts, who helps, the goal, and the number of moves.
+//!
+//! ```rust
+//! use pop_stipulation::{Form, Goal, Stipulation};
+//!
+//! let helpmate = Stipulation { form: Form::Help, goal: Goal::Mate, n: 2 };
+//! assert!(helpmate.half_moves() == 4);
+//! ```
+//!
+//! `specs/Stipulations.antt` defines what each stipulation means. No call allocates.
+#![tactic(auto)]
+
+pub mod stipulation;
+
+pub use stipulation::{Form, Goal, MOST_MOVES, Stipulation};
