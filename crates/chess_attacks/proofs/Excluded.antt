@@ -1,6 +1,6 @@
 -- What the clauses of attack and of lines exclude: small positions in which the definitions say otherwise than a wrong
 -- body would.
-use Rattle.chess_attacks.proofs.Chess.{Black, Knight, List, Man, Option, Pawn, Queen, Rook, Some, White, [], along, bit_at, faces, faces_its_like, false, find, hopped_from, hops, is_attacked, is_clear, is_man, is_met, is_of_colour, is_reached, leaps, madrasi, man_on, orthodox, range_with_len, reaches, reaches_as, refl, rides, rides_on, some_square, squares, step_by, straight_steps, true, word, word_of, ◌&&◌, ◌==◌, ◌^◌, ◌∷◌, ◌≡◌}
+use Rattle.chess_attacks.proofs.Chess.{Black, Knight, List, Man, Option, Pawn, Queen, Rook, Some, White, [], along, bit_at, attacks_like, is_attacked_by_like, false, find, hopped_from, hops, is_attacked, is_clear, is_man, is_met, is_of_colour, is_reached, leaps, madrasi, man_on, orthodox, range_with_len, reaches, reaches_as, refl, rides, rides_on, some_square, squares, step_by, straight_steps, true, word, word_of, ◌&&◌, ◌==◌, ◌^◌, ◌∷◌, ◌≡◌}
 use Rattle.chess_attacks.proofs.Typed.{man, on, set_up, a1, b1, d1, h1, a2, b3, d3, a4, d5, e4, a5, a6, b6, a8}
 unfoldable pub use Rattle.chess_attacks.proofs.Typed.{check}
 
@@ -9,9 +9,9 @@ abbrev own_rooks : List (Option Man)
 own_rooks = set_up (on White Rook a1 ∷ on White Rook a8 ∷ [])
 
 -- the rook on a8 reaches the one on a1, which no enemy of its kind faces
-pub own_men_do_not_paralyse : (faces_its_like own_rooks (man White Rook) a1 ≡ false)
+pub own_men_do_not_paralyse : (is_attacked_by_like own_rooks (man White Rook) a1 ≡ false)
     × (some_square (λ q. is_man (man_on own_rooks q) White Rook && reaches own_rooks q a1) ≡ true)
-unfolding reaches reaches_as rides hops leaps is_clear along squares some_square faces_its_like faces
+unfolding reaches reaches_as rides hops leaps is_clear along squares some_square is_attacked_by_like attacks_like
 own_men_do_not_paralyse = (refl, refl)
 
 -- a queen on a8 attacks a1 along the file, as a rook would
@@ -26,10 +26,10 @@ unfolding rides is_clear along
 rook_passes_men_beside_its_line = (refl, refl)
 
 -- a grasshopper on a4 hops over a5 to a6, and not to b6
-pub grasshopper_lands_behind_its_hurdle : (hops (set_up (on Black Pawn a5 ∷ [])) a4 a6 (step_by 0 0 1 0) ≡ true)
+pub grasshopper_lands_after_its_hurdle : (hops (set_up (on Black Pawn a5 ∷ [])) a4 a6 (step_by 0 0 1 0) ≡ true)
     × (hops (set_up (on Black Pawn a5 ∷ [])) a4 b6 (step_by 0 0 1 0) ≡ false)
 unfolding hops is_clear along
-grasshopper_lands_behind_its_hurdle = (refl, refl)
+grasshopper_lands_after_its_hurdle = (refl, refl)
 
 -- a man who arrives on a4 shuts the file: a rook on a8 reached a1 before
 pub arriving_man_shuts : (reaches (set_up (on Black Rook a8 ∷ [])) a8 a1 ≡ true) × (reaches (set_up (on Black Rook a8 ∷ on White Pawn a4 ∷ [])) a8 a1 ≡ false)
@@ -56,10 +56,10 @@ unfolding rides is_clear along
 rider_gets_to_the_next_square = refl
 
 -- looked for from a6, a grasshopper that hops over a5 stands on a4, and not on a5
-pub grasshopper_stands_behind_its_hurdle : (hopped_from (set_up (on Black Pawn a5 ∷ [])) a6 a4 (step_by 0 0 0 1) ≡ true)
+pub grasshopper_stands_after_its_hurdle : (hopped_from (set_up (on Black Pawn a5 ∷ [])) a6 a4 (step_by 0 0 0 1) ≡ true)
     × (hopped_from (set_up (on Black Pawn a5 ∷ [])) a6 a5 (step_by 0 0 0 1) ≡ false)
 unfolding hopped_from rides_on along
-grasshopper_stands_behind_its_hurdle = (refl, refl)
+grasshopper_stands_after_its_hurdle = (refl, refl)
 
 -- a rook on a8 alone attacks a1, which is no flight then
 pub attacked_square_is_no_flight : (word (λ s. is_of_colour (man_on (set_up (on Black Rook a8 ∷ [])) s) Black && reaches (set_up (on Black Rook a8 ∷ [])) s a1)

@@ -3,7 +3,7 @@ use Rattle.chess_attacks.proofs.Chess.{Bool, None, Option, Some, and_from, and_r
 use Rattle.chess_attacks.proofs.attacks.Attacking.{some_square_same}
 use Rattle.std.specs.Prelude.{IfSome}
 use Rattle.chess_attacks.proofs.Bits.{off_zero}
-use Rattle.chess_attacks.specs.ties.Taking.{IsTaken}
+use Rattle.chess_attacks.specs.ties.Taking.{IsPopped}
 
 -- what holds of each square of a word that is taken: it isn't in the rest
 pub record HoldTaken (w rest : ℕ) (P : ℕ → Type 0) : Type 0 where
@@ -14,7 +14,7 @@ pub taken_none : (w : ℕ) (P : ℕ → Type 0) → HoldTaken w w P
 taken_none w P = record { holds = λ s small on off. absurd (false≢true (sym off ∙ on)) }
 
 -- for its next square
-pub taken_next : (w rest k left : ℕ) (P : ℕ → Type 0) → HoldTaken w rest P → IsTaken rest k left → P k → HoldTaken w left P
+pub taken_next : (w rest k left : ℕ) (P : ℕ → Type 0) → HoldTaken w rest P → IsPopped rest k left → P k → HoldTaken w left P
 taken_next w rest k left P h taken here =
     record {
       holds = λ s small on off. elim (cases_eq k s) [
@@ -24,11 +24,11 @@ taken_next w rest k left P h taken here =
     }
 
 -- the square that was taken
-pub is_taken : (rest k left : ℕ) (o : Option ℕ) → IfSome o (λ s. IsTaken rest s left) → o ≡ Some k → IsTaken rest k left
-is_taken rest k left o next some = subst (λ o. IfSome o (λ s. IsTaken rest s left)) some next
+pub is_taken : (rest k left : ℕ) (o : Option ℕ) → IfSome o (λ s. IsPopped rest s left) → o ≡ Some k → IsPopped rest k left
+is_taken rest k left o next some = subst (λ o. IfSome o (λ s. IsPopped rest s left)) some next
 
 -- for a search: a property of the taken squares holds of the square that the search finds
-pub taken_on : (w rest k left : ℕ) (o : Option ℕ) (P : ℕ → Type 0) → HoldTaken w rest P → IfSome o (λ s. IsTaken rest s left) → o ≡ Some k → P k
+pub taken_on : (w rest k left : ℕ) (o : Option ℕ) (P : ℕ → Type 0) → HoldTaken w rest P → IfSome o (λ s. IsPopped rest s left) → o ≡ Some k → P k
     → HoldTaken w left P
 taken_on w rest k left o P h next some here = taken_next w rest k left P h (is_taken rest k left o next some) here
 
@@ -42,13 +42,13 @@ pub taken_map : (w rest : ℕ) (P Q : ℕ → Type 0) → ((s : ℕ) → P s →
 taken_map w rest P Q f h = record { holds = λ s small on off. f s (h.holds s small on off) }
 
 -- each loop ends: the rest, as a number, falls
-pub rest_falls : (rest k left : ℕ) (o : Option ℕ) → IfSome o (λ s. IsTaken rest s left) → o ≡ Some k → left < rest
+pub rest_falls : (rest k left : ℕ) (o : Option ℕ) → IfSome o (λ s. IsPopped rest s left) → o ≡ Some k → left < rest
 rest_falls rest k left o next some = (is_taken rest k left o next some).fewer
 
 -- some square of a word passes if the one that is taken does, or one of the rest
-pub some_taken : (w k left : ℕ) (test : ℕ → Bool) → IsTaken w k left
+pub some_filtered : (w k left : ℕ) (test : ℕ → Bool) → IsPopped w k left
     → some_square (λ s. bit_at w s == 1 && test s) ≡ (test k || some_square (λ s. bit_at left s == 1 && test s))
-some_taken w k left test taken = elim (cases_Bool (test k)) [
+some_filtered w k left test taken = elim (cases_Bool (test k)) [
   | inl passes ↦ rw passes (some_square_true (λ s. bit_at w s == 1 && test s) k taken.small (and_from _ _ taken.here passes))
   | inr fails ↦ rw fails (some_square_same _ _ (λ s small. grind (arith, cases_eq k s, taken.others s, fails, and_right)))
 ]
@@ -64,17 +64,17 @@ pub record PassTaken (w rest : ℕ) (test : ℕ → Bool) : Type 0 where
   pub same : some_square (λ s. bit_at w s == 1 && not (test s)) ≡ some_square (λ s. bit_at rest s == 1 && not (test s))
 
 -- a search goes on where the next square passes the test
-pub pass_next : (w rest k left : ℕ) (test : ℕ → Bool) → PassTaken w rest test → IsTaken rest k left → test k ≡ true → PassTaken w left test
+pub pass_next : (w rest k left : ℕ) (test : ℕ → Bool) → PassTaken w rest test → IsPopped rest k left → test k ≡ true → PassTaken w left test
 pass_next w rest k left test h taken passes =
     record {
       inside = λ s on. h.inside s (grind (arith, cases_eq k s, taken.others s, taken.here, on));
-      same = h.same ∙ some_taken rest k left (λ s. not (test s)) taken ∙ rw passes refl;
+      same = h.same ∙ some_filtered rest k left (λ s. not (test s)) taken ∙ rw passes refl;
     }
 
 -- a search ends where the next square fails the test
-pub one_fails : (w rest k left : ℕ) (test : ℕ → Bool) → PassTaken w rest test → IsTaken rest k left → test k ≡ false
+pub one_fails : (w rest k left : ℕ) (test : ℕ → Bool) → PassTaken w rest test → IsPopped rest k left → test k ≡ false
     → true ≡ some_square (λ s. bit_at w s == 1 && not (test s))
-one_fails w rest k left test h taken fails = sym (h.same ∙ some_taken rest k left (λ s. not (test s)) taken ∙ rw fails refl)
+one_fails w rest k left test h taken fails = sym (h.same ∙ some_filtered rest k left (λ s. not (test s)) taken ∙ rw fails refl)
 
 -- at its end none fails
 pub none_fails : (w rest : ℕ) (o : Option ℕ) (test : ℕ → Bool) → PassTaken w rest test → (o ≡ None → rest ≡ 0) → o ≡ None

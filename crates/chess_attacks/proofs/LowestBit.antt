@@ -2,7 +2,7 @@
 use Rattle.chess_attacks.proofs.Basics.{ap, arith, bit_and, bit_at, bit_at-lt, bit_at-trailing_zeros, bit_at_and, cases_eq, cases_lt, eq-eqb, sym, suc, trailing_zeros, w64, zero, ℕ, ◌%◌, ◌-◌, ◌/◌, ◌<◌, ◌^◌, ◌∙◌, ◌≡◌}
 use Rattle.std.proofs.lemmas.Nat.{and_le_r}
 use Rattle.std.proofs.lemmas.Nat.Bits.{bit_at-suc, bit_at_lowest}
-use Rattle.chess_attacks.specs.ties.Taking.{IsTaken}
+use Rattle.chess_attacks.specs.ties.Taking.{IsPopped}
 
 -- the bits of n - 1, where k is n's lowest
 pub record IsLessOne (n k : ℕ) : Type 0 where
@@ -42,7 +42,7 @@ less_one (suc k) n pos here first =
     }
 
 -- the lowest bit of a word goes
-pub lowest_goes : (n : ℕ) → 0 < n → n < 2 ^ 64 → IsTaken n (trailing_zeros w64 n) (bit_and n (n - 1))
+pub lowest_goes : (n : ℕ) → 0 < n → n < 2 ^ 64 → IsPopped n (trailing_zeros w64 n) (bit_and n (n - 1))
 lowest_goes n pos fits =
     let z = bit_at-trailing_zeros w64 n pos fits in
     let less = less_one (trailing_zeros w64 n) n pos z.1 z.2 in

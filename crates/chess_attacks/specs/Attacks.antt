@@ -6,25 +6,25 @@ use Rattle.chess_core.specs.Position.{man_on, is_of_colour, is_man, same_kind, o
 use Rattle.chess_core.specs.declared.man.Man.{Man}
 use Rattle.chess_core.specs.declared.man.Colour.{Colour}
 use Rattle.chess_core.specs.declared.man.Kind.TheVariants.{King}
-use Rattle.chess_attacks.specs.RuleSet.{RuleSet, faced_men_stand_still}
+use Rattle.chess_attacks.specs.RuleSet.{RuleSet, like_men_paralyse}
 use Rattle.chess_attacks.specs.Reaches.{reaches}
 
 -- the man on q is an enemy of x of the same kind and reaches s
-unfoldable pub faces : List (Option Man) → Man → ℕ → ℕ → Bool
-faces men x s q = is_man (man_on men q) (other x.colour) x.kind && reaches men q s
+unfoldable pub attacks_like : List (Option Man) → Man → ℕ → ℕ → Bool
+attacks_like men x s q = is_man (man_on men q) (other x.colour) x.kind && reaches men q s
 
 -- an enemy man of the same kind as x reaches s
-unfoldable pub faces_its_like : List (Option Man) → Man → ℕ → Bool
-faces_its_like men x s = some_square (faces men x s)
+unfoldable pub is_attacked_by_like : List (Option Man) → Man → ℕ → Bool
+is_attacked_by_like men x s = some_square (attacks_like men x s)
 
 -- the man on s is no king, and an enemy man of its kind reaches s
-abbrev pub is_faced : List (Option Man) → Option Man → ℕ → Bool
-is_faced men None s = false
-is_faced men (Some x) s = not (same_kind x.kind King) && faces_its_like men x s
+abbrev pub is_attacked_by_like_man : List (Option Man) → Option Man → ℕ → Bool
+is_attacked_by_like_man men None s = false
+is_attacked_by_like_man men (Some x) s = not (same_kind x.kind King) && is_attacked_by_like men x s
 
 -- in Madrasi: the man on s is no king, and an enemy man of its kind reaches s
 unfoldable pub is_paralysed : RuleSet → List (Option Man) → ℕ → Bool
-is_paralysed rule men s = faced_men_stand_still rule && is_faced men (man_on men s) s
+is_paralysed rule men s = like_men_paralyse rule && is_attacked_by_like_man men (man_on men s) s
 
 -- the man on s is of colour c, isn't paralysed and reaches t
 unfoldable pub is_attacker : RuleSet → List (Option Man) → ℕ → Colour → ℕ → Bool

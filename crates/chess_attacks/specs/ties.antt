@@ -1,4 +1,4 @@
 pub mod Lines
 pub mod Outward
-pub mod Sight
+pub mod Occupancy
 pub mod Taking

@@ -24,14 +24,14 @@
 //! `chess_mates` only: bitboards of lines, leaps, rides and attackers. No call changes a board or allocates.
 #![tactic(auto)]
 
+pub mod attacks_on;
 mod geometry;
 pub mod leaps;
 pub mod lines;
-pub mod open_board;
-pub mod outward;
+pub mod occupancy;
 pub mod reach;
 pub mod rules;
-pub mod sight;
+pub mod unblocked;
 pub mod words;
 
 pub use crate::rules::{Circe, Madrasi, Orthodox, Rules, in_check};

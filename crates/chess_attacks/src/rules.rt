@@ -2,12 +2,12 @@
 ghost use Rattle.std.specs.Prelude.{◌≡◌, ℕ, Some, false, true};
 ghost use Rattle.chess_core.specs.Squares.{squares};
 ghost use Rattle.chess_core.specs.Position.{king_square, man_on};
-ghost use Rattle.chess_attacks.specs.RuleSet.{RuleSet, captures_are_reborn, captures_do_more, circe, faced_men_stand_still, madrasi, orthodox};
+ghost use Rattle.chess_attacks.specs.RuleSet.{RuleSet, captures_are_reborn, captures_do_more, circe, like_men_paralyse, madrasi, orthodox};
 ghost use Rattle.chess_core.specs.WellFormed.{IsWellFormed};
-ghost use Rattle.chess_attacks.specs.Attacks.{faces_its_like, in_check, is_attacked, is_faced, is_paralysed};
+ghost use Rattle.chess_attacks.specs.Attacks.{is_attacked_by_like, in_check, is_attacked, is_attacked_by_like_man, is_paralysed};
 
-use crate::outward::{attackers, is_reached, reached_by, some_free};
-use crate::sight::sight_now;
+use crate::attacks_on::{attackers, is_reached, reaching_kind, some_unparalysed};
+use crate::occupancy::sight_now;
 use chess_core::board::Board;
 use chess_core::man::{Colour, Kind, Man, Move};
 use chess_core::square::Square;
@@ -21,8 +21,8 @@ pub trait Rules: Copy {
         ensures { result ≡ captures_are_reborn rule };
 
     /// Returns whether a man that an enemy man of its kind attacks is paralysed (Madrasi).
-    fn faced_men_stand_still() -> bool
-        ensures { result ≡ faced_men_stand_still rule };
+    fn like_men_paralyse() -> bool
+        ensures { result ≡ like_men_paralyse rule };
 
     /// Returns whether a capture can change more than the squares of the two men.
     final fn captures_do_more() -> bool
@@ -37,7 +37,7 @@ pub trait Rules: Copy {
     final fn paralysed(board: &Board, square: Square) -> bool
         ensures { result ≡ is_paralysed rule board.now.men square }
     {
-        Self::faced_men_stand_still() && is_faced(board, square)
+        Self::like_men_paralyse() && is_attacked_by_like_man(board, square)
     }
 
     /// Returns whether the colour attacks the square: one of its men that isn't paralysed could capture
@@ -45,19 +45,19 @@ pub trait Rules: Copy {
     final fn attacked(board: &Board, square: Square, colour: Colour) -> bool
         ensures { result ≡ is_attacked rule board.now.men square colour }
     {
-        if !Self::faced_men_stand_still() {
+        if !Self::like_men_paralyse() {
             return is_reached(board, square, colour);
         }
         let men = attackers(board, square, colour);
-        some_free::<Self>(board, men)
+        some_unparalysed::<Self>(board, men)
     }
 }
 
 // Returns whether an enemy man of the same kind as `man` reaches the square.
-fn faces_its_like(board: &Board, man: Man, square: Square) -> bool
-    ensures { result ≡ faces_its_like board.now.men man square }
+fn is_attacked_by_like(board: &Board, man: Man, square: Square) -> bool
+    ensures { result ≡ is_attacked_by_like board.now.men man square }
 {
-    reached_by(
+    reaching_kind(
         board,
         sight_now(board),
         square,
@@ -67,11 +67,11 @@ fn faces_its_like(board: &Board, man: Man, square: Square) -> bool
 }
 
 // Returns whether a man other than a king is on the square and an enemy man of its kind reaches it.
-fn is_faced(board: &Board, square: Square) -> bool
-    ensures { result ≡ is_faced board.now.men (man_on board.now.men square) square }
+fn is_attacked_by_like_man(board: &Board, square: Square) -> bool
+    ensures { result ≡ is_attacked_by_like_man board.now.men (man_on board.now.men square) square }
 {
     match board.man_at(square) {
-        Some(man) => !man.kind.is(Kind::King) && faces_its_like(board, man, square),
+        Some(man) => !man.kind.is(Kind::King) && is_attacked_by_like(board, man, square),
         None => false,
     }
 }
@@ -95,7 +95,7 @@ impl Rules for Orthodox {
         false
     }
 
-    fn faced_men_stand_still() -> bool {
+    fn like_men_paralyse() -> bool {
         false
     }
 }
@@ -107,7 +107,7 @@ impl Rules for Circe {
         true
     }
 
-    fn faced_men_stand_still() -> bool {
+    fn like_men_paralyse() -> bool {
         false
     }
 }
@@ -119,7 +119,7 @@ impl Rules for Madrasi {
         false
     }
 
-    fn faced_men_stand_still() -> bool {
+    fn like_men_paralyse() -> bool {
         true
     }
 }

@@ -4,7 +4,7 @@ ghost use Rattle.std.specs.Int.{bit_at, trailing_zeros, w64};
 ghost use Rattle.std.specs.List.{range_with_len};
 ghost use Rattle.chess_core.specs.Squares.{is_square};
 ghost use Rattle.chess_core.specs.ties.Words.{word};
-ghost use Rattle.chess_attacks.specs.ties.Taking.{IsTaken};
+ghost use Rattle.chess_attacks.specs.ties.Taking.{IsPopped};
 
 use chess_core::square::{Square, Squares};
 
@@ -29,7 +29,7 @@ pub fn contains(word: Squares, square: Square) -> bool
 /// Returns the lowest square of the bitboard whose number is `from` or more (a1 is 0, h8 is 63), or `None`.
 pub fn next_bit(word: Squares, from: u8) -> Option<Square>
     ensures value { result ≡ find (λ s. bit_at word s == 1) (range_with_len from (64 - from)) }
-    ensures behind { IfSome result (λ s. from ≤ s) }
+    ensures following { IfSome result (λ s. from ≤ s) }
 {
     if from >= 64 {
         return None;
@@ -49,17 +49,17 @@ pub fn squares_from(word: Squares, from: u8) -> Squares
     if from >= 64 {
         return 0;
     }
-    let behind = u64::MAX << from;
-    word & behind
+    let following = u64::MAX << from;
+    word & following
 }
 
 /// Removes the lowest square from the bitboard and returns it, or `None` if the bitboard is empty. A `while
 /// let` loop over it visits all squares in order.
 #[inline(always)]
 #[tactic(auto, using(crate::proofs::LowestBit::lowest_goes))]
-pub fn take_first(word: &mut Squares) -> Option<Square>
+pub fn pop_first(word: &mut Squares) -> Option<Square>
     ensures none { result ≡ None → word.old ≡ 0 }
-    ensures taken { IfSome result (λ s. IsTaken word.old s word.new) }
+    ensures taken { IfSome result (λ s. IsPopped word.old s word.new) }
 {
     let squares = *word;
     if squares == 0 {

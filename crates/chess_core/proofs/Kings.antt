@@ -44,9 +44,9 @@ unfolding king_square
 king_square-same men others c h = λ i. find (λ t. h t i) squares
 
 -- a king taken off leaves none of his colour
-none_behind : (men : List (Option Man)) (s : ℕ) (x : Man) → AtMostOneKing men → man_on men s ≡ Some x → same_kind x.kind King ≡ true
+none_after : (men : List (Option Man)) (s : ℕ) (x : Man) → AtMostOneKing men → man_on men s ≡ Some x → same_kind x.kind King ≡ true
     → HasNoKing (without_man men s) x.colour
-none_behind men s x one held king t =
+none_after men s x one held king t =
     grind (arith, cases_eq t s, man_on-without_same, man_on-without_other, same_colour-refl, one.same x.colour t s)
 
 -- taken off, a man who isn't this king leaves him where he stands
@@ -76,7 +76,7 @@ kings_stay men others h = λ i. map (λ d. h d i) colours
 pub king_lifted : (men left : List (Option Man)) (kings : List (Option ℕ)) (n s : ℕ) (x : Man) → kings ≡ king_squares men → left ≡ without_man men s
     → n ≡ colour_number x.colour → AtMostOneKing men → man_on men s ≡ Some x → same_kind x.kind King ≡ true → set kings n None ≡ king_squares left
 king_lifted men left kings n s x are is at one held king = rw (are, is, at)
-    (kings_change men (without_man men s) x.colour None (sym (king_square-gone (without_man men s) x.colour (none_behind men s x one held king)))
+    (kings_change men (without_man men s) x.colour None (sym (king_square-gone (without_man men s) x.colour (none_after men s x one held king)))
     (λ d apart. king_square-same men (without_man men s) d (λ t. as_without men s x d t held (and_left (same_colour x.colour d) _ apart))))
 
 -- another man is taken off

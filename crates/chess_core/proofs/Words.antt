@@ -124,8 +124,8 @@ squares_some test h =
     some_square_true test (trailing_zeros w64 (word test)) w.0 (bit_true _ (sym (square_bit test (trailing_zeros w64 (word test)) w.0) ∙ w.1))
 
 -- some square passes exactly if the bitboard isn't 0
-pub some_square_told : (test : ℕ → Bool) (n : ℕ) → n ≡ word test → not (eqb n 0) ≡ some_square test
-some_square_told test n h = grind (arith, cases_eq, squares_none, ne_eqb, squares_some)
+pub some_square_known : (test : ℕ → Bool) (n : ℕ) → n ≡ word test → not (eqb n 0) ≡ some_square test
+some_square_known test n h = grind (arith, cases_eq, squares_none, ne_eqb, squares_some)
 
 negated : (b : Bool) → 1 - bit_of b ≡ bit_of (not b)
 negated b = grind arith

@@ -24,14 +24,14 @@ impl Model for Placement {
 
     ghost Value = { List (Option Man) };
 
-    ghost use Rattle.chess_core.specs.ties.Kept.{IsInStep, kind_words, side_words};
+    ghost use Rattle.chess_core.specs.ties.Kept.{Agrees, kind_bitboards, side_bitboards};
     ghost use Rattle.std.proofs.Common.{◌≡◌, length, sym};
 
     ghost view = { λ p. p.array };
 
-    ghost invariant = { λ p. (length p.array ≡ 64) × IsInStep p.array p.by_kind p.by_side };
+    ghost invariant = { λ p. (length p.array ≡ 64) × Agrees p.array p.by_kind p.by_side };
 
-    ghost inverse = { λ v. record { array = v; by_kind = kind_words v; by_side = side_words v } };
+    ghost inverse = { λ v. record { array = v; by_kind = kind_bitboards v; by_side = side_bitboards v } };
 
     ghost inverse_ok = { λ p h i. record p {
       by_kind = sym h.1.kinds_are i;

@@ -1,5 +1,5 @@
 -- The squares from which pawns come to a square, by the difference of square numbers.
-use Rattle.chess_mates.proofs.Chess.{AreApproaches, AreCapturers, Black, Bool, Colour, None, Pawn, Position, White, agree_below, agree_below_at, along, and_parts, ap, arith, bit_at, bit_at_cat_high, bit_at_cat_low, bit_or, eqb-true, false, false≢true, forward, if◌then◌else◌, implied, is_advance, is_square, leaps, list_any, man_on, may_go, not, not-true, on_left, on_right, or_cases, or_left, or_right, other, pawn_capture_steps, pawn_goes, queen_steps, rank_of, reaches_as, refl, rules, same_colour, second_rank, true, ℕ, List, Option, Some, Step, [], list_all, false_by, square_is, sym, ◌%◌, ◌&&◌, ◌*◌, ◌+◌, ◌-◌, ◌/◌, ◌<◌, ◌==◌, ◌^◌, ◌||◌, ◌≡◌, ◌≤◌, ◌∷◌, ◌∙◌}
+use Rattle.chess_mates.proofs.Chess.{AreApproaches, AreCapturers, Black, Bool, Colour, None, Pawn, Position, White, agree_below, agree_below_at, along, and_parts, ap, arith, bit_at, bit_at_cat_high, bit_at_cat_low, bit_or, eqb-true, false, false≢true, forward, if◌then◌else◌, implied, is_advance, is_square, leaps, list_any, man_on, may_arrive, not, not-true, on_left, on_right, or_cases, or_left, or_right, other, pawn_capture_steps, pawn_steps_to, queen_steps, rank_of, reaches_as, refl, rules, same_colour, second_rank, true, ℕ, List, Option, Some, Step, [], list_all, false_by, square_is, sym, ◌%◌, ◌&&◌, ◌*◌, ◌+◌, ◌-◌, ◌/◌, ◌<◌, ◌==◌, ◌^◌, ◌||◌, ◌≡◌, ◌≤◌, ◌∷◌, ◌∙◌}
 use Rattle.std.proofs.Math.Nat.{div-add-mod}
 use Rattle.std.proofs.lemmas.Nat.{pow_pos, shr-shr}
 
@@ -75,8 +75,8 @@ every f white black White s t p = way_holds White (f White s) s t (agree_below_a
 every f white black Black s t p = way_holds Black (f Black s) s t (agree_below_at (λ s. holds_ahead Black (f Black s) s) (λ s. true) 64 s black p)
 
 -- a pawn that may go goes so
-pub takes_or_steps : (p : Position) (c : Colour) (s t : ℕ) → may_go p (record { colour = c; kind = Pawn }) s t ≡ true → pawn_way c s t ≡ true
-unfolding may_go reaches_as
+pub takes_or_steps : (p : Position) (c : Colour) (s t : ℕ) → may_arrive p (record { colour = c; kind = Pawn }) s t ≡ true → pawn_way c s t ≡ true
+unfolding may_arrive reaches_as
 takes_or_steps p c s t goes = search (rules, and_parts, or_cases, or_left, or_right)
 
 -- the square that a double step passes, and from which a pawn of the other colour advances to the pawn's
@@ -96,13 +96,13 @@ steps_ahead c s h p steps rank =
     implied _ _ (implied _ _ (every ahead refl refl c s h p (or_right (list_any (leaps s h) (pawn_capture_steps c)) _ steps)) rank) steps
 
 -- a pawn goes two ranks only by stepping
-module _ (p : Position) (c : Colour) (s t : ℕ) (low : s < 64) (high : t < 64) (goes : may_go p (record { colour = c; kind = Pawn }) s t ≡ true)
+module _ (p : Position) (c : Colour) (s t : ℕ) (low : s < 64) (high : t < 64) (goes : may_arrive p (record { colour = c; kind = Pawn }) s t ≡ true)
     (far : is_far s t ≡ true) where
   -- to a square where nobody stands
   pub far_is_vacant : man_on p.men t ≡ None
-  unfolding may_go reaches_as
+  unfolding may_arrive reaches_as
   far_is_vacant =
-      let pawn = pawn_goes p (record { colour = c; kind = Pawn }) (record { from = s; to = t; promo = None }) in
+      let pawn = pawn_steps_to p (record { colour = c; kind = Pawn }) (record { from = s; to = t; promo = None }) in
       grind (arith, no_far_step s t low high far, pawn, goes, false≢true)
 
   -- a pawn that advances to the square between is where the pawn arrives

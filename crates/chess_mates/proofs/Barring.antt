@@ -1,5 +1,5 @@
 -- A king's step to an empty square that an attacker reaches over the hurdles is illegal.
-use Rattle.chess_mates.proofs.Chess.{Colour, IsAttackedOver, IsAttacker, IsBarred, IsMade, IsMereMove, IsPlainMove, IsSiege, IsSiegeOf, IsWellFormed, IsWhole, King, List, Man, Move, None, Option, Position, RuleSet, Siege, Some, StandAlike, and_from, and_left, ap, arith, arrived, arriving_colour, bit_and, bit_at, bit_not, bit_or, capture_square, captures_do_more, cases_eq, cases_lt, cond-true, faced_men_stand_still, false, false_by, false≢true, gone_to, in_check, inl, inr, is_attacked, is_attacker, is_legal, is_of_colour, is_paralysed, is_pseudo_legal, is_some, king_is_after, king_square, length, length-set, made, man_on, men_on, no_reach_there, not, off_left, off_right, off_second, on_board, other, position_after, reached_over, reaches, reaches_alike, reaches_as, refl, rules, same_Bool, same_colour, same_colour-refl, same_kind, side_of, simple_after, some_square_true, sym, true, w64, word_has, ℕ, ◌<◌, ◌==◌, ◌^◌, ◌∙◌, ◌≡◌, ◌≢◌}
+use Rattle.chess_mates.proofs.Chess.{Colour, IsAttackedOver, IsAttacker, IsBarred, IsMade, IsMereMove, IsPlainMove, IsKingAttack, IsKingAttackOf, IsWellFormed, IsWhole, King, List, Man, Move, None, Option, Position, RuleSet, KingAttack, Some, StandAlike, and_from, and_left, ap, arith, arrived, arriving_colour, bit_and, bit_at, bit_not, bit_or, capture_square, captures_do_more, cases_eq, cases_lt, cond-true, like_men_paralyse, false, false_by, false≢true, gone_to, in_check, inl, inr, is_attacked, is_attacker, is_legal, is_of_colour, is_paralysed, is_pseudo_legal, is_some, king_is_after, king_square, length, length-set, made, man_on, men_on, no_reach_there, not, off_left, off_right, off_second, on_board, other, position_after, reached_over, reaches, reaches_alike, reaches_as, refl, rules, same_Bool, same_colour, same_colour-refl, same_kind, side_of, simple_after, some_square_true, sym, true, w64, word_has, ℕ, ◌<◌, ◌==◌, ◌^◌, ◌∙◌, ◌≡◌, ◌≢◌}
 use Rattle.chess_mates.proofs.HomeSquares.{some_of}
 use Rattle.chess_attacks.proofs.rays.OnSquares.{one_on, size_on}
 use Rattle.chess_mates.proofs.Passing.{on_denied}
@@ -7,7 +7,7 @@ use Rattle.chess_mates.proofs.Standing.{nobody_strikes, not_mine, not_mine_enemy
 use Rattle.chess_rules.proofs.making_moves.Plays.{length-without_at}
 
 -- for `unbarred_steps`: a step that is passed over comes to an empty square that is reached
-pub barred_is : (rule : RuleSet) (v : Siege) (w r t : ℕ) → faced_men_stand_still rule ≡ false → r < 2 ^ 64
+pub barred_is : (rule : RuleSet) (v : KingAttack) (w r t : ℕ) → like_men_paralyse rule ≡ false → r < 2 ^ 64
     → ((t : ℕ) → t < 64 → (bit_at r t == 1) ≡ true → IsAttackedOver v.hurdles v.men t) → t < 64 → (bit_at w t == 1) ≡ true
     → (bit_at (bit_and w (bit_or v.hurdles (bit_not w64 r))) t == 1) ≡ false → IsBarred rule v t
 barred_is rule v w r t able fits reached small on off =
@@ -27,17 +27,17 @@ pub beyond : (men : List (Option Man)) (e : ℕ) → length men ≡ 64 → (e < 
 beyond men e size high = search (rules, on_board)
 
 -- the hurdles are all men but the king
-pub hurdle_is : (rule : RuleSet) (p : Position) (v : Siege) → IsSiege v → IsWhole v → IsSiegeOf rule p v → (e : ℕ) → e < 64 → e ≢ v.king
+pub hurdle_is : (rule : RuleSet) (p : Position) (v : KingAttack) → IsKingAttack v → IsWhole v → IsKingAttackOf rule p v → (e : ℕ) → e < 64 → e ≢ v.king
     → is_some (man_on p.men e) ≡ (bit_at v.hurdles e == 1)
 unfolding side_of
-hurdle_is rule p v siege whole fits e low off = same_Bool _ _
+hurdle_is rule p v king_attack whole fits e low off = same_Bool _ _
     (λ some. whole.hurdles e low (search (rules, some_of (man_on p.men e) p.turn some, word_has, fits.own, fits.enemies)) (λ same. off (sym same)))
-    (λ on. search (rules, (siege.hurdles.men e low on).0, some_side, word_has, fits.own, fits.enemies))
+    (λ on. search (rules, (king_attack.hurdles.men e low on).0, some_side, word_has, fits.own, fits.enemies))
 
 -- the king x makes a step
-module _ (rule : RuleSet) (p : Position) (m : Move) (x : Man) (v : Siege) (well : IsWellFormed p) (may : is_pseudo_legal rule p m ≡ true)
+module _ (rule : RuleSet) (p : Position) (m : Move) (x : Man) (v : KingAttack) (well : IsWellFormed p) (may : is_pseudo_legal rule p m ≡ true)
     (here : man_on p.men m.from ≡ Some x) (small : m.to < 64) (captures : (s : ℕ) → capture_square p x m ≡ Some s → s ≡ m.to) (at_king : v.king ≡ m.from)
-    (siege : IsSiege v) (whole : IsWhole v) (fits : IsSiegeOf rule p v) where
+    (king_attack : IsKingAttack v) (whole : IsWhole v) (fits : IsKingAttackOf rule p v) where
   is : IsMade rule p x m
   is = made rule p m x may here
 
@@ -69,9 +69,9 @@ module _ (rule : RuleSet) (p : Position) (m : Move) (x : Man) (v : Siege) (well 
           ∙ sym (beyond then e whole_board (λ low. omega (arith, low, high)))
       | inl low ↦ one_on v.hurdles e low ∙ elim (cases_eq e m.from) [
         | inl same ↦
-            false_by _ (λ on. (siege.hurdles.men e low on).1 (at_king ∙ sym same))
+            false_by _ (λ on. (king_attack.hurdles.men e low on).1 (at_king ∙ sym same))
             ∙ sym (ap (λ (o : Option Man). is_some o) (ap (man_on then) same) ∙ left)
-        | inr off ↦ sym (ap (λ (o : Option Man). is_some o) (kept e off ne) ∙ hurdle_is rule p v siege whole fits e low (λ same. off (same ∙ at_king)))
+        | inr off ↦ sym (ap (λ (o : Option Man). is_some o) (kept e off ne) ∙ hurdle_is rule p v king_attack whole fits e low (λ same. off (same ∙ at_king)))
       ]
     ];
   }
@@ -87,7 +87,7 @@ module _ (rule : RuleSet) (p : Position) (m : Move) (x : Man) (v : Siege) (well 
       ])
 
   -- a king is attacked, if an attacker reaches its square
-  module _ (able : faced_men_stand_still rule ≡ false) (a : IsAttackedOver v.hurdles v.men m.to) where
+  module _ (able : like_men_paralyse rule ≡ false) (a : IsAttackedOver v.hurdles v.men m.to) where
     stood_a : man_on p.men a.from ≡ Some a.man
     stood_a = fits.men.alone a.from a.man a.stands
 
@@ -109,7 +109,7 @@ module _ (rule : RuleSet) (p : Position) (m : Move) (x : Man) (v : Siege) (well 
     strikes : is_attacker rule then m.to (other p.turn) a.from ≡ true
     unfolding is_attacker is_paralysed reached_over
     strikes = and_from _ _ (and_from _ _ (ap (λ (o : Option Man). is_of_colour o (other p.turn)) there ∙ enemy_a)
-        (ap not (and_left (faced_men_stand_still rule) _ able)))
+        (ap not (and_left (like_men_paralyse rule) _ able)))
         (able_strikes a.from then m.to a.man there (sym (reaches_alike (men_on v.hurdles) then a.man.colour a.man.kind a.from m.to alike) ∙ a.reaches))
 
     pub attacked_there : is_attacked rule then m.to (other p.turn) ≡ true
@@ -118,14 +118,14 @@ module _ (rule : RuleSet) (p : Position) (m : Move) (x : Man) (v : Siege) (well 
 
 -- a king's step to an empty square that an attacker reaches over the hurdles is illegal: it would be in
 -- check after it
-pub barred_is_illegal : (rule : RuleSet) (p : Position) (m : Move) (x : Man) (v : Siege) → IsWellFormed p → is_pseudo_legal rule p m ≡ true
+pub barred_is_illegal : (rule : RuleSet) (p : Position) (m : Move) (x : Man) (v : KingAttack) → IsWellFormed p → is_pseudo_legal rule p m ≡ true
     → man_on p.men m.from ≡ Some x → m.to < 64 → IsPlainMove p x m → (captures_do_more rule ≡ true → IsMereMove p x m) → same_kind x.kind King ≡ true
-    → v.king ≡ m.from → IsSiege v → IsWhole v → IsSiegeOf rule p v → IsBarred rule v m.to → is_legal rule p m ≡ true → ⊥
+    → v.king ≡ m.from → IsKingAttack v → IsWhole v → IsKingAttackOf rule p v → IsBarred rule v m.to → is_legal rule p m ≡ true → ⊥
 unfolding is_legal in_check
-barred_is_illegal rule p m x v well may here small plain mere king at_king siege whole fits barred legal =
+barred_is_illegal rule p m x v well may here small plain mere king at_king king_attack whole fits castling_forbidden legal =
     let is = made rule p m x may here in
     let men : (position_after rule p m).men ≡ arrived p x m = simple_after rule p x m here plain.castling (λ c. (mere c).captures) in
     let to : king_square (arrived p x m) p.turn ≡ Some m.to =
     king_is_after rule p x m well is small plain.castling ∙ cond-true (same_kind x.kind King) _ _ king in
-    let attacked = attacked_there rule p m x v well may here small plain.captures at_king siege whole fits barred.able barred.attacked in
+    let attacked = attacked_there rule p m x v well may here small plain.captures at_king king_attack whole fits castling_forbidden.able castling_forbidden.attacked in
     grind (arith, men, to, attacked, legal)

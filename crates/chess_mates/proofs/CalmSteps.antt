@@ -1,5 +1,5 @@
 -- If the enemy king has a legal step without check after a move, not every reply mates.
-use Rattle.chess_mates.proofs.Chess.{AreOpen, AreSeen, AreSteps, Colour, IsQuietTo, IsSafe, IsSeenFrom, IsWellFormed, Kind, King, List, Man, Move, Option, Position, RuleSet, Some, after_well_formed, and_left, and_right, ap, arith, arriving_man, bit_and, bit_not, capture_square, captures_arrival, cases_Bool, cases_eq, differs, eq-eqb, false, gone_to, in_check, inl, inr, is_legal, is_man, is_mating, is_of_colour, is_open, is_pseudo_legal-from_legal, is_reached, is_simple, is_some, is_square, kept_now, king-back, king_after, king_is_after, king_square, king_stands, left_now, legal_moves_are_triples, length, list_all, man_on, man_on-with_other, may_check_from, moves, no_man, not, not-true, not_attacked, occupied_squares, on_first, or_parts, other, other_twice, position_after, reaches, reaches_as, refl, rules, same_colour, same_kind, same_kind-true, sight_lifted, sight_stepped, simple_after, some_square_same, squares_both, squares_not, squares_of, sym, there_now, true, w64, word, ℕ, ◌&&◌, ◌<◌, ◌==◌, ◌||◌, ◌∙◌, ◌≡◌}
+use Rattle.chess_mates.proofs.Chess.{AreOpen, DescribesMen, AreSteps, Colour, IsQuietTo, IsSafe, IsSeenFrom, IsWellFormed, Kind, King, List, Man, Move, Option, Position, RuleSet, Some, after_well_formed, and_left, and_right, ap, arith, arriving_man, bit_and, bit_not, capture_square, captures_arrival, cases_Bool, cases_eq, differs, eq-eqb, false, gone_to, in_check, inl, inr, is_legal, is_man, is_mating, is_of_colour, is_open, is_pseudo_legal-from_legal, is_reached, is_simple, is_some, is_square, kept_now, king-back, king_after, king_is_after, king_square, king_stands, left_now, legal_moves_are_triples, length, list_all, man_on, man_on-with_other, may_check_from, moves, no_man, not, not-true, not_attacked, occupied_squares, on_first, or_parts, other, other_twice, position_after, reaches, reaches_as, refl, rules, same_colour, same_kind, same_kind-true, sight_lifted, sight_stepped, simple_after, some_square_same, squares_both, squares_not, squares_of, sym, there_now, true, w64, word, ℕ, ◌&&◌, ◌<◌, ◌==◌, ◌||◌, ◌∙◌, ◌≡◌}
 use Rattle.chess_mates.proofs.Mating.{quiet}
 use Rattle.chess_mates.proofs.Fleeing.{IsKingOn, after_seen, is_made, king_is_other, king_on, king_seen, king_step, no_king_free, no_own_arrives, open_parts, reaches_alike_of, safe_step, simple_step, some_of_colour, is_step, step_taken, step_to, turn_is}
 use Rattle.chess_mates.proofs.KingsApart.{kings_apart}
@@ -29,7 +29,7 @@ module _ (men : List (Option Man)) (a : ℕ) (o : Option ℕ) (b : ℕ) (z : Man
     ]
   ]
 
-  seen_left : AreSeen men (stepped men a o b z k u t z) c (sight_stepped (sight_lifted men a o b k) k t)
+  seen_left : DescribesMen men (stepped men a o b z k u t z) c (sight_stepped (sight_lifted men a o b k) k t)
   unfolding squares_of
   seen_left = search (rules, stands_left, occupied_stepped, i.arrival, i.flight, i.taken, squares_both, squares_not)
 

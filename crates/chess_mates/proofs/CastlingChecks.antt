@@ -1,5 +1,5 @@
 -- Castling that uncovers no king gives check only by its rook.
-use Rattle.chess_mates.proofs.Chess.{AreCastlingTargets, Bishop, Bool, CheckSquares, Colour, Direction, East, Grasshopper, IsCastle, IsCovered, IsMade, IsShift, IsWellFormed, Kind, King, List, Man, Move, Nightrider, None, North, NorthEast, NorthWest, Option, Pawn, Position, Queen, Rook, RuleSet, Some, South, SouthEast, SouthWest, Step, Straight, West, [], agree_below, agree_below_at, all_at, along, along-is, and_from, and_left, and_parts, any_kept, ap, arith, arrived, back, bit_and, bit_or, can_castle, cases_eq, castle_of, cond-true, corner, corner_stays, covered_parts, enemy, eq-eqb, eqb-true, false, false_from_ne_true, false≢true, frees, goes_on, gone_shift, halfway, hops, implied, in_check, inl, inr, is_ahead, is_castling, is_clear, is_diagonal, is_man, is_of_colour, is_on_some, is_reached, is_some, is_square, is_two_files_aside, is_vacant, king_is, king_no_step, king_square, king_stays_king, length-set, line_before, list_all, list_any, man_on, man_on-with_same, man_there, may_castle, may_check_from, may_expose, may_expose_at, may_stand_between, moved_men, no_capture, not, not_attacked, not_parted, off_left, off_right, off_second, onward, or_cases, or_left, or_parts, other, passes, position_after, range_with_len, reaches, reaches_as, refl, return_square, rides, rules, same_colour, same_kind, same_kind-true, some_square_false, some_square_true, square_is, squares_between, step_of, stood, straight_steps, sym, true, unreached, unreborn_after, ways, with_man, without_man, word, word_has, ℕ, ◌%◌, ◌&&◌, ◌*◌, ◌+◌, ◌-◌, ◌/◌, ◌<◌, ◌==◌, ◌^◌, ◌||◌, ◌∙◌, ◌∷◌, ◌≡◌, ◌≢◌, ◌≤◌, ◌⊎◌}
+use Rattle.chess_mates.proofs.Chess.{AreCastlingTargets, Bishop, Bool, CheckSquares, Colour, Direction, East, Grasshopper, IsCastle, IsCovered, IsMade, IsShift, IsWellFormed, Kind, King, List, Man, Move, Nightrider, None, North, NorthEast, NorthWest, Option, Pawn, Position, Queen, Rook, RuleSet, Some, South, SouthEast, SouthWest, Step, Straight, West, [], agree_below, agree_below_at, all_at, along, along-is, and_from, and_left, and_parts, any_kept, ap, arith, arrived, back, bit_and, bit_or, can_castle, cases_eq, castle_of, cond-true, corner, corner_stays, covered_parts, enemy, eq-eqb, eqb-true, false, false_from_ne_true, false≢true, frees, goes_on, gone_shift, halfway, hops, implied, in_check, inl, inr, is_ahead, is_castling, is_clear, is_diagonal, is_man, is_of_colour, is_on_some, is_reached, is_some, is_square, is_two_files_aside, is_vacant, king_is, king_no_step, king_square, king_stays_king, length-set, line_before, list_all, list_any, man_on, man_on-with_same, man_there, may_castle, may_check_from, may_expose, may_expose_at, may_be_hurdle, moved_men, no_capture, not, not_attacked, not_parted, off_left, off_right, off_second, onward, or_cases, or_left, or_parts, other, passes, position_after, range_with_len, reaches, reaches_as, refl, return_square, rides, rules, same_colour, same_kind, same_kind-true, some_square_false, some_square_true, square_is, squares_between, step_of, stood, straight_steps, sym, true, unreached, unreborn_after, ways, with_man, without_man, word, word_has, ℕ, ◌%◌, ◌&&◌, ◌*◌, ◌+◌, ◌-◌, ◌/◌, ◌<◌, ◌==◌, ◌^◌, ◌||◌, ◌∙◌, ◌∷◌, ◌≡◌, ◌≢◌, ◌≤◌, ◌⊎◌}
 use Rattle.chess_rules.proofs.making_moves.Castles.{no_man}
 use Rattle.chess_rules.proofs.attacks.FairyLines.{Holds, IsBeside, IsNoHurdle, hop_kept, ride_kept}
 use Rattle.chess_attacks.proofs.rays.Lined.{knight_directions, queen_directions}
@@ -133,7 +133,7 @@ module _ (rule : RuleSet) (p : Position) (x : Man) (m : Move) (well : IsWellForm
 
   -- what must hold for castling to give no check to the king of colour c
   module _ (c : Colour) (enemy_of : same_colour x.colour c ≡ false) (covered : may_expose p.men c m.from ≡ false)
-      (aside : may_stand_between p.men c m.to ≡ false) (king_off : may_check_from p.men c x m.to ≡ false)
+      (aside : may_be_hurdle p.men c m.to ≡ false) (king_off : may_check_from p.men c x m.to ≡ false)
       (rook_off : may_check_from p.men c (enemy c Rook) (halfway m) ≡ false) where
     module _ (k : ℕ) (at : king_square p.men c ≡ Some k) (stands : is_man (man_on p.men k) c King ≡ true) (inside : k < 64) where
       parts : IsCovered p.men c m.from k
@@ -142,7 +142,7 @@ module _ (rule : RuleSet) (p : Position) (x : Man) (m : Move) (well : IsWellForm
 
       -- once the king has stepped, no man reaches the other king
       king_steps : is_reached stepped k (other c) ≡ false
-      unfolding may_stand_between may_check_from
+      unfolding may_be_hurdle may_check_from
       king_steps = search (rules, unreached, king_shift, parts, or_parts, stood, small, at, aside, king_off)
 
       -- once the king has castled, the rook doesn't reach the other king from halfway

@@ -1,5 +1,5 @@
 -- A move that doesn't arrive where its man may give check gives none.
-use Rattle.chess_mates.proofs.Chess.{AreCastlingTargets, AreCheckSquares, AreCheckTargets, Black, CheckSquares, Colour, IsMade, IsWellFormed, King, Man, Move, Pawn, Position, Rook, RuleSet, Some, White, agree_below_at, and_parts, ap, are_rebirths_quiet, arith, arrival_needed, bit_at, bit_or, cannot_expose, captures_do_more, cases_Bool, castling_steps, check_squares_for, enemy, false, false_by, halfway, implied, in_check, inl, inr, is_castling, is_pseudo_legal, is_pseudo_legal-from_legal, is_some, is_square, is_two_files_aside, last_rank, made, man_on, may_check_from, may_expose, may_go, may_go_aimed, may_stand_between, not, off_left, off_right, other, position_after, rank_of, refl, rules, same_kind, steps_to, sym, true, word, word_has, ℕ, ◌+◌, ◌/◌, ◌<◌, ◌==◌, ◌||◌, ◌∙◌, ◌≡◌}
+use Rattle.chess_mates.proofs.Chess.{AreCastlingTargets, AreCheckSquares, AreCheckTargets, Black, CheckSquares, Colour, IsMade, IsWellFormed, King, Man, Move, Pawn, Position, Rook, RuleSet, Some, White, agree_below_at, and_parts, ap, are_rebirths_quiet, arith, arrival_needed, bit_at, bit_or, cannot_expose, captures_do_more, cases_Bool, castling_steps, check_squares_for, enemy, false, false_by, halfway, implied, in_check, inl, inr, is_castling, is_pseudo_legal, is_pseudo_legal-from_legal, is_some, is_square, is_two_files_aside, last_rank, made, man_on, may_check_from, may_expose, may_arrive, may_go_aimed, may_be_hurdle, not, off_left, off_right, other, position_after, rank_of, refl, rules, same_kind, steps_to, sym, true, word, word_has, ℕ, ◌+◌, ◌/◌, ◌<◌, ◌==◌, ◌||◌, ◌∙◌, ◌≡◌}
 use Rattle.chess_rules.proofs.attacks.EvasionTargets.{plain_elsewhere}
 use Rattle.chess_mates.proofs.CastlingChecks.{castling_gives_no_check}
 use Rattle.chess_mates.proofs.KingsApart.{kings_apart}
@@ -13,7 +13,7 @@ last_rank_on Black t lt = implied _ _ (agree_below_at (λ n. not (rank_of n == 1
 
 -- off the words of the check squares, of the crossed square, of last ranks or castlings, and of the men where a rebirth may give check
 module _ (rule : RuleSet) (p : Position) (x : Man) (s : CheckSquares) (f : ℕ) (well : IsWellFormed p) (here : man_on p.men f ≡ Some x)
-    (checks : AreCheckSquares p.men (other p.turn) s) (inside : f < 64) (covered : (bit_at s.shield_squares f == 1) ≡ false) (a b c d : ℕ)
+    (checks : AreCheckSquares p.men (other p.turn) s) (inside : f < 64) (covered : (bit_at s.blocker_squares f == 1) ≡ false) (a b c d : ℕ)
     (checked_from : a ≡ check_squares_for s x.kind) (crossed : b ≡ word (λ t. is_square p.crossed t))
     (promotes : same_kind x.kind Pawn ≡ true → c ≡ 18374686479671623935) (castles : same_kind x.kind King ≡ true → AreCastlingTargets s f c)
     (reborn : are_rebirths_quiet rule p.men p.turn ≡ false → captures_do_more rule ≡ true → d ≡ word (λ t. is_some (man_on p.men t))) where
@@ -25,14 +25,14 @@ module _ (rule : RuleSet) (p : Position) (x : Man) (s : CheckSquares) (f : ℕ) 
         × ((bit_at s.fairy_lines m.to == 1) ≡ false)
     off = search (rules, off_left, off_right)
 
-    aside : may_stand_between p.men (other p.turn) m.to ≡ false
-    aside = sym (word_has (may_stand_between p.men (other p.turn)) s.fairy_lines m.to checks.fairy_lines small) ∙ off.4
+    aside : may_be_hurdle p.men (other p.turn) m.to ≡ false
+    aside = sym (word_has (may_be_hurdle p.men (other p.turn)) s.fairy_lines m.to checks.fairy_lines small) ∙ off.4
 
     is : IsMade rule p x m
     is = made rule p m x may (ap (man_on p.men) at ∙ here)
 
     origin_stays : may_expose p.men (other p.turn) m.from ≡ false
-    origin_stays = rw at (sym (word_has (may_expose p.men (other p.turn)) s.shield_squares f checks.shield_squares inside) ∙ covered)
+    origin_stays = rw at (sym (word_has (may_expose p.men (other p.turn)) s.blocker_squares f checks.blocker_squares inside) ∙ covered)
 
     -- a king that castles: the square halfway is none from which a rook gives check
     castled : is_castling x m ≡ true → in_check rule (position_after rule p m).men (other p.turn) ≡ false
@@ -60,7 +60,7 @@ module _ (rule : RuleSet) (p : Position) (x : Man) (s : CheckSquares) (f : ℕ) 
 
 -- a word that lacks only targets to which the man can't go
 pub targets_lack : (rule : RuleSet) (p : Position) (x : Man) (f w v : ℕ) → man_on p.men f ≡ Some x → AreCheckTargets rule p f w
-    → ((t : ℕ) → t < 64 → may_go p x f t ≡ true → (bit_at v t == 1) ≡ false → (bit_at w t == 1) ≡ false) → AreCheckTargets rule p f v
+    → ((t : ℕ) → t < 64 → may_arrive p x f t ≡ true → (bit_at v t == 1) ≡ false → (bit_at w t == 1) ≡ false) → AreCheckTargets rule p f v
 targets_lack rule p x f w v here are off = record {
   elsewhere = λ m at lt legal none. let may = is_pseudo_legal-from_legal rule p m legal in grind (arith, arrival_needed rule p m lt may, may, may_go_aimed);
 }

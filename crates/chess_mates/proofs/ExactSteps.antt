@@ -1,11 +1,11 @@
 -- The king's legal steps, from the squares that its attackers reach.
-use Rattle.chess_mates.proofs.Chess.{AreReached, Attackers, Grasshopper, IfSome, IsAttackedOver, IsNear, IsSiege, IsSiegeOf, IsWellFormed, IsWhole, Man, Move, None, Option, Position, RuleSet, Siege, Some, and_from, and_parts, ap, arith, arrived, bit_and, bit_at, bit_not, capture_of_piece, capture_square, captures_do_more, cases_Bool, faced_men_stand_still, false, false_by, false_from_ne_true, false≢true, inl, inr, is_arrival, is_arrival_free, is_attacked, is_hopper, is_legal, is_open, is_pseudo_legal-from_legal, leaps, list_any, made, man_on, men_on, no_pawn_arrives, not, on_first, other, queen_steps, reached_over, reaches_as, refl, rules, same_kind, same_kind-true, sym, true, true_from_ne_false, w64, word, word_has, ℕ, ◌<◌, ◌==◌, ◌^◌, ◌∙◌, ◌≡◌, ◌≢◌}
+use Rattle.chess_mates.proofs.Chess.{AreReached, Attackers, Grasshopper, IfSome, IsAttackedOver, IsNear, IsKingAttack, IsKingAttackOf, IsWellFormed, IsWhole, Man, Move, None, Option, Position, RuleSet, KingAttack, Some, and_from, and_parts, ap, arith, arrived, bit_and, bit_at, bit_not, capture_of_piece, capture_square, captures_do_more, cases_Bool, like_men_paralyse, false, false_by, false_from_ne_true, false≢true, inl, inr, is_arrival, is_arrival_free, is_attacked, is_hopper, is_legal, is_open, is_pseudo_legal-from_legal, leaps, list_any, made, man_on, men_on, no_pawn_arrives, not, on_first, other, queen_steps, reached_over, reaches_as, refl, rules, same_kind, same_kind-true, sym, true, true_from_ne_false, w64, word, word_has, ℕ, ◌<◌, ◌==◌, ◌^◌, ◌∙◌, ◌≡◌, ◌≢◌}
 use Rattle.chess_mates.proofs.Fleeing.{IsKingOn, IsKingStep, king_on, may_step, step_is, step_to}
 use Rattle.chess_mates.proofs.FarMen.{off_denied}
 use Rattle.chess_mates.proofs.Risks.{denied_on, none_at}
 use Rattle.chess_mates.proofs.Standing.{and_left_king, no_hopper, unfree, unnamed}
 use Rattle.chess_rules.specs.ties.Counting.{AreExact}
-use Rattle.chess_mates.specs.ties.Siege.{AreExactSteps, AreUnhopping, IsPlainStep}
+use Rattle.chess_mates.specs.ties.KingAttack.{AreExactSteps, AreUnhopping, IsPlainStep}
 use Rattle.chess_rules.specs.ties.Targets.{AreCandidates}
 use Rattle.chess_core.specs.Steps.{gait_of}
 use Rattle.chess_mates.proofs.Barring.{attacked_there, hurdle_is, safe_there}
@@ -19,12 +19,12 @@ none_hops a none = record {
 }
 
 -- for `plain_squares`, where captures do more: a square next to the king without a hurdle
-pub empty_step : (rule : RuleSet) (v : Siege) (n t : ℕ) → v.hurdles < 2 ^ 64 → n ≡ word (λ t. list_any (leaps v.king t) queen_steps) → t < 64
+pub empty_step : (rule : RuleSet) (v : KingAttack) (n t : ℕ) → v.hurdles < 2 ^ 64 → n ≡ word (λ t. list_any (leaps v.king t) queen_steps) → t < 64
     → (bit_at (bit_and n (bit_not w64 v.hurdles)) t == 1) ≡ true → IsPlainStep rule v t
 empty_step rule v n t fits near small on = search (rules, word_has, on_first, off_denied)
 
 -- for `exact_steps`: of the squares those that aren't reached
-pub unreached_are : (rule : RuleSet) (v : Siege) (squares n r : ℕ) → faced_men_stand_still rule ≡ false → AreUnhopping v.men → n < 2 ^ 64 → r < 2 ^ 64
+pub unreached_are : (rule : RuleSet) (v : KingAttack) (squares n r : ℕ) → like_men_paralyse rule ≡ false → AreUnhopping v.men → n < 2 ^ 64 → r < 2 ^ 64
     → ((t : ℕ) → t < 64 → (bit_at n t == 1) ≡ true → IsPlainStep rule v t) → bit_and squares (bit_not w64 n) ≡ 0
     → AreReached v.hurdles v.men squares (λ k. not (is_hopper (gait_of k))) r
     → ((t : ℕ) → t < 64 → (bit_at r t == 1) ≡ true → IsAttackedOver v.hurdles v.men t) → AreExactSteps rule v squares (bit_and squares (bit_not w64 r))
@@ -36,10 +36,10 @@ unreached_are rule v squares n r able unhopping fits_n fits_r plain none all alo
   safe = λ t small on s x a. false_by _ (λ h.
       let near : IsNear x s squares = record { square = t; small = small; on = on_first squares _ t on; men = men_on v.hurdles; reaches = h } in
       false≢true (sym (off_denied squares r t fits_r small on) ∙ (all.reach s x a (ap not (unhopping.plain s x a)) near).inside t small h));
-  barred = λ t small on off. alone t small (true_from_ne_false _ (λ away. false≢true (sym off ∙ denied_on squares r t fits_r small on away)));
+  castling_forbidden = λ t small on off. alone t small (true_from_ne_false _ (λ away. false≢true (sym off ∙ denied_on squares r t fits_r small on away)));
 }
 
-module _ (rule : RuleSet) (p : Position) (v : Siege) (squares w : ℕ) (well : IsWellFormed p) (siege : IsSiege v) (whole : IsWhole v) (fits : IsSiegeOf rule p v)
+module _ (rule : RuleSet) (p : Position) (v : KingAttack) (squares w : ℕ) (well : IsWellFormed p) (king_attack : IsKingAttack v) (whole : IsWhole v) (fits : IsKingAttackOf rule p v)
     (are : AreCandidates rule p (is_legal rule p) v.king squares) (i : AreExactSteps rule v squares w) where
   abbrev x : Man
   x = (king_on p.men p.turn v.king (sym fits.king)).0
@@ -75,7 +75,7 @@ module _ (rule : RuleSet) (p : Position) (v : Siege) (squares w : ℕ) (well : I
       mine = king.mine;
       king = king.king;
       small = small;
-      near = grind (arith, plain.near, free, and_from, cases_Bool (captures_do_more rule), plain.empty, hurdle_is rule p v siege whole fits t small apart);
+      near = grind (arith, plain.near, free, and_from, cases_Bool (captures_do_more rule), plain.empty, hurdle_is rule p v king_attack whole fits t small apart);
     }
 
     legal_is : is_legal rule p m ≡ not (is_attacked rule (arrived p x m) t (other p.turn))
@@ -93,7 +93,7 @@ module _ (rule : RuleSet) (p : Position) (v : Siege) (squares w : ℕ) (well : I
             let promo : n.promo ≡ None = unnamed p x n n.promo (no_pawn_arrives x n.to (and_left_king x king.king)) is.promotion in
             let same : step_to v.king n.to ≡ n = rw (from, promo) refl in
             let attacked = attacked_there rule p (step_to v.king n.to) x v well (may_step rule p x v.king n.to (step n.to small on)) king.here small
-            (captures n.to small on) refl siege whole fits i.able (i.barred n.to small on off) in
+            (captures n.to small on) refl king_attack whole fits i.able (i.castling_forbidden n.to small on off) in
             false≢true (sym (ap not attacked) ∙ sym (legal_is n.to small on) ∙ ap (is_legal rule p) same ∙ legal))
       ];
     };
@@ -103,12 +103,12 @@ module _ (rule : RuleSet) (p : Position) (v : Siege) (squares w : ℕ) (well : I
       unpromoted = λ t small on. no_pawn_arrives x t (and_left_king x king.king);
       to = λ t small on. let inside = i.inside t small on in
           legal_is t small inside ∙ ap not (safe_there rule p (step_to v.king t) x v well (may_step rule p x v.king t (step t small inside)) king.here small
-          (captures t small inside) refl siege whole fits (i.safe t small on));
+          (captures t small inside) refl king_attack whole fits (i.safe t small on));
     };
   }
 
 -- for `legal_squares` of filters
-pub told_exactly : (rule : RuleSet) (p : Position) (v : Siege) (s squares : ℕ) (o : Option ℕ) → IsWellFormed p → IsSiegeOf rule p v → IsSiege v → IsWhole v
+pub known_exactly : (rule : RuleSet) (p : Position) (v : KingAttack) (s squares : ℕ) (o : Option ℕ) → IsWellFormed p → IsKingAttackOf rule p v → IsKingAttack v → IsWhole v
     → v.king ≡ s → AreCandidates rule p (is_legal rule p) s squares → IfSome o (λ w. AreExactSteps rule v squares w) → IfSome o (λ w. AreExact rule p s w)
-told_exactly rule p v s squares None well of siege whole at are steps = steps
-told_exactly rule p v s squares (Some w) well of siege whole at are steps = rw (← at) (are_exact rule p v squares w well siege whole of (rw at are) steps)
+known_exactly rule p v s squares None well of king_attack whole at are steps = steps
+known_exactly rule p v s squares (Some w) well of king_attack whole at are steps = rw (← at) (are_exact rule p v squares w well king_attack whole of (rw at are) steps)

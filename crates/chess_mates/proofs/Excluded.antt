@@ -1,7 +1,7 @@
 -- What the clauses on check squares and targets exclude: small positions where a wrong body would differ
 -- from the definitions.
-use Rattle.chess_mates.proofs.Chess.{AreCheckTargets, Black, Grasshopper, King, Knight, List, Man, Option, Pawn, Position, Queen, Rook, White, [], arith, bit_at, circe, enemy, false, false≢true, in_check, is_ahead, is_legal, is_on_fairy_line, is_reached, is_shut, may_check_from, may_expose, orthodox, position_after, refl, sym, true, true_from_ne_false, ℕ, ◌==◌, ◌∙◌, ◌∷◌, ◌≡◌}
-use Rattle.chess_rules.specs.ties.Shields.{is_behind}
+use Rattle.chess_mates.proofs.Chess.{AreCheckTargets, Black, Grasshopper, King, Knight, List, Man, Option, Pawn, Position, Queen, Rook, White, [], arith, bit_at, circe, enemy, false, false≢true, in_check, is_ahead, is_legal, is_on_fairy_line, is_reached, is_blocking, may_check_from, may_expose, orthodox, position_after, refl, sym, true, true_from_ne_false, ℕ, ◌==◌, ◌∙◌, ◌∷◌, ◌≡◌}
+use Rattle.chess_rules.specs.ties.Blockers.{is_rider_beyond}
 use Rattle.chess_attacks.proofs.Typed.{go, on, position, set_up}
 use Rattle.chess_core.specs.SquareNames.{a1, d1, h1, a2, a3, d3, d6, e5, h7, a8, h8}
 use Rattle.chess_rules.proofs.Typed.{check_after_a_move}
@@ -21,7 +21,7 @@ crossed_square_may_give_check w are = true_from_ne_false _ (λ e. false≢true
 -- no pawn gives check from d6, and no man that leaves e5 opens a line
 pub no_pawn_checks_from_there : (may_check_from opening_capture.men Black (enemy Black Pawn) d6 ≡ false)
     × (may_expose opening_capture.men Black e5 ≡ false)
-unfolding may_check_from may_expose is_reached is_on_fairy_line is_ahead is_shut is_behind check_after_a_move
+unfolding may_check_from may_expose is_reached is_on_fairy_line is_ahead is_blocking is_rider_beyond check_after_a_move
 no_pawn_checks_from_there = (refl, refl)
 
 -- Circe, White Ka1 Ga8 Rd1, Black Kh8 Sd3: the rook captures the knight, which is reborn on g8, and the grasshopper hops

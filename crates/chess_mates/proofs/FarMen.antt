@@ -1,5 +1,5 @@
 -- Men that could reach no check square give no check.
-use Rattle.chess_mates.proofs.Chess.{AreApproaches, AreCheckOrigins, AreCheckTargets, Colour, Kind, King, Man, Move, None, Option, Position, RuleSet, Some, arith, bit_and, bit_at, bit_at-lt, bit_at_and, bit_at_not, bit_not, bit_or, cases_Bool, eq-eqb, eqb-true, false, false_by, false≢true, is_legal, is_pseudo_legal-from_legal, is_square, man_on, may_go, off_second, off_zero, on_first, own_man, own_moves, refl, rules, same_colour-true, same_kind, same_kind-true, side_of, squares_of, sym, true, w64, word, word_has, ℕ, ◌<◌, ◌==◌, ◌^◌, ◌∙◌, ◌≡◌}
+use Rattle.chess_mates.proofs.Chess.{AreApproaches, AreCheckOrigins, AreCheckTargets, Colour, Kind, King, Man, Move, None, Option, Position, RuleSet, Some, arith, bit_and, bit_at, bit_at-lt, bit_at_and, bit_at_not, bit_not, bit_or, cases_Bool, eq-eqb, eqb-true, false, false_by, false≢true, is_legal, is_pseudo_legal-from_legal, is_square, man_on, may_arrive, off_second, off_zero, on_first, own_man, own_moves, refl, rules, same_colour-true, same_kind, same_kind-true, side_of, squares_of, sym, true, w64, word, word_has, ℕ, ◌<◌, ◌==◌, ◌^◌, ◌∙◌, ◌≡◌}
 use Rattle.chess_mates.proofs.Hurdles.{on_either}
 use Rattle.chess_mates.proofs.CheckTargets.{targets_lack}
 
@@ -23,7 +23,7 @@ far_either rule p a b x y = grind (arith, cases_Bool, on_either)
 
 -- a man that could go to no target on an empty board
 pub far_by : (rule : RuleSet) (p : Position) (x : Man) (s o w : ℕ) → man_on p.men s ≡ Some x → AreCheckTargets rule p s w
-    → ((q : Position) (t : ℕ) → t < 64 → may_go q x s t ≡ true → (bit_at o t == 1) ≡ true) → (bit_and o w == 0) ≡ true → AreCheckTargets rule p s 0
+    → ((q : Position) (t : ℕ) → t < 64 → may_arrive q x s t ≡ true → (bit_at o t == 1) ≡ true) → (bit_and o w == 0) ≡ true → AreCheckTargets rule p s 0
 far_by rule p x s o w here are goes none = grind (arith, eqb-true, off_second o w, off_zero, targets_lack rule p x s w 0, goes p)
 
 -- for one far man

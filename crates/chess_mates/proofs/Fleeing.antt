@@ -117,10 +117,10 @@ module _ (rule : RuleSet) (p : Position) (m : Move) (x : Man) (k : ℕ) (i : IsS
     open_squares w l h circe near standing held =
         let words : bit_and w (bit_not w64 h) ≡ word (λ t. list_any (leaps k t) queen_steps && is_free t) =
         search (rules, near, held, standing, squares_both, squares_either, squares_not) in
-        let told = λ (t : ℕ). word_has (λ t. list_any (leaps k t) queen_steps && is_free t) (bit_and w (bit_not w64 h)) t words in
+        let reported = λ (t : ℕ). word_has (λ t. list_any (leaps k t) queen_steps && is_free t) (bit_and w (bit_not w64 h)) t words in
         record {
-          inside = λ t lt on. grind (arith, told t lt, open_there t lt, after_seen, and_parts, circe);
-          outside = λ mortal _ t lt off. grind (arith, told t lt, free_there mortal t, after_seen);
+          inside = λ t lt on. grind (arith, reported t lt, open_there t lt, after_seen, and_parts, circe);
+          outside = λ mortal _ t lt off. grind (arith, reported t lt, free_there mortal t, after_seen);
         }
 
     -- in Circe, where the king may not capture

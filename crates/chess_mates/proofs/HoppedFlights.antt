@@ -14,17 +14,17 @@ abbrev is_far : ℕ → Option ℕ → Bool
 is_far s None = true
 is_far s (Some t) = not (list_any (leaps t s) queen_steps)
 
-abbrev is_left_behind : Step → ℕ → Bool
-is_left_behind d s = list_all (λ n. is_far s (along s d n)) (range_with_len 2 6)
+abbrev is_left_after : Step → ℕ → Bool
+is_left_after d s = list_all (λ n. is_far s (along s d n)) (range_with_len 2 6)
 
-left_behind : (x : Direction) (s : ℕ) → s < 64 → is_left_behind (step_of x) s ≡ true
+left_after : (x : Direction) (s : ℕ) → s < 64 → is_left_after (step_of x) s ≡ true
 unfolding along leaps
-left_behind East s low = agree_below_at (is_left_behind (step_of East)) (λ _. true) 64 s refl low
-left_behind x s low = agree_below_at (is_left_behind (step_of x)) (λ _. true) 64 s refl low
+left_after East s low = agree_below_at (is_left_after (step_of East)) (λ _. true) 64 s refl low
+left_after x s low = agree_below_at (is_left_after (step_of x)) (λ _. true) 64 s refl low
 
 far : (x : Direction) (s t n : ℕ) → s < 64 → 2 ≤ n → n < 8 → along s (step_of x) n ≡ Some t → list_any (leaps t s) queen_steps ≡ false
 far x s t n low two eight at =
-    not-true _ (rw at at (all_at (λ n. is_far s (along s (step_of x) n)) 2 6 n (left_behind x s low) two (omega (arith, eight))))
+    not-true _ (rw at at (all_at (λ n. is_far s (along s (step_of x) n)) 2 6 n (left_after x s low) two (omega (arith, eight))))
 
 -- a hop from s to f on some board is one over the hurdles next to f, if all men next to f are hurdles
 module _ (men : List (Option Man)) (d f s n : ℕ) (near : n ≡ word (λ q. list_any (leaps f q) queen_steps)) (inside : f < 64) (low : s < 64)

@@ -1,7 +1,7 @@
 -- What men reach over hurdles, and what they reach later on the board.
 use Rattle.chess_mates.proofs.Chess.{AreReached, Attackers, Bishop, Bool, Colour, Grasshopper, IsAttackedOver, IsNear, IsReached, IsReachedFrom, Kind, King, Knight, List, Man, Nightrider, None, Option, Pawn, Queen, Rook, Some, Step, [], along, arith, bit_at, bit_at-lt, bit_at_or, bit_or, cases_Bool, cases_eq, diagonal_steps, eq-eqb, eqb-true, false, false≢true, find, find_first, gait_of, inl, inr, is_hopper, is_leaper, is_rider, is_some, is_vacant_at, knight_steps, leaps, list_any, man_on, men_on, not, not-true, occupied_squares, on_left, on_right, or_cases, or_left, or_right, other, queen_steps, range_with_len, reached_over, reaches_as, refl, ride-found, ride-made, rides, rules, same_kind, same_kind-true, squares_for, straight_steps, suc, sym, true, word, word_has, zero, ℕ, ◌-◌, ◌<◌, ◌==◌, ◌^◌, ◌||◌, ◌∙◌, ◌∷◌, ◌≡◌, ◌≢◌, ◌≤◌, ◌⊎◌}
 use Rattle.chess_attacks.proofs.rays.OnSquares.{empty_on, occupied_on}
-use Rattle.chess_attacks.specs.ties.Taking.{IsTaken}
+use Rattle.chess_attacks.specs.ties.Taking.{IsPopped}
 use Rattle.chess_mates.proofs.KindByKind.{of_kind}
 
 -- for words that are joined: the first has what it reached
@@ -39,11 +39,11 @@ pub record IsRest (w rest : ℕ) : Type 0 where
   pub within : (s : ℕ) → s < 64 → (bit_at rest s == 1) ≡ true → (bit_at w s == 1) ≡ true
 
 -- for its next square
-pub rest_on : (w rest k left : ℕ) → IsRest w rest → IsTaken rest k left → IsRest w left
+pub rest_on : (w rest k left : ℕ) → IsRest w rest → IsPopped rest k left → IsRest w left
 rest_on w rest k left h next = record { within = λ s small on. grind (arith, cases_eq k s, next.gone, next.others s, h.within s small) }
 
 -- which is one of the word
-pub rest_here : (w rest k left : ℕ) → IsRest w rest → IsTaken rest k left → (bit_at w k == 1) ≡ true
+pub rest_here : (w rest k left : ℕ) → IsRest w rest → IsPopped rest k left → (bit_at w k == 1) ≡ true
 rest_here w rest k left h next = h.within k next.small next.here
 
 -- the squares that the attackers reach, kind by kind
@@ -66,7 +66,7 @@ module _ (d : ℕ) (a : Attackers) (region : ℕ) where
     ];
   }
 
-  -- for `ridden_squares`
+  -- for `rider_reach`
   pub riders_reach : (q r b n : ℕ) → ReachAs Queen q → ReachAs Rook r → ReachAs Bishop b → ReachAs Nightrider n
       → AreReached d a region is_rider (bit_or (bit_or (bit_or q r) b) n)
   riders_reach q r b n queens rooks bishops nightriders =

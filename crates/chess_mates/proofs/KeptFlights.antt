@@ -4,7 +4,7 @@ use Rattle.chess_mates.proofs.FarMen.{off_denied}
 use Rattle.chess_mates.proofs.Fleeing.{no_mate_with_flight}
 use Rattle.chess_mates.proofs.Hurdles.{all_reach, later_but}
 use Rattle.chess_mates.proofs.Mating.{no_mate_quietly}
-use Rattle.chess_mates.proofs.QuietSieve.{flight_then, lifted, lifted_stood, lifted_there}
+use Rattle.chess_mates.proofs.QuietFilter.{flight_then, lifted, lifted_stood, lifted_there}
 use Rattle.chess_mates.proofs.Standing.{reach_none}
 use Rattle.chess_mates.specs.ties.QuietSteps.{GoesSimply}
 use Rattle.chess_mates.specs.ties.StandingFlights.{AreStandingFlights, IsFlightBut, NoneHops}

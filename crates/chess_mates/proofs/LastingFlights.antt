@@ -1,5 +1,5 @@
 -- Flights that one move can't take.
-use Rattle.chess_mates.proofs.Chess.{AreApproached, AreAttackers, AreGuarded, AreNear, Attackers, Bishop, Colour, Grasshopper, IfSome, IsAttacker, IsLeft, IsMade, IsWellFormed, KeepsOne, Kind, King, Knight, LeaveOne, Man, Move, Nightrider, None, Option, Pawn, Position, Queen, Rook, RuleSet, Some, [], after_well_formed, all_triples, and_parts, arith, arrival_needed, arrived, arriving_colour, arriving_man, bit_and, bit_at, bit_at_and, bit_not, bit_or, captures_do_more, cases_Bool, castle_of, eq-eqb, eqb-true, every_square_on, false, false_by, false_from_ne_true, false≢true, find, find_first, inl, inr, is_arrival_free, is_castling, is_promoting, is_pseudo_legal, is_square, king_after, king_is_after, king_square, length, made, maker, man_on, mates, mates_behind, may_go_aimed, men_on, off_left, off_right, off_zero, on_board, on_first, on_left, on_right, or_lt, other, other_twice, position_after, range_with_len, reaches_as, reaches_back, refl, rules, same_colour-refl, same_kind, same_kind-true, simple_after, squares_for, subst, sym, triple_at, true, w64, word, word_has, ℕ, ◌<◌, ◌==◌, ◌^◌, ◌∙◌, ◌≡◌, ◌≢◌}
+use Rattle.chess_mates.proofs.Chess.{AreApproached, AreAttackers, AreGuarded, AreNear, Attackers, Bishop, Colour, Grasshopper, IfSome, IsAttacker, IsLeft, IsMade, IsWellFormed, KeepsOne, Kind, King, Knight, LeaveOne, Man, Move, Nightrider, None, Option, Pawn, Position, Queen, Rook, RuleSet, Some, [], after_well_formed, all_triples, and_parts, arith, arrival_needed, arrived, arriving_colour, arriving_man, bit_and, bit_at, bit_at_and, bit_not, bit_or, captures_do_more, cases_Bool, castle_of, eq-eqb, eqb-true, every_square_on, false, false_by, false_from_ne_true, false≢true, find, find_first, inl, inr, is_arrival_free, is_castling, is_promoting, is_pseudo_legal, is_square, king_after, king_is_after, king_square, length, made, maker, man_on, mates, mates_after, may_go_aimed, men_on, off_left, off_right, off_zero, on_board, on_first, on_left, on_right, or_lt, other, other_twice, position_after, range_with_len, reaches_as, reaches_back, refl, rules, same_colour-refl, same_kind, same_kind-true, simple_after, squares_for, subst, sym, triple_at, true, w64, word, word_has, ℕ, ◌<◌, ◌==◌, ◌^◌, ◌∙◌, ◌≡◌, ◌≢◌}
 use Rattle.chess_mates.proofs.Becoming.{becomes, counted_left, promotes_still}
 use Rattle.chess_mates.proofs.KindByKind.{HoldsOf, man_is, of_all, of_kind}
 use Rattle.chess_core.specs.Position.{may_promote}
@@ -8,11 +8,11 @@ use Rattle.chess_mates.specs.declared.lasting_flights.OpenTargets.{OpenTargets}
 use Rattle.chess_mates.specs.ties.LastingFlights.{AreOpenTargets, AreTargets, LeavesOne, counts_as, targets_for}
 use Rattle.chess_rules.proofs.listing_moves.OpenBoard.{piece_targets}
 use Rattle.chess_attacks.specs.ties.Lines.{AreReached}
-use Rattle.chess_rules.specs.ties.Targets.{may_go}
+use Rattle.chess_rules.specs.ties.Targets.{may_arrive}
 use Rattle.chess_mates.proofs.CheckTargets.{last_rank_on}
 use Rattle.chess_mates.proofs.FarMen.{off_denied}
 use Rattle.chess_mates.proofs.Fleeing.{IsKingOn, king_waits, no_mate_with_flight, step_to}
-use Rattle.chess_mates.proofs.Mating.{mates_behind-end, mates_behind-none, not_mating, turn_after}
+use Rattle.chess_mates.proofs.Mating.{mates_after-end, mates_after-none, not_mating, turn_after}
 use Rattle.chess_attacks.proofs.rays.OnSquares.{hops_openly}
 use Rattle.chess_mates.proofs.Standing.{arrival_small, has_one, no_hopper, not_mine, stood}
 
@@ -32,7 +32,7 @@ reached_right x s a b h = record { inside = λ men t small r. on_right a b t (h.
 pub targets_left : (x : Man) (s a b : ℕ) → AreTargets x s a → AreTargets x s (bit_or a b)
 targets_left x s a b h = record { inside = λ p t small may. on_left a b t (h.inside p t small may) }
 
-pub targets_right : (x : Man) (s a b : ℕ) → ((p : Position) (t : ℕ) → t < 64 → may_go p x s t ≡ true → (bit_at b t == 1) ≡ true)
+pub targets_right : (x : Man) (s a b : ℕ) → ((p : Position) (t : ℕ) → t < 64 → may_arrive p x s t ≡ true → (bit_at b t == 1) ≡ true)
     → AreTargets x s (bit_or a b)
 targets_right x s a b h = record { inside = λ p t small may. on_right a b t (h p t small may) }
 
@@ -46,8 +46,8 @@ all_guard a k q r b n p g y kings queens rooks bishops knights pawns grasshopper
     record { guards = search (rules, of_all a (λ x s. AreReached x s words), reached_left, reached_right) depth 12 }
 
 -- the targets, from what each kind reaches and the squares to which kings and pawns go
-abbrev told : ℕ → ℕ → ℕ → ℕ → ℕ → ℕ → ℕ → ℕ → ℕ → ℕ → OpenTargets
-told k q r b n p g y f w = record {
+abbrev reported : ℕ → ℕ → ℕ → ℕ → ℕ → ℕ → ℕ → ℕ → ℕ → ℕ → OpenTargets
+reported k q r b n p g y f w = record {
   kings = k;
   queens = bit_or q (bit_and p 18374686479671623935);
   rooks = r;
@@ -78,10 +78,10 @@ module _ (a : Attackers) where
   pub are_open_targets : (k q r b n p g y f w : ℕ) → AreGuarded a w → HoldsOf a (λ x s. AreTargets x s k) King → HoldsOf a (λ x s. AreReached x s q) Queen
       → HoldsOf a (λ x s. AreReached x s r) Rook → HoldsOf a (λ x s. AreReached x s b) Bishop → HoldsOf a (λ x s. AreReached x s n) Knight
       → HoldsOf a (λ x s. AreTargets x s p) Pawn → HoldsOf a (λ x s. AreReached x s g) Grasshopper → HoldsOf a (λ x s. AreReached x s y) Nightrider
-      → (a.fairy_promotions ≡ true → f ≡ bit_and p 18374686479671623935) → AreOpenTargets a (told k q r b n p g y f w)
+      → (a.fairy_promotions ≡ true → f ≡ bit_and p 18374686479671623935) → AreOpenTargets a (reported k q r b n p g y f w)
   are_open_targets k q r b n p g y f w guards kings queens rooks bishops knights pawns grasshoppers nightriders fairies = record {
     guards = guards;
-    targets = of_all a (λ x s. AreTargets x s (targets_for (told k q r b n p g y f w) x.kind)) kings (piece_targets_of Queen q _ refl refl queens)
+    targets = of_all a (λ x s. AreTargets x s (targets_for (reported k q r b n p g y f w) x.kind)) kings (piece_targets_of Queen q _ refl refl queens)
         (plain_targets_of Rook r refl refl rooks) (plain_targets_of Bishop b refl refl bishops) (piece_targets_of Knight n _ refl refl knights) pawns
         (piece_targets_of Grasshopper g f refl refl grasshoppers) (piece_targets_of Nightrider y f refl refl nightriders);
     promoted = λ s x i. record {
@@ -92,7 +92,7 @@ module _ (a : Attackers) where
     };
   } where
     by : (j : Kind) (t : ℕ) → (bit_at (bit_and p 18374686479671623935) t == 1) ≡ true → is_promotion a.fairy_promotions j ≡ true
-        → (bit_at (targets_for (told k q r b n p g y f w) (counts_as j)) t == 1) ≡ true
+        → (bit_at (targets_for (reported k q r b n p g y f w) (counts_as j)) t == 1) ≡ true
     by Queen t on may = on_right q _ t on
     by Rook t on may = on_right q _ t on
     by Bishop t on may = on_right q _ t on
@@ -101,7 +101,7 @@ module _ (a : Attackers) where
     by Nightrider t on may = on_right y f t (rw (fairies may) on)
     by _ t on may = absurd (false≢true may)
 
--- for `untold`: all squares
+-- for `unknown`: all squares
 abbrev all_at_once : ℕ → OpenTargets
 all_at_once w = record {
   kings = w;
@@ -118,8 +118,8 @@ all_at_once w = record {
 all_for : (w : ℕ) (k : Kind) → targets_for (all_at_once w) k ≡ w
 all_for w k = grind arith
 
-pub untold_targets : (a : Attackers) (w : ℕ) → w ≡ bit_not w64 0 → AreOpenTargets a (all_at_once w)
-untold_targets a w all =
+pub unknown_targets : (a : Attackers) (w : ℕ) → w ≡ bit_not w64 0 → AreOpenTargets a (all_at_once w)
+unknown_targets a w all =
     let on : (t : ℕ) → t < 64 → (bit_at w t == 1) ≡ true = search (rules, every_square_on, all) in
     record {
       guards = record { guards = λ s x i. record { inside = λ men t low r. on t low } };
@@ -273,5 +273,5 @@ module _ (rule : RuleSet) (p : Position) (m : Move) (x : Man) (k w : ℕ) (well 
   none_mates i = grind (arith, cases_Bool, unmated (triple_at i) (arrival_small i), maker rule q (triple_at i), not_mating)
 
   -- no reply mates, whatever is played
-  pub no_mate_behind : mates_behind rule q 0 ≡ []
-  no_mate_behind = search (rules, mates_behind-none rule q 0 all_triples, none_mates, mates_behind-end)
+  pub no_mate_after : mates_after rule q 0 ≡ []
+  no_mate_after = search (rules, mates_after-none rule q 0 all_triples, none_mates, mates_after-end)

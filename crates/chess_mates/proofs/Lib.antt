@@ -22,9 +22,9 @@ pub mod Risks
 pub mod HomeSquares
 pub mod Springboards
 pub mod HoppedFlights
-pub mod Sieges
+pub mod KingAttacks
 pub mod Standing
-pub mod QuietSieve
+pub mod QuietFilter
 pub mod KeptFlights
 pub mod Passing
 pub mod QuietCastling

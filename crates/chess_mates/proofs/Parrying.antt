@@ -1,18 +1,18 @@
 -- Another man than the king parries a check and opens no line to the king.
-use Rattle.chess_mates.proofs.Chess.{AreSeen, Bishop, Black, Bool, Colour, Grasshopper, IsCovered, IsMade, IsShift, IsSimple, IsWellFormed, Kind, King, List, Man, Move, Nightrider, None, Option, Pawn, Position, Queen, Rook, RuleSet, Some, StandAlike, Step, White, after_well_formed, agree_below_at, along, and_from, and_left, and_parts, and_right, any_kept, any_range_cases, any_range_false, ap, arith, arrived, arriving_colour, arriving_man, attacked_plainly, bit_and, bit_at, bit_not, bit_or, can_castle, cannot_expose_parts, capture_square, captures_arrival, captures_do_more, cases_Bool, cases_eq, check_is, cond-false, cond-true, covered_parts, diagonal_steps, differs, eq-eqb, eqb-true, faced_men_stand_still, false, false_from_ne_true, false≢true, forward, goes_on, gone_shift, gone_to, if◌then◌else◌, in_check, inl, inr, is_advance, is_ahead, is_arrival_free, is_attacked_at, is_legal, is_lined, is_man, is_mate, is_of_colour, is_on_fairy_line, is_on_fairy_line_at, is_on_some, is_paralysed, is_promoting, is_promotion_right, is_pseudo_legal, is_pseudo_legal-from_legal, is_reached, is_shut, is_some, is_square, kept_now, king_is, king_square, king_there, knight_steps, leaps, left_now, legal_moves_are_triples, length, length-set, list_any, made, maker, man_on, man_on-with_other, man_on-with_same, man_there, mates, may_castle, may_expose, may_expose_at, may_stand_between, no_capture, not, not-true, not_attacked, occupied_now, occupied_squares, off_second, off_zero, on_board, on_first, or_cases, or_left, or_parts, or_right, other, other_differs, other_twice, pawn_goes, position_after, position_after_by, queen_steps, reaches, refl, return_square, rules, same_colour, same_colour-refl, same_colour-true, same_kind, sight_after, simple_after, some_square, some_square_false, some_square_true, square_is, squares, squares_both, squares_either, squares_not, squares_of, squares_same, stood, straight_steps, subst, sym, there_now, true, true_from_ne_false, unreached, w64, with_man, word, word_has, ℕ, ◌&&◌, ◌<◌, ◌==◌, ◌||◌, ◌∙◌, ◌≡◌, ◌≢◌}
-use Rattle.chess_rules.proofs.attacks.Shielding.{CannotExpose, IsPlain, IsQuiet, arrived_shift}
+use Rattle.chess_mates.proofs.Chess.{DescribesMen, Bishop, Black, Bool, Colour, Grasshopper, IsCovered, IsMade, IsShift, IsSimple, IsWellFormed, Kind, King, List, Man, Move, Nightrider, None, Option, Pawn, Position, Queen, Rook, RuleSet, Some, StandAlike, Step, White, after_well_formed, agree_below_at, along, and_from, and_left, and_parts, and_right, any_kept, any_range_cases, any_range_false, ap, arith, arrived, arriving_colour, arriving_man, attacked_plainly, bit_and, bit_at, bit_not, bit_or, can_castle, cannot_expose_parts, capture_square, captures_arrival, captures_do_more, cases_Bool, cases_eq, check_is, cond-false, cond-true, covered_parts, diagonal_steps, differs, eq-eqb, eqb-true, like_men_paralyse, false, false_from_ne_true, false≢true, forward, goes_on, gone_shift, gone_to, if◌then◌else◌, in_check, inl, inr, is_advance, is_ahead, is_arrival_free, is_attacked_at, is_legal, is_lined, is_man, is_mate, is_of_colour, is_on_fairy_line, is_on_fairy_line_at, is_on_some, is_paralysed, is_promoting, is_promotion_right, is_pseudo_legal, is_pseudo_legal-from_legal, is_reached, is_blocking, is_some, is_square, kept_now, king_is, king_square, king_there, knight_steps, leaps, left_now, legal_moves_are_triples, length, length-set, list_any, made, maker, man_on, man_on-with_other, man_on-with_same, man_there, mates, may_castle, may_expose, may_expose_at, may_be_hurdle, no_capture, not, not-true, not_attacked, occupied_now, occupied_squares, off_second, off_zero, on_board, on_first, or_cases, or_left, or_parts, or_right, other, other_differs, other_twice, pawn_steps_to, position_after, position_after_by, queen_steps, reaches, refl, return_square, rules, same_colour, same_colour-refl, same_colour-true, same_kind, sight_after, simple_after, some_square, some_square_false, some_square_true, square_is, squares, squares_both, squares_either, squares_not, squares_of, squares_same, stood, straight_steps, subst, sym, there_now, true, true_from_ne_false, unreached, w64, with_man, word, word_has, ℕ, ◌&&◌, ◌<◌, ◌==◌, ◌||◌, ◌∙◌, ◌≡◌, ◌≢◌}
+use Rattle.chess_rules.proofs.attacks.Blocking.{CannotExpose, IsPlain, IsQuiet, arrived_shift}
 use Rattle.chess_mates.proofs.Fleeing.{king_waits, on_second, reaches_alike_of, seen_bit, unseen_bit}
 use Rattle.chess_rules.proofs.attacks.Seeing.{IsCapture, seen_after}
 use Rattle.chess_mates.proofs.Mating.{turn_after}
 use Rattle.chess_mates.proofs.Standing.{captured_there, stays_there, stood as stands_after}
-use Rattle.chess_mates.specs.ties.Parries.{AreBetween, AreParriesTold, IsInterposed, IsParriless, IsShutBy, IsToldBetween, IsUntaken, IsWayBetween, NobodyComes, comes, is_on_line, is_unpinned}
-use Rattle.chess_attacks.specs.declared.sight.Sight.{Sight}
+use Rattle.chess_mates.specs.ties.Parries.{AreBetween, AreParriesKnown, IsInterposed, IsParriless, IsShutBy, IsKnownBetween, IsUntaken, IsWayBetween, NobodyComes, comes, is_on_line, is_unpinned}
+use Rattle.chess_attacks.specs.declared.occupancy.Occupancy.{Occupancy}
 use Rattle.chess_mates.specs.declared.parries.Parries.{Parries}
 use Rattle.chess_mates.specs.declared.parries.Parries.TheVariants.{Impossible, Possible}
 use Rattle.chess_mates.proofs.StayingChecks.{advance_back, advances, frees_after, reaches_still}
 use Rattle.chess_attacks.proofs.rays.Parting.{Frees}
 use Rattle.chess_rules.proofs.theorems.Moves.{mate_is}
-use Rattle.chess_core.proofs.Words.{some_square_told}
+use Rattle.chess_core.proofs.Words.{some_square_known}
 use Rattle.chess_rules.proofs.making_moves.Plays.{length-without_at}
 use Rattle.chess_rules.specs.Legal.{can_go, is_pawn_step}
 use Rattle.chess_mates.proofs.Hurdles.{on_one}
@@ -25,8 +25,8 @@ record AreGone (men after : List (Option Man)) (a b s t : ℕ) (z : Man) : Type 
   pub second : man_on after t ≡ Some z
 
 -- a square off the lines shuts none of them
-off_unshut : (men : List (Option Man)) (e : Colour) (j : Kind) (ds : List Step) (k a : ℕ) → is_on_some ds k a ≡ false → is_shut men e j ds k a ≡ false
-unfolding is_shut is_on_some
+off_unshut : (men : List (Option Man)) (e : Colour) (j : Kind) (ds : List Step) (k a : ℕ) → is_on_some ds k a ≡ false → is_blocking men e j ds k a ≡ false
+unfolding is_blocking is_on_some
 off_unshut men e j ds k a off = false_from_ne_true _ (λ h. false≢true (sym off ∙ goes_on men k a ds (and_parts _ _ h).0))
 
 -- where fewer men stand, fewer squares pass a test on them
@@ -122,7 +122,7 @@ promotes_right q y s t = elim (cases_Bool (is_promoting y t)) [
 
 -- a reply that may be made and leaves no line open is legal
 module _ (rule : RuleSet) (q : Position) (y : Man) (s t k : ℕ) (well : IsWellFormed q) (stands : man_on q.men s ≡ Some y) (mine : same_colour y.colour q.turn ≡ true)
-    (able : faced_men_stand_still rule ≡ false) (circe : captures_do_more rule ≡ false) (mortal : same_kind y.kind King ≡ false) (small : t < 64)
+    (able : like_men_paralyse rule ≡ false) (circe : captures_do_more rule ≡ false) (mortal : same_kind y.kind King ≡ false) (small : t < 64)
     (free : is_arrival_free q.turn (man_on q.men t) ≡ true) (goes : can_go rule q y (reply y s t) ≡ true) (king : king_square q.men q.turn ≡ Some k) where
   may_reply : is_pseudo_legal rule q (reply y s t) ≡ true
   unfolding is_pseudo_legal is_paralysed
@@ -148,7 +148,7 @@ no_mate_with_parry rule p m parried = sym (and_right _ _ parried)
 
 -- after a move with computed parries
 module _ (rule : RuleSet) (p : Position) (m : Move) (x : Man) (k : ℕ) (well : IsWellFormed p) (may : is_pseudo_legal rule p m ≡ true)
-    (here : man_on p.men m.from ≡ Some x) (told : AreParriesTold rule p x m) (small : m.to < 64) (king : king_square p.men (other p.turn) ≡ Some k) where
+    (here : man_on p.men m.from ≡ Some x) (reported : AreParriesKnown rule p x m) (small : m.to < 64) (king : king_square p.men (other p.turn) ≡ Some k) where
   abbrev q : Position
   q = position_after rule p m
 
@@ -156,7 +156,7 @@ module _ (rule : RuleSet) (p : Position) (m : Move) (x : Man) (k : ℕ) (well : 
   is_m = made rule p m x may here
 
   parts : CannotExpose rule p x (other p.turn) m
-  parts = cannot_expose_parts rule p x (other p.turn) m here told.cannot_expose
+  parts = cannot_expose_parts rule p x (other p.turn) m here reported.cannot_expose
 
   men_q : q.men ≡ arrived p x m
   men_q = simple_after rule p x m here parts.plain.castling parts.plain.rebirth
@@ -169,7 +169,7 @@ module _ (rule : RuleSet) (p : Position) (m : Move) (x : Man) (k : ℕ) (well : 
   covered_from s h = covered_parts p.men (other p.turn) s k (ap (λ (o : Option ℕ). may_expose_at p.men o (other p.turn) s) (sym king) ∙ h)
 
   aside : is_on_fairy_line p.men (other (other p.turn)) k m.to ≡ false
-  unfolding may_stand_between
+  unfolding may_be_hurdle
   aside = ap (λ (o : Option ℕ). is_on_fairy_line_at p.men o (other p.turn) m.to) (sym king) ∙ parts.aside
 
   module _ (s : ℕ) (y : Man) (inside : s < 64) (there : man_on q.men s ≡ Some y) (enemy : same_colour y.colour (other p.turn) ≡ true)
@@ -243,7 +243,7 @@ module _ (rule : RuleSet) (p : Position) (m : Move) (x : Man) (k : ℕ) (well : 
       no_mate_where_parried =
           let turn = turn_after rule p m may in
           let mine : same_colour y.colour q.turn ≡ true = ap (same_colour y.colour) turn ∙ enemy in
-          no_mate_with_reply rule q n well_q (reply_is_legal rule q y s t k well_q there mine told.able told.reborn mortal lt free goes king_q
+          no_mate_with_reply rule q n well_q (reply_is_legal rule q y s t k well_q there mine reported.able reported.reborn mortal lt free goes king_q
           (ap (λ (c : Colour). is_reached (arrived q y n) k (other c)) turn
           ∙ unreached_in_place (arrived q y n) m.to k z (other (other p.turn)) size_r arrives_still harmless unreached_replaced))
 
@@ -257,7 +257,7 @@ module _ (rule : RuleSet) (p : Position) (m : Move) (x : Man) (k : ℕ) (well : 
   taken_from s None at inside side takes unpinned = absurd (false≢true side)
   taken_from s (Some y) at inside side takes unpinned =
       let free : is_arrival_free q.turn (man_on q.men m.to) ≡ true =
-      grind (arith, arrives, turn_after rule p m may, arriving_colour, is_m.mine, other_differs, told.unpromoted, told.mortal) in
+      grind (arith, arrives, turn_after rule p m may, arriving_colour, is_m.mine, other_differs, reported.unpromoted, reported.mortal) in
       let goes : can_go rule q y (reply y s m.to) ≡ true =
       grind (arith, takes, arrives, cases_Bool (same_kind y.kind Pawn), cond-true, cond-false, or_left, and_from) in
       let size : m.to < length q.men = omega (arith, small, (after_well_formed rule p m well may).size) in
@@ -268,7 +268,7 @@ module _ (rule : RuleSet) (p : Position) (m : Move) (x : Man) (k : ℕ) (well : 
   module _ (i : IsInterposed q.men p x m k) (y : Man) (at : man_on q.men i.from ≡ Some y) (side : same_colour y.colour (other p.turn) ≡ true)
       (nobody : capture_square q y (reply y i.from i.square) ≡ None) (goes : can_go rule q y (reply y i.from i.square) ≡ true) where
     comes_between : is_mate rule q ≡ false
-    unfolding reaches may_stand_between
+    unfolding reaches may_be_hurdle
     comes_between =
         let well_q = after_well_formed rule p m well may in
         let inside = on_board q.men i.from y well_q.size at in
@@ -277,7 +277,7 @@ module _ (rule : RuleSet) (p : Position) (m : Move) (x : Man) (k : ℕ) (well : 
         (omega (arith, i.small, well_q.size)) in
         let nowhere : (j : ℕ) → capture_square q y (reply y i.from i.square) ≡ Some j → j ≡ i.square = λ j h. grind (arith, nobody, h) in
         let stays : man_on (arrived q y (reply y i.from i.square)) m.to ≡ Some x =
-        grind (arith, stays_there q y (reply y i.from i.square) m.to nowhere, arrives, told.unpromoted, stood, i.vacant) in
+        grind (arith, stays_there q y (reply y i.from i.square) m.to nowhere, arrives, reported.unpromoted, stood, i.vacant) in
         let unharmed : reaches (arrived q y (reply y i.from i.square)) m.to k ≡ false =
         grind (arith, stays, i.shut (arrived q y (reply y i.from i.square)) words) in
         no_mate_where_parried i.from y inside at side i.unpinned i.square i.small nowhere goes (grind (arith, i.vacant))
@@ -296,26 +296,26 @@ module _ (rule : RuleSet) (p : Position) (m : Move) (x : Man) (k : ℕ) (well : 
         let both = and_parts (same_colour y.colour (other p.turn)) (same_kind y.kind Pawn) (grind (arith, w.0, at)) in
         let colour : y.colour ≡ other p.turn = same_colour-true _ _ both.0 in
         let step : is_pawn_step q y (reply y i.from i.square) ≡ true = grind (arith, i.vacant, w.1, colour, or_left, and_from) in
-        let ahead = (pawn_goes q y (reply y i.from i.square) step).ahead in
+        let ahead = (pawn_steps_to q y (reply y i.from i.square) step).ahead in
         comes_between i y at both.0 (no_capture q y (reply y i.from i.square) i.vacant (grind (arith, ahead, eq-eqb, and_right)))
         (grind (arith, step, both.1, cond-true, or_right))
   ]
 
   -- the men that an attack sees after it
-  seen_q : (v : Sight) → v ≡ sight_after p.men m.from (capture_square p x m) m.to → AreSeen p.men q.men (other p.turn) v
+  seen_q : (v : Occupancy) → v ≡ sight_after p.men m.from (capture_square p x m) m.to → DescribesMen p.men q.men (other p.turn) v
   seen_q v sees =
       let goes : IsCapture p.men m.from (capture_square p x m) m.to (arriving_man x m.promo) p.turn =
       grind (arith, here, is_m.mine, arriving_colour, other_differs, captures_arrival p x m, small, well.size) in
       rw (sees, men_q) (seen_after p.men m.from (capture_square p x m) m.to (arriving_man x m.promo) p.turn goes)
 
   -- for `parries_after`: somebody comes between
-  pub no_mate_where_interposed : (v : Sight) → v ≡ sight_after p.men m.from (capture_square p x m) m.to → (r : Parries) → r ≡ Possible
-      → ((men : List (Option Man)) → AreSeen p.men men (other p.turn) v → IsToldBetween men p x m k r) → is_mate rule q ≡ false
-  no_mate_where_interposed v sees r is told = between_from (subst (IsToldBetween q.men p x m k) is (told q.men (seen_q v sees))) _ refl
+  pub no_mate_where_interposed : (v : Occupancy) → v ≡ sight_after p.men m.from (capture_square p x m) m.to → (r : Parries) → r ≡ Possible
+      → ((men : List (Option Man)) → DescribesMen p.men men (other p.turn) v → IsKnownBetween men p x m k r) → is_mate rule q ≡ false
+  no_mate_where_interposed v sees r is reported = between_from (subst (IsKnownBetween q.men p x m k) is (reported q.men (seen_q v sees))) _ refl
 
   -- for `parries_after`: somebody takes the man that has come
-  pub no_mate_where_some_take : (v : Sight) → v ≡ sight_after p.men m.from (capture_square p x m) m.to → (t w : ℕ)
-      → ((men : List (Option Man)) → AreSeen p.men men (other p.turn) v → t ≡ word (λ s. is_of_colour (man_on men s) (other p.turn) && reaches men s m.to))
+  pub no_mate_where_some_take : (v : Occupancy) → v ≡ sight_after p.men m.from (capture_square p x m) m.to → (t w : ℕ)
+      → ((men : List (Option Man)) → DescribesMen p.men men (other p.turn) v → t ≡ word (λ s. is_of_colour (man_on men s) (other p.turn) && reaches men s m.to))
       → w ≡ word (is_unpinned p m k) → not (bit_and t w == 0) ≡ true → is_mate rule q ≡ false
   unfolding some_square squares
   no_mate_where_some_take v sees t w takers unpinned some =
@@ -327,7 +327,7 @@ module _ (rule : RuleSet) (p : Position) (m : Move) (x : Man) (k : ℕ) (well : 
             let both = and_parts _ (is_unpinned p m k w.0) w.3 in
             let parts = and_parts _ (reaches q.men w.0 m.to) both.0 in
             taken_from w.0 _ refl w.2 parts.0 parts.1 both.1
-        | inr none ↦ absurd (false≢true (sym (any_range_false takes 0 64 none) ∙ (sym (some_square_told takes (bit_and t w) are) ∙ some)))
+        | inr none ↦ absurd (false≢true (sym (any_range_false takes 0 64 none) ∙ (sym (some_square_known takes (bit_and t w) are) ∙ some)))
       ]
 
   -- if the checking man isn't taken and no man interposes, the check stays
@@ -385,7 +385,7 @@ module _ (rule : RuleSet) (p : Position) (m : Move) (x : Man) (k : ℕ) (well : 
       plain = record {
         castling = search (rules, and_left, mortal);
         crossed = rw uncrossed refl;
-        rebirth = λ h. absurd (false≢true (sym told.reborn ∙ h));
+        rebirth = λ h. absurd (false≢true (sym reported.reborn ∙ h));
       }
 
       -- the check stays
@@ -399,14 +399,14 @@ module _ (rule : RuleSet) (p : Position) (m : Move) (x : Man) (k : ℕ) (well : 
           let free : Frees q.men (arrived q y n) n.to = frees_after q.men (arrived q y n) n.from n.to (arriving_man y n.promo) shift in
           let stays : man_on (arrived q y n) m.to ≡ Some x =
           stays_there q y n m.to (λ s cap. captured_there q y n s plain.crossed cap) (λ e. no_enemy (sym is.here ∙ ap (man_on q.men) (sym e) ∙ arrives))
-          (λ e. untaken (sym e)) ∙ arrives ∙ ap (λ (r : Option Kind). Some (arriving_man x r)) told.unpromoted in
+          (λ e. untaken (sym e)) ∙ arrives ∙ ap (λ (r : Option Kind). Some (arriving_man x r)) reported.unpromoted in
           let holds = reaches_still q.men (arrived q y n) n.to k m.to u.squares free small low lt u.between apart x.colour x.kind i.orthodox
           (i.check q.men occupied) in
           let reached : is_reached (arrived q y n) k (other q.turn) ≡ true =
           some_square_true (λ s. is_of_colour (man_on (arrived q y n) s) (other q.turn) && reaches (arrived q y n) s k) m.to small
           (grind (arith, stays, turn_after rule p m may, other_twice, is_m.mine, same_colour-refl, holds, and_from)) in
           check_is rule q y n (Some k) well_q is lt simple (cond-false _ _ _ mortal ∙ king_q)
-          ∙ sym (attacked_plainly rule (arrived q y n) k (other q.turn) true told.able (sym reached))
+          ∙ sym (attacked_plainly rule (arrived q y n) k (other q.turn) true reported.able (sym reached))
 
     checked : in_check rule q.men q.turn ≡ true
     unfolding in_check is_reached reaches
@@ -414,8 +414,8 @@ module _ (rule : RuleSet) (p : Position) (m : Move) (x : Man) (k : ℕ) (well : 
         let holds = i.check q.men occupied in
         let reached : is_reached q.men k (other q.turn) ≡ true =
         some_square_true (λ s. is_of_colour (man_on q.men s) (other q.turn) && reaches q.men s k) m.to small
-        (grind (arith, arrives, told.unpromoted, turn_after rule p m may, other_twice, is_m.mine, same_colour-refl, holds, and_from)) in
-        ap (λ (v : Option ℕ). is_attacked_at rule q.men v (other q.turn)) king_q ∙ sym (attacked_plainly rule q.men k (other q.turn) true told.able (sym reached))
+        (grind (arith, arrives, reported.unpromoted, turn_after rule p m may, other_twice, is_m.mine, same_colour-refl, holds, and_from)) in
+        ap (λ (v : Option ℕ). is_attacked_at rule q.men v (other q.turn)) king_q ∙ sym (attacked_plainly rule q.men k (other q.turn) true reported.able (sym reached))
 
     is_parriless : IsParriless rule q
     unfolding is_legal
@@ -433,15 +433,15 @@ module _ (rule : RuleSet) (p : Position) (m : Move) (x : Man) (k : ℕ) (well : 
     }
 
   -- for `parries_after`: nobody can
-  pub parriless : (v : Sight) → v ≡ sight_after p.men m.from (capture_square p x m) m.to → (t : ℕ) → IsUntaken v.occupied t x m.to k
-      → ((men : List (Option Man)) → AreSeen p.men men (other p.turn) v → t ≡ word (λ s. is_of_colour (man_on men s) (other p.turn) && reaches men s m.to))
-      → (r : Parries) → r ≡ Impossible → ((men : List (Option Man)) → AreSeen p.men men (other p.turn) v → IsToldBetween men p x m k r) → IsParriless rule q
-  parriless v sees t i takers r is told =
+  pub parriless : (v : Occupancy) → v ≡ sight_after p.men m.from (capture_square p x m) m.to → (t : ℕ) → IsUntaken v.occupied t x m.to k
+      → ((men : List (Option Man)) → DescribesMen p.men men (other p.turn) v → t ≡ word (λ s. is_of_colour (man_on men s) (other p.turn) && reaches men s m.to))
+      → (r : Parries) → r ≡ Impossible → ((men : List (Option Man)) → DescribesMen p.men men (other p.turn) v → IsKnownBetween men p x m k r) → IsParriless rule q
+  parriless v sees t i takers r is reported =
       let seen = seen_q v sees in
-      is_parriless v.occupied t i seen.occupied (takers q.men seen) (subst (IsToldBetween q.men p x m k) is (told q.men seen))
+      is_parriless v.occupied t i seen.occupied (takers q.men seen) (subst (IsKnownBetween q.men p x m k) is (reported q.men seen))
 
 -- the words of the squares of men that aren't pinned
-module _ (p : Position) (m : Move) (k w l d : ℕ) (shields : w ≡ word (may_expose p.men (other p.turn))) (straight : l ≡ word (is_on_some straight_steps k))
+module _ (p : Position) (m : Move) (k w l d : ℕ) (blockers : w ≡ word (may_expose p.men (other p.turn))) (straight : l ≡ word (is_on_some straight_steps k))
     (diagonal : d ≡ word (is_on_some diagonal_steps k)) (small : m.from < 64) where
   on_line_is : (bit_at (bit_or l d) m.from == 1) ≡ is_on_line k m.from
   on_line_is = search (rules, straight, diagonal, squares_either, word_has)
@@ -450,13 +450,13 @@ module _ (p : Position) (m : Move) (k w l d : ℕ) (shields : w ≡ word (may_ex
   pub unpinned_beside : (bit_at (bit_or l d) m.from == 1) ≡ true → bit_not w64 (bit_or w (bit_or l d)) ≡ word (is_unpinned p m k)
   unpinned_beside on =
       let words : bit_not w64 (bit_or w (bit_or l d)) ≡ word (λ s. not (may_expose p.men (other p.turn) s || is_on_line k s)) =
-      search (rules, shields, straight, diagonal, squares_either, squares_not) in
+      search (rules, blockers, straight, diagonal, squares_either, squares_not) in
       words ∙ squares_same _ _ (λ s b. grind (arith, on_line_is, on))
 
   -- for `unpinned_squares`: beside a move from elsewhere
   pub unpinned_alone : (bit_at (bit_or l d) m.from == 1) ≡ false → bit_not w64 w ≡ word (is_unpinned p m k)
   unpinned_alone off =
-      let words : bit_not w64 w ≡ word (λ s. not (may_expose p.men (other p.turn) s)) = search (rules, shields, squares_not) in
+      let words : bit_not w64 w ≡ word (λ s. not (may_expose p.men (other p.turn) s)) = search (rules, blockers, squares_not) in
       words ∙ squares_same _ _ (λ s b. grind (arith, on_line_is, off))
 
 -- a square two ahead isn't next to a pawn's
@@ -477,24 +477,24 @@ one_ahead c t s p advance near = elim (or_cases (is_square (along t (forward c) 
 ]
 
 -- for `pawn_origins`
-pub pawns_behind : (c : Colour) (t a k s : ℕ) → t < 64 → s < 64 → a ≡ word (is_advance (other c) t) → k ≡ word (λ s. list_any (leaps t s) queen_steps)
+pub pawns_after : (c : Colour) (t a k s : ℕ) → t < 64 → s < 64 → a ≡ word (is_advance (other c) t) → k ≡ word (λ s. list_any (leaps t s) queen_steps)
     → (bit_at (bit_and a k) s == 1) ≡ true → is_square (along s (forward c) 1) t ≡ true
-pawns_behind c t a k s p q ahead near on =
+pawns_after c t a k s p q ahead near on =
     let step = one_ahead (other c) t s p (sym (word_has _ a s ahead q) ∙ on_first a k s on) (sym (word_has _ k s near q) ∙ on_second a k s on) in
     grind (arith, return_square t s (forward (other c)) 1 p step)
 
 -- for `parries_between`: a man of these comes between
 pub interposed : (men : List (Option Man)) (p : Position) (x : Man) (m : Move) (k a o f c w u b t : ℕ) → o ≡ occupied_squares men
-    → f ≡ word (may_stand_between p.men (other p.turn)) → c ≡ word (λ s. is_of_colour (man_on men s) (other p.turn) && reaches men s t && is_unpinned p m k s)
+    → f ≡ word (may_be_hurdle p.men (other p.turn)) → c ≡ word (λ s. is_of_colour (man_on men s) (other p.turn) && reaches men s t && is_unpinned p m k s)
     → w ≡ squares_of men (other p.turn) Pawn → u ≡ word (is_unpinned p m k)
     → ((s : ℕ) → s < 64 → (bit_at b s == 1) ≡ true → is_square (along s (forward (other p.turn)) 1) t ≡ true) → t < 64
     → (bit_at (bit_and a (bit_not w64 (bit_or o f))) t == 1) ≡ true
     → IsShutBy o (bit_or (bit_and c (bit_not w64 w)) (bit_and (bit_and w u) b)) x m.to k t → IsInterposed men p x m k
 unfolding squares_of
-interposed men p x m k a o f c w u b t occupied lines comers pawns loose behind lt on by =
-    let held : bit_or o f ≡ word (λ s. is_some (man_on men s) || may_stand_between p.men (other p.turn) s) =
+interposed men p x m k a o f c w u b t occupied lines comers pawns loose following lt on by =
+    let held : bit_or o f ≡ word (λ s. is_some (man_on men s) || may_be_hurdle p.men (other p.turn) s) =
     search (rules, occupied, lines, squares_either) in
-    let off = or_parts _ (may_stand_between p.men (other p.turn) t) (sym (word_has _ (bit_or o f) t held lt) ∙ unseen_bit _ a (bit_or o f) t held lt on) in
+    let off = or_parts _ (may_be_hurdle p.men (other p.turn) t) (sym (word_has _ (bit_or o f) t held lt) ∙ unseen_bit _ a (bit_or o f) t held lt on) in
     let made : is_unpinned p m k by.from ≡ true → IsWayBetween men p by.from t → IsInterposed men p x m k = λ free way. record {
       from = by.from;
       square = t;
@@ -512,22 +512,22 @@ interposed men p x m k a o f c w u b t occupied lines comers pawns loose behind 
       | inr y ↦
           let first = on_first (bit_and w u) b by.from y in
           made (sym (word_has _ u by.from loose by.small) ∙ on_second w u by.from first)
-          (inr (sym (word_has _ w by.from pawns by.small) ∙ on_first w u by.from first, behind by.from by.small (on_second (bit_and w u) b by.from y)))
+          (inr (sym (word_has _ w by.from pawns by.small) ∙ on_first w u by.from first, following by.from by.small (on_second (bit_and w u) b by.from y)))
     ]
 
 -- for `parries_between`: nobody comes to a square between, and all of them are empty
-pub nobody_between : (men : List (Option Man)) (p : Position) (b k a o f : ℕ) → o ≡ occupied_squares men → f ≡ word (may_stand_between p.men (other p.turn))
+pub nobody_between : (men : List (Option Man)) (p : Position) (b k a o f : ℕ) → o ≡ occupied_squares men → f ≡ word (may_be_hurdle p.men (other p.turn))
     → AreBetween men b k a → (bit_and a (bit_or o f) == 0) ≡ true
     → ((t : ℕ) → t < 64 → (bit_at (bit_and a (bit_not w64 (bit_or o f))) t == 1) ≡ true → some_square (comes men (other p.turn) k t) ≡ false)
     → NobodyComes men (other p.turn) b k
 nobody_between men p b k a o f occupied lines between free none =
-    let held : bit_or o f ≡ word (λ s. is_some (man_on men s) || may_stand_between p.men (other p.turn) s) = search (rules, occupied, lines, squares_either) in
+    let held : bit_or o f ≡ word (λ s. is_some (man_on men s) || may_be_hurdle p.men (other p.turn) s) = search (rules, occupied, lines, squares_either) in
     let off : (t : ℕ) → (bit_at a t == 1) ≡ true → (bit_at (bit_or o f) t == 1) ≡ false =
     λ t on. off_second a (bit_or o f) t (ap (λ n. bit_at n t == 1) (eqb-true _ 0 free) ∙ off_zero t) on in
     record {
       squares = a;
       between = between;
-      vacant = λ t lt on. grind (arith, or_parts _ (may_stand_between p.men (other p.turn) t) (sym (word_has _ (bit_or o f) t held lt) ∙ off t on));
+      vacant = λ t lt on. grind (arith, or_parts _ (may_be_hurdle p.men (other p.turn) t) (sym (word_has _ (bit_or o f) t held lt) ∙ off t on));
       none = λ t lt on. none t lt (seen_bit _ a (bit_or o f) t held lt on (off t on));
     }
 

@@ -1,5 +1,5 @@
 -- Plain moves: no castling, no en passant, and no double step that en passant might capture.
-use Rattle.chess_mates.proofs.Chess.{AreCapturers, Black, Colour, IsMereMove, IsPassing, IsPlainMove, King, Man, Move, None, Pawn, Position, White, and_left, and_parts, and_right, arith, bit_and, bit_at, bit_not, bit_or, capture_of_piece, capture_square, cond-false, cond-true, false, false_by, false≢true, halfway, is_advance, is_castling, is_man, is_of_colour, is_square, king_is_no_pawn, leaps, list_any, man_on, may_go, no_capture, no_pawn_arrives, off_left, off_right, or_cases, other, pawn_goes, pawn_is_no_king, queen_steps, refl, rules, same_colour-refl, same_kind, same_kind-true, side_of, squares_of, sym, true, w64, word, word_has, ℕ, ◌<◌, ◌==◌, ◌^◌, ◌∙◌, ◌≡◌}
+use Rattle.chess_mates.proofs.Chess.{AreCapturers, Black, Colour, IsMereMove, IsPassing, IsPlainMove, King, Man, Move, None, Pawn, Position, White, and_left, and_parts, and_right, arith, bit_and, bit_at, bit_not, bit_or, capture_of_piece, capture_square, cond-false, cond-true, false, false_by, false≢true, halfway, is_advance, is_castling, is_man, is_of_colour, is_square, king_is_no_pawn, leaps, list_any, man_on, may_arrive, no_capture, no_pawn_arrives, off_left, off_right, or_cases, other, pawn_steps_to, pawn_is_no_king, queen_steps, refl, rules, same_colour-refl, same_kind, same_kind-true, side_of, squares_of, sym, true, w64, word, word_has, ℕ, ◌<◌, ◌==◌, ◌^◌, ◌∙◌, ◌≡◌}
 use Rattle.chess_attacks.proofs.rays.Tables.{king_step_is_no_castling}
 use Rattle.chess_mates.proofs.Approaches.{far_is_vacant, goes_over_next, no_far_step, steps_from_there, takes_or_steps}
 pub use Rattle.chess_mates.proofs.FarMen.{on_denied}
@@ -19,11 +19,11 @@ module _ (p : Position) (x : Man) (m : Move) (from : m.from < 64) (to : m.to < 6
         record { freely = λ double. grind (arith, no_far_step m.from m.to from to, step, on_denied n m.to fits to off) }
 
     -- for a pawn that will have no pawn beside it
-    pub passes_freely : (w l : ℕ) → may_go p x m.from m.to ≡ true → AreCapturers (other x.colour) (bit_and a n) w
+    pub passes_freely : (w l : ℕ) → may_arrive p x m.from m.to ≡ true → AreCapturers (other x.colour) (bit_and a n) w
         → l ≡ squares_of p.men (other x.colour) Pawn → bit_and w l ≡ 0 → IsPassing p x m
     unfolding squares_of
     passes_freely w l goes before pawns none = record {
-      freely = λ double q s z small low here enemy pawn. false_by (may_go q z s (halfway m)) (λ comes.
+      freely = λ double q s z small low here enemy pawn. false_by (may_arrive q z s (halfway m)) (λ comes.
           let both = and_parts _ _ double in
           let pawn_x = rw (← man_is x x.colour Pawn refl (same_kind-true x.kind Pawn both.0)) at goes in
           let over = goes_over_next p x.colour m.from m.to from to pawn_x both.1 in
@@ -50,9 +50,9 @@ module _ (p : Position) (x : Man) (m : Move) (from : m.from < 64) (to : m.to < 6
     piece_mere piece off = search (rules, no_capture, nobody_on, and_left, no_pawn_arrives, false≢true)
 
     -- for a pawn
-    pub pawn_mere : (o : ℕ) → o ≡ word (is_square p.crossed) → may_go p x m.from m.to ≡ true → same_kind x.kind Pawn ≡ true
+    pub pawn_mere : (o : ℕ) → o ≡ word (is_square p.crossed) → may_arrive p x m.from m.to ≡ true → same_kind x.kind Pawn ≡ true
         → (bit_at (bit_or (bit_or (bit_or a b) o) 18374686479671623935) m.to == 1) ≡ false → IsMereMove p x m
-    unfolding may_go capture_square
+    unfolding may_arrive capture_square
     pawn_mere o crossed goes pawn off =
         let men = off_left (bit_or (bit_or a b) o) 18374686479671623935 m.to off in
         let none = nobody_on (off_left (bit_or a b) o m.to men) in
@@ -60,7 +60,7 @@ module _ (p : Position) (x : Man) (m : Move) (from : m.from < 64) (to : m.to < 6
         record {
           captures = rw (none, uncrossed) (cond-false _ _ _ (and_right _ _ refl));
           unpromoted = search (rules, false_by, and_parts, off_right (bit_or (bit_or a b) o) 18374686479671623935 m.to off, last_rank_on, false≢true);
-          file = λ is. grind (arith, none, uncrossed, goes, pawn_goes p x (record { from = m.from; to = m.to; promo = None }), cond-true);
+          file = λ is. grind (arith, none, uncrossed, goes, pawn_steps_to p x (record { from = m.from; to = m.to; promo = None }), cond-true);
         }
 
   -- for the squares to which each kind goes plainly

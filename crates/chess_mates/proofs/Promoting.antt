@@ -1,6 +1,6 @@
 -- A man gives no check if it doesn't reach the king from its arrival and its move uncovers nobody.
-use Rattle.chess_mates.proofs.Chess.{Colour, IsMade, IsShift, IsWellFormed, List, Man, Move, None, Option, Position, RuleSet, Some, and_right, arith, arriving_man, arrived, bit_at, cannot_expose, cannot_expose_parts, capture_square, cases_Bool, cases_eq, covered_parts, eq-eqb, false, false≢true, gone_to, in_check, is_pseudo_legal, is_reached, is_square, king_square, king_there, length, length-set, made, man_on, man_on-with_other, man_on-with_same, may_expose, may_stand_between, not_attacked, occupied_now, occupied_squares, occupied_words, other, other_differs, position_after, reaches, reaches_as, refl, rules, sight_after, simple_after, squares_same, square_is, sym, there_now, true, unreached, with_man, word, word_has, ℕ, ◌<◌, ◌==◌, ◌∙◌, ◌≡◌}
-use Rattle.chess_rules.proofs.attacks.Shielding.{CannotExpose, arrived_shift}
+use Rattle.chess_mates.proofs.Chess.{Colour, IsMade, IsShift, IsWellFormed, List, Man, Move, None, Option, Position, RuleSet, Some, and_right, arith, arriving_man, arrived, bit_at, cannot_expose, cannot_expose_parts, capture_square, cases_Bool, cases_eq, covered_parts, eq-eqb, false, false≢true, gone_to, in_check, is_pseudo_legal, is_reached, is_square, king_square, king_there, length, length-set, made, man_on, man_on-with_other, man_on-with_same, may_expose, may_be_hurdle, not_attacked, occupied_now, occupied_squares, occupied_words, other, other_differs, position_after, reaches, reaches_as, refl, rules, sight_after, simple_after, squares_same, square_is, sym, there_now, true, unreached, with_man, word, word_has, ℕ, ◌<◌, ◌==◌, ◌∙◌, ◌≡◌}
+use Rattle.chess_rules.proofs.attacks.Blocking.{CannotExpose, arrived_shift}
 use Rattle.chess_mates.proofs.Fleeing.{king_waits}
 use Rattle.chess_mates.proofs.Parrying.{unreached_in_place}
 use Rattle.chess_mates.proofs.Standing.{captured_there}
@@ -51,7 +51,7 @@ module _ (rule : RuleSet) (p : Position) (x : Man) (m : Move) (well : IsWellForm
   -- if the man that arrives doesn't reach the king, no man of its side does
   unreached_then : (k : ℕ) → king_square p.men c ≡ Some k → reaches_as then (arriving_man x m.promo).colour (arriving_man x m.promo).kind m.to k ≡ false
       → is_reached then k (other c) ≡ false
-  unfolding reaches may_expose may_stand_between
+  unfolding reaches may_expose may_be_hurdle
   unreached_then k at harmless =
       let covered = covered_parts p.men c m.from k (rw at at parts.origin) in
       let others = unreached p.men (with_man then m.to instead) m.from m.to instead shift c k covered (king_there p.men c k at).0 (rw at at parts.aside)

@@ -6,7 +6,7 @@ use Rattle.chess_mates.proofs.KindByKind.{man_is}
 use Rattle.chess_mates.proofs.LastingFlights.{no_last_rank, on_both}
 use Rattle.chess_mates.specs.ties.Attackers.{is_promotion}
 use Rattle.chess_mates.specs.ties.LastingFlights.{MayBecome, counts_as}
-use Rattle.chess_mates.specs.ties.Siege.{ArePromotions}
+use Rattle.chess_mates.specs.ties.KingAttack.{ArePromotions}
 
 -- a pawn is promoted on the last ranks
 promotes_on : (x : Man) (t : ℕ) → t < 64 → is_promoting x t ≡ true → (bit_at 18374686479671623935 t == 1) ≡ true

@@ -1,5 +1,5 @@
 -- Bitboards of risks: where a defender's arrival might allow mate.
-use Rattle.chess_mates.proofs.Chess.{AreApproached, AreApproaches, AreArrivals, AreGuardsWithout, AreWeak, Bishop, Colour, Field, Grasshopper, IsCheckWord, IsHarmless, IsNear, IsNoCheck, IsReached, IsUnguarded, IsWeak, Kind, King, Knight, List, Man, Nightrider, Option, Pawn, Position, Queen, Risk, Rook, Siege, and_parts, ap, arith, bit_and, bit_at, bit_at-lt, bit_at_not, bit_not, bit_or, eq-eqb, eqb-true, false, false_by, false≢true, gait_of, inl, is_hopper, king_is_no_pawn, may_go, no_pawn_arrives, not, occupied_squares, off_left, off_right, off_zero, other, reaches_as, refl, rules, same_kind, same_kind-true, squares, squares_for, sym, true, true_from_ne_false, w64, word, ℕ, IsArrival, ◌<◌, ◌==◌, ◌^◌, ◌∙◌, ◌≡◌}
+use Rattle.chess_mates.proofs.Chess.{AreApproached, AreApproaches, AreArrivals, AreGuardsWithout, AreWeak, Bishop, Colour, KingZone, Grasshopper, IsCheckWord, IsHarmless, IsNear, IsNoCheck, IsReached, IsUnguarded, IsWeak, Kind, King, Knight, List, Man, Nightrider, Option, Pawn, Position, Queen, Risk, Rook, KingAttack, and_parts, ap, arith, bit_and, bit_at, bit_at-lt, bit_at_not, bit_not, bit_or, eq-eqb, eqb-true, false, false_by, false≢true, gait_of, inl, is_hopper, king_is_no_pawn, may_arrive, no_pawn_arrives, not, occupied_squares, off_left, off_right, off_zero, other, reaches_as, refl, rules, same_kind, same_kind-true, squares, squares_for, sym, true, true_from_ne_false, w64, word, ℕ, IsArrival, ◌<◌, ◌==◌, ◌^◌, ◌∙◌, ◌≡◌}
 use Rattle.chess_mates.specs.declared.guards.Guards.{Guards}
 use Rattle.chess_mates.proofs.Hurdles.{on_one, reached_is}
 use Rattle.chess_mates.proofs.KindByKind.{man_is, of_all}
@@ -24,36 +24,36 @@ pub denied_on : (a b i : ℕ) → b < 2 ^ 64 → i < 64 → (bit_at a i == 1) �
 denied_on a b i fits small on off = on_both a (bit_not w64 b) i on (bit_denied b i fits small off)
 
 -- where a man may go
-pub open_arrivals : (d : ℕ) (x : Man) (s w : ℕ) → ((p : Position) (t : ℕ) → t < 64 → may_go p x s t ≡ true → (bit_at w t == 1) ≡ true) → AreArrivals d x s w
+pub open_arrivals : (d : ℕ) (x : Man) (s w : ℕ) → ((p : Position) (t : ℕ) → t < 64 → may_arrive p x s t ≡ true → (bit_at w t == 1) ≡ true) → AreArrivals d x s w
 open_arrivals d x s w ways = record { inside = λ t i. ways i.position t i.small i.goes }
 
 -- a king gives no check off the springboards
-pub king_targets : (x : Man) (g : Field) (checks t : ℕ) → same_kind x.kind King ≡ true → (bit_at g.springboards t == 1) ≡ false → IsNoCheck g checks x t
+pub king_targets : (x : Man) (g : KingZone) (checks t : ℕ) → same_kind x.kind King ≡ true → (bit_at g.springboards t == 1) ≡ false → IsNoCheck g checks x t
 king_targets x g checks t king unsprung = search (rules, king_is_no_pawn, no_pawn_arrives)
 
 -- a pawn gives check as a pawn, or as the man to which it promotes
-pub pawn_targets : (x : Man) (g : Field) (checks t : ℕ) → (bit_at (bit_or (bit_or checks g.promotions) g.springboards) t == 1) ≡ false → IsNoCheck g checks x t
+pub pawn_targets : (x : Man) (g : KingZone) (checks t : ℕ) → (bit_at (bit_or (bit_or checks g.promotions) g.springboards) t == 1) ≡ false → IsNoCheck g checks x t
 pawn_targets x g checks t off = search (rules, off_left, off_right)
 
 -- a piece checks from the check squares
-pub piece_targets : (x : Man) (g : Field) (checks t : ℕ) → same_kind x.kind Pawn ≡ false → (bit_at (bit_or checks g.springboards) t == 1) ≡ false
+pub piece_targets : (x : Man) (g : KingZone) (checks t : ℕ) → same_kind x.kind Pawn ≡ false → (bit_at (bit_or checks g.springboards) t == 1) ≡ false
     → IsNoCheck g checks x t
 piece_targets x g checks t piece off = search (rules, no_pawn_arrives, off_left, off_right)
 
 -- for `risk_of_going`: one attacker goes, and a square next to the king or the king's own isn't guarded
-pub unguarded_at : (v : Siege) (g : Field) (s o : ℕ) (gs : Guards) (a : ℕ) → AreGuardsWithout v s (bit_or (bit_or g.near g.captures) o) gs
+pub unguarded_at : (v : KingAttack) (g : KingZone) (s o : ℕ) (gs : Guards) (a : ℕ) → AreGuardsWithout v s (bit_or (bit_or g.near g.captures) o) gs
     → ((bit_at v.hurdles a == 1) ≡ true → (bit_at gs.ridden a == 1) ≡ false) → (f : ℕ)
     → (bit_at (bit_or (bit_or g.near g.captures) o) f == 1) ≡ true → (bit_at gs.guarded f == 1) ≡ false → IsUnguarded v s a f
 unguarded_at v g s o gs a are shut f near unseen = record { region = _; near = near; guards = gs; are = are; shut = shut; off = unseen }
 
 -- a man that never gives check and opens nothing
-idly : (v : Siege) (g : Field) (checks : ℕ) (r : Risk) (x : Man) (s : ℕ) → ((t : ℕ) → IsArrival v.hurdles x s t → IsNoCheck g checks x t)
+idly : (v : KingAttack) (g : KingZone) (checks : ℕ) (r : Risk) (x : Man) (s : ℕ) → ((t : ℕ) → IsArrival v.hurdles x s t → IsNoCheck g checks x t)
     → (bit_at g.lines s == 1) ≡ false → IsHarmless v g checks r x s
 idly v g checks r x s calm hidden =
     record { mild = λ a b low inside off. record { each = λ t i there. inl (record { check = calm t i; covered = inl hidden }) } }
 
 -- for `risk_from`: a man that goes to no target and opens nothing
-pub harmless_quietly : (v : Siege) (g : Field) (checks : ℕ) (x : Man) (s reached targets : ℕ) → AreArrivals v.hurdles x s reached
+pub harmless_quietly : (v : KingAttack) (g : KingZone) (checks : ℕ) (x : Man) (s reached targets : ℕ) → AreArrivals v.hurdles x s reached
     → ((t : ℕ) → t < 64 → (bit_at reached t == 1) ≡ true → (bit_at targets t == 1) ≡ false → IsNoCheck g checks x t)
     → targets ≡ 0 → (bit_at g.lines s == 1) ≡ false → IsHarmless v g checks (record { critical = 0; lines = 0 }) x s
 harmless_quietly v g checks x s reached targets are quiet none =
@@ -61,7 +61,7 @@ harmless_quietly v g checks x s reached targets are quiet none =
 
 -- for `suspect_squares`: a man that opens nothing, and a pawn that comes to no target, by the squares from
 -- which it might
-pub pawn_idly : (v : Siege) (g : Field) (checks : ℕ) (x : Man) (s w : ℕ) → same_kind x.kind Pawn ≡ true
+pub pawn_idly : (v : KingAttack) (g : KingZone) (checks : ℕ) (x : Man) (s w : ℕ) → same_kind x.kind Pawn ≡ true
     → AreApproaches (record { colour = x.colour; kind = Pawn }) (bit_or checks g.promotions) w → s < 64 → (bit_at (bit_or g.lines w) s == 1) ≡ false
     → g.springboards ≡ 0 → IsHarmless v g checks (record { critical = 0; lines = 0 }) x s
 pawn_idly v g checks x s w pawn before small off none =
@@ -81,7 +81,7 @@ not_near x s o region reached none near =
     none_at (bit_and o region) near.square none (on_both o region near.square (reached.inside near.men near.square near.small near.reaches) near.on)
 
 -- for men that are harmless and give no check now
-pub weak_is : (v : Siege) (g : Field) (r : Risk) (x : Man) (checks s : ℕ) → IsCheckWord v.hurdles g.king x checks
+pub weak_is : (v : KingAttack) (g : KingZone) (r : Risk) (x : Man) (checks s : ℕ) → IsCheckWord v.hurdles g.king x checks
     → (is_hopper (gait_of x.kind) ≡ false → (bit_at checks s == 1) ≡ false) → IsHarmless v g checks r x s → IsWeak v g r x s
 weak_is v g r x checks s word off harmless = grind (arith, word, off, harmless)
 
@@ -111,7 +111,7 @@ pub check_hops : (d k w : ℕ) (x : Man) → same_kind x.kind Grasshopper ≡ tr
 check_hops d k w x kind are = search (rules, same_kind-true)
 
 -- each attacker, kind by kind
-module _ (v : Siege) (g : Field) where
+module _ (v : KingAttack) (g : KingZone) where
   abbrev WeakAs : Kind → Risk → Type 0
   WeakAs j r = (s : ℕ) → s < 64 → (bit_at (squares_for v.men j) s == 1) ≡ true → IsWeak v g r (record { colour = v.men.colour; kind = j }) s
 

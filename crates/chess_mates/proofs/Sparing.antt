@@ -1,5 +1,5 @@
 -- No reply mates after a defender's move without risk.
-use Rattle.chess_mates.proofs.Chess.{AreFree, AreLaterHurdles, Colour, Field, IsArrival, IsAttacker, IsCaptured, IsCastlingHarmless, IsCheckWord, IsFlight, IsHome, IsHurdle, IsMade, IsMereMove, IsNear, IsOff, IsPlainMove, IsQuiet, IsReborn, IsRiskAt, IsShut, IsShutAt, IsSiege, IsSiegeOf, IsUnguarded, IsUnsprung, IsWeakAt, IsWellFormed, Kind, King, List, Man, MayRide, Move, Nightrider, None, Option, Pawn, Position, Risk, RuleSet, Siege, Some, [], after_well_formed, all_triples, and_from, and_left, and_parts, and_right, ap, arith, arrival_needed, arrived, arriving_colour, arriving_king, arriving_man, bit_at, capture_of_piece, capture_square, captured_enemy, captured_man, captures_are_reborn, captures_do_more, cases_Bool, cases_eq, castle_of, corner, eq-eqb, eqb-true, false, false_by, false_from_ne_true, false≢true, file_of, gait_of, halfway, has_flight, has_unmoved, in_check, inl, inr, is_absent, is_arrival_free, is_attacked, is_attacked_at, is_attacker, is_castling, is_double_step, is_fairy, is_hopper, is_legal, is_man, is_of_colour, is_promoting, is_pseudo_legal, is_rider, is_some, is_square, king-back, king_after, king_is, king_is_after, king_square, king_stands, king_there, leaps, list_any, made, maker, man_on, man_there, mates, mates_behind, may_check_from, may_go, may_go_aimed, men_on, moved_men, moved_plainly, off_second, off_zero, on_board, or_cases, or_parts, other, other_twice, position_after, position_after_by, queen_steps, reached_over, reaches_as, reaches_back, rebirth, reborn_is, reborn_square, refl, rules, same_colour, same_colour-refl, same_colour-true, same_kind, same_kind-true, side_of, simple_after, square_is, subst, sym, taken, there_now, true, word, word_has, ℕ, or_left, or_right, true_from_ne_false, triple_at, ◌-◌, ◌<◌, ◌==◌, ◌||◌, ◌∙◌, ◌≡◌, ◌≢◌, ◌⊎◌}
+use Rattle.chess_mates.proofs.Chess.{AreFree, AreLaterHurdles, Colour, KingZone, IsArrival, IsAttacker, IsCaptured, IsCastlingHarmless, IsCheckWord, IsFlight, IsHome, IsHurdle, IsMade, IsMereMove, IsNear, IsOff, IsPlainMove, IsQuiet, IsReborn, IsRiskAt, IsShut, IsShutAt, IsKingAttack, IsKingAttackOf, IsUnguarded, IsUnhopped, IsWeakAt, IsWellFormed, Kind, King, List, Man, MayRide, Move, Nightrider, None, Option, Pawn, Position, Risk, RuleSet, KingAttack, Some, [], after_well_formed, all_triples, and_from, and_left, and_parts, and_right, ap, arith, arrival_needed, arrived, arriving_colour, arriving_king, arriving_man, bit_at, capture_of_piece, capture_square, captured_enemy, captured_man, captures_are_reborn, captures_do_more, cases_Bool, cases_eq, castle_of, corner, eq-eqb, eqb-true, false, false_by, false_from_ne_true, false≢true, file_of, gait_of, halfway, has_flight, has_unmoved, in_check, inl, inr, is_absent, is_arrival_free, is_attacked, is_attacked_at, is_attacker, is_castling, is_double_step, is_fairy, is_hopper, is_legal, is_man, is_of_colour, is_promoting, is_pseudo_legal, is_rider, is_some, is_square, king-back, king_after, king_is, king_is_after, king_square, king_stands, king_there, leaps, list_any, made, maker, man_on, man_there, mates, mates_after, may_check_from, may_arrive, may_go_aimed, men_on, moved_men, moved_plainly, off_second, off_zero, on_board, or_cases, or_parts, other, other_twice, position_after, position_after_by, queen_steps, reached_over, reaches_as, reaches_back, rebirth, reborn_is, reborn_square, refl, rules, same_colour, same_colour-refl, same_colour-true, same_kind, same_kind-true, side_of, simple_after, square_is, subst, sym, taken, there_now, true, word, word_has, ℕ, or_left, or_right, true_from_ne_false, triple_at, ◌-◌, ◌<◌, ◌==◌, ◌||◌, ◌∙◌, ◌≡◌, ◌≢◌, ◌⊎◌}
 use Rattle.chess_mates.proofs.Rebirths.{after_is}
 use Rattle.chess_mates.proofs.Becoming.{becomes, promotes_still}
 use Rattle.chess_mates.proofs.Hurdles.{later, later_but}
@@ -7,7 +7,7 @@ use Rattle.chess_mates.proofs.LastingFlights.{on_both}
 use Rattle.chess_mates.proofs.Risks.{none_at}
 use Rattle.chess_mates.proofs.KingsApart.{kings_apart}
 use Rattle.chess_mates.proofs.Fleeing.{IsKingOn, no_king_free, no_mate_with_flight, step_to}
-use Rattle.chess_mates.proofs.Mating.{mates_behind-end, mates_behind-none, no_mate_quietly, not_mating, turn_after}
+use Rattle.chess_mates.proofs.Mating.{mates_after-end, mates_after-none, no_mate_quietly, not_mating, turn_after}
 use Rattle.chess_mates.proofs.Standing.{and_left_king, arrival_small, captured_there, castle_unmoved, free_man, has_one, king_reaches, mine_again, moved_stays, no_rebirth, nobody_strikes, not_mine, not_mine_enemy, piece_reaches, same_man, some_side, some_stays, stays_there, stood, stood_reborn, unfree, unnamed}
 use Rattle.chess_mates.proofs.QuietCastling.{castles_quietly}
 use Rattle.chess_mates.specs.ties.LastingFlights.{MayBecome}
@@ -19,11 +19,11 @@ man_of : (o : Option Man) → is_some o ≡ true → (z : Man) × (o ≡ Some z)
 man_of o h = grind arith
 
 -- the move m of the defender, plain, without risk
-pub record IsSpared (rule : RuleSet) (p : Position) (m : Move) (x : Man) (v : Siege) (k : ℕ) (r : Risk) : Type 0 where
+pub record IsSpared (rule : RuleSet) (p : Position) (m : Move) (x : Man) (v : KingAttack) (k : ℕ) (r : Risk) : Type 0 where
   pub plain : IsPlainMove p x m
   pub mere : captures_do_more rule ≡ true → IsMereMove p x m
-  pub siege : IsSiege v
-  pub fits : IsSiegeOf rule p v
+  pub king_attack : IsKingAttack v
+  pub fits : IsKingAttackOf rule p v
   pub at : IsRiskAt v k r
   pub off : IsOff v.hurdles r m.from m.to
   pub shut : IsShutAt v m.from
@@ -53,11 +53,11 @@ enemy_king rule p x m well is to =
     let caught = λ (s : ℕ) (at : is_square (capture_square p x m) s ≡ true). taken rule p x m s well is (square_is (capture_square p x m) s at) in
     king_stands _ _ _ _ _ _ (search (rules, arith, no_king_free, caught, and_left, and_right, arriving_colour, not_mine_enemy))
 
-module _ (rule : RuleSet) (p : Position) (m : Move) (x : Man) (v : Siege) (k : ℕ) (risk : Risk) (well : IsWellFormed p)
+module _ (rule : RuleSet) (p : Position) (m : Move) (x : Man) (v : KingAttack) (k : ℕ) (risk : Risk) (well : IsWellFormed p)
     (may : is_pseudo_legal rule p m ≡ true) (here : man_on p.men m.from ≡ Some x) (small : m.to < 64) (from : m.from < 64)
     (king : king_after p x m ≡ Some k) (i : IsSpared rule p m x v k risk) where
-  abbrev g : Field
-  g = i.at.field
+  abbrev g : KingZone
+  g = i.at.king_zone
 
   is : IsMade rule p x m
   is = made rule p m x may here
@@ -101,7 +101,7 @@ module _ (rule : RuleSet) (p : Position) (m : Move) (x : Man) (v : Siege) (k : �
   -- a hurdle stays occupied
   stays_q : (e : ℕ) → e < 64 → (bit_at v.hurdles e == 1) ≡ true → e ≢ m.from → is_some (man_on q.men e) ≡ true
   stays_q e inside on left =
-      let side : (bit_at v.own e == 1 || bit_at v.enemies e == 1) ≡ true = search (rules, or_left, or_right, (i.siege.hurdles.men e inside on).0) in
+      let side : (bit_at v.own e == 1 || bit_at v.enemies e == 1) ≡ true = search (rules, or_left, or_right, (i.king_attack.hurdles.men e inside on).0) in
       rw men_q (some_stays p x m e i.plain.captures (omega (arith, small, well.size)) left (somebody e inside ∙ side))
 
   at_k : k < 64
@@ -228,7 +228,7 @@ module _ (rule : RuleSet) (p : Position) (m : Move) (x : Man) (v : Siege) (k : �
           (rw (← i.at.king) (harmless.rooks (halfway n) half half_on))
           (rw (turn_q, other_twice p.turn) at (kings_apart rule q y n well_q here_y to lawful king_y))
 
-    goes_y : may_go q y n.from n.to ≡ true
+    goes_y : may_arrive q y n.from n.to ≡ true
     goes_y = may_go_aimed rule q y n here_y (arrival_needed rule q n to can)
 
     -- the man that it becomes
@@ -289,8 +289,8 @@ module _ (rule : RuleSet) (p : Position) (m : Move) (x : Man) (v : Siege) (k : �
           subst (λ (c : Colour). king_square landed c ≡ king_square q.men c) (ap other turn_q ∙ other_twice p.turn) (enemy_king rule q y n well_q is_n to)
           ∙ king_q
 
-      abbrev Stood : ℕ → Man → Type 0
-      Stood s z = ((s ≡ n.to) × (z ≡ arriving_man y n.promo)) ⊎ ((s ≢ n.to) × ((s ≢ n.from) × (man_on q.men s ≡ Some z)))
+      abbrev ShownPositions : ℕ → Man → Type 0
+      ShownPositions s z = ((s ≡ n.to) × (z ≡ arriving_man y n.promo)) ⊎ ((s ≢ n.to) × ((s ≢ n.from) × (man_on q.men s ≡ Some z)))
 
       abbrev IsNew : ℕ → Type 0
       IsNew s = ((bit_at v.closed s == 1) ≡ true) × (captures_do_more rule ≡ true)
@@ -312,11 +312,11 @@ module _ (rule : RuleSet) (p : Position) (m : Move) (x : Man) (v : Siege) (k : �
       king_r : king_square r.men p.turn ≡ Some k
       king_r = king_is r.men p.turn k well_r.kings at_k (search (rules, same_or_new k, (king_there landed p.turn k king_landed).1, false≢true))
 
-      stood_r : (s : ℕ) (z : Man) → man_on r.men s ≡ Some z → Stood s z ⊎ ((z.colour ≡ p.turn) × IsNew s)
+      stood_r : (s : ℕ) (z : Man) → man_on r.men s ≡ Some z → ShownPositions s z ⊎ ((z.colour ≡ p.turn) × IsNew s)
       stood_r s z there = search (rules, same_or_new s, stood q y n s z (omega (arith, to, well_q.size)), same_man)
 
       -- no attacker is new
-      enemy_r : (s : ℕ) (z : Man) → man_on r.men s ≡ Some z → z.colour ≡ other p.turn → Stood s z
+      enemy_r : (s : ℕ) (z : Man) → man_on r.men s ≡ Some z → z.colour ≡ other p.turn → ShownPositions s z
       enemy_r s z there enemy = search (rules, stood_r s z there, one_side z p.turn enemy)
 
       -- the man comes over the hurdles, and to another attacker's square only if that one has been captured
@@ -393,7 +393,7 @@ module _ (rule : RuleSet) (p : Position) (m : Move) (x : Man) (v : Siege) (k : �
 
       -- no hopper reaches t over springboards to which no attacker has come, on a board with no men but
       -- the men of r and the one on t
-      unhopped : (t w : ℕ) → IsUnsprung v k t w → ((h : ℕ) → (bit_at w h == 1) ≡ true → (bit_at g.hops h == 1) ≡ true)
+      unhopped : (t w : ℕ) → IsUnhopped v k t w → ((h : ℕ) → (bit_at w h == 1) ≡ true → (bit_at g.hops h == 1) ≡ true)
           → (bit_at w n.to == 1) ≡ false → (men : List (Option Man))
           → ((h : ℕ) (y : Man) → h ≢ t → man_on men h ≡ Some y → (h ≢ k) × (man_on r.men h ≡ Some y))
           → (s : ℕ) (z : Man) → IsAttacker v.men z s → is_hopper (gait_of z.kind) ≡ true → reaches_as men z.colour z.kind s t ≡ false
@@ -432,7 +432,7 @@ module _ (rule : RuleSet) (p : Position) (m : Move) (x : Man) (v : Siege) (k : �
           | inr kept ↦
               let a = attacker s z inside kept.1.1 enemy in
               elim (cases_Bool (is_hopper (gait_of z.kind))) [
-                | inl hop ↦ unhopped k g.springboards (rw i.at.king at (i.at.unsprung m.to small i.off.critical)) i.at.is.springs.within
+                | inl hop ↦ unhopped k g.springboards (rw i.at.king at (i.at.unsprung m.to small i.off.critical)) i.at.is.hop_targets.within
                     quiet.check.unsprung r.men (λ h y ne there. (ne, there)) s z a hop
                 | inr plain ↦ elim quiet.covered [
                   | inl hidden ↦ off_word r.men n.from s s z a inside plain ((weak_at s z a).off plain) stays_r
@@ -491,7 +491,7 @@ module _ (rule : RuleSet) (p : Position) (m : Move) (x : Man) (v : Siege) (k : �
         f = flight.square
 
         open_f : (bit_at v.closed f == 1) ≡ false
-        open_f = i.at.is.springs.near.free f flight.left.small flight.left.on
+        open_f = i.at.is.hop_targets.near.free f flight.left.small flight.left.on
 
         -- a man there was there before
         stood_f : (z : Man) → man_on r.men f ≡ Some z → man_on p.men f ≡ Some z
@@ -500,12 +500,12 @@ module _ (rule : RuleSet) (p : Position) (m : Move) (x : Man) (v : Siege) (k : �
         left_flees : has_flight rule r ≡ true
         left_flees =
             flees f flight.left.small
-            (subst (λ (j : ℕ). list_any (leaps j f) queen_steps ≡ true) i.at.king (i.at.is.springs.near.next f flight.left.small flight.left.on))
+            (subst (λ (j : ℕ). list_any (leaps j f) queen_steps ≡ true) i.at.king (i.at.is.hop_targets.near.next f flight.left.small flight.left.on))
             (free_kept p.turn _ _ stood_f (false_by _ (λ own. false≢true (sym open_f ∙ i.fits.closed.own f flight.left.small own)))
-            (false_by _ (λ king. false≢true (sym (i.at.is.springs.near.kings f flight.left.small flight.left.on) ∙ i.fits.kings f flight.left.small king))))
+            (false_by _ (λ king. false≢true (sym (i.at.is.hop_targets.near.kings f flight.left.small flight.left.on) ∙ i.fits.kings f flight.left.small king))))
             (λ circe. vacant_kept _ _ stood_f (λ some. false≢true (sym open_f ∙ i.fits.closed.others circe f flight.left.small some)))
             flight.unguarded (λ men stand s z a ne hop. unhopped f g.hops
-            (subst (λ (j : ℕ). IsUnsprung v j f g.hops) i.at.king (i.at.is.springs.unsprung f flight.left.small flight.left.on))
+            (subst (λ (j : ℕ). IsUnhopped v j f g.hops) i.at.king (i.at.is.hop_targets.unsprung f flight.left.small flight.left.on))
             (λ h on. on) (flight.unsprung s z a ne hop) men stand s z a hop)
             (λ ne men stand. flight.left.unreached men (record {
               stand = λ h low apart off some.
@@ -554,12 +554,12 @@ module _ (rule : RuleSet) (p : Position) (m : Move) (x : Man) (v : Siege) (k : �
     unmated = search (rules, cases_Bool (is_castling y n), no_mate_quietly, castled, unmated_plainly, turn_q, other_twice)
 
   -- for each way of the defender
-  pub no_mate_behind : mates_behind rule q 0 ≡ []
-  no_mate_behind =
-      mates_behind-none rule q 0 all_triples (λ lt. omega arith) (omega arith) (record {
+  pub no_mate_after : mates_after rule q 0 ≡ []
+  no_mate_after =
+      mates_after-none rule q 0 all_triples (λ lt. omega arith) (omega arith) (record {
         fails = λ j lo hi. search (rules, cases_Bool, unmated, arrival_small, not_mating);
       })
-      ∙ mates_behind-end rule q all_triples (omega arith)
+      ∙ mates_after-end rule q all_triples (omega arith)
 
 -- for one square and its word
 pub ruleset one_square = (eq-eqb, eqb-true, off_second, off_zero, word_has)

@@ -1,5 +1,5 @@
 -- Springboards: the squares over which hoppers reach a square.
-use Rattle.chess_mates.proofs.Chess.{AreFree, AreSpringboards, Attackers, Bishop, Bool, Direction, East, Grasshopper, Hop, IsAttacker, IsNear, IsReached, IsSprung, IsUnsprung, Kind, King, List, Man, None, North, NorthEast, NorthWest, Option, Rook, Siege, Some, South, SouthEast, SouthWest, Step, West, White, [], along, along-is, any_kept, ap, arith, bit_and, bit_at, bit_not, bit_or, diagonal-back, diagonal_steps, eq-eqb, eqb-true, false, false_by, false≢true, gait_of, hop-found, hops, inl, inr, is_hopper, is_occupied, is_on_some, is_some, is_square, is_vacant_at, king-back, leaps, list_any, list_any-append, man_on, map, men_on, no_reach_there, not_yet, off_left, off_right, on_left, on_right, onward, or_cases, or_left, or_right, ordered, queen_steps, reached_over, reaches_as, refl, ride-made, rides, rules, step_of, straight-back, straight_steps, sym, true, w64, word, word_has, ℕ, ◌-◌, ◌<◌, ◌==◌, ◌^◌, ◌∙◌, ◌∷◌, ◌≡◌, ◌≢◌}
+use Rattle.chess_mates.proofs.Chess.{AreFree, AreSpringboards, Attackers, Bishop, Bool, Direction, East, Grasshopper, Hop, IsAttacker, IsNear, IsReached, IsHopped, IsUnhopped, Kind, King, List, Man, None, North, NorthEast, NorthWest, Option, Rook, KingAttack, Some, South, SouthEast, SouthWest, Step, West, White, [], along, along-is, any_kept, ap, arith, bit_and, bit_at, bit_not, bit_or, diagonal-back, diagonal_steps, eq-eqb, eqb-true, false, false_by, false≢true, gait_of, hop-found, hops, inl, inr, is_hopper, is_occupied, is_on_some, is_some, is_square, is_vacant_at, king-back, leaps, list_any, list_any-append, man_on, map, men_on, no_reach_there, not_yet, off_left, off_right, on_left, on_right, onward, or_cases, or_left, or_right, ordered, queen_steps, reached_over, reaches_as, refl, ride-made, rides, rules, step_of, straight-back, straight_steps, sym, true, w64, word, word_has, ℕ, ◌-◌, ◌<◌, ◌==◌, ◌^◌, ◌∙◌, ◌∷◌, ◌≡◌, ◌≢◌}
 use Rattle.chess_attacks.proofs.rays.OnSquares.{empty_on, hop_openly}
 use Rattle.chess_mates.proofs.LastingFlights.{on_both}
 use Rattle.chess_attacks.proofs.rays.OpenBoard.{rides_on}
@@ -85,7 +85,7 @@ module _ (a : Attackers) (t o l d n r b : ℕ) (inside : t < 64) (only : o ≡ w
       → IsReached o (record { colour = a.colour; kind = k }) s u)
       → ((f : ℕ) → list_any (leaps f t) (map step_of xs) ≡ true → list_any (leaps f t) queen_steps ≡ true)
       → ((f : ℕ) → (bit_at (bit_and u w) f == 1) ≡ true → (bit_at (bit_or (bit_and r l) (bit_and b d)) f == 1) ≡ true)
-      → list_any (hops men q t) (map step_of xs) ≡ true → IsSprung men t Boards
+      → list_any (hops men q t) (map step_of xs) ≡ true → IsHopped men t Boards
   unfolding reaches_as reached_over
   hopped men q k xs w u low on along back over reach one join h =
       let i = hop_board men q t o inside only xs h in
@@ -122,7 +122,7 @@ module _ (a : Attackers) (t o l d n r b : ℕ) (inside : t < 64) (only : o ≡ w
   }
 
 -- for `are_free`
-pub free_are : (v : Siege) (k w o : ℕ) → o ≡ word (λ s. is_square (Some k) s) → o < 2 ^ 64
+pub free_are : (v : KingAttack) (k w o : ℕ) → o ≡ word (λ s. is_square (Some k) s) → o < 2 ^ 64
     → (bit_and (bit_and w (bit_or (bit_or v.own v.enemies) v.closed)) (bit_not w64 o) == 0) ≡ true → AreFree v k w
 free_are v k w o only fits none = search (rules, off_left, off_right, free) where
   free : (h : ℕ) → (bit_at w h == 1) ≡ true → h < 64 → h ≢ k → (bit_at (bit_or (bit_or v.own v.enemies) v.closed) h == 1) ≡ false
@@ -130,20 +130,20 @@ free_are v k w o only fits none = search (rules, off_left, off_right, free) wher
       (false_by _ (λ at. ne (sym (eqb-true k h (sym (word_has (λ s. is_square (Some k) s) o h only small) ∙ at)))))))
 
 -- for words of springboards that are joined
-pub unsprung_left : (v : Siege) (k t a b : ℕ) → IsUnsprung v k t a → IsUnsprung v k t (bit_or a b)
+pub unsprung_left : (v : KingAttack) (k t a b : ℕ) → IsUnhopped v k t a → IsUnhopped v k t (bit_or a b)
 unsprung_left v k t a b h = record { springboards = h.springboards; are = h.are; free = h.free; within = λ s on. on_left a b s (h.within s on) }
 
 -- for the second of two words of springboards that are joined
-pub unsprung_right : (v : Siege) (k t a b : ℕ) → IsUnsprung v k t b → IsUnsprung v k t (bit_or a b)
+pub unsprung_right : (v : KingAttack) (k t a b : ℕ) → IsUnhopped v k t b → IsUnhopped v k t (bit_or a b)
 unsprung_right v k t a b h = record { springboards = h.springboards; are = h.are; free = h.free; within = λ s on. on_right a b s (h.within s on) }
 
 -- for a square that has free springboards
-pub landing_is : (v : Siege) (k t w o f : ℕ) → o ≡ word (λ s. is_square (Some t) s) → AreSpringboards v.men t w → AreFree v k w → f < 64
-    → (bit_at o f == 1) ≡ true → IsUnsprung v k f w
+pub landing_is : (v : KingAttack) (k t w o f : ℕ) → o ≡ word (λ s. is_square (Some t) s) → AreSpringboards v.men t w → AreFree v k w → f < 64
+    → (bit_at o f == 1) ≡ true → IsUnhopped v k f w
 landing_is v k t w o f only are free small on = search (rules, eqb-true, word_has)
 
 -- for attackers without a grasshopper
-pub landing_anywhere : (v : Siege) (k t : ℕ) → v.men.grasshoppers ≡ 0 → IsUnsprung v k t 0
+pub landing_anywhere : (v : KingAttack) (k t : ℕ) → v.men.grasshoppers ≡ 0 → IsUnhopped v k t 0
 landing_anywhere v k t none = search (rules, none_at, none_sprung)
 
 -- for `may_spring`, where no other man is a hopper

@@ -6,7 +6,7 @@ pub mod Idle
 pub mod LastingFlights
 pub mod Parries
 pub mod QuietSteps
-pub mod Siege
+pub mod KingAttack
 pub mod StandingFlights
 pub mod Threats
 pub mod Mates

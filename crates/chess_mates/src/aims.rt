@@ -5,7 +5,7 @@ ghost use Rattle.chess_core.specs.WellFormed.{IsWellFormed};
 ghost use Rattle.chess_core.specs.ties.Words.{word};
 ghost use Rattle.chess_mates.specs.ties.Aims.{aims_at_king, aims_with};
 ghost use Rattle.chess_rules.specs.Legal.{is_legal};
-ghost use Rattle.chess_rules.specs.ties.Places.{IsPlaceIn, moves_behind, place_of};
+ghost use Rattle.chess_rules.specs.ties.Places.{IsPlaceIn, moves_after, place_of};
 
 use crate::checks::check_squares_of;
 use chess_attacks::rules::Rules;
@@ -13,10 +13,10 @@ use chess_attacks::words::contains;
 use chess_core::board::Board;
 use chess_core::man::Move;
 use chess_core::square::{Square, Squares};
-use chess_rules::legal_moves::{Known, LegalMoves};
+use chess_rules::legal_moves::{LegalCursor, LegalityMasks};
+use chess_rules::move_filter::{MoveFilter, next_passing};
 use chess_rules::moves::{Moves, triple};
-use chess_rules::sought::{Sought, next_passing};
-use chess_rules::targets::{Kept, TRIPLES};
+use chess_rules::targets::{TRIPLES, TargetCache};
 
 // Returns the squares from which the man on `from`, if there is one, would attack the enemy king on the
 // board as it is.
@@ -44,22 +44,22 @@ pub fn aims_at_king(board: &Board, m: &Move) -> bool
 // What the search for aimed moves knows of a position.
 #[derive(Clone, Copy)]
 struct Aimed {
-    known: Known,
+    known: LegalityMasks,
 }
 
-impl Sought for Aimed {
+impl MoveFilter for Aimed {
     ghost use Rattle.chess_mates.specs.ties.Aims.{aims_at_king};
     ghost use Rattle.chess_rules.specs.ties.Counting.{IsKnownIn};
-    ghost use Rattle.chess_rules.specs.ties.Idle.{is_wanted-idle};
-    ghost use Rattle.chess_rules.specs.ties.Sifting.{is_wanted};
+    ghost use Rattle.chess_rules.specs.ties.Idle.{is_unfiltered-idle};
+    ghost use Rattle.chess_rules.specs.ties.Filtering.{is_unfiltered};
 
-    ghost test = { λ rule p. is_wanted rule p (aims_at_king p) };
+    ghost test = { λ rule p. is_unfiltered rule p (aims_at_king p) };
 
-    ghost found = { λ rule p. is_wanted rule p (aims_at_king p) };
+    ghost found = { λ rule p. is_unfiltered rule p (aims_at_king p) };
 
     ghost fits = { λ s rule p. IsKnownIn rule p s.known };
 
-    #[tactic(auto, using(chess_rules::proofs::listing_moves::Sifting::wanted_origins))]
+    #[tactic(auto, using(chess_rules::proofs::listing_moves::Filtering::wanted_origins))]
     fn origins<R: Rules>(&self, board: &Board) -> Squares {
         self.known.origins::<R>(board)
     }
@@ -77,22 +77,22 @@ impl Sought for Aimed {
         self.known.is_found::<R>(board, m) && aims_at_king(board, &m)
     }
 
-    ghost idle = { λ rule p m h. is_wanted-idle rule p (aims_at_king p) m h };
+    ghost idle = { λ rule p m h. is_unfiltered-idle rule p (aims_at_king p) m h };
 }
 
 /// Returns the next aimed legal move after the cursor, and moves the cursor to
 /// it. After the last it returns `None` and moves the cursor to the end. The cursor must be of the board's
 /// position. The board is unchanged.
 #[tactic(auto, using(crate::proofs::Aiming::next_aimed))]
-pub fn next_aimed<R: Rules>(moves: &mut LegalMoves<R>, board: &mut Board) -> Option<Move>
+pub fn next_aimed<R: Rules>(moves: &mut LegalCursor<R>, board: &mut Board) -> Option<Move>
     requires well_formed { IsWellFormed board.old }
     requires place { IsPlaceIn R.rule board.old moves.old }
     ensures place { moves.new ≡ record moves.old { place = place_of result } }
     ensures within { IsPlaceIn R.rule board.old moves.new }
     ensures rest { MatchOption result
-        (filter (aims_at_king board.old) (moves_behind R.rule board.old moves.old.place) ≡ [])
-        (λ m. filter (aims_at_king board.old) (moves_behind R.rule board.old moves.old.place)
-        ≡ m ∷ filter (aims_at_king board.old) (moves_behind R.rule board.old moves.new.place)) }
+        (filter (aims_at_king board.old) (moves_after R.rule board.old moves.old.place) ≡ [])
+        (λ m. filter (aims_at_king board.old) (moves_after R.rule board.old moves.old.place)
+        ≡ m ∷ filter (aims_at_king board.old) (moves_after R.rule board.old moves.new.place)) }
     ensures legal { IfSome result (λ m. is_legal R.rule board.old m ≡ true) }
     ensures onward { IfSome result (λ m. moves.old.place < moves.new.place) }
     ensures board { board.new ≡ board.old }
@@ -100,7 +100,7 @@ pub fn next_aimed<R: Rules>(moves: &mut LegalMoves<R>, board: &mut Board) -> Opt
     let aimed = Aimed {
         known: moves.known(),
     };
-    let mut kept = Kept {
+    let mut kept = TargetCache {
         origin: None,
         squares: 0,
     };

@@ -37,7 +37,7 @@ pub(crate) fn has_fairy_promotions(board: &Board) -> bool
 }
 
 // Returns the men of the colour.
-#[tactic(auto, using(crate::proofs::Sieges::attackers_are))]
+#[tactic(auto, using(crate::proofs::KingAttacks::attackers_are))]
 pub(crate) fn attackers_on(board: &Board, colour: Colour) -> Attackers
     ensures colour { result.colour ≡ colour }
     ensures kings { result.kings ≡ squares_of board.now.men colour King }

@@ -7,31 +7,31 @@ ghost use Rattle.chess_core.specs.WellFormed.{IsWellFormed};
 ghost use Rattle.chess_core.specs.ties.Words.{word};
 ghost use Rattle.chess_attacks.specs.Attacks.{in_check};
 ghost use Rattle.chess_mates.specs.ties.CheckSquares.{AreCastlingTargets, AreCheckSquares, AreCheckTargets, enemy, is_absent, may_check_from, check_squares_for, own_man, are_rebirths_quiet, rule_of_checks};
-ghost use Rattle.chess_rules.specs.ties.Shields.{cannot_expose, may_expose, may_stand_between};
+ghost use Rattle.chess_rules.specs.ties.Blockers.{cannot_expose, may_expose, may_be_hurdle};
 ghost use Rattle.chess_rules.specs.Legal.{is_legal, is_pseudo_legal};
 ghost use Rattle.chess_rules.specs.Play.{position_after};
 ghost use Rattle.chess_attacks.specs.RuleSet.{captures_do_more};
 
 use crate::flights::covered_squares;
+use chess_attacks::attacks_on::reach_to;
 use chess_attacks::leaps::squares_aside;
 use chess_attacks::lines::occupied;
-use chess_attacks::outward::comes_as;
+use chess_attacks::occupancy::sight_after;
 use chess_attacks::rules::{Orthodox, Rules};
-use chess_attacks::sight::sight_after;
 use chess_attacks::words::{contains, only};
 use chess_core::board::Board;
 use chess_core::man::{Colour, Kind, Man, Move};
 use chess_core::square::{Square, Squares};
-use chess_rules::evasions::eventful_captures;
-use chess_rules::shields::{cannot_expose, fairy_lines, safety_seen};
-use chess_rules::targets::open_targets;
+use chess_rules::blockers::{cannot_expose, fairy_lines, safety_from};
+use chess_rules::evasions::rebirth_captures;
+use chess_rules::targets::unblocked_targets;
 
 /// The squares from which a move may give check: by exposing the king, or by a man of this kind that
 /// arrives there. A king never gives check by arriving: next to the other king it would be in check itself.
 /// The lines to the king with a fairy man on them are kept too.
 #[derive(Clone, Copy)]
 pub(crate) struct CheckSquares {
-    shield_squares: Squares,
+    blocker_squares: Squares,
     fairy_lines: Squares,
     straight: Squares,
     diagonal: Squares,
@@ -62,14 +62,14 @@ pub(crate) fn check_squares_of(board: &Board, colour: Colour, kind: Kind) -> Squ
     if is_absent(board, enemy, kind) {
         return !0;
     }
-    comes_as(occupied(board), enemy, kind, king)
+    reach_to(occupied(board), enemy, kind, king)
 }
 
 // Returns the squares from which a move may expose the colour's king. `straight` and `diagonal` are the
 // squares from which a rook and a bishop may give check to it, `lines` its fairy lines.
 #[inline(always)]
-#[tactic(auto, using(chess_rules::proofs::attacks::Shielding::shield_squares_none, crate::proofs::Checking::rook_squares, crate::proofs::Checking::bishop_squares))]
-fn shields_seen(
+#[tactic(auto, using(chess_rules::proofs::attacks::Blocking::blocker_squares_none, crate::proofs::Checking::rook_squares, crate::proofs::Checking::bishop_squares))]
+fn blockers_from(
     board: &Board,
     colour: Colour,
     straight: Squares,
@@ -79,13 +79,13 @@ fn shields_seen(
     requires straight { straight ≡ word (may_check_from board.now.men colour (enemy colour Rook)) }
     requires diagonal { diagonal
         ≡ word (may_check_from board.now.men colour (enemy colour Bishop)) }
-    requires lines { lines ≡ word (may_stand_between board.now.men colour) }
+    requires lines { lines ≡ word (may_be_hurdle board.now.men colour) }
     ensures { result ≡ word (may_expose board.now.men colour) }
 {
     let Some(king) = board.king_of(colour) else {
         return 0;
     };
-    safety_seen(board, colour, king, straight, diagonal, lines).shields
+    safety_from(board, colour, king, straight, diagonal, lines).blockers
 }
 
 // Returns the squares from which a move may give check to the colour's king.
@@ -97,7 +97,7 @@ pub(crate) fn check_squares(board: &Board, colour: Colour) -> CheckSquares
     let straight = check_squares_of(board, colour, Kind::Rook);
     let diagonal = check_squares_of(board, colour, Kind::Bishop);
     CheckSquares {
-        shield_squares: shields_seen(board, colour, straight, diagonal, lines),
+        blocker_squares: blockers_from(board, colour, straight, diagonal, lines),
         fairy_lines: lines,
         straight,
         diagonal,
@@ -143,13 +143,13 @@ fn checking_rebirths<R: Rules>(board: &Board) -> Squares
     if are_rebirths_quiet::<R>(board) {
         return 0;
     }
-    eventful_captures::<R>(board)
+    rebirth_captures::<R>(board)
 }
 
 // Returns whether nothing can be ruled out: moves from all squares may expose the king, or captures from
 // anywhere may give check by rebirth.
 pub(crate) fn may_check_from_everywhere<R: Rules>(board: &Board, squares: &CheckSquares) -> bool {
-    squares.shield_squares == !0 || R::captures_do_more() && !are_rebirths_quiet::<R>(board)
+    squares.blocker_squares == !0 || R::captures_do_more() && !are_rebirths_quiet::<R>(board)
 }
 
 // The first rank and the last.
@@ -184,7 +184,7 @@ fn special_targets(squares: &CheckSquares, kind: Kind, king: Option<Square>) -> 
 // any square that isn't a blocker's; for a king from its own square, `king`.
 #[inline(always)]
 #[tactic(auto, using(crate::proofs::CheckTargets::check_targets_some))]
-pub(crate) fn targets_off_shields<R: Rules>(
+pub(crate) fn targets_off_blockers<R: Rules>(
     board: &Board,
     squares: &CheckSquares,
     kind: Kind,
@@ -194,7 +194,7 @@ pub(crate) fn targets_off_shields<R: Rules>(
     requires squares { AreCheckSquares board.now.men (other board.now.turn) squares.now }
     ensures { (s : ℕ) (x : Man) → s < 64 → man_on board.now.men s ≡ Some x → x.kind ≡ kind
         → (same_kind kind King ≡ true → king ≡ Some s)
-        → (bit_at squares.now.shield_squares s == 1) ≡ false
+        → (bit_at squares.now.blocker_squares s == 1) ≡ false
         → AreCheckTargets R.rule board.now s result }
 {
     let checked_from = check_squares_for(squares, kind);
@@ -215,10 +215,10 @@ fn check_targets<R: Rules>(board: &Board, squares: &CheckSquares, man: Man, from
 {
     // For the proof: a square's number is below 64.
     let _small = from.index();
-    if contains(squares.shield_squares, from) {
+    if contains(squares.blocker_squares, from) {
         return !0;
     }
-    targets_off_shields::<R>(board, squares, man.kind, Some(from))
+    targets_off_blockers::<R>(board, squares, man.kind, Some(from))
 }
 
 // Returns the check targets of the man on the square, if there is one, that it could reach on some board.
@@ -235,7 +235,7 @@ pub(crate) fn near_check_targets<R: Rules>(
     let Some(man) = board.man_at(from) else {
         return 0;
     };
-    open_targets(man, from) & check_targets::<R>(board, squares, man, from)
+    unblocked_targets(man, from) & check_targets::<R>(board, squares, man, from)
 }
 
 // Returns whether the move may expose the enemy king, by the man that leaves its square or by one that is
@@ -246,9 +246,9 @@ fn may_discover<R: Rules>(board: &Board, squares: &CheckSquares, m: &Move) -> bo
         board.now (other board.now.turn) m.now) }
 {
     if are_rebirths_quiet::<R>(board) {
-        return !cannot_expose::<Orthodox>(board, board.turn().other(), squares.shield_squares, m);
+        return !cannot_expose::<Orthodox>(board, board.turn().other(), squares.blocker_squares, m);
     }
-    !cannot_expose::<R>(board, board.turn().other(), squares.shield_squares, m)
+    !cannot_expose::<R>(board, board.turn().other(), squares.blocker_squares, m)
 }
 
 // Returns whether the move doesn't promote.
@@ -276,9 +276,9 @@ fn may_check_promoted<R: Rules>(board: &Board, squares: &CheckSquares, man: Man,
     // For the proof: a square's number is below 64.
     let _small = m.to.index();
     // The captured man, if any, is on the arrival.
-    let sight = sight_after(board, m.from, None, m.to);
-    let seen = covered_squares(sight.occupied, man, m.promo, m.to);
-    contains(seen, king) || !cannot_expose::<R>(board, enemy, squares.shield_squares, m)
+    let occupancy = sight_after(board, m.from, None, m.to);
+    let seen = covered_squares(occupancy.occupied, man, m.promo, m.to);
+    contains(seen, king) || !cannot_expose::<R>(board, enemy, squares.blocker_squares, m)
 }
 
 // Returns whether the move may give check, if it is legal; `false` is certain.
@@ -305,9 +305,9 @@ pub(crate) fn may_check<R: Rules>(board: &Board, squares: &CheckSquares, m: &Mov
 
 impl CheckSquares {
     // Returns the squares from which a move may expose the king.
-    pub(crate) fn shields(&self) -> Squares
-        ensures { result ≡ self.now.shield_squares }
+    pub(crate) fn blockers(&self) -> Squares
+        ensures { result ≡ self.now.blocker_squares }
     {
-        self.shield_squares
+        self.blocker_squares
     }
 }

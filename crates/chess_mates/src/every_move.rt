@@ -10,18 +10,18 @@ ghost use Rattle.chess_mates.specs.ties.CheckSquares.{AreCheckSquares};
 ghost use Rattle.chess_mates.specs.ties.Flights.{AreOpen, IsUnreached};
 ghost use Rattle.chess_rules.specs.Legal.{is_legal, is_nil, moves};
 ghost use Rattle.chess_mates.specs.ties.Mates.{is_mating};
-ghost use Rattle.chess_rules.specs.ties.Places.{IsPlaceIn, moves_behind};
+ghost use Rattle.chess_rules.specs.ties.Places.{IsPlaceIn, moves_after};
 
 use crate::checks::{CheckSquares, check_squares, may_check};
+use chess_attacks::attacks_on::has_attacker_in;
 use chess_attacks::leaps::king_leaps;
-use chess_attacks::outward::is_attacker_seen;
+use chess_attacks::occupancy::sight_after;
 use chess_attacks::rules::Rules;
-use chess_attacks::sight::sight_after;
-use chess_attacks::words::{contains, take_first};
+use chess_attacks::words::{contains, pop_first};
 use chess_core::board::Board;
 use chess_core::man::{Man, Move};
 use chess_core::square::{Square, Squares};
-use chess_rules::legal_moves::LegalMoves;
+use chess_rules::legal_moves::LegalCursor;
 use chess_rules::making_moves::play::{capture_square, play};
 use chess_rules::making_moves::undoing::unplay;
 use chess_rules::moves::is_mate;
@@ -40,11 +40,11 @@ pub fn every_move_mates<R: Rules>(board: &mut Board) -> bool
     if steps_quietly::<R>(board, &squares) {
         return false;
     }
-    let moves = LegalMoves::<R>::of(board);
+    let moves = LegalCursor::<R>::of(board);
     if has_quiet_move::<R>(board, &squares, moves) {
         return false;
     }
-    has_mates_alone::<R>(board, moves)
+    only_mates::<R>(board, moves)
 }
 
 // Returns the squares to which the king on `king` may step, whether attacked or not; none in Circe.
@@ -74,8 +74,8 @@ fn is_unreached(board: &Board, king: Man, from: Square, to: Square) -> bool
             promo: None,
         },
     );
-    let sight = sight_after(board, from, captured, to);
-    !is_attacker_seen(board, sight, to, board.turn().other())
+    let occupancy = sight_after(board, from, captured, to);
+    !has_attacker_in(board, occupancy, to, board.turn().other())
 }
 
 // Returns the first of the squares where no enemy reaches the king after its step.
@@ -85,7 +85,7 @@ fn first_unreached(board: &Board, king: Man, from: Square, squares: Squares) -> 
     ensures unreached { IfSome result (λ t. IsUnreached board.now king from t) }
 {
     let mut rest = squares;
-    while let Some(to) = take_first(&mut rest) {
+    while let Some(to) = pop_first(&mut rest) {
         if is_unreached(board, king, from, to) {
             return Some(to);
         }
@@ -105,7 +105,7 @@ fn steps_quietly<R: Rules>(board: &Board, squares: &CheckSquares) -> bool
     let Some(from) = board.king_of(board.turn()) else {
         return false;
     };
-    if contains(squares.shields(), from) {
+    if contains(squares.blockers(), from) {
         return false;
     }
     let Some(king) = board.man_at(from) else {
@@ -127,13 +127,13 @@ fn steps_quietly<R: Rules>(board: &Board, squares: &CheckSquares) -> bool
 fn has_quiet_move<R: Rules>(
     board: &mut Board,
     squares: &CheckSquares,
-    mut moves: LegalMoves<R>,
+    mut moves: LegalCursor<R>,
 ) -> bool
     requires well_formed { IsWellFormed board.old }
     requires squares { AreCheckSquares board.old.men (other board.old.turn) squares.now }
     requires place { IsPlaceIn R.rule board.old moves }
     ensures quiet { result ≡ true
-        → list_all (is_mating R.rule board.old) (moves_behind R.rule board.old moves.place)
+        → list_all (is_mating R.rule board.old) (moves_after R.rule board.old moves.place)
         ≡ false }
     ensures board { board.new ≡ board.old }
 {
@@ -157,11 +157,11 @@ fn is_quiet<R: Rules>(board: &Board, squares: &CheckSquares, m: &Move) -> bool
 }
 
 // Returns whether there is a legal move after the cursor, and each one mates.
-fn has_mates_alone<R: Rules>(board: &mut Board, mut moves: LegalMoves<R>) -> bool
+fn only_mates<R: Rules>(board: &mut Board, mut moves: LegalCursor<R>) -> bool
     requires well_formed { IsWellFormed board.old }
     requires place { IsPlaceIn R.rule board.old moves }
-    ensures answer { result ≡ (not (is_nil (moves_behind R.rule board.old moves.place))
-        && list_all (is_mating R.rule board.old) (moves_behind R.rule board.old moves.place)) }
+    ensures answer { result ≡ (not (is_nil (moves_after R.rule board.old moves.place))
+        && list_all (is_mating R.rule board.old) (moves_after R.rule board.old moves.place)) }
     ensures board { board.new ≡ board.old }
 {
     let mut some = false;

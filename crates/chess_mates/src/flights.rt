@@ -8,22 +8,22 @@ ghost use Rattle.chess_core.specs.ties.Words.{side_of, squares_of, word};
 ghost use Rattle.chess_core.specs.declared.man.Man.{Man};
 ghost use Rattle.chess_core.specs.declared.man.Move.{Move};
 ghost use Rattle.chess_core.specs.declared.man.Kind.TheVariants.{King};
-ghost use Rattle.chess_mates.specs.ties.Flights.{AreSteps, AreUnsafe, IsSafe, IsSeenFrom, IsTold, sight_lifted, sight_with};
+ghost use Rattle.chess_mates.specs.ties.Flights.{AreSteps, AreUnsafe, IsSafe, IsSeenFrom, IsKnown, sight_lifted, sight_with};
 ghost use Rattle.chess_rules.specs.Legal.{is_pseudo_legal};
 ghost use Rattle.chess_rules.specs.Play.{arriving_man, capture_square, position_after};
-ghost use Rattle.chess_attacks.specs.RuleSet.{captures_do_more, faced_men_stand_still};
+ghost use Rattle.chess_attacks.specs.RuleSet.{captures_do_more, like_men_paralyse};
 ghost use Rattle.chess_attacks.specs.ties.Lines.{occupied_squares};
 ghost use Rattle.chess_attacks.specs.Reaches.{reaches_as};
 ghost use Rattle.chess_attacks.specs.ties.Outward.{is_reached};
-ghost use Rattle.chess_attacks.specs.ties.Sight.{AreSeen};
+ghost use Rattle.chess_attacks.specs.ties.Occupancy.{DescribesMen};
 ghost use Rattle.chess_rules.specs.ties.Exposure.{is_simple};
 
+use chess_attacks::attacks_on::has_attacker_in;
 use chess_attacks::leaps::king_leaps;
-use chess_attacks::outward::is_attacker_seen;
+use chess_attacks::occupancy::{Occupancy, sight_after};
 use chess_attacks::reach::reach_over;
 use chess_attacks::rules::Rules;
-use chess_attacks::sight::{Sight, sight_after};
-use chess_attacks::words::{only, take_first};
+use chess_attacks::words::{only, pop_first};
 use chess_core::board::Board;
 use chess_core::man::{Colour, Kind, Man, Move};
 use chess_core::square::{Square, Squares};
@@ -38,7 +38,7 @@ pub(crate) enum Flights {
     /// Its king has no legal move if it is in check.
     NoneLeft,
     /// Nothing is known.
-    Untold,
+    Unknown,
 }
 
 // Returns the sight after a man has gone from `from` to `to`, the man on `captured` has left the board, and
@@ -49,24 +49,24 @@ pub(crate) fn sight_lifted(
     captured: Option<Square>,
     to: Square,
     king: Square,
-) -> Sight
+) -> Occupancy
     ensures { result ≡ sight_lifted board.now.men from captured to king }
 {
-    let sight = sight_after(board, from, captured, to);
-    Sight {
-        occupied: sight.occupied & !only(Some(king)),
-        standing: sight.standing & !only(Some(from)),
+    let occupancy = sight_after(board, from, captured, to);
+    Occupancy {
+        occupied: occupancy.occupied & !only(Some(king)),
+        standing: occupancy.standing & !only(Some(from)),
     }
 }
 
 // Returns the sight after the lifted king is put on `to`, whoever was there.
-pub(crate) fn sight_with(sight: Sight, to: Square) -> Sight
-    ensures { result ≡ sight_with sight to }
+pub(crate) fn sight_with(occupancy: Occupancy, to: Square) -> Occupancy
+    ensures { result ≡ sight_with occupancy to }
 {
     let there = only(Some(to));
-    Sight {
-        occupied: sight.occupied | there,
-        standing: sight.standing & !there,
+    Occupancy {
+        occupied: occupancy.occupied | there,
+        standing: occupancy.standing & !there,
     }
 }
 
@@ -96,20 +96,20 @@ pub(crate) fn covered_squares(
 }
 
 // Returns the squares to which the enemy king on `king` may step after a simple move, attacked or not: no
-// man of its own and no king is there, and in Circe nobody. `sight` is the sight after the move with the
+// man of its own and no king is there, and in Circe nobody. `occupancy` is the sight after the move with the
 // king lifted.
 #[tactic(auto, using(crate::proofs::Fleeing::open_squares_in_circe, crate::proofs::Fleeing::open_squares))]
-pub(crate) fn open_squares<R: Rules>(board: &Board, sight: Sight, king: Square) -> Squares
+pub(crate) fn open_squares<R: Rules>(board: &Board, occupancy: Occupancy, king: Square) -> Squares
     ensures { (m : Move) (x : Man) → IsSeenFrom R.rule board.now m x king → m.to < 64
-        → sight ≡ sight_lifted board.now.men m.from (capture_square board.now x m) m.to king
+        → occupancy ≡ sight_lifted board.now.men m.from (capture_square board.now x m) m.to king
         → AreSteps R.rule (position_after R.rule board.now m).men x (other board.now.turn) king
         result }
 {
     let near = king_leaps(king);
     if R::captures_do_more() {
-        return near & !sight.occupied;
+        return near & !occupancy.occupied;
     }
-    near & !held_squares(board, sight.standing)
+    near & !held_squares(board, occupancy.standing)
 }
 
 // Returns the first of the squares where no man of the colour, except perhaps the moved man, attacks the
@@ -118,16 +118,16 @@ pub(crate) fn open_squares<R: Rules>(board: &Board, sight: Sight, king: Square) 
 #[inline(always)]
 pub(crate) fn first_safe(
     board: &Board,
-    sight: Sight,
+    occupancy: Occupancy,
     squares: Squares,
     colour: Colour,
 ) -> Option<Square>
-    ensures safe { IfSome result (λ t. IsSafe board.now.men colour sight squares t) }
-    ensures guarded { IfNone result (AreUnsafe board.now.men colour sight squares) }
+    ensures safe { IfSome result (λ t. IsSafe board.now.men colour occupancy squares t) }
+    ensures guarded { IfNone result (AreUnsafe board.now.men colour occupancy squares) }
 {
     let mut rest = squares;
-    while let Some(square) = take_first(&mut rest) {
-        if !is_attacker_seen(board, sight_with(sight, square), square, colour) {
+    while let Some(square) = pop_first(&mut rest) {
+        if !has_attacker_in(board, sight_with(occupancy, square), square, colour) {
             return Some(square);
         }
     }
@@ -136,9 +136,9 @@ pub(crate) fn first_safe(
 
 // Returns whether all flights are seen: no capture is passed over, and no attacker may be paralysed.
 fn are_all_seen<R: Rules>() -> bool
-    ensures { result ≡ (not (captures_do_more R.rule) && not (faced_men_stand_still R.rule)) }
+    ensures { result ≡ (not (captures_do_more R.rule) && not (like_men_paralyse R.rule)) }
 {
-    !R::captures_do_more() && !R::faced_men_stand_still()
+    !R::captures_do_more() && !R::like_men_paralyse()
 }
 
 // Returns what is known of the flights of the enemy king on `king` after this man's simple move; the man is
@@ -153,20 +153,20 @@ fn flights_from<R: Rules>(
     requires seen { IsSeenFrom R.rule board.now m.now man king }
     requires mortal { same_kind man.kind King ≡ false }
     requires captured { captured ≡ capture_square board.now man m.now }
-    ensures { IsTold R.rule (position_after R.rule board.now m.now) result }
+    ensures { IsKnown R.rule (position_after R.rule board.now m.now) result }
 {
     // For the proof: a square's number is below 64.
     let _small = m.to.index();
-    let sight = sight_lifted(board, m.from, captured, m.to, king);
-    let near = open_squares::<R>(board, sight, king);
-    let covered = covered_squares(sight.occupied, man, m.promo, m.to);
-    if let Some(_) = first_safe(board, sight, near & !covered, board.turn()) {
+    let occupancy = sight_lifted(board, m.from, captured, m.to, king);
+    let near = open_squares::<R>(board, occupancy, king);
+    let covered = covered_squares(occupancy.occupied, man, m.promo, m.to);
+    if let Some(_) = first_safe(board, occupancy, near & !covered, board.turn()) {
         return Flights::Left;
     }
     if are_all_seen::<R>() {
         return Flights::NoneLeft;
     }
-    Flights::Untold
+    Flights::Unknown
 }
 
 // Returns whether to look for flights after the man's move: nobody castles or is reborn, and the man is no
@@ -181,17 +181,17 @@ fn is_looked_at<R: Rules>(man: Man, m: &Move, captures: bool) -> bool
 pub(crate) fn flights_after<R: Rules>(board: &Board, m: &Move) -> Flights
     requires well_formed { IsWellFormed board.now }
     requires pseudo { is_pseudo_legal R.rule board.now m.now ≡ true }
-    ensures { IsTold R.rule (position_after R.rule board.now m.now) result }
+    ensures { IsKnown R.rule (position_after R.rule board.now m.now) result }
 {
     let Some(man) = board.man_at(m.from) else {
-        return Flights::Untold;
+        return Flights::Unknown;
     };
     let captured = capture_square(board, man, m);
     if !is_looked_at::<R>(man, m, captured.is_some()) {
-        return Flights::Untold;
+        return Flights::Unknown;
     }
     let Some(king) = board.king_of(board.turn().other()) else {
-        return Flights::Untold;
+        return Flights::Unknown;
     };
     flights_from::<R>(board, man, m, captured, king)
 }

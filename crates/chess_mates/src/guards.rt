@@ -3,13 +3,13 @@ ghost use Rattle.std.specs.Prelude.{◌≡◌, ◌≢◌, ◌<◌, ◌==◌, ℕ
 ghost use Rattle.std.specs.Int.{bit_at};
 ghost use Rattle.chess_core.specs.declared.man.Man.{Man};
 ghost use Rattle.chess_mates.specs.ties.Attackers.{IsAttacker};
-ghost use Rattle.chess_mates.specs.ties.Siege.{AreGuardsWithout, AreReached, IsAttackedOver, IsNear, IsReached, IsReachedFrom, is_leaper, is_rider, reached_over};
+ghost use Rattle.chess_mates.specs.ties.KingAttack.{AreGuardsWithout, AreReached, IsAttackedOver, IsNear, IsReached, IsReachedFrom, is_leaper, is_rider, reached_over};
 
 use crate::attackers::Attackers;
-use crate::siege::Siege;
-use chess_attacks::open_board::open_reach;
+use crate::king_attack::KingAttack;
 use chess_attacks::reach::reach_over;
-use chess_attacks::words::{only, take_first};
+use chess_attacks::unblocked::unblocked_reach;
+use chess_attacks::words::{only, pop_first};
 use chess_core::man::{Colour, Kind, Man};
 use chess_core::square::{Square, Squares};
 
@@ -21,7 +21,7 @@ pub(crate) struct Guards {
 }
 
 // Returns the squares that the man on `from` reaches over the hurdles.
-#[tactic(auto, using(chess_attacks::proofs::rays::OnSquares::occupied_on, crate::proofs::Hurdles::reached_is, chess_attacks::proofs::Bits::word_has), unfolding(crate::specs::ties::Siege::reached_over))]
+#[tactic(auto, using(chess_attacks::proofs::rays::OnSquares::occupied_on, crate::proofs::Hurdles::reached_is, chess_attacks::proofs::Bits::word_has), unfolding(crate::specs::ties::KingAttack::reached_over))]
 pub(crate) fn reach_from(hurdles: Squares, man: Man, from: Square) -> Squares
     ensures all { IsReached hurdles man from result }
     ensures alone { (t : ℕ) → t < 64 → (bit_at result t == 1) ≡ true
@@ -38,7 +38,7 @@ fn reach_towards(hurdles: Squares, man: Man, from: Square, region: Squares) -> S
     ensures alone { (t : ℕ) → t < 64 → (bit_at result t == 1) ≡ true
         → reached_over hurdles man from t ≡ true }
 {
-    if open_reach(man, from) & region == 0 {
+    if unblocked_reach(man, from) & region == 0 {
         return 0;
     }
     reach_from(hurdles, man, from)
@@ -55,7 +55,7 @@ fn reach_together(hurdles: Squares, man: Man, squares: Squares, region: Squares)
 {
     let mut reached = 0u64;
     let mut rest = squares;
-    while let Some(from) = take_first(&mut rest) {
+    while let Some(from) = pop_first(&mut rest) {
         let more = reach_towards(hurdles, man, from, region);
         reached |= more;
     }
@@ -87,7 +87,7 @@ pub(crate) fn reach_of(
 // Returns the squares that riders reach over the hurdles.
 #[tactic(auto, using(crate::proofs::Hurdles::riders_reach))]
 #[inline(always)]
-pub(crate) fn ridden_squares(hurdles: Squares, men: &Attackers, region: Squares) -> Squares
+pub(crate) fn rider_reach(hurdles: Squares, men: &Attackers, region: Squares) -> Squares
     ensures all { AreReached hurdles men.now region is_rider result }
     ensures alone { (t : ℕ) → t < 64 → (bit_at result t == 1) ≡ true
         → IsAttackedOver hurdles men.now t }
@@ -137,12 +137,12 @@ fn without(men: &Attackers, gone: Square) -> Attackers
 }
 
 // Returns the squares that attackers near the region reach after the one on `from` has left.
-pub(crate) fn guards_without(siege: &Siege, from: Square, region: Squares) -> Guards
-    ensures { AreGuardsWithout siege.now from region result }
+pub(crate) fn guards_without(king_attack: &KingAttack, from: Square, region: Squares) -> Guards
+    ensures { AreGuardsWithout king_attack.now from region result }
 {
-    let hurdles = siege.hurdles & !only(Some(from));
-    let men = without(&siege.men, from);
-    let ridden = ridden_squares(hurdles, &men, region);
+    let hurdles = king_attack.hurdles & !only(Some(from));
+    let men = without(&king_attack.men, from);
+    let ridden = rider_reach(hurdles, &men, region);
     Guards {
         ridden,
         guarded: ridden | leapt_squares(hurdles, &men, region),

@@ -5,11 +5,11 @@ ghost use Rattle.std.specs.Int.{bit_at};
 ghost use Rattle.chess_core.specs.Position.{same_kind};
 ghost use Rattle.chess_core.specs.Squares.{file_of};
 ghost use Rattle.chess_core.specs.declared.man.Kind.TheVariants.{Pawn};
-ghost use Rattle.chess_mates.specs.ties.Siege.{AreClosed, AreHomes, AreHomesOf};
+ghost use Rattle.chess_mates.specs.ties.KingAttack.{AreClosed, AreHomes, AreHomesOf};
 ghost use Rattle.chess_rules.specs.Play.{rebirth};
 
 use chess_attacks::rules::Rules;
-use chess_attacks::words::{only, take_first};
+use chess_attacks::words::{only, pop_first};
 use chess_core::board::Board;
 use chess_core::man::{Colour, Kind};
 use chess_core::square::{Square, Squares};
@@ -55,7 +55,7 @@ fn pawn_homes(colour: Colour, pawns: Squares) -> Squares
 {
     let mut homes = 0u64;
     let mut rest = pawns;
-    while let Some(from) = take_first(&mut rest) {
+    while let Some(from) = pop_first(&mut rest) {
         let home = pawn_home(colour, from);
         homes |= home;
     }

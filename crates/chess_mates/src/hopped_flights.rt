@@ -4,26 +4,26 @@ ghost use Rattle.std.specs.Int.{bit_at};
 ghost use Rattle.chess_core.specs.Position.{same_kind};
 ghost use Rattle.chess_core.specs.declared.man.Kind.TheVariants.{Grasshopper};
 ghost use Rattle.chess_core.specs.declared.man.Man.{Man};
-ghost use Rattle.chess_mates.specs.ties.Siege.{AreLaterHurdles, IsApart, IsUntaken, LeavesUntaken};
+ghost use Rattle.chess_mates.specs.ties.KingAttack.{AreLaterHurdles, IsApart, IsUntaken, LeavesUntaken};
 
-use crate::siege::Siege;
+use crate::king_attack::KingAttack;
+use chess_attacks::attacks_on::reach_to;
 use chess_attacks::leaps::king_leaps;
-use chess_attacks::outward::comes_as;
-use chess_attacks::words::{only, take_first};
+use chess_attacks::words::{only, pop_first};
 use chess_core::man::{Colour, Kind};
 use chess_core::square::{Square, Squares};
 
 // Returns the squares where a man may be, unless one arrives, after the attacker has left `from` and the
 // king `king`: the hurdles, and in Circe, where attackers are on closed squares, these too.
 #[tactic(auto, using(chess_attacks::proofs::Bits::on_left, chess_attacks::proofs::Bits::on_right, chess_attacks::proofs::Bits::word_has, crate::proofs::Risks::denied_on, std::proofs::lemmas::Bool::ne_eqb))]
-pub(crate) fn later_hurdles(siege: &Siege, king: Square, from: Square) -> Squares
-    ensures { AreLaterHurdles siege.now king from result }
+pub(crate) fn later_hurdles(king_attack: &KingAttack, king: Square, from: Square) -> Squares
+    ensures { AreLaterHurdles king_attack.now king from result }
 {
-    let kept = siege.hurdles & !only(Some(from));
-    if siege.closed & siege.enemies == 0 {
+    let kept = king_attack.hurdles & !only(Some(from));
+    if king_attack.closed & king_attack.enemies == 0 {
         return kept;
     }
-    (kept | siege.closed) & !only(Some(king))
+    (kept | king_attack.closed) & !only(Some(king))
 }
 
 // Returns the squares from which a grasshopper takes the flight: the flight itself, and those from which it
@@ -36,7 +36,7 @@ fn taking_squares(hurdles: Squares, flight: Square) -> Squares
     // For the proof: a square's number is below 64.
     let _small = flight.index();
     let over = hurdles & king_leaps(flight);
-    only(Some(flight)) | comes_as(over, Colour::White, Kind::Grasshopper, flight)
+    only(Some(flight)) | reach_to(over, Colour::White, Kind::Grasshopper, flight)
 }
 
 // Returns the flight and the squares next to it, where an arriving man blocks it or is a hurdle; without
@@ -63,7 +63,7 @@ pub(crate) fn critical_of_hops(
     let mut critical = 0u64;
     let mut taking = targets;
     let mut rest = near;
-    while let Some(flight) = take_first(&mut rest) {
+    while let Some(flight) = pop_first(&mut rest) {
         if taking == 0 {
             return critical;
         }

@@ -2,24 +2,24 @@
 ghost use Rattle.std.specs.Prelude.{◌≡◌, Some};
 ghost use Rattle.chess_core.specs.Position.{king_square};
 ghost use Rattle.chess_core.specs.WellFormed.{IsWellFormed};
-ghost use Rattle.chess_mates.specs.ties.Threats.{AreRisky, AreThreatsOf, IsTold};
+ghost use Rattle.chess_mates.specs.ties.Threats.{AreRisky, AreThreatsOf, IsKnown};
 
-use crate::field::{needed_squares, tell_targets};
+use crate::king_attack::{KingAttack, king_attack_of};
+use crate::king_zone::{compute_targets, needed_squares};
 use crate::lasting_flights::OpenTargets;
-use crate::siege::{Siege, siege_of};
 use crate::steps::{exact_steps, flightless_steps};
 use chess_attacks::leaps::king_leaps;
 use chess_attacks::rules::Rules;
 use chess_core::board::Board;
 use chess_core::square::{Square, Squares};
-use chess_rules::sift::Sift;
+use chess_rules::filter_moves::FilteredMoves;
 use std::marker::Model;
 
 /// The flights of the king of the side to move, as a filter: it takes moves after which the king keeps a
 /// flight whatever is played, so that no reply mates. It leaves castling, and in Circe every move.
 #[derive(Drop)]
 pub struct KeptFlights {
-    siege: Siege,
+    king_attack: KingAttack,
     // Where the attackers could go on an otherwise empty board.
     targets: OpenTargets,
     // The squares where another man must not arrive, so that the king, if it stays, keeps a flight.
@@ -28,32 +28,32 @@ pub struct KeptFlights {
 
 impl Model for KeptFlights {
     ghost use Rattle.chess_mates.specs.ties.LastingFlights.{AreOpenTargets};
-    ghost use Rattle.chess_mates.specs.ties.Siege.{AreNeeded, IsSiege, IsWhole};
-    ghost use Rattle.chess_mates.specs.ties.Threats.{ToldThreats};
+    ghost use Rattle.chess_mates.specs.ties.KingAttack.{AreNeeded, IsKingAttack, IsWhole};
+    ghost use Rattle.chess_mates.specs.ties.Threats.{ThreatsSeen};
 
-    ghost Value = { ToldThreats };
+    ghost Value = { ThreatsSeen };
 
-    ghost view = { λ t. record { siege = t.siege } };
+    ghost view = { λ t. record { king_attack = t.king_attack } };
 
-    ghost invariant = { λ t. IsSiege t.siege × IsWhole t.siege
-        × AreOpenTargets t.siege.men t.targets
-        × AreNeeded t.siege t.needed };
+    ghost invariant = { λ t. IsKingAttack t.king_attack × IsWhole t.king_attack
+        × AreOpenTargets t.king_attack.men t.targets
+        × AreNeeded t.king_attack t.needed };
 }
 
 impl KeptFlights {
     /// Computes the flights of the king of the side to move, which is on this square.
     pub fn of<R: Rules>(board: &Board, king: Square) -> KeptFlights
-        ensures { IsWellFormed board.now → IsTold R.rule
+        ensures { IsWellFormed board.now → IsKnown R.rule
             → king_square board.now.men board.now.turn ≡ Some king
             → AreThreatsOf R.rule board.now result }
     {
-        let siege = siege_of::<R>(board, king);
-        let mut targets = OpenTargets::untold();
-        tell_targets::<R>(&siege, &mut targets);
+        let king_attack = king_attack_of::<R>(board, king);
+        let mut targets = OpenTargets::unknown();
+        compute_targets::<R>(&king_attack, &mut targets);
         KeptFlights {
-            needed: needed_squares(&siege, &targets),
+            needed: needed_squares(&king_attack, &targets),
             targets,
-            siege,
+            king_attack,
         }
     }
 
@@ -69,16 +69,16 @@ impl KeptFlights {
         if R::captures_do_more() {
             return squares;
         }
-        if from != self.siege.king {
+        if from != self.king_attack.king {
             return squares & self.needed;
         }
         let castlings = !king_leaps(from);
-        let steps = flightless_steps::<R>(&self.siege, &self.targets, squares & !castlings);
+        let steps = flightless_steps::<R>(&self.king_attack, &self.targets, squares & !castlings);
         squares & (castlings | steps)
     }
 }
 
-impl Sift for KeptFlights {
+impl FilteredMoves for KeptFlights {
     ghost use Rattle.chess_mates.specs.ties.Mates.{allows_mate};
     ghost use Rattle.chess_mates.specs.ties.Threats.{AreThreatsOf};
 
@@ -86,20 +86,20 @@ impl Sift for KeptFlights {
 
     ghost fits = { λ t rule p. AreThreatsOf rule p t };
 
-    fn sift<R: Rules>(&mut self, board: &Board, from: Square, squares: Squares) -> Squares {
+    fn filter_moves<R: Rules>(&mut self, board: &Board, from: Square, squares: Squares) -> Squares {
         self.unkept_squares::<R>(board, from, squares)
     }
 
-    #[tactic(auto, using(crate::proofs::ExactSteps::told_exactly))]
+    #[tactic(auto, using(crate::proofs::ExactSteps::known_exactly))]
     fn legal_squares<R: Rules>(
         &self,
         _board: &Board,
         from: Square,
         squares: Squares,
     ) -> Option<Squares> {
-        if from != self.siege.king {
+        if from != self.king_attack.king {
             return None;
         }
-        exact_steps::<R>(&self.siege, squares)
+        exact_steps::<R>(&self.king_attack, squares)
     }
 }

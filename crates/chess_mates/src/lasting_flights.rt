@@ -10,12 +10,12 @@ ghost use Rattle.chess_rules.specs.ties.Exposure.{king_after};
 ghost use Rattle.chess_attacks.specs.ties.Lines.{AreReached};
 
 use crate::attackers::Attackers;
-use chess_attacks::open_board::open_reach;
-use chess_attacks::words::{highest, next_bit, only, take_first};
+use chess_attacks::unblocked::unblocked_reach;
+use chess_attacks::words::{highest, next_bit, only, pop_first};
 use chess_core::board::Board;
 use chess_core::man::{Colour, Kind, Man, Move};
 use chess_core::square::{Square, Squares};
-use chess_rules::targets::open_targets;
+use chess_rules::targets::unblocked_targets;
 
 // Supersets of the squares where each kind of a side's men may be after one move on an otherwise empty
 // board, and of the squares that they reach now. A promoted rook or bishop counts as a queen, which reaches
@@ -36,7 +36,7 @@ pub(crate) struct OpenTargets {
 impl OpenTargets {
     // Returns all squares, when nothing is computed.
     #[inline(always)]
-    pub(crate) fn untold() -> OpenTargets
+    pub(crate) fn unknown() -> OpenTargets
         ensures { (a : Attackers) → AreOpenTargets a result }
     {
         OpenTargets {
@@ -66,8 +66,8 @@ fn open_reach_of(colour: Colour, kind: Kind, squares: Squares) -> Squares
     let man = Man { colour, kind };
     let mut reached = 0u64;
     let mut rest = squares;
-    while let Some(from) = take_first(&mut rest) {
-        let more = open_reach(man, from);
+    while let Some(from) = pop_first(&mut rest) {
+        let more = unblocked_reach(man, from);
         reached |= more;
     }
     reached
@@ -87,8 +87,8 @@ fn open_targets_of(colour: Colour, kind: Kind, squares: Squares) -> Squares
     let man = Man { colour, kind };
     let mut targets = 0u64;
     let mut rest = squares;
-    while let Some(from) = take_first(&mut rest) {
-        let more = open_targets(man, from);
+    while let Some(from) = pop_first(&mut rest) {
+        let more = unblocked_targets(man, from);
         targets |= more;
     }
     targets
@@ -137,7 +137,7 @@ pub(crate) fn all_open_targets(men: &Attackers) -> OpenTargets
 fn first_left(squares: Squares, man: Man, to: Square) -> Option<Square>
     ensures { IfSome result (λ f. IsLeft squares man to f) }
 {
-    next_bit(squares & !(open_reach(man, to) | only(Some(to))), 0)
+    next_bit(squares & !(unblocked_reach(man, to) | only(Some(to))), 0)
 }
 
 // The first rank and the last.
@@ -167,10 +167,10 @@ pub(crate) fn open_approaches(man: Man, to: Square) -> Squares
     let colour = man.colour.other();
     if man.kind.is(Kind::Grasshopper) {
         let kind = Kind::Queen;
-        return open_reach(Man { colour, kind }, to);
+        return unblocked_reach(Man { colour, kind }, to);
     }
     let kind = man.kind;
-    open_reach(Man { colour, kind }, to)
+    unblocked_reach(Man { colour, kind }, to)
 }
 
 // Returns the squares where the man takes this flight: the flight itself, and those from which it could
@@ -192,7 +192,7 @@ fn leaves_one_each(squares: Squares, man: Man, targets: Squares) -> bool
         → (f : ℕ) × IsLeft squares man t f }
 {
     let mut rest = targets;
-    while let Some(to) = take_first(&mut rest) {
+    while let Some(to) = pop_first(&mut rest) {
         let Some(_left) = first_left(squares, man, to) else {
             return false;
         };

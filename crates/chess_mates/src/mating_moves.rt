@@ -4,15 +4,15 @@ ghost use Rattle.chess_core.specs.Position.{other};
 ghost use Rattle.chess_core.specs.WellFormed.{IsWellFormed};
 ghost use Rattle.chess_attacks.specs.Attacks.{in_check};
 ghost use Rattle.chess_mates.specs.ties.CheckSquares.{AreCheckSquares};
-ghost use Rattle.chess_mates.specs.ties.Flights.{IsTold};
+ghost use Rattle.chess_mates.specs.ties.Flights.{IsKnown};
 ghost use Rattle.chess_mates.specs.ties.Parries.{AreParries};
 ghost use Rattle.chess_rules.specs.Legal.{is_legal, is_mate, is_nil, is_pseudo_legal, moves};
 ghost use Rattle.chess_core.specs.declared.man.Move.{Move};
 ghost use Rattle.std.specs.Int.{bit_at};
-ghost use Rattle.chess_mates.specs.ties.Mates.{AreMateClues, IsMatingPlaceIn, IsNextMate, mates, mates_behind, mates_between};
-ghost use Rattle.chess_rules.specs.ties.Places.{HaveNone, all_triples, place_of, place_onto, triple_at};
+ghost use Rattle.chess_mates.specs.ties.Mates.{AreMateClues, IsMatingPlaceIn, IsNextMate, mates, mates_after, mates_between};
+ghost use Rattle.chess_rules.specs.ties.Places.{NonePass, all_triples, place_of, cursor_onto, triple_at};
 ghost use Rattle.chess_rules.specs.Play.{position_after};
-ghost use Rattle.chess_rules.specs.ties.Targets.{AreCandidates, AreKept, AreOrigins, IsAimed};
+ghost use Rattle.chess_rules.specs.ties.Targets.{AreCandidates, IsTargetCacheOf, AreOrigins, IsAimed};
 
 use crate::checks::{CheckSquares, check_squares, may_check, near_check_targets};
 use crate::flights::{Flights, flights_after};
@@ -26,10 +26,10 @@ use chess_core::square::{Square, Squares};
 use chess_rules::legal::is_pseudo_legal;
 use chess_rules::making_moves::play::play;
 use chess_rules::making_moves::undoing::unplay;
+use chess_rules::move_filter::{MoveFilter, next_passing};
 use chess_rules::moves::{Moves, has_legal_move, triple};
 use chess_rules::other_moves::others_have_move;
-use chess_rules::sought::{Sought, next_passing};
-use chess_rules::targets::{Kept, TRIPLES, arrivals};
+use chess_rules::targets::{TRIPLES, TargetCache, arrivals};
 use std::alloc::AllocError;
 use std::marker::{Model, PhantomData};
 
@@ -44,14 +44,14 @@ pub(crate) struct MateClues {
 /// A cursor over the mating moves of one position. It keeps the position's clues and the candidate squares
 /// of its current origin.
 #[derive_where(Copy)]
-pub struct MatingMoves<R> {
+pub struct MateCursor<R> {
     number: u16,
     clues: MateClues,
-    targets: Kept,
+    targets: TargetCache,
     rules: PhantomData<R>,
 }
 
-impl<R> Model for MatingMoves<R> {
+impl<R> Model for MateCursor<R> {
     ghost use Rattle.chess_mates.specs.ties.Mates.{MatingPlace};
 
     ghost Value = { MatingPlace };
@@ -66,13 +66,13 @@ impl<R> Model for MatingMoves<R> {
     } };
 }
 
-impl<R> Clone for MatingMoves<R> {
+impl<R> Clone for MateCursor<R> {
     ghost is_clone = { λ it copy. copy ≡ it };
 
     ghost is_infallible = { λ _. ⊤ };
 
     fn clone(&self) -> Result<Self, AllocError> {
-        Ok(MatingMoves {
+        Ok(MateCursor {
             number: self.number,
             clues: self.clues,
             targets: self.targets,
@@ -81,20 +81,20 @@ impl<R> Clone for MatingMoves<R> {
     }
 }
 
-impl<R: Rules> MatingMoves<R> {
+impl<R: Rules> MateCursor<R> {
     /// Returns the cursor before the first triple, for the board's position.
     #[inline(always)]
-    pub fn of(board: &Board) -> MatingMoves<R>
+    pub fn of(board: &Board) -> MateCursor<R>
         ensures start { result.place ≡ 0 }
         ensures place { IsMatingPlaceIn R.rule board.now result }
     {
-        MatingMoves {
+        MateCursor {
             number: 0,
             clues: MateClues {
                 checks: check_squares(board, board.turn().other()),
                 flights: standing_flights::<R>(board),
             },
-            targets: Kept {
+            targets: TargetCache {
                 origin: None,
                 squares: 0,
             },
@@ -128,9 +128,9 @@ impl<R: Rules> MatingMoves<R> {
           kept = self.new.kept;
         } }
         ensures within { IsMatingPlaceIn R.rule board.old self.new }
-        ensures rest { MatchOption result (mates_behind R.rule board.old self.old.place ≡ [])
-            (λ m. mates_behind R.rule board.old self.old.place
-            ≡ m ∷ mates_behind R.rule board.old self.new.place) }
+        ensures rest { MatchOption result (mates_after R.rule board.old self.old.place ≡ [])
+            (λ m. mates_after R.rule board.old self.old.place
+            ≡ m ∷ mates_after R.rule board.old self.new.place) }
         ensures next { IfSome result (λ m. IsNextMate R.rule board.old self.old.place self.new.place
             m) }
         ensures mates { IfSome result (λ m. mates R.rule board.old m ≡ true) }
@@ -155,7 +155,7 @@ impl<R: Rules> MatingMoves<R> {
         requires well_formed { IsWellFormed board.old }
         requires place { IsMatingPlaceIn R.rule board.old self.old }
         ensures place { self.new ≡ record self.old {
-          place = place_onto result self.old.place;
+          place = cursor_onto result self.old.place;
           kept = self.new.kept;
         } }
         ensures within { IsMatingPlaceIn R.rule board.old self.new }
@@ -184,14 +184,14 @@ impl<R: Rules> MatingMoves<R> {
 pub fn next_mate<R: Rules>(place: &mut Moves<R>, board: &mut Board) -> Option<Move>
     requires { IsWellFormed board.old }
     ensures place { place.new ≡ place_of result }
-    ensures rest { MatchOption result (mates_behind R.rule board.old place.old ≡ [])
-        (λ m. mates_behind R.rule board.old place.old
-        ≡ m ∷ mates_behind R.rule board.old place.new) }
+    ensures rest { MatchOption result (mates_after R.rule board.old place.old ≡ [])
+        (λ m. mates_after R.rule board.old place.old
+        ≡ m ∷ mates_after R.rule board.old place.new) }
     ensures next { IfSome result (λ m. IsNextMate R.rule board.old place.old place.new m) }
     ensures legal { IfSome result (λ m. is_legal R.rule board.old m ≡ true) }
     ensures board { board.new ≡ board.old }
 {
-    let mut moves = MatingMoves::<R>::of(board);
+    let mut moves = MateCursor::<R>::of(board);
     moves.go_to(*place);
     let found = moves.next(board);
     *place = moves.place();
@@ -203,25 +203,25 @@ pub fn next_mate<R: Rules>(place: &mut Moves<R>, board: &mut Board) -> Option<Mo
 pub(crate) fn next_mating<R: Rules>(
     board: &mut Board,
     clues: &MateClues,
-    kept: &mut Kept,
+    kept: &mut TargetCache,
     start: u16,
     end: u16,
 ) -> u16
     requires well_formed { IsWellFormed board.old }
     requires clues { AreMateClues R.rule board.old clues.now }
-    requires kept { AreKept R.rule board.old (mates R.rule board.old) kept.old }
+    requires kept { IsTargetCacheOf R.rule board.old (mates R.rule board.old) kept.old }
     requires end { end ≤ all_triples }
     ensures low { result < end → start ≤ result }
     ensures high { result ≤ end }
-    ensures none { HaveNone (mates R.rule board.old) start result }
+    ensures none { NonePass (mates R.rule board.old) start result }
     ensures mates { result < end → mates R.rule board.old (triple_at result) ≡ true }
-    ensures kept { AreKept R.rule board.old (mates R.rule board.old) kept.new }
+    ensures kept { IsTargetCacheOf R.rule board.old (mates R.rule board.old) kept.new }
     ensures board { board.new ≡ board.old }
 {
     next_passing::<R, MateClues>(board, clues, kept, start, end)
 }
 
-impl Sought for MateClues {
+impl MoveFilter for MateClues {
     ghost use Rattle.chess_mates.specs.ties.Mates.{AreMateClues, mates};
     ghost use Rattle.chess_mates.specs.ties.Idle.{mates-idle};
 
@@ -316,7 +316,7 @@ fn is_mating<R: Rules>(board: &mut Board, squares: &CheckSquares, m: Move) -> bo
 fn gives_mate<R: Rules>(board: &mut Board, m: Move, flights: Flights, parries: Parries) -> bool
     requires well_formed { IsWellFormed board.old }
     requires pseudo { is_pseudo_legal R.rule board.old m ≡ true }
-    requires told { IsTold R.rule (position_after R.rule board.old m) flights }
+    requires reported { IsKnown R.rule (position_after R.rule board.old m) flights }
     requires parries { AreParries R.rule (position_after R.rule board.old m) parries }
     ensures answer { result ≡ mates R.rule board.old m }
     ensures board { board.new ≡ board.old }
@@ -337,7 +337,7 @@ fn is_mated_by<R: Rules>(
     parries: Parries,
 ) -> bool
     requires well_formed { IsWellFormed board.old }
-    requires told { IsTold R.rule board.old flights }
+    requires reported { IsKnown R.rule board.old flights }
     requires parries { AreParries R.rule board.old parries }
     ensures answer { result ≡ (not (in_check R.rule board.old.men mover)
         && is_mate R.rule board.old) }
@@ -365,7 +365,7 @@ fn is_checked<R: Rules>(board: &Board, parries: Parries) -> bool
 fn has_move_in_check<R: Rules>(board: &mut Board, flights: Flights, parries: Parries) -> bool
     requires well_formed { IsWellFormed board.old }
     requires checked { in_check R.rule board.old.men board.old.turn ≡ true }
-    requires told { IsTold R.rule board.old flights }
+    requires reported { IsKnown R.rule board.old flights }
     requires parries { AreParries R.rule board.old parries }
     ensures answer { result ≡ not (is_nil (moves R.rule board.old)) }
     ensures board { board.new ≡ board.old }

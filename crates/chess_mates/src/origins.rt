@@ -7,25 +7,25 @@ ghost use Rattle.chess_core.specs.ties.Words.{side_of};
 ghost use Rattle.chess_core.specs.declared.man.Kind.TheVariants.{King};
 ghost use Rattle.chess_mates.specs.ties.CheckSquares.{AreCheckOrigins, AreCheckSquares, AreCheckTargets, own_man};
 
-use crate::checks::{CheckSquares, may_check_from_everywhere, targets_off_shields};
+use crate::checks::{CheckSquares, may_check_from_everywhere, targets_off_blockers};
 use crate::pawn_approaches::pawns_before;
 use chess_attacks::rules::Rules;
-use chess_attacks::words::{next_bit, only, take_first};
+use chess_attacks::words::{next_bit, only, pop_first};
 use chess_core::board::Board;
 use chess_core::man::{Kind, Man};
 use chess_core::square::{Square, Squares};
-use chess_rules::targets::open_targets;
+use chess_rules::targets::unblocked_targets;
 
 // Returns the squares of the mover's men of this kind whose moves can't expose the enemy king.
 #[inline(always)]
 #[tactic(auto, using(crate::proofs::FarMen::man_of_word, crate::proofs::FarMen::off_denied, chess_rules::proofs::listing_moves::Walks::on_first))]
-fn men_off_shields(board: &Board, squares: &CheckSquares, kind: Kind) -> Squares
+fn men_off_blockers(board: &Board, squares: &CheckSquares, kind: Kind) -> Squares
     ensures stands { (s : ℕ) → s < 64 → (bit_at result s == 1) ≡ true
         → man_on board.now.men s ≡ Some (own_man board.now kind) }
-    ensures unshielding { (s : ℕ) → s < 64 → (bit_at result s == 1) ≡ true
-        → (bit_at squares.now.shield_squares s == 1) ≡ false }
+    ensures unblocking { (s : ℕ) → s < 64 → (bit_at result s == 1) ≡ true
+        → (bit_at squares.now.blocker_squares s == 1) ≡ false }
 {
-    board.squares(board.turn(), kind) & !squares.shields()
+    board.squares(board.turn(), kind) & !squares.blockers()
 }
 
 // Returns the squares of the mover's pawns that could reach no check square on an empty board.
@@ -36,8 +36,8 @@ fn far_pawns<R: Rules>(board: &Board, squares: &CheckSquares) -> Squares
     ensures { (s : ℕ) → s < 64 → (bit_at result s == 1) ≡ true
         → AreCheckTargets R.rule board.now s 0 }
 {
-    let targets = targets_off_shields::<R>(board, squares, Kind::Pawn, None);
-    men_off_shields(board, squares, Kind::Pawn) & !pawns_before(board.turn(), targets)
+    let targets = targets_off_blockers::<R>(board, squares, Kind::Pawn, None);
+    men_off_blockers(board, squares, Kind::Pawn) & !pawns_before(board.turn(), targets)
 }
 
 // Returns whether the man could reach none of its targets from here on an empty board.
@@ -48,7 +48,7 @@ fn is_far<R: Rules>(board: &Board, man: Man, from: Square, targets: Squares) -> 
     requires targets { AreCheckTargets R.rule board.now from targets }
     ensures { result ≡ true → AreCheckTargets R.rule board.now from 0 }
 {
-    open_targets(man, from) & targets == 0
+    unblocked_targets(man, from) & targets == 0
 }
 
 // Returns the squares of the mover's men of this kind, not kings, that could reach no check square on an
@@ -66,14 +66,14 @@ fn far_men<R: Rules>(board: &Board, squares: &CheckSquares, kind: Kind) -> Squar
         colour: board.turn(),
         kind,
     };
-    let men = men_off_shields(board, squares, kind);
+    let men = men_off_blockers(board, squares, kind);
     if men == 0 {
         return 0;
     }
-    let targets = targets_off_shields::<R>(board, squares, kind, None);
+    let targets = targets_off_blockers::<R>(board, squares, kind, None);
     let mut far = 0u64;
     let mut rest = men;
-    while let Some(from) = take_first(&mut rest) {
+    while let Some(from) = pop_first(&mut rest) {
         if is_far::<R>(board, man, from, targets) {
             far |= only(Some(from));
         }
@@ -91,14 +91,14 @@ fn far_king<R: Rules>(board: &Board, squares: &CheckSquares) -> Squares
     ensures { (s : ℕ) → s < 64 → (bit_at result s == 1) ≡ true
         → AreCheckTargets R.rule board.now s 0 }
 {
-    let Some(from) = next_bit(men_off_shields(board, squares, Kind::King), 0) else {
+    let Some(from) = next_bit(men_off_blockers(board, squares, Kind::King), 0) else {
         return 0;
     };
     let king = Man {
         colour: board.turn(),
         kind: Kind::King,
     };
-    let targets = targets_off_shields::<R>(board, squares, Kind::King, Some(from));
+    let targets = targets_off_blockers::<R>(board, squares, Kind::King, Some(from));
     if !is_far::<R>(board, king, from, targets) {
         return 0;
     }

@@ -10,28 +10,28 @@ ghost use Rattle.chess_core.specs.declared.man.Kind.TheVariants.{Pawn};
 ghost use Rattle.chess_core.specs.declared.man.Man.{Man};
 ghost use Rattle.chess_core.specs.ties.Words.{squares_of, word};
 ghost use Rattle.chess_mates.specs.ties.CheckSquares.{AreCheckSquares};
-ghost use Rattle.chess_mates.specs.ties.Parries.{AreBetween, AreParries, AreParriesTold, IsShutBy, IsToldBetween, IsUntaken, comes, is_unpinned};
+ghost use Rattle.chess_mates.specs.ties.Parries.{AreBetween, AreParries, AreParriesKnown, IsShutBy, IsKnownBetween, IsUntaken, comes, is_unpinned};
 ghost use Rattle.chess_attacks.specs.Reaches.{forward};
 ghost use Rattle.chess_rules.specs.Legal.{is_pseudo_legal};
 ghost use Rattle.chess_rules.specs.Play.{position_after};
 ghost use Rattle.std.specs.Int.{bit_at};
 ghost use Rattle.chess_attacks.specs.Reaches.{reaches, reaches_as};
 ghost use Rattle.chess_attacks.specs.ties.Lines.{occupied_squares};
-ghost use Rattle.chess_attacks.specs.ties.Sight.{AreSeen};
+ghost use Rattle.chess_attacks.specs.ties.Occupancy.{DescribesMen};
 
 use crate::checks::CheckSquares;
+use chess_attacks::attacks_on::attackers_in;
 use chess_attacks::leaps::{king_leaps, pawn_advances};
 use chess_attacks::lines::{diagonal_lines, straight_lines};
-use chess_attacks::outward::attackers_seen;
+use chess_attacks::occupancy::{Occupancy, sight_after};
 use chess_attacks::reach::reach_over;
 use chess_attacks::rules::Rules;
-use chess_attacks::sight::{Sight, sight_after};
-use chess_attacks::words::{contains, next_bit, only, take_first};
+use chess_attacks::words::{contains, next_bit, only, pop_first};
 use chess_core::board::Board;
 use chess_core::man::{Colour, Kind, Man, Move};
 use chess_core::square::{Square, Squares};
+use chess_rules::blockers::{cannot_expose, fairy_lines};
 use chess_rules::making_moves::play::capture_square;
-use chess_rules::shields::{cannot_expose, fairy_lines};
 
 /// What is known of parries of a check by legal moves of men other than the king.
 #[derive(Clone, Copy)]
@@ -46,15 +46,15 @@ pub(crate) enum Parries {
 
 // Returns whether parries of the man's move are computed: it is no king and doesn't promote, no line to the
 // enemy king opens, nobody is reborn, and no man is paralysed.
-fn are_parries_told<R: Rules>(board: &Board, squares: &CheckSquares, man: Man, m: &Move) -> bool
+fn are_parries_known<R: Rules>(board: &Board, squares: &CheckSquares, man: Man, m: &Move) -> bool
     requires { AreCheckSquares board.now.men (other board.now.turn) squares.now }
-    ensures { result ≡ true → AreParriesTold R.rule board.now man m.now }
+    ensures { result ≡ true → AreParriesKnown R.rule board.now man m.now }
 {
     !man.kind.is(Kind::King)
         && m.promo.is_none()
         && !R::captures_do_more()
-        && !R::faced_men_stand_still()
-        && cannot_expose::<R>(board, board.turn().other(), squares.shields(), m)
+        && !R::like_men_paralyse()
+        && cannot_expose::<R>(board, board.turn().other(), squares.blockers(), m)
 }
 
 // Returns the squares whose men may leave them after the move without exposing the enemy king on `king`:
@@ -66,12 +66,12 @@ fn unpinned_squares(board: &Board, squares: &CheckSquares, m: &Move, king: Squar
 {
     // For the proof: a square's number is below 64.
     let _small = m.from.index();
-    let shields = squares.shields();
+    let blockers = squares.blockers();
     let lines = straight_lines(king) | diagonal_lines(king);
     if contains(lines, m.from) {
-        return !(shields | lines);
+        return !(blockers | lines);
     }
-    !shields
+    !blockers
 }
 
 // Returns the squares that a man of this kind reaches from both `to` and `king`, if `to` is on one of the
@@ -129,7 +129,7 @@ fn shuts(
 }
 
 // Returns the squares from which a pawn of this colour reaches the square by one step.
-#[tactic(auto, using(crate::proofs::Parrying::pawns_behind))]
+#[tactic(auto, using(crate::proofs::Parrying::pawns_after))]
 fn pawn_origins(colour: Colour, square: Square) -> Squares
     ensures { (s : ℕ) → s < 64 → (bit_at result s == 1) ≡ true
         → is_square (along s (forward colour) 1) square ≡ true }
@@ -162,28 +162,28 @@ fn is_approached(
 #[inline(always)]
 fn parries_between(
     board: &Board,
-    sight: Sight,
+    occupancy: Occupancy,
     man: Man,
     m: &Move,
     king: Square,
     unpinned: Squares,
 ) -> Parries
-    ensures { (men : List (Option Man)) → AreSeen board.now.men men (other board.now.turn) sight
+    ensures { (men : List (Option Man)) → DescribesMen board.now.men men (other board.now.turn) occupancy
         → unpinned ≡ word (is_unpinned board.now m.now king)
-        → IsToldBetween men board.now man m.now king result }
+        → IsKnownBetween men board.now man m.now king result }
 {
     let enemy = board.turn().other();
-    let held = sight.occupied | fairy_lines(board, enemy);
-    let seen = squares_between(sight.occupied, m.to, king);
+    let held = occupancy.occupied | fairy_lines(board, enemy);
+    let seen = squares_between(occupancy.occupied, m.to, king);
     let between = seen & !held;
     let mut nobody_comes = seen & held == 0;
     let mut rest = between;
-    while let Some(square) = take_first(&mut rest) {
-        let reaching = attackers_seen(board, sight, square, enemy);
-        let pawns = board.squares(enemy, Kind::Pawn) & sight.standing;
+    while let Some(square) = pop_first(&mut rest) {
+        let reaching = attackers_in(board, occupancy, square, enemy);
+        let pawns = board.squares(enemy, Kind::Pawn) & occupancy.standing;
         let loose = reaching & unpinned;
         let comers = loose & !pawns | pawns & unpinned & pawn_origins(enemy, square);
-        if shuts(sight.occupied, man, m.to, king, square, comers) {
+        if shuts(occupancy.occupied, man, m.to, king, square, comers) {
             return Parries::Possible;
         }
         nobody_comes &= !is_approached(reaching, pawns, square, king, enemy);
@@ -219,7 +219,7 @@ pub(crate) fn parries_after<R: Rules>(board: &Board, squares: &CheckSquares, m: 
     let Some(man) = board.man_at(m.from) else {
         return Parries::Unknown;
     };
-    if !are_parries_told::<R>(board, squares, man, m) {
+    if !are_parries_known::<R>(board, squares, man, m) {
         return Parries::Unknown;
     }
     let enemy = board.turn().other();
@@ -228,16 +228,16 @@ pub(crate) fn parries_after<R: Rules>(board: &Board, squares: &CheckSquares, m: 
     };
     // For the proof: a square's number is below 64.
     let _small = m.to.index();
-    let sight = sight_after(board, m.from, capture_square(board, man, m), m.to);
+    let occupancy = sight_after(board, m.from, capture_square(board, man, m), m.to);
     let unpinned = unpinned_squares(board, squares, m, king);
-    let takers = attackers_seen(board, sight, m.to, enemy);
+    let takers = attackers_in(board, occupancy, m.to, enemy);
     let loose = takers & unpinned;
     if loose != 0 {
         return Parries::Possible;
     }
-    match parries_between(board, sight, man, m, king, unpinned) {
+    match parries_between(board, occupancy, man, m, king, unpinned) {
         Parries::Possible => Parries::Possible,
-        Parries::Impossible if is_untaken(sight.occupied, takers, man, m.to, king) => {
+        Parries::Impossible if is_untaken(occupancy.occupied, takers, man, m.to, king) => {
             Parries::Impossible
         }
         _ => Parries::Unknown,

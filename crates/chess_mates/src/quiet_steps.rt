@@ -20,30 +20,30 @@ use crate::attackers::attackers_on;
 use crate::flights::{
     covered_squares, first_safe, held_squares, open_squares, sight_lifted, sight_with,
 };
-use crate::guards::{leapt_squares, ridden_squares};
+use crate::guards::{leapt_squares, rider_reach};
+use crate::king_attack::king_attack_of;
 use crate::lasting_flights::{LAST_RANKS, king_after, open_approaches};
-use crate::siege::siege_of;
 use crate::steps::exact_steps;
+use chess_attacks::attacks_on::has_attacker_in;
 use chess_attacks::leaps::king_leaps;
 use chess_attacks::lines::occupied;
-use chess_attacks::outward::is_attacker_seen;
+use chess_attacks::occupancy::Occupancy;
 use chess_attacks::rules::Rules;
-use chess_attacks::sight::Sight;
-use chess_attacks::words::{only, take_first};
+use chess_attacks::words::{only, pop_first};
 use chess_core::board::Board;
 use chess_core::man::{Colour, Kind, Man, Move};
 use chess_core::square::{Square, Squares};
 use chess_rules::exposure::is_simple;
+use chess_rules::filter_moves::FilteredMoves;
 use chess_rules::making_moves::play::capture_square;
-use chess_rules::sift::Sift;
 
 // Returns the sight after the enemy king, lifted from `king`, is put on `to`; the king isn't among the
 // standing men.
-fn sight_stepped(sight: Sight, king: Square, to: Square) -> Sight
-    ensures { result ≡ sight_stepped sight king to }
+fn sight_stepped(occupancy: Occupancy, king: Square, to: Square) -> Occupancy
+    ensures { result ≡ sight_stepped occupancy king to }
 {
-    let seen = sight_with(sight, to);
-    Sight {
+    let seen = sight_with(occupancy, to);
+    Occupancy {
         occupied: seen.occupied,
         standing: seen.standing & !only(Some(king)),
     }
@@ -52,11 +52,11 @@ fn sight_stepped(sight: Sight, king: Square, to: Square) -> Sight
 // Returns whether no man of the stepping side but the king reaches the mover's king on `own` after the step
 // to `to`.
 #[inline(always)]
-fn is_quiet_to(board: &Board, sight: Sight, king: Square, to: Square, own: Square) -> bool
-    ensures { result ≡ true → IsQuietTo board.now.men board.now.turn sight king to own }
+fn is_quiet_to(board: &Board, occupancy: Occupancy, king: Square, to: Square, own: Square) -> bool
+    ensures { result ≡ true → IsQuietTo board.now.men board.now.turn occupancy king to own }
 {
-    let seen = sight_stepped(sight, king, to);
-    !is_attacker_seen(board, seen, own, board.turn().other())
+    let seen = sight_stepped(occupancy, king, to);
+    !has_attacker_in(board, seen, own, board.turn().other())
 }
 
 // Returns whether the enemy king on `king` has a legal step to one of the squares after this man's simple
@@ -81,11 +81,11 @@ fn steps_quietly<R: Rules>(
     let Some(own) = king_after(board, man, m) else {
         return false;
     };
-    let sight = sight_lifted(board, m.from, captured, m.to, king);
-    let near = open_squares::<R>(board, sight, king);
-    let covered = covered_squares(sight.occupied, man, m.promo, m.to);
-    match first_safe(board, sight, near & squares & !covered, board.turn()) {
-        Some(to) => is_quiet_to(board, sight, king, to, own),
+    let occupancy = sight_lifted(board, m.from, captured, m.to, king);
+    let near = open_squares::<R>(board, occupancy, king);
+    let covered = covered_squares(occupancy.occupied, man, m.promo, m.to);
+    match first_safe(board, occupancy, near & squares & !covered, board.turn()) {
+        Some(to) => is_quiet_to(board, occupancy, king, to, own),
         None => false,
     }
 }
@@ -96,11 +96,11 @@ fn steps_now(board: &Board, king: Square) -> Squares {
     let near = king_leaps(king) & !held_squares(board, !0);
     let hurdles = occupied(board) & !only(Some(king));
     let men = attackers_on(board, board.turn());
-    near & !(ridden_squares(hurdles, &men, near) | leapt_squares(hurdles, &men, near))
+    near & !(rider_reach(hurdles, &men, near) | leapt_squares(hurdles, &men, near))
 }
 
 // Returns whether no grasshopper is on the board.
-#[tactic(auto, using(crate::proofs::QuietSieve::no_grasshopper))]
+#[tactic(auto, using(crate::proofs::QuietFilter::no_grasshopper))]
 pub(crate) fn none_hops(board: &Board) -> bool
     ensures { result ≡ true → NoneHops board.now.men }
 {
@@ -110,11 +110,11 @@ pub(crate) fn none_hops(board: &Board) -> bool
 }
 
 // Returns the sight without the men on two squares.
-fn sight_without(board: &Board, from: Square, king: Square) -> Sight
+fn sight_without(board: &Board, from: Square, king: Square) -> Occupancy
     ensures { result ≡ sight_without board.now.men from king }
 {
     let gone = only(Some(from)) | only(Some(king));
-    Sight {
+    Occupancy {
         occupied: occupied(board) & !gone,
         standing: !gone,
     }
@@ -122,7 +122,7 @@ fn sight_without(board: &Board, from: Square, king: Square) -> Sight
 
 // Returns the squares to which the enemy king on `king` may step, attacked or not: those next to it without
 // a man of its own and without a king, and in Circe without any man.
-#[tactic(auto, using(crate::proofs::QuietSieve::open_in_circe, crate::proofs::QuietSieve::open_elsewhere))]
+#[tactic(auto, using(crate::proofs::QuietFilter::open_in_circe, crate::proofs::QuietFilter::open_elsewhere))]
 pub(crate) fn free_steps<R: Rules>(board: &Board, king: Square) -> Squares
     ensures { AreOpen R.rule board.now.men (other board.now.turn) king result }
 {
@@ -167,22 +167,22 @@ pub(crate) fn unsimple_squares<R: Rules>(board: &Board, man: Man, from: Square) 
 // Returns whether no step of the enemy king from `king` is seen to uncover a check after this man has left:
 // none of the standing men reaches the mover's king, or, if that king moves, the square that the enemy king
 // leaves.
-fn are_quiet<R: Rules>(board: &Board, sight: Sight, man: Man, king: Square) -> bool
-    ensures { result ≡ true → AreQuiet R.rule board.now sight man king }
+fn are_quiet<R: Rules>(board: &Board, occupancy: Occupancy, man: Man, king: Square) -> bool
+    ensures { result ≡ true → AreQuiet R.rule board.now occupancy man king }
 {
     let enemy = board.turn().other();
     if man.kind.is(Kind::King) {
-        return !R::faced_men_stand_still() && !is_attacker_seen(board, sight, king, enemy);
+        return !R::like_men_paralyse() && !has_attacker_in(board, occupancy, king, enemy);
     }
     match board.king_of(board.turn()) {
-        Some(own) => !is_attacker_seen(board, sight, own, enemy),
+        Some(own) => !has_attacker_in(board, occupancy, own, enemy),
         None => false,
     }
 }
 
 // Returns the squares where the man's arrival may bar the king from `to`: `to` itself, and those from which
 // the man could reach `to` on some board.
-#[tactic(auto, using(crate::proofs::QuietSieve::step_left))]
+#[tactic(auto, using(crate::proofs::QuietFilter::step_left))]
 pub(crate) fn barring_squares(man: Man, to: Square) -> Squares
     ensures { (w t : ℕ) → (bit_at w to == 1) ≡ true → t < 64 → (bit_at result t == 1) ≡ false
         → IsLeft w man t to }
@@ -194,11 +194,11 @@ pub(crate) fn barring_squares(man: Man, to: Square) -> Squares
 
 // Returns the squares where the lifted man's arrival may stop the enemy king's step to `to`; all squares if
 // another man reaches `to`.
-fn stopping_squares(board: &Board, sight: Sight, man: Man, to: Square) -> Squares
+fn stopping_squares(board: &Board, occupancy: Occupancy, man: Man, to: Square) -> Squares
     ensures { (w t : ℕ) → (bit_at w to == 1) ≡ true → t < 64 → (bit_at result t == 1) ≡ false
-        → IsStepLeft board.now sight w man t to }
+        → IsStepLeft board.now occupancy w man t to }
 {
-    if is_attacker_seen(board, sight, to, board.turn()) {
+    if has_attacker_in(board, occupancy, to, board.turn()) {
         return !0;
     }
     barring_squares(man, to)
@@ -206,17 +206,17 @@ fn stopping_squares(board: &Board, sight: Sight, man: Man, to: Square) -> Square
 
 // Returns the squares where the lifted man's arrival may stop all the steps.
 #[tactic(auto, using(chess_attacks::proofs::HoldTaken::rest_falls, chess_rules::proofs::listing_moves::Targeting::every_square_on))]
-fn holding_squares(board: &Board, sight: Sight, man: Man, steps: Squares) -> Squares
+fn holding_squares(board: &Board, occupancy: Occupancy, man: Man, steps: Squares) -> Squares
     ensures { (t : ℕ) → t < 64 → (bit_at result t == 1) ≡ false
-        → (f : ℕ) × IsStepLeft board.now sight steps man t f }
+        → (f : ℕ) × IsStepLeft board.now occupancy steps man t f }
 {
     let mut squares = !0u64;
     let mut rest = steps;
-    while let Some(to) = take_first(&mut rest) {
+    while let Some(to) = pop_first(&mut rest) {
         if squares == 0 {
             return squares;
         }
-        squares &= stopping_squares(board, sight, man, to);
+        squares &= stopping_squares(board, occupancy, man, to);
     }
     squares
 }
@@ -224,15 +224,15 @@ fn holding_squares(board: &Board, sight: Sight, man: Man, steps: Squares) -> Squ
 // Returns which of `squares` the mover's king on `king` may legally step to, if that is known. Out of
 // line: other men are asked for more often.
 #[inline(never)]
-#[tactic(auto, using(crate::proofs::ExactSteps::told_exactly))]
+#[tactic(auto, using(crate::proofs::ExactSteps::known_exactly))]
 fn king_steps<R: Rules>(board: &Board, king: Square, squares: Squares) -> Option<Squares>
     requires well_formed { IsWellFormed board.now }
     requires king { king_square board.now.men board.now.turn ≡ Some king }
     requires squares { AreCandidates R.rule board.now (is_legal R.rule board.now) king squares }
     ensures { IfSome result (λ w. AreExact R.rule board.now king w) }
 {
-    let siege = siege_of::<R>(board, king);
-    exact_steps::<R>(&siege, squares)
+    let king_attack = king_attack_of::<R>(board, king);
+    exact_steps::<R>(&king_attack, squares)
 }
 
 /// Steps of the enemy king that give no check, for all moves of one position.
@@ -280,20 +280,20 @@ impl QuietSteps {
 
     /// Returns whether quiet steps are known for all moves of a man at once: not without any step, and not
     /// if there are grasshoppers.
-    pub fn are_told(&self, board: &Board) -> bool
+    pub fn are_known(&self, board: &Board) -> bool
         ensures { result ≡ true → NoneHops board.now.men }
     {
         self.squares != 0 && none_hops(board)
     }
 
     // Returns the squares where the arrival of the man on `from` may leave no quiet step.
-    #[tactic(auto, using(crate::proofs::QuietSieve::nothing_told))]
-    fn unsettled_squares<R: Rules>(&self, board: &Board, from: Square) -> Squares
+    #[tactic(auto, using(crate::proofs::QuietFilter::nothing_known))]
+    fn loud_squares<R: Rules>(&self, board: &Board, from: Square) -> Squares
         requires well_formed { IsWellFormed board.now }
         ensures { (m : Move) → is_legal R.rule board.now m ≡ true → m.from ≡ from
             → (bit_at result m.to == 1) ≡ false → must_reply_with_mate R.rule board.now m ≡ false }
     {
-        if !self.are_told(board) {
+        if !self.are_known(board) {
             return !0;
         }
         let Some(man) = board.man_at(from) else {
@@ -302,16 +302,16 @@ impl QuietSteps {
         let Some(king) = board.king_of(board.turn().other()) else {
             return !0;
         };
-        let sight = sight_without(board, from, king);
-        if !are_quiet::<R>(board, sight, man, king) {
+        let occupancy = sight_without(board, from, king);
+        if !are_quiet::<R>(board, occupancy, man, king) {
             return !0;
         }
         let steps = self.squares & free_steps::<R>(board, king);
-        holding_squares(board, sight, man, steps) | unsimple_squares::<R>(board, man, from)
+        holding_squares(board, occupancy, man, steps) | unsimple_squares::<R>(board, man, from)
     }
 }
 
-impl Sift for QuietSteps {
+impl FilteredMoves for QuietSteps {
     ghost use Rattle.std.specs.Prelude.{⊤};
     ghost use Rattle.chess_mates.specs.ties.QuietSteps.{must_reply_with_mate};
 
@@ -319,8 +319,8 @@ impl Sift for QuietSteps {
 
     ghost fits = { λ steps rule p. ⊤ };
 
-    fn sift<R: Rules>(&mut self, board: &Board, from: Square, squares: Squares) -> Squares {
-        squares & self.unsettled_squares::<R>(board, from)
+    fn filter_moves<R: Rules>(&mut self, board: &Board, from: Square, squares: Squares) -> Squares {
+        squares & self.loud_squares::<R>(board, from)
     }
 
     fn legal_squares<R: Rules>(

@@ -6,27 +6,27 @@ ghost use Rattle.chess_core.specs.Steps.{gait_of, is_hopper};
 ghost use Rattle.chess_core.specs.declared.man.Kind.TheVariants.{Nightrider};
 ghost use Rattle.chess_core.specs.declared.man.Colour.{Colour};
 ghost use Rattle.chess_core.specs.declared.man.Man.{Man};
-ghost use Rattle.chess_mates.specs.declared.siege.Siege.{Siege};
+ghost use Rattle.chess_mates.specs.declared.king_attack.KingAttack.{KingAttack};
 ghost use Rattle.chess_mates.specs.ties.Attackers.{IsAttacker};
 ghost use Rattle.chess_mates.specs.ties.LastingFlights.{IsLeft, MayBecome};
-ghost use Rattle.chess_mates.specs.ties.Siege.{AreArrivals, AreLaterHurdles, AreSprings, AreThreats, AreWeak, IsCheckWord, IsField, IsHarmless, IsMet, IsNoCheck, IsOff, IsReached, IsRiskAt, IsRiskBehind, IsSafeMove, IsSiege, IsWeak, IsWhole, LeavesOne, LeavesUntaken};
+ghost use Rattle.chess_mates.specs.ties.KingAttack.{AreArrivals, AreLaterHurdles, AreHopTargets, AreThreats, AreWeak, IsCheckWord, IsField, IsHarmless, IsMet, IsNoCheck, IsOff, IsReached, IsRiskAt, IsRiskAfterLeaving, IsSafeMove, IsKingAttack, IsWeak, IsWhole, LeavesOne, LeavesUntaken};
 
 use crate::attackers::Attackers;
-use crate::field::{
-    Field, Springs, are_free, castling_is_harmless, field_of, nightrider_lines, no_springs,
-    springs_of,
-};
-use crate::guards::{Guards, guards_without, reach_from, ridden_squares};
+use crate::guards::{Guards, guards_without, reach_from, rider_reach};
 use crate::hopped_flights::{critical_of_hops, later_hurdles};
+use crate::king_attack::{KingAttack, lifted_from};
+use crate::king_zone::{
+    HopTargets, KingZone, are_free, castling_is_harmless, field_of, hop_targets_of,
+    nightrider_lines, no_hop_targets,
+};
 use crate::lasting_flights::{LAST_RANKS, open_approaches};
 use crate::pawn_approaches::pawns_before;
-use crate::siege::{Siege, lifted_from};
-use chess_attacks::open_board::open_reach;
 use chess_attacks::reach::reach_over;
-use chess_attacks::words::{contains, next_bit, only, take_first};
+use chess_attacks::unblocked::unblocked_reach;
+use chess_attacks::words::{contains, next_bit, only, pop_first};
 use chess_core::man::{Colour, Kind, Man};
 use chess_core::square::{Square, Squares};
-use chess_rules::targets::open_targets;
+use chess_rules::targets::unblocked_targets;
 
 // The squares where a defender's arrival might allow mate, and the squares of all lines on which hurdles
 // matter.
@@ -38,7 +38,7 @@ pub(crate) struct Risk {
 
 // The risk after a defender has left a line on which it is a hurdle.
 #[derive(Clone, Copy)]
-pub(crate) struct RiskBehind {
+pub(crate) struct RiskAfterLeaving {
     from: Square,
     risk: Risk,
 }
@@ -47,7 +47,7 @@ pub(crate) struct RiskBehind {
 fn left_squares(near: Squares, man: Man, to: Square) -> Squares
     ensures { (f : ℕ) → f < 64 → (bit_at result f == 1) ≡ true → IsLeft near man to f }
 {
-    near & !(open_reach(man, to) | only(Some(to)))
+    near & !(unblocked_reach(man, to) | only(Some(to)))
 }
 
 // Returns the squares whose occupation by a defender leaves none of `near`, once the man is on `to`. If
@@ -79,7 +79,7 @@ fn critical_after(near: Squares, enemies: Squares, man: Man, targets: Squares) -
 {
     let mut critical = 0u64;
     let mut rest = targets;
-    while let Some(to) = take_first(&mut rest) {
+    while let Some(to) = pop_first(&mut rest) {
         let more = critical_with(near, enemies, man, to);
         critical |= more;
     }
@@ -110,25 +110,25 @@ fn critical_of_pawn(near: Squares, enemies: Squares, man: Man, targets: Squares)
 // `from` to a target. For a grasshopper it uses the hurdles that are there then.
 #[inline(always)]
 fn critical_of_going(
-    siege: &Siege,
-    field: &Field,
+    king_attack: &KingAttack,
+    king_zone: &KingZone,
     man: Man,
     from: Square,
     near: Squares,
     targets: Squares,
 ) -> Squares
     ensures { (t : ℕ) → t < 64 → (bit_at targets t == 1) ≡ true → (z : Man)
-        → MayBecome false man t z → (d : ℕ) × AreLaterHurdles siege.now field.now.king from d
-        × LeavesUntaken d field.now.king near siege.now.enemies result z t }
+        → MayBecome false man t z → (d : ℕ) × AreLaterHurdles king_attack.now king_zone.now.king from d
+        × LeavesUntaken d king_zone.now.king near king_attack.now.enemies result z t }
 {
-    let hurdles = later_hurdles(siege, field.king, from);
+    let hurdles = later_hurdles(king_attack, king_zone.king, from);
     if man.kind.is(Kind::Grasshopper) {
-        return critical_of_hops(field.king, near, siege.enemies, hurdles, targets);
+        return critical_of_hops(king_zone.king, near, king_attack.enemies, hurdles, targets);
     }
     if man.kind.is(Kind::Pawn) {
-        return critical_of_pawn(near, siege.enemies, man, targets);
+        return critical_of_pawn(near, king_attack.enemies, man, targets);
     }
-    critical_after(near, siege.enemies, man, targets)
+    critical_after(near, king_attack.enemies, man, targets)
 }
 
 // Returns whether the man may promote to a fairy man on one of the squares.
@@ -150,7 +150,7 @@ fn arrivals(hurdles: Squares, man: Man, from: Square) -> Squares
     ensures { AreArrivals hurdles man from result }
 {
     match man.kind {
-        Kind::Pawn | Kind::Grasshopper => open_targets(man, from),
+        Kind::Pawn | Kind::Grasshopper => unblocked_targets(man, from),
         _ => reach_from(hurdles, man, from),
     }
 }
@@ -158,17 +158,17 @@ fn arrivals(hurdles: Squares, man: Man, from: Square) -> Squares
 // Returns the reached squares from which the man gives check, lets a hopper give check, or may
 // give check after promotion. A king itself gives no check.
 #[tactic(auto, using(chess_rules::proofs::listing_moves::Walks::off_second, crate::proofs::Risks::king_targets))]
-fn checking_targets(man: Man, reached: Squares, field: &Field, checks: Squares) -> Squares
+fn checking_targets(man: Man, reached: Squares, king_zone: &KingZone, checks: Squares) -> Squares
     ensures { (t : ℕ) → t < 64 → (bit_at reached t == 1) ≡ true
-        → (bit_at result t == 1) ≡ false → IsNoCheck field.now checks man t }
+        → (bit_at result t == 1) ≡ false → IsNoCheck king_zone.now checks man t }
 {
     if man.kind.is(Kind::King) {
-        return reached & field.springboards;
+        return reached & king_zone.springboards;
     }
     if man.kind.is(Kind::Pawn) {
-        return reached & (checks | field.promotions | field.springboards);
+        return reached & (checks | king_zone.promotions | king_zone.springboards);
     }
-    reached & (checks | field.springboards)
+    reached & (checks | king_zone.springboards)
 }
 
 // Returns all squares that the man reaches if another attacker gives check once it has left, otherwise the
@@ -187,53 +187,67 @@ fn watched_squares(guards: &Guards, king: Square, reached: Squares, targets: Squ
 
 // Returns the squares among `squares` on which the king can't capture the arriving man.
 #[tactic(auto, using(crate::proofs::Risks::bit_denied, chess_attacks::proofs::Bits::off_left, chess_attacks::proofs::Bits::off_right, chess_rules::proofs::listing_moves::Walks::off_second))]
-fn uncaptured_squares(field: &Field, guards: &Guards, squares: Squares) -> Squares
+fn uncaptured_squares(king_zone: &KingZone, guards: &Guards, squares: Squares) -> Squares
     ensures { (t : ℕ) → t < 64 → (bit_at squares t == 1) ≡ true
-        → (bit_at result t == 1) ≡ false → ((bit_at field.now.captures t == 1) ≡ true)
+        → (bit_at result t == 1) ≡ false → ((bit_at king_zone.now.captures t == 1) ≡ true)
         × ((bit_at guards.now.guarded t == 1) ≡ false) }
 {
-    squares & (!field.captures | guards.guarded)
+    squares & (!king_zone.captures | guards.guarded)
 }
 
 // Returns whether the man, leaving `from`, may arrive on a springboard of another hopper.
 #[tactic(auto, using(crate::proofs::Risks::none_checks))]
-fn may_spring(siege: &Siege, field: &Field, from: Square, squares: Squares) -> bool
+fn may_spring(
+    king_attack: &KingAttack,
+    king_zone: &KingZone,
+    from: Square,
+    squares: Squares,
+) -> bool
     ensures { result ≡ false → (t : ℕ) → t < 64 → (bit_at squares t == 1) ≡ true → (q : ℕ) (z : Man)
-        → IsAttacker siege.now.men z q → from ≢ q → is_hopper (gait_of z.kind) ≡ true
-        → (bit_at field.now.hops t == 1) ≡ false }
+        → IsAttacker king_attack.now.men z q → from ≢ q → is_hopper (gait_of z.kind) ≡ true
+        → (bit_at king_zone.now.hops t == 1) ≡ false }
 {
-    let others = siege.men.grasshoppers & !only(Some(from));
-    others != 0 && field.hops & squares != 0
+    let others = king_attack.men.grasshoppers & !only(Some(from));
+    others != 0 && king_zone.hops & squares != 0
 }
 
 // Returns the risk of the man's move from `from` to one of the squares that it reaches: to a target, or to
 // any square if another attacker then gives check. There is no risk where the king captures it.
 #[inline(always)]
 fn risk_of_going(
-    siege: &Siege,
-    field: &Field,
+    king_attack: &KingAttack,
+    king_zone: &KingZone,
     man: Man,
     from: Square,
     reached: Squares,
     targets: Squares,
 ) -> Risk
-    ensures { (a b t : ℕ) → a < 64 → b < 64 → IsOff siege.now.hurdles result a b → t < 64
-        → (bit_at reached t == 1) ≡ true → IsMet siege.now field.now man from targets a b t }
+    ensures { (a b t : ℕ) → a < 64 → b < 64 → IsOff king_attack.now.hurdles result a b → t < 64
+        → (bit_at reached t == 1) ≡ true → IsMet king_attack.now king_zone.now man from targets a b t }
 {
     // For the proof: a square's number is below 64.
-    let _small = field.king.index();
-    let region = field.near | field.captures | only(Some(field.king));
-    let guards = guards_without(siege, from, region);
-    let watched = watched_squares(&guards, field.king, reached, targets);
-    let left = uncaptured_squares(field, &guards, watched);
-    if may_spring(siege, field, from, left) || may_become_fairy(&siege.men, man, left) {
+    let _small = king_zone.king.index();
+    let region = king_zone.near | king_zone.captures | only(Some(king_zone.king));
+    let guards = guards_without(king_attack, from, region);
+    let watched = watched_squares(&guards, king_zone.king, reached, targets);
+    let left = uncaptured_squares(king_zone, &guards, watched);
+    if may_spring(king_attack, king_zone, from, left)
+        || may_become_fairy(&king_attack.men, man, left)
+    {
         return Risk {
             critical: !0,
             lines: 0,
         };
     }
     Risk {
-        critical: critical_of_going(siege, field, man, from, field.near & !guards.guarded, left),
+        critical: critical_of_going(
+            king_attack,
+            king_zone,
+            man,
+            from,
+            king_zone.near & !guards.guarded,
+            left,
+        ),
         lines: guards.ridden,
     }
 }
@@ -241,40 +255,52 @@ fn risk_of_going(
 // Returns the risk of the man on `from`, which gives check from the squares `checks`. Mostly it couldn't
 // get there even on an empty board.
 #[inline(always)]
-fn risk_from(siege: &Siege, field: &Field, man: Man, from: Square, checks: Squares) -> Risk
-    ensures { IsHarmless siege.now field.now checks result man from }
+fn risk_from(
+    king_attack: &KingAttack,
+    king_zone: &KingZone,
+    man: Man,
+    from: Square,
+    checks: Squares,
+) -> Risk
+    ensures { IsHarmless king_attack.now king_zone.now checks result man from }
 {
-    let open = open_targets(man, from);
-    let most = checking_targets(man, open, field, checks);
-    if most == 0 && !contains(field.lines, from) {
+    let open = unblocked_targets(man, from);
+    let most = checking_targets(man, open, king_zone, checks);
+    if most == 0 && !contains(king_zone.lines, from) {
         return Risk {
             critical: 0,
             lines: 0,
         };
     }
-    let reached = arrivals(siege.hurdles, man, from);
-    let targets = checking_targets(man, reached, field, checks);
-    if targets == 0 && !contains(field.lines, from) {
+    let reached = arrivals(king_attack.hurdles, man, from);
+    let targets = checking_targets(man, reached, king_zone, checks);
+    if targets == 0 && !contains(king_zone.lines, from) {
         return Risk {
             critical: 0,
             lines: 0,
         };
     }
-    risk_of_going(siege, field, man, from, reached, targets)
+    risk_of_going(king_attack, king_zone, man, from, reached, targets)
 }
 
 // Returns the risk of men like this on these squares.
 #[tactic(auto, using(chess_attacks::proofs::HoldTaken::rest_falls, chess_attacks::proofs::HoldTaken::taken_all, chess_attacks::proofs::HoldTaken::taken_none))]
 #[inline(always)]
-fn risk_together(siege: &Siege, field: &Field, man: Man, squares: Squares, checks: Squares) -> Risk
+fn risk_together(
+    king_attack: &KingAttack,
+    king_zone: &KingZone,
+    man: Man,
+    squares: Squares,
+    checks: Squares,
+) -> Risk
     ensures { (s : ℕ) → s < 64 → (bit_at squares s == 1) ≡ true
-        → IsHarmless siege.now field.now checks result man s }
+        → IsHarmless king_attack.now king_zone.now checks result man s }
 {
     let mut critical = 0u64;
     let mut lines = 0u64;
     let mut rest = squares;
-    while let Some(from) = take_first(&mut rest) {
-        let more = risk_from(siege, field, man, from, checks);
+    while let Some(from) = pop_first(&mut rest) {
+        let more = risk_from(king_attack, king_zone, man, from, checks);
         critical |= more.critical;
         lines |= more.lines;
     }
@@ -284,41 +310,46 @@ fn risk_together(siege: &Siege, field: &Field, man: Man, squares: Squares, check
 // Returns the squares from which the man would check the zone's king: for a grasshopper on some board, for
 // others over the hurdles.
 #[tactic(auto, using(crate::proofs::Risks::check_hops, crate::proofs::Risks::check_word))]
-fn check_squares_over(siege: &Siege, field: &Field, man: Man) -> Squares
-    requires { IsField siege.now field.now }
-    ensures { IsCheckWord siege.now.hurdles field.now.king man result }
+fn check_squares_over(king_attack: &KingAttack, king_zone: &KingZone, man: Man) -> Squares
+    requires { IsField king_attack.now king_zone.now }
+    ensures { IsCheckWord king_attack.now.hurdles king_zone.now.king man result }
 {
     if man.kind.is(Kind::Queen) {
-        return field.straight | field.diagonal;
+        return king_zone.straight | king_zone.diagonal;
     }
     if man.kind.is(Kind::Rook) {
-        return field.straight;
+        return king_zone.straight;
     }
     if man.kind.is(Kind::Bishop) {
-        return field.diagonal;
+        return king_zone.diagonal;
     }
     if man.kind.is(Kind::Grasshopper) {
-        return open_approaches(man, field.king);
+        return open_approaches(man, king_zone.king);
     }
-    reach_over(siege.hurdles, man.colour.other(), man.kind, field.king)
+    reach_over(
+        king_attack.hurdles,
+        man.colour.other(),
+        man.kind,
+        king_zone.king,
+    )
 }
 
 // Returns a superset of the squares from which the man may give check with its next move, promoted or not,
 // on an empty board, or uncover a check. For pawns and kings these are few, unless hoppers attack the king.
 #[tactic(auto, using(chess_rules::proofs::listing_moves::Targeting::every_square_on, chess_rules::proofs::listing_moves::Targeting::false_by, crate::proofs::Risks::king_targets, crate::proofs::Risks::none_at, crate::proofs::Risks::pawn_idly))]
 #[inline(always)]
-fn suspect_squares(field: &Field, man: Man, checks: Squares) -> Squares
-    ensures { (v : Siege) (s : ℕ) → s < 64 → (bit_at result s == 1) ≡ false
-        → IsHarmless v field.now checks (record { critical = 0; lines = 0 }) man s }
+fn suspect_squares(king_zone: &KingZone, man: Man, checks: Squares) -> Squares
+    ensures { (v : KingAttack) (s : ℕ) → s < 64 → (bit_at result s == 1) ≡ false
+        → IsHarmless v king_zone.now checks (record { critical = 0; lines = 0 }) man s }
 {
-    if field.springboards != 0 {
+    if king_zone.springboards != 0 {
         return !0;
     }
     if man.kind.is(Kind::Pawn) {
-        return field.lines | pawns_before(man.colour, checks | field.promotions);
+        return king_zone.lines | pawns_before(man.colour, checks | king_zone.promotions);
     }
     if man.kind.is(Kind::King) {
-        return field.lines;
+        return king_zone.lines;
     }
     !0
 }
@@ -340,11 +371,11 @@ fn check_now(man: Man, checks: Squares, squares: Squares) -> bool
 // critical.
 #[tactic(auto, using(chess_rules::proofs::listing_moves::Targeting::every_square_on, crate::proofs::Risks::none_at))]
 #[inline(always)]
-fn risk_of(siege: &Siege, field: &Field, kind: Kind, squares: Squares) -> Risk
-    requires { IsField siege.now field.now }
+fn risk_of(king_attack: &KingAttack, king_zone: &KingZone, kind: Kind, squares: Squares) -> Risk
+    requires { IsField king_attack.now king_zone.now }
     ensures { (s : ℕ) → s < 64 → (bit_at squares s == 1) ≡ true
-        → IsWeak siege.now field.now result
-        (record { colour = siege.now.men.colour; kind = kind }) s }
+        → IsWeak king_attack.now king_zone.now result
+        (record { colour = king_attack.now.men.colour; kind = kind }) s }
 {
     if squares == 0 {
         return Risk {
@@ -353,36 +384,36 @@ fn risk_of(siege: &Siege, field: &Field, kind: Kind, squares: Squares) -> Risk
         };
     }
     let man = Man {
-        colour: siege.men.colour,
+        colour: king_attack.men.colour,
         kind,
     };
-    let checks = check_squares_over(siege, field, man);
+    let checks = check_squares_over(king_attack, king_zone, man);
     if check_now(man, checks, squares) {
         return Risk {
             critical: !0,
             lines: 0,
         };
     }
-    let suspects = squares & suspect_squares(field, man, checks);
-    risk_together(siege, field, man, suspects, checks)
+    let suspects = squares & suspect_squares(king_zone, man, checks);
+    risk_together(king_attack, king_zone, man, suspects, checks)
 }
 
 // Returns the risk of all attackers.
 #[tactic(auto, using(crate::proofs::Risks::all_weak))]
 #[inline(always)]
-fn risk_of_all(siege: &Siege, field: &Field) -> Risk
-    requires { IsField siege.now field.now }
-    ensures { AreWeak siege.now field.now result }
+fn risk_of_all(king_attack: &KingAttack, king_zone: &KingZone) -> Risk
+    requires { IsField king_attack.now king_zone.now }
+    ensures { AreWeak king_attack.now king_zone.now result }
 {
-    let men = &siege.men;
-    let kings = risk_of(siege, field, Kind::King, men.kings);
-    let queens = risk_of(siege, field, Kind::Queen, men.queens);
-    let rooks = risk_of(siege, field, Kind::Rook, men.rooks);
-    let bishops = risk_of(siege, field, Kind::Bishop, men.bishops);
-    let knights = risk_of(siege, field, Kind::Knight, men.knights);
-    let pawns = risk_of(siege, field, Kind::Pawn, men.pawns);
-    let grasshoppers = risk_of(siege, field, Kind::Grasshopper, men.grasshoppers);
-    let nightriders = risk_of(siege, field, Kind::Nightrider, men.nightriders);
+    let men = &king_attack.men;
+    let kings = risk_of(king_attack, king_zone, Kind::King, men.kings);
+    let queens = risk_of(king_attack, king_zone, Kind::Queen, men.queens);
+    let rooks = risk_of(king_attack, king_zone, Kind::Rook, men.rooks);
+    let bishops = risk_of(king_attack, king_zone, Kind::Bishop, men.bishops);
+    let knights = risk_of(king_attack, king_zone, Kind::Knight, men.knights);
+    let pawns = risk_of(king_attack, king_zone, Kind::Pawn, men.pawns);
+    let grasshoppers = risk_of(king_attack, king_zone, Kind::Grasshopper, men.grasshoppers);
+    let nightriders = risk_of(king_attack, king_zone, Kind::Nightrider, men.nightriders);
     Risk {
         critical: kings.critical
             | queens.critical
@@ -405,101 +436,117 @@ fn risk_of_all(siege: &Siege, field: &Field) -> Risk
 
 // Returns the risk of a defender whose king is on this square, with its nightrider lines and springboards.
 // If a hopper checks it or a castling may, every square is critical.
-#[tactic(auto, using(crate::proofs::Sieges::risk_is, chess_rules::proofs::listing_moves::Targeting::every_square_on))]
+#[tactic(auto, using(crate::proofs::KingAttacks::risk_is, chess_rules::proofs::listing_moves::Targeting::every_square_on))]
 #[inline(always)]
-fn risk_with(siege: &Siege, king: Square, riders: Squares, springs: &Springs) -> Risk
-    requires riders { siege.now.men.nightriders ≢ 0 → (c : Colour)
-        → IsReached siege.now.hurdles (record { colour = c; kind = Nightrider }) king riders }
-    requires springs { AreSprings siege.now king springs.now }
-    ensures { IsRiskAt siege.now king result }
+fn risk_with(
+    king_attack: &KingAttack,
+    king: Square,
+    riders: Squares,
+    hop_targets: &HopTargets,
+) -> Risk
+    requires riders { king_attack.now.men.nightriders ≢ 0 → (c : Colour)
+        → IsReached king_attack.now.hurdles (record { colour = c; kind = Nightrider }) king riders }
+    requires hop_targets { AreHopTargets king_attack.now king hop_targets.now }
+    ensures { IsRiskAt king_attack.now king result }
 {
-    let field = field_of(siege, king, riders, springs);
-    if !castling_is_harmless(siege, &field) || !are_free(siege, king, field.springboards) {
+    let king_zone = field_of(king_attack, king, riders, hop_targets);
+    if !castling_is_harmless(king_attack, &king_zone)
+        || !are_free(king_attack, king, king_zone.springboards)
+    {
         return Risk {
             critical: !0,
             lines: 0,
         };
     }
-    let risk = risk_of_all(siege, &field);
+    let risk = risk_of_all(king_attack, &king_zone);
     Risk {
-        critical: risk.critical | (field.hops & !only(Some(king))),
-        lines: risk.lines | field.lines,
+        critical: risk.critical | (king_zone.hops & !only(Some(king))),
+        lines: risk.lines | king_zone.lines,
     }
 }
 
 // Returns the risk of a defender whose king is on this square, for any attackers.
 #[inline(never)]
-fn risk_beside_fairies(siege: &Siege, king: Square) -> Risk
-    ensures { IsRiskAt siege.now king result }
+fn risk_beside_fairies(king_attack: &KingAttack, king: Square) -> Risk
+    ensures { IsRiskAt king_attack.now king result }
 {
-    let springs = springs_of(siege, king);
-    risk_with(siege, king, nightrider_lines(siege, king), &springs)
+    let hop_targets = hop_targets_of(king_attack, king);
+    risk_with(
+        king_attack,
+        king,
+        nightrider_lines(king_attack, king),
+        &hop_targets,
+    )
 }
 
 // Returns the risk of a defender whose king is on this square; faster without fairy men among the
 // attackers.
-pub(crate) fn risk_at(siege: &Siege, king: Square) -> Risk
-    ensures { IsRiskAt siege.now king result }
+pub(crate) fn risk_at(king_attack: &KingAttack, king: Square) -> Risk
+    ensures { IsRiskAt king_attack.now king result }
 {
-    if siege.men.grasshoppers == 0 && siege.men.nightriders == 0 {
-        let springs = no_springs(siege, king);
-        return risk_with(siege, king, 0, &springs);
+    if king_attack.men.grasshoppers == 0 && king_attack.men.nightriders == 0 {
+        let hop_targets = no_hop_targets(king_attack, king);
+        return risk_with(king_attack, king, 0, &hop_targets);
     }
-    risk_beside_fairies(siege, king)
+    risk_beside_fairies(king_attack, king)
 }
 
 // Returns the risk of the attacked king itself. Hurdles on the lines of all riders count too.
-fn risk_of_siege(siege: &Siege) -> Risk
-    requires siege { IsSiege siege.now }
-    requires whole { IsWhole siege.now }
-    ensures { AreThreats siege.now result }
+fn risk_of_king_attack(king_attack: &KingAttack) -> Risk
+    requires king_attack { IsKingAttack king_attack.now }
+    requires whole { IsWhole king_attack.now }
+    ensures { AreThreats king_attack.now result }
 {
-    let risk = risk_at(siege, siege.king);
+    let risk = risk_at(king_attack, king_attack.king);
     Risk {
         critical: risk.critical,
-        lines: risk.lines | ridden_squares(siege.hurdles, &siege.men, !0),
+        lines: risk.lines | rider_reach(king_attack.hurdles, &king_attack.men, !0),
     }
 }
 
 // Returns the risk of the attacked king, from `kept` if it is there.
 #[inline(always)]
-pub(crate) fn kept_risk(siege: &Siege, kept: &mut Option<Risk>) -> Risk
-    requires siege { IsSiege siege.now }
-    requires whole { IsWhole siege.now }
-    requires kept { IfSome kept.old (λ r. AreThreats siege.now r) }
-    ensures threats { AreThreats siege.now result }
-    ensures kept { IfSome kept.new (λ r. AreThreats siege.now r) }
+pub(crate) fn cached_risk(king_attack: &KingAttack, kept: &mut Option<Risk>) -> Risk
+    requires king_attack { IsKingAttack king_attack.now }
+    requires whole { IsWhole king_attack.now }
+    requires kept { IfSome kept.old (λ r. AreThreats king_attack.now r) }
+    ensures threats { AreThreats king_attack.now result }
+    ensures kept { IfSome kept.new (λ r. AreThreats king_attack.now r) }
 {
     if let Some(risk) = *kept {
         return risk;
     }
-    let risk = risk_of_siege(siege);
+    let risk = risk_of_king_attack(king_attack);
     *kept = Some(risk);
     risk
 }
 
 // Returns the risk of a defender that leaves a line on which it is a hurdle.
-fn risk_behind(siege: &Siege, from: Square) -> Risk
-    ensures { IsRiskBehind siege.now from result }
+fn risk_after(king_attack: &KingAttack, from: Square) -> Risk
+    ensures { IsRiskAfterLeaving king_attack.now from result }
 {
-    let lifted = lifted_from(siege, from);
-    risk_at(&lifted, siege.king)
+    let lifted = lifted_from(king_attack, from);
+    risk_at(&lifted, king_attack.king)
 }
 
 // Returns the risk of a defender that leaves `from`, from `kept` if it is for this square, and keeps it for
 // the defender's other moves.
-fn kept_risk_behind(siege: &Siege, kept: &mut Option<RiskBehind>, from: Square) -> Risk
-    requires { IfSome kept.old (λ b. IsRiskBehind siege.now b.from b.risk) }
-    ensures risk { IsRiskBehind siege.now from result }
-    ensures kept { IfSome kept.new (λ b. IsRiskBehind siege.now b.from b.risk) }
+fn cached_risk_after(
+    king_attack: &KingAttack,
+    kept: &mut Option<RiskAfterLeaving>,
+    from: Square,
+) -> Risk
+    requires { IfSome kept.old (λ b. IsRiskAfterLeaving king_attack.now b.from b.risk) }
+    ensures risk { IsRiskAfterLeaving king_attack.now from result }
+    ensures kept { IfSome kept.new (λ b. IsRiskAfterLeaving king_attack.now b.from b.risk) }
 {
-    if let Some(behind) = *kept {
-        if behind.from == from {
-            return behind.risk;
+    if let Some(following) = *kept {
+        if following.from == from {
+            return following.risk;
         }
     }
-    let risk = risk_behind(siege, from);
-    *kept = Some(RiskBehind { from, risk });
+    let risk = risk_after(king_attack, from);
+    *kept = Some(RiskAfterLeaving { from, risk });
     risk
 }
 
@@ -508,17 +555,17 @@ fn kept_risk_behind(siege: &Siege, kept: &mut Option<RiskBehind>, from: Square) 
 // never makes it smaller.
 #[tactic(auto, using(chess_rules::proofs::listing_moves::Targeting::false_by))]
 pub(crate) fn critical_from(
-    siege: &Siege,
+    king_attack: &KingAttack,
     risk: &Risk,
-    kept: &mut Option<RiskBehind>,
+    kept: &mut Option<RiskAfterLeaving>,
     from: Square,
     squares: Squares,
 ) -> Squares
-    requires threats { AreThreats siege.now risk.now }
-    requires kept { IfSome kept.old (λ b. IsRiskBehind siege.now b.from b.risk) }
+    requires threats { AreThreats king_attack.now risk.now }
+    requires kept { IfSome kept.old (λ b. IsRiskAfterLeaving king_attack.now b.from b.risk) }
     ensures safe { (t : ℕ) → (bit_at squares t == 1) ≡ true → (bit_at result t == 1) ≡ false
-        → IsSafeMove siege.now from t }
-    ensures kept { IfSome kept.new (λ b. IsRiskBehind siege.now b.from b.risk) }
+        → IsSafeMove king_attack.now from t }
+    ensures kept { IfSome kept.new (λ b. IsRiskAfterLeaving king_attack.now b.from b.risk) }
 {
     // For the proof: a square's number is below 64.
     let _small = from.index();
@@ -526,7 +573,7 @@ pub(crate) fn critical_from(
         return squares;
     }
     if contains(risk.lines, from) {
-        kept_risk_behind(siege, kept, from).critical
+        cached_risk_after(king_attack, kept, from).critical
     } else {
         risk.critical
     }

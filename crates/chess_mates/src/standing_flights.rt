@@ -9,7 +9,7 @@ ghost use Rattle.chess_mates.specs.ties.LastingFlights.{IsLeft};
 ghost use Rattle.chess_mates.specs.ties.StandingFlights.{AreStandingFlights, NoneHops};
 
 use crate::attackers::attackers_on;
-use crate::guards::{leapt_squares, ridden_squares};
+use crate::guards::{leapt_squares, rider_reach};
 use crate::quiet_steps::{barring_squares, free_steps, none_hops, unsimple_squares};
 use chess_attacks::lines::occupied;
 use chess_attacks::rules::Rules;
@@ -38,7 +38,7 @@ fn flights_around<R: Rules>(board: &Board, king: Square) -> StandingFlights
     let near = free_steps::<R>(board, king);
     let hurdles = occupied(board) & !only(Some(king));
     let men = attackers_on(board, board.turn());
-    let ridden = ridden_squares(hurdles, &men, near);
+    let ridden = rider_reach(hurdles, &men, near);
     StandingFlights {
         flights: near & !(ridden | leapt_squares(hurdles, &men, near)),
         ridden,

@@ -2,37 +2,37 @@
 ghost use Rattle.std.specs.Prelude.{◌≡◌, ◌<◌, ◌==◌, ℕ, IfSome, not, true, false};
 ghost use Rattle.std.specs.Int.{bit_at};
 ghost use Rattle.chess_core.specs.Steps.{gait_of, is_hopper};
-ghost use Rattle.chess_mates.specs.declared.siege.Siege.{Siege};
+ghost use Rattle.chess_mates.specs.declared.king_attack.KingAttack.{KingAttack};
 ghost use Rattle.chess_mates.specs.ties.LastingFlights.{AreOpenTargets};
-ghost use Rattle.chess_mates.specs.ties.Siege.{AreExactSteps, AreReached, AreToldSteps, AreUnhopping, IsAttackedOver, IsBarred, IsPlainStep, IsSettledStep, IsSparedStep, KeepsFlight};
+ghost use Rattle.chess_mates.specs.ties.KingAttack.{AreExactSteps, AreReached, IsStepCacheOf, AreUnhopping, IsAttackedOver, IsBarred, IsPlainStep, IsDecidedStep, IsSparedStep, KeepsFlight};
 
 use crate::attackers::MOST_ATTACKERS;
-use crate::field::adjacent_squares;
-use crate::guards::{leapt_squares, ridden_squares};
+use crate::guards::{leapt_squares, rider_reach};
+use crate::king_attack::KingAttack;
+use crate::king_zone::adjacent_squares;
 use crate::lasting_flights::{OpenTargets, keeps_one};
 use crate::risk::risk_at;
-use crate::siege::Siege;
 use chess_attacks::leaps::king_leaps;
 use chess_attacks::rules::Rules;
-use chess_attacks::words::{contains, only, take_first};
+use chess_attacks::words::{contains, only, pop_first};
 use chess_core::square::{Square, Squares};
 
 // Steps of the king, the risky steps among them, after which a reply might mate, and the rules for which this was
 // computed.
 #[derive(Clone, Copy)]
-pub(crate) struct ToldSteps {
+pub(crate) struct StepCache {
     steps: Squares,
     stand_still: bool,
     do_more: bool,
     risky: Squares,
 }
 
-impl ToldSteps {
+impl StepCache {
     // Returns the value before any step has been computed.
-    pub(crate) fn none() -> ToldSteps
-        ensures { (v : Siege) → AreToldSteps v result }
+    pub(crate) fn none() -> StepCache
+        ensures { (v : KingAttack) → IsStepCacheOf v result }
     {
-        ToldSteps {
+        StepCache {
             steps: 0,
             stand_still: false,
             do_more: false,
@@ -43,43 +43,44 @@ impl ToldSteps {
 
 // Returns whether the king keeps a flight after the step, whatever is played.
 #[inline(always)]
-fn keeps_flight_at<R: Rules>(siege: &Siege, targets: &OpenTargets, to: Square) -> bool
-    requires { AreOpenTargets siege.now.men targets.now }
-    ensures { result ≡ true → KeepsFlight R.rule siege.now to }
+fn keeps_flight_at<R: Rules>(king_attack: &KingAttack, targets: &OpenTargets, to: Square) -> bool
+    requires { AreOpenTargets king_attack.now.men targets.now }
+    ensures { result ≡ true → KeepsFlight R.rule king_attack.now to }
 {
-    !R::captures_do_more() && keeps_one(&siege.men, targets, adjacent_squares(siege, to))
+    !R::captures_do_more()
+        && keeps_one(&king_attack.men, targets, adjacent_squares(king_attack, to))
 }
 
 // Returns the square if the king's step there might allow mate: a reply may mate there or a man is on it,
 // and no flight is sure.
 #[tactic(auto, using(crate::proofs::Sparing::one_square))]
-fn risky_step<R: Rules>(siege: &Siege, targets: &OpenTargets, to: Square) -> Squares
-    requires { AreOpenTargets siege.now.men targets.now }
-    ensures { (bit_at result to == 1) ≡ false → IsSparedStep R.rule siege.now to }
+fn risky_step<R: Rules>(king_attack: &KingAttack, targets: &OpenTargets, to: Square) -> Squares
+    requires { AreOpenTargets king_attack.now.men targets.now }
+    ensures { (bit_at result to == 1) ≡ false → IsSparedStep R.rule king_attack.now to }
 {
     // For the proof: a square's number is below 64.
     let _small = to.index();
-    if keeps_flight_at::<R>(siege, targets, to) {
+    if keeps_flight_at::<R>(king_attack, targets, to) {
         return 0;
     }
     let step = only(Some(to));
-    if contains(siege.hurdles, to) {
+    if contains(king_attack.hurdles, to) {
         return step;
     }
-    step & risk_at(siege, to).critical
+    step & risk_at(king_attack, to).critical
 }
 
 // Returns which of the steps might allow mate.
 #[tactic(auto, using(chess_attacks::proofs::HoldTaken::taken_all, chess_attacks::proofs::HoldTaken::taken_none, chess_attacks::proofs::HoldTaken::rest_falls))]
-fn risky_among<R: Rules>(siege: &Siege, targets: &OpenTargets, steps: Squares) -> Squares
-    requires { AreOpenTargets siege.now.men targets.now }
+fn risky_among<R: Rules>(king_attack: &KingAttack, targets: &OpenTargets, steps: Squares) -> Squares
+    requires { AreOpenTargets king_attack.now.men targets.now }
     ensures { (t : ℕ) → t < 64 → (bit_at steps t == 1) ≡ true → (bit_at result t == 1) ≡ false
-        → IsSparedStep R.rule siege.now t }
+        → IsSparedStep R.rule king_attack.now t }
 {
     let mut risky = 0u64;
     let mut rest = steps;
-    while let Some(to) = take_first(&mut rest) {
-        let more = risky_step::<R>(siege, targets, to);
+    while let Some(to) = pop_first(&mut rest) {
+        let more = risky_step::<R>(king_attack, targets, to);
         risky |= more;
     }
     risky
@@ -91,33 +92,33 @@ const FEW_STEPS: u32 = 3;
 // Returns the squares that attackers near the region reach, without grasshoppers.
 #[tactic(auto, using(crate::proofs::Hurdles::all_reach))]
 #[inline(always)]
-fn reached_squares(siege: &Siege, region: Squares) -> Squares
-    ensures all { AreReached siege.now.hurdles siege.now.men region
+fn reached_squares(king_attack: &KingAttack, region: Squares) -> Squares
+    ensures all { AreReached king_attack.now.hurdles king_attack.now.men region
         (λ k. not (is_hopper (gait_of k))) result }
     ensures alone { (t : ℕ) → t < 64 → (bit_at result t == 1) ≡ true
-        → IsAttackedOver siege.now.hurdles siege.now.men t }
+        → IsAttackedOver king_attack.now.hurdles king_attack.now.men t }
 {
-    let ridden = ridden_squares(siege.hurdles, &siege.men, region);
-    ridden | leapt_squares(siege.hurdles, &siege.men, region)
+    let ridden = rider_reach(king_attack.hurdles, &king_attack.men, region);
+    ridden | leapt_squares(king_attack.hurdles, &king_attack.men, region)
 }
 
 // Returns whether the attackers' reach decides which steps are legal: they are few, with no grasshopper
 // among them.
 #[tactic(auto, using(crate::proofs::ExactSteps::none_hops))]
-fn tells_steps(siege: &Siege) -> bool
-    ensures { result ≡ true → AreUnhopping siege.now.men }
+fn reports_steps(king_attack: &KingAttack) -> bool
+    ensures { result ≡ true → AreUnhopping king_attack.now.men }
 {
-    siege.men.grasshoppers == 0 && siege.enemies.count_ones() <= MOST_ATTACKERS
+    king_attack.men.grasshoppers == 0 && king_attack.enemies.count_ones() <= MOST_ATTACKERS
 }
 
 // Returns the squares next to the king; in Circe only the empty ones.
 #[tactic(auto, using(chess_attacks::proofs::Bits::word_has))]
-fn plain_squares<R: Rules>(siege: &Siege) -> Squares
-    ensures { (t : ℕ) → t < 64 → (bit_at result t == 1) ≡ true → IsPlainStep R.rule siege.now t }
+fn plain_squares<R: Rules>(king_attack: &KingAttack) -> Squares
+    ensures { (t : ℕ) → t < 64 → (bit_at result t == 1) ≡ true → IsPlainStep R.rule king_attack.now t }
 {
-    let near = king_leaps(siege.king);
+    let near = king_leaps(king_attack.king);
     if R::captures_do_more() {
-        return near & !siege.hurdles;
+        return near & !king_attack.hurdles;
     }
     near
 }
@@ -126,66 +127,66 @@ fn plain_squares<R: Rules>(siege: &Siege) -> Squares
 // Madrasi, not for few squares, and not if the king may castle or, in Circe, capture on one of them.
 #[tactic(auto, using(crate::proofs::ExactSteps::unreached_are))]
 #[inline(always)]
-pub(crate) fn exact_steps<R: Rules>(siege: &Siege, squares: Squares) -> Option<Squares>
-    ensures { IfSome result (λ w. AreExactSteps R.rule siege.now squares w) }
+pub(crate) fn exact_steps<R: Rules>(king_attack: &KingAttack, squares: Squares) -> Option<Squares>
+    ensures { IfSome result (λ w. AreExactSteps R.rule king_attack.now squares w) }
 {
-    if squares.count_ones() < FEW_STEPS || R::faced_men_stand_still() || !tells_steps(siege) {
+    if squares.count_ones() < FEW_STEPS || R::like_men_paralyse() || !reports_steps(king_attack) {
         return None;
     }
-    if squares & !plain_squares::<R>(siege) != 0 {
+    if squares & !plain_squares::<R>(king_attack) != 0 {
         return None;
     }
-    Some(squares & !reached_squares(siege, squares))
+    Some(squares & !reached_squares(king_attack, squares))
 }
 
 // Returns the steps without those to an empty attacked square, which are illegal unless attackers may be
 // paralysed. If `exact_steps` has already selected the legal steps, they are returned unchanged.
 #[tactic(auto, using(crate::proofs::Barring::barred_is))]
-fn unbarred_steps<R: Rules>(siege: &Siege, steps: Squares) -> Squares
+fn unbarred_steps<R: Rules>(king_attack: &KingAttack, steps: Squares) -> Squares
     ensures { (t : ℕ) → t < 64 → (bit_at steps t == 1) ≡ true
-        → (bit_at result t == 1) ≡ false → IsBarred R.rule siege.now t }
+        → (bit_at result t == 1) ≡ false → IsBarred R.rule king_attack.now t }
 {
-    if steps.count_ones() < FEW_STEPS || R::faced_men_stand_still() {
+    if steps.count_ones() < FEW_STEPS || R::like_men_paralyse() {
         return steps;
     }
-    if !R::captures_do_more() && tells_steps(siege) {
+    if !R::captures_do_more() && reports_steps(king_attack) {
         return steps;
     }
-    steps & (siege.hurdles | !reached_squares(siege, steps))
+    steps & (king_attack.hurdles | !reached_squares(king_attack, steps))
 }
 
 // Returns which of the steps might allow mate; the steps are legal ones and perhaps others.
 #[tactic(auto, using(chess_attacks::proofs::Basics::cases_Bool))]
-fn risky_steps<R: Rules>(siege: &Siege, targets: &OpenTargets, steps: Squares) -> Squares
-    requires { AreOpenTargets siege.now.men targets.now }
+fn risky_steps<R: Rules>(king_attack: &KingAttack, targets: &OpenTargets, steps: Squares) -> Squares
+    requires { AreOpenTargets king_attack.now.men targets.now }
     ensures { (t : ℕ) → t < 64 → (bit_at steps t == 1) ≡ true → (bit_at result t == 1) ≡ false
-        → IsSettledStep R.rule siege.now t }
+        → IsDecidedStep R.rule king_attack.now t }
 {
-    let unbarred = unbarred_steps::<R>(siege, steps);
-    risky_among::<R>(siege, targets, unbarred)
+    let unbarred = unbarred_steps::<R>(king_attack, steps);
+    risky_among::<R>(king_attack, targets, unbarred)
 }
 
 // Returns which of the steps might allow mate, from `kept` if it is for these steps, and keeps them
 // for the next call.
-pub(crate) fn kept_risky_steps<R: Rules>(
-    siege: &Siege,
+pub(crate) fn cached_risky_steps<R: Rules>(
+    king_attack: &KingAttack,
     targets: &OpenTargets,
-    kept: &mut ToldSteps,
+    kept: &mut StepCache,
     steps: Squares,
 ) -> Squares
-    requires targets { AreOpenTargets siege.now.men targets.now }
-    requires kept { AreToldSteps siege.now kept.old }
+    requires targets { AreOpenTargets king_attack.now.men targets.now }
+    requires kept { IsStepCacheOf king_attack.now kept.old }
     ensures risky { (t : ℕ) → t < 64 → (bit_at steps t == 1) ≡ true
-        → (bit_at result t == 1) ≡ false → IsSettledStep R.rule siege.now t }
-    ensures kept { AreToldSteps siege.now kept.new }
+        → (bit_at result t == 1) ≡ false → IsDecidedStep R.rule king_attack.now t }
+    ensures kept { IsStepCacheOf king_attack.now kept.new }
 {
-    let stand_still = R::faced_men_stand_still();
+    let stand_still = R::like_men_paralyse();
     let do_more = R::captures_do_more();
     if kept.steps == steps && kept.stand_still == stand_still && kept.do_more == do_more {
         return kept.risky;
     }
-    let risky = risky_steps::<R>(siege, targets, steps);
-    *kept = ToldSteps {
+    let risky = risky_steps::<R>(king_attack, targets, steps);
+    *kept = StepCache {
         steps,
         stand_still,
         do_more,
@@ -196,13 +197,13 @@ pub(crate) fn kept_risky_steps<R: Rules>(
 
 // Returns the square if the king may keep no flight after its step there.
 #[tactic(auto, using(crate::proofs::Sparing::one_square))]
-fn flightless_step<R: Rules>(siege: &Siege, targets: &OpenTargets, to: Square) -> Squares
-    requires { AreOpenTargets siege.now.men targets.now }
-    ensures { (bit_at result to == 1) ≡ false → KeepsFlight R.rule siege.now to }
+fn flightless_step<R: Rules>(king_attack: &KingAttack, targets: &OpenTargets, to: Square) -> Squares
+    requires { AreOpenTargets king_attack.now.men targets.now }
+    ensures { (bit_at result to == 1) ≡ false → KeepsFlight R.rule king_attack.now to }
 {
     // For the proof: a square's number is below 64.
     let _small = to.index();
-    if keeps_flight_at::<R>(siege, targets, to) {
+    if keeps_flight_at::<R>(king_attack, targets, to) {
         return 0;
     }
     only(Some(to))
@@ -211,18 +212,18 @@ fn flightless_step<R: Rules>(siege: &Siege, targets: &OpenTargets, to: Square) -
 // Returns the steps after which the king may keep no flight.
 #[tactic(auto, using(chess_attacks::proofs::HoldTaken::taken_all, chess_attacks::proofs::HoldTaken::taken_none, chess_attacks::proofs::HoldTaken::rest_falls))]
 pub(crate) fn flightless_steps<R: Rules>(
-    siege: &Siege,
+    king_attack: &KingAttack,
     targets: &OpenTargets,
     steps: Squares,
 ) -> Squares
-    requires { AreOpenTargets siege.now.men targets.now }
+    requires { AreOpenTargets king_attack.now.men targets.now }
     ensures { (t : ℕ) → t < 64 → (bit_at steps t == 1) ≡ true → (bit_at result t == 1) ≡ false
-        → KeepsFlight R.rule siege.now t }
+        → KeepsFlight R.rule king_attack.now t }
 {
     let mut flightless = 0u64;
     let mut rest = steps;
-    while let Some(to) = take_first(&mut rest) {
-        let more = flightless_step::<R>(siege, targets, to);
+    while let Some(to) = pop_first(&mut rest) {
+        let more = flightless_step::<R>(king_attack, targets, to);
         flightless |= more;
     }
     flightless

@@ -5,34 +5,34 @@ ghost use Rattle.std.specs.Int.{bit_at};
 ghost use Rattle.chess_core.specs.Position.{Position, king_square};
 ghost use Rattle.chess_core.specs.WellFormed.{IsWellFormed};
 ghost use Rattle.chess_core.specs.declared.man.Move.{Move};
-ghost use Rattle.chess_mates.specs.ties.Mates.{mates_behind};
-ghost use Rattle.chess_mates.specs.declared.siege.Siege.{Siege};
-ghost use Rattle.chess_mates.specs.ties.Siege.{AreThreats, IsRiskBehind, IsSafeMove, IsSiege, IsWhole};
-ghost use Rattle.chess_mates.specs.ties.Threats.{AreMere, ArePlain, AreRisky, AreThreatsOf, IsPassing, IsTold};
+ghost use Rattle.chess_mates.specs.ties.Mates.{mates_after};
+ghost use Rattle.chess_mates.specs.declared.king_attack.KingAttack.{KingAttack};
+ghost use Rattle.chess_mates.specs.ties.KingAttack.{AreThreats, IsRiskAfterLeaving, IsSafeMove, IsKingAttack, IsWhole};
+ghost use Rattle.chess_mates.specs.ties.Threats.{AreMere, ArePlain, AreRisky, AreThreatsOf, IsPassing, IsKnown};
 ghost use Rattle.chess_rules.specs.Legal.{is_legal};
 ghost use Rattle.chess_rules.specs.Play.{position_after};
 ghost use Rattle.chess_attacks.specs.RuleSet.{captures_do_more};
-ghost use Rattle.chess_rules.specs.ties.Targets.{may_go};
+ghost use Rattle.chess_rules.specs.ties.Targets.{may_arrive};
 
-use crate::field::{needed_squares, tell_targets};
+use crate::king_attack::{KingAttack, is_of, king_attack_of};
+use crate::king_zone::{compute_targets, needed_squares};
 use crate::lasting_flights::{LAST_RANKS, OpenTargets};
 use crate::pawn_approaches::capturers_before;
-use crate::risk::{Risk, RiskBehind, critical_from, kept_risk};
-use crate::siege::{Siege, is_of, siege_of};
-use crate::steps::{ToldSteps, exact_steps, kept_risky_steps};
+use crate::risk::{Risk, RiskAfterLeaving, cached_risk, critical_from};
+use crate::steps::{StepCache, cached_risky_steps, exact_steps};
 use chess_attacks::leaps::{king_leaps, pawn_advances};
 use chess_attacks::rules::Rules;
 use chess_attacks::words::only;
 use chess_core::board::Board;
 use chess_core::man::{Colour, Kind, Man, Move};
 use chess_core::square::{Square, Squares};
-use chess_rules::sift::Sift;
+use chess_rules::filter_moves::FilteredMoves;
 use std::marker::Model;
 
 // Returns the squares more than a step away, if an enemy pawn could capture on the square right ahead of a
 // pawn on `from`; otherwise nothing.
 fn contested_squares(board: &Board, man: Man, from: Square) -> Squares
-    ensures { (m : Move) → m.from ≡ from → m.to < 64 → may_go board.now man from m.to ≡ true
+    ensures { (m : Move) → m.from ≡ from → m.to < 64 → may_arrive board.now man from m.to ≡ true
         → (bit_at result m.to == 1) ≡ false → IsPassing board.now man m }
 {
     // For the proof: a square's number is below 64.
@@ -107,33 +107,33 @@ fn unkept_squares<R: Rules>(needed: Squares, squares: Squares) -> Squares
 // allow mate. It computes the risk only if there are squares.
 #[inline(always)]
 fn critical_of(
-    siege: &Siege,
+    king_attack: &KingAttack,
     risk: &mut Option<Risk>,
-    behind: &mut Option<RiskBehind>,
+    following: &mut Option<RiskAfterLeaving>,
     from: Square,
     squares: Squares,
 ) -> Squares
-    requires siege { IsSiege siege.now }
-    requires whole { IsWhole siege.now }
-    requires risk { IfSome risk.old (λ r. AreThreats siege.now r) }
-    requires behind { IfSome behind.old (λ b. IsRiskBehind siege.now b.from b.risk) }
+    requires king_attack { IsKingAttack king_attack.now }
+    requires whole { IsWhole king_attack.now }
+    requires risk { IfSome risk.old (λ r. AreThreats king_attack.now r) }
+    requires following { IfSome following.old (λ b. IsRiskAfterLeaving king_attack.now b.from b.risk) }
     ensures safe { (t : ℕ) → (bit_at squares t == 1) ≡ true → (bit_at result t == 1) ≡ false
-        → IsSafeMove siege.now from t }
-    ensures risk { IfSome risk.new (λ r. AreThreats siege.now r) }
-    ensures behind { IfSome behind.new (λ b. IsRiskBehind siege.now b.from b.risk) }
+        → IsSafeMove king_attack.now from t }
+    ensures risk { IfSome risk.new (λ r. AreThreats king_attack.now r) }
+    ensures following { IfSome following.new (λ b. IsRiskAfterLeaving king_attack.now b.from b.risk) }
 {
     if squares == 0 {
         return 0;
     }
-    let told = kept_risk(siege, risk);
-    critical_from(siege, &told, behind, from, squares)
+    let reported = cached_risk(king_attack, risk);
+    critical_from(king_attack, &reported, following, from, squares)
 }
 
 /// The threats of the side that isn't to move, computed once for a position: for each man of the other
 /// side, the squares where its arrival might allow mate.
 #[derive(Drop)]
 pub struct Threats {
-    siege: Siege,
+    king_attack: KingAttack,
     // The attackers' targets on an otherwise empty board.
     targets: OpenTargets,
     // The squares where another man's arrival might leave the king without a flight; they serve all rules
@@ -142,68 +142,68 @@ pub struct Threats {
     // The king's risk, computed when it is first needed.
     risk: Option<Risk>,
     // The risk for the last man that left a line.
-    behind: Option<RiskBehind>,
+    following: Option<RiskAfterLeaving>,
     // The last steps of the king that were computed.
-    steps: ToldSteps,
+    steps: StepCache,
 }
 
 impl Model for Threats {
     ghost use Rattle.std.specs.Prelude.{IfSome};
     ghost use Rattle.chess_mates.specs.ties.LastingFlights.{AreOpenTargets};
-    ghost use Rattle.chess_mates.specs.ties.Siege.{AreNeeded, AreThreats, AreToldSteps, IsRiskBehind, IsSiege, IsWhole};
-    ghost use Rattle.chess_mates.specs.ties.Threats.{ToldThreats};
+    ghost use Rattle.chess_mates.specs.ties.KingAttack.{AreNeeded, AreThreats, IsStepCacheOf, IsRiskAfterLeaving, IsKingAttack, IsWhole};
+    ghost use Rattle.chess_mates.specs.ties.Threats.{ThreatsSeen};
 
-    ghost Value = { ToldThreats };
+    ghost Value = { ThreatsSeen };
 
-    ghost view = { λ t. record { siege = t.siege } };
+    ghost view = { λ t. record { king_attack = t.king_attack } };
 
-    ghost invariant = { λ t. IsSiege t.siege × IsWhole t.siege
-        × AreOpenTargets t.siege.men t.targets
-        × AreNeeded t.siege t.needed
-        × IfSome t.risk (λ r. AreThreats t.siege r)
-        × IfSome t.behind (λ b. IsRiskBehind t.siege b.from b.risk)
-        × AreToldSteps t.siege t.steps };
+    ghost invariant = { λ t. IsKingAttack t.king_attack × IsWhole t.king_attack
+        × AreOpenTargets t.king_attack.men t.targets
+        × AreNeeded t.king_attack t.needed
+        × IfSome t.risk (λ r. AreThreats t.king_attack r)
+        × IfSome t.following (λ b. IsRiskAfterLeaving t.king_attack b.from b.risk)
+        × IsStepCacheOf t.king_attack t.steps };
 }
 
 impl Threats {
     /// Computes the threats to the king of the side to move, which is on this square.
     pub fn of<R: Rules>(board: &Board, king: Square) -> Threats
-        ensures { IsWellFormed board.now → IsTold R.rule
+        ensures { IsWellFormed board.now → IsKnown R.rule
             → king_square board.now.men board.now.turn ≡ Some king
             → AreThreatsOf R.rule board.now result }
     {
-        let siege = siege_of::<R>(board, king);
-        let mut targets = OpenTargets::untold();
-        tell_targets::<R>(&siege, &mut targets);
+        let king_attack = king_attack_of::<R>(board, king);
+        let mut targets = OpenTargets::unknown();
+        compute_targets::<R>(&king_attack, &mut targets);
         Threats {
-            needed: needed_squares(&siege, &targets),
+            needed: needed_squares(&king_attack, &targets),
             targets,
-            siege,
+            king_attack,
             risk: None,
-            behind: None,
-            steps: ToldSteps::none(),
+            following: None,
+            steps: StepCache::none(),
         }
     }
 
     /// Computes the threats to the king of the side to move, which is on this square, in place of the old
     /// ones.
-    pub fn retell<R: Rules>(&mut self, board: &Board, king: Square)
-        ensures { IsWellFormed board.now → IsTold R.rule
+    pub fn recompute<R: Rules>(&mut self, board: &Board, king: Square)
+        ensures { IsWellFormed board.now → IsKnown R.rule
             → king_square board.now.men board.now.turn ≡ Some king
             → AreThreatsOf R.rule board.now self.new }
     {
-        self.siege = siege_of::<R>(board, king);
-        tell_targets::<R>(&self.siege, &mut self.targets);
-        self.needed = needed_squares(&self.siege, &self.targets);
+        self.king_attack = king_attack_of::<R>(board, king);
+        compute_targets::<R>(&self.king_attack, &mut self.targets);
+        self.needed = needed_squares(&self.king_attack, &self.targets);
         self.risk = None;
-        self.behind = None;
-        self.steps = ToldSteps::none();
+        self.following = None;
+        self.steps = StepCache::none();
     }
 
     /// Returns whether threats can be computed under these rules: captures only remove men, which may be
     /// reborn.
-    pub fn are_told<R: Rules>() -> bool
-        ensures { result ≡ true → IsTold R.rule }
+    pub fn are_known<R: Rules>() -> bool
+        ensures { result ≡ true → IsKnown R.rule }
     {
         !R::captures_do_more() || R::captures_are_reborn()
     }
@@ -214,7 +214,7 @@ impl Threats {
         requires { IsWellFormed board.now }
         ensures { result ≡ true → AreThreatsOf R.rule board.now self.now }
     {
-        Threats::are_told::<R>() && is_of::<R>(&self.siege, board)
+        Threats::are_known::<R>() && is_of::<R>(&self.king_attack, board)
     }
 
     /// Returns the risky squares among `squares`: where the arrival of the man on `from` by a legal move might allow
@@ -241,12 +241,23 @@ impl Threats {
         let unplain = unplain_squares::<R>(board, man, from);
         if man.kind.is(Kind::King) {
             let steps = squares & !unplain;
-            let risky = kept_risky_steps::<R>(&self.siege, &self.targets, &mut self.steps, steps);
+            let risky = cached_risky_steps::<R>(
+                &self.king_attack,
+                &self.targets,
+                &mut self.steps,
+                steps,
+            );
             return squares & (unplain | risky);
         }
         let left = unkept_squares::<R>(self.needed, squares);
         let others = left & !unplain;
-        let critical = critical_of(&self.siege, &mut self.risk, &mut self.behind, from, others);
+        let critical = critical_of(
+            &self.king_attack,
+            &mut self.risk,
+            &mut self.following,
+            from,
+            others,
+        );
         left & (unplain | critical)
     }
 
@@ -259,7 +270,7 @@ impl Threats {
     {
         // For the proof: a square's number is below 64.
         let _small = from.index();
-        if from == self.siege.king {
+        if from == self.king_attack.king {
             return false;
         }
         !R::captures_do_more() && squares & self.needed == 0
@@ -271,8 +282,8 @@ impl Threats {
         requires well_formed { IsWellFormed board.now }
         requires legal { is_legal R.rule board.now m.now ≡ true }
         requires threats { AreThreatsOf R.rule board.now self.old }
-        ensures settled { result ≡ true
-            → mates_behind R.rule (position_after R.rule board.now m.now) 0 ≡ [] }
+        ensures is_decided { result ≡ true
+            → mates_after R.rule (position_after R.rule board.now m.now) 0 ≡ [] }
         ensures same { self.new ≡ self.old }
     {
         // For the proof: a square's number is below 64.
@@ -281,7 +292,7 @@ impl Threats {
     }
 }
 
-impl Sift for Threats {
+impl FilteredMoves for Threats {
     ghost use Rattle.chess_mates.specs.ties.Mates.{allows_mate};
     ghost use Rattle.chess_mates.specs.ties.Threats.{AreThreatsOf};
 
@@ -289,23 +300,23 @@ impl Sift for Threats {
 
     ghost fits = { λ t rule p. AreThreatsOf rule p t };
 
-    fn sift<R: Rules>(&mut self, board: &Board, from: Square, squares: Squares) -> Squares {
+    fn filter_moves<R: Rules>(&mut self, board: &Board, from: Square, squares: Squares) -> Squares {
         if self.keep_flights::<R>(from, squares) {
             return 0;
         }
         self.risky_squares::<R>(board, from, squares)
     }
 
-    #[tactic(auto, using(crate::proofs::ExactSteps::told_exactly))]
+    #[tactic(auto, using(crate::proofs::ExactSteps::known_exactly))]
     fn legal_squares<R: Rules>(
         &self,
         _board: &Board,
         from: Square,
         squares: Squares,
     ) -> Option<Squares> {
-        if from != self.siege.king {
+        if from != self.king_attack.king {
             return None;
         }
-        exact_steps::<R>(&self.siege, squares)
+        exact_steps::<R>(&self.king_attack, squares)
     }
 }

@@ -1,6 +1,6 @@
 -- What the clauses on attacks, lines and targets exclude: small positions where a wrong body would differ
 -- from the definitions.
-use Rattle.chess_rules.proofs.Chess.{AreEvasions, AreEvasionsFrom, Bishop, Black, Bool, Colour, Grasshopper, IsBarrenFrom, Kind, King, Knight, List, Man, Nightrider, Option, Pawn, Position, Queen, Rook, RuleSet, Some, White, [], agree_below_at, along, and_from, ap, arith, bit_at, can_castle, can_go, cannot_expose, cases_lt, drop, faces_its_like, false, false≢true, filter, has_fairy, has_fairy_lines_of, hops, in_check, is_ahead, is_arrival_free, is_behind, is_checker, is_clear, is_evasion, is_legal, is_of_colour, is_on_fairy_line, is_on_some, is_paralysed, is_plain, is_pseudo_legal, is_reached, is_shut, king_square, leaps, madrasi, man_on, may_be_paralysed, may_expose, may_go, may_promote, may_stand_between, moves_between, none_unmoved, not, orthodox, pawn_goes, per_arrival, per_origin, position_after, promotion_at, reaches, reaches_as, refl, rides, rules, sight_after, some_square, squares, steps_to, straight_steps, sym, take, triple_at, triples, true, true_from_ne_false, true≢false, with_unmoved, without_man, word, word_of, ℕ, ◌%◌, ◌&&◌, ◌*◌, ◌+◌, ◌-◌, ◌/◌, ◌<◌, ◌==◌, ◌∙◌, ◌∷◌, ◌≡◌, ◌≤◌}
+use Rattle.chess_rules.proofs.Chess.{AreEvasions, AreEvasionsFrom, Bishop, Black, Bool, Colour, Grasshopper, HasNoMoveFrom, Kind, King, Knight, List, Man, Nightrider, Option, Pawn, Position, Queen, Rook, RuleSet, Some, White, [], agree_below_at, along, and_from, ap, arith, bit_at, can_castle, can_go, cannot_expose, cases_lt, drop, is_attacked_by_like, false, false≢true, filter, has_fairy, has_fairy_lines_of, hops, in_check, is_ahead, is_arrival_free, is_rider_beyond, is_checker, is_clear, is_evasion, is_legal, is_of_colour, is_on_fairy_line, is_on_some, is_paralysed, is_plain, is_pseudo_legal, is_reached, is_blocking, king_square, leaps, madrasi, man_on, may_be_paralysed, may_expose, may_arrive, may_promote, may_be_hurdle, moves_between, none_unmoved, not, orthodox, pawn_steps_to, per_arrival, per_origin, position_after, promotion_at, reaches, reaches_as, refl, rides, rules, sight_after, some_square, squares, steps_to, straight_steps, sym, take, triple_at, triples, true, true_from_ne_false, true≢false, with_unmoved, without_man, word, word_of, ℕ, ◌%◌, ◌&&◌, ◌*◌, ◌+◌, ◌-◌, ◌/◌, ◌<◌, ◌==◌, ◌∙◌, ◌∷◌, ◌≡◌, ◌≤◌}
 use Rattle.chess_attacks.proofs.rays.OnSquares.{on_board}
 use Rattle.chess_rules.proofs.attacks.StayingInCheck.{side_there}
 use Rattle.chess_rules.proofs.Typed.{go, man, on, position, promoting, set_up, a1, b1, c1, d1, e1, g1, h1, a2, b2, h2, a3, b3, c3, d3, h3, a4, d5, e4, a5, b6, d6, e5, e7, a8, b8, e8, f8, g8, h8}
@@ -80,16 +80,16 @@ crossing_a_line =
     }
 
 -- he doesn't castle, and would without that rook
-pub no_castling_through_an_attack : (may_go crossing_a_line (man White King) e1 g1 ≡ true)
+pub no_castling_through_an_attack : (may_arrive crossing_a_line (man White King) e1 g1 ≡ true)
     × (can_castle orthodox crossing_a_line (man White King) (go e1 g1) ≡ false) × (can_go orthodox crossing_a_line (man White King) (go e1 g1) ≡ false)
     × (can_castle orthodox (record crossing_a_line { men = without_man crossing_a_line.men f8 }) (man White King) (go e1 g1) ≡ true)
-unfolding may_go steps_to check_after_a_move
+unfolding may_arrive steps_to check_after_a_move
 no_castling_through_an_attack = (refl, refl, refl, refl)
 
 -- a pawn goes two squares from its second rank alone, and to no square that is taken, nor over one
-pub pawn_steps_over_empty_squares : (pawn_goes (position [] White) (man White Pawn) a2 a4 ≡ true)
-    × (pawn_goes (position [] White) (man White Pawn) a3 a5 ≡ false) × (pawn_goes (position (on Black Rook a3 ∷ []) White) (man White Pawn) a2 a3 ≡ false)
-    × (pawn_goes (position (on Black Rook a3 ∷ []) White) (man White Pawn) a2 a4 ≡ false)
+pub pawn_steps_over_empty_squares : (pawn_steps_to (position [] White) (man White Pawn) a2 a4 ≡ true)
+    × (pawn_steps_to (position [] White) (man White Pawn) a3 a5 ≡ false) × (pawn_steps_to (position (on Black Rook a3 ∷ []) White) (man White Pawn) a2 a3 ≡ false)
+    × (pawn_steps_to (position (on Black Rook a3 ∷ []) White) (man White Pawn) a2 a4 ≡ false)
 unfolding along
 pawn_steps_over_empty_squares = (refl, refl, refl, refl)
 
@@ -159,7 +159,7 @@ men_check_along_their_lines = (refl, refl, refl, refl, refl, refl)
 
 -- while the rook gives check, a move may expose him even from h2, on none of his lines; a bishop on a8 gives none
 pub any_move_may_leave_a_check : (may_expose (king_and Black Rook a8) White h2 ≡ true) × (may_expose (king_and Black Bishop a8) White h2 ≡ false)
-unfolding may_expose is_reached is_on_fairy_line is_ahead is_on_some is_shut is_behind check_after_a_move
+unfolding may_expose is_reached is_on_fairy_line is_ahead is_on_some is_blocking is_rider_beyond check_after_a_move
 any_move_may_leave_a_check = (refl, refl)
 
 -- after a capture en passant from e5 to d6 neither e5 nor d5 shuts a line, and d6 does; the captured pawn attacks nothing, and a man on b3 may
@@ -219,7 +219,7 @@ abbrev king_faces_king : Position
 king_faces_king = position (on White King a1 ∷ on Black King c3 ∷ []) White
 
 -- so Black's king isn't paralysed and gives check
-pub kings_are_never_paralysed : (faces_its_like (position_after madrasi king_faces_king (go a1 b2)).men (man Black King) c3 ≡ true)
+pub kings_are_never_paralysed : (is_attacked_by_like (position_after madrasi king_faces_king (go a1 b2)).men (man Black King) c3 ≡ true)
     × (is_paralysed madrasi (position_after madrasi king_faces_king (go a1 b2)).men c3 ≡ false)
     × (in_check madrasi (position_after madrasi king_faces_king (go a1 b2)).men White ≡ true)
 unfolding check_after_a_move
@@ -237,7 +237,7 @@ queens_are_paralysed = (refl, refl)
 
 -- what the examples of shields compute with beside it
 lines_to_a_king : Unit {0}
-unfolding may_expose cannot_expose may_stand_between is_on_fairy_line is_plain is_reached is_ahead is_on_some is_shut is_behind
+unfolding may_expose cannot_expose may_be_hurdle is_on_fairy_line is_plain is_reached is_ahead is_on_some is_blocking is_rider_beyond
 lines_to_a_king = tt
 
 -- White Ka1 Rh2, Black Kh8 Ga8: on a2 the rook is the hurdle over which the grasshopper gives check, though the rook stood on no line to
@@ -246,8 +246,8 @@ abbrev hurdle_comes : Position
 hurdle_comes = position (on White King a1 ∷ on White Rook h2 ∷ on Black King h8 ∷ on Black Grasshopper a8 ∷ []) White
 
 -- so the move to a2 uncovers the king: the arrival tells, the origin doesn't
-pub arriving_man_is_a_hurdle : (may_expose hurdle_comes.men White h2 ≡ false) × (may_stand_between hurdle_comes.men White h2 ≡ false)
-    × (may_stand_between hurdle_comes.men White a2 ≡ true) × (cannot_expose orthodox hurdle_comes White (go h2 a2) ≡ false)
+pub arriving_man_is_a_hurdle : (may_expose hurdle_comes.men White h2 ≡ false) × (may_be_hurdle hurdle_comes.men White h2 ≡ false)
+    × (may_be_hurdle hurdle_comes.men White a2 ≡ true) × (cannot_expose orthodox hurdle_comes White (go h2 a2) ≡ false)
     × (is_pseudo_legal orthodox hurdle_comes (go h2 a2) ≡ true) × (in_check orthodox hurdle_comes.men White ≡ false)
     × (in_check orthodox (position_after orthodox hurdle_comes (go h2 a2)).men White ≡ true)
 unfolding lines_to_a_king check_after_a_move
@@ -258,7 +258,7 @@ abbrev hurdle_goes : Position
 hurdle_goes = position (on White King a1 ∷ on White Rook a2 ∷ on White Knight a4 ∷ on Black King h8 ∷ on Black Grasshopper a8 ∷ []) White
 
 -- so a move from a4 may uncover the king, and Na4-b6 does
-pub leaving_man_opens_a_hop : (is_shut hurdle_goes.men Black Rook straight_steps a1 a4 ≡ false) × (may_stand_between hurdle_goes.men Black a4 ≡ false)
+pub leaving_man_opens_a_hop : (is_blocking hurdle_goes.men Black Rook straight_steps a1 a4 ≡ false) × (may_be_hurdle hurdle_goes.men Black a4 ≡ false)
     × (may_expose hurdle_goes.men White a4 ≡ true) × (is_pseudo_legal orthodox hurdle_goes (go a4 b6) ≡ true)
     × (in_check orthodox hurdle_goes.men White ≡ false) × (in_check orthodox (position_after orthodox hurdle_goes (go a4 b6)).men White ≡ true)
 unfolding lines_to_a_king check_after_a_move
@@ -269,8 +269,8 @@ abbrev shut_nightrider : Kind → Position
 shut_nightrider k = position (on White King c1 ∷ on White Bishop d3 ∷ on Black King h8 ∷ on Black k e5 ∷ []) White
 
 -- so d3 lies on a fairy line to the king, on none with a knight, and Bd3-e4 uncovers him
-pub nightriders_line_is_shut : (may_stand_between (shut_nightrider Nightrider).men White d3 ≡ true)
-    × (may_stand_between (shut_nightrider Knight).men White d3 ≡ false)
+pub nightriders_line_is_shut : (may_be_hurdle (shut_nightrider Nightrider).men White d3 ≡ true)
+    × (may_be_hurdle (shut_nightrider Knight).men White d3 ≡ false)
     × (is_pseudo_legal orthodox (shut_nightrider Nightrider) (go d3 e4) ≡ true) × (in_check orthodox (shut_nightrider Nightrider).men White ≡ false)
     × (in_check orthodox (position_after orthodox (shut_nightrider Nightrider) (go d3 e4)).men White ≡ true)
 unfolding lines_to_a_king check_after_a_move
@@ -278,19 +278,19 @@ nightriders_line_is_shut = (refl, refl, refl, refl, refl)
 
 -- a stretch without a move ends before a move to one of the word's squares
 ends_at : (p : Position) (s w k b : ℕ) → (bit_at w (k / per_arrival) == 1) ≡ true
-    → is_pseudo_legal orthodox p (record { from = s; to = k / per_arrival; promo = promotion_at (k % per_arrival) }) ≡ true → IsBarrenFrom p s w 0 b → b ≤ k
+    → is_pseudo_legal orthodox p (record { from = s; to = k / per_arrival; promo = promotion_at (k % per_arrival) }) ≡ true → HasNoMoveFrom p s w 0 b → b ≤ k
 ends_at p s w k b on may barren = grind (arith, cases_lt, false≢true)
 
 -- of a rook on a1 to b1, and of a pawn that becomes a queen on e8
-pub stretch_ends_at_a_move : (w b : ℕ) → (bit_at w b1 == 1) ≡ true → IsBarrenFrom (position (on White Rook a1 ∷ []) White) a1 w 0 b → b ≤ per_arrival
+pub move_stage_ends_at_a_move : (w b : ℕ) → (bit_at w b1 == 1) ≡ true → HasNoMoveFrom (position (on White Rook a1 ∷ []) White) a1 w 0 b → b ≤ per_arrival
 unfolding check_after_a_move
-stretch_ends_at_a_move w b there barren = ends_at (position (on White Rook a1 ∷ []) White) a1 w 7 b there refl barren
+move_stage_ends_at_a_move w b there barren = ends_at (position (on White Rook a1 ∷ []) White) a1 w 7 b there refl barren
 
 -- of a pawn on e7 to e8, where it becomes a queen
-pub stretch_ends_at_a_promotion : (w b : ℕ) → (bit_at w e8 == 1) ≡ true → IsBarrenFrom (position (on White Pawn e7 ∷ []) White) e7 w 0 b
+pub move_stage_ends_at_a_promotion : (w b : ℕ) → (bit_at w e8 == 1) ≡ true → HasNoMoveFrom (position (on White Pawn e7 ∷ []) White) e7 w 0 b
     → b ≤ per_arrival * e8 + 1
 unfolding check_after_a_move
-stretch_ends_at_a_promotion w b there barren = ends_at (position (on White Pawn e7 ∷ []) White) e7 w (per_arrival * e8 + 1) b there refl barren
+move_stage_ends_at_a_promotion w b there barren = ends_at (position (on White Pawn e7 ∷ []) White) e7 w (per_arrival * e8 + 1) b there refl barren
 
 -- no move lies between a place and itself
 pub no_move_lies_between : (rule : RuleSet) (p : Position) (a : ℕ) → moves_between rule p a a ≡ []

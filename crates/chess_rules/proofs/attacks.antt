@@ -1,6 +1,6 @@
 -- What attacks a square, before and after a move.
 pub mod FairyLines
-pub mod Shielding
+pub mod Blocking
 pub mod Seeing
 pub mod Exposing
 pub mod StayingInCheck

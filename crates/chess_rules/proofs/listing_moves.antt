@@ -10,5 +10,5 @@ pub mod Between
 pub mod Counting
 pub mod SurelyLegal
 pub mod Triples
-pub mod Sifting
+pub mod Filtering
 pub mod OtherMoves

@@ -5,7 +5,7 @@ pub mod Games
 pub mod Idle
 pub mod Places
 pub mod Playing
-pub mod Shields
-pub mod Sifting
+pub mod Blockers
+pub mod Filtering
 pub mod Targets
 pub mod Undoing

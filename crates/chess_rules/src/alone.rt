@@ -4,7 +4,7 @@ ghost use Rattle.chess_core.specs.WellFormed.{IsWellFormed};
 ghost use Rattle.chess_rules.specs.Legal.{is_legal, is_pseudo_legal};
 ghost use Rattle.chess_rules.specs.ties.Targets.{IsAimed};
 
-use crate::exposure::exposes;
+use crate::exposure::leaves_king_in_check;
 use crate::legal::is_pseudo_legal;
 use crate::targets::{arrivals, is_promoting};
 use chess_attacks::rules::Rules;
@@ -28,10 +28,12 @@ fn is_aimed<R: Rules>(board: &Board, m: &Move) -> bool
 
 // Returns whether the move is legal. The board is unchanged.
 #[tactic(auto, unfolding(crate::specs::Legal::is_legal))]
-pub(crate) fn is_legal_alone<R: Rules>(board: &mut Board, m: Move) -> bool
+pub(crate) fn is_single_move_legal<R: Rules>(board: &mut Board, m: Move) -> bool
     requires well_formed { IsWellFormed board.old }
     ensures answer { result ≡ is_legal R.rule board.old m }
     ensures board { board.new ≡ board.old }
 {
-    is_aimed::<R>(board, &m) && is_pseudo_legal::<R>(board, &m) && !exposes::<R>(board, m)
+    is_aimed::<R>(board, &m)
+        && is_pseudo_legal::<R>(board, &m)
+        && !leaves_king_in_check::<R>(board, m)
 }

@@ -6,19 +6,19 @@ ghost use Rattle.chess_core.specs.WellFormed.{IsWellFormed};
 ghost use Rattle.chess_core.specs.declared.man.Kind.TheVariants.{Pawn};
 ghost use Rattle.chess_core.specs.ties.Words.{word};
 ghost use Rattle.chess_rules.specs.Legal.{is_legal};
-ghost use Rattle.chess_rules.specs.ties.Counting.{AreGiven, AreLegal, IsKnownIn, is_unsure};
+ghost use Rattle.chess_rules.specs.ties.Counting.{AreKnownCandidates, AreLegal, IsKnownIn, is_untested};
 ghost use Rattle.chess_rules.specs.ties.Places.{moves_between, per_origin};
-ghost use Rattle.chess_rules.specs.ties.Shields.{may_expose};
+ghost use Rattle.chess_rules.specs.ties.Blockers.{may_expose};
 ghost use Rattle.chess_rules.specs.ties.Targets.{AreCandidates};
 
-use crate::evasions::eventful_captures;
+use crate::blockers::fairy_lines;
+use crate::evasions::rebirth_captures;
 use crate::legal::is_legal;
-use crate::legal_moves::Known;
+use crate::legal_moves::LegalityMasks;
 use crate::moves::triple;
-use crate::shields::fairy_lines;
 use crate::targets::{PER_ARRIVAL, PER_ORIGIN, next_from, promoting_squares};
 use chess_attacks::rules::Rules;
-use chess_attacks::words::{contains, only, squares_from, take_first};
+use chess_attacks::words::{contains, only, pop_first, squares_from};
 use chess_core::board::Board;
 use chess_core::man::{Colour, Kind, Man, Move};
 use chess_core::square::{Square, Squares};
@@ -52,26 +52,26 @@ fn count_from(word: Squares, from: u8) -> u16
 // Returns the squares where a move of this man, not a king, needs a test of its own: those on fairy lines
 // of its king, and the squares of en passant, rebirth and promotion.
 #[tactic(auto, using(crate::proofs::listing_moves::SurelyLegal::unsure_word))]
-fn unsure_squares<R: Rules>(board: &Board, man: Man) -> Squares
-    ensures { result ≡ word (is_unsure R.rule board.now man) }
+fn untested_squares<R: Rules>(board: &Board, man: Man) -> Squares
+    ensures { result ≡ word (is_untested R.rule board.now man) }
 {
     fairy_lines(board, board.turn())
         | only(board.crossed())
-        | eventful_captures::<R>(board)
+        | rebirth_captures::<R>(board)
         | promoting_squares(man)
 }
 
 // Returns whether all moves of the man on `from` to these squares are certainly legal and none promotes.
-// `shield_squares` are the squares from which a move may expose the mover's king.
+// `blocker_squares` are the squares from which a move may expose the mover's king.
 #[tactic(auto, using(crate::proofs::listing_moves::SurelyLegal::surely_legal))]
 fn are_surely_legal<R: Rules>(
     board: &Board,
-    shield_squares: Squares,
+    blocker_squares: Squares,
     from: Square,
     squares: Squares,
 ) -> bool
     requires well_formed { IsWellFormed board.now }
-    requires shield_squares { shield_squares ≡ word (may_expose board.now.men board.now.turn) }
+    requires blocker_squares { blocker_squares ≡ word (may_expose board.now.men board.now.turn) }
     requires squares { AreCandidates R.rule board.now (is_legal R.rule board.now) from squares }
     ensures { result ≡ true → AreLegal R.rule board.now from squares }
 {
@@ -86,27 +86,27 @@ fn are_surely_legal<R: Rules>(
     if man.kind.is(Kind::King) {
         return false;
     }
-    if contains(shield_squares, from) {
+    if contains(blocker_squares, from) {
         return false;
     }
-    squares & unsure_squares::<R>(board, man) == 0
+    squares & untested_squares::<R>(board, man) == 0
 }
 
 // Returns whether all moves of the man on `from` to the candidate squares are certainly legal, without a
 // test if `given` says so.
 fn are_known_legal<R: Rules>(
     board: &Board,
-    shield_squares: Squares,
+    blocker_squares: Squares,
     from: Square,
     given: Candidates,
 ) -> bool
     requires well_formed { IsWellFormed board.now }
-    requires shield_squares { shield_squares ≡ word (may_expose board.now.men board.now.turn) }
-    requires given { AreGiven R.rule board.now from given }
+    requires blocker_squares { blocker_squares ≡ word (may_expose board.now.men board.now.turn) }
+    requires given { AreKnownCandidates R.rule board.now from given }
     ensures { result ≡ true → AreLegal R.rule board.now from given.squares }
 {
     match given.legality {
-        Legality::Open => are_surely_legal::<R>(board, shield_squares, from, given.squares),
+        Legality::Open => are_surely_legal::<R>(board, blocker_squares, from, given.squares),
         Legality::Sure => true,
     }
 }
@@ -117,7 +117,7 @@ fn are_known_legal<R: Rules>(
 #[inline(always)]
 fn count_of_pawn<R: Rules>(
     board: &mut Board,
-    known: Known,
+    known: LegalityMasks,
     squares: Squares,
     from: Square,
     start: u16,
@@ -137,7 +137,7 @@ fn count_of_pawn<R: Rules>(
     let mut at = next_from(board, from, squares, start);
     while at < end {
         let m = triple(first + at);
-        count += u16::from(is_legal::<R>(board, known.shield_squares, known.evasion_squares, m));
+        count += u16::from(is_legal::<R>(board, known.blocker_squares, known.evasion_squares, m));
         at = next_from(board, from, squares, at + 1);
     }
     count
@@ -149,7 +149,7 @@ fn count_of_pawn<R: Rules>(
 #[inline(always)]
 fn count_of_piece<R: Rules>(
     board: &mut Board,
-    known: Known,
+    known: LegalityMasks,
     squares: Squares,
     from: Square,
     start: u16,
@@ -167,7 +167,7 @@ fn count_of_piece<R: Rules>(
 {
     let mut count = 0u16;
     let mut rest = squares_from(squares, ((start + PER_ARRIVAL - 1) / PER_ARRIVAL) as u8);
-    while let Some(to) = take_first(&mut rest) {
+    while let Some(to) = pop_first(&mut rest) {
         if u16::from(to.index()) * PER_ARRIVAL >= end {
             return count;
         }
@@ -176,7 +176,7 @@ fn count_of_piece<R: Rules>(
             to,
             promo: None,
         };
-        let legal = is_legal::<R>(board, known.shield_squares, known.evasion_squares, m);
+        let legal = is_legal::<R>(board, known.blocker_squares, known.evasion_squares, m);
         count += u16::from(legal);
     }
     count
@@ -188,7 +188,7 @@ fn count_of_piece<R: Rules>(
 #[tactic(auto, using(chess_attacks::proofs::Bits::word_has), unfolding(chess_core::specs::ties::Words::squares_of))]
 fn count_one_by_one<R: Rules>(
     board: &mut Board,
-    known: Known,
+    known: LegalityMasks,
     squares: Squares,
     from: Square,
     start: u16,
@@ -216,7 +216,7 @@ fn count_one_by_one<R: Rules>(
 #[inline(always)]
 pub(crate) fn count_origin<R: Rules>(
     board: &mut Board,
-    known: Known,
+    known: LegalityMasks,
     given: Candidates,
     from: Square,
     start: u16,
@@ -224,7 +224,7 @@ pub(crate) fn count_origin<R: Rules>(
 ) -> u16
     requires well_formed { IsWellFormed board.old }
     requires known { IsKnownIn R.rule board.old known }
-    requires given { AreGiven R.rule board.old from given }
+    requires given { AreKnownCandidates R.rule board.old from given }
     requires start { start ≤ end }
     requires end { end ≤ per_origin }
     ensures count { result ≡ length (moves_between R.rule board.old (per_origin * from + start)
@@ -232,14 +232,14 @@ pub(crate) fn count_origin<R: Rules>(
     ensures board { board.new ≡ board.old }
 {
     let squares = given.squares;
-    if are_known_legal::<R>(board, known.shield_squares, from, given) {
+    if are_known_legal::<R>(board, known.blocker_squares, from, given) {
         // Mostly the whole origin is counted, and no division is needed.
         if start == 0 && end == PER_ORIGIN {
             return squares.count_ones() as u16;
         }
         let ahead = count_from(squares, ((start + PER_ARRIVAL - 1) / PER_ARRIVAL) as u8);
-        let behind = count_from(squares, ((end + PER_ARRIVAL - 1) / PER_ARRIVAL) as u8);
-        return ahead.saturating_sub(behind);
+        let following = count_from(squares, ((end + PER_ARRIVAL - 1) / PER_ARRIVAL) as u8);
+        return ahead.saturating_sub(following);
     }
     count_one_by_one::<R>(board, known, squares, from, start, end)
 }

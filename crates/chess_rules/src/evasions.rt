@@ -4,16 +4,16 @@ ghost use Rattle.chess_core.specs.Position.{man_on};
 ghost use Rattle.chess_core.specs.WellFormed.{IsWellFormed};
 ghost use Rattle.chess_core.specs.ties.Words.{word};
 ghost use Rattle.chess_attacks.specs.Attacks.{in_check};
-ghost use Rattle.chess_rules.specs.ties.Evasions.{AreEvasionsFrom, AreEvasions, has_fairy_lines_of, has_like, may_be_paralysed, may_paralyse_anew};
-ghost use Rattle.chess_rules.specs.ties.Shields.{cannot_expose, is_checker, is_plain, may_expose};
+ghost use Rattle.chess_rules.specs.ties.Evasions.{AreEvasionsFrom, AreEvasions, has_fairy_lines_of, has_like, may_be_paralysed, may_paralyse_new_kind};
+ghost use Rattle.chess_rules.specs.ties.Blockers.{cannot_expose, is_checker, is_plain, may_expose};
 ghost use Rattle.chess_rules.specs.Legal.{is_pseudo_legal};
 ghost use Rattle.chess_rules.specs.Play.{position_after};
-ghost use Rattle.chess_attacks.specs.RuleSet.{captures_do_more, faced_men_stand_still};
+ghost use Rattle.chess_attacks.specs.RuleSet.{captures_do_more, like_men_paralyse};
 ghost use Rattle.chess_rules.specs.ties.Targets.{is_promoting};
 
-use crate::exposure::exposes;
-use crate::shields::{cannot_expose, has_fairy_lines, is_plain};
-use crate::targets::{open_targets, promoting_squares};
+use crate::blockers::{cannot_expose, has_fairy_lines, is_plain};
+use crate::exposure::leaves_king_in_check;
+use crate::targets::{promoting_squares, unblocked_targets};
 use chess_attacks::lines::occupied;
 use chess_attacks::reach::reach_as;
 use chess_attacks::rules::Rules;
@@ -48,7 +48,7 @@ fn has_like(board: &Board, colour: Colour, square: Square) -> bool
 fn may_be_paralysed<R: Rules>(board: &Board, colour: Colour, square: Square) -> bool
     ensures { result ≡ may_be_paralysed R.rule board.now.men colour (man_on board.now.men square) }
 {
-    R::faced_men_stand_still() && has_like(board, colour, square)
+    R::like_men_paralyse() && has_like(board, colour, square)
 }
 
 // Returns the squares to which a man other than the king must go to parry a check to the colour's king; all
@@ -77,18 +77,18 @@ pub(crate) fn evasion_squares<R: Rules>(board: &Board, colour: Colour, checkers:
 
 // Returns whether the move might paralyse a man of a kind that its side didn't have: in Madrasi, a
 // promotion.
-fn may_paralyse_anew<R: Rules>(m: &Move) -> bool
-    ensures { result ≡ may_paralyse_anew R.rule m.now }
+fn may_paralyse_new_kind<R: Rules>(m: &Move) -> bool
+    ensures { result ≡ may_paralyse_new_kind R.rule m.now }
 {
-    R::faced_men_stand_still() && m.promo.is_some()
+    R::like_men_paralyse() && m.promo.is_some()
 }
 
 // Returns the squares on which the man's arrival might paralyse a man of a new kind: in Madrasi, a pawn's
 // promotion squares.
 fn paralysing_squares<R: Rules>(man: Man) -> Squares
-    ensures { result ≡ (if faced_men_stand_still R.rule then word (is_promoting man) else 0) }
+    ensures { result ≡ (if like_men_paralyse R.rule then word (is_promoting man) else 0) }
 {
-    if R::faced_men_stand_still() {
+    if R::like_men_paralyse() {
         promoting_squares(man)
     } else {
         0
@@ -111,7 +111,7 @@ fn leaves_check<R: Rules>(board: &Board, evasion_squares: Squares, m: &Move) -> 
     if contains(evasion_squares, m.to) {
         return false;
     }
-    if may_paralyse_anew::<R>(m) {
+    if may_paralyse_new_kind::<R>(m) {
         return false;
     }
     match board.man_at(m.from) {
@@ -122,7 +122,7 @@ fn leaves_check<R: Rules>(board: &Board, evasion_squares: Squares, m: &Move) -> 
 
 /// Returns the squares on which a capture does more than take a man off the board: all occupied squares in
 /// Circe, none elsewhere.
-pub fn eventful_captures<R: Rules>(board: &Board) -> Squares
+pub fn rebirth_captures<R: Rules>(board: &Board) -> Squares
     ensures { result ≡ (if captures_do_more R.rule then word (λ s. is_some (man_on board.now.men s))
         else 0) }
 {
@@ -158,16 +158,16 @@ pub(crate) fn evasions_from<R: Rules>(
     if man.kind.is(Kind::King) {
         return !0;
     }
-    open_targets(man, from)
+    unblocked_targets(man, from)
         & (evasion_squares
             | only(board.crossed())
-            | eventful_captures::<R>(board)
+            | rebirth_captures::<R>(board)
             | paralysing_squares::<R>(man))
 }
 
 // Returns whether the mover isn't in check after the move. `squares` are the squares from which a move may
 // expose its king, `evasion_squares` those where a move may parry a check. The board is unchanged.
-#[tactic(auto, using(crate::proofs::attacks::Shielding::cannot_expose_own))]
+#[tactic(auto, using(crate::proofs::attacks::Blocking::cannot_expose_own))]
 #[inline(always)]
 pub(crate) fn is_safe<R: Rules>(
     board: &mut Board,
@@ -191,5 +191,5 @@ pub(crate) fn is_safe<R: Rules>(
     if leaves_check::<R>(board, evasion_squares, &m) {
         return false;
     }
-    !exposes::<R>(board, m)
+    !leaves_king_in_check::<R>(board, m)
 }

@@ -10,15 +10,15 @@ ghost use Rattle.chess_attacks.specs.Attacks.{in_check, is_attacked, is_paralyse
 ghost use Rattle.chess_rules.specs.Legal.{is_pseudo_legal};
 ghost use Rattle.chess_rules.specs.Play.{position_after};
 ghost use Rattle.chess_attacks.specs.Reaches.{reaches};
-ghost use Rattle.chess_rules.specs.ties.Exposure.{AreArrived, AreOthers, is_arriving_as, is_simple, king_after, own_after};
-ghost use Rattle.chess_attacks.specs.ties.Sight.{AreSeen};
+ghost use Rattle.chess_rules.specs.ties.Exposure.{DescribesMenAfter, AreOthers, is_arriving_as, is_simple, king_after, own_after};
+ghost use Rattle.chess_attacks.specs.ties.Occupancy.{DescribesMen};
 
 use crate::making_moves::play::{arriving_man, capture_square, is_castling, play};
 use crate::making_moves::undoing::unplay;
-use chess_attacks::outward::{attackers_seen, is_attacker_seen, those_reaching};
+use chess_attacks::attacks_on::{attackers_in, has_attacker_in, reaching_among};
+use chess_attacks::occupancy::{Occupancy, sight_after};
 use chess_attacks::rules::{Rules, in_check};
-use chess_attacks::sight::{Sight, sight_after};
-use chess_attacks::words::{only, take_first};
+use chess_attacks::words::{only, pop_first};
 use chess_core::board::Board;
 use chess_core::man::{Kind, Man, Move};
 use chess_core::square::{Square, Squares};
@@ -54,65 +54,72 @@ fn arrival_as(man: Man, m: &Move, kind: Kind) -> Squares
     }
 }
 
-// Returns the squares of the mover's men of this kind after a simple move; `sight` is the sight after it.
-fn own_squares_after(board: &Board, sight: Sight, man: Man, m: &Move, kind: Kind) -> Squares
-    ensures { result ≡ own_after board.now.men sight man m.now kind }
+// Returns the squares of the mover's men of this kind after a simple move; `occupancy` is the sight after it.
+fn own_squares_after(board: &Board, occupancy: Occupancy, man: Man, m: &Move, kind: Kind) -> Squares
+    ensures { result ≡ own_after board.now.men occupancy man m.now kind }
 {
-    board.squares(man.colour, kind) & sight.standing & !only(Some(m.from))
+    board.squares(man.colour, kind) & occupancy.standing & !only(Some(m.from))
         | arrival_as(man, m, kind)
 }
 
-// Returns whether one of the mover's men of this kind reaches the square after the move; `sight` is the
+// Returns whether one of the mover's men of this kind reaches the square after the move; `occupancy` is the
 // sight after it.
-fn is_faced_after(
+fn is_attacked_by_like_after(
     board: &Board,
-    sight: Sight,
+    occupancy: Occupancy,
     man: Man,
     m: &Move,
     square: Square,
     kind: Kind,
 ) -> bool
-    ensures { (men : List (Option Man)) → AreArrived board.now.men men man m.now sight
+    ensures { (men : List (Option Man)) → DescribesMenAfter board.now.men men man m.now occupancy
         → result ≡ some_square (λ s. is_man (man_on men s) man.colour kind
         && reaches men s square) }
 {
-    let own = own_squares_after(board, sight, man, m, kind);
-    those_reaching(sight.occupied, own, square, man.colour, kind) != 0
+    let own = own_squares_after(board, occupancy, man, m, kind);
+    reaching_among(occupancy.occupied, own, square, man.colour, kind) != 0
 }
 
 // Returns whether the enemy man on the square is paralysed after the move.
 #[tactic(auto, using(crate::proofs::attacks::Exposing::faced_king, crate::proofs::attacks::Exposing::none_paralysed, crate::proofs::attacks::Exposing::paralysed_by), unfolding(chess_attacks::specs::Attacks::is_paralysed))]
 fn is_paralysed_after<R: Rules>(
     board: &Board,
-    sight: Sight,
+    occupancy: Occupancy,
     man: Man,
     m: &Move,
     square: Square,
 ) -> bool
-    ensures { (men : List (Option Man)) → AreArrived board.now.men men man m.now sight
+    ensures { (men : List (Option Man)) → DescribesMenAfter board.now.men men man m.now occupancy
         → is_of_colour (man_on men square) (other man.colour) ≡ true
         → result ≡ is_paralysed R.rule men square }
 {
-    if !R::faced_men_stand_still() {
+    if !R::like_men_paralyse() {
         return false;
     }
     match board.man_at(square) {
         Some(enemy) => {
-            !enemy.kind.is(Kind::King) && is_faced_after(board, sight, man, m, square, enemy.kind)
+            !enemy.kind.is(Kind::King)
+                && is_attacked_by_like_after(board, occupancy, man, m, square, enemy.kind)
         }
         None => false,
     }
 }
 
 // Returns whether an enemy man on one of the squares of `word` isn't paralysed after the move.
-fn some_free_after<R: Rules>(board: &Board, sight: Sight, man: Man, m: &Move, word: Squares) -> bool
-    ensures { (men : List (Option Man)) → AreArrived board.now.men men man m.now sight
+fn some_unparalysed_after<R: Rules>(
+    board: &Board,
+    occupancy: Occupancy,
+    man: Man,
+    m: &Move,
+    word: Squares,
+) -> bool
+    ensures { (men : List (Option Man)) → DescribesMenAfter board.now.men men man m.now occupancy
         → AreOthers men man.colour word
         → result ≡ some_square (λ s. bit_at word s == 1 && not (is_paralysed R.rule men s)) }
 {
     let mut rest = word;
-    while let Some(square) = take_first(&mut rest) {
-        if !is_paralysed_after::<R>(board, sight, man, m, square) {
+    while let Some(square) = pop_first(&mut rest) {
+        if !is_paralysed_after::<R>(board, occupancy, man, m, square) {
             return true;
         }
     }
@@ -123,27 +130,27 @@ fn some_free_after<R: Rules>(board: &Board, sight: Sight, man: Man, m: &Move, wo
 #[inline(always)]
 fn is_attacked_after<R: Rules>(
     board: &Board,
-    sight: Sight,
+    occupancy: Occupancy,
     man: Man,
     m: &Move,
     square: Square,
 ) -> bool
-    ensures { (men : List (Option Man)) → AreArrived board.now.men men man m.now sight
-        → AreSeen board.now.men men (other man.colour) sight
+    ensures { (men : List (Option Man)) → DescribesMenAfter board.now.men men man m.now occupancy
+        → DescribesMen board.now.men men (other man.colour) occupancy
         → result ≡ is_attacked R.rule men square (other man.colour) }
 {
     let enemy = man.colour.other();
-    if !R::faced_men_stand_still() {
-        return is_attacker_seen(board, sight, square, enemy);
+    if !R::like_men_paralyse() {
+        return has_attacker_in(board, occupancy, square, enemy);
     }
-    let attackers = attackers_seen(board, sight, square, enemy);
-    some_free_after::<R>(board, sight, man, m, attackers)
+    let attackers = attackers_in(board, occupancy, square, enemy);
+    some_unparalysed_after::<R>(board, occupancy, man, m, attackers)
 }
 
 // Returns whether the move leaves its own king in check, from attacks after the move and without playing
 // it. `None` if the move isn't simple.
 #[inline(always)]
-fn exposes_unplayed<R: Rules>(board: &Board, m: &Move) -> Option<bool>
+fn leaves_king_in_check_unplayed<R: Rules>(board: &Board, m: &Move) -> Option<bool>
     requires well_formed { IsWellFormed board.now }
     requires pseudo { is_pseudo_legal R.rule board.now m.now ≡ true }
     ensures { IfSome result (λ b. b ≡ in_check R.rule (position_after R.rule board.now m.now).men
@@ -161,27 +168,27 @@ fn exposes_unplayed<R: Rules>(board: &Board, m: &Move) -> Option<bool>
     let Some(king) = king_after(board, man, m) else {
         return Some(false);
     };
-    let sight = sight_after(board, m.from, captured, m.to);
-    Some(is_attacked_after::<R>(board, sight, man, m, king))
+    let occupancy = sight_after(board, m.from, captured, m.to);
+    Some(is_attacked_after::<R>(board, occupancy, man, m, king))
 }
 
 // Returns whether the move leaves its own king in check. The board is unchanged.
 #[inline(always)]
-pub(crate) fn exposes<R: Rules>(board: &mut Board, m: Move) -> bool
+pub(crate) fn leaves_king_in_check<R: Rules>(board: &mut Board, m: Move) -> bool
     requires well_formed { IsWellFormed board.old }
     requires pseudo { is_pseudo_legal R.rule board.old m ≡ true }
     ensures answer { result
         ≡ in_check R.rule (position_after R.rule board.old m).men board.old.turn }
     ensures board { board.new ≡ board.old }
 {
-    match exposes_unplayed::<R>(board, &m) {
+    match leaves_king_in_check_unplayed::<R>(board, &m) {
         Some(exposed) => exposed,
-        None => exposes_played::<R>(board, m),
+        None => leaves_king_in_check_played::<R>(board, m),
     }
 }
 
 // Returns whether the move leaves its own king in check, by playing it and taking it back.
-fn exposes_played<R: Rules>(board: &mut Board, m: Move) -> bool
+fn leaves_king_in_check_played<R: Rules>(board: &mut Board, m: Move) -> bool
     requires well_formed { IsWellFormed board.old }
     requires pseudo { is_pseudo_legal R.rule board.old m ≡ true }
     ensures answer { result

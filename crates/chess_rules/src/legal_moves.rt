@@ -3,19 +3,19 @@ ghost use Rattle.std.specs.Prelude.{◌≡◌, ⊤, ℕ, ◌≤◌, ◌<◌, ◌
 ghost use Rattle.chess_core.specs.WellFormed.{IsWellFormed};
 ghost use Rattle.chess_core.specs.ties.Words.{word};
 ghost use Rattle.chess_rules.specs.ties.Evasions.{AreEvasions};
-ghost use Rattle.chess_rules.specs.ties.Shields.{may_expose};
+ghost use Rattle.chess_rules.specs.ties.Blockers.{may_expose};
 ghost use Rattle.chess_rules.specs.Legal.{is_legal};
-ghost use Rattle.chess_rules.specs.ties.Places.{HaveNone, IsPlaceIn, all_triples, first_behind, moves_behind, moves_between, place_of, place_onto, triple_at};
-ghost use Rattle.chess_rules.specs.ties.Sifting.{IsSifted, SomeFails};
-ghost use Rattle.chess_rules.specs.ties.Targets.{AreCandidates, AreKept, AreOrigins, IsAimed};
+ghost use Rattle.chess_rules.specs.ties.Places.{NonePass, IsPlaceIn, all_triples, first_after, moves_after, moves_between, place_of, cursor_onto, triple_at};
+ghost use Rattle.chess_rules.specs.ties.Filtering.{IsFiltered, SomeFails};
+ghost use Rattle.chess_rules.specs.ties.Targets.{AreCandidates, IsTargetCacheOf, AreOrigins, IsAimed};
 
+use crate::blockers::king_safety;
 use crate::evasions::{evasion_squares, evasions_from};
+use crate::filter_moves::{Filtered, FilteredMoves, next_unfiltered, some_filtered};
 use crate::legal::is_legal;
+use crate::move_filter::{MoveFilter, next_passing};
 use crate::moves::{Moves, triple};
-use crate::shields::king_safety;
-use crate::sift::{Sift, Sifted, next_left, some_taken};
-use crate::sought::{Sought, next_passing};
-use crate::targets::{Kept, TRIPLES, arrivals};
+use crate::targets::{TRIPLES, TargetCache, arrivals};
 use chess_attacks::rules::Rules;
 use chess_core::board::Board;
 use chess_core::man::Move;
@@ -27,44 +27,44 @@ use std::marker::{Model, PhantomData};
 /// the squares from which a move may expose the mover's king, the squares where a move may parry a check,
 /// and the candidate squares of its current origin.
 #[derive_where(Copy)]
-pub struct LegalMoves<R> {
+pub struct LegalCursor<R> {
     number: u16,
-    shield_squares: Squares,
+    blocker_squares: Squares,
     evasion_squares: Squares,
-    targets: Kept,
+    targets: TargetCache,
     rules: PhantomData<R>,
 }
 
-impl<R> Model for LegalMoves<R> {
+impl<R> Model for LegalCursor<R> {
     ghost use Rattle.chess_rules.specs.ties.Places.{LegalPlace};
 
     ghost Value = { LegalPlace };
 
     ghost view = { λ m. record {
       place = m.number;
-      shield_squares = m.shield_squares;
+      blocker_squares = m.blocker_squares;
       evasion_squares = m.evasion_squares;
       kept = m.targets;
     } };
 
     ghost inverse = { λ v. record {
       number = v.place;
-      shield_squares = v.shield_squares;
+      blocker_squares = v.blocker_squares;
       evasion_squares = v.evasion_squares;
       targets = v.kept;
       rules = record {};
     } };
 }
 
-impl<R> Clone for LegalMoves<R> {
+impl<R> Clone for LegalCursor<R> {
     ghost is_clone = { λ it copy. copy ≡ it };
 
     ghost is_infallible = { λ _. ⊤ };
 
     fn clone(&self) -> Result<Self, AllocError> {
-        Ok(LegalMoves {
+        Ok(LegalCursor {
             number: self.number,
-            shield_squares: self.shield_squares,
+            blocker_squares: self.blocker_squares,
             evasion_squares: self.evasion_squares,
             targets: self.targets,
             rules: PhantomData,
@@ -72,18 +72,18 @@ impl<R> Clone for LegalMoves<R> {
     }
 }
 
-impl<R: Rules> LegalMoves<R> {
+impl<R: Rules> LegalCursor<R> {
     /// Returns the cursor before the first triple, for the board's position.
-    pub fn of(board: &Board) -> LegalMoves<R>
+    pub fn of(board: &Board) -> LegalCursor<R>
         ensures start { result.place ≡ 0 }
         ensures place { IsPlaceIn R.rule board.now result }
     {
         let safety = king_safety(board, board.turn());
-        LegalMoves {
+        LegalCursor {
             number: 0,
-            shield_squares: safety.shields,
+            blocker_squares: safety.blockers,
             evasion_squares: evasion_squares::<R>(board, board.turn(), safety.checkers),
-            targets: Kept {
+            targets: TargetCache {
                 origin: None,
                 squares: 0,
             },
@@ -99,14 +99,14 @@ impl<R: Rules> LegalMoves<R> {
     }
 
     /// Returns what is known of the position.
-    pub fn known(&self) -> Known
+    pub fn known(&self) -> LegalityMasks
         ensures { result ≡ record {
-          shield_squares = self.now.shield_squares;
+          blocker_squares = self.now.blocker_squares;
           evasion_squares = self.now.evasion_squares;
         } }
     {
-        Known {
-            shield_squares: self.shield_squares,
+        LegalityMasks {
+            blocker_squares: self.blocker_squares,
             evasion_squares: self.evasion_squares,
         }
     }
@@ -124,22 +124,22 @@ impl<R: Rules> LegalMoves<R> {
     pub fn next(&mut self, board: &mut Board) -> Option<Move>
         requires well_formed { IsWellFormed board.old }
         requires place { IsPlaceIn R.rule board.old self.old }
-        ensures first { result ≡ first_behind R.rule board.old self.old.place }
+        ensures first { result ≡ first_after R.rule board.old self.old.place }
         ensures place { self.new ≡ record self.old {
           place = place_of result;
           kept = self.new.kept;
         } }
         ensures within { IsPlaceIn R.rule board.old self.new }
-        ensures rest { MatchOption result (moves_behind R.rule board.old self.old.place ≡ [])
-            (λ m. moves_behind R.rule board.old self.old.place
-            ≡ m ∷ moves_behind R.rule board.old self.new.place) }
+        ensures rest { MatchOption result (moves_after R.rule board.old self.old.place ≡ [])
+            (λ m. moves_after R.rule board.old self.old.place
+            ≡ m ∷ moves_after R.rule board.old self.new.place) }
         ensures legal { IfSome result (λ m. is_legal R.rule board.old m ≡ true) }
         ensures onward { IfSome result (λ m. self.old.place < self.new.place) }
         ensures board { board.new ≡ board.old }
     {
         let number = next_legal::<R>(
             board,
-            self.shield_squares,
+            self.blocker_squares,
             self.evasion_squares,
             &mut self.targets,
             self.number,
@@ -161,7 +161,7 @@ impl<R: Rules> LegalMoves<R> {
         requires well_formed { IsWellFormed board.old }
         requires place { IsPlaceIn R.rule board.old self.old }
         ensures place { self.new ≡ record self.old {
-          place = place_onto result self.old.place;
+          place = cursor_onto result self.old.place;
           kept = self.new.kept;
         } }
         ensures within { IsPlaceIn R.rule board.old self.new }
@@ -174,7 +174,7 @@ impl<R: Rules> LegalMoves<R> {
         let last = end.number().min(TRIPLES);
         let number = next_legal::<R>(
             board,
-            self.shield_squares,
+            self.blocker_squares,
             self.evasion_squares,
             &mut self.targets,
             self.number,
@@ -189,53 +189,62 @@ impl<R: Rules> LegalMoves<R> {
 
     /// Returns whether the filter takes a legal move of a man on one of these squares; `false` says nothing
     /// about other men. Cursor and filter must be of the board's position. The board is unchanged.
-    pub fn has_taken<S: Sift>(&self, sift: &mut S, board: &mut Board, origins: Squares) -> bool
+    pub fn has_filtered<S: FilteredMoves>(
+        &self,
+        filter_moves: &mut S,
+        board: &mut Board,
+        origins: Squares,
+    ) -> bool
         requires well_formed { IsWellFormed board.old }
         requires place { IsPlaceIn R.rule board.old self.now }
-        requires fits { S.fits sift.old R.rule board.old }
+        requires fits { S.fits filter_moves.old R.rule board.old }
         ensures fails { result ≡ true → SomeFails R.rule board.old (S.test R.rule board.old) }
-        ensures same { sift.new ≡ sift.old }
+        ensures same { filter_moves.new ≡ filter_moves.old }
         ensures board { board.new ≡ board.old }
     {
-        some_taken::<R, S>(board, self.known(), sift, origins)
+        some_filtered::<R, S>(board, self.known(), filter_moves, origins)
     }
 
     /// Returns the next legal move after the cursor that the filter leaves, with the number of legal moves
     /// passed over, and moves the cursor to it. The moves passed over fail the filter's test. If there is
     /// none, the cursor moves to the end. Cursor and filter must be of the board's position. The board is
     /// unchanged.
-    #[tactic(auto, using(crate::proofs::listing_moves::Sifting::next_sifted))]
-    pub fn next_sifted<S: Sift>(&mut self, sift: &mut S, board: &mut Board) -> Sifted
+    #[tactic(auto, using(crate::proofs::listing_moves::Filtering::next_filtered))]
+    pub fn next_filtered<S: FilteredMoves>(
+        &mut self,
+        filter_moves: &mut S,
+        board: &mut Board,
+    ) -> Filtered
         requires well_formed { IsWellFormed board.old }
         requires place { IsPlaceIn R.rule board.old self.old }
-        requires fits { S.fits sift.old R.rule board.old }
+        requires fits { S.fits filter_moves.old R.rule board.old }
         ensures place { self.new ≡ record self.old { place = place_of result.found } }
         ensures within { IsPlaceIn R.rule board.old self.new }
         ensures passed { MatchOption result.found
-            ((filter (S.test R.rule board.old) (moves_behind R.rule board.old self.old.place) ≡ [])
-            × (result.passed ≡ length (moves_behind R.rule board.old self.old.place)))
-            (λ m. IsSifted R.rule board.old (S.test R.rule board.old) self.old.place
+            ((filter (S.test R.rule board.old) (moves_after R.rule board.old self.old.place) ≡ [])
+            × (result.passed ≡ length (moves_after R.rule board.old self.old.place)))
+            (λ m. IsFiltered R.rule board.old (S.test R.rule board.old) self.old.place
             self.new.place result.passed m) }
-        ensures behind { moves_behind R.rule board.old self.old.place
+        ensures following { moves_after R.rule board.old self.old.place
             ≡ moves_between R.rule board.old self.old.place self.new.place
-            ++ moves_behind R.rule board.old self.new.place }
+            ++ moves_after R.rule board.old self.new.place }
         ensures legal { IfSome result.found (λ m. is_legal R.rule board.old m ≡ true) }
         ensures onward { IfSome result.found (λ m. self.old.place < self.new.place) }
-        ensures same { sift.new ≡ sift.old }
+        ensures same { filter_moves.new ≡ filter_moves.old }
         ensures board { board.new ≡ board.old }
     {
         let known = self.known();
         let mut passed = 0;
-        let number = next_left::<R, S>(board, known, sift, self.number, &mut passed);
+        let number = next_unfiltered::<R, S>(board, known, filter_moves, self.number, &mut passed);
         if number < TRIPLES {
             self.number = number + 1;
-            return Sifted {
+            return Filtered {
                 found: Some(triple(number)),
                 passed,
             };
         }
         self.number = TRIPLES;
-        Sifted {
+        Filtered {
             found: None,
             passed,
         }
@@ -249,50 +258,50 @@ pub(crate) fn next_legal<R: Rules>(
     board: &mut Board,
     squares: Squares,
     evasion_squares: Squares,
-    kept: &mut Kept,
+    kept: &mut TargetCache,
     start: u16,
     end: u16,
 ) -> u16
     requires well_formed { IsWellFormed board.old }
     requires squares { squares ≡ word (may_expose board.old.men board.old.turn) }
     requires evasion_squares { AreEvasions R.rule board.old.men board.old.turn evasion_squares }
-    requires kept { AreKept R.rule board.old (is_legal R.rule board.old) kept.old }
+    requires kept { IsTargetCacheOf R.rule board.old (is_legal R.rule board.old) kept.old }
     requires end { end ≤ all_triples }
     ensures low { result < end → start ≤ result }
     ensures high { result ≤ end }
-    ensures none { HaveNone (is_legal R.rule board.old) start result }
+    ensures none { NonePass (is_legal R.rule board.old) start result }
     ensures legal { result < end → is_legal R.rule board.old (triple_at result) ≡ true }
-    ensures kept { AreKept R.rule board.old (is_legal R.rule board.old) kept.new }
+    ensures kept { IsTargetCacheOf R.rule board.old (is_legal R.rule board.old) kept.new }
     ensures board { board.new ≡ board.old }
 {
-    let known = Known {
-        shield_squares: squares,
+    let known = LegalityMasks {
+        blocker_squares: squares,
         evasion_squares,
     };
-    next_passing::<R, Known>(board, &known, kept, start, end)
+    next_passing::<R, LegalityMasks>(board, &known, kept, start, end)
 }
 
 /// What the search for legal moves knows of a position: the squares from which a move may expose the
 /// mover's king, and the squares where a move may parry a check.
 #[derive(Clone, Copy)]
-pub struct Known {
-    pub(crate) shield_squares: Squares,
+pub struct LegalityMasks {
+    pub(crate) blocker_squares: Squares,
     pub(crate) evasion_squares: Squares,
 }
 
-impl Sought for Known {
+impl MoveFilter for LegalityMasks {
     ghost use Rattle.std.specs.Prelude.{◌≡◌};
     ghost use Rattle.chess_core.specs.ties.Words.{word};
     ghost use Rattle.chess_rules.specs.ties.Evasions.{AreEvasions};
     ghost use Rattle.chess_rules.specs.Legal.{is_legal};
-    ghost use Rattle.chess_rules.specs.ties.Shields.{may_expose};
+    ghost use Rattle.chess_rules.specs.ties.Blockers.{may_expose};
     ghost use Rattle.chess_rules.specs.ties.Idle.{is_legal-idle};
 
     ghost test = { is_legal };
 
     ghost found = { is_legal };
 
-    ghost fits = { λ s rule p. (s.shield_squares ≡ word (may_expose p.men p.turn))
+    ghost fits = { λ s rule p. (s.blocker_squares ≡ word (may_expose p.men p.turn))
         × AreEvasions rule p.men p.turn s.evasion_squares };
 
     fn origins<R: Rules>(&self, board: &Board) -> Squares {
@@ -306,7 +315,7 @@ impl Sought for Known {
 
     #[inline(always)]
     fn is_found<R: Rules>(&self, board: &mut Board, m: Move) -> bool {
-        is_legal::<R>(board, self.shield_squares, self.evasion_squares, m)
+        is_legal::<R>(board, self.blocker_squares, self.evasion_squares, m)
     }
 
     ghost idle = { λ rule p m h. is_legal-idle rule p m h };

@@ -3,13 +3,13 @@ ghost use Rattle.std.specs.Prelude.{◌≡◌, ◌<◌, ◌&&◌, filter, not};
 ghost use Rattle.chess_core.specs.WellFormed.{IsWellFormed};
 ghost use Rattle.chess_rules.specs.Legal.{is_legal, is_nil, moves};
 ghost use Rattle.chess_rules.specs.ties.Counting.{IsKnownIn};
-ghost use Rattle.chess_rules.specs.ties.Sifting.{is_of_others, is_wanted};
+ghost use Rattle.chess_rules.specs.ties.Filtering.{is_of_others, is_unfiltered};
 ghost use Rattle.chess_rules.specs.ties.Targets.{AreCandidates, AreOrigins, IsAimed};
 
 use crate::legal::is_legal;
-use crate::legal_moves::{Known, LegalMoves, candidates, own_origins};
-use crate::sought::{Sought, next_passing};
-use crate::targets::{Kept, TRIPLES};
+use crate::legal_moves::{LegalCursor, LegalityMasks, candidates, own_origins};
+use crate::move_filter::{MoveFilter, next_passing};
+use crate::targets::{TRIPLES, TargetCache};
 use chess_attacks::rules::Rules;
 use chess_attacks::words::contains;
 use chess_core::board::Board;
@@ -19,17 +19,17 @@ use chess_core::square::{Square, Squares};
 // What the search for legal moves of men other than the king knows of a position.
 #[derive(Clone, Copy)]
 struct Others {
-    known: Known,
+    known: LegalityMasks,
 }
 
-impl Sought for Others {
+impl MoveFilter for Others {
     ghost use Rattle.chess_rules.specs.ties.Counting.{IsKnownIn};
-    ghost use Rattle.chess_rules.specs.ties.Idle.{is_wanted-idle};
-    ghost use Rattle.chess_rules.specs.ties.Sifting.{is_of_others, is_wanted};
+    ghost use Rattle.chess_rules.specs.ties.Idle.{is_unfiltered-idle};
+    ghost use Rattle.chess_rules.specs.ties.Filtering.{is_of_others, is_unfiltered};
 
-    ghost test = { λ rule p. is_wanted rule p (is_of_others p) };
+    ghost test = { λ rule p. is_unfiltered rule p (is_of_others p) };
 
-    ghost found = { λ rule p. is_wanted rule p (is_of_others p) };
+    ghost found = { λ rule p. is_unfiltered rule p (is_of_others p) };
 
     ghost fits = { λ s rule p. IsKnownIn rule p s.known };
 
@@ -45,39 +45,39 @@ impl Sought for Others {
         is_legal_of_others::<R>(board, self.known, m)
     }
 
-    ghost idle = { λ rule p m h. is_wanted-idle rule p (is_of_others p) m h };
+    ghost idle = { λ rule p m h. is_unfiltered-idle rule p (is_of_others p) m h };
 }
 
 // Returns a superset of the squares from which a man other than the king has a legal move: all squares of
 // these men.
 #[tactic(auto, using(crate::proofs::listing_moves::OtherMoves::other_origins))]
 fn origins_of_others<R: Rules>(board: &Board) -> Squares
-    ensures { AreOrigins (is_wanted R.rule board.now (is_of_others board.now)) result }
+    ensures { AreOrigins (is_unfiltered R.rule board.now (is_of_others board.now)) result }
 {
     own_origins::<R>(board) & !board.squares(board.turn(), Kind::King)
 }
 
 // Returns a superset of the squares to which the man on `from` has a legal move.
 #[tactic(auto, using(crate::proofs::listing_moves::OtherMoves::other_candidates))]
-fn candidates_of_others<R: Rules>(board: &Board, known: Known, from: Square) -> Squares
+fn candidates_of_others<R: Rules>(board: &Board, known: LegalityMasks, from: Square) -> Squares
     requires well_formed { IsWellFormed board.now }
     requires known { IsKnownIn R.rule board.now known }
     ensures { AreCandidates R.rule board.now
-        (is_wanted R.rule board.now (is_of_others board.now)) from result }
+        (is_unfiltered R.rule board.now (is_of_others board.now)) from result }
 {
     candidates::<R>(board, known.evasion_squares, from)
 }
 
 // Returns whether the move is legal and not the king's. The board is unchanged.
 #[tactic(auto, using(crate::proofs::listing_moves::OtherMoves::is_other))]
-fn is_legal_of_others<R: Rules>(board: &mut Board, known: Known, m: Move) -> bool
+fn is_legal_of_others<R: Rules>(board: &mut Board, known: LegalityMasks, m: Move) -> bool
     requires well_formed { IsWellFormed board.old }
     requires aimed { IsAimed R.rule board.old m }
     requires known { IsKnownIn R.rule board.old known }
-    ensures answer { result ≡ is_wanted R.rule board.old (is_of_others board.old) m }
+    ensures answer { result ≡ is_unfiltered R.rule board.old (is_of_others board.old) m }
     ensures board { board.new ≡ board.old }
 {
-    is_legal::<R>(board, known.shield_squares, known.evasion_squares, m)
+    is_legal::<R>(board, known.blocker_squares, known.evasion_squares, m)
         && !contains(board.squares(board.turn(), Kind::King), m.from)
 }
 
@@ -90,9 +90,9 @@ pub fn others_have_move<R: Rules>(board: &mut Board) -> bool
     ensures board { board.new ≡ board.old }
 {
     let others = Others {
-        known: LegalMoves::<R>::of(board).known(),
+        known: LegalCursor::<R>::of(board).known(),
     };
-    let mut kept = Kept {
+    let mut kept = TargetCache {
         origin: None,
         squares: 0,
     };

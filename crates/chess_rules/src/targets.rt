@@ -5,16 +5,16 @@ ghost use Rattle.chess_core.specs.Position.{man_on, Position};
 ghost use Rattle.chess_core.specs.Squares.{rank_of};
 ghost use Rattle.chess_core.specs.ties.Words.{word};
 ghost use Rattle.chess_rules.specs.Legal.{is_arrival_free, last_rank};
-ghost use Rattle.chess_rules.specs.ties.Places.{IsBarrenFrom, IsNamed, per_origin};
-ghost use Rattle.chess_rules.specs.ties.Targets.{is_promoting, is_arrival, may_go, pawn_goes, steps_to};
+ghost use Rattle.chess_rules.specs.ties.Places.{HasNoMoveFrom, NamesMove, per_origin};
+ghost use Rattle.chess_rules.specs.ties.Targets.{is_promoting, is_arrival, may_arrive, pawn_steps_to, steps_to};
 ghost use Rattle.std.specs.Int.{bit_at};
 
 use crate::legal::{last_rank, second_rank};
 use chess_attacks::leaps::{king_leaps, pawn_advances, squares_aside};
 use chess_attacks::lines::occupied;
-use chess_attacks::open_board::open_reach;
 use chess_attacks::reach::reach_as;
 use chess_attacks::rules::Rules;
+use chess_attacks::unblocked::unblocked_reach;
 use chess_attacks::words::{next_bit, only};
 use chess_core::board::Board;
 use chess_core::man::{Colour, Kind, Man};
@@ -31,7 +31,7 @@ pub const TRIPLES: u16 = 64 * PER_ORIGIN;
 
 /// The candidate squares of one origin, kept while its moves are listed.
 #[derive(Clone, Copy)]
-pub struct Kept {
+pub struct TargetCache {
     /// The origin, or `None` if nothing is kept.
     pub origin: Option<Square>,
     /// A superset of the squares to which its man moves by a move that passes the test.
@@ -55,11 +55,11 @@ pub fn steps_to(man: Man, from: Square) -> Squares
 /// Returns a superset of the squares to which the man on `from` could move on some board, castling
 /// included.
 #[tactic(auto, using(crate::proofs::listing_moves::OpenBoard::king_targets, crate::proofs::listing_moves::OpenBoard::pawn_targets, crate::proofs::listing_moves::OpenBoard::piece_targets))]
-pub fn open_targets(man: Man, from: Square) -> Squares
-    ensures { (p : Position) (t : ℕ) → t < 64 → may_go p man from t ≡ true
+pub fn unblocked_targets(man: Man, from: Square) -> Squares
+    ensures { (p : Position) (t : ℕ) → t < 64 → may_arrive p man from t ≡ true
         → (bit_at result t == 1) ≡ true }
 {
-    let reached = open_reach(man, from);
+    let reached = unblocked_reach(man, from);
     match man.kind {
         Kind::Pawn => reached | pawn_advances(man.colour, from),
         Kind::King => reached | steps_to(man, from),
@@ -69,8 +69,8 @@ pub fn open_targets(man: Man, from: Square) -> Squares
 
 // Returns the squares to which a pawn on `from` steps: one ahead if it is empty, and from its second rank
 // two ahead if both are.
-fn pawn_goes(board: &Board, man: Man, from: Square) -> Squares
-    ensures { result ≡ word (pawn_goes board.now man from) }
+fn pawn_steps_to(board: &Board, man: Man, from: Square) -> Squares
+    ensures { result ≡ word (pawn_steps_to board.now man from) }
 {
     let ahead = pawn_advances(man.colour, from) & !occupied(board);
     let Some(_next) = next_bit(ahead & king_leaps(from), 0) else {
@@ -96,12 +96,12 @@ fn castling_squares(board: &Board, man: Man, from: Square) -> Squares
 // Returns the squares to which the man on `from` may go, whoever stands there; for a king without most
 // tests of castling.
 #[tactic(auto, using(crate::proofs::listing_moves::Arrivals::other_ways, crate::proofs::listing_moves::Arrivals::pawn_ways))]
-fn goes_to(board: &Board, man: Man, from: Square) -> Squares
-    ensures { result ≡ word (may_go board.now man from) }
+fn arrivals_of(board: &Board, man: Man, from: Square) -> Squares
+    ensures { result ≡ word (may_arrive board.now man from) }
 {
     let reach = reach_as(board, man.colour, man.kind, from);
     if man.kind.is(Kind::Pawn) {
-        return reach & (occupied(board) | only(board.crossed())) | pawn_goes(board, man, from);
+        return reach & (occupied(board) | only(board.crossed())) | pawn_steps_to(board, man, from);
     }
     reach | castling_squares(board, man, from)
 }
@@ -129,7 +129,7 @@ pub fn arrivals<R: Rules>(board: &Board, from: Square) -> Squares
     if R::paralysed(board, from) {
         return 0;
     }
-    free_squares(board, board.turn()) & goes_to(board, man, from)
+    free_squares(board, board.turn()) & arrivals_of(board, man, from)
 }
 
 // Returns whether a pawn arrives on its last rank.
@@ -169,8 +169,8 @@ pub(crate) fn next_from(board: &Board, from: Square, word: Squares, start: u16) 
     requires { start ≤ per_origin }
     ensures low { start ≤ result }
     ensures high { result ≤ per_origin }
-    ensures barren { IsBarrenFrom board.now from word start result }
-    ensures named { result < per_origin → IsNamed board.now from word result }
+    ensures barren { HasNoMoveFrom board.now from word start result }
+    ensures named { result < per_origin → NamesMove board.now from word result }
 {
     let Some(man) = board.man_at(from) else {
         return PER_ORIGIN;

@@ -3,7 +3,7 @@ ghost use Rattle.std.specs.Prelude.{◌≡◌};
 ghost use Rattle.chess_core.specs.Diagrams.{position_of};
 ghost use Rattle.chess_core.specs.WellFormed.{IsWellFormed};
 
-use crate::compared::first_unlike;
+use crate::compared::first_difference;
 use crate::plain::Rule;
 use crate::setup::posed;
 use chess_core::{Board, Diagram};
@@ -42,7 +42,7 @@ fn compare_on<R: Rules>(board: &mut Board, rule: Rule, length: u32) -> Tally
     ensures { board.new ≡ board.old }
 {
     let mut positions = 1u64;
-    let mut unlike = if first_unlike::<R>(board, rule).is_none() {
+    let mut unlike = if first_difference::<R>(board, rule).is_none() {
         0u64
     } else {
         1

@@ -143,7 +143,7 @@ impl<'a> Case<'a> {
             Motif::StepsAlong => self.steps_along(),
             Motif::FlightOpened => self.opens_flight(),
             Motif::FlightCovered => self.covers_flight(),
-            Motif::FlightBehind => self.bars_flight_behind(),
+            Motif::FlightBeyond => self.bars_flight_after(),
             Motif::FlightUnmasked => self.unmasks_flight(),
             Motif::KinglessMover => self.goes_without(self.man.colour),
             Motif::KinglessEnemy => self.goes_without(self.man.colour.other()),
@@ -171,7 +171,7 @@ impl<'a> Case<'a> {
             Motif::RebirthMatesOver => self.mates_over_reborn(),
             Motif::RebirthChecksPromoted => self.checks_over_by_promotion(),
             Motif::RebirthMates => self.mates_by_rebirth(),
-            Motif::RebirthAnswers => self.is_mate_answered_by_rebirth(),
+            Motif::RebirthParriesMate => self.is_mate_answered_by_rebirth(),
             other => self.shows_paralysis(other),
         }
     }
@@ -192,16 +192,16 @@ impl<'a> Case<'a> {
     }
 
     // Returns whether the move is illegal because it exposes a king that wasn't in check.
-    fn exposes(&self) -> bool {
+    fn leaves_king_in_check(&self) -> bool {
         !self.was_in_check && self.exposing != 0
     }
 
     fn is_pinned(&self, kind: Kind) -> bool {
-        self.man.kind == kind && self.exposes()
+        self.man.kind == kind && self.leaves_king_in_check()
     }
 
     fn is_pinned_by(&self, kind: Kind) -> bool {
-        self.exposes() && self.exposing & self.after.of_kind(kind) != 0
+        self.leaves_king_in_check() && self.exposing & self.after.of_kind(kind) != 0
     }
 
     fn parries(&self) -> bool {
@@ -335,7 +335,7 @@ impl<'a> Case<'a> {
         self.mates() && self.fresh_refuges() != 0
     }
 
-    fn bars_flight_behind(&self) -> bool {
+    fn bars_flight_after(&self) -> bool {
         self.mates() && self.refuges() & !self.after.attacked(self.rule, self.man.colour) != 0
     }
 
@@ -376,11 +376,11 @@ impl<'a> Case<'a> {
     }
 
     fn opens_rank(&self) -> bool {
-        self.exposes() && self.is_rank_open()
+        self.leaves_king_in_check() && self.is_rank_open()
     }
 
     fn opens_line(&self) -> bool {
-        self.exposes() && !self.is_rank_open()
+        self.leaves_king_in_check() && !self.is_rank_open()
     }
 
     // Returns the rook's square and the square that the king crosses, if the move is castling.
@@ -407,7 +407,7 @@ impl<'a> Case<'a> {
     }
 
     fn castles_into(&self) -> bool {
-        self.exposes() && !self.is_crossing_attacked()
+        self.leaves_king_in_check() && !self.is_crossing_attacked()
     }
 
     fn castles_with_paralysed_rook(&self) -> bool {
@@ -424,9 +424,9 @@ impl<'a> Case<'a> {
             return false;
         };
         let hoppers = attackers & self.stood & self.after.of_kind(Kind::Grasshopper);
-        let anew = hoppers & !self.before.reachers(king);
+        let again = hoppers & !self.before.reachers(king);
         let over = self.lifted().reachers(king);
-        king != self.m.to && anew & (if arrives { !over } else { over }) != 0
+        king != self.m.to && again & (if arrives { !over } else { over }) != 0
     }
 
     // Returns the position after the move without the man that arrived.
@@ -441,7 +441,7 @@ impl<'a> Case<'a> {
     }
 
     fn is_exposed_over(&self, arrives: bool) -> bool {
-        self.exposes() && self.gets_hurdle(self.exposing, self.man.colour, arrives)
+        self.leaves_king_in_check() && self.gets_hurdle(self.exposing, self.man.colour, arrives)
     }
 
     // Returns the position after the move as if no man were reborn.
@@ -497,7 +497,7 @@ impl<'a> Case<'a> {
     }
 
     fn frees_enemy(&self) -> bool {
-        self.exposes() && self.was_paralysed(self.exposing, self.man.colour)
+        self.leaves_king_in_check() && self.was_paralysed(self.exposing, self.man.colour)
     }
 
     fn frees_checker(&self) -> bool {

@@ -6,17 +6,17 @@ use crate::plain::{MOVES, Plain, Rule};
 use crate::probe::{is_same, shows};
 use arrayvec::ArrayVec;
 use chess_core::{Board, Colour, Move, Square};
-use chess_mates::{MatingMoves, next_mate};
-use chess_rules::{LegalMoves, Moves, Rules, has_legal_move, in_check, is_mate, play, unplay};
+use chess_mates::{MateCursor, next_mate};
+use chess_rules::{LegalCursor, Moves, Rules, has_legal_move, in_check, is_mate, play, unplay};
 
 // What the chess crates are tested for.
 #[derive(Clone, Copy, Debug)]
 pub(crate) enum Question {
     Moves,
-    LegalMoves,
+    LegalCursor,
     MovesUntil,
     NextMate,
-    MatingMoves,
+    MateCursor,
     MatesUntil,
     Attack,
     Paralysis,
@@ -49,14 +49,14 @@ fn choices(plain: &Plain, rule: Rule) -> Choices {
 }
 
 // Returns the first question on which the chess crates and the plain rules differ.
-pub(crate) fn first_unlike<R: Rules>(board: &mut Board, rule: Rule) -> Option<Question>
+pub(crate) fn first_difference<R: Rules>(board: &mut Board, rule: Rule) -> Option<Question>
     requires { IsWellFormed board.old }
     ensures { board.new ≡ board.old }
 {
     let plain = Plain::of(board);
     let choices = choices(&plain, rule);
     let choices = choices.as_slice();
-    if let Some(question) = unlike_of_men::<R>(board, &plain, rule) {
+    if let Some(question) = difference_in_men::<R>(board, &plain, rule) {
         return Some(question);
     }
     if let Some(question) = unlike_of_moves::<R>(board, choices) {
@@ -71,7 +71,7 @@ pub(crate) fn first_unlike<R: Rules>(board: &mut Board, rule: Rule) -> Option<Qu
 }
 
 // Compares attack, paralysis and check.
-fn unlike_of_men<R: Rules>(board: &Board, plain: &Plain, rule: Rule) -> Option<Question> {
+fn difference_in_men<R: Rules>(board: &Board, plain: &Plain, rule: Rule) -> Option<Question> {
     for number in 0..64u8 {
         let square = Square::numbered(number);
         if R::paralysed(board, square) != plain.is_paralysed(rule, square) {
@@ -96,14 +96,14 @@ fn unlike_of_moves<R: Rules>(board: &mut Board, choices: &[Choice]) -> Option<Qu
     requires { IsWellFormed board.old }
     ensures { board.new ≡ board.old }
 {
-    if !gives_moves::<R>(board, choices) {
+    if !returns_moves::<R>(board, choices) {
         return Some(Question::Moves);
     }
     if !gives_legal_moves::<R>(board, choices) {
-        return Some(Question::LegalMoves);
+        return Some(Question::LegalCursor);
     }
     if !gives_mating_moves::<R>(board, choices) {
-        return Some(Question::MatingMoves);
+        return Some(Question::MateCursor);
     }
     let third = choices.len() / 3;
     for (passed, last) in &[
@@ -124,7 +124,7 @@ fn unlike_of_moves<R: Rules>(board: &mut Board, choices: &[Choice]) -> Option<Qu
     None
 }
 
-fn gives_moves<R: Rules>(board: &mut Board, choices: &[Choice]) -> bool
+fn returns_moves<R: Rules>(board: &mut Board, choices: &[Choice]) -> bool
     requires { IsWellFormed board.old }
     ensures { board.new ≡ board.old }
 {
@@ -141,7 +141,7 @@ fn gives_legal_moves<R: Rules>(board: &mut Board, choices: &[Choice]) -> bool
     requires { IsWellFormed board.old }
     ensures { board.new ≡ board.old }
 {
-    let mut place = LegalMoves::<R>::of(board);
+    let mut place = LegalCursor::<R>::of(board);
     for choice in choices {
         if place.next(board) != Some(choice.by) {
             return false;
@@ -154,7 +154,7 @@ fn gives_mating_moves<R: Rules>(board: &mut Board, choices: &[Choice]) -> bool
     requires { IsWellFormed board.old }
     ensures { board.new ≡ board.old }
 {
-    let mut place = MatingMoves::<R>::of(board);
+    let mut place = MateCursor::<R>::of(board);
     for choice in choices {
         if choice.mates && place.next(board) != Some(choice.by) {
             return false;
@@ -164,7 +164,7 @@ fn gives_mating_moves<R: Rules>(board: &mut Board, choices: &[Choice]) -> bool
 }
 
 // Returns the cursor after the first `count` legal moves.
-fn place_behind<R: Rules>(board: &mut Board, count: usize) -> Moves<R>
+fn place_after<R: Rules>(board: &mut Board, count: usize) -> Moves<R>
     requires { IsWellFormed board.old }
     ensures { board.new ≡ board.old }
 {
@@ -180,9 +180,9 @@ fn gives_until<R: Rules>(board: &mut Board, choices: &[Choice], passed: usize, l
     requires { IsWellFormed board.old }
     ensures { board.new ≡ board.old }
 {
-    let end = place_behind::<R>(board, last);
-    let mut place = LegalMoves::<R>::of(board);
-    place.go_to(place_behind::<R>(board, passed));
+    let end = place_after::<R>(board, last);
+    let mut place = LegalCursor::<R>::of(board);
+    place.go_to(place_after::<R>(board, passed));
     for (number, choice) in choices.iter().enumerate() {
         if number >= passed && number < last && place.next_until(end, board) != Some(choice.by) {
             return false;
@@ -196,7 +196,7 @@ fn gives_mates<R: Rules>(board: &mut Board, choices: &[Choice], passed: usize) -
     requires { IsWellFormed board.old }
     ensures { board.new ≡ board.old }
 {
-    let mut place = place_behind::<R>(board, passed);
+    let mut place = place_after::<R>(board, passed);
     for (number, choice) in choices.iter().enumerate() {
         if number >= passed
             && choice.mates
@@ -219,9 +219,9 @@ fn gives_mates_until<R: Rules>(
     requires { IsWellFormed board.old }
     ensures { board.new ≡ board.old }
 {
-    let end = place_behind::<R>(board, last);
-    let mut place = MatingMoves::<R>::of(board);
-    place.go_to(place_behind::<R>(board, passed));
+    let end = place_after::<R>(board, last);
+    let mut place = MateCursor::<R>::of(board);
+    place.go_to(place_after::<R>(board, passed));
     for (number, choice) in choices.iter().enumerate() {
         let between = number >= passed && number < last;
         if between && choice.mates && place.next_until(end, board) != Some(choice.by) {

@@ -7,8 +7,8 @@ use crate::plain::Rule;
 use crate::probe::is_same;
 use crate::setup::posed;
 use chess_core::{Board, Diagram, Move};
+use chess_rules::blockers::{blocker_squares, cannot_expose};
 use chess_rules::exposure::is_simple;
-use chess_rules::shields::{cannot_expose, shield_squares};
 use chess_rules::{Circe, Madrasi, Moves, Orthodox, Rules, play, unplay};
 
 // The counts of a walk along all lines of moves.
@@ -22,9 +22,9 @@ pub(crate) struct Walk {
     pub(crate) changed: u64,
 }
 
-// Returns whether `LegalMoves` knows without playing the move that it is legal.
-fn is_told<R: Rules>(board: &Board, m: &Move) -> bool {
-    let squares = shield_squares(board, board.turn());
+// Returns whether `LegalCursor` knows without playing the move that it is legal.
+fn is_known_legal<R: Rules>(board: &Board, m: &Move) -> bool {
+    let squares = blocker_squares(board, board.turn());
     if cannot_expose::<R>(board, board.turn(), squares, m) {
         return true;
     }
@@ -71,7 +71,7 @@ fn walk_on<R: Rules>(board: &mut Board, length: u32) -> Walk
     let mut played = 0u64;
     let mut changed = 0u64;
     while let Some(m) = place.next(board) {
-        if length == 1 && !is_told::<R>(board, &m) {
+        if length == 1 && !is_known_legal::<R>(board, &m) {
             played = played.saturating_add(1);
         }
         let undo = play::<R>(board, m);

@@ -15,14 +15,14 @@ pub(crate) struct Defences {
     // The number of the first position where a mate follows a move that was ruled safe.
     pub(crate) wrong: Option<u64>,
     // The number of moves that were ruled safe.
-    pub(crate) told: u32,
+    pub(crate) reported: u32,
 }
 
 // Tests `count` positions of the family, with the other side to move.
 pub(crate) fn defended(rule: Rule, family: Family, count: u64) -> Defences {
     let mut defences = Defences {
         wrong: None,
-        told: 0,
+        reported: 0,
     };
     for number in 0..count {
         let mut diagram = family.diagram(&mut Draw::of(number));
@@ -30,7 +30,7 @@ pub(crate) fn defended(rule: Rule, family: Family, count: u64) -> Defences {
         diagram.crossed = None;
         if diagram.is_well_formed() {
             let mut board = Board::of(&diagram);
-            if is_told_wrong_by(rule, &mut board, &mut defences.told) {
+            if rules_out_mate_by(rule, &mut board, &mut defences.reported) {
                 defences.wrong = Some(number);
                 return defences;
             }
@@ -40,24 +40,24 @@ pub(crate) fn defended(rule: Rule, family: Family, count: u64) -> Defences {
 }
 
 // Returns whether a mate follows a move that was ruled safe. Counts the moves ruled safe before it.
-fn is_told_wrong_by(rule: Rule, board: &mut Board, told: &mut u32) -> bool
+fn rules_out_mate_by(rule: Rule, board: &mut Board, reported: &mut u32) -> bool
     requires { IsWellFormed board.old }
 {
     match rule {
-        Rule::Orthodox => is_told_wrong::<Orthodox>(rule, board, told),
-        Rule::Circe => is_told_wrong::<Circe>(rule, board, told),
-        Rule::Madrasi => is_told_wrong::<Madrasi>(rule, board, told),
+        Rule::Orthodox => rules_out_a_mate::<Orthodox>(rule, board, reported),
+        Rule::Circe => rules_out_a_mate::<Circe>(rule, board, reported),
+        Rule::Madrasi => rules_out_a_mate::<Madrasi>(rule, board, reported),
     }
 }
 
-fn is_told_wrong<R: Rules>(rule: Rule, board: &mut Board, told: &mut u32) -> bool
+fn rules_out_a_mate<R: Rules>(rule: Rule, board: &mut Board, reported: &mut u32) -> bool
     requires { IsWellFormed board.old }
 {
     let plain = Plain::of(board);
     let Some(king) = board.king_of(board.turn()) else {
         return false;
     };
-    if !Threats::are_told::<R>() {
+    if !Threats::are_known::<R>() {
         return false;
     }
     let mut threats = Threats::of::<R>(board, king);
@@ -67,7 +67,7 @@ fn is_told_wrong<R: Rules>(rule: Rule, board: &mut Board, told: &mut u32) -> boo
             if is_followed_by_mate(rule, &plain, &m) {
                 return true;
             }
-            *told = told.saturating_add(1);
+            *reported = reported.saturating_add(1);
         }
     }
     false

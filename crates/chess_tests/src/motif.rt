@@ -67,7 +67,7 @@ pub(crate) enum Motif {
     // Mate, with a square next to the king that wasn't attacked before the move.
     FlightCovered,
     // Mate, with a free square next to the king that is attacked only once the king is there.
-    FlightBehind,
+    FlightBeyond,
     // Mate, with a free square next to the king that wasn't attacked before the move, and now is by a man
     // that didn't move.
     FlightUnmasked,
@@ -100,7 +100,7 @@ pub(crate) enum Motif {
     // A capture mates because the reborn man takes a flight or guards nothing.
     RebirthMates,
     // A capture would mate but for the reborn man.
-    RebirthAnswers,
+    RebirthParriesMate,
     // A move is illegal because it frees a paralysed enemy, which gives check.
     FreesEnemy,
     // A man that was paralysed gives check.

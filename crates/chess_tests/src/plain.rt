@@ -304,7 +304,7 @@ impl Plain {
     }
 
     // Returns whether a pawn moves like this: by a capture or a step.
-    fn pawn_goes(&self, colour: Colour, m: &Move) -> bool {
+    fn pawn_steps_to(&self, colour: Colour, m: &Move) -> bool {
         if self.reaches(m.from, m.to) {
             !self.is_empty(m.to) || self.crossed == Some(m.to)
         } else {
@@ -388,14 +388,14 @@ impl Plain {
     // Returns whether the man moves like this, paralysed or not.
     fn goes(&self, rule: Rule, man: Man, m: &Move) -> bool {
         match man.kind {
-            Kind::Pawn => self.pawn_goes(man.colour, m),
+            Kind::Pawn => self.pawn_steps_to(man.colour, m),
             Kind::King => self.reaches(m.from, m.to) || self.castles(rule, man, m),
             _ => self.reaches(m.from, m.to),
         }
     }
 
     // Returns whether the move is pseudo-legal.
-    pub(crate) fn may_go(&self, rule: Rule, man: Man, m: &Move) -> bool {
+    pub(crate) fn may_arrive(&self, rule: Rule, man: Man, m: &Move) -> bool {
         man.colour == self.turn
             && self.is_free_for(man.colour, m.to)
             && self.is_promotion_right(man, m)
@@ -408,7 +408,7 @@ impl Plain {
         let Some(man) = self.man(m.from) else {
             return false;
         };
-        self.may_go(rule, man, m) && !self.after(rule, m).is_in_check(rule, man.colour)
+        self.may_arrive(rule, man, m) && !self.after(rule, m).is_in_check(rule, man.colour)
     }
 
     // Returns the pseudo-legal moves.
@@ -435,7 +435,7 @@ impl Plain {
                     to: Square::numbered(to),
                     promo: *promo,
                 };
-                if self.may_go(rule, man, &m) {
+                if self.may_arrive(rule, man, &m) {
                     let _fits = moves.try_push(m);
                 }
             }
@@ -483,7 +483,7 @@ impl Plain {
         plain.carry(man, m, captured);
         plain.move_rook(man, m);
         if let (Rule::Circe, Some(victim)) = (rule, self.man(captured)) {
-            plain.bear_again(victim, captured);
+            plain.rebirth(victim, captured);
         }
         plain
     }
@@ -515,7 +515,7 @@ impl Plain {
     }
 
     // Puts a captured man on its home square, if that is empty. A reborn rook may castle.
-    fn bear_again(&mut self, victim: Man, captured: Square) {
+    fn rebirth(&mut self, victim: Man, captured: Square) {
         let home = home(victim, captured);
         if self.is_empty(home) {
             self.men[home.index() as usize] = Some(victim);

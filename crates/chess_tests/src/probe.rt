@@ -7,7 +7,7 @@ use crate::plain::{self, Plain, Rule, bit};
 use crate::setup::{move_of, moves_of, posed};
 use arrayvec::ArrayVec;
 use chess_core::{Board, Colour, Diagram, Kind, Move, Square};
-use chess_mates::MatingMoves;
+use chess_mates::MateCursor;
 use chess_mates::quiet_steps::QuietSteps;
 use chess_mates::threats::Threats;
 use chess_rules::{Circe, Madrasi, Moves, Orthodox, Rules, is_mate, play, unplay};
@@ -186,7 +186,7 @@ fn mates_under<R: Rules>(diagram: &Diagram) -> plain::Moves
     requires { IsWellFormed (position_of diagram.now) }
 {
     let mut board = Board::of(diagram);
-    let mut place = MatingMoves::<R>::of(&board);
+    let mut place = MateCursor::<R>::of(&board);
     let mut moves = ArrayVec::new();
     while let Some(m) = place.next(&mut board) {
         let _fits = moves.try_push(m);
@@ -218,7 +218,7 @@ fn is_harmless_under<R: Rules>(diagram: &Diagram, wanted: Move) -> Option<bool>
             let Some(king) = board.king_of(board.turn()) else {
                 return None;
             };
-            if !Threats::are_told::<R>() {
+            if !Threats::are_known::<R>() {
                 return None;
             }
             let mut threats = Threats::of::<R>(&board, king);
@@ -229,16 +229,16 @@ fn is_harmless_under<R: Rules>(diagram: &Diagram, wanted: Move) -> Option<bool>
 }
 
 // Returns whether threats rule out a mate after the legal move exactly if `wanted`.
-pub(crate) fn is_told_harmless(rule: Rule, position: &str, m: &str, wanted: bool) -> bool {
+pub(crate) fn is_ruled_safe(rule: Rule, position: &str, m: &str, wanted: bool) -> bool {
     let (Some(diagram), Some(m)) = (posed(position), move_of(m)) else {
         return false;
     };
-    let told = match rule {
+    let reported = match rule {
         Rule::Orthodox => is_harmless_under::<Orthodox>(&diagram, m),
         Rule::Circe => is_harmless_under::<Circe>(&diagram, m),
         Rule::Madrasi => is_harmless_under::<Madrasi>(&diagram, m),
     };
-    told == Some(wanted)
+    reported == Some(wanted)
 }
 
 // Returns whether `QuietSteps` sees a quiet step of the other king after this move, if it is legal.
@@ -256,14 +256,14 @@ fn steps_under<R: Rules>(diagram: &Diagram, wanted: Move) -> Option<bool>
 }
 
 // Returns whether `QuietSteps` sees a quiet step after the legal move exactly if `wanted`.
-pub(crate) fn is_told_to_step(rule: Rule, position: &str, m: &str, wanted: bool) -> bool {
+pub(crate) fn has_seen_step(rule: Rule, position: &str, m: &str, wanted: bool) -> bool {
     let (Some(diagram), Some(m)) = (posed(position), move_of(m)) else {
         return false;
     };
-    let told = match rule {
+    let reported = match rule {
         Rule::Orthodox => steps_under::<Orthodox>(&diagram, m),
         Rule::Circe => steps_under::<Circe>(&diagram, m),
         Rule::Madrasi => steps_under::<Madrasi>(&diagram, m),
     };
-    told == Some(wanted)
+    reported == Some(wanted)
 }

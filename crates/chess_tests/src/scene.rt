@@ -112,9 +112,9 @@ pub(crate) fn put_battery(
     rear: Colour,
 ) -> bool {
     let gap = 1 + draw.below(3);
-    let behind = 1 + draw.below(3);
+    let following = 1 + draw.below(3);
     let at = steps(target, way, gap);
-    let rear_at = steps(target, way, gap + behind);
+    let rear_at = steps(target, way, gap + following);
     let rider = rider(draw, way);
     rear_at.is_some() && put(diagram, at, front) && put(diagram, rear_at, man(rear, rider))
 }

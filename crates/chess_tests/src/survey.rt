@@ -2,7 +2,7 @@
 ghost use Rattle.chess_core.specs.WellFormed.{IsWellFormed};
 
 use crate::case::Case;
-use crate::compared::{Question, first_unlike};
+use crate::compared::{Question, first_difference};
 use crate::draw::Draw;
 use crate::family::Family;
 use crate::motif::Motif;
@@ -43,7 +43,7 @@ impl Survey {
                 let forbidden = king.kind == Kind::King
                     && king.colour == plain.turn
                     && plain.castling(king, m).is_some()
-                    && !plain.may_go(rule, king, m);
+                    && !plain.may_arrive(rule, king, m);
                 if forbidden {
                     self.count_move(plain, rule, m, motifs);
                 }
@@ -113,7 +113,7 @@ fn unlike_on_the_way<R: Rules>(
     requires { IsWellFormed board.old }
 {
     for half_moves in 0..2u8 {
-        if let Some(question) = first_unlike::<R>(board, rule) {
+        if let Some(question) = first_difference::<R>(board, rule) {
             return Some(Unlike {
                 number,
                 half_moves,

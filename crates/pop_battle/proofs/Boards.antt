@@ -1,5 +1,5 @@
 -- The contracts of the calls to chess_rules and chess_mates, in the terms of the search.
-use Rattle.pop_battle.proofs.Words.{Battle, Bool, Goal, LegalPlace, List, MatchOption, Mate, Move, Option, Position, RuleSet, [], arith, can_move, chess, cut_mates, cut_moves, false, filter, is_for_mate, is_goal_reached, is_mate, is_mating, is_nil, is_some, is_stalemate, length, length-append, list_any, mates_behind, mates_between, moves, moves_behind, moves_between, nat_tests, not, refl, rules, sum_by, sum_by-cons, true, value, walk_count, ℕ, ◌++◌, ◌&&◌, ◌-◌, ◌<◌, ◌∷◌, ◌≡◌, ◌≤◌, Some}
+use Rattle.pop_battle.proofs.Words.{Battle, Bool, Goal, LegalPlace, List, MatchOption, Mate, Move, Option, Position, RuleSet, [], arith, can_move, chess, cut_mates, cut_moves, false, filter, is_for_mate, is_goal_reached, is_mate, is_mating, is_nil, is_some, is_stalemate, length, length-append, list_any, mates_after, mates_between, moves, moves_after, moves_between, nat_tests, not, refl, rules, sum_by, sum_by-cons, true, value, walk_count, ℕ, ◌++◌, ◌&&◌, ◌-◌, ◌<◌, ◌∷◌, ◌≡◌, ◌≤◌, Some}
 use Rattle.pop_battle.specs.Game.{some_move as some_good}
 use Rattle.pop_battle.specs.ties.Calls.{Finds}
 
@@ -8,9 +8,9 @@ pub some_move : (goal : Goal) (rule : RuleSet) (p : Position) → not (is_nil (m
 some_move goal rule p = grind arith
 
 -- before all triples all moves are to come
-pub behind_start : (rule : RuleSet) (p : Position) → moves_behind rule p 0 ≡ moves rule p
-unfolding moves_behind moves
-behind_start rule p = refl
+pub after_start : (rule : RuleSet) (p : Position) → moves_after rule p 0 ≡ moves rule p
+unfolding moves_after moves
+after_start rule p = refl
 
 -- a goal for which `is_for_mate` holds is mate
 pub for_mate : (goal : Goal) → is_for_mate goal ≡ true → goal ≡ Mate
@@ -31,14 +31,14 @@ module _ (rule : RuleSet) (p : Position) where
   none_joined [] ys = refl
   none_joined (x ∷ xs) ys = refl
 
-  some_mates : (b : ℕ) → some_good (chess Mate rule) (is_mate rule) p ≡ not (is_nil (mates_between rule p 0 b ++ mates_behind rule p b))
-  unfolding mates_behind
-  some_mates b = grind (arith, any_mating (moves rule p), behind_start rule p, cut_mates rule p 0 b (omega arith))
+  some_mates : (b : ℕ) → some_good (chess Mate rule) (is_mate rule) p ≡ not (is_nil (mates_between rule p 0 b ++ mates_after rule p b))
+  unfolding mates_after
+  some_mates b = grind (arith, any_mating (moves rule p), after_start rule p, cut_mates rule p 0 b (omega arith))
 
   -- a mate found after the killer mates
-  pub mate_behind : (b next : ℕ) (o : Option Move) → MatchOption o (mates_behind rule p b ≡ []) (λ m. mates_behind rule p b ≡ m ∷ mates_behind rule p next)
+  pub mate_after : (b next : ℕ) (o : Option Move) → MatchOption o (mates_after rule p b ≡ []) (λ m. mates_after rule p b ≡ m ∷ mates_after rule p next)
       → true ≡ is_some o → true ≡ some_good (chess Mate rule) (is_goal_reached Mate rule) p
-  mate_behind b next o found some = grind (arith, some_mates b, none_joined)
+  mate_after b next o found some = grind (arith, some_mates b, none_joined)
 
   -- a mate found before the killer mates
   pub mate_before : (a b next : ℕ) (q : Position) (o : Option Move)
@@ -48,10 +48,10 @@ module _ (rule : RuleSet) (p : Position) where
 
   -- where neither search finds one, no move mates
   pub no_mate : (a b b' next last : ℕ) (q : Position) (o o' : Option Move)
-      → MatchOption o (mates_behind rule p b ≡ []) (λ m. mates_behind rule p b ≡ m ∷ mates_behind rule p next)
+      → MatchOption o (mates_after rule p b ≡ []) (λ m. mates_after rule p b ≡ m ∷ mates_after rule p next)
       → MatchOption o' (mates_between rule q a b' ≡ []) (λ m. mates_between rule q a b' ≡ m ∷ mates_between rule q last b')
       → a ≡ 0 → b ≡ b' → q ≡ p → false ≡ is_some o → false ≡ is_some o' → false ≡ some_good (chess Mate rule) (is_goal_reached Mate rule) p
-  no_mate a b b' next last q o o' behind before start cut same none none' = grind (arith, some_mates b)
+  no_mate a b b' next last q o o' following before start cut same none none' = grind (arith, some_mates b)
 
 -- with no half-move left nothing is walked
 pub none_of : {P M : Type 0} (moves : P → List M) (after : P → M → P) (p : P) (ms : List M) → sum_by (λ m. walk_count moves after 0 (after p m)) ms ≡ 0
@@ -79,8 +79,8 @@ module _ (goal : Goal) (rule : RuleSet) (p : Position) where
 
   -- the first move is found exactly where there is one
   pub has_first : (place next : ℕ) (o : Option Move) (board : Position) (known : LegalPlace) → place ≡ 0
-      → Finds rule p board (Some known) o (moves_behind rule p place) (moves_behind rule p next) → is_some o ≡ can_move (chess goal rule) p
-  has_first place next o board known at f = grind (arith, behind_start, nat_tests)
+      → Finds rule p board (Some known) o (moves_after rule p place) (moves_after rule p next) → is_some o ≡ can_move (chess goal rule) p
+  has_first place next o board known at f = grind (arith, after_start, nat_tests)
 
   -- where there is a move the goal isn't reached
   pub unreached : can_move (chess goal rule) p ≡ true → is_goal_reached goal rule p ≡ false

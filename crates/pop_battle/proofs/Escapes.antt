@@ -1,11 +1,11 @@
 -- A defence after which no reply mates decides a direct mate with two half-moves left.
-use Rattle.pop_battle.proofs.Words.{Bool, Direct, HasCounted, IsWellFormed, List, Mate, Position, RuleSet, Some, [], ap, arith, behind_cut, can_move, chess, false, is_nil, length, length-append, list_all, least_of, mates_behind, min, moves, moves_behind, moves_between, nat_tests, not, place_of, position_after, refl, smallest_below, smallest_tree, sym, true, value, walk_count, ℕ, ◌+◌, ◌++◌, ◌-◌, ◌^◌, ◌∙◌, ◌∷◌, ◌≡◌, ◌≤◌, joined_value}
-use Rattle.pop_battle.proofs.Boards.{any_mating, behind_start, each_one, unreached}
-use Rattle.pop_battle.proofs.Passing.{behind_back}
+use Rattle.pop_battle.proofs.Words.{Bool, Direct, HasCounted, IsWellFormed, List, Mate, Position, RuleSet, Some, [], ap, arith, after_cut, can_move, chess, false, is_nil, length, length-append, list_all, least_of, mates_after, min, moves, moves_after, moves_between, nat_tests, not, place_of, position_after, refl, smallest_below, smallest_tree, sym, true, value, walk_count, ℕ, ◌+◌, ◌++◌, ◌-◌, ◌^◌, ◌∙◌, ◌∷◌, ◌≡◌, ◌≤◌, joined_value}
+use Rattle.pop_battle.proofs.Boards.{any_mating, after_start, each_one, unreached}
+use Rattle.pop_battle.proofs.Passing.{after_back}
 use Rattle.pop_battle.proofs.SmallestTrees.{tree-one, trees-start}
 use Rattle.pop_battle.proofs.Values.{value-mates, value-open}
 use Rattle.chess_mates.specs.ties.Mates.{allows_mate}
-use Rattle.chess_rules.specs.ties.Sifting.{SomeFails}
+use Rattle.chess_rules.specs.ties.Filtering.{SomeFails}
 
 module _ {M : Type 0} (m : M) (ys : List M) where
   -- one that fails is enough
@@ -20,16 +20,16 @@ module _ {M : Type 0} (m : M) (ys : List M) where
   least_at test f n (x ∷ xs) passes = grind (arith, least_at test f n xs passes)
 
 -- where no move mates
-unmated : (rule : RuleSet) (q : Position) → not (is_nil (mates_behind rule q 0)) ≡ false → value Direct (chess Mate rule) 1 q ≡ false
-unfolding mates_behind
-unmated rule q none = value-mates Direct (chess Mate rule) q refl ∙ any_mating rule q (moves rule q) ∙ rw (← behind_start rule q) none
+unmated : (rule : RuleSet) (q : Position) → not (is_nil (mates_after rule q 0)) ≡ false → value Direct (chess Mate rule) 1 q ≡ false
+unfolding mates_after
+unmated rule q none = value-mates Direct (chess Mate rule) q refl ∙ any_mating rule q (moves rule q) ∙ rw (← after_start rule q) none
 
 module _ (rule : RuleSet) (p : Position) (well : IsWellFormed p) (e : SomeFails rule p (allows_mate rule p)) where
   abbrev before : ℕ
   before = place_of (Some e.move) - 1
 
-  cut : moves rule p ≡ moves_between rule p 0 before ++ e.move ∷ moves_behind rule p (place_of (Some e.move))
-  cut = sym (behind_start rule p) ∙ behind_cut rule p 0 before (omega arith) ∙ ap (λ ms. moves_between rule p 0 before ++ ms) (behind_back rule p e.move well e.legal)
+  cut : moves rule p ≡ moves_between rule p 0 before ++ e.move ∷ moves_after rule p (place_of (Some e.move))
+  cut = sym (after_start rule p) ∙ after_cut rule p 0 before (omega arith) ∙ ap (λ ms. moves_between rule p 0 before ++ ms) (after_back rule p e.move well e.legal)
 
   many : 1 ≤ length (moves rule p)
   many = rw (cut, length-append (moves_between rule p 0 before)) (omega arith)
@@ -45,7 +45,7 @@ module _ (rule : RuleSet) (p : Position) (well : IsWellFormed p) (e : SomeFails 
   fails =
       value-open Direct (chess Mate rule) 2 p (omega arith) can (unreached Mate rule p can)
       ∙ ap (list_all (λ m. value Direct (chess Mate rule) 1 (position_after rule p m))) cut
-      ∙ one_fails e.move (moves_behind rule p (place_of (Some e.move))) (λ m. value Direct (chess Mate rule) 1 (position_after rule p m))
+      ∙ one_fails e.move (moves_after rule p (place_of (Some e.move))) (λ m. value Direct (chess Mate rule) 1 (position_after rule p m))
       (moves_between rule p 0 before) lost
 
   tree : smallest_tree Direct (chess Mate rule) 2 p ≤ 2

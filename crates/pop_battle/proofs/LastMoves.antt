@@ -1,6 +1,6 @@
 -- The last half-moves, for mate, tried without frames: their value, and how many positions count.
-use Rattle.pop_battle.proofs.Words.{AreTaken, Battle, Bool, Direct, HasCounted, IfSome, Killer, LegalPlace, List, Mate, Move, None, Option, Order, Passes, Position, RuleSet, Selfmate, Some, [], arith, can_move, chess, cond, eqb, false, filter, is_goal_reached, is_legal, is_mating, is_some, joined_value, length, list_all, list_any, mates_behind, min, moves, moves_ahead, moves_behind, must_reply_with_mate, nat_tests, not, position_after, refl, rules, seeks, smallest_below, smallest_tree, true, value, walk_count, ℕ, ◌&&◌, ◌++◌, ◌+◌, ◌-◌, ◌<◌, ◌^◌, ◌∷◌, ◌≡◌, ◌≤◌, suc, sym, walk_among, ◌∙◌, Aim}
-use Rattle.pop_battle.proofs.Boards.{behind_start, each_one, unreached, walk_count-some}
+use Rattle.pop_battle.proofs.Words.{AreTaken, Battle, Bool, Direct, HasCounted, IfSome, Killer, LegalPlace, List, Mate, Move, None, Option, Order, Passes, Position, RuleSet, Selfmate, Some, [], arith, can_move, chess, cond, eqb, false, filter, is_goal_reached, is_legal, is_mating, is_some, joined_value, length, list_all, list_any, mates_after, min, moves, moves_ahead, moves_after, must_reply_with_mate, nat_tests, not, position_after, refl, rules, attacker_to_move, smallest_below, smallest_tree, true, value, walk_count, ℕ, ◌&&◌, ◌++◌, ◌+◌, ◌-◌, ◌<◌, ◌^◌, ◌∷◌, ◌≡◌, ◌≤◌, suc, sym, walk_among, ◌∙◌, Aim}
+use Rattle.pop_battle.proofs.Boards.{after_start, each_one, unreached, walk_count-some}
 use Rattle.pop_battle.proofs.SmallestTrees.{tree-one, trees-end, trees-next, trees-start}
 use Rattle.pop_battle.proofs.Tests.{any-start, fewest-start, first, rest-start, walk-next, walk_count-start}
 use Rattle.pop_battle.proofs.Values.{value-forced, value-open, value-stuck}
@@ -15,9 +15,9 @@ none_mates test [] none = refl
 none_mates test (m ∷ ms) none = grind arith
 
 -- Black needn't mate where no move mates
-pub no_mates : (rule : RuleSet) (q : Position) → mates_behind rule q 0 ≡ [] → value Selfmate (chess Mate rule) 1 q ≡ false
-unfolding mates_behind
-no_mates rule q none = rw (value-forced Selfmate (chess Mate rule) q refl) (none_mates (is_mating rule q) (moves rule q) (rw (← behind_start rule q) none))
+pub no_mates : (rule : RuleSet) (q : Position) → mates_after rule q 0 ≡ [] → value Selfmate (chess Mate rule) 1 q ≡ false
+unfolding mates_after
+no_mates rule q none = rw (value-forced Selfmate (chess Mate rule) q refl) (none_mates (is_mating rule q) (moves rule q) (rw (← after_start rule q) none))
 
 -- for `forces_mate`: where Black needn't mate
 pub ruleset unforced = (one_quiet, no_mates)
@@ -29,7 +29,7 @@ aim_of battle = record { battle = battle; goal = Mate }
 -- these moves are still to be tried, with t half-moves left after each: v joins their values, and with them
 -- at least and at most this many positions are counted
 pub record AreTried (battle : Battle) (rule : RuleSet) (t : ℕ) (p : Position) (ahead : List Move) (v : Bool) (before least most counted : ℕ) : Type 0 where
-  pub joined : cond (seeks battle (suc t)) (list_any (λ m. value battle (chess Mate rule) t (position_after rule p m)) ahead)
+  pub joined : cond (attacker_to_move battle (suc t)) (list_any (λ m. value battle (chess Mate rule) t (position_after rule p m)) ahead)
       (list_all (λ m. value battle (chess Mate rule) t (position_after rule p m)) ahead) ≡ v
   pub fits : counted + walk_among rule (suc t) p ahead ≤ most
   pub tried : min (before + least) (2 ^ 64 - 1) ≤ counted + smallest_below battle (chess Mate rule) (suc t) p ahead
@@ -52,14 +52,14 @@ module _ {battle : Battle} {rule : RuleSet} {t : ℕ} {p : Position} {v : Bool} 
 
   module _ {m : Move} {ahead later : List Move} (here : ahead ≡ m ∷ later) {counted : ℕ} (count : ℕ)
       (a : AreTried battle rule t p ahead v before least most counted)
-      (told : (count ≤ counted + walk_count (moves rule) (position_after rule) t (position_after rule p m))
+      (reported : (count ≤ counted + walk_count (moves rule) (position_after rule) t (position_after rule p m))
       × HasCounted counted count (smallest_tree battle (chess Mate rule) t (position_after rule p m))) where
     -- where a move decides, the count is right
-    pub stops : value battle (chess Mate rule) t (position_after rule p m) ≡ seeks battle (suc t) → (count ≤ most) × HasCounted before count least
+    pub stops : value battle (chess Mate rule) t (position_after rule p m) ≡ attacker_to_move battle (suc t) → (count ≤ most) × HasCounted before count least
     stops e = grind (arith, trees-next battle (chess Mate rule) t p m later, walk-next rule (aim_of battle) t p ahead later m here)
 
     -- after another the next is to be tried
-    pub goes_on : value battle (chess Mate rule) t (position_after rule p m) ≡ not (seeks battle (suc t))
+    pub goes_on : value battle (chess Mate rule) t (position_after rule p m) ≡ not (attacker_to_move battle (suc t))
         → AreTried battle rule t p later v before least most count
     goes_on e = grind (arith, trees-next battle (chess Mate rule) t p m later, walk-next rule (aim_of battle) t p ahead later m here)
 
@@ -77,7 +77,7 @@ module _ {rule : RuleSet} {p : Position} {v : Bool} {before least most : ℕ} wh
 
   -- moves that are passed over don't decide: the others are still to be tried
   pub passes_on : {place counted count : ℕ} {ahead : List Move} → Passes rule p place ahead (AreTaken (must_reply_with_mate rule p) counted count)
-      → AreTried Selfmate rule 1 p (moves_behind rule p place) v before least most counted → AreTried Selfmate rule 1 p ahead v before least most count
+      → AreTried Selfmate rule 1 p (moves_after rule p place) v before least most counted → AreTried Selfmate rule 1 p ahead v before least most count
   passes_on n a = taken_on n.over _ _ _ (rw (n.passed, n.here) at a) n.fits
 
 -- nothing is counted only where nothing was before, and no move is passed over
@@ -86,7 +86,7 @@ untaken [] counted count e zero = (omega (arith, e, zero), refl)
 untaken (m ∷ over) counted count e zero = absurd (omega (arith, e, zero))
 
 pub none_taken : {rule : RuleSet} {p : Position} {test : Move → Bool} {place counted count : ℕ} → Passes rule p place [] (AreTaken test counted count)
-    → count ≡ 0 → (counted ≡ 0) × (moves_behind rule p place ≡ [])
+    → count ≡ 0 → (counted ≡ 0) × (moves_after rule p place ≡ [])
 none_taken n zero = grind (arith, untaken n.over _ _ n.fits.counts zero, n.passed, n.here)
 
 module _ (battle : Battle) (rule : RuleSet) (p : Position) where
@@ -94,7 +94,7 @@ module _ (battle : Battle) (rule : RuleSet) (p : Position) where
   pub stuck : (v : Bool) (opened : ℕ) → can_move (chess Mate rule) p ≡ false → v ≡ is_goal_reached Mate rule p
       → (v ≡ value battle (chess Mate rule) 2 p) × HasCounted opened opened (smallest_tree battle (chess Mate rule) 2 p)
   unfolding smallest_tree
-  stuck v opened none told = search (rules, value-stuck)
+  stuck v opened none reported = search (rules, value-stuck)
 
   -- where the moves decide, all are to be tried, in any order
   begins : (t : ℕ) (ahead : List Move) (before counted : ℕ) → joined_value battle (chess Mate rule) (suc t) p ahead ≡ value battle (chess Mate rule) (suc t) p
@@ -115,12 +115,12 @@ module _ (battle : Battle) (rule : RuleSet) (p : Position) where
   none_moves none = rw none refl
 
   -- tried in order
-  pub begins_plain : (place before : ℕ) → place ≡ 0 → 0 < length (moves_behind rule p place)
-      → AreTried battle rule 1 p (moves_behind rule p place) (value battle (chess Mate rule) 2 p) before (smallest_tree battle (chess Mate rule) 2 p)
+  pub begins_plain : (place before : ℕ) → place ≡ 0 → 0 < length (moves_after rule p place)
+      → AreTried battle rule 1 p (moves_after rule p place) (value battle (chess Mate rule) 2 p) before (smallest_tree battle (chess Mate rule) 2 p)
       (before + walk_count (moves rule) (position_after rule) 2 p) (before + 1)
   unfolding walk_count walk_among
   begins_plain place before at some =
-      let all : moves_behind rule p place ≡ moves rule p = rw at (behind_start rule p) in
+      let all : moves_after rule p place ≡ moves rule p = rw at (after_start rule p) in
       rw all (begins 1 _ before _ (sym (whole (grind (arith, nat_tests)))) refl (trees-start battle (chess Mate rule) 2 p) (omega arith) (omega arith))
 
   -- tried in the order of a test

@@ -1,8 +1,8 @@
 -- The moves of a position, stage by stage, are all its moves in another order.
-use Rattle.pop_battle.proofs.Words.{Aimed, Bool, Earlier, Killer, List, Move, Order, Others, Position, RuleSet, [], all_moves_of, ap, append-nil, arith, belongs, between-here, between-none, between-past, between-skip, cases_Bool, cases_lt, comes_early, cond, eqb, false, filter, filter_agree, inl, inr, is_at, moves_ahead, moves_behind, moves_behind-end, moves_behind-here, moves_behind-skip, moves_between, moves_here, moves_later, nat_tests, not, place_of_triple, refl, rules, suc, sym, true, zero, ℕ, ◌&&◌, ◌||◌, ◌++◌, ◌+◌, ◌-◌, ◌<◌, ◌∙◌, ◌∷◌, ◌≡◌, ◌≤◌, append_assoc, all_triples, legal_moves}
+use Rattle.pop_battle.proofs.Words.{Aimed, Bool, Earlier, Killer, List, Move, Order, Others, Position, RuleSet, [], all_moves_of, ap, append-nil, arith, belongs, between-here, between-none, between-past, between-skip, cases_Bool, cases_lt, comes_early, cond, eqb, false, filter, filter_agree, inl, inr, is_at, moves_ahead, moves_after, moves_after-end, moves_after-here, moves_after-skip, moves_between, moves_here, moves_later, nat_tests, not, place_of_triple, refl, rules, suc, sym, true, zero, ℕ, ◌&&◌, ◌||◌, ◌++◌, ◌+◌, ◌-◌, ◌<◌, ◌∙◌, ◌∷◌, ◌≡◌, ◌≤◌, append_assoc, all_triples, legal_moves}
 use Rattle.chess_mates.specs.ties.Aims.{aims_at_king}
 use Rattle.pop_battle.specs.declared.frame.Early.TheVariants.{AimedMoves, NoMoves}
-use Rattle.pop_battle.proofs.Boards.{behind_start}
+use Rattle.pop_battle.proofs.Boards.{after_start}
 
 -- a list parted by three tests
 module _ {M : Type 0} (a b c : M → Bool) where
@@ -33,25 +33,25 @@ filter-none f none [] = refl
 filter-none f none (m ∷ ms) = rw (none m) (filter-none f none ms)
 
 -- the moves after a cursor, one cursor after another
-ruleset places = (cases_lt, cases_Bool, moves_behind-end, moves_behind-here, moves_behind-skip, place_of_triple)
+ruleset places = (cases_lt, cases_Bool, moves_after-end, moves_after-here, moves_after-skip, place_of_triple)
 
 -- the moves at one place
 module _ (rule : RuleSet) (p : Position) (k : ℕ) where
   -- a triple that stands elsewhere is passed
-  pass : (a : ℕ) → (a + 1 ≡ k → ⊥) → filter (is_at k) (moves_behind rule p a) ≡ filter (is_at k) (moves_behind rule p (a + 1))
+  pass : (a : ℕ) → (a + 1 ≡ k → ⊥) → filter (is_at k) (moves_after rule p a) ≡ filter (is_at k) (moves_after rule p (a + 1))
   pass a other = search (rules, places)
 
   pass_all : (n a b : ℕ) → b ≡ a + n → ((i : ℕ) → a ≤ i → i < b → i + 1 ≡ k → ⊥)
-      → filter (is_at k) (moves_behind rule p a) ≡ filter (is_at k) (moves_behind rule p b)
+      → filter (is_at k) (moves_after rule p a) ≡ filter (is_at k) (moves_after rule p b)
   pass_all zero a b e off = grind arith
   pass_all (suc n) a b e off =
       pass a (off a (omega arith) (omega (arith, e))) ∙ pass_all n (a + 1) b (omega (arith, e)) (λ i lo hi. off i (omega (arith, lo)) hi)
 
-  here_alone : filter (is_at k) (moves_behind rule p (k - 1)) ≡ moves_between rule p (k - 1) k
-  here_alone = search (rules, places, between-past, between-here, between-skip, between-none, pass_all all_triples k (k + all_triples), moves_behind-end)
+  here_alone : filter (is_at k) (moves_after rule p (k - 1)) ≡ moves_between rule p (k - 1) k
+  here_alone = search (rules, places, between-past, between-here, between-skip, between-none, pass_all all_triples k (k + all_triples), moves_after-end)
 
   one_place : moves_between rule p (k - 1) k ≡ filter (is_at k) (legal_moves rule p)
-  one_place = search (rules, ← behind_start, pass_all (k - 1) 0 (k - 1), here_alone)
+  one_place = search (rules, ← after_start, pass_all (k - 1) 0 (k - 1), here_alone)
 
 module _ (rule : RuleSet) (p : Position) (order : Order) where
   -- the cursor before a stage
@@ -66,10 +66,10 @@ module _ (rule : RuleSet) (p : Position) (order : Order) where
   before_earlier place at other = search (rules, one_place, filter_agree, nat_tests)
 
   -- where both killers are one, the earlier has no move
-  pub behind_earlier : (place : ℕ) → place ≡ order.earlier → eqb order.earlier order.killer ≡ true
+  pub after_earlier : (place : ℕ) → place ≡ order.earlier → eqb order.earlier order.killer ≡ true
       → moves_here rule p order Earlier place ≡ all_moves_of rule p order Earlier
   unfolding moves_here belongs
-  behind_earlier place at same = search (rules, between-none, filter-none, nat_tests)
+  after_earlier place at same = search (rules, between-none, filter-none, nat_tests)
 
   -- the stages after one
   pub later_aimed : order.early ≡ NoMoves → moves_later rule p order Earlier ≡ all_moves_of rule p order Others ++ moves_later rule p order Others
@@ -98,7 +98,7 @@ aimed_filtered p order early [] = refl
 aimed_filtered p order early (m ∷ ms) = search (rules, aimed_filtered p order early ms, cases_Bool)
 
 -- for `place_before`: what is ahead at the start of each stage
-pub ruleset first_place = (before_killer, before_earlier, behind_earlier, behind_start)
+pub ruleset first_place = (before_killer, before_earlier, after_earlier, after_start)
 
--- for `stretch_behind`: what is ahead after each stage
-pub ruleset next_stretch = (later_aimed, append-nil)
+-- for `move_stage_after`: what is ahead after each stage
+pub ruleset next_move_stage = (later_aimed, append-nil)

@@ -1,12 +1,12 @@
 -- One turn of a test over frames.
-use Rattle.pop_battle.proofs.Words.{AreKnown, Bool, CameFrom, CameFromAt, Ends, Frame, HasCounted, IfNone, IfSome, IsDescending, IsLinked, IsOpenedOn, IsPlaceIn, IsTesting, IsWellFormed, Killer, LegalPlace, List, MatchOption, Move, None, Option, Order, Position, RuleSet, Some, Turns, Undo, [], after_well_formed, ap, arith, cases_lt, chess, cond, delivered_value, drop, drop-append-le, is_legal, joined_value, least_of, length, length-append, length-drop, length-reverse, moves_ahead, is_pseudo_legal-from_legal, list_all, list_any, min, not, pending_value, position, refl, reverse, reverse-append, rules, seeks, smallest_below, smallest_tree, work_from, work_among, suc, sum_by, sum_by-cons, take, take-append-le, take_all, tested_frame, tests, to_test, to_try, to_try_with, left_at_top, true, undo_of, untried_moves, value, walk_among, walk_count, test_work, ℕ, ◌&&◌, ◌++◌, ◌+◌, ◌-◌, ◌<◌, ◌^◌, ◌||◌, ◌∙◌, ◌∷◌, ◌≡◌, ◌≤◌, ◌⊎◌, position_after, legal_moves, Aim}
+use Rattle.pop_battle.proofs.Words.{AreKnown, Bool, CameFrom, CameFromAt, Ends, Frame, HasCounted, IfNone, IfSome, IsDescending, IsLinked, IsOpenedOn, IsPlaceIn, IsTesting, IsWellFormed, Killer, LegalPlace, List, MatchOption, Move, None, Option, Order, Position, RuleSet, Some, Turns, Undo, [], after_well_formed, ap, arith, cases_lt, chess, cond, delivered_value, drop, drop-append-le, is_legal, joined_value, least_of, length, length-append, length-drop, length-reverse, moves_ahead, is_pseudo_legal-from_legal, list_all, list_any, min, not, pending_value, position, refl, reverse, reverse-append, rules, attacker_to_move, smallest_below, smallest_tree, work_from, work_among, suc, sum_by, sum_by-cons, take, take-append-le, take_all, tested_frame, tests, to_test, to_try, to_try_with, left_at_top, true, undo_of, untried_moves, value, walk_among, walk_count, test_work, ℕ, ◌&&◌, ◌++◌, ◌+◌, ◌-◌, ◌<◌, ◌^◌, ◌||◌, ◌∙◌, ◌∷◌, ◌≡◌, ◌≤◌, ◌⊎◌, position_after, legal_moves, Aim}
 use Rattle.pop_battle.proofs.Orders.{same_start}
-use Rattle.pop_battle.specs.declared.frame.Stretch.{Stretch}
+use Rattle.pop_battle.specs.declared.frame.MoveStage.{MoveStage}
 use Rattle.pop_battle.proofs.SmallestTrees.{trees-next, trees-end, trees-start}
 
 -- the frame of a test, moved on
-abbrev pub passed : Frame → ℕ → Stretch → Option LegalPlace → Frame
-passed f place s known = record f { place = place; stretch = s; known = known }
+abbrev pub passed : Frame → ℕ → MoveStage → Option LegalPlace → Frame
+passed f place s known = record f { place = place; move_stage = s; known = known }
 
 -- the moves of a frame that is opened are all its position's moves, in another order
 module _ (rule : RuleSet) (q : Position) (o : Order) where
@@ -39,7 +39,7 @@ module _ (rule : RuleSet) (aim : Aim) where
   rest-start t q o = search (rules, any-start, all-start)
 
   pending_value-undecided : (p : Position) (f : Frame) (below : List Frame) (answer : Option Bool)
-      → (answer ≡ None) ⊎ (answer ≡ Some (not (seeks aim.battle f.left)))
+      → (answer ≡ None) ⊎ (answer ≡ Some (not (attacker_to_move aim.battle f.left)))
       → pending_value rule aim p (f ∷ below) answer ≡ delivered_value rule aim p below
       (rest f.left (position rule p (f ∷ below)) (untried_moves rule (position rule p (f ∷ below)) f))
   unfolding pending_value delivered_value
@@ -59,7 +59,7 @@ module _ (rule : RuleSet) (aim : Aim) where
   unfolding smallest_below
   fewest-start t q o = search (rules, trees-start, sum-start, least-start)
 
-  try-undecided : (p : Position) (f : Frame) (below : List Frame) (answer : Option Bool) → (answer ≡ None) ⊎ (answer ≡ Some (not (seeks aim.battle f.left)))
+  try-undecided : (p : Position) (f : Frame) (below : List Frame) (answer : Option Bool) → (answer ≡ None) ⊎ (answer ≡ Some (not (attacker_to_move aim.battle f.left)))
       → to_try rule aim p (f ∷ below) answer ≡ fewest f.left (position rule p (f ∷ below)) (untried_moves rule (position rule p (f ∷ below)) f)
       + to_try_with rule aim p below (rest f.left (position rule p (f ∷ below)) (untried_moves rule (position rule p (f ∷ below)) f))
   unfolding to_try to_try_with
@@ -90,7 +90,7 @@ module _ (rule : RuleSet) (aim : Aim) where
   unfolding walk_among
   walk-next t P ms more m e = rw e (sum_by-cons (λ x. walk_count (legal_moves rule) (position_after rule) t (position_after rule P x)) m more)
 
-  module _ (p : Position) (f : Frame) (below : List Frame) (next : ℕ) (s : Stretch) (m : Move) (t : ℕ) (kn : Option LegalPlace) (left : f.left ≡ suc t)
+  module _ (p : Position) (f : Frame) (below : List Frame) (next : ℕ) (s : MoveStage) (m : Move) (t : ℕ) (kn : Option LegalPlace) (left : f.left ≡ suc t)
       (e : untried_moves rule (position rule p (f ∷ below)) f ≡ m ∷ moves_ahead rule (position rule p (f ∷ below)) f.order s next) where
     abbrev P : Position
     P = position rule p (f ∷ below)
@@ -107,9 +107,9 @@ module _ (rule : RuleSet) (aim : Aim) where
     unfolding to_try_with position joined_value
     try-next = search (rules, trees-next)
 
-    work-settled : test_work rule p (passed f next s kn ∷ below) < test_work rule p (f ∷ below)
+    work-is_decided : test_work rule p (passed f next s kn ∷ below) < test_work rule p (f ∷ below)
     unfolding test_work position
-    work-settled = rw (left, steps-next t P (untried_moves rule P f) (moves_ahead rule P f.order s next) m e) (omega arith)
+    work-is_decided = rw (left, steps-next t P (untried_moves rule P f) (moves_ahead rule P f.order s next) m e) (omega arith)
 
 -- a frame above the lowest came from the position below
 pub came_from : (rule : RuleSet) (p : Position) (f : Frame) (below : List Frame) (board : Position) → IsLinked rule p (f ∷ below)
@@ -159,8 +159,8 @@ module _ (rule : RuleSet) (aim : Aim) (floor : ℕ) (top : Frame) (old new : Lis
     unfolding IsDescending
     close_room p N r room = search (rules, cases_lt, testing_top, length-tests, popped, length-append)
 
-  module _ (place : ℕ) (s : Stretch) (kn : Option LegalPlace) (m : Move) (board after : Position) (N : ℕ) (was : Option Bool) (last : List Frame)
-      (some : 0 < top.left) (open_yet : (was ≡ None) ⊎ (was ≡ Some (not (seeks aim.battle top.left))))
+  module _ (place : ℕ) (s : MoveStage) (kn : Option LegalPlace) (m : Move) (board after : Position) (N : ℕ) (was : Option Bool) (last : List Frame)
+      (some : 0 < top.left) (open_yet : (was ≡ None) ⊎ (was ≡ Some (not (attacker_to_move aim.battle top.left))))
       (next : untried_moves rule board top ≡ m ∷ moves_ahead rule board top.order s place) (lawful : is_legal rule board m ≡ true)
       (within : IfSome kn (IsPlaceIn rule board)) where
     -- what `descend` leaves
@@ -179,8 +179,8 @@ module _ (rule : RuleSet) (aim : Aim) (floor : ℕ) (top : Frame) (old new : Lis
         → tests floor last ≡ tested_frame d.3.order m (undo_of rule board m) (top.left - 1) d.3.known ∷ (passed top place s kn ∷ tests floor new)
     opened_last d = grind (arith, tests-push, length-append)
 
-    settled_last : (v : Bool) → Descends (Some v) → tests floor last ≡ passed top place s kn ∷ tests floor new
-    settled_last v d = grind (arith, tests-push, length-append)
+    decided_last : (v : Bool) → Descends (Some v) → tests floor last ≡ passed top place s kn ∷ tests floor new
+    decided_last v d = grind (arith, tests-push, length-append)
 
     module _ (p : Position) (r : IsTesting rule p (tests floor old) board) where
       at : board ≡ position rule p (top ∷ tests floor new)
@@ -208,15 +208,15 @@ module _ (rule : RuleSet) (aim : Aim) (floor : ℕ) (top : Frame) (old new : Lis
       tried = search (rules, opened_last, popped, here p r, try-undecided, try-next, left_is, fewest-start, rest-start);
     }
     descend_turns (Some v) d before count o tries p r = record {
-      testing = rw (settled_last v d, d.1) (let t = testing_top p board r in search rules);
+      testing = rw (decided_last v d, d.1) (let t = testing_top p board r in search rules);
       same =
           let n = delivered_value-next rule aim p top (tests floor new) place s m _ kn left_is (here p r) in
-          rw (settled_last v d, popped) (search (rules, n, at p r, pending_value-undecided, delivered_value-some));
-      falls = rw (settled_last v d, popped) (search (rules, here p r, work-settled, left_is));
+          rw (decided_last v d, popped) (search (rules, n, at p r, pending_value-undecided, delivered_value-some));
+      falls = rw (decided_last v d, popped) (search (rules, here p r, work-is_decided, left_is));
       above = grind (arith, length-append);
       base = grind (arith, take-append-le, length-append);
-      counted = rw (settled_last v d, popped) (search (rules, at p r, here p r, walk-next, left_is));
-      tried = rw (settled_last v d, popped)
+      counted = rw (decided_last v d, popped) (search (rules, at p r, here p r, walk-next, left_is));
+      tried = rw (decided_last v d, popped)
           (let n = try-next rule aim p top (tests floor new) place s m _ kn left_is (here p r) in search (rules, at p r, try-undecided, try-some));
     }
 
@@ -240,13 +240,13 @@ module _ (rule : RuleSet) (aim : Aim) (floor : ℕ) (top : Frame) (old new : Lis
   top_room N room = let t : left_at_top (tests floor old) ≡ top.left = ap left_at_top popped in grind (arith, length-append)
 
   -- a frame that its answer decides hands that down
-  pub decided : (p : Position) (was : Option Bool) → was ≡ Some (seeks aim.battle top.left) → HandsDown p was (seeks aim.battle top.left)
+  pub decided : (p : Position) (was : Option Bool) → was ≡ Some (attacker_to_move aim.battle top.left) → HandsDown p was (attacker_to_move aim.battle top.left)
   unfolding pending_value delivered_value to_try to_try_with
   decided p was e = search rules
 
   -- where no move is left untried and none decided, all moves did together
   pub exhausted : (p board : Position) (was : Option Bool) → IsTesting rule p (tests floor old) board
-      → (was ≡ None) ⊎ (was ≡ Some (not (seeks aim.battle top.left))) → untried_moves rule board top ≡ [] → HandsDown p was (not (seeks aim.battle top.left))
+      → (was ≡ None) ⊎ (was ≡ Some (not (attacker_to_move aim.battle top.left))) → untried_moves rule board top ≡ [] → HandsDown p was (not (attacker_to_move aim.battle top.left))
   unfolding joined_value
   exhausted p board was r u e = search (rules, testing_top p board r, top_some p board r, pending_value-undecided, try-undecided, trees-end)
 

@@ -1,5 +1,5 @@
 -- The value of a position from the values after its moves.
-use Rattle.pop_battle.proofs.Words.{Battle, Game, Selfmate, arith, can_move, every_move, false, joined_value, refl, rules, seeks, some_move, true, value, ℕ, ◌%◌, ◌&&◌, ◌<◌, ◌≡◌, and_parts, nat_tests}
+use Rattle.pop_battle.proofs.Words.{Battle, Game, Selfmate, arith, can_move, every_move, false, joined_value, refl, rules, attacker_to_move, some_move, true, value, ℕ, ◌%◌, ◌&&◌, ◌<◌, ◌≡◌, and_parts, nat_tests}
 use Rattle.pop_battle.specs.declared.aim.Battle.TheVariants.{Direct}
 use Rattle.std.specs.Prelude.{◌==◌}
 use Rattle.std.proofs.lemmas.List.{nil_from_length}
@@ -16,7 +16,7 @@ module _ {P M : Type 0} (battle : Battle) (game : Game P M) where
   value-forced p is = rw is refl
 
   -- White with a half-move that nothing ends before
-  pub free_moves : (t : ℕ) (p : P) → 0 < t → (t % 2 == 1 && seeks battle t) ≡ true → value battle game t p ≡ joined_value battle game t p (game.moves p)
+  pub free_moves : (t : ℕ) (p : P) → 0 < t → (t % 2 == 1 && attacker_to_move battle t) ≡ true → value battle game t p ≡ joined_value battle game t p (game.moves p)
   unfolding value joined_value
   free_moves t p some e = grind (arith, and_parts)
 

@@ -13,7 +13,7 @@ pub use Rattle.chess_rules.proofs.listing_moves.Between.{between-here, between-n
 pub use Rattle.chess_mates.proofs.MatesBetween.{cut_mates}
 pub use Rattle.chess_rules.proofs.listing_moves.Calls.{is_pseudo_legal-from_legal}
 pub use Rattle.chess_rules.proofs.listing_moves.Members.{from_map}
-pub use Rattle.chess_rules.proofs.listing_moves.Places.{moves_behind-end, moves_behind-here, moves_behind-skip, place_of_triple}
+pub use Rattle.chess_rules.proofs.listing_moves.Places.{moves_after-end, moves_after-here, moves_after-skip, place_of_triple}
 pub use Rattle.chess_rules.proofs.making_moves.Stays.{after_well_formed}
 pub use Rattle.chess_rules.specs.Legal.{is_nil}
 unfoldable pub use Rattle.chess_rules.specs.Legal.{is_legal, is_mate, is_stalemate, moves}
@@ -21,28 +21,28 @@ pub use Rattle.chess_core.specs.Undo.{Undo}
 unfoldable pub use Rattle.chess_rules.specs.Play.{undo_of}
 pub use Rattle.chess_attacks.specs.RuleSet.{RuleSet}
 pub use Rattle.chess_rules.specs.ties.Places.{IsPlaceIn, LegalPlace}
-unfoldable pub use Rattle.chess_rules.specs.ties.Places.{moves_behind, moves_between}
-pub use Rattle.chess_rules.specs.ties.Sifting.{IsSifted}
+unfoldable pub use Rattle.chess_rules.specs.ties.Places.{moves_after, moves_between}
+pub use Rattle.chess_rules.specs.ties.Filtering.{IsFiltered}
 pub use Rattle.chess_mates.specs.ties.Mates.{MatingPlace, is_mating, mates_between}
 pub use Rattle.chess_mates.specs.ties.QuietSteps.{must_reply_with_mate}
-unfoldable pub use Rattle.chess_mates.specs.ties.Mates.{mates_behind}
+unfoldable pub use Rattle.chess_mates.specs.ties.Mates.{mates_after}
 pub use Rattle.pop_stipulation.specs.declared.stipulation.Goal.{Goal}
 pub use Rattle.pop_stipulation.specs.declared.stipulation.Goal.TheVariants.{Mate}
 pub use Rattle.pop_battle.specs.Chess.{chess, is_goal_reached}
 pub use Rattle.pop_battle.specs.Game.{Game, can_move, every_move, some_move}
 pub use Rattle.pop_battle.specs.declared.aim.Battle.{Battle}
 pub use Rattle.pop_battle.specs.declared.aim.Battle.TheVariants.{Direct, Selfmate}
-pub use Rattle.pop_battle.specs.declared.frame.Stretch.TheVariants.{Aimed, Earlier, Killer, Others}
+pub use Rattle.pop_battle.specs.declared.frame.MoveStage.TheVariants.{Aimed, Earlier, Killer, Others}
 pub use Rattle.pop_battle.specs.ties.Counts.{HasCounted, decided_by}
 unfoldable pub use Rattle.pop_battle.specs.Walks.{walk_count}
 unfoldable pub use Rattle.pop_battle.specs.ties.Counts.{least_of, smallest_below, smallest_tree}
-pub use Rattle.pop_battle.specs.ties.Frames.{CameFrom, CameFromAt, Ends, Frame, IsOpenedOn, IsTesting, Order, Turns, all_moves_of, comes_early, is_at, moves_ahead, stretches_behind, tested_frame, left_at_top, untried_moves}
+pub use Rattle.pop_battle.specs.ties.Frames.{CameFrom, CameFromAt, Ends, Frame, IsOpenedOn, IsTesting, Order, Turns, all_moves_of, comes_early, is_at, moves_ahead, move_stages_after, tested_frame, left_at_top, untried_moves}
 unfoldable pub use Rattle.pop_battle.specs.ties.Frames.{AreKnown, IsDescending, IsLinked, belongs, delivered_value, moves_here, moves_later, pending_value, position, work_from, work_among, tests, to_test, to_try, to_try_with, walk_among, test_work}
 pub use Rattle.pop_battle.specs.ties.Marks.{is_for_mate}
-pub use Rattle.pop_battle.specs.ties.Values.{seeks}
+pub use Rattle.pop_battle.specs.ties.Values.{attacker_to_move}
 unfoldable pub use Rattle.pop_battle.specs.ties.Values.{joined_value, value}
 pub use Rattle.pop_battle.specs.ties.Passing.{AreTaken, IsNextLeft, Passes}
-pub use Rattle.chess_rules.proofs.listing_moves.Between.{behind_cut}
+pub use Rattle.chess_rules.proofs.listing_moves.Between.{after_cut}
 pub use Rattle.chess_rules.proofs.listing_moves.Members.{from_range}
 pub use Rattle.chess_rules.proofs.listing_moves.Places.{triples_numbered}
 pub use Rattle.chess_rules.specs.Legal.{moves as legal_moves}

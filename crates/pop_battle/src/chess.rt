@@ -5,8 +5,8 @@ ghost use Rattle.chess_core.specs.Position.{Position};
 ghost use Rattle.chess_core.specs.WellFormed.{IsWellFormed};
 ghost use Rattle.chess_attacks.specs.Attacks.{in_check};
 ghost use Rattle.chess_rules.specs.Legal.{is_legal};
-ghost use Rattle.chess_rules.specs.ties.Places.{IsPlaceIn, moves_behind, moves_between, place_of};
-ghost use Rattle.chess_mates.specs.ties.Mates.{IsNextMate, mates_behind};
+ghost use Rattle.chess_rules.specs.ties.Places.{IsPlaceIn, moves_after, moves_between, place_of};
+ghost use Rattle.chess_mates.specs.ties.Mates.{IsNextMate, mates_after};
 ghost use Rattle.pop_stipulation.specs.declared.stipulation.Goal.{Goal};
 ghost use Rattle.pop_stipulation.specs.declared.stipulation.Goal.TheVariants.{Mate};
 ghost use Rattle.pop_battle.specs.ties.Calls.{Finds, IsOnMate};
@@ -22,9 +22,9 @@ use chess_core::diagram::Diagram;
 use chess_core::man::{Man, Move};
 use chess_core::square::Square;
 use chess_mates::every_move::every_move_mates;
-use chess_mates::mating_moves::MatingMoves;
+use chess_mates::mating_moves::MateCursor;
 use chess_rules::{
-    LegalMoves, Moves, Rules, Undo, has_legal_move, in_check, is_castling, is_mate, is_stalemate,
+    LegalCursor, Moves, Rules, Undo, has_legal_move, in_check, is_castling, is_mate, is_stalemate,
     unplay,
 };
 use pop_events::shown::{Mark, Shown, Side};
@@ -33,29 +33,29 @@ use pop_stipulation::stipulation::Goal;
 /// Returns the legal-move cursor of the board's position, moved to `place`; it starts from `known` if that
 /// is there.
 pub(crate) fn moves_at<R: Rules>(
-    known: Option<LegalMoves<R>>,
+    known: Option<LegalCursor<R>>,
     place: Moves<R>,
     board: &Board,
-) -> LegalMoves<R>
+) -> LegalCursor<R>
     requires known { IfSome known (λ k. IsPlaceIn R.rule board.now k) }
     ensures place { result.place ≡ place }
     ensures within { IsPlaceIn R.rule board.now result }
 {
     let mut moves = match known {
         Some(moves) => moves,
-        None => LegalMoves::of(board),
+        None => LegalCursor::of(board),
     };
     moves.go_to(place);
     moves
 }
 
 /// Returns the next legal move after the cursor, and moves the cursor to it.
-pub(crate) fn next_behind<R: Rules>(moves: &mut LegalMoves<R>, board: &mut Board) -> Option<Move>
+pub(crate) fn next_after<R: Rules>(moves: &mut LegalCursor<R>, board: &mut Board) -> Option<Move>
     requires well_formed { IsWellFormed board.old }
     requires known { IsPlaceIn R.rule board.old moves.old }
     ensures found { Finds R.rule board.old board.new (Some moves.new) result
-        (moves_behind R.rule board.old moves.old.place)
-        (moves_behind R.rule board.old moves.new.place) }
+        (moves_after R.rule board.old moves.old.place)
+        (moves_after R.rule board.old moves.new.place) }
     ensures place { moves.new.place ≡ place_of result }
 {
     moves.next(board)
@@ -64,7 +64,7 @@ pub(crate) fn next_behind<R: Rules>(moves: &mut LegalMoves<R>, board: &mut Board
 /// Returns the next legal move after `place` and moves `place` to it, or to the end if there is none.
 /// `known` keeps what is known of the position's moves from call to call. The board is unchanged.
 pub fn next_move<R: Rules>(
-    known: &mut Option<LegalMoves<R>>,
+    known: &mut Option<LegalCursor<R>>,
     place: &mut Moves<R>,
     board: &mut Board,
 ) -> Option<Move>
@@ -72,27 +72,27 @@ pub fn next_move<R: Rules>(
     requires known { IfSome known.old (λ k. IsPlaceIn R.rule board.old k) }
     ensures unchanged { board.new ≡ board.old }
     ensures within { IfSome known.new (λ k. IsPlaceIn R.rule board.old k) }
-    ensures next { MatchOption result (moves_behind R.rule board.old place.old ≡ [])
-        (λ m. (moves_behind R.rule board.old place.old
-        ≡ m ∷ moves_behind R.rule board.old place.new)
+    ensures next { MatchOption result (moves_after R.rule board.old place.old ≡ [])
+        (λ m. (moves_after R.rule board.old place.old
+        ≡ m ∷ moves_after R.rule board.old place.new)
         × (is_legal R.rule board.old m ≡ true)) }
     ensures place { place.new ≡ place_of result }
 {
     if known.is_none() {
-        *known = Some(LegalMoves::<R>::of(board));
+        *known = Some(LegalCursor::<R>::of(board));
     }
     let Some(moves) = known else {
         return None;
     };
     moves.go_to(*place);
-    let found = next_behind::<R>(moves, board);
+    let found = next_after::<R>(moves, board);
     *place = moves.place();
     found
 }
 
 /// Returns the next legal move after the cursor and not after `end`, and moves the cursor to it.
 pub(crate) fn next_until<R: Rules>(
-    moves: &mut LegalMoves<R>,
+    moves: &mut LegalCursor<R>,
     end: Moves<R>,
     board: &mut Board,
 ) -> Option<Move>
@@ -108,19 +108,22 @@ pub(crate) fn next_until<R: Rules>(
 /// Returns a legal-move cursor if the board's position has a legal move, otherwise `None`. It tests the
 /// killer first.
 #[tactic(auto, using(crate::proofs::Boards::some_move))]
-pub(crate) fn first_look<R: Rules>(killer: Moves<R>, board: &mut Board) -> Option<LegalMoves<R>>
+pub(crate) fn cursor_if_any_move<R: Rules>(
+    killer: Moves<R>,
+    board: &mut Board,
+) -> Option<LegalCursor<R>>
     requires well_formed { IsWellFormed board.old }
     ensures unchanged { board.new ≡ board.old }
     ensures within { IfSome result (λ k. IsPlaceIn R.rule board.old k) }
     ensures moves { (goal : Goal) → is_some result ≡ has_move (chess goal R.rule) board.old }
 {
-    let mut moves = LegalMoves::<R>::of(board);
+    let mut moves = LegalCursor::<R>::of(board);
     moves.go_to(killer.back());
     if next_until::<R>(&mut moves, killer, board).is_some() {
         return Some(moves);
     }
     moves.go_to(Moves::start());
-    if next_behind::<R>(&mut moves, board).is_some() {
+    if next_after::<R>(&mut moves, board).is_some() {
         return Some(moves);
     }
     None
@@ -130,7 +133,7 @@ pub(crate) fn first_look<R: Rules>(killer: Moves<R>, board: &mut Board) -> Optio
 pub fn next_mate<R: Rules>(place: &mut Moves<R>, board: &mut Board) -> Option<Move>
     requires well_formed { IsWellFormed board.old }
     ensures unchanged { board.new ≡ board.old }
-    ensures next { MatchOption result (mates_behind R.rule board.old place.old ≡ [])
+    ensures next { MatchOption result (mates_after R.rule board.old place.old ≡ [])
         (λ m. IsNextMate R.rule board.old place.old place.new m
         × (is_legal R.rule board.old m ≡ true)) }
 {
@@ -147,7 +150,7 @@ pub(crate) fn find_mate<R: Rules>(killer: Moves<R>, board: &mut Board) -> Option
     ensures place { IfSome result (λ place. IsOnMate R.rule board.old place) }
 {
     let before = killer.back();
-    let mut moves = MatingMoves::<R>::of(board);
+    let mut moves = MateCursor::<R>::of(board);
     moves.go_to(before);
     if moves.next(board).is_some() {
         return Some(moves.place());

@@ -3,14 +3,14 @@ ghost use Rattle.std.specs.Prelude.{◌≡◌, ⊤};
 ghost use Rattle.pop_battle.specs.ties.Frames.{unordered};
 
 use chess_core::man::Move;
-use chess_rules::{LegalMoves, Moves, Rules, Undo};
+use chess_rules::{LegalCursor, Moves, Rules, Undo};
 use std::alloc::AllocError;
 use std::marker::Model;
 
 /// A stage in the order in which a test tries the moves of a position. Each move belongs to exactly one
 /// stage.
 #[derive(Clone, Copy, PartialEq, Eq)]
-pub enum Stretch {
+pub enum MoveStage {
     /// The last killer.
     Killer,
     /// The killer before it, if it is another move.
@@ -82,14 +82,14 @@ pub struct Frame<R: Rules> {
     /// The number of half-moves to try from here.
     pub left: usize,
     /// What is known of the position's legal moves, once they have been listed.
-    pub known: Option<LegalMoves<R>>,
+    pub known: Option<LegalCursor<R>>,
     /// The move that led here.
     pub by: Move,
     /// The cursor: the moves up to it have been tried.
     pub place: Moves<R>,
     /// In a test: the order of the moves, and the stage of `place`.
     pub order: Order<R>,
-    pub stretch: Stretch,
+    pub move_stage: MoveStage,
 }
 
 impl<R: Rules> Model for Frame<R> {
@@ -103,7 +103,7 @@ impl<R: Rules> Model for Frame<R> {
       undo = f.undo;
       left = f.left;
       order = f.order;
-      stretch = f.stretch;
+      move_stage = f.move_stage;
       known = f.known;
     } };
 
@@ -113,7 +113,7 @@ impl<R: Rules> Model for Frame<R> {
       undo = v.undo;
       left = v.left;
       order = v.order;
-      stretch = v.stretch;
+      move_stage = v.move_stage;
       known = v.known;
     } };
 }
@@ -143,7 +143,7 @@ impl<R: Rules> Default for Frame<R> {
             undo: Undo::default(),
             left: 0,
             order: Order::unordered(),
-            stretch: Stretch::Others,
+            move_stage: MoveStage::Others,
             known: None,
         }
     }

@@ -2,7 +2,7 @@
 ghost use Rattle.std.specs.Prelude.{◌≡◌, ◌==◌, ◌<◌, ◌∷◌, [], IfSome, true, if◌then◌else◌, slice_index_or, slice_set};
 ghost use Rattle.std.specs.List.{copy_within, repeat};
 ghost use Rattle.chess_core.specs.WellFormed.{IsWellFormed};
-ghost use Rattle.chess_mates.specs.ties.Mates.{mates_behind};
+ghost use Rattle.chess_mates.specs.ties.Mates.{mates_after};
 ghost use Rattle.chess_rules.specs.Legal.{is_legal};
 ghost use Rattle.chess_rules.specs.Play.{position_after};
 ghost use Rattle.chess_mates.specs.ties.Threats.{AreThreatsOf};
@@ -95,18 +95,18 @@ impl<R: Rules> Killers<R> {
             self.threats = None;
             return;
         };
-        if !Threats::are_told::<R>() {
+        if !Threats::are_known::<R>() {
             self.threats = None;
             return;
         }
         match &mut self.threats {
-            Some(threats) => threats.retell::<R>(board, king),
+            Some(threats) => threats.recompute::<R>(board, king),
             None => self.threats = Some(Threats::of::<R>(board, king)),
         }
     }
 
     /// Makes sure that the kept threats belong to the board's position, if any are kept.
-    pub fn tell_threats(&mut self, board: &Board)
+    pub fn compute_threats(&mut self, board: &Board)
         requires well_formed { IsWellFormed board.now }
         ensures { IfSome self.new.threats (λ t. AreThreatsOf R.rule board.now t) }
     {
@@ -124,9 +124,9 @@ impl<R: Rules> Killers<R> {
         requires well_formed { IsWellFormed board.now }
         requires legal { is_legal R.rule board.now m.now ≡ true }
         ensures { result ≡ true
-            → mates_behind R.rule (position_after R.rule board.now m.now) 0 ≡ [] }
+            → mates_after R.rule (position_after R.rule board.now m.now) 0 ≡ [] }
     {
-        self.tell_threats(board);
+        self.compute_threats(board);
         let Some(threats) = &mut self.threats else {
             return false;
         };

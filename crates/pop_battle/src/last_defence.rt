@@ -7,11 +7,11 @@ ghost use Rattle.chess_rules.specs.Legal.{is_legal, moves as legal_moves};
 ghost use Rattle.chess_rules.specs.Play.{position_after};
 ghost use Rattle.chess_attacks.specs.RuleSet.{captures_do_more};
 ghost use Rattle.chess_rules.specs.ties.Places.{IsPlaceIn};
-ghost use Rattle.chess_rules.specs.ties.Sifting.{SomeFails};
+ghost use Rattle.chess_rules.specs.ties.Filtering.{SomeFails};
 ghost use Rattle.pop_stipulation.specs.declared.stipulation.Goal.TheVariants.{Mate};
 ghost use Rattle.pop_battle.specs.Chess.{chess};
 ghost use Rattle.pop_battle.specs.declared.aim.Battle.TheVariants.{Direct};
-ghost use Rattle.pop_battle.specs.declared.frame.Stretch.TheVariants.{Killer};
+ghost use Rattle.pop_battle.specs.declared.frame.MoveStage.TheVariants.{Killer};
 ghost use Rattle.pop_battle.specs.ties.Calls.{Finds};
 ghost use Rattle.pop_battle.specs.Walks.{walk_count};
 ghost use Rattle.pop_battle.specs.ties.Counts.{HasCounted, smallest_tree};
@@ -20,15 +20,15 @@ ghost use Rattle.pop_battle.specs.ties.Values.{value};
 
 use crate::aim::Battle;
 use crate::chess::{find_mate, is_reached_without_move, moves_at, retract};
-use crate::frame::{Order, Stretch};
-use crate::history::History;
+use crate::frame::{MoveStage, Order};
 use crate::killers::Killers;
-use crate::stretches::{next_tried, order_of, place_before};
+use crate::move_stages::{next_tried, order_of, place_before};
+use crate::search_state::SearchState;
 use chess_core::board::Board;
 use chess_core::man::{Kind, Move};
 use chess_core::square::Square;
 use chess_mates::kept_flights::KeptFlights;
-use chess_rules::{LegalMoves, Moves, Rules, play};
+use chess_rules::{LegalCursor, Moves, Rules, play};
 use pop_stipulation::stipulation::Goal;
 
 /// Returns whether White, to move, mates at once. The mating move becomes the killer; without one the
@@ -46,18 +46,18 @@ pub(crate) fn has_mate<R: Rules>(board: &mut Board, killers: &mut Killers<R>) ->
 
 /// Returns whether White mates after this move by Black. Counts the position after it.
 #[tactic(auto, using(chess_rules::proofs::listing_moves::Calls::playing))]
-fn lets_mate<R: Rules>(by: Move, board: &mut Board, history: &mut History<R>) -> bool
+fn lets_mate<R: Rules>(by: Move, board: &mut Board, search_state: &mut SearchState<R>) -> bool
     requires well_formed { IsWellFormed board.old }
     requires legal { is_legal R.rule board.old by ≡ true }
     ensures unchanged { board.new ≡ board.old }
     ensures value { result
         ≡ value Direct (chess Mate R.rule) 1 (position_after R.rule board.old by) }
-    ensures opened { history.new.opened ≤ history.old.opened + 1 }
-    ensures tried { HasCounted history.old.opened history.new.opened 1 }
+    ensures opened { search_state.new.opened ≤ search_state.old.opened + 1 }
+    ensures tried { HasCounted search_state.old.opened search_state.new.opened 1 }
 {
-    history.opened = history.opened.saturating_add(1);
+    search_state.opened = search_state.opened.saturating_add(1);
     let undo = play::<R>(board, by);
-    let mates = has_mate::<R>(board, &mut history.killers);
+    let mates = has_mate::<R>(board, &mut search_state.killers);
     retract::<R>(board, by, undo);
     mates
 }
@@ -66,24 +66,24 @@ fn lets_mate<R: Rules>(by: Move, board: &mut Board, history: &mut History<R>) ->
 /// stages need.
 fn next_defence<R: Rules>(
     order: Order<R>,
-    stretch: &mut Stretch,
-    moves: &mut Option<LegalMoves<R>>,
+    move_stage: &mut MoveStage,
+    moves: &mut Option<LegalCursor<R>>,
     board: &mut Board,
 ) -> Option<Move>
     requires well_formed { IsWellFormed board.old }
     requires known { IfSome moves.old (λ k. IsPlaceIn R.rule board.old k) }
     ensures { Finds R.rule board.old board.new moves.new result
-        (moves_unlooked R.rule board.old order stretch.old moves.old)
-        (moves_unlooked R.rule board.old order stretch.new moves.new) }
+        (moves_unlooked R.rule board.old order move_stage.old moves.old)
+        (moves_unlooked R.rule board.old order move_stage.new moves.new) }
 {
     if moves.is_none() {
-        *stretch = Stretch::Earlier;
-        *moves = Some(moves_at::<R>(None, place_before(order, Stretch::Earlier), board));
+        *move_stage = MoveStage::Earlier;
+        *moves = Some(moves_at::<R>(None, place_before(order, MoveStage::Earlier), board));
     }
     let Some(known) = moves else {
         return None;
     };
-    next_tried::<R>(order, stretch, known, board)
+    next_tried::<R>(order, move_stage, known, board)
 }
 
 /// Returns the first defence to try: the killer, tested without listing the moves, or the first move after
@@ -91,24 +91,24 @@ fn next_defence<R: Rules>(
 #[tactic(auto, unfolding(crate::specs::ties::Frames::moves_here))]
 fn first_defence<R: Rules>(
     order: Order<R>,
-    stretch: &mut Stretch,
-    moves: &mut Option<LegalMoves<R>>,
+    move_stage: &mut MoveStage,
+    moves: &mut Option<LegalCursor<R>>,
     board: &mut Board,
 ) -> Option<Move>
     requires well_formed { IsWellFormed board.old }
     requires unknown { moves.old ≡ None }
     ensures { Finds R.rule board.old board.new moves.new result
         (moves_ahead R.rule board.old order Killer (order.killer - 1))
-        (moves_unlooked R.rule board.old order stretch.new moves.new) }
+        (moves_unlooked R.rule board.old order move_stage.new moves.new) }
 {
     if let Some(by) = order.killer.legal_move(board) {
         return Some(by);
     }
-    next_defence::<R>(order, stretch, moves, board)
+    next_defence::<R>(order, move_stage, moves, board)
 }
 
 /// Returns the place of the defence that was found last.
-fn place_of_last<R: Rules>(order: Order<R>, moves: &Option<LegalMoves<R>>) -> Moves<R> {
+fn place_of_last<R: Rules>(order: Order<R>, moves: &Option<LegalCursor<R>>) -> Moves<R> {
     match moves {
         Some(known) => known.place(),
         None => order.killer,
@@ -118,29 +118,29 @@ fn place_of_last<R: Rules>(order: Order<R>, moves: &Option<LegalMoves<R>>) -> Mo
 /// Returns the value of a position with two half-moves left in a direct mate, by trying Black's moves in
 /// the order of a test. Counts the position if it has a legal move, and each position after a tried move.
 #[inline(always)]
-fn value_by_trial<R: Rules>(board: &mut Board, history: &mut History<R>) -> bool
+fn value_by_trial<R: Rules>(board: &mut Board, search_state: &mut SearchState<R>) -> bool
     requires well_formed { IsWellFormed board.old }
     ensures unchanged { board.new ≡ board.old }
     ensures value { result ≡ value Direct (chess Mate R.rule) 2 board.old }
-    ensures opened { history.new.opened ≤ history.old.opened
+    ensures opened { search_state.new.opened ≤ search_state.old.opened
         + walk_count (legal_moves R.rule) (position_after R.rule) 2 board.old }
-    ensures tried { HasCounted history.old.opened history.new.opened
+    ensures tried { HasCounted search_state.old.opened search_state.new.opened
         (smallest_tree Direct (chess Mate R.rule) 2 board.old) }
 {
-    let order = order_of(&history.killers, Battle::Direct, 2);
-    let mut moves: Option<LegalMoves<R>> = None;
-    let mut stretch = Stretch::Killer;
-    let mut next = first_defence::<R>(order, &mut stretch, &mut moves, board);
+    let order = order_of(&search_state.killers, Battle::Direct, 2);
+    let mut moves: Option<LegalCursor<R>> = None;
+    let mut move_stage = MoveStage::Killer;
+    let mut next = first_defence::<R>(order, &mut move_stage, &mut moves, board);
     if next.is_none() {
         return is_reached_without_move::<R>(Goal::Mate, board);
     }
-    history.opened = history.opened.saturating_add(1);
+    search_state.opened = search_state.opened.saturating_add(1);
     while let Some(by) = next {
-        if !lets_mate::<R>(by, board, history) {
-            history.killers.put(2, place_of_last(order, &moves));
+        if !lets_mate::<R>(by, board, search_state) {
+            search_state.killers.put(2, place_of_last(order, &moves));
             return false;
         }
-        next = next_defence::<R>(order, &mut stretch, &mut moves, board);
+        next = next_defence::<R>(order, &mut move_stage, &mut moves, board);
     }
     true
 }
@@ -157,10 +157,10 @@ fn keeps_flight<R: Rules>(board: &mut Board, king: Square) -> bool
         → SomeFails R.rule board.old (allows_mate R.rule board.old) }
 {
     let mut flights = KeptFlights::of::<R>(board, king);
-    let known = LegalMoves::<R>::of(board);
+    let known = LegalCursor::<R>::of(board);
     let kings = board.squares(board.turn(), Kind::King);
     let men = board.side(board.turn()) & !kings;
-    known.has_taken(&mut flights, board, men) || known.has_taken(&mut flights, board, kings)
+    known.has_filtered(&mut flights, board, men) || known.has_filtered(&mut flights, board, kings)
 }
 
 // The most attackers against which kept flights are computed before any defence is tried. The limit affects
@@ -189,18 +189,21 @@ fn surely_escapes<R: Rules>(board: &mut Board) -> bool
 /// Returns the value of a position with two half-moves left in a direct mate. Counts two positions if Black
 /// surely escapes, otherwise the positions that it tries.
 #[inline(always)]
-pub(crate) fn value_of_last_defence<R: Rules>(board: &mut Board, history: &mut History<R>) -> bool
+pub(crate) fn value_of_last_defence<R: Rules>(
+    board: &mut Board,
+    search_state: &mut SearchState<R>,
+) -> bool
     requires well_formed { IsWellFormed board.old }
     ensures unchanged { board.new ≡ board.old }
     ensures value { result ≡ value Direct (chess Mate R.rule) 2 board.old }
-    ensures opened { history.new.opened ≤ history.old.opened
+    ensures opened { search_state.new.opened ≤ search_state.old.opened
         + walk_count (legal_moves R.rule) (position_after R.rule) 2 board.old }
-    ensures tried { HasCounted history.old.opened history.new.opened
+    ensures tried { HasCounted search_state.old.opened search_state.new.opened
         (smallest_tree Direct (chess Mate R.rule) 2 board.old) }
 {
     if surely_escapes::<R>(board) {
-        history.opened = history.opened.saturating_add(2);
+        search_state.opened = search_state.opened.saturating_add(2);
         return false;
     }
-    value_by_trial::<R>(board, history)
+    value_by_trial::<R>(board, search_state)
 }

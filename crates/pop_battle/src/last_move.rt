@@ -4,7 +4,7 @@ ghost use Rattle.chess_core.specs.WellFormed.{IsWellFormed};
 ghost use Rattle.chess_mates.specs.ties.QuietSteps.{must_reply_with_mate};
 ghost use Rattle.chess_rules.specs.Legal.{is_legal, moves as legal_moves};
 ghost use Rattle.chess_rules.specs.Play.{position_after};
-ghost use Rattle.chess_rules.specs.ties.Places.{IsPlaceIn, moves_behind};
+ghost use Rattle.chess_rules.specs.ties.Places.{IsPlaceIn, moves_after};
 ghost use Rattle.pop_stipulation.specs.declared.stipulation.Goal.TheVariants.{Mate};
 ghost use Rattle.pop_battle.specs.Chess.{chess};
 ghost use Rattle.pop_battle.specs.declared.aim.Battle.TheVariants.{Selfmate};
@@ -13,13 +13,13 @@ ghost use Rattle.pop_battle.specs.ties.Counts.{HasCounted, smallest_below, small
 ghost use Rattle.pop_battle.specs.ties.Values.{joined_value, value};
 ghost use Rattle.pop_battle.specs.ties.Passing.{IsNextLeft};
 
-use crate::chess::{is_reached_without_move, must_mate, next_behind, retract};
-use crate::history::History;
+use crate::chess::{is_reached_without_move, must_mate, next_after, retract};
 use crate::killers::Killers;
+use crate::search_state::SearchState;
 use chess_core::board::Board;
 use chess_core::man::Move;
 use chess_mates::quiet_steps::QuietSteps;
-use chess_rules::{LegalMoves, Rules, play};
+use chess_rules::{LegalCursor, Rules, play};
 use pop_stipulation::stipulation::Goal;
 
 /// Returns whether Black must mate after this move by White. The move isn't played if Black's king then has
@@ -51,7 +51,7 @@ fn forces_mate<R: Rules>(
 #[tactic(auto, using(crate::proofs::Passing::none_passed))]
 fn next_unquiet<R: Rules>(
     steps: &mut QuietSteps,
-    moves: &mut LegalMoves<R>,
+    moves: &mut LegalCursor<R>,
     board: &mut Board,
     counted: &mut u64,
 ) -> Option<Move>
@@ -64,17 +64,17 @@ fn next_unquiet<R: Rules>(
 {
     // For the proof: the count is below 2^64.
     let _counted = *counted;
-    if !steps.are_told(board) {
-        return next_behind::<R>(moves, board);
+    if !steps.are_known(board) {
+        return next_after::<R>(moves, board);
     }
-    let sifted = moves.next_sifted(steps, board);
-    *counted = counted.saturating_add(u64::from(sifted.passed));
-    sifted.found
+    let filtered = moves.next_filtered(steps, board);
+    *counted = counted.saturating_add(u64::from(filtered.passed));
+    filtered.found
 }
 
 /// Returns whether some move after the cursor forces mate. Counts each move up to the first that does.
 fn some_forces_mate<R: Rules>(
-    mut moves: LegalMoves<R>,
+    mut moves: LegalCursor<R>,
     board: &mut Board,
     killers: &mut Killers<R>,
     counted: &mut u64,
@@ -84,11 +84,11 @@ fn some_forces_mate<R: Rules>(
     requires none { counted.old ≡ 0 }
     ensures unchanged { board.new ≡ board.old }
     ensures value { result ≡ joined_value Selfmate (chess Mate R.rule) 2 board.old
-        (moves_behind R.rule board.old moves.place) }
-    ensures none { counted.new ≡ 0 → moves_behind R.rule board.old moves.place ≡ [] }
-    ensures opened { counted.new ≤ length (moves_behind R.rule board.old moves.place) }
+        (moves_after R.rule board.old moves.place) }
+    ensures none { counted.new ≡ 0 → moves_after R.rule board.old moves.place ≡ [] }
+    ensures opened { counted.new ≤ length (moves_after R.rule board.old moves.place) }
     ensures tried { HasCounted 0 counted.new (smallest_below Selfmate (chess Mate R.rule) 2
-        board.old (moves_behind R.rule board.old moves.place)) }
+        board.old (moves_after R.rule board.old moves.place)) }
 {
     let mut steps = QuietSteps::of(board);
     while let Some(by) = next_unquiet::<R>(&mut steps, &mut moves, board, counted) {
@@ -102,21 +102,27 @@ fn some_forces_mate<R: Rules>(
 
 /// Returns the value of a position with two half-moves left in a selfmate for mate. Counts the position if
 /// it has a legal move.
-pub(crate) fn value_of_last_move<R: Rules>(board: &mut Board, history: &mut History<R>) -> bool
+pub(crate) fn value_of_last_move<R: Rules>(
+    board: &mut Board,
+    search_state: &mut SearchState<R>,
+) -> bool
     requires well_formed { IsWellFormed board.old }
     ensures unchanged { board.new ≡ board.old }
     ensures value { result ≡ value Selfmate (chess Mate R.rule) 2 board.old }
-    ensures opened { history.new.opened ≤ history.old.opened
+    ensures opened { search_state.new.opened ≤ search_state.old.opened
         + walk_count (legal_moves R.rule) (position_after R.rule) 2 board.old }
-    ensures tried { HasCounted history.old.opened history.new.opened
+    ensures tried { HasCounted search_state.old.opened search_state.new.opened
         (smallest_tree Selfmate (chess Mate R.rule) 2 board.old) }
 {
-    let moves = LegalMoves::<R>::of(board);
+    let moves = LegalCursor::<R>::of(board);
     let mut counted = 0;
-    let forced = some_forces_mate::<R>(moves, board, &mut history.killers, &mut counted);
+    let forced = some_forces_mate::<R>(moves, board, &mut search_state.killers, &mut counted);
     if counted == 0 {
         return is_reached_without_move::<R>(Goal::Mate, board);
     }
-    history.opened = history.opened.saturating_add(counted).saturating_add(1);
+    search_state.opened = search_state
+        .opened
+        .saturating_add(counted)
+        .saturating_add(1);
     forced
 }

@@ -30,17 +30,17 @@
 //! }
 //! ```
 //!
-//! `value` is the interface; `aim`, `frame`, `history` and `killers` are its types. `chess` serves
+//! `value` is the interface; `aim`, `frame`, `search_state` and `killers` are its types. `chess` serves
 //! `pop_solve` and `pop_parts` too. No call allocates.
 #![tactic(auto)]
 
 pub mod aim;
 pub mod chess;
 pub mod frame;
-pub mod history;
 pub mod killers;
 mod last_defence;
 mod last_move;
 mod mate_in_two;
-mod stretches;
+mod move_stages;
+pub mod search_state;
 pub mod value;

@@ -12,51 +12,55 @@ ghost use Rattle.pop_battle.specs.ties.Values.{value};
 
 use crate::aim::Battle;
 use crate::chess::{moves_at, retract};
-use crate::frame::Stretch;
-use crate::history::History;
+use crate::frame::MoveStage;
 use crate::last_defence::value_of_last_defence;
-use crate::stretches::{next_tried, order_of};
+use crate::move_stages::{next_tried, order_of};
+use crate::search_state::SearchState;
 use chess_core::board::Board;
 use chess_core::man::Move;
 use chess_rules::{Rules, play};
 
 /// Returns whether White mates next after this move, whatever Black's defence.
 #[tactic(auto, using(chess_rules::proofs::listing_moves::Calls::playing))]
-fn leaves_no_defence<R: Rules>(by: Move, board: &mut Board, history: &mut History<R>) -> bool
+fn leaves_no_defence<R: Rules>(
+    by: Move,
+    board: &mut Board,
+    search_state: &mut SearchState<R>,
+) -> bool
     requires well_formed { IsWellFormed board.old }
     requires legal { is_legal R.rule board.old by ≡ true }
     ensures unchanged { board.new ≡ board.old }
     ensures value { result
         ≡ value Direct (chess Mate R.rule) 2 (position_after R.rule board.old by) }
-    ensures opened { history.new.opened ≤ history.old.opened + walk_count (legal_moves R.rule)
+    ensures opened { search_state.new.opened ≤ search_state.old.opened + walk_count (legal_moves R.rule)
         (position_after R.rule) 2 (position_after R.rule board.old by) }
-    ensures tried { HasCounted history.old.opened history.new.opened
+    ensures tried { HasCounted search_state.old.opened search_state.new.opened
         (smallest_tree Direct (chess Mate R.rule) 2 (position_after R.rule board.old by)) }
 {
     let undo = play::<R>(board, by);
-    let mates = value_of_last_defence::<R>(board, history);
+    let mates = value_of_last_defence::<R>(board, search_state);
     retract::<R>(board, by, undo);
     mates
 }
 
 /// Returns whether White, to move, mates in at most two moves, trying the moves in the order of a test.
 /// Counts the position even if it has no legal move.
-pub(crate) fn mates_in_two<R: Rules>(board: &mut Board, history: &mut History<R>) -> bool
+pub(crate) fn mates_in_two<R: Rules>(board: &mut Board, search_state: &mut SearchState<R>) -> bool
     requires well_formed { IsWellFormed board.old }
     ensures unchanged { board.new ≡ board.old }
     ensures value { result ≡ value Direct (chess Mate R.rule) 3 board.old }
-    ensures opened { history.new.opened ≤ history.old.opened
+    ensures opened { search_state.new.opened ≤ search_state.old.opened
         + walk_count (legal_moves R.rule) (position_after R.rule) 3 board.old }
-    ensures tried { HasCounted history.old.opened history.new.opened
+    ensures tried { HasCounted search_state.old.opened search_state.new.opened
         (smallest_tree Direct (chess Mate R.rule) 3 board.old) }
 {
-    history.opened = history.opened.saturating_add(1);
-    let order = order_of(&history.killers, Battle::Direct, 3);
+    search_state.opened = search_state.opened.saturating_add(1);
+    let order = order_of(&search_state.killers, Battle::Direct, 3);
     let mut moves = moves_at::<R>(None, order.killer.back(), board);
-    let mut stretch = Stretch::Killer;
-    while let Some(by) = next_tried::<R>(order, &mut stretch, &mut moves, board) {
-        if leaves_no_defence::<R>(by, board, history) {
-            history.killers.put(3, moves.place());
+    let mut move_stage = MoveStage::Killer;
+    while let Some(by) = next_tried::<R>(order, &mut move_stage, &mut moves, board) {
+        if leaves_no_defence::<R>(by, board, search_state) {
+            search_state.killers.put(3, moves.place());
             return true;
         }
     }

@@ -18,30 +18,30 @@ ghost use Rattle.pop_battle.specs.declared.aim.Battle.TheVariants.{Selfmate};
 ghost use Rattle.pop_battle.specs.Walks.{walk_count};
 ghost use Rattle.pop_battle.specs.ties.Counts.{HasCounted, smallest_tree};
 ghost use Rattle.pop_battle.specs.declared.aim.Battle.TheVariants.{Direct};
-ghost use Rattle.pop_battle.specs.ties.Values.{seeks, joined_value, value};
+ghost use Rattle.pop_battle.specs.ties.Values.{attacker_to_move, joined_value, value};
 
 use crate::aim::{Aim, Battle};
 use crate::chess::{
-    first_look, is_for_mate, is_reached_without_move, moves_at, must_mate, next_behind, next_until,
-    reaches_goal, retract,
+    cursor_if_any_move, is_for_mate, is_reached_without_move, moves_at, must_mate, next_after,
+    next_until, reaches_goal, retract,
 };
-use crate::frame::{Frame, Stretch};
-use crate::history::History;
+use crate::frame::{Frame, MoveStage};
 use crate::killers::Killers;
 use crate::last_defence::{has_mate, value_of_last_defence};
 use crate::last_move::value_of_last_move;
 use crate::mate_in_two::mates_in_two;
-use crate::stretches::{next_tried, order_of};
+use crate::move_stages::{next_tried, order_of};
+use crate::search_state::SearchState;
 use arrayvec::ArrayVec;
 use chess_core::board::Board;
 use chess_core::man::Move;
-use chess_rules::{LegalMoves, Rules, play};
+use chess_rules::{LegalCursor, Rules, play};
 use pop_stipulation::stipulation::Goal;
 
 /// Returns whether the side to move needs just one good move with `left` half-moves left, since it is White
 /// who moves.
-pub fn seeks(battle: Battle, left: usize) -> bool
-    ensures { result ≡ seeks battle left }
+pub fn attacker_to_move(battle: Battle, left: usize) -> bool
+    ensures { result ≡ attacker_to_move battle left }
 {
     match battle {
         Battle::Direct => left % 2 == 1,
@@ -52,9 +52,9 @@ pub fn seeks(battle: Battle, left: usize) -> bool
 /// Returns whether White is to move with an odd number of half-moves left. The goal can't be reached before
 /// this move, so the value depends on White's moves only, even if there are none.
 fn is_free(battle: Battle, left: usize) -> bool
-    ensures { result ≡ (left % 2 == 1 && seeks battle left) }
+    ensures { result ≡ (left % 2 == 1 && attacker_to_move battle left) }
 {
-    left % 2 == 1 && seeks(battle, left)
+    left % 2 == 1 && attacker_to_move(battle, left)
 }
 
 /// Returns the value of a position without a legal move, with `left` half-moves left.
@@ -79,18 +79,22 @@ fn last_value<R: Rules>(battle: Battle, board: &mut Board, killers: &mut Killers
 }
 
 /// Returns the value of a position with two half-moves left, for mate.
-fn value_of_two<R: Rules>(battle: Battle, board: &mut Board, history: &mut History<R>) -> bool
+fn value_of_two<R: Rules>(
+    battle: Battle,
+    board: &mut Board,
+    search_state: &mut SearchState<R>,
+) -> bool
     requires well_formed { IsWellFormed board.old }
     ensures unchanged { board.new ≡ board.old }
     ensures value { result ≡ value battle (chess Mate R.rule) 2 board.old }
-    ensures opened { history.new.opened ≤ history.old.opened
+    ensures opened { search_state.new.opened ≤ search_state.old.opened
         + walk_count (legal_moves R.rule) (position_after R.rule) 2 board.old }
-    ensures tried { HasCounted history.old.opened history.new.opened
+    ensures tried { HasCounted search_state.old.opened search_state.new.opened
         (smallest_tree battle (chess Mate R.rule) 2 board.old) }
 {
     match battle {
-        Battle::Direct => value_of_last_defence::<R>(board, history),
-        Battle::Selfmate => value_of_last_move::<R>(board, history),
+        Battle::Direct => value_of_last_defence::<R>(board, search_state),
+        Battle::Selfmate => value_of_last_move::<R>(board, search_state),
     }
 }
 
@@ -103,8 +107,8 @@ fn value_at_once<R: Rules>(
     aim: Aim,
     left: usize,
     board: &mut Board,
-    known: &mut Option<LegalMoves<R>>,
-    history: &mut History<R>,
+    known: &mut Option<LegalCursor<R>>,
+    search_state: &mut SearchState<R>,
 ) -> Option<bool>
     requires well_formed { IsWellFormed board.old }
     ensures unchanged { board.new ≡ board.old }
@@ -114,12 +118,12 @@ fn value_at_once<R: Rules>(
         (legal_moves R.rule board.old)))
         (λ v. v ≡ value aim.battle (chess aim.goal R.rule) left board.old) }
     ensures known { IfSome known.new (λ k. IsPlaceIn R.rule board.old k) }
-    ensures opened { MatchOption result (history.new.opened ≡ history.old.opened)
-        (λ _. history.new.opened ≤ history.old.opened + walk_count (legal_moves R.rule)
+    ensures opened { MatchOption result (search_state.new.opened ≡ search_state.old.opened)
+        (λ _. search_state.new.opened ≤ search_state.old.opened + walk_count (legal_moves R.rule)
         (position_after R.rule) left
         board.old) }
     ensures tried { IfSome result
-        (λ _. HasCounted history.old.opened history.new.opened
+        (λ _. HasCounted search_state.old.opened search_state.new.opened
         (smallest_tree aim.battle (chess aim.goal R.rule) left board.old)) }
 {
     *known = None;
@@ -127,19 +131,19 @@ fn value_at_once<R: Rules>(
         return Some(reaches_goal::<R>(aim.goal, board));
     }
     if is_for_mate(aim.goal) && left == 1 {
-        history.opened = history.opened.saturating_add(1);
-        return Some(last_value::<R>(aim.battle, board, &mut history.killers));
+        search_state.opened = search_state.opened.saturating_add(1);
+        return Some(last_value::<R>(aim.battle, board, &mut search_state.killers));
     }
     if is_for_mate(aim.goal) && aim.battle == Battle::Direct && left == 3 {
-        return Some(mates_in_two::<R>(board, history));
+        return Some(mates_in_two::<R>(board, search_state));
     }
     if is_free(aim.battle, left) {
         return None;
     }
     if is_for_mate(aim.goal) && left == 2 {
-        return Some(value_of_two::<R>(aim.battle, board, history));
+        return Some(value_of_two::<R>(aim.battle, board, search_state));
     }
-    *known = first_look::<R>(history.killers.of(aim.battle, left), board);
+    *known = cursor_if_any_move::<R>(search_state.killers.of(aim.battle, left), board);
     if known.is_some() {
         None
     } else {
@@ -189,18 +193,18 @@ fn descend<R: Rules, const N: usize>(
     by: Move,
     board: &mut Board,
     frames: &mut ArrayVec<Frame<R>, N>,
-    history: &mut History<R>,
+    search_state: &mut SearchState<R>,
 ) -> Option<bool>
     requires well_formed { IsWellFormed board.old }
     requires some { 0 < top.left }
     requires room { array_vec_len frames.old + top.left ≤ N }
     requires legal { is_legal R.rule board.old by ≡ true }
-    ensures opened { MatchOption result (history.new.opened ≤ history.old.opened + 1)
-        (λ _. history.new.opened ≤ history.old.opened + walk_count (legal_moves R.rule)
+    ensures opened { MatchOption result (search_state.new.opened ≤ search_state.old.opened + 1)
+        (λ _. search_state.new.opened ≤ search_state.old.opened + walk_count (legal_moves R.rule)
         (position_after R.rule)
         (top.left - 1) (position_after R.rule board.old by)) }
-    ensures tried { MatchOption result (HasCounted history.old.opened history.new.opened 1)
-        (λ _. HasCounted history.old.opened history.new.opened
+    ensures tried { MatchOption result (HasCounted search_state.old.opened search_state.new.opened 1)
+        (λ _. HasCounted search_state.old.opened search_state.new.opened
         (smallest_tree aim.battle (chess aim.goal R.rule) (top.left - 1)
         (position_after R.rule board.old by))) }
     ensures answer { MatchOption result
@@ -223,20 +227,20 @@ fn descend<R: Rules, const N: usize>(
     let left = top.left - 1;
     let undo = play::<R>(board, by);
     let mut known = None;
-    let answer = value_at_once::<R>(aim, left, board, &mut known, history);
+    let answer = value_at_once::<R>(aim, left, board, &mut known, search_state);
     if answer.is_some() {
         retract::<R>(board, by, undo);
         return answer;
     }
-    history.opened = history.opened.saturating_add(1);
-    let order = order_of(&history.killers, aim.battle, left);
+    search_state.opened = search_state.opened.saturating_add(1);
+    let order = order_of(&search_state.killers, aim.battle, left);
     frames.push(Frame {
         place: order.killer.back(),
         by,
         undo,
         left,
         order,
-        stretch: Stretch::Killer,
+        move_stage: MoveStage::Killer,
         known,
         ..top
     });
@@ -251,7 +255,7 @@ fn turn<R: Rules, const N: usize>(
     board: &mut Board,
     frames: &mut ArrayVec<Frame<R>, N>,
     answer: &mut Option<bool>,
-    history: &mut History<R>,
+    search_state: &mut SearchState<R>,
 ) -> Option<bool>
     requires well_formed { IsWellFormed board.old }
     requires above { floor < array_vec_len frames.old }
@@ -263,31 +267,31 @@ fn turn<R: Rules, const N: usize>(
     ensures next { (p : Position) → IsTesting R.rule p (tests floor frames.old.items) board.old
         → MatchOption result
         (Turns R.rule aim floor p frames.old.items frames.new.items
-        answer.old answer.new board.new history.old.opened history.new.opened)
+        answer.old answer.new board.new search_state.old.opened search_state.new.opened)
         (λ v. Ends R.rule aim floor p frames.old.items frames.new.items
-        answer.old board.new history.old.opened history.new.opened v) }
+        answer.old board.new search_state.old.opened search_state.new.opened v) }
 {
     let Some(top) = frames.pop() else {
         return None;
     };
     let depth = frames.len();
-    let seek = seeks(aim.battle, top.left);
+    let seek = attacker_to_move(aim.battle, top.left);
     if is_decided(*answer, seek) {
-        history.killers.put(top.left, top.place);
+        search_state.killers.put(top.left, top.place);
         return close::<R>(seek, floor, depth, top, board, answer);
     }
     let mut moves = moves_at::<R>(top.known, top.place, board);
-    let mut stretch = top.stretch;
-    let Some(by) = next_tried::<R>(top.order, &mut stretch, &mut moves, board) else {
+    let mut move_stage = top.move_stage;
+    let Some(by) = next_tried::<R>(top.order, &mut move_stage, &mut moves, board) else {
         return close::<R>(!seek, floor, depth, top, board, answer);
     };
     let moved = Frame {
         place: moves.place(),
-        stretch,
+        move_stage,
         known: Some(moves),
         ..top
     };
-    *answer = descend::<R, N>(aim, moved, by, board, frames, history);
+    *answer = descend::<R, N>(aim, moved, by, board, frames, search_state);
     None
 }
 
@@ -298,31 +302,31 @@ pub fn value_of<R: Rules, const N: usize>(
     left: usize,
     board: &mut Board,
     frames: &mut ArrayVec<Frame<R>, N>,
-    history: &mut History<R>,
+    search_state: &mut SearchState<R>,
 ) -> bool
     requires well_formed { IsWellFormed board.old }
     requires room { array_vec_len frames.old + left ≤ N }
     ensures { Evaluates R.rule aim left board.old board.new frames.old.items frames.new.items
-        history.old.opened history.new.opened result }
+        search_state.old.opened search_state.new.opened result }
 {
     let mut known = None;
-    if let Some(v) = value_at_once::<R>(aim, left, board, &mut known, history) {
+    if let Some(v) = value_at_once::<R>(aim, left, board, &mut known, search_state) {
         return v;
     }
     let floor = frames.len();
-    history.opened = history.opened.saturating_add(1);
-    let order = order_of(&history.killers, aim.battle, left);
+    search_state.opened = search_state.opened.saturating_add(1);
+    let order = order_of(&search_state.killers, aim.battle, left);
     frames.push(Frame {
         place: order.killer.back(),
         left,
         order,
-        stretch: Stretch::Killer,
+        move_stage: MoveStage::Killer,
         known,
         ..Frame::default()
     });
     let mut answer = None;
     loop {
-        if let Some(known) = turn::<R, N>(aim, floor, board, frames, &mut answer, history) {
+        if let Some(known) = turn::<R, N>(aim, floor, board, frames, &mut answer, search_state) {
             return known;
         }
     }

@@ -63,8 +63,8 @@ shown_by x there m lost mark = record {
 }
 
 -- a move of no man, which is never shown
-abbrev pub nothing_shown : Shown
-nothing_shown = record {
+abbrev pub no_move_shown : Shown
+no_move_shown = record {
   man = record { colour = White; kind = King };
   from = 0;
   to = 0;
@@ -78,7 +78,7 @@ nothing_shown = record {
 
 -- a move as shown, by the men on its origin and arrival square, its undo and its mark
 unfoldable pub shown_of : Option Man → Option Man → Move → Undo → Mark → Shown
-shown_of None there m lost mark = nothing_shown
+shown_of None there m lost mark = no_move_shown
 shown_of (Some x) there m lost mark = shown_by x there m lost mark
 
 -- the move m as shown, by the positions before and after it

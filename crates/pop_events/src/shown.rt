@@ -78,9 +78,9 @@ impl Model for Shown {
 
 impl Default for Shown {
     ghost use Rattle.std.specs.Prelude.{◌≡◌};
-    ghost use Rattle.pop_events.specs.Shown.{nothing_shown};
+    ghost use Rattle.pop_events.specs.Shown.{no_move_shown};
 
-    ghost is_default = { λ s. s ≡ nothing_shown };
+    ghost is_default = { λ s. s ≡ no_move_shown };
 
     // Returns a move of no man, which is never shown.
     fn default() -> Shown {

@@ -1,10 +1,10 @@
 -- No fault of a word or of the end of a block is that the device failed.
 use Rattle.pop_input.proofs.Items.{BlockSoFar, word_read}
-use Rattle.pop_input.proofs.Words.{Block, Bool, Colour, Command, CutsOff, Fault, FaultKind, HasFailed, Kind, List, Man, None, Option, ReadFault, Reading, Some, Draft, Stipulation, TextLine, Token, Word, [], arith, block_fault, condition_fault, control_fault, ended_item, false, fault_of, first_fault, if◌then◌else◌, item_of, judged_entry, letter_fault, man_fault, men_fault, nothing_said, is_device_failure, or_else, subst, sym, entry_now, ReadsWord, TakesPart, ◌++◌, ◌≡◌, pieces_fault, posed_entry, put_fault, role_fault, draft_after, stipulation_fault, told_of_cut, true, with_man, ℕ, ◌∷◌, ◌≤◌}
+use Rattle.pop_input.proofs.Words.{Block, Bool, Colour, Command, CutsOff, Fault, FaultKind, HasFailed, Kind, List, Man, None, Option, ReadFault, Reading, Some, Draft, Stipulation, TextLine, Token, Word, [], arith, block_fault, condition_fault, control_fault, ended_item, false, fault_of, first_fault, if◌then◌else◌, item_of, judged_entry, letter_fault, man_fault, men_fault, empty_draft, is_device_failure, or_else, subst, sym, entry_now, ReadsWord, TakesPart, ◌++◌, ◌≡◌, pieces_fault, posed_entry, put_fault, role_fault, draft_after, stipulation_fault, item_of_cut, true, with_man, ℕ, ◌∷◌, ◌≤◌}
 use Rattle.pop_input.specs.declared.condition.Condition.{Condition}
 use Rattle.pop_input.specs.declared.item.Item.TheVariants.{Faulty}
 use Rattle.pop_input.specs.declared.item.Last.{Last}
-use Rattle.pop_input.specs.declared.place.Role.{Role}
+use Rattle.pop_input.specs.declared.context.Role.{Role}
 
 -- no fault, or one of the text
 abbrev IsTextual : Option FaultKind → Type 0
@@ -62,7 +62,7 @@ first_textual draft (TextLine line keyword text ∷ tokens) = first_textual draf
 
 -- a block's words have no fault, or one of the text
 pub block_textual : (first : Bool) (tokens : List Token) → IsTextualFault (block_fault first tokens)
-block_textual false tokens = first_textual nothing_said tokens
+block_textual false tokens = first_textual empty_draft tokens
 block_textual true [] = tt
 block_textual true (Word line text ∷ tokens) = grind (arith, fault_else, word_textual, first_textual)
 block_textual true (TextLine line keyword text ∷ tokens) = block_textual true tokens
@@ -70,22 +70,22 @@ block_textual true (TextLine line keyword text ∷ tokens) = block_textual true 
 -- Items.
 
 -- a fault of the text is reported in any state
-textual_item : (place : Reading) (fault : Fault) (last : Last) → IsTextualFault (Some fault) → HasFailed place (Faulty fault last)
-textual_item place fault last p = grind arith
+textual_item : (context : Reading) (fault : Fault) (last : Last) → IsTextualFault (Some fault) → HasFailed context (Faulty fault last)
+textual_item context fault last p = grind arith
 
 -- the item that a word closes has no fault of the device
-pub closed_textual : (place : Reading) (f : Option Fault) (draft : Draft) (title author : List ℕ) (line : ℕ) (last : Last) → IsTextualFault f
-    → HasFailed place (item_of (judged_entry f draft title author line) last)
+pub closed_textual : (context : Reading) (f : Option Fault) (draft : Draft) (title author : List ℕ) (line : ℕ) (last : Last) → IsTextualFault f
+    → HasFailed context (item_of (judged_entry f draft title author line) last)
 unfolding posed_entry
-closed_textual place f draft title author line last p = grind (arith, textual_item)
+closed_textual context f draft title author line last p = grind (arith, textual_item)
 
 -- the item in which the input ends has no fault of the device
-pub ended_textual : (place : Reading) (block : Block) (line : ℕ) → IsTextualFault block.fault → HasFailed place (ended_item block line)
-ended_textual place block line p = grind arith
+pub ended_textual : (context : Reading) (block : Block) (line : ℕ) → IsTextualFault block.fault → HasFailed context (ended_item block line)
+ended_textual context block line p = grind arith
 
 -- the item that is cut has a fault of the device only if the source has failed
 pub cut_failed : (old new : Reading) (had left : Option (List ℕ)) (f : Option Fault) (cut : ReadFault) → CutsOff old new had left cut → IsTextualFault f
-    → HasFailed new (Faulty (told_of_cut f cut).0 (told_of_cut f cut).1)
+    → HasFailed new (Faulty (item_of_cut f cut).0 (item_of_cut f cut).1)
 cut_failed old new had left f cut t p = grind arith
 
 -- Blocks.

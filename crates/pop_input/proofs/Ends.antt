@@ -1,6 +1,6 @@
 -- The item at the end of a block.
-use Rattle.pop_input.proofs.Words.{Block, Bool, Command, CutsOff, Device, DeviceFailed, Entry, Fault, FaultKind, First, Input, IsOver, Later, List, Long, MayFollow, NextItem, No, None, Nothing, Option, ReadFault, Reading, Reads, ReadsWord, Some, Sound, Standing, Tail, Takes, TakesNothing, TakesPart, TooLong, Word, Yes, [], among}
-use Rattle.pop_input.proofs.Words.{append-nil, arith, block_fault, closed_entry, command_of, cut_fault, ended_by, ended_item, entry_now, item_of, entries_by, entries_left, entries_of, false, fault_at, last_of, more_entries, next_behind, no_words, put_before, refl, subst, tail_fault, tokens_inside, told_of_cut, true, words_left, ℕ, ◌++◌, ◌∷◌, ◌≡◌}
+use Rattle.pop_input.proofs.Words.{Block, Bool, Command, CutsOff, Device, DeviceFailed, Entry, Fault, FaultKind, First, Input, IsOver, Later, List, Long, MayFollow, NextItem, No, None, Nothing, Option, ReadFault, Reading, Reads, ReadsWord, Some, Sound, ReaderState, Tail, Takes, TakesNothing, TakesPart, TooLong, Word, Yes, [], among}
+use Rattle.pop_input.proofs.Words.{append-nil, arith, block_fault, closed_entry, command_of, cut_fault, ended_by, ended_item, entry_now, item_of, entries_by, entries_left, entries_of, false, fault_at, last_of, entries_after_fault, next_after, no_words, put_before, refl, subst, end_fault, tokens_inside, item_of_cut, true, words_left, ℕ, ◌++◌, ◌∷◌, ◌≡◌}
 use Rattle.pop_text.specs.Words.{Token, End as AtEnd, Broken as Failing}
 use Rattle.pop_text.specs.declared.read_fault.ReadFault.TheVariants.{InputTooLong as PastLimit}
 use Rattle.pop_input.specs.Blocks.{Faulty as FaultyEntry}
@@ -19,12 +19,12 @@ block_of true = First
 block_of false = Later
 
 -- an entry that was read is the next item
-read_item : (old new : Standing) (had left : Option (List ℕ)) (entry : Entry) (last : Last) → new.next ≡ next_behind last
+read_item : (old new : ReaderState) (had left : Option (List ℕ)) (entry : Entry) (last : Last) → new.next ≡ next_after last
     → Reads old new had left (entry ∷ []) → NextItem old new had left (item_of entry last)
 read_item old new had left (Sound problem) last is reads = (reads, is)
 read_item old new had left (FaultyEntry fault) last is reads = (reads, is)
 
-module _ (first : Bool) (old new : Standing) (had left : Option (List ℕ)) (starts : old.next ≡ block_of first) where
+module _ (first : Bool) (old new : ReaderState) (had left : Option (List ℕ)) (starts : old.next ≡ block_of first) where
   -- items of tokens that were taken
   reads_by : (done : List Token) → Takes (among old.at) (among new.at) had left done → (entries : List Entry) → ((rest : Input) → MayFollow new.at.end rest
       → entries_of first (put_before done (words_left None new.at rest)) ≡ entries ++ entries_left new rest) → Reads old new had left entries
@@ -42,7 +42,7 @@ module _ (first : Bool) (old new : Standing) (had left : Option (List ℕ)) (sta
     taken : Takes (among old.at) (among new.at) had left full
     taken = takes_more first old.at mid new.at had met left block next b (Word line text) t
 
-    closed_reads : (last : Last) → new.next ≡ next_behind last
+    closed_reads : (last : Last) → new.next ≡ next_after last
         → Reads old new had left (closed_entry (block_fault first full) line (tokens_inside first full) ∷ [])
         → NextItem old new had left (item_of (entry_now next line) last)
     closed_reads last is reads = let w = word_read first old.at mid new.at had met left block next b line text r.fault (λ none. r) in
@@ -57,9 +57,9 @@ module _ (first : Bool) (old new : Standing) (had left : Option (List ℕ)) (sta
         grind (arith, last_entries first b.done line text b.plain (words_left None new.at rest) is)))
 
     -- a closing word ends the block, and its item is the next one to come
-    pub word_closes : (last : Last) (c : Option Command) → command_of text ≡ c → last_of c ≡ Some last → new.next ≡ next_behind last
+    pub word_closes : (last : Last) (c : Option Command) → command_of text ≡ c → last_of c ≡ Some last → new.next ≡ next_after last
         → NextItem old new had left (item_of (entry_now next line) last)
-    word_closes last c how is behind = grind (arith, next_closes, last_closes)
+    word_closes last c how is following = grind (arith, next_closes, last_closes)
 
   -- Ends of the input.
 
@@ -69,8 +69,8 @@ module _ (first : Bool) (old new : Standing) (had left : Option (List ℕ)) (sta
         (takes_then (among old.at) (among mid) (among new.at) had met left b.done [] b.takes t)
 
     ended_by_fault : (f : Option Fault) (line : ℕ) → block.fault ≡ f → line ≡ new.at.line
-        → entries_by f None first AtEnd new.at.line b.done ≡ FaultyEntry (ended_by f (fault_at (tail_fault block.begun AtEnd) line)) ∷ []
-    ended_by_fault f line is here = grind (arith, b.told)
+        → entries_by f None first AtEnd new.at.line b.done ≡ FaultyEntry (ended_by f (fault_at (end_fault block.begun AtEnd) line)) ∷ []
+    ended_by_fault f line is here = grind (arith, b.reported)
 
     -- the input ends in a block
     pub input_ends : (line : ℕ) → TakesNothing mid new.at met left AtEnd line → new.next ≡ Nothing → NextItem old new had left (ended_item block line)
@@ -78,7 +78,7 @@ module _ (first : Bool) (old new : Standing) (had left : Option (List ℕ)) (sta
 
     -- the input is cut off in a block with a fault
     fault_then_cut : (fault : Fault) (tail : Tail) → block.fault ≡ Some fault → Takes (among mid) (among new.at) met left [] → IsOver new.at tail
-        → more_entries tail new.at.line ≡ entries_of false (no_words tail new.at.line) → new.next ≡ Later → NextItem old new had left (FaultyItem fault No)
+        → entries_after_fault tail new.at.line ≡ entries_of false (no_words tail new.at.line) → new.next ≡ Later → NextItem old new had left (FaultyItem fault No)
     fault_then_cut fault tail is t over more later = grind (arith, reads_by, all_taken, ended_entries)
 
     cut_with_fault : (fault : Fault) (cut : ReadFault) → block.fault ≡ Some fault → CutsOff mid new.at met left cut → new.next ≡ Later
@@ -89,7 +89,7 @@ module _ (first : Bool) (old new : Standing) (had left : Option (List ℕ)) (sta
 
     -- the input is cut off in a block without a fault
     cut_alone : (kind : FaultKind) (line : ℕ) (tail : Tail) → block.fault ≡ None → Takes (among mid) (among new.at) met left [] → IsOver new.at tail
-        → line ≡ new.at.line → ((begun : Bool) → tail_fault begun tail ≡ kind) → new.next ≡ Nothing
+        → line ≡ new.at.line → ((begun : Bool) → end_fault begun tail ≡ kind) → new.next ≡ Nothing
         → NextItem old new had left (FaultyItem (fault_at kind line) Yes)
     cut_alone kind line tail is t over here tails nothing = grind (arith, reads_by, all_taken, ended_entries)
 
@@ -100,7 +100,7 @@ module _ (first : Bool) (old new : Standing) (had left : Option (List ℕ)) (sta
     cut_without_fault (Device line) is t nothing = cut_alone DeviceFailed line Failing is t.0.0 t.0.1 t.0.2 (λ begun. grind arith) nothing
 
     -- a block that is cut reports its own fault first, else the cut
-    pub cut_read : (f : Option Fault) (cut : ReadFault) → block.fault ≡ f → CutsOff mid new.at met left cut → new.next ≡ next_behind (told_of_cut f cut).1
-        → NextItem old new had left (FaultyItem (told_of_cut f cut).0 (told_of_cut f cut).1)
-    cut_read None cut is t behind = cut_without_fault cut is t behind
-    cut_read (Some fault) cut is t behind = cut_with_fault fault cut is t behind
+    pub cut_read : (f : Option Fault) (cut : ReadFault) → block.fault ≡ f → CutsOff mid new.at met left cut → new.next ≡ next_after (item_of_cut f cut).1
+        → NextItem old new had left (FaultyItem (item_of_cut f cut).0 (item_of_cut f cut).1)
+    cut_read None cut is t following = cut_without_fault cut is t following
+    cut_read (Some fault) cut is t following = cut_with_fault fault cut is t following

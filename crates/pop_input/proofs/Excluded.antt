@@ -1,5 +1,5 @@
 -- What the clauses exclude: using bytes after an item, hiding a cut, skipping a plain word, and reporting another fault.
-use Rattle.pop_input.proofs.Words.{Bool, Command, Diagram, EnPassantImpossible, Entry, Fault, Input, IsClosed, List, Long, MayFollow, NextItem, None, Option, Some, Standing, Draft, Stipulation, Takes, Token, Uses, Word, WordMisplaced, Words, Yes, [], among, ap, arith, closes_none, codes, command_of, diagram_fault, entries_by, entries_left, false, fault_at, first_fault, has_men, is_crossed_right, is_plain, last_of, length, length-append, list_all, list_all-append, nothing_said, onto_input, refl, section_of, sym, true, words_left, ℕ, ◌++◌, ◌<◌, ◌∙◌, ◌∷◌, ◌≡◌}
+use Rattle.pop_input.proofs.Words.{Bool, Command, Diagram, EnPassantImpossible, Entry, Fault, Input, IsClosed, List, Long, MayFollow, NextItem, None, Option, Some, ReaderState, Draft, Stipulation, Takes, Token, Uses, Word, WordMisplaced, Words, Yes, [], among, ap, arith, closes_none, codes, command_of, diagram_fault, entries_by, entries_left, false, fault_at, first_fault, has_men, is_en_passant_square_right, is_plain, last_of, length, length-append, list_all, list_all-append, empty_draft, onto_input, refl, section_of, sym, true, words_left, ℕ, ◌++◌, ◌<◌, ◌∙◌, ◌∷◌, ◌≡◌}
 use Rattle.std.proofs.lemmas.List.{append_cancel_right}
 use Rattle.pop_text.proofs.Excluded.{gap_or_word, same_bytes}
 use Rattle.pop_text.specs.Words.{is_gap, is_in_word}
@@ -24,14 +24,14 @@ some_closer [] last is = cc
 some_closer (b ∷ word) last is = omega arith
 
 -- a gap after the word that closes an item isn't used
-pub no_gap_behind : (old new : Standing) (had left bytes : List ℕ) (b : ℕ) → is_gap b ≡ true → Uses old.at new.at (Some had) (Some left) (bytes ++ b ∷ [])
+pub no_gap_after : (old new : ReaderState) (had left bytes : List ℕ) (b : ℕ) → is_gap b ≡ true → Uses old.at new.at (Some had) (Some left) (bytes ++ b ∷ [])
     → IsClosed old new (Some had) (Some left) → ⊥
-no_gap_behind old new had left bytes b gap used c =
+no_gap_after old new had left bytes b gap used c =
     let same = same_bytes old.at new.at had left (c.before ++ c.word) (bytes ++ b ∷ []) c.used.uses used in
     gap_or_word b gap (ends_solid c.before c.word bytes b same (some_closer c.word c.last c.closes) c.solid)
 
 -- two ways to take tokens from a known source take equal tokens
-same_tokens : (old new : Standing) (had left : List ℕ) (ts us : List Token) → Takes (among old.at) (among new.at) (Some had) (Some left) ts
+same_tokens : (old new : ReaderState) (had left : List ℕ) (ts us : List Token) → Takes (among old.at) (among new.at) (Some had) (Some left) ts
     → Takes (among old.at) (among new.at) (Some had) (Some left) us → ts ≡ us
 same_tokens old new had left ts us p q =
     let r = some_rest new.at.end in
@@ -52,10 +52,10 @@ closer_closes : (command : Option Command) (last : Last) (line : ℕ) (word : Li
 closer_closes command last line word is closes = grind arith
 
 -- no word after the word that closes an item is taken
-pub no_word_behind : (old new : Standing) (had left : List ℕ) (front : List Token) (line : ℕ) (word : List ℕ) (last : Last) (more : List Token)
+pub no_word_after : (old new : ReaderState) (had left : List ℕ) (front : List Token) (line : ℕ) (word : List ℕ) (last : Last) (more : List Token)
     → list_all closes_none front ≡ true → last_of (command_of word) ≡ Some last
     → Takes (among old.at) (among new.at) (Some had) (Some left) (front ++ Word line word ∷ more) → IsClosed old new (Some had) (Some left) → more ≡ []
-no_word_behind old new had left front line word last more plain is taken c =
+no_word_after old new had left front line word last more plain is taken c =
     closer_is_last c.front front (Word c.line c.word) (Word line word) more c.plain plain (closer_closes _ c.last c.line c.word refl c.closes)
     (closer_closes _ last line word refl is)
     (same_tokens old new had left (c.front ++ Word c.line c.word ∷ []) (front ++ Word line word ∷ more) c.used.takes taken)
@@ -68,7 +68,7 @@ pub cut_is_an_item : (fault : Fault) (first : Bool) (line : ℕ) (block : List T
 cut_is_an_item fault first line block = refl
 
 -- so the fault isn't the last item
-pub cut_is_to_come : (old new : Standing) (had left : Option (List ℕ)) (fault : Fault) (did : NextItem old new had left (Faulty fault Yes)) (rest : Input)
+pub cut_is_to_come : (old new : ReaderState) (had left : Option (List ℕ)) (fault : Fault) (did : NextItem old new had left (Faulty fault Yes)) (rest : Input)
     (other : Entry) (more : List Entry)
     → MayFollow new.at.end rest → entries_left old (onto_input did.0.bytes rest) ≡ FaultyEntry fault ∷ other ∷ more → ⊥
 cut_is_to_come old new had left fault did rest other more may two =
@@ -78,11 +78,11 @@ cut_is_to_come old new had left fault did rest other more may two =
 
 -- a plain word of a sound problem may not be skipped: it is a fault
 pub plain_word_is_a_fault : (is_plain (Word 2 (codes "xx")) ≡ true)
-    × (first_fault nothing_said (Word 2 (codes "xx") ∷ []) ≡ Some (fault_at WordMisplaced 2)) × (first_fault nothing_said [] ≡ None)
+    × (first_fault empty_draft (Word 2 (codes "xx") ∷ []) ≡ Some (fault_at WordMisplaced 2)) × (first_fault empty_draft [] ≡ None)
 unfolding command_of section_of
 plain_word_is_a_fault = (refl, refl, refl)
 
 -- if there are men and no pawn can have passed over the en passant square, the fault is that, and not `NoMen`
-pub en_passant_is_told : (draft : Draft) (stipulation : Stipulation) (setup : Diagram) → has_men setup.men ≡ true
-    → is_crossed_right setup.men setup.turn setup.crossed ≡ false → diagram_fault draft stipulation setup ≡ Some EnPassantImpossible
-en_passant_is_told draft stipulation setup some wrong = rw (some, wrong) refl
+pub en_passant_is_reported : (draft : Draft) (stipulation : Stipulation) (setup : Diagram) → has_men setup.men ≡ true
+    → is_en_passant_square_right setup.men setup.turn setup.crossed ≡ false → diagram_fault draft stipulation setup ≡ Some EnPassantImpossible
+en_passant_is_reported draft stipulation setup some wrong = rw (some, wrong) refl

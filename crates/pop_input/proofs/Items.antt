@@ -6,7 +6,7 @@ use Rattle.pop_input.proofs.Taking.{takes_then}
 use Rattle.pop_input.proofs.Blocks.{said, block_more, block_line, begun_word, begun_line, inside_more, inside_none, inside_first, said_more, words_line, text_more, text_line}
 
 -- what a block says of its tokens
-pub record Tells (first : Bool) (block : Block) (done : List Token) : Type 0 where
+pub record Reports (first : Bool) (block : Block) (done : List Token) : Type 0 where
   pub begun : block.begun ≡ has_begun first done
   pub draft : block.draft ≡ said first done
   pub title : block.title ≡ last_text Title [] (tokens_inside first done)
@@ -18,13 +18,13 @@ pub record BlockSoFar (first : Bool) (old new : Reading) (had left : Option (Lis
   pub takes : Takes (among old) (among new) had left done
   pub plain : list_all closes_none done ≡ true
   pub fault : block.fault ≡ block_fault first done
-  pub told : block.fault ≡ None → Tells first block done
+  pub reported : block.fault ≡ None → Reports first block done
   pub on : old.used ≤ new.used
   pub further : block.fault ≡ None ⊎ (old.used < new.used)
 
 -- when a block begins, no token of it is read
-pub block_starts : (first : Bool) (place : Reading) (had : Option (List ℕ)) (block : Block) → IsNew first block → BlockSoFar first place place had had block
-block_starts first place had block n = grind (arith, takes_none)
+pub block_starts : (first : Bool) (context : Reading) (had : Option (List ℕ)) (block : Block) → IsNew first block → BlockSoFar first context context had had block
+block_starts first context had block n = grind (arith, takes_none)
 
 -- if neither of two values is there, the first isn't
 or_first : {A : Type 0} (a b : Option A) → or_else a b ≡ None → a ≡ None
@@ -70,7 +70,7 @@ module _ (first : Bool) (old mid new : Reading) (had met left : Option (List ℕ
     takes = takes_more (TextLine line name rest) t;
     plain = grind (arith, list_all-append);
     fault = n.fault ∙ b.fault ∙ sym (block_line first b.done line name rest);
-    told = grind (arith, begun_line, words_inside, title_line, author_line);
+    reported = grind (arith, begun_line, words_inside, title_line, author_line);
     on = let h = goes_on (TextLine line name rest) t in omega (arith, h);
     further = inr (goes_on (TextLine line name rest) t);
   }
@@ -78,7 +78,7 @@ module _ (first : Bool) (old mid new : Reading) (had met left : Option (List ℕ
   module _ (line : ℕ) (text : List ℕ) (fault : next.fault ≡ or_else block.fault (at_line line (fault_of block.begun block.draft text)))
       (r : next.fault ≡ None → ReadsWord block next line text) where
     -- a word, the closing one too
-    pub word_read : (next.fault ≡ block_fault first (b.done ++ Word line text ∷ [])) × (next.fault ≡ None → Tells first next (b.done ++ Word line text ∷ []))
+    pub word_read : (next.fault ≡ block_fault first (b.done ++ Word line text ∷ [])) × (next.fault ≡ None → Reports first next (b.done ++ Word line text ∷ []))
     word_read = grind (arith, block_more, or_first, begun_word, text_more, inside_more, inside_none, inside_first, said_more)
 
     -- a word that does not close the block
@@ -88,7 +88,7 @@ module _ (first : Bool) (old mid new : Reading) (had met left : Option (List ℕ
       takes = takes_more (Word line text) t;
       plain = grind (arith, list_all-append);
       fault = word_read.0;
-      told = word_read.1;
+      reported = word_read.1;
       on = let h = goes_on (Word line text) t in omega (arith, h);
       further = inr (goes_on (Word line text) t);
     }

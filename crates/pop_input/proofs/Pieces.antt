@@ -23,15 +23,15 @@ abbrev pub tokens_at : ℕ → List ℕ → List Token
 tokens_at n bytes = lines_tokens false n (slice_split is_line_end bytes)
 
 -- how much room is left after bytes and a line end
-take_behind : (room : ℕ) (xs ys : List ℕ) → length xs < room → take room (xs ++ 10 ∷ ys) ≡ xs ++ 10 ∷ take (room - (length xs + 1)) ys
-take_behind zero xs ys less = absurd (omega (arith, less))
-take_behind (suc room) [] ys less = let e : suc room - (0 + 1) ≡ room = omega arith in rw e refl
-take_behind (suc room) (x ∷ xs) ys less = grind (arith, take_behind room xs ys (omega (arith, less)))
+take_after : (room : ℕ) (xs ys : List ℕ) → length xs < room → take room (xs ++ 10 ∷ ys) ≡ xs ++ 10 ∷ take (room - (length xs + 1)) ys
+take_after zero xs ys less = absurd (omega (arith, less))
+take_after (suc room) [] ys less = let e : suc room - (0 + 1) ≡ room = omega arith in rw e refl
+take_after (suc room) (x ∷ xs) ys less = grind (arith, take_after room xs ys (omega (arith, less)))
 
-drop_behind : (room : ℕ) (xs ys : List ℕ) → length xs < room → drop room (xs ++ 10 ∷ ys) ≡ drop (room - (length xs + 1)) ys
-drop_behind zero xs ys less = absurd (omega (arith, less))
-drop_behind (suc room) [] ys less = let e : suc room - (0 + 1) ≡ room = omega arith in rw e refl
-drop_behind (suc room) (x ∷ xs) ys less = grind (arith, drop_behind room xs ys (omega (arith, less)))
+drop_after : (room : ℕ) (xs ys : List ℕ) → length xs < room → drop room (xs ++ 10 ∷ ys) ≡ drop (room - (length xs + 1)) ys
+drop_after zero xs ys less = absurd (omega (arith, less))
+drop_after (suc room) [] ys less = let e : suc room - (0 + 1) ≡ room = omega arith in rw e refl
+drop_after (suc room) (x ∷ xs) ys less = grind (arith, drop_after room xs ys (omega (arith, less)))
 
 count_both : (xs ys : List ℕ) → count_by is_line_end (xs ++ 10 ∷ ys) ≡ count_by is_line_end xs + 1 + count_by is_line_end ys
 count_both xs ys =
@@ -40,12 +40,12 @@ count_both xs ys =
     omega (arith, a, b)
 
 -- the words of bytes, a line end and a rest: the words of the bytes, then the words of the rest, which begins on the next line
-pub words_behind : (n : ℕ) (xs ys : List ℕ) (tail : Tail)
+pub words_after : (n : ℕ) (xs ys : List ℕ) (tail : Tail)
     → words_by None n (xs ++ 10 ∷ ys) tail ≡ put_before (tokens_at n xs) (words_by None (n + (count_by is_line_end xs + 1)) ys tail)
-words_behind n xs ys tail = grind (arith, split_both, lines_both, length-slice_split, count_both)
+words_after n xs ys tail = grind (arith, split_both, lines_both, length-slice_split, count_both)
 
 -- the words of an input that begins with bytes and a line end within the room
-pub words_from_behind : (room n : ℕ) (input : Input) (xs ys : List ℕ) → input.bytes ≡ xs ++ 10 ∷ ys → length xs < room
+pub words_from_after : (room n : ℕ) (input : Input) (xs ys : List ℕ) → input.bytes ≡ xs ++ 10 ∷ ys → length xs < room
     → words_from None room n input
     ≡ put_before (tokens_at n xs) (words_from None (room - (length xs + 1)) (n + (count_by is_line_end xs + 1)) (record { bytes = ys; ending = input.ending }))
-words_from_behind room n input xs ys is less = grind (arith, take_behind, drop_behind, words_behind)
+words_from_after room n input xs ys is less = grind (arith, take_after, drop_after, words_after)

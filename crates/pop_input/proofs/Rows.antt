@@ -1,6 +1,6 @@
 -- Inputs, and the items that they hold, computed from the definitions.
-use Rattle.pop_input.proofs.Words.{BadLimit, BadStipulation, BeginProblemMissing, Clean, Colour, ColourMissing, DeviceFailed, EnPassantImpossible, EndProblemMissing, Ending, Entry, Failed, FaultKind, Kind, King, KingMissing, List, Man, NoMen, None, NoneCastlesThere, Option, PawnOnOuterRank, Rook, SecondCondition, SecondKing, SecondStipulation, Some, Sound, SquareMissing, SquareTaken, StipulationMissing, WaitingSideInCheck, WordMisplaced, WordTooLong, [], awaited_of, codes, is_attacked}
-use Rattle.pop_input.proofs.Words.{colour_of, command_of, condition_of, entries_of, faces, faces_its_like, false, fault_at, has_unmoved, in_check, is_crossed_right, is_home, is_paralysed, is_taken, is_man_on, kind_of, king_square, limit, limit_of, mark_unmoved, no_men, none_unmoved, option_of, posed_entry, refl, replicate, section_of, squares_named, has_man, stipulation_of, is_attacker, text_word_of, true, unmoved_of, with_man, words_of, ℕ, ◌++◌, ◌∷◌, ◌≡◌}
+use Rattle.pop_input.proofs.Words.{BadLimit, BadStipulation, BeginProblemMissing, Clean, Colour, ColourMissing, DeviceFailed, EnPassantImpossible, EndProblemMissing, Ending, Entry, Failed, FaultKind, Kind, King, KingMissing, List, Man, NoMen, None, NoneCastlesThere, Option, PawnOnOuterRank, Rook, SecondCondition, SecondKing, SecondStipulation, Some, Sound, SquareMissing, SquareTaken, StipulationMissing, WaitingSideInCheck, WordMisplaced, WordTooLong, [], expected_of, codes, is_attacked}
+use Rattle.pop_input.proofs.Words.{colour_of, command_of, condition_of, entries_of, attacks_like, is_attacked_by_like, false, fault_at, has_unmoved, in_check, is_en_passant_square_right, is_home, is_paralysed, is_taken, is_man_on, kind_of, king_square, limit, limit_of, mark_unmoved, no_men, none_unmoved, option_of, posed_entry, refl, replicate, section_of, squares_named, has_man, stipulation_of, is_attacker, text_word_of, true, castling_rights_of, with_man, words_of, ℕ, ◌++◌, ◌∷◌, ◌≡◌}
 use Rattle.chess_core.specs.Squares.{some_square, squares}
 use Rattle.chess_core.specs.Steps.{along}
 use Rattle.chess_core.specs.declared.man.Colour.TheVariants.{White, Black}
@@ -30,7 +30,7 @@ men_misplaced : (items (codes "BeginProblem\nPieces Kg6\n") ≡ only_fault Colou
     × (items (codes "BeginProblem\nPieces White Protocol\n") ≡ only_fault WordMisplaced 2)
     × (items (codes "BeginProblem\nPieces White Kg6h\n") ≡ only_fault SquareMissing 2)
     × (items (codes "BeginProblem\nPieces White Kg") ≡ only_fault SquareMissing 2)
-unfolding limit awaited_of colour_of command_of condition_of kind_of option_of section_of text_word_of limit_of squares_named stipulation_of is_man_on has_man
+unfolding limit expected_of colour_of command_of condition_of kind_of option_of section_of text_word_of limit_of squares_named stipulation_of is_man_on has_man
     some_square squares
 men_misplaced = (refl, refl, refl, refl)
 
@@ -38,7 +38,7 @@ men_misplaced = (refl, refl, refl, refl)
 squares_misplaced : (items (codes "BeginProblem\nPieces White Kg6 Rg6 Black Kg8\n") ≡ only_fault SquareTaken 2)
     × (items (codes "BeginProblem\nPieces White Pa8\n") ≡ only_fault PawnOnOuterRank 2)
     × (items (codes "BeginProblem\nPieces White Kg6h1\n") ≡ only_fault SecondKing 2)
-unfolding limit awaited_of colour_of command_of condition_of kind_of option_of section_of text_word_of limit_of squares_named stipulation_of is_man_on has_man
+unfolding limit expected_of colour_of command_of condition_of kind_of option_of section_of text_word_of limit_of squares_named stipulation_of is_man_on has_man
     some_square squares
 squares_misplaced = (refl, refl, refl)
 
@@ -47,7 +47,7 @@ stipulations_misplaced : (items (codes "BeginProblem\nPieces White Kg6 Ra1 Black
     × (items (codes "BeginProblem\nPieces White Kg6 Ra1 Black Kg8\nStipulation #1 foo\nEndProblem\n") ≡ only_fault WordMisplaced 3)
     × (items (codes "BeginProblem\nPieces White Kg6 Ra1 Black Kg8\nStipulation h#16.5\nEndProblem\n") ≡ only_fault BadStipulation 3)
     × (items (codes "BeginProblem\nPieces White Kg6 Ra1 Black Kg8\nStipulation #0\nEndProblem\n") ≡ only_fault BadStipulation 3)
-unfolding limit awaited_of colour_of command_of condition_of kind_of option_of section_of text_word_of limit_of squares_named stipulation_of is_man_on has_man
+unfolding limit expected_of colour_of command_of condition_of kind_of option_of section_of text_word_of limit_of squares_named stipulation_of is_man_on has_man
     some_square squares
 stipulations_misplaced = (refl, refl, refl, refl)
 
@@ -57,7 +57,7 @@ goals_misplaced : (items (codes "BeginProblem\nPieces White Kg6 Ra1 Black Kg8\nS
     × (items (codes "BeginProblem\nStipulation =17\n") ≡ only_fault BadStipulation 2)
     × (items (codes "BeginProblem\nStipulation s=01\n") ≡ only_fault BadStipulation 2)
     × (items (codes "BeginProblem\nStipulation h=16.5\n") ≡ only_fault BadStipulation 2)
-unfolding limit awaited_of colour_of command_of condition_of kind_of option_of section_of text_word_of limit_of squares_named stipulation_of is_man_on has_man
+unfolding limit expected_of colour_of command_of condition_of kind_of option_of section_of text_word_of limit_of squares_named stipulation_of is_man_on has_man
     some_square squares
 goals_misplaced = (refl, refl, refl, refl, refl)
 
@@ -68,21 +68,21 @@ values_misplaced : (items (codes "BeginProblem\nPieces White Kg6 Ra1 Black Kg8\n
     ≡ only_fault SquareMissing 5) × (items (codes "BeginProblem\nPieces White Kg6 Ra1 Black Kg8\nStipulation #1\nOption NoCastling a2\nEndProblem\n")
     ≡ only_fault NoneCastlesThere 4) × (items (codes "BeginProblem\nPieces White Kg6 Ra1 Black Kg8\nStipulation #1\nCondition Circe Circe\nEndProblem\n")
     ≡ only_fault SecondCondition 4)
-unfolding limit awaited_of colour_of command_of condition_of kind_of option_of section_of text_word_of limit_of squares_named stipulation_of is_man_on has_man
+unfolding limit expected_of colour_of command_of condition_of kind_of option_of section_of text_word_of limit_of squares_named stipulation_of is_man_on has_man
     some_square squares
 values_misplaced = (refl, refl, refl, refl, refl)
 
 -- a word of 161 bytes, and one of 160
 long_words : (items (codes "BeginProblem\n" ++ replicate 161 120 ++ codes "\nEndProblem\n") ≡ only_fault WordTooLong 2)
     × (items (codes "BeginProblem\n" ++ replicate 160 120 ++ codes "\nEndProblem\n") ≡ only_fault WordMisplaced 2)
-unfolding limit awaited_of colour_of command_of condition_of kind_of option_of section_of text_word_of limit_of squares_named stipulation_of is_man_on has_man
+unfolding limit expected_of colour_of command_of condition_of kind_of option_of section_of text_word_of limit_of squares_named stipulation_of is_man_on has_man
     some_square squares
 long_words = (refl, refl)
 
 -- a source that fails in a problem, and after a problem's fault
 failing_source : (items_by Failed (codes "BeginProblem\nPieces White Kg6\nxx") ≡ only_fault DeviceFailed 3)
     × (items_by Failed (codes "BeginProblem\nxx\n") ≡ Faulty (fault_at WordMisplaced 2) ∷ only_fault DeviceFailed 3)
-unfolding limit awaited_of colour_of command_of condition_of kind_of option_of section_of text_word_of limit_of squares_named stipulation_of is_man_on has_man
+unfolding limit expected_of colour_of command_of condition_of kind_of option_of section_of text_word_of limit_of squares_named stipulation_of is_man_on has_man
     some_square squares
 failing_source = (refl, refl)
 
@@ -92,9 +92,9 @@ ends : (items (codes "BeginProblem\nEndProblem\n") ≡ only_fault StipulationMis
     × (items (codes "BeginProblem\nPieces White Kg6 Ba1 Bb3 Pe5 Black Kh8\nStipulation #1\nOption EnPassant d6\nEndProblem\n")
     ≡ only_fault EnPassantImpossible 5) × (items (codes "BeginProblem\nPieces White Kg6 Ra1\nStipulation #1\nEndProblem\n") ≡ only_fault KingMissing 4)
     × (items (codes "BeginProblem\nPieces White Kg6 Rh1 Black Kh8\nStipulation #1\nEndProblem\n") ≡ only_fault WaitingSideInCheck 4)
-unfolding limit awaited_of colour_of command_of condition_of kind_of option_of section_of text_word_of limit_of squares_named stipulation_of is_man_on has_man
-    some_square squares posed_entry is_taken unmoved_of has_unmoved mark_unmoved none_unmoved is_home is_crossed_right king_square is_attacked faces
-    faces_its_like in_check is_paralysed is_attacker hops is_clear leaps reaches reaches_as rides along
+unfolding limit expected_of colour_of command_of condition_of kind_of option_of section_of text_word_of limit_of squares_named stipulation_of is_man_on has_man
+    some_square squares posed_entry is_taken castling_rights_of has_unmoved mark_unmoved none_unmoved is_home is_en_passant_square_right king_square is_attacked attacks_like
+    is_attacked_by_like in_check is_paralysed is_attacker hops is_clear leaps reaches reaches_as rides along
 ends = (refl, refl, refl, refl, refl)
 
 abbrev man : Colour → Kind → Man
@@ -118,9 +118,9 @@ sound_problem : items
       title = [];
       author = codes "A. B.";
     }) ∷ []
-unfolding limit awaited_of colour_of command_of condition_of kind_of option_of section_of text_word_of limit_of squares_named stipulation_of is_man_on has_man
-    some_square squares posed_entry is_taken unmoved_of has_unmoved mark_unmoved none_unmoved is_home is_crossed_right king_square is_attacked faces
-    faces_its_like in_check is_paralysed is_attacker hops is_clear leaps reaches reaches_as rides along
+unfolding limit expected_of colour_of command_of condition_of kind_of option_of section_of text_word_of limit_of squares_named stipulation_of is_man_on has_man
+    some_square squares posed_entry is_taken castling_rights_of has_unmoved mark_unmoved none_unmoved is_home is_en_passant_square_right king_square is_attacked attacks_like
+    is_attacked_by_like in_check is_paralysed is_attacker hops is_clear leaps reaches reaches_as rides along
 sound_problem = refl
 
 -- sections twice and in any order, small letters, short forms, options with their values
@@ -136,7 +136,7 @@ sound_options : items (codes "beg\nopt set max 5 max 007 noc h1a1\nsti H=12\ncon
       title = [];
       author = [];
     }) ∷ only_fault EndProblemMissing 9
-unfolding limit awaited_of colour_of command_of condition_of kind_of option_of section_of text_word_of limit_of squares_named stipulation_of is_man_on has_man
-    some_square squares posed_entry is_taken unmoved_of has_unmoved mark_unmoved none_unmoved is_home is_crossed_right king_square is_attacked faces
-    faces_its_like in_check is_paralysed is_attacker hops is_clear leaps reaches reaches_as rides along
+unfolding limit expected_of colour_of command_of condition_of kind_of option_of section_of text_word_of limit_of squares_named stipulation_of is_man_on has_man
+    some_square squares posed_entry is_taken castling_rights_of has_unmoved mark_unmoved none_unmoved is_home is_en_passant_square_right king_square is_attacked attacks_like
+    is_attacked_by_like in_check is_paralysed is_attacker hops is_clear leaps reaches reaches_as rides along
 sound_options = refl

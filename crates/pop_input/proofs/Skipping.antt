@@ -25,13 +25,13 @@ fault_stays first fault done (token ∷ tokens) h is = grind (arith, append_asso
 
 module _ (first : Bool) (old mid new : Reading) (had left : Option (List ℕ)) (block : Block) (b : BlockSoFar first old mid had left block)
     (s : Skips mid new) where
-  behind_fault : (fault : Fault) → block.fault ≡ Some fault → BlockSoFar first old new had left block
-  behind_fault fault is = record {
+  after_fault : (fault : Fault) → block.fault ≡ Some fault → BlockSoFar first old new had left block
+  after_fault fault is = record {
     done = b.done ++ s.tokens;
     takes = takes_then (among old) (among mid) (among new) had left left b.done s.tokens b.takes (s.takes left);
     plain = list_all-append closes_none b.done s.tokens ∙ rw (b.plain, plain_all s.tokens s.plain) refl;
     fault = is ∙ sym (fault_stays first fault b.done s.tokens s.plain (sym b.fault ∙ is));
-    told = λ none. absurd (let two : Some fault ≡ None = sym is ∙ none in cc);
+    reported = λ none. absurd (let two : Some fault ≡ None = sym is ∙ none in cc);
     on = omega (arith, b.on, s.on);
     further = further_on b.further;
   }
@@ -41,7 +41,7 @@ module _ (first : Bool) (old mid new : Reading) (had left : Option (List ℕ)) (
       further_on (inr far) = inr (omega (arith, far, s.on))
 
   by_fault : (fault : Option Fault) → block.fault ≡ fault → (block.fault ≡ None → new ≡ mid) → BlockSoFar first old new had left block
-  by_fault fault is same = grind (arith, behind_fault)
+  by_fault fault is same = grind (arith, after_fault)
 
   -- after a fault plain words may be skipped: the block doesn't change
   pub skip_read : (block.fault ≡ None → new ≡ mid) → BlockSoFar first old new had left block

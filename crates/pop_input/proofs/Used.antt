@@ -1,5 +1,5 @@
 -- Which bytes tokens and items use.
-use Rattle.pop_input.proofs.Words.{Block, Bool, CutsOff, Device, Entry, Err, IsClosed, IsInputOver, IsRunOver, IsUnclosed, List, Ok, Option, Peeks, ReadFault, Reading, RestOfLine, Skips, Some, Standing, Sticks, Takes, TakesPart, TooLong, UsesAll, UsesItem, UsesLine, UsesRun, UsesSome, Word, [], among, append-nil, append_assoc, command_of, inl, inr, item_of, last_of, next_behind, subst, uses_none, uses_then, ℕ, ◌++◌, ◌∷◌, ◌≡◌}
+use Rattle.pop_input.proofs.Words.{Block, Bool, CutsOff, Device, Entry, Err, IsClosed, IsInputOver, IsRunOver, IsUnclosed, List, Ok, Option, ComesNext, ReadFault, Reading, RestOfLine, Skips, Some, ReaderState, Sticks, Takes, TakesPart, TooLong, UsesAll, UsesItem, UsesLine, UsesRun, UsesSome, Word, [], among, append-nil, append_assoc, command_of, inl, inr, item_of, last_of, next_after, subst, uses_none, uses_then, ℕ, ◌++◌, ◌∷◌, ◌≡◌}
 use Rattle.pop_text.specs.declared.read_fault.ReadFault.TheVariants.{InputTooLong}
 use Rattle.pop_text.specs.declared.text.Text.{Text}
 use Rattle.pop_input.specs.Blocks.{Sound, Faulty}
@@ -21,8 +21,8 @@ pub some_then : {a b c : Reading} {had mid left : Option (List ℕ)} → UsesSom
 some_then p q = record { bytes = p.bytes ++ q.bytes; uses = uses_then p.uses q.uses }
 
 -- no byte was used
-pub some_none : (place : Reading) (had : Option (List ℕ)) → UsesSome place place had had
-some_none place had = record { bytes = []; uses = uses_none place had }
+pub some_none : (context : Reading) (had : Option (List ℕ)) → UsesSome context context had had
+some_none context had = record { bytes = []; uses = uses_none context had }
 
 -- the bytes of a text line were used
 pub line_some : {old new : Reading} {had left : Option (List ℕ)} (text : Text) → UsesLine old new had left (Ok text) → UsesSome old new had left
@@ -32,7 +32,7 @@ line_some text (line, plain, is, inr u) = record { bytes = line; uses = u.0 }
 -- a text line that a fault cuts
 pub line_cut : {old mid new : Reading} {had met left : Option (List ℕ)} (keyword : List ℕ) (fault : ReadFault) → UsesSome old mid had met
     → UsesLine mid new met left (Err fault) → RestOfLine keyword mid new met left (Err fault) → Sticks new fault
-    → UsesSome old new had left × Peeks new (Err fault)
+    → UsesSome old new had left × ComesNext new (Err fault)
 line_cut keyword (TooLong line) s u rest at = absurd rest
 line_cut keyword (InputTooLong line) s u rest at = (some_then s (some_all u), at)
 line_cut keyword (Device line) s u rest at = (some_then s (some_all u), at)
@@ -43,11 +43,11 @@ some_skipped {left = left} p s = record { bytes = p.bytes ++ s.bytes; uses = use
 
 -- Items.
 
-module _ (first : Bool) (old new : Standing) (mid : Reading) (had met left : Option (List ℕ)) (block : Block) (b : BlockSoFar first old.at mid had met block)
+module _ (first : Bool) (old new : ReaderState) (mid : Reading) (had met left : Option (List ℕ)) (block : Block) (b : BlockSoFar first old.at mid had met block)
     (s : UsesSome old.at mid had met) where
   -- the item of a block that a word closes
   pub word_used : (line : ℕ) (text : List ℕ) (last : Last) → TakesPart mid new.at met left (Word line text)
-      → UsesRun mid new.at met left line text × IsRunOver new.at → last_of (command_of text) ≡ Some last → new.next ≡ next_behind last
+      → UsesRun mid new.at met left line text × IsRunOver new.at → last_of (command_of text) ≡ Some last → new.next ≡ next_after last
       → IsClosed old new had left
   word_used line text last t u is next = record {
     front = b.done;
@@ -81,10 +81,10 @@ module _ (first : Bool) (old new : Standing) (mid : Reading) (had met left : Opt
   }
 
 -- the item of a closed block, if the reader is at the end of the closing word
-pub closed_item : (old new behind : Standing) (had left met : Option (List ℕ)) (entry : Entry) (last : Last) → IsClosed old behind had met
-    → new ≡ behind → left ≡ met → UsesItem old new had left (item_of entry last)
-closed_item old new behind had left met (Sound problem) last is stays same = rw (stays, same) is
-closed_item old new behind had left met (Faulty fault) last is stays same = rw (stays, same) (inl is)
+pub closed_item : (old new following : ReaderState) (had left met : Option (List ℕ)) (entry : Entry) (last : Last) → IsClosed old following had met
+    → new ≡ following → left ≡ met → UsesItem old new had left (item_of entry last)
+closed_item old new following had left met (Sound problem) last is stays same = rw (stays, same) is
+closed_item old new following had left met (Faulty fault) last is stays same = rw (stays, same) (inl is)
 
 -- if a fault cuts the input, no token is taken
 pub cut_takes : {old new : Reading} {had left : Option (List ℕ)} (cut : ReadFault) → CutsOff old new had left cut → Takes (among old) (among new) had left []

@@ -6,7 +6,7 @@ use Rattle.std.specs.Prelude.{ℕ, List, [], ◌∷◌, ◌++◌, Bool, true, fa
 use Rattle.std.specs.List.{onto_first}
 use Rattle.pop_text.specs.Words.{Words, Token, Word, TextLine, Tail, End, Long, Broken, text_of_line}
 use Rattle.pop_input.specs.Names.{command_of, text_word_of, closes, or_else}
-use Rattle.pop_input.specs.Drafts.{Draft, nothing_said, draft_after, draft_of}
+use Rattle.pop_input.specs.Drafts.{Draft, empty_draft, draft_after, draft_of}
 use Rattle.pop_input.specs.WordFaults.{fault_of}
 use Rattle.pop_input.specs.Ends.{diagram_fault, diagram_of, posed_of}
 use Rattle.pop_input.specs.Posed.{Posed}
@@ -51,10 +51,10 @@ first_fault draft ((TextLine line keyword text) ∷ tokens) = first_fault draft 
 
 -- the first fault of the tokens of a block, the first block or a later one
 abbrev pub block_fault : Bool → List Token → Option Fault
-block_fault false tokens = first_fault nothing_said tokens
+block_fault false tokens = first_fault empty_draft tokens
 block_fault true [] = None
 block_fault true ((Word line text) ∷ tokens) = or_else
-    (at_line line (fault_of false nothing_said text)) (first_fault nothing_said tokens)
+    (at_line line (fault_of false empty_draft text)) (first_fault empty_draft tokens)
 block_fault true ((TextLine line keyword text) ∷ tokens) = block_fault true tokens
 
 -- the command that a token is, if any
@@ -144,25 +144,25 @@ closed_entry fault line tokens = judged_entry fault (draft_of (words_in tokens))
     (last_text Title [] tokens) (last_text Author [] tokens) line
 
 -- the fault of an input that ends in a block, by whether the block's problem has begun and how the input ends
-abbrev pub tail_fault : Bool → Tail → FaultKind
-tail_fault true End = EndProblemMissing
-tail_fault false End = BeginProblemMissing
-tail_fault begun Long = InputTooLong
-tail_fault begun Broken = DeviceFailed
+abbrev pub end_fault : Bool → Tail → FaultKind
+end_fault true End = EndProblemMissing
+end_fault false End = BeginProblemMissing
+end_fault begun Long = InputTooLong
+end_fault begun Broken = DeviceFailed
 
 -- the entries after the fault of a block that isn't closed: one if the input is too long or its source failed
-abbrev pub more_entries : Tail → ℕ → List Entry
-more_entries End line = []
-more_entries Long line = Faulty (fault_at InputTooLong line) ∷ []
-more_entries Broken line = Faulty (fault_at DeviceFailed line) ∷ []
+abbrev pub entries_after_fault : Tail → ℕ → List Entry
+entries_after_fault End line = []
+entries_after_fault Long line = Faulty (fault_at InputTooLong line) ∷ []
+entries_after_fault Broken line = Faulty (fault_at DeviceFailed line) ∷ []
 
 -- the entries of a block, by the first fault of its words, if any, and the line of the word that closes it, if any
 abbrev pub entries_by : Option Fault → Option ℕ → Bool → Tail → ℕ → List Token → List Entry
 entries_by fault (Some line) first tail tail_line block = closed_entry fault line
     (tokens_inside first block) ∷ []
-entries_by (Some fault) None first tail tail_line block = Faulty fault ∷ more_entries tail tail_line
+entries_by (Some fault) None first tail tail_line block = Faulty fault ∷ entries_after_fault tail tail_line
 entries_by None None first tail tail_line block = Faulty
-    (fault_at (tail_fault (has_begun first block) tail) tail_line) ∷ []
+    (fault_at (end_fault (has_begun first block) tail) tail_line) ∷ []
 
 -- the entries of blocks, with the first block of the input or without it
 abbrev pub block_entries : Bool → Tail → ℕ → List (List Token) → List Entry

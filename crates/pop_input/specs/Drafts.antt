@@ -10,17 +10,17 @@ use Rattle.chess_core.specs.declared.man.Unmoved.{Unmoved}
 use Rattle.pop_input.specs.Names.{command_of, colour_of, kind_of, condition_of, option_of, or_else}
 use Rattle.pop_input.specs.Values.{squares_named, only_square, limit_of, most_solutions, stipulation_of}
 use Rattle.pop_input.specs.declared.condition.Condition.{Condition}
-use Rattle.pop_input.specs.declared.place.Role.{Role}
-use Rattle.pop_input.specs.declared.place.Role.TheVariants.{Limit, CrossedSquare, BarredSquares, Control, Within}
-use Rattle.pop_input.specs.declared.place.Place.{Place}
+use Rattle.pop_input.specs.declared.context.Role.{Role}
+use Rattle.pop_input.specs.declared.context.Role.TheVariants.{Limit, EnPassantSquare, ForbiddenSquares, Control, Within}
+use Rattle.pop_input.specs.declared.context.Context.{Context}
 use Rattle.pop_input.specs.declared.names.Section.{Section}
 use Rattle.pop_input.specs.declared.names.Section.TheVariants.{Pieces, Stipulation as Stipulations, Condition as Conditions, Options}
 use Rattle.pop_input.specs.declared.names.Command.{Command}
 use Rattle.pop_input.specs.declared.names.Command.TheVariants.{Enter}
 use Rattle.pop_input.specs.declared.names.OptionWord.{OptionWord}
-use Rattle.pop_input.specs.declared.names.OptionWord.TheVariants.{SetPlay, Variation, NoBoard, Awaits}
-use Rattle.pop_input.specs.declared.names.Awaited.{Awaited}
-use Rattle.pop_input.specs.declared.names.Awaited.TheVariants.{Number, OneSquare, Squares, MoreSquares}
+use Rattle.pop_input.specs.declared.names.OptionWord.TheVariants.{SetPlay, Variation, NoBoard, Expects}
+use Rattle.pop_input.specs.declared.names.ExpectedValue.{ExpectedValue}
+use Rattle.pop_input.specs.declared.names.ExpectedValue.TheVariants.{Number, OneSquare, Squares, MoreSquares}
 use Rattle.pop_stipulation.specs.declared.stipulation.Stipulation.{Stipulation}
 use Rattle.pop_input.specs.declared.switches.Switches.{Switches}
 
@@ -32,17 +32,17 @@ plain_role (Some command) section = Control command
 plain_role None section = Within section
 
 -- what a word is in a context in which an option expects this value
-abbrev pub role_by : Option Awaited → Place → List ℕ → Role
-role_by (Some Number) place text = Limit
-role_by (Some OneSquare) place text = CrossedSquare
-role_by (Some Squares) place text = BarredSquares
-role_by (Some MoreSquares) place text = if is_some (squares_named text) then BarredSquares
-    else plain_role (command_of text) place.section
-role_by None place text = plain_role (command_of text) place.section
+abbrev pub role_by : Option ExpectedValue → Context → List ℕ → Role
+role_by (Some Number) context text = Limit
+role_by (Some OneSquare) context text = EnPassantSquare
+role_by (Some Squares) context text = ForbiddenSquares
+role_by (Some MoreSquares) context text = if is_some (squares_named text) then ForbiddenSquares
+    else plain_role (command_of text) context.section
+role_by None context text = plain_role (command_of text) context.section
 
 -- what a word is in its context: a value that an option expects, a command or a word of the section
-abbrev pub role_of : Place → List ℕ → Role
-role_of place text = role_by place.awaited place text
+abbrev pub role_of : Context → List ℕ → Role
+role_of context text = role_by context.expected context text
 
 -- the open section after a word
 abbrev pub section_after : Role → Option Section → Option Section
@@ -50,21 +50,21 @@ section_after (Control (Enter opened)) old = Some opened
 section_after _ old = old
 
 -- the value that an option expects
-abbrev pub awaited_by : Option OptionWord → Option Awaited
-awaited_by (Some (Awaits awaited)) = Some awaited
-awaited_by _ = None
+abbrev pub expected_by : Option OptionWord → Option ExpectedValue
+expected_by (Some (Expects expected)) = Some expected
+expected_by _ = None
 
 -- the value that is expected after a word
-abbrev pub awaited_after : Role → List ℕ → Option Awaited
-awaited_after BarredSquares text = Some MoreSquares
-awaited_after (Within (Some Options)) text = awaited_by (option_of text)
-awaited_after _ text = None
+abbrev pub expected_after : Role → List ℕ → Option ExpectedValue
+expected_after ForbiddenSquares text = Some MoreSquares
+expected_after (Within (Some Options)) text = expected_by (option_of text)
+expected_after _ text = None
 
 -- the context after a word
-abbrev pub place_after : Role → Place → List ℕ → Place
-place_after role place text = record {
-  section = section_after role place.section;
-  awaited = awaited_after role text;
+abbrev pub context_after : Role → Context → List ℕ → Context
+context_after role context text = record {
+  section = section_after role context.section;
+  expected = expected_after role text;
 }
 
 -- What single words say.
@@ -116,7 +116,7 @@ abbrev pub switches_with : Option OptionWord → Switches → Switches
 switches_with (Some SetPlay) old = record old { set_play = true }
 switches_with (Some Variation) old = record old { variation = true }
 switches_with (Some NoBoard) old = record old { no_board = true }
-switches_with (Some (Awaits awaited)) old = old
+switches_with (Some (Expects expected)) old = old
 switches_with None old = old
 
 -- the options without a value after a word
@@ -131,13 +131,13 @@ limit_after _ text old = old
 
 -- the en passant square after a word
 abbrev pub crossed_after : Role → List ℕ → Option ℕ → Option ℕ
-crossed_after CrossedSquare text old = or_else (only_square (squares_named text)) old
+crossed_after EnPassantSquare text old = or_else (only_square (squares_named text)) old
 crossed_after _ text old = old
 
 -- the squares of NoCastling after a word
-abbrev pub barred_after : Role → List ℕ → Unmoved → Unmoved
-barred_after BarredSquares text old = fold with_unmoved old (unwrap_or (squares_named text) [])
-barred_after _ text old = old
+abbrev pub forbidden_after : Role → List ℕ → Unmoved → Unmoved
+forbidden_after ForbiddenSquares text old = fold with_unmoved old (unwrap_or (squares_named text) [])
+forbidden_after _ text old = old
 
 -- All that the words say.
 
@@ -145,7 +145,7 @@ barred_after _ text old = old
 -- stipulation and the first condition; the options without a value; the limit of the last MaxSolutions; the square of
 -- the last EnPassant; the castling squares that NoCastling names
 pub record Draft : Type 0 where
-  pub place : Place
+  pub context : Context
   pub colour : Option Colour
   pub men : List (Option Man)
   pub stipulation : Option Stipulation
@@ -153,12 +153,12 @@ pub record Draft : Type 0 where
   pub switches : Switches
   pub limit : ℕ
   pub crossed : Option ℕ
-  pub barred : Unmoved
+  pub castling_forbidden : Unmoved
 
 -- the draft before any word: an empty board, and the greatest limit of solutions
-abbrev pub nothing_said : Draft
-nothing_said = record {
-  place = record { section = None; awaited = None };
+abbrev pub empty_draft : Draft
+empty_draft = record {
+  context = record { section = None; expected = None };
   colour = None;
   men = no_men;
   stipulation = None;
@@ -166,13 +166,13 @@ nothing_said = record {
   switches = record { set_play = false; variation = false; no_board = false };
   limit = most_solutions;
   crossed = None;
-  barred = none_unmoved;
+  castling_forbidden = none_unmoved;
 }
 
 -- the draft after a word that has this role
 abbrev pub draft_by : Role → Draft → List ℕ → Draft
 draft_by role draft text = record {
-  place = place_after role draft.place text;
+  context = context_after role draft.context text;
   colour = colour_after role text draft.colour;
   men = men_after role draft.colour text draft.men;
   stipulation = stipulation_after role text draft.stipulation;
@@ -180,13 +180,13 @@ draft_by role draft text = record {
   switches = switches_after role text draft.switches;
   limit = limit_after role text draft.limit;
   crossed = crossed_after role text draft.crossed;
-  barred = barred_after role text draft.barred;
+  castling_forbidden = forbidden_after role text draft.castling_forbidden;
 }
 
 -- the draft after a word
 abbrev pub draft_after : Draft → List ℕ → Draft
-draft_after draft text = draft_by (role_of draft.place text) draft text
+draft_after draft text = draft_by (role_of draft.context text) draft text
 
 -- the draft after all of the words
 abbrev pub draft_of : List (List ℕ) → Draft
-draft_of words = fold draft_after nothing_said words
+draft_of words = fold draft_after empty_draft words

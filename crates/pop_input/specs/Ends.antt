@@ -5,7 +5,7 @@ use Rattle.std.specs.Prelude.{◌≡◌, ℕ, List, length, fold, not, ◌&&◌,
 use Rattle.chess_core.specs.Castling.{castling_squares, has_unmoved, mark_unmoved, none_unmoved}
 use Rattle.chess_core.specs.Diagrams.{Diagram, has_men}
 use Rattle.chess_core.specs.Position.{AtMostOneKing, man_on, other}
-use Rattle.chess_core.specs.WellFormed.{is_crossed_right, is_home, is_pawn_inside}
+use Rattle.chess_core.specs.WellFormed.{is_en_passant_square_right, is_home, is_pawn_inside}
 use Rattle.chess_core.specs.declared.man.Man.{Man}
 use Rattle.chess_core.specs.declared.man.Unmoved.{Unmoved}
 use Rattle.chess_attacks.specs.Attacks.{in_check}
@@ -19,14 +19,14 @@ use Rattle.pop_stipulation.specs.declared.stipulation.Stipulation.{Stipulation}
 
 -- whether a square has castling rights: the king or rook that castles from it is there, and NoCastling doesn't name it
 -- (Codex)
-abbrev pub counts_as_unmoved : List (Option Man) → Unmoved → ℕ → Bool
-counts_as_unmoved men barred square =
-    is_home (man_on men square) square && not (has_unmoved barred square)
+abbrev pub has_castling_rights : List (Option Man) → Unmoved → ℕ → Bool
+has_castling_rights men castling_forbidden square =
+    is_home (man_on men square) square && not (has_unmoved castling_forbidden square)
 
 -- the castling rights, as squares
-unfoldable pub unmoved_of : List (Option Man) → Unmoved → Unmoved
-unmoved_of men barred =
-    fold (λ set square. mark_unmoved set square (counts_as_unmoved men barred square))
+unfoldable pub castling_rights_of : List (Option Man) → Unmoved → Unmoved
+castling_rights_of men castling_forbidden =
+    fold (λ set square. mark_unmoved set square (has_castling_rights men castling_forbidden square))
     none_unmoved castling_squares
 
 -- the diagram that words pose: the form says who starts
@@ -34,7 +34,7 @@ abbrev pub diagram_of : Draft → Form → Diagram
 diagram_of draft form = record {
   men = draft.men;
   turn = starting_side form;
-  unmoved = unmoved_of draft.men draft.barred;
+  unmoved = castling_rights_of draft.men draft.castling_forbidden;
   crossed = draft.crossed;
 }
 
@@ -63,7 +63,7 @@ position_fault has_king in_check = if not has_king then Some KingMissing
 abbrev pub diagram_fault : Draft → Stipulation → Diagram → Option FaultKind
 diagram_fault draft stipulation diagram =
     if not (has_men diagram.men) then Some NoMen
-    else (if not (is_crossed_right diagram.men diagram.turn diagram.crossed)
+    else (if not (is_en_passant_square_right diagram.men diagram.turn diagram.crossed)
     then Some EnPassantImpossible
     else position_fault (has_king_to_mate stipulation diagram.men)
     (in_check (rule_of draft.condition) diagram.men (other diagram.turn)))

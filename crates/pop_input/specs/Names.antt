@@ -15,9 +15,9 @@ use Rattle.pop_input.specs.declared.names.Section.TheVariants.{Pieces, Stipulati
 use Rattle.pop_input.specs.declared.names.Command.{Command}
 use Rattle.pop_input.specs.declared.names.Command.TheVariants.{Begin, Enter, Next, Last}
 use Rattle.pop_input.specs.declared.names.OptionWord.{OptionWord}
-use Rattle.pop_input.specs.declared.names.OptionWord.TheVariants.{SetPlay, Variation, NoBoard, Awaits}
-use Rattle.pop_input.specs.declared.names.Awaited.{Awaited}
-use Rattle.pop_input.specs.declared.names.Awaited.TheVariants.{Number, OneSquare, Squares}
+use Rattle.pop_input.specs.declared.names.OptionWord.TheVariants.{SetPlay, Variation, NoBoard, Expects}
+use Rattle.pop_input.specs.declared.names.ExpectedValue.{ExpectedValue}
+use Rattle.pop_input.specs.declared.names.ExpectedValue.TheVariants.{Number, OneSquare, Squares}
 use Rattle.pop_input.specs.declared.names.TextWord.{TextWord}
 use Rattle.pop_input.specs.declared.names.TextWord.TheVariants.{Title, Author, Origin, Remark}
 
@@ -51,14 +51,14 @@ unfoldable pub condition_of : List ℕ → Option Condition
 condition_of text = entry_named ((codes "circe", Circe) ∷ (codes "madrasi", Madrasi) ∷ []) text
 
 -- the value that an option expects, by its word
-unfoldable pub awaited_of : List ℕ → Option Awaited
-awaited_of text = entry_named ((codes "maxsolutions", Number) ∷ (codes "enpassant", OneSquare)
+unfoldable pub expected_of : List ℕ → Option ExpectedValue
+expected_of text = entry_named ((codes "maxsolutions", Number) ∷ (codes "enpassant", OneSquare)
     ∷ (codes "nocastling", Squares) ∷ []) text
 
 -- the option that a word names
 unfoldable pub option_of : List ℕ → Option OptionWord
 option_of text = or_else (entry_named ((codes "setplay", SetPlay) ∷ (codes "variation", Variation)
-    ∷ (codes "noboard", NoBoard) ∷ []) text) (option_map Awaits (awaited_of text))
+    ∷ (codes "noboard", NoBoard) ∷ []) text) (option_map Expects (expected_of text))
 
 -- whether a word is one letter or more with which a colour's name begins, in capitals or not
 abbrev pub is_colour : List ℕ → List ℕ → Bool

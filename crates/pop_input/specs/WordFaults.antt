@@ -17,8 +17,8 @@ use Rattle.pop_input.specs.Names.{command_of, colour_of, kind_of, condition_of, 
 use Rattle.pop_input.specs.Values.{squares_named, only_square, is_digit, limit_of, stipulation_of}
 use Rattle.pop_input.specs.Drafts.{Draft, role_of}
 use Rattle.pop_input.specs.declared.condition.Condition.{Condition}
-use Rattle.pop_input.specs.declared.place.Role.{Role}
-use Rattle.pop_input.specs.declared.place.Role.TheVariants.{Limit, CrossedSquare, BarredSquares, Control, Within}
+use Rattle.pop_input.specs.declared.context.Role.{Role}
+use Rattle.pop_input.specs.declared.context.Role.TheVariants.{Limit, EnPassantSquare, ForbiddenSquares, Control, Within}
 use Rattle.pop_input.specs.declared.names.Section.{Section}
 use Rattle.pop_input.specs.declared.names.Section.TheVariants.{Pieces, Stipulation as Stipulations, Condition as Conditions, Options}
 use Rattle.pop_input.specs.declared.names.Command.{Command}
@@ -30,9 +30,9 @@ abbrev pub fault_if : Bool → FaultKind → Option FaultKind
 fault_if holds kind = if holds then Some kind else None
 
 -- the fault of a word after NoCastling: no squares, or a square that isn't a castling square
-abbrev pub barred_fault : Option (List ℕ) → Option FaultKind
-barred_fault None = Some SquareMissing
-barred_fault (Some squares) = fault_if (not (list_all is_castling_square squares)) NoneCastlesThere
+abbrev pub forbidden_fault : Option (List ℕ) → Option FaultKind
+forbidden_fault None = Some SquareMissing
+forbidden_fault (Some squares) = fault_if (not (list_all is_castling_square squares)) NoneCastlesThere
 
 -- the fault of a command in a problem: BeginProblem comes only before the first problem
 abbrev pub control_fault : Command → Option FaultKind
@@ -62,14 +62,14 @@ put_fault men (Some colour) man_kind (Some squares) = men_fault men
     (record { colour = colour; kind = man_kind }) squares
 
 -- whether a text has two bytes or more and no digit: then its word isn't a letter and squares at all
-abbrev pub is_foreign : List ℕ → Bool
-is_foreign text = nat_le 2 (length text) && not (list_any is_digit text)
+abbrev pub is_other_word : List ℕ → Bool
+is_other_word text = nat_le 2 (length text) && not (list_any is_digit text)
 
 -- the fault of a word in Pieces that begins with a letter of this kind
 abbrev pub letter_fault : Draft → Option Kind → List ℕ → Option FaultKind
 letter_fault draft None text = Some WordMisplaced
 letter_fault draft (Some letter) text =
-    if not (is_some (squares_named text)) && is_foreign text then Some WordMisplaced
+    if not (is_some (squares_named text)) && is_other_word text then Some WordMisplaced
     else put_fault draft.men draft.colour letter (squares_named text)
 
 -- the fault of a word in Pieces: a colour, or a letter and squares
@@ -102,15 +102,15 @@ section_fault draft (Some Options) text = fault_if (not (is_some (option_of text
 -- the fault of a word that has this role
 abbrev pub role_fault : Draft → Role → List ℕ → Option FaultKind
 role_fault draft Limit text = fault_if (not (is_some (limit_of text))) BadLimit
-role_fault draft CrossedSquare text = fault_if (not (is_some (only_square (squares_named text))))
+role_fault draft EnPassantSquare text = fault_if (not (is_some (only_square (squares_named text))))
     SquareMissing
-role_fault draft BarredSquares text = barred_fault (squares_named text)
+role_fault draft ForbiddenSquares text = forbidden_fault (squares_named text)
 role_fault draft (Control command) text = control_fault command
 role_fault draft (Within section) text = section_fault draft section text
 
 -- the fault of a word of at most 160 bytes in a problem
 abbrev pub fault_in : Draft → List ℕ → Option FaultKind
-fault_in draft text = role_fault draft (role_of draft.place text) text
+fault_in draft text = role_fault draft (role_of draft.context text) text
 
 -- the fault of the first word of the input, which must be BeginProblem
 abbrev pub begin_fault : Option Command → Option FaultKind

@@ -1,4 +1,4 @@
 pub mod Closings
-pub mod Standing
+pub mod ReaderState
 pub mod Tokens
 pub mod Used

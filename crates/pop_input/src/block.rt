@@ -2,7 +2,7 @@
 ghost use Rattle.std.specs.Prelude.{◌≡◌, ℕ, List, [], None, Some, not, true};
 ghost use Rattle.pop_input.specs.Names.{or_else};
 ghost use Rattle.pop_input.specs.FaultKinds.{at_line, fault_at};
-ghost use Rattle.pop_input.specs.ties.Closings.{IsNew, ReadsWord, TakesLine, ended_item, entry_now, item_of, said_after};
+ghost use Rattle.pop_input.specs.ties.Closings.{IsNew, ReadsWord, TakesLine, ended_item, entry_now, item_of, draft_of_next};
 ghost use Rattle.pop_input.specs.WordFaults.{fault_of};
 ghost use Rattle.pop_input.specs.declared.fault_kind.FaultKind.TheVariants.{WordTooLong};
 
@@ -58,7 +58,7 @@ impl Block {
         ensures kind { result ≡ fault_of self.old.begun self.old.draft word.now }
         ensures begun { result ≡ None → self.new.begun ≡ true }
         ensures draft { result ≡ None → self.new.draft
-            ≡ said_after self.old.begun self.old.draft word.now }
+            ≡ draft_of_next self.old.begun self.old.draft word.now }
         ensures fault { self.new.fault ≡ self.old.fault }
         ensures title { self.new.title ≡ self.old.title }
         ensures author { self.new.author ≡ self.old.author }

@@ -1,21 +1,21 @@
 //! A problem while its words are read. One module for each section of the input, and `closing` for the tests at its
 //! end.
 ghost use Rattle.std.specs.Prelude.{◌≡◌, [], None, Some};
-ghost use Rattle.pop_input.specs.Drafts.{nothing_said, draft_after, draft_by};
+ghost use Rattle.pop_input.specs.Drafts.{empty_draft, draft_after, draft_by};
 ghost use Rattle.pop_input.specs.WordFaults.{control_fault, fault_in, role_fault};
-ghost use Rattle.pop_input.specs.declared.place.Role.TheVariants.{Control, Within};
+ghost use Rattle.pop_input.specs.declared.context.Role.TheVariants.{Control, Within};
 
-mod awaited;
 mod closing;
 mod condition;
+mod expected;
 mod men;
 mod options;
 mod stipulation;
 
 use crate::condition::Condition;
+use crate::context::{Context, Role};
 use crate::fault_kind::FaultKind;
-use crate::names::{Awaited, Command, Section};
-use crate::place::{Place, Role};
+use crate::names::{Command, ExpectedValue, Section};
 use crate::short_word::ShortWord;
 use crate::switches::Switches;
 use crate::values::MOST_SOLUTIONS;
@@ -28,7 +28,7 @@ use std::marker::Model;
 /// What the words of a problem say so far. Contracts see it as the record `Draft` of `specs/Drafts.antt`.
 #[derive(Drop)]
 pub struct Draft {
-    place: Place,
+    context: Context,
     colour: Option<Colour>,
     diagram: Diagram,
     stipulation: Option<Stipulation>,
@@ -36,7 +36,7 @@ pub struct Draft {
     switches: Switches,
     limit: u32,
     crossed: Option<Square>,
-    barred: Unmoved,
+    castling_forbidden: Unmoved,
 }
 
 impl Model for Draft {
@@ -48,7 +48,7 @@ impl Model for Draft {
     ghost Value = { Draft };
 
     ghost view = { λ d. record {
-      place = d.place;
+      context = d.context;
       colour = d.colour;
       men = d.diagram.men;
       stipulation = d.stipulation;
@@ -56,7 +56,7 @@ impl Model for Draft {
       switches = d.switches;
       limit = d.limit;
       crossed = d.crossed;
-      barred = d.barred;
+      castling_forbidden = d.castling_forbidden;
     } };
 
     ghost invariant = { λ d. ArePut d.diagram.men × (is_stated d.stipulation ≡ true) × (1 ≤ d.limit)
@@ -66,12 +66,12 @@ impl Model for Draft {
 impl Draft {
     /// Returns the draft before any word: an empty board, no stipulation, the greatest limit of solutions.
     pub(crate) fn new() -> Draft
-        ensures { result ≡ nothing_said }
+        ensures { result ≡ empty_draft }
     {
         Draft {
-            place: Place {
+            context: Context {
                 section: None,
-                awaited: None,
+                expected: None,
             },
             colour: None,
             diagram: Diagram::new(),
@@ -84,7 +84,7 @@ impl Draft {
             },
             limit: MOST_SOLUTIONS,
             crossed: None,
-            barred: Unmoved::none(),
+            castling_forbidden: Unmoved::none(),
         }
     }
 
@@ -93,10 +93,10 @@ impl Draft {
         ensures fault { result ≡ fault_in self.old word.now }
         ensures draft { result ≡ None → self.new ≡ draft_after self.old word.now }
     {
-        match self.place.role_of(word) {
+        match self.context.role_of(word) {
             Role::Limit => self.take_limit(word),
-            Role::CrossedSquare => self.take_crossed(word),
-            Role::BarredSquares => self.take_barred(word),
+            Role::EnPassantSquare => self.take_en_passant(word),
+            Role::ForbiddenSquares => self.take_forbidden(word),
             Role::Control(command) => self.take_command(command),
             Role::Within(section) => self.take_in(section, word),
         }
@@ -108,11 +108,11 @@ impl Draft {
         ensures draft { result ≡ None → self.new ≡ draft_by (Control command) self.old [] }
     {
         self.colour = None;
-        self.place.awaited = None;
+        self.context.expected = None;
         match command {
             Command::Begin => Some(FaultKind::WordMisplaced),
             Command::Enter(section) => {
-                self.place.section = Some(section);
+                self.context.section = Some(section);
                 None
             }
             Command::Next | Command::Last => None,

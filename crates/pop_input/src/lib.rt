@@ -28,11 +28,11 @@
 
 mod block;
 pub mod condition;
+mod context;
 mod draft;
 pub mod fault_kind;
 pub mod item;
 mod names;
-mod place;
 pub mod problem;
 pub mod reader;
 mod short_word;

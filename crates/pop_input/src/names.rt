@@ -3,7 +3,7 @@ ghost use Rattle.std.specs.Prelude.{◌≡◌, ◌<◌, ◌≤◌, map, length, 
 ghost use Rattle.std.specs.List.{starts_with};
 ghost use Rattle.std.specs.Char.{to_ascii_lowercase};
 ghost use Rattle.pop_text.specs.Words.{is_short_form, is_text_word};
-ghost use Rattle.pop_input.specs.Names.{awaited_of, colour_of, command_of, condition_of, kind_of, option_of, section_of, text_word_of};
+ghost use Rattle.pop_input.specs.Names.{expected_of, colour_of, command_of, condition_of, kind_of, option_of, section_of, text_word_of};
 
 use crate::condition::Condition;
 use chess_core::man::{Colour, Kind};
@@ -36,7 +36,7 @@ pub enum Command {
 
 /// Which value an option expects.
 #[derive(Clone, Copy)]
-pub enum Awaited {
+pub enum ExpectedValue {
     /// The limit of MaxSolutions.
     Number,
     /// The square of EnPassant.
@@ -57,7 +57,7 @@ pub enum OptionWord {
     /// Leave the board out of the report.
     NoBoard,
     /// MaxSolutions, EnPassant or NoCastling: a value follows.
-    Awaits(Awaited),
+    Expects(ExpectedValue),
 }
 
 /// A text word. The rest of its line is text.
@@ -165,16 +165,16 @@ pub(crate) fn condition_of(word: &[u8]) -> Option<Condition>
     }
 }
 
-#[tactic(auto, unfolding(crate::specs::Names::awaited_of))]
-fn awaited_of(word: &[u8]) -> Option<Awaited>
-    ensures { result ≡ awaited_of word.now }
+#[tactic(auto, unfolding(crate::specs::Names::expected_of))]
+fn expected_of(word: &[u8]) -> Option<ExpectedValue>
+    ensures { result ≡ expected_of word.now }
 {
     if is_short(b"maxsolutions", word) {
-        Some(Awaited::Number)
+        Some(ExpectedValue::Number)
     } else if is_short(b"enpassant", word) {
-        Some(Awaited::OneSquare)
+        Some(ExpectedValue::OneSquare)
     } else if is_short(b"nocastling", word) {
-        Some(Awaited::Squares)
+        Some(ExpectedValue::Squares)
     } else {
         None
     }
@@ -192,8 +192,8 @@ pub(crate) fn option_of(word: &[u8]) -> Option<OptionWord>
     } else if is_short(b"noboard", word) {
         Some(OptionWord::NoBoard)
     } else {
-        match awaited_of(word) {
-            Some(awaited) => Some(OptionWord::Awaits(awaited)),
+        match expected_of(word) {
+            Some(expected) => Some(OptionWord::Expects(expected)),
             None => None,
         }
     }

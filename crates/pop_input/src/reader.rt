@@ -2,13 +2,13 @@
 ghost use Rattle.std.specs.Prelude.{◌≡◌, ◌≢◌, ◌<◌, ◌≤◌, ◌⊎◌, None, length, true};
 ghost use Rattle.pop_text.specs.Bytes.{greatest_count};
 ghost use Rattle.pop_text.specs.Words.{limit};
-ghost use Rattle.pop_text.specs.ties.Reading.{IsSeen, failures_after};
+ghost use Rattle.pop_text.specs.ties.Reading.{IsEndSeen, failures_after};
 ghost use Rattle.pop_text.specs.ties.Plain.{Skips};
 ghost use Rattle.pop_text.specs.declared.scanner.End.{End};
 ghost use Rattle.pop_input.specs.declared.reader.Next.{Next};
-ghost use Rattle.pop_input.specs.ties.Standing.{HasFailed, NextItem, first_standing, is_item, next_behind as behind, work_left};
+ghost use Rattle.pop_input.specs.ties.ReaderState.{HasFailed, NextItem, initial_state, is_item, next_after as following, work_left};
 ghost use Rattle.pop_input.specs.ties.Used.{UsesItem};
-ghost use Rattle.pop_input.specs.ties.Closings.{ReadsWord, cut_fault, last_of, told_of_cut};
+ghost use Rattle.pop_input.specs.ties.Closings.{ReadsWord, cut_fault, last_of, item_of_cut};
 ghost use Rattle.pop_input.specs.Names.{command_of};
 
 use crate::block::Block;
@@ -45,9 +45,9 @@ pub struct Reader {
 }
 
 impl Model for Reader {
-    ghost use Rattle.pop_input.specs.ties.Standing.{Standing};
+    ghost use Rattle.pop_input.specs.ties.ReaderState.{ReaderState};
 
-    ghost Value = { Standing };
+    ghost Value = { ReaderState };
 
     ghost use Rattle.std.specs.Prelude.{◌≤◌, length};
     ghost use Rattle.pop_text.specs.Words.{limit};
@@ -60,7 +60,7 @@ impl Model for Reader {
 impl Reader {
     /// Returns a reader before the first item.
     pub fn new() -> Reader
-        ensures { result ≡ first_standing }
+        ensures { result ≡ initial_state }
     {
         Reader {
             scanner: Scanner::new(),
@@ -97,8 +97,8 @@ impl Reader {
             result }
         ensures within { self.new.at.used ≤ limit }
         ensures waits { length self.new.at.window ≤ 4096 }
-        ensures seen { IsSeen self.old.at.end (S.remaining source.old)
-            → IsSeen self.new.at.end (S.remaining source.new) }
+        ensures seen { IsEndSeen self.old.at.end (S.remaining source.old)
+            → IsEndSeen self.new.at.end (S.remaining source.new) }
         ensures ends { self.old.at.end ≡ End.Open ⊎ self.new.at.end ≡ self.old.at.end }
         ensures counted { S.failures source.new
             ≡ failures_after self.old.at.end self.new.at.end (S.failures source.old) }
@@ -119,7 +119,7 @@ impl Reader {
                 ReadToken::TooLong(line) => block.read_long(line),
                 ReadToken::Word => match read_word(&mut block, &word) {
                     Some(last) => {
-                        self.next_block = next_behind(last);
+                        self.next_block = next_after(last);
                         return block.item_at_close(word.line, last);
                     }
                     None => skip_on(&mut self.scanner, block.fault),
@@ -129,8 +129,8 @@ impl Reader {
                     return block.item_at_end(line);
                 }
                 ReadToken::Cut(cut) => {
-                    let (fault, last) = told_of_cut(block.fault, cut);
-                    self.next_block = next_behind(last);
+                    let (fault, last) = item_of_cut(block.fault, cut);
+                    self.next_block = next_after(last);
                     return Item::Faulty(fault, last);
                 }
             }
@@ -170,8 +170,8 @@ fn closing_of(command: Option<Command>) -> Option<Last>
     }
 }
 
-fn next_behind(last: Last) -> Next
-    ensures { result ≡ behind last }
+fn next_after(last: Last) -> Next
+    ensures { result ≡ following last }
 {
     match last {
         Last::Yes => Next::Nothing,
@@ -181,8 +181,8 @@ fn next_behind(last: Last) -> Next
 
 // Returns the fault to report if the input is cut in a block with this fault or none, and whether it is the last. If
 // the block has a fault, the cut is an item of its own, which the next call returns.
-fn told_of_cut(fault: Option<Fault>, cut: ReadFault) -> (Fault, Last)
-    ensures { result ≡ told_of_cut fault cut }
+fn item_of_cut(fault: Option<Fault>, cut: ReadFault) -> (Fault, Last)
+    ensures { result ≡ item_of_cut fault cut }
 {
     match fault {
         Some(fault) => (fault, Last::No),

@@ -2,7 +2,7 @@
 ghost use Rattle.std.specs.Prelude.{◌≡◌, ◌<◌, ◌≤◌, length};
 ghost use Rattle.pop_text.specs.Words.{limit};
 ghost use Rattle.pop_text.specs.Bytes.{greatest_count};
-ghost use Rattle.pop_text.specs.ties.Reading.{Asks};
+ghost use Rattle.pop_text.specs.ties.Reading.{CallsSource};
 ghost use Rattle.pop_text.specs.declared.scanner.End.{End};
 ghost use Rattle.pop_input.specs.ties.Tokens.{NextToken, UsesToken};
 
@@ -42,7 +42,7 @@ pub(crate) fn next_token<S: Source>(
         (S.remaining source.new) word.new result }
     ensures within { scanner.new.used ≤ limit }
     ensures waits { length scanner.new.window ≤ 4096 }
-    ensures asks { Asks scanner.old.end scanner.new.end (S.remaining source.old)
+    ensures calls_source { CallsSource scanner.old.end scanner.new.end (S.remaining source.old)
         (S.remaining source.new) (S.failures source.old) (S.failures source.new) }
 {
     match scanner.read_word(source, word) {

@@ -2,44 +2,44 @@
 -- another end, or another end as a failed sink,
 -- words used after the requested item, parts numbered from 0, and solutions that don't begin with the
 -- part's moves.
-use Rattle.pop_parts.proofs.Words.{Appends, Bool, Entry, Faulty, Input, List, Lists, Move, None, Option, Phase, Posed, ReadsItems, RuleSet, Shows, Some, Sound, Word, [], ap, arith, begins_path, begins_so, closings, codes, entries_in, entry_numbered, eqb, false, list_any, outcome_at, part_numbered, parts, refl, slice_get, status_of, tells_failure, text_at, text_in, true, ℕ, ◌∷◌, ◌≡◌, ◌≢◌, ◌≤◌}
+use Rattle.pop_parts.proofs.Words.{Appends, Bool, Entry, Faulty, Input, List, Lists, Move, None, Option, Phase, Posed, ReadsItems, RuleSet, Shows, Some, Sound, Word, [], ap, arith, begins_path, begins_so, closings, codes, entries_in, entry_numbered, eqb, false, list_any, outcome_at, part_numbered, parts, refl, slice_get, status_of, reports_device_failure, text_at, text_in, true, ℕ, ◌∷◌, ◌≡◌, ◌≢◌, ◌≤◌}
 unfoldable use Rattle.pop_input.specs.Names.{command_of}
 use Rattle.pop_run.specs.declared.status.Status.TheVariants.{OutputFailed as ListCut}
 use Rattle.chess_core.specs.MoveOrder.{order_number}
-use Rattle.pop_parts.specs.declared.asked.Asked.{Asked}
-use Rattle.pop_parts.specs.declared.asked.Outcome.{Outcome}
-use Rattle.pop_parts.specs.declared.asked.Outcome.TheVariants.{OutputFailed, Shown}
+use Rattle.pop_parts.specs.declared.request.PartRequest.{PartRequest}
+use Rattle.pop_parts.specs.declared.request.Outcome.{Outcome}
+use Rattle.pop_parts.specs.declared.request.Outcome.TheVariants.{OutputFailed, Shown}
 
-text_refused : (asked : Asked) (failed : Bool) (entry : Option Entry) → outcome_at asked failed entry ≢ Shown → text_at asked entry ≡ []
+text_refused : (request : PartRequest) (failed : Bool) (entry : Option Entry) → outcome_at request failed entry ≢ Shown → text_at request entry ≡ []
 unfolding text_in
-text_refused asked failed None refused = refl
-text_refused asked failed (Some (Faulty fault)) refused = refl
-text_refused asked failed (Some (Sound posed)) refused = grind (arith, refused)
+text_refused request failed None refused = refl
+text_refused request failed (Some (Faulty fault)) refused = refl
+text_refused request failed (Some (Sound posed)) refused = grind (arith, refused)
 
 -- where the parts asked for are refused nothing is written
-pub refused_writes_nothing : (asked : Asked) (input : Input) (before now : Option (List ℕ)) (answer : Outcome) → Shows asked input before now false answer
+pub refused_writes_nothing : (request : PartRequest) (input : Input) (before now : Option (List ℕ)) (answer : Outcome) → Shows request input before now false answer
     → answer ≢ Shown → Appends before now []
-refused_writes_nothing asked input before now answer (written, told) refused =
+refused_writes_nothing request input before now answer (written, reported) refused =
     let items = entries_in input in
-    rw (text_refused asked (list_any tells_failure items) (entry_numbered items asked.item) (rw told at refused)) at written
+    rw (text_refused request (list_any reports_device_failure items) (entry_numbered items request.item) (rw reported at refused)) at written
 
-not_cut : (asked : Asked) (failed : Bool) (entry : Option Entry) → OutputFailed ≡ outcome_at asked failed entry → ⊥
-not_cut asked failed entry told = grind (arith, told)
+not_cut : (request : PartRequest) (failed : Bool) (entry : Option Entry) → OutputFailed ≡ outcome_at request failed entry → ⊥
+not_cut request failed entry reported = grind (arith, reported)
 
 -- where the sink failed the answer says so, and only there
-pub failed_sink_is_told : (asked : Asked) (input : Input) (before now : Option (List ℕ)) (answer : Outcome) → Shows asked input before now true answer
+pub failed_sink_is_reported : (request : PartRequest) (input : Input) (before now : Option (List ℕ)) (answer : Outcome) → Shows request input before now true answer
     → answer ≡ OutputFailed
-failed_sink_is_told asked input before now answer (begun, told) = told
+failed_sink_is_reported request input before now answer (begun, reported) = reported
 
 -- a sink that took all isn't said to have failed
-pub sound_sink_is_told : (asked : Asked) (input : Input) (before now : Option (List ℕ)) → Shows asked input before now false OutputFailed → ⊥
-sound_sink_is_told asked input before now (written, told) =
-    let items = entries_in input in not_cut asked (list_any tells_failure items) (entry_numbered items asked.item) told
+pub sound_sink_is_reported : (request : PartRequest) (input : Input) (before now : Option (List ℕ)) → Shows request input before now false OutputFailed → ⊥
+sound_sink_is_reported request input before now (written, reported) =
+    let items = entries_in input in not_cut request (list_any reports_device_failure items) (entry_numbered items request.item) reported
 
 -- a sink that took a whole list isn't said to have failed
-pub sound_sink_of_a_list_is_told : (depth : ℕ) (input : Input) (before now : Option (List ℕ)) → Lists depth input before now false ListCut → ⊥
+pub sound_sink_of_a_list_is_reported : (depth : ℕ) (input : Input) (before now : Option (List ℕ)) → Lists depth input before now false ListCut → ⊥
 unfolding status_of
-sound_sink_of_a_list_is_told depth input before now (written, told) = grind arith
+sound_sink_of_a_list_is_reported depth input before now (written, reported) = grind arith
 
 -- where item 1 is asked for the words of a second one aren't used
 pub no_second_item : (input : Input) (taken : List ℕ) (line next : ℕ) (r : ReadsItems 1 input taken)

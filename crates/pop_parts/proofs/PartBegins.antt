@@ -1,7 +1,7 @@
 -- How a part begins: its solutions come after its first moves.
-use Rattle.pop_parts.proofs.Words.{AreKnown, BareEvent, Bool, Counts, Frame, Game, IsCounted, IsInPart, IsLinked, IsPartOpened, IsRoomy, IsSound, IsWalking, List, Move, Phase, Posed, Position, RuleSet, StandsInPart, [], after_well_formed, ap, append-nil, arith, begun_at, cut-at, eqb, events_left, false, false≢true, game_of, get_or, has_variations, help-play, inl, inr, is_followed, is_for_mate, is_given, is_help, is_legal, is_mate, is_pseudo_legal-from_legal, legal_moves, length, length-append, length-reverse, map, min, moves_behind, nat_tests, nil_from_length, part_events, part_left, part_paths, part_solutions, path, path-length, path-more, path_end, path_end-append, path_end-path, phase_half_moves, phase_paths, phase_start, plan_of, position, position-more, position_after, refl, reverse, rules, seeks_last, shown_paths, some-taken, suc, sym, take, to_come, to_open, true, undo_of, walk_count, walk_length, ℕ, ◌++◌, ◌+◌, ◌-◌, ◌<◌, ◌^◌, ◌∙◌, ◌∷◌, ◌≡◌, ◌≤◌}
+use Rattle.pop_parts.proofs.Words.{AreKnown, BareEvent, Bool, Counts, Frame, Game, IsCounted, IsInPart, IsLinked, IsPartOpened, IsRoomy, IsSound, IsWalking, List, Move, Phase, Posed, Position, RuleSet, StandsInPart, [], after_well_formed, ap, append-nil, arith, begun_at, cut-at, eqb, events_left, false, false≢true, game_of, get_or, has_variations, help-play, inl, inr, is_followed, is_for_mate, is_emitted, is_help, is_legal, is_mate, is_pseudo_legal-from_legal, legal_moves, length, length-append, length-reverse, map, min, moves_after, nat_tests, nil_from_length, part_events, part_left, part_paths, part_solutions, path, path-length, path-more, path_end, path_end-append, path_end-path, phase_half_moves, phase_paths, phase_start, plan_of, position, position-more, position_after, refl, reverse, rules, seeks_last, shown_paths, some-taken, suc, sym, take, to_come, to_open, true, undo_of, walk_count, walk_length, ℕ, ◌++◌, ◌+◌, ◌-◌, ◌<◌, ◌^◌, ◌∙◌, ◌∷◌, ◌≡◌, ◌≤◌}
 use Rattle.pop_solve.specs.declared.plan.Plan.{Plan}
-use Rattle.pop_battle.proofs.Boards.{behind_start, for_mate}
+use Rattle.pop_battle.proofs.Boards.{after_start, for_mate}
 use Rattle.pop_solve.proofs.GoingOn.{cases, ended-reached, follows-help, walk_length-help, walk_length-most}
 use Rattle.pop_solve.proofs.Outcomes.{counted_by}
 use Rattle.pop_parts.proofs.Parts.{part_cut}
@@ -173,7 +173,7 @@ module _ (rule : RuleSet) (problem : Posed) (sound : IsSound problem) (phase : P
 
   -- the last move doesn't mate where each path ends with it
   come-fails : is_for_mate problem.stipulation.goal ≡ true → seeks_last plan.play ≡ true → left ≡ 0 → is_mate rule q ≡ false → come ≡ []
-  unfolding shown_paths position moves_behind
+  unfolding shown_paths position moves_after
   come-fails for last none misses =
       rw none (ap (map (λ line. path old ++ line)) (skipped rule plan board root 1 last (for_mate _ for) m [] misses))
 
@@ -195,12 +195,12 @@ module _ (rule : RuleSet) (problem : Posed) (sound : IsSound problem) (phase : P
   abbrev entered : List Frame
   entered = opened_frame m (undo_of rule board m) (walk_length plan.play (has_variations plan.tree) game left q) ∷ old
 
-  come-entered : is_followed plan.play game root left q ≡ true → come ≡ given_path (is_given plan.play game left q) front ++ to_come rule plan h p entered
+  come-entered : is_followed plan.play game root left q ≡ true → come ≡ given_path (is_emitted plan.play game left q) front ++ to_come rule plan h p entered
   unfolding shown_paths to_come
   come-entered followed =
       let more : eqb (length old) 0 ≡ false = grind (arith, nat_tests, deep) in
       let idle = idle-come rule plan p h old s.idle in
-      rw (followed, more, size, idle, path-more _ old deep, position-more rule p _ old deep, ← s.walking.board_at, behind_start rule q)
+      rw (followed, more, size, idle, path-more _ old deep, position-more rule p _ old deep, ← s.walking.board_at, after_start rule q)
       (sym (append-nil _) ∙ turn _ (path old) m _ [] [])
 
   walking-entered : IsWalking rule h p entered q
@@ -217,7 +217,7 @@ module _ (rule : RuleSet) (problem : Posed) (sound : IsSound problem) (phase : P
       rw (walk-is, walk_length-help plan game left q helps, idle, position-more rule p _ old deep, ← s.walking.board_at)
       (counted_by rule plan left _ 0 opened _ _ (walk_count-start rule plan left q ∙ omega arith) (c.more helps) (c.none helps) start)
 
-  begun-entered : (opened : ℕ) (given : Bool) → given ≡ is_given plan.play game left q → is_followed plan.play game root left q ≡ true
+  begun-entered : (opened : ℕ) (given : Bool) → given ≡ is_emitted plan.play game left q → is_followed plan.play game root left q ≡ true
       → Counts rule plan root left q 0 opened → HasBegun rule problem phase front (begins_at given) entered q opened
   unfolding StandsInPart part_left part_paths
   begun-entered opened true g followed c =
@@ -232,7 +232,7 @@ module _ (rule : RuleSet) (problem : Posed) (sound : IsSound problem) (phase : P
   -- what `enter` leaves
   pub begun-by : (opened opened2 : ℕ) (low given : Bool) (last : List Frame) (after : Position) → opened ≡ 0
       → (is_followed plan.play game low left q ≡ false → (given ≡ false) × (after ≡ board) × (last ≡ frames))
-      → (is_followed plan.play game low left q ≡ true → (given ≡ is_given plan.play game left q) × (after ≡ q)
+      → (is_followed plan.play game low left q ≡ true → (given ≡ is_emitted plan.play game left q) × (after ≡ q)
       × (last ≡ frames ++ opened_frame m (undo_of rule board m) (walk_length plan.play (has_variations plan.tree) game left q) ∷ []))
       → Counts rule plan low left q opened opened2 → low ≡ root → HasBegun rule problem phase front (begins_at given) (reverse last) after opened2
   begun-by opened opened2 low given last after z passes enters counts lowest =

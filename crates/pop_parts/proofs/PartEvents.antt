@@ -1,9 +1,9 @@
 -- What a call of `PartSearch::next` returns, and what it counts.
-use Rattle.pop_parts.proofs.Words.{BareEvent, Bool, Frame, Gives, IsEnded, IsPartOpened, IsSound, IsWalking, List, Move, Opens, Phase, Posed, Position, RuleSet, StandsInPart, StandsOn, Walks, [], arith, beginning_count, beginning_count-next, begins_solution, cond, eqb, event_of, events_left, false, help-play, in_range, is_help, keep-next, kept_paths, length, length-reverse, nat_tests, part_left, part_paths, path, path-length, path_end-path, path_event, phase_half_moves, phase_paths, phase_start, plan_of, refl, reverse, rules, to_open, true, ℕ, ◌+◌, ◌-◌, ◌<◌, ◌||◌, ◌∷◌, ◌≡◌, ◌≤◌}
+use Rattle.pop_parts.proofs.Words.{BareEvent, Bool, Frame, Gives, IsEnded, IsPartOpened, IsSound, IsWalking, List, Move, Opens, Phase, Posed, Position, RuleSet, StandsInPart, IsAtPathOf, Walks, [], arith, beginning_count, beginning_count-next, begins_solution, cond, eqb, event_of, events_left, false, help-play, in_range, is_help, keep-next, kept_paths, length, length-reverse, nat_tests, part_left, part_paths, path, path-length, path_end-path, path_event, phase_half_moves, phase_paths, phase_start, plan_of, refl, reverse, rules, to_open, true, ℕ, ◌+◌, ◌-◌, ◌<◌, ◌||◌, ◌∷◌, ◌≡◌, ◌≤◌}
 use Rattle.pop_events.specs.declared.event.Event.{Event}
 use Rattle.pop_events.specs.declared.event.Event.TheVariants.{Total}
 use Rattle.pop_parts.specs.declared.part_search.PartStage.{PartStage}
-use Rattle.pop_parts.specs.declared.part_search.PartStage.TheVariants.{Behind, First, Within}
+use Rattle.pop_parts.specs.declared.part_search.PartStage.TheVariants.{After, First, Within}
 use Rattle.pop_parts.specs.ties.PartsSeen.{is_part_stopped}
 use Rattle.pop_solve.proofs.Events.{room-length}
 
@@ -49,7 +49,7 @@ module _ (rule : RuleSet) (problem : Posed) (phase : Phase) where
     counts-next : next + beginning_count help (problem.max_solutions - next) rest ≡ count + beginning_count help (problem.max_solutions - count) paths
     counts-next = rw (begun, left-is) (omega (arith, n, more-here))
 
-    stands-on : StandsOn rule problem (path_event problem phase (top frames)) board (length frames)
+    stands-on : IsAtPathOf rule problem (path_event problem phase (top frames)) board (length frames)
     stands-on = grind (arith, path_end-path, path-length, length-reverse)
 
     gives-next : (event : Event) → event ≡ event_of rule problem (path_event problem phase (top frames))
@@ -59,9 +59,9 @@ module _ (rule : RuleSet) (problem : Posed) (phase : Phase) where
   -- the part's own path; the board stands as it was left
   module _ (front : List Move) (frames : List Frame) (board : Position) (sound : IsSound problem) (s : Stands front First frames board) where
     -- what showing the part's own path asks for
-    pub first-asks : (2 ≤ length frames) × (length frames ≤ 33) × Walking frames board × IsEnded rule (plan_of problem) (reverse frames) board
+    pub first-calls_source : (2 ≤ length frames) × (length frames ≤ 33) × Walking frames board × IsEnded rule (plan_of problem) (reverse frames) board
     unfolding StandsInPart
-    first-asks = search (rules, length-reverse, few)
+    first-calls_source = search (rules, length-reverse, few)
 
     some : 0 < problem.max_solutions - 0
     some = omega (arith, sound.some_solution)
@@ -78,13 +78,13 @@ module _ (rule : RuleSet) (problem : Posed) (phase : Phase) where
       -- once the part's own path is shown, the part is after that path
       pub first-stands : Stands front (Within next) frames stand
       unfolding StandsInPart part_paths
-      first-stands = search (rules, first-asks, counts-next, kept-first, begun-first)
+      first-stands = search (rules, first-calls_source, counts-next, kept-first, begun-first)
 
       -- the path's event is emitted
       pub first-gives : (event : Event) → event ≡ event_of rule problem (path_event problem phase (top frames))
           → Gives rule problem (left_at First frames) (left_at (Within next) frames) event stand (length frames)
       unfolding part_left part_paths
-      first-gives event e = rw stays (gives-next 0 _ _ frames board first-asks.0 kept-first begun-first first-asks.2 next n event e)
+      first-gives event e = rw stays (gives-next 0 _ _ frames board first-calls_source.0 kept-first begun-first first-calls_source.2 next n event e)
 
   module _ (count : ℕ) (own : List Move) (old : List Frame) (from : Position) (in_part : StandsInPart rule problem phase own (Within count) old from) where
     -- no more solutions have begun than the limit
@@ -128,7 +128,7 @@ module _ (rule : RuleSet) (problem : Posed) (phase : Phase) where
     module _ (mid : List Frame) (now : Position) (w : Walked mid now false) where
       -- the part's total is given
       pub ended-gives : (new : List Frame) (board : Position) (depth : ℕ) (event : Event) → event ≡ Total count (eqb count problem.max_solutions)
-          → Gives rule problem (part_left rule problem phase (Within count) old) (left_at Behind new) event board depth
+          → Gives rule problem (part_left rule problem phase (Within count) old) (left_at After new) event board depth
       unfolding part_left part_paths
       ended-gives new board depth event e = search rules
 

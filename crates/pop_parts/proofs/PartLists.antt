@@ -38,19 +38,19 @@ module _ {A B : Type 0} where
 
 -- a list joined over moves in order is the list of one move, where every other move's is empty
 module _ {B : Type 0} (F : Move → List B) (m : Move) (apart : (x : Move) → eqb (order_number m) (order_number x) ≡ false → F x ≡ []) where
-  behind-none : (ms : List Move) → ((x : Move) → Contains ms x → order_number m < order_number x) → flat_map F ms ≡ []
-  behind-none [] less = refl
-  behind-none (x ∷ ms) less =
+  following-none : (ms : List Move) → ((x : Move) → Contains ms x → order_number m < order_number x) → flat_map F ms ≡ []
+  following-none [] less = refl
+  following-none (x ∷ ms) less =
       let l = less x (first_in x ms) in
       let a : F x ≡ [] = apart x (grind (arith, nat_tests)) in
-      rw (a, behind-none ms (λ y c. less y (later_in x ms y c))) refl
+      rw (a, following-none ms (λ y c. less y (later_in x ms y c))) refl
 
   one-of : (ms : List Move) → AllPairs Precedes ms → Contains ms m → flat_map F ms ≡ F m
   one-of [] order c = absurd (none_in_nil m c)
   one-of (x ∷ ms) order c =
       let first = pairs_first Precedes x ms order in
       let later = pairs_later Precedes x ms order in
-      grind (arith, in_cases, behind-none ms, first, later, append-nil, apart x, one-of ms, nat_tests)
+      grind (arith, in_cases, following-none ms, first, later, append-nil, apart x, one-of ms, nat_tests)
 
 -- a line after a first move begins as a part does if that move is the part's first and the rest begins as
 -- the part goes on
@@ -82,15 +82,15 @@ module _ (game : Game Position Move) where
       λ front. map (λ line. front ++ line) (lines_to_goal game (suc h - length front) (path_end game.after p front)) in
       flat-flat F (λ m. map (λ rest. m ∷ rest) (beginnings game d (game.after p m))) (game.moves p)
       ∙ flat-same _ _ (game.moves p) (λ m. flat_map-map F (λ rest. m ∷ rest) (beginnings game d (game.after p m))
-      ∙ flat-same _ _ (beginnings game d (game.after p m)) (λ rest. behind m rest)
+      ∙ flat-same _ _ (beginnings game d (game.after p m)) (λ rest. following m rest)
       ∙ sym (map-flat (λ line. m ∷ line) (λ front. map (λ line. front ++ line) (lines_to_goal game (h - length front)
       (path_end game.after (game.after p m) front))) (beginnings game d (game.after p m)))
       ∙ ap (map (λ line. m ∷ line)) (beginnings-lines d h (game.after p m) (omega (arith, most))))
     where
-      behind : (m : Move) (rest : List Move)
+      following : (m : Move) (rest : List Move)
           → map (λ line. (m ∷ rest) ++ line) (lines_to_goal game (suc h - length (m ∷ rest)) (path_end game.after p (m ∷ rest)))
           ≡ map (λ line. m ∷ line) (map (λ line. rest ++ line) (lines_to_goal game (h - length rest) (path_end game.after (game.after p m) rest)))
-      behind m rest =
+      following m rest =
           let e : suc h - length (m ∷ rest) ≡ h - length rest = omega arith in
           rw e (sym (map-map (λ line. m ∷ line) (λ line. rest ++ line) (lines_to_goal game (h - length rest) (path_end game.after (game.after p m) rest))))
 
@@ -199,16 +199,16 @@ each-own other N (x ∷ ms) = search (rules, each-own other N ms)
 
 -- the first of joined lists are the first of their first
 module _ {A B : Type 0} (F : A → List B) where
-  first-behind : (k n : ℕ) → k ≤ n → (xs ys zs : List B) → ((j : ℕ) → j ≤ k → take j ys ≡ take j zs) → take k (take n xs ++ ys) ≡ take k (xs ++ zs)
-  first-behind k zero most [] ys zs same = same k (omega arith)
-  first-behind k (suc n) most [] ys zs same = same k (omega arith)
-  first-behind zero n most (x ∷ xs) ys zs same = refl
-  first-behind (suc k) zero most (x ∷ xs) ys zs same = absurd (omega (arith, most))
-  first-behind (suc k) (suc n) most (x ∷ xs) ys zs same =
-      ap (λ l. x ∷ l) (first-behind k n (omega (arith, most)) xs ys zs (λ j less. same j (omega (arith, less))))
+  first-following : (k n : ℕ) → k ≤ n → (xs ys zs : List B) → ((j : ℕ) → j ≤ k → take j ys ≡ take j zs) → take k (take n xs ++ ys) ≡ take k (xs ++ zs)
+  first-following k zero most [] ys zs same = same k (omega arith)
+  first-following k (suc n) most [] ys zs same = same k (omega arith)
+  first-following zero n most (x ∷ xs) ys zs same = refl
+  first-following (suc k) zero most (x ∷ xs) ys zs same = absurd (omega (arith, most))
+  first-following (suc k) (suc n) most (x ∷ xs) ys zs same =
+      ap (λ l. x ∷ l) (first-following k n (omega (arith, most)) xs ys zs (λ j less. same j (omega (arith, less))))
 
   -- the first of joined beginnings are the first of the whole
   pub first-of-firsts : (k n : ℕ) → k ≤ n → (xs : List A) → take k (flat_map (λ x. take n (F x)) xs) ≡ take k (flat_map F xs)
   first-of-firsts k n most [] = refl
   first-of-firsts k n most (x ∷ xs) =
-      first-behind k n most (F x) (flat_map (λ x. take n (F x)) xs) (flat_map F xs) (λ j less. first-of-firsts j n (omega (arith, less, most)) xs)
+      first-following k n most (F x) (flat_map (λ x. take n (F x)) xs) (flat_map F xs) (λ j less. first-of-firsts j n (omega (arith, less, most)) xs)

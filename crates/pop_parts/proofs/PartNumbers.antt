@@ -1,5 +1,5 @@
 -- The parts of a phase by their numbers, and their number.
-use Rattle.pop_parts.proofs.Words.{Bool, Phase, Posed, Position, RuleSet, [], arith, beginnings, chess, eqb, false, half_moves, is_barred, not, part_depth, parts, phase_half_moves, phase_start, refl, true, ℕ, ◌||◌, ◌≡◌, ◌≤◌}
+use Rattle.pop_parts.proofs.Words.{Bool, Phase, Posed, Position, RuleSet, [], arith, beginnings, chess, eqb, false, half_moves, is_impossible_phase, not, part_depth, parts, phase_half_moves, phase_start, refl, true, ℕ, ◌||◌, ◌≡◌, ◌≤◌}
 use Rattle.pop_stipulation.specs.declared.stipulation.Goal.{Goal}
 
 -- the moves that distinguish parts are one or more, and at most the half-moves
@@ -12,8 +12,8 @@ pub half-moves-most : (problem : Posed) (phase : Phase) → phase_half_moves pro
 half-moves-most problem phase = grind arith
 
 -- a phase that has parts has half-moves
-pub some-half-moves : (barred : Bool) (h : ℕ) → (barred || eqb h 0) ≡ false → 1 ≤ h
-some-half-moves barred h e = grind arith
+pub some-half-moves : (castling_forbidden : Bool) (h : ℕ) → (castling_forbidden || eqb h 0) ≡ false → 1 ≤ h
+some-half-moves castling_forbidden h e = grind arith
 
 module _ (rule : RuleSet) (problem : Posed) (phase : Phase) (depth : ℕ) where
   abbrev d : ℕ
@@ -29,12 +29,12 @@ module _ (rule : RuleSet) (problem : Posed) (phase : Phase) (depth : ℕ) where
   goal = problem.stipulation.goal
 
   -- a phase that can't stand or has no half-move has no parts
-  pub no-parts : (is_barred rule problem phase || eqb h 0) ≡ true → parts rule problem phase depth ≡ []
+  pub no-parts : (is_impossible_phase rule problem phase || eqb h 0) ≡ true → parts rule problem phase depth ≡ []
   unfolding parts
   no-parts none = rw none refl
 
   -- any other has all beginnings
-  pub all-parts : (is_barred rule problem phase || eqb h 0) ≡ false → parts rule problem phase depth ≡ beginnings (chess goal rule) d p
+  pub all-parts : (is_impossible_phase rule problem phase || eqb h 0) ≡ false → parts rule problem phase depth ≡ beginnings (chess goal rule) d p
   unfolding parts
   all-parts some = rw some refl
 

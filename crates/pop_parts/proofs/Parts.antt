@@ -21,8 +21,8 @@ module _ (rule : RuleSet) (problem : Posed) where
       grind (arith, moves_are_the_legal_moves rule p m well, after, is_pseudo_legal-from_legal rule p m, rest)
 
   -- help play: the lines that continue some moves
-  abbrev pub lines-behind : Phase → List Move → List (List Move)
-  lines-behind phase front = map (λ line. front ++ line) (lines_to_goal (game_of rule problem) (phase_half_moves problem phase - length front)
+  abbrev pub lines-following : Phase → List Move → List (List Move)
+  lines-following phase front = map (λ line. front ++ line) (lines_to_goal (game_of rule problem) (phase_half_moves problem phase - length front)
       (path_end (position_after rule) (phase_start problem phase) front))
 
   each-alone : (h : ℕ) (p : Position) (front : List Move) → 1 ≤ h
@@ -35,7 +35,7 @@ module _ (rule : RuleSet) (problem : Posed) where
   -- the solutions of a part of help play are these lines
   pub help-part : play_of problem.stipulation.form ≡ HelpPlay → (phase : Phase) (front : List Move)
       → IsPlayable (game_of rule problem) (phase_start problem phase) front → length front ≤ phase_half_moves problem phase
-      → 1 ≤ phase_half_moves problem phase → part_solutions rule problem phase front ≡ map (λ path. path ∷ []) (lines-behind phase front)
+      → 1 ≤ phase_half_moves problem phase → part_solutions rule problem phase front ≡ map (λ path. path ∷ []) (lines-following phase front)
   unfolding part_solutions solutions
   help-part help phase front are most some =
       rw help (each-alone (phase_half_moves problem phase) (phase_start problem phase) front some

@@ -1,5 +1,5 @@
 -- The parts of a phase joined are the phase, and each solution is in one part.
-use Rattle.pop_parts.proofs.Words.{AllPairs, Bool, Contains, IsPlayable, IsSound, List, Move, Phase, Posed, Precedes, RuleSet, StandsBefore, [], ap, arith, battle-form, beginnings, begins_so, cond, eqb, false, filter, flat_map, flat_map_single, from_filter, from_map, game_of, help-form, help_lines, is_barred, is_help, legal_moves, length, lines_to_goal, map, min, moves_in_order, nat_tests, none_in_nil, pairs_nil, part_depth, part_solutions, parts, phase_half_moves, phase_start, play_of, refl, set_tree, solutions, solutions_by, some_way, subst, suc, sym, true, zero, ℕ, ◌||◌, ◌↔◌, ◌∙◌, ◌∷◌, ◌≡◌, ◌≤◌}
+use Rattle.pop_parts.proofs.Words.{AllPairs, Bool, Contains, IsPlayable, IsSound, List, Move, Phase, Posed, Precedes, RuleSet, StandsBefore, [], ap, arith, battle-form, beginnings, begins_so, cond, eqb, false, filter, flat_map, flat_map_single, from_filter, from_map, game_of, help-form, help_lines, is_impossible_phase, is_help, legal_moves, length, lines_to_goal, map, min, moves_in_order, nat_tests, none_in_nil, pairs_nil, part_depth, part_solutions, parts, phase_half_moves, phase_start, play_of, refl, set_tree, solutions, solutions_by, some_way, subst, suc, sym, true, zero, ℕ, ◌||◌, ◌↔◌, ◌∙◌, ◌∷◌, ◌≡◌, ◌≤◌}
 use Rattle.pop_battle.specs.declared.aim.Battle.{Battle}
 use Rattle.pop_battle.specs.declared.aim.Play.{Play as PlayOfSides}
 use Rattle.pop_battle.specs.declared.aim.Play.TheVariants.{Help as HelpPlay, Battle as BattlePlay}
@@ -7,30 +7,30 @@ use Rattle.pop_events.specs.declared.event.Phase.TheVariants.{Play, Set}
 use Rattle.std.proofs.lemmas.List.Folds.{flat_map-map}
 use Rattle.pop_solve.proofs.HelpPlay.{from_lines}
 use Rattle.pop_parts.proofs.PartLists.{beginnings-lines, beginnings-one, beginnings-play, beginnings-stand, each-own, flat-in, in-beginnings, map-flat}
-use Rattle.pop_parts.proofs.Parts.{battle-by, battle-part, battle-solutions, help-part, lines-behind}
+use Rattle.pop_parts.proofs.Parts.{battle-by, battle-part, battle-solutions, help-part, lines-following}
 
 module _ (rule : RuleSet) (problem : Posed) (phase : Phase) where
   -- a phase of no half-moves has no parts and no solutions
-  parts-none : (depth : ℕ) → is_barred rule problem phase ≡ false → phase_half_moves problem phase ≡ 0 → parts rule problem phase depth ≡ []
+  parts-none : (depth : ℕ) → is_impossible_phase rule problem phase ≡ false → phase_half_moves problem phase ≡ 0 → parts rule problem phase depth ≡ []
   unfolding parts
   parts-none depth free z = let e : eqb (phase_half_moves problem phase) 0 ≡ true = rw z refl in rw (free, e) refl
 
   -- the parts of any other
-  parts-some : (depth : ℕ) → is_barred rule problem phase ≡ false → 1 ≤ phase_half_moves problem phase
+  parts-some : (depth : ℕ) → is_impossible_phase rule problem phase ≡ false → 1 ≤ phase_half_moves problem phase
       → parts rule problem phase depth ≡ beginnings (game_of rule problem) (part_depth problem phase depth) (phase_start problem phase)
   unfolding parts
   parts-some depth free some = let e : eqb (phase_half_moves problem phase) 0 ≡ false = grind (arith, nat_tests) in rw (free, e) refl
 
-  parts-help : (depth : ℕ) → is_barred rule problem phase ≡ false → 1 ≤ phase_half_moves problem phase → is_help problem.stipulation.form ≡ true
+  parts-help : (depth : ℕ) → is_impossible_phase rule problem phase ≡ false → 1 ≤ phase_half_moves problem phase → is_help problem.stipulation.form ≡ true
       → parts rule problem phase depth ≡ beginnings (game_of rule problem) (min depth (phase_half_moves problem phase)) (phase_start problem phase)
   parts-help depth free some help = rw help at (parts-some depth free some)
 
-  parts-battle : (depth : ℕ) → is_barred rule problem phase ≡ false → 1 ≤ phase_half_moves problem phase → is_help problem.stipulation.form ≡ false
+  parts-battle : (depth : ℕ) → is_impossible_phase rule problem phase ≡ false → 1 ≤ phase_half_moves problem phase → is_help problem.stipulation.form ≡ false
       → parts rule problem phase depth ≡ beginnings (game_of rule problem) 1 (phase_start problem phase)
   parts-battle depth free some battle = rw battle at (parts-some depth free some)
 
   -- the parts are the lists of this number of legal moves
-  pub parts-are : (depth : ℕ) → is_barred rule problem phase ≡ false → (h : ℕ) → phase_half_moves problem phase ≡ h → (front : List Move)
+  pub parts-are : (depth : ℕ) → is_impossible_phase rule problem phase ≡ false → (h : ℕ) → phase_half_moves problem phase ≡ h → (front : List Move)
       → Contains (parts rule problem phase depth) front
       ↔ ((1 ≤ phase_half_moves problem phase) × IsPlayable (game_of rule problem) (phase_start problem phase) front
       × (length front ≡ part_depth problem phase depth))
@@ -46,7 +46,7 @@ module _ (rule : RuleSet) (problem : Posed) (phase : Phase) where
   -- the parts stand in the order of the moves
   pub parts-stand : (depth : ℕ) → AllPairs (StandsBefore Precedes) (parts rule problem phase depth)
   unfolding parts
-  parts-stand depth = by_test (is_barred rule problem phase || eqb (phase_half_moves problem phase) 0)
+  parts-stand depth = by_test (is_impossible_phase rule problem phase || eqb (phase_half_moves problem phase) 0)
     where
       by_test : (b : Bool) → AllPairs (StandsBefore Precedes)
           (cond b [] (beginnings (game_of rule problem) (part_depth problem phase depth) (phase_start problem phase)))
@@ -70,10 +70,10 @@ module _ (rule : RuleSet) (problem : Posed) (phase : Phase) where
       → flat_map (part_solutions rule problem phase) (beginnings (game_of rule problem) d (phase_start problem phase)) ≡ solutions rule problem phase
   help-joined help some d most =
       let fronts = beginnings (game_of rule problem) d (phase_start problem phase) in
-      flat-in (part_solutions rule problem phase) (λ front. map (λ path. path ∷ []) (lines-behind rule problem phase front)) fronts
+      flat-in (part_solutions rule problem phase) (λ front. map (λ path. path ∷ []) (lines-following rule problem phase front)) fronts
       (λ front c. let w = beginnings-play (game_of rule problem) d (phase_start problem phase) front c in
       help-part rule problem help phase front w.0 (omega (arith, w.1, most)) some)
-      ∙ sym (map-flat (λ path. path ∷ []) (lines-behind rule problem phase) fronts)
+      ∙ sym (map-flat (λ path. path ∷ []) (lines-following rule problem phase) fronts)
       ∙ ap (map (λ path. path ∷ []))
       (beginnings-lines (game_of rule problem) d (phase_half_moves problem phase) (phase_start problem phase) most)
       ∙ sym (help-solutions help some)
@@ -131,7 +131,7 @@ module _ (rule : RuleSet) (problem : Posed) where
       by_play HelpPlay = rw z refl
       by_play (BattlePlay battle) = rw z refl
 
-  module _ (phase : Phase) (depth : ℕ) (free : is_barred rule problem phase ≡ false) (sound : IsSound problem) where
+  module _ (phase : Phase) (depth : ℕ) (free : is_impossible_phase rule problem phase ≡ false) (sound : IsSound problem) where
     all-joined : (h : ℕ) → phase_half_moves problem phase ≡ h → (play : PlayOfSides) → play_of problem.stipulation.form ≡ play
         → flat_map (part_solutions rule problem phase) (parts rule problem phase depth) ≡ solutions rule problem phase
     all-joined zero z play e = ap (flat_map (part_solutions rule problem phase)) (parts-none rule problem phase depth free z) ∙ sym (none-solved sound phase z)

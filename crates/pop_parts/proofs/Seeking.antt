@@ -1,12 +1,12 @@
 -- The walk over first moves: what a step leaves of the lists still to come.
-use Rattle.pop_parts.proofs.Words.{AreKnown, CameFrom, CameFromAt, Frame, IfSome, IsLinked, IsPlaceIn, IsRoomy, IsWalking, IsWellFormed, LegalPlace, List, Move, None, Option, Position, RuleSet, Some, Undo, [], after_well_formed, ap, append-nil, append_assoc, arith, beginnings, chess, drop, is_legal, is_pseudo_legal-from_legal, is_some, length, length-append, length-reverse, map, map-append, map-id, min, moves_behind, nil_from_length, path, position, position_after, refl, reverse, rules, slice_get, suc, sym, true, undo_of, walk_work, zero, ℕ, ◌++◌, ◌+◌, ◌-◌, ◌<◌, ◌^◌, ◌∙◌, ◌∷◌, ◌≡◌, ◌≢◌, ◌≤◌}
+use Rattle.pop_parts.proofs.Words.{AreKnown, CameFrom, CameFromAt, Frame, IfSome, IsLinked, IsPlaceIn, IsRoomy, IsWalking, IsWellFormed, LegalPlace, List, Move, None, Option, Position, RuleSet, Some, Undo, [], after_well_formed, ap, append-nil, append_assoc, arith, beginnings, chess, drop, is_legal, is_pseudo_legal-from_legal, is_some, length, length-append, length-reverse, map, map-append, map-id, min, moves_after, nil_from_length, path, position, position_after, refl, reverse, rules, slice_get, suc, sym, true, undo_of, walk_work, zero, ℕ, ◌++◌, ◌+◌, ◌-◌, ◌<◌, ◌^◌, ◌∙◌, ◌∷◌, ◌≡◌, ◌≢◌, ◌≤◌}
 use Rattle.std.proofs.Math.Seq.{drop-nil}
 use Rattle.pop_stipulation.specs.declared.stipulation.Goal.{Goal}
-use Rattle.pop_battle.proofs.Boards.{behind_start}
+use Rattle.pop_battle.proofs.Boards.{after_start}
 use Rattle.pop_solve.proofs.Outcomes.{CameFrom-deep, walking-close, walking-learned, walking-moved}
 use Rattle.pop_battle.specs.ties.Frames.{learned, moved, opened_frame}
 use Rattle.pop_solve.proofs.Walking.{popped}
-use Rattle.pop_solve.proofs.ToCome.{map-path, steps-start, work_behind-next}
+use Rattle.pop_solve.proofs.ToCome.{map-path, steps-start, work_after-next}
 use Rattle.pop_parts.specs.ties.Beginnings.{FindsNumbered, IsSeeking, Seeks, are_idle, beginnings_by, beginnings_to_come}
 
 deeper : (L : List Move) (m : Move) (xs ys rest : List (List Move))
@@ -14,12 +14,12 @@ deeper : (L : List Move) (m : Move) (xs ys rest : List (List Move))
 deeper L m xs ys rest = search (rules, map-append, map-path, append_assoc)
 
 beginnings-more : (goal : Goal) (rule : RuleSet) (k : ℕ) (q : Position)
-    → beginnings (chess goal rule) (suc k) q ≡ beginnings_by goal rule k q (moves_behind rule q 0)
+    → beginnings (chess goal rule) (suc k) q ≡ beginnings_by goal rule k q (moves_after rule q 0)
 unfolding beginnings beginnings_by
-beginnings-more goal rule k q = rw (behind_start rule q) refl
+beginnings-more goal rule k q = rw (after_start rule q) refl
 
 module _ (goal : Goal) (rule : RuleSet) (d : ℕ) (p : Position) (f : Frame) (next : ℕ) (m : Move) (below : List Frame)
-    (e : moves_behind rule (position rule p (f ∷ below)) f.place ≡ m ∷ moves_behind rule (position rule p (f ∷ below)) next) where
+    (e : moves_after rule (position rule p (f ∷ below)) f.place ≡ m ∷ moves_after rule (position rule p (f ∷ below)) next) where
   -- the last move of a beginning
   come-found : length below + 1 ≡ d
       → beginnings_to_come goal rule d p (f ∷ below) ≡ (path (moved f next ∷ below) ++ m ∷ []) ∷ beginnings_to_come goal rule d p (moved f next ∷ below)
@@ -32,26 +32,26 @@ module _ (goal : Goal) (rule : RuleSet) (d : ℕ) (p : Position) (f : Frame) (ne
   unfolding beginnings_to_come position path beginnings beginnings_by
   come-deeper undo less =
       let k : d - length below - 1 ≡ suc (d - suc (length below) - 1) = omega (arith, less) in
-      simp (k, e, behind_start) (search (rules, deeper))
+      simp (k, e, after_start) (search (rules, deeper))
 
 come-closed : (goal : Goal) (rule : RuleSet) (d : ℕ) (p : Position) (f : Frame) (below : List Frame)
-    → moves_behind rule (position rule p (f ∷ below)) f.place ≡ [] → beginnings_to_come goal rule d p (f ∷ below) ≡ beginnings_to_come goal rule d p below
+    → moves_after rule (position rule p (f ∷ below)) f.place ≡ [] → beginnings_to_come goal rule d p (f ∷ below) ≡ beginnings_to_come goal rule d p below
 unfolding beginnings_to_come beginnings_by
 come-closed goal rule d p f below e = rw e refl
 
 turns-found : (rule : RuleSet) (h : ℕ) (p : Position) (f : Frame) (next : ℕ) (m : Move) (below : List Frame) → length below < h
-    → moves_behind rule (position rule p (f ∷ below)) f.place ≡ m ∷ moves_behind rule (position rule p (f ∷ below)) next
+    → moves_after rule (position rule p (f ∷ below)) f.place ≡ m ∷ moves_after rule (position rule p (f ∷ below)) next
     → walk_work rule h p (moved f next ∷ below) < walk_work rule h p (f ∷ below)
 unfolding walk_work position
 turns-found rule h p f next m below less e =
-    search (rules, work_behind-next rule (h - length below - 1) (position rule p (f ∷ below)) f.place next m e)
+    search (rules, work_after-next rule (h - length below - 1) (position rule p (f ∷ below)) f.place next m e)
 
 turns-deeper : (rule : RuleSet) (h : ℕ) (p : Position) (f : Frame) (next : ℕ) (m : Move) (below : List Frame) (undo : Undo) → length below + 1 < h
-    → moves_behind rule (position rule p (f ∷ below)) f.place ≡ m ∷ moves_behind rule (position rule p (f ∷ below)) next
+    → moves_after rule (position rule p (f ∷ below)) f.place ≡ m ∷ moves_after rule (position rule p (f ∷ below)) next
     → walk_work rule h p (opened_frame m undo 0 ∷ (moved f next ∷ below)) < walk_work rule h p (f ∷ below)
 unfolding walk_work position
 turns-deeper rule h p f next m below undo less e =
-    search (rules, work_behind-next rule (h - length below - 1) (position rule p (f ∷ below)) f.place next m e, steps-start)
+    search (rules, work_after-next rule (h - length below - 1) (position rule p (f ∷ below)) f.place next m e, steps-start)
 
 walking-idle : (rule : RuleSet) (h : ℕ) (p : Position) (f : Frame) (next : ℕ) (m : Move) (below : List Frame) (board after : Position)
     → IsWalking rule h p (f ∷ below) board → length below + 1 ≤ h → is_legal rule board m ≡ true → after ≡ position_after rule board m
@@ -75,8 +75,8 @@ module _ (rule : RuleSet) (h d : ℕ) (p : Position) (top : Frame) (old new : Li
   top-known = rw on_top.board_at on_top.known.0
 
   -- what taking its move back asks for
-  pub back-asks : (now : Position) (depth : ℕ) → now ≡ board → depth ≡ length new → 0 < depth → CameFrom rule top now
-  back-asks now depth e at some = rw e (CameFrom-deep rule h p top (reverse new) board on_top (omega (arith, at, length-reverse new, some)))
+  pub back-calls_source : (now : Position) (depth : ℕ) → now ≡ board → depth ≡ length new → 0 < depth → CameFrom rule top now
+  back-calls_source now depth e at some = rw e (CameFrom-deep rule h p top (reverse new) board on_top (omega (arith, at, length-reverse new, some)))
 
   idle_top : are_idle (top ∷ reverse new) ≡ true
   idle_top = sym (ap are_idle at_top) ∙ s.idle
@@ -85,17 +85,17 @@ module _ (rule : RuleSet) (h d : ℕ) (p : Position) (top : Frame) (old new : Li
   deep = omega (arith, s.within, ap length at_top)
 
   -- a frame without moves is closed
-  pub seeks-closed : (now after : Position) (depth : ℕ) → now ≡ board → depth ≡ length new → moves_behind rule board top.place ≡ []
+  pub attacker_to_move-closed : (now after : Position) (depth : ℕ) → now ≡ board → depth ≡ length new → moves_after rule board top.place ≡ []
       → (depth ≡ 0 → after ≡ now) → ((q : Position) → 0 < depth → CameFromAt rule top now q → after ≡ q)
       → Seeks rule h d p (reverse old) (reverse new) after None
   unfolding are_idle walk_work
-  seeks-closed now after depth e at none lowest before =
+  attacker_to_move-closed now after depth e at none lowest before =
       let walking = walking-close rule h p top (reverse new) board after on_top in
       rw at_top (search (rules, walking, idle_top, deep, come-closed, on_top.board_at, length-reverse))
 
   module _ (known : Option LegalPlace) (place : ℕ) (m : Move) (now : Position) (mid : List Frame) (e : now ≡ board)
       (within : IfSome known (IsPlaceIn rule board))
-      (next : (moves_behind rule board top.place ≡ m ∷ moves_behind rule board place) × (is_legal rule board m ≡ true))
+      (next : (moves_after rule board top.place ≡ m ∷ moves_after rule board place) × (is_legal rule board m ≡ true))
       (put : mid ≡ new ++ moved (learned top known) place ∷ []) where
     abbrev f : Frame
     f = learned top known
@@ -106,39 +106,39 @@ module _ (rule : RuleSet) (h d : ℕ) (p : Position) (top : Frame) (old new : Li
     at_mid : reverse mid ≡ moved f place ∷ reverse new
     at_mid = popped mid new _ put
 
-    behind : moves_behind rule (position rule p (f ∷ reverse new)) f.place ≡ m ∷ moves_behind rule (position rule p (f ∷ reverse new)) place
-    behind = rw (← known_top.board_at) next.0
+    following : moves_after rule (position rule p (f ∷ reverse new)) f.place ≡ m ∷ moves_after rule (position rule p (f ∷ reverse new)) place
+    following = rw (← known_top.board_at) next.0
 
     -- the next move ends a beginning
-    pub seeks-found : length mid ≡ d → Seeks rule h d p (reverse old) (reverse mid) now (Some m)
+    pub attacker_to_move-found : length mid ≡ d → Seeks rule h d p (reverse old) (reverse mid) now (Some m)
     unfolding are_idle walk_work position beginnings_to_come path
-    seeks-found last =
+    attacker_to_move-found last =
         let at : length (reverse new) + 1 ≡ d = omega (arith, last, length-reverse new, ap length put ∙ length-append new (moved f place ∷ [])) in
         let walking = walking-moved rule h p f place (reverse new) board board known_top in
-        let found = λ (goal : Goal). come-found goal rule d p f place m (reverse new) behind at in
+        let found = λ (goal : Goal). come-found goal rule d p f place m (reverse new) following at in
         let falls = turns-found rule h p f place m (reverse new) in
-        rw (at_top, at_mid, e) (search (rules, walking, idle_top, deep, s.room, found, at, falls, behind))
+        rw (at_top, at_mid, e) (search (rules, walking, idle_top, deep, s.room, found, at, falls, following))
 
     -- the next move leads on to a deeper frame
-    pub seeks-deeper : (undo : Undo) (after : Position) (last : List Frame) → length mid ≢ d → undo ≡ undo_of rule now m → after ≡ position_after rule now m
+    pub attacker_to_move-deeper : (undo : Undo) (after : Position) (last : List Frame) → length mid ≢ d → undo ≡ undo_of rule now m → after ≡ position_after rule now m
         → last ≡ mid ++ opened_frame m undo 0 ∷ [] → Seeks rule h d p (reverse old) (reverse last) after None
     unfolding are_idle walk_work position beginnings_to_come path
-    seeks-deeper undo after last other u a pushed =
+    attacker_to_move-deeper undo after last other u a pushed =
         let size = ap length put ∙ length-append new (moved f place ∷ []) in
         let less : length (reverse new) + 1 < d = grind (arith, deep, other, length-reverse new, size) in
         let at_last = popped last mid _ pushed in
         let u2 : undo ≡ undo_of rule board m = rw e at u in
         let walking = walking-idle rule h p f place m (reverse new) board after known_top in
-        let found = λ (goal : Goal). come-deeper goal rule d p f place m (reverse new) behind undo less in
+        let found = λ (goal : Goal). come-deeper goal rule d p f place m (reverse new) following undo less in
         let falls = turns-deeper rule h p f place m (reverse new) undo in
-        rw (at_top, at_last, at_mid) (search (rules, u2, walking, idle_top, deep, s.room, found, falls, behind, next.1, e))
+        rw (at_top, at_last, at_mid) (search (rules, u2, walking, idle_top, deep, s.room, found, falls, following, next.1, e))
 
 -- steps on the way to the beginning with a number
 pub record SeeksNumbered (rule : RuleSet) (h d : ℕ) (p : Position) (old new : List Frame) (board : Position) (number left : ℕ) : Type 0 where
   pub seeking : IsSeeking rule h d p new board
   pub some : 1 ≤ left
   pub same : (goal : Goal) → slice_get (beginnings_to_come goal rule d p old) (number - 1) ≡ slice_get (beginnings_to_come goal rule d p new) (left - 1)
-  pub behind : (goal : Goal) → drop number (beginnings_to_come goal rule d p old) ≡ drop left (beginnings_to_come goal rule d p new)
+  pub following : (goal : Goal) → drop number (beginnings_to_come goal rule d p old) ≡ drop left (beginnings_to_come goal rule d p new)
 
 -- steps on the way to the last beginning, where `count` were found
 pub record CountsOn (rule : RuleSet) (h d : ℕ) (p : Position) (old new : List Frame) (board : Position) (count : ℕ) : Type 0 where
@@ -162,7 +162,7 @@ module _ (rule : RuleSet) (h d : ℕ) (p : Position) where
           seeking = x.seeking;
           some = omega arith;
           same = λ goal. s.same goal ∙ rw (l, x.come goal, k1) refl;
-          behind = λ goal. s.behind goal ∙ rw (whole, x.come goal) refl;
+          following = λ goal. s.following goal ∙ rw (whole, x.come goal) refl;
         }
 
   -- with no frame left there is no list of first moves

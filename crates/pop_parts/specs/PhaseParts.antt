@@ -7,7 +7,7 @@ use Rattle.chess_attacks.specs.RuleSet.{RuleSet}
 use Rattle.pop_input.specs.Posed.{Posed}
 use Rattle.pop_stipulation.specs.Stipulations.{is_help}
 use Rattle.pop_battle.specs.Chess.{chess}
-use Rattle.pop_solve.specs.Events.{BareEvent, Path, Solution, is_barred, path_event, phase_half_moves, phase_start, solutions, total}
+use Rattle.pop_solve.specs.Events.{BareEvent, Path, Solution, is_impossible_phase, path_event, phase_half_moves, phase_start, solutions, total}
 use Rattle.pop_battle.specs.Game.{Game}
 use Rattle.pop_events.specs.declared.event.Phase.{Phase}
 
@@ -28,7 +28,7 @@ part_depth problem phase depth =
 -- possible or has no half-move
 unfoldable pub parts : RuleSet → Posed → Phase → ℕ → List Path
 parts rule problem phase depth =
-    if is_barred rule problem phase || (phase_half_moves problem phase == 0) then []
+    if is_impossible_phase rule problem phase || (phase_half_moves problem phase == 0) then []
     else beginnings (chess problem.stipulation.goal rule) (part_depth problem phase depth)
     (phase_start problem phase)
 

@@ -7,9 +7,9 @@ use Rattle.pop_run.specs.Run.{ReadsUpTo, closings}
 use Rattle.pop_run.specs.declared.status.Status.{Status}
 use Rattle.pop_run.specs.declared.status.Status.TheVariants.{OutputFailed as ListCut}
 use Rattle.pop_parts.specs.Parts.{list_text, outcome_of, text_of}
-use Rattle.pop_parts.specs.declared.asked.Asked.{Asked}
-use Rattle.pop_parts.specs.declared.asked.Outcome.{Outcome}
-use Rattle.pop_parts.specs.declared.asked.Outcome.TheVariants.{OutputFailed}
+use Rattle.pop_parts.specs.declared.request.PartRequest.{PartRequest}
+use Rattle.pop_parts.specs.declared.request.Outcome.{Outcome}
+use Rattle.pop_parts.specs.declared.request.Outcome.TheVariants.{OutputFailed}
 
 -- The list of the input was written, and its status returned; if the sink failed, a beginning of the list
 -- was written.
@@ -21,10 +21,10 @@ Lists depth input before now true answer = Begins before now (list_text depth in
 
 -- The text of the requested parts was written, and the outcome returned; if the sink failed, a beginning of
 -- the text was written.
-abbrev pub Shows : Asked → Input → Option (List ℕ) → Option (List ℕ) → Bool → Outcome → Type 0
-Shows asked input before now false answer = Appends before now (text_of asked input)
-    × (answer ≡ outcome_of asked input)
-Shows asked input before now true answer = Begins before now (text_of asked input)
+abbrev pub Shows : PartRequest → Input → Option (List ℕ) → Option (List ℕ) → Bool → Outcome → Type 0
+Shows request input before now false answer = Appends before now (text_of request input)
+    × (answer ≡ outcome_of request input)
+Shows request input before now true answer = Begins before now (text_of request input)
     × (answer ≡ OutputFailed)
 
 -- How far a call reads that took these bytes to find the item with a number: as a run does, and the words

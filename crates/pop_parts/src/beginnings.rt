@@ -7,7 +7,7 @@ ghost use Rattle.chess_rules.specs.Legal.{is_legal};
 ghost use Rattle.pop_stipulation.specs.declared.stipulation.Goal.{Goal};
 ghost use Rattle.pop_input.specs.Posed.{IsSound, rule_of};
 ghost use Rattle.pop_stipulation.specs.Stipulations.{half_moves};
-ghost use Rattle.pop_solve.specs.Events.{is_barred, phase_half_moves as half_moves_of_phase, phase_start, play_start};
+ghost use Rattle.pop_solve.specs.Events.{is_impossible_phase, phase_half_moves as half_moves_of_phase, phase_start, play_start};
 ghost use Rattle.pop_battle.specs.Chess.{chess};
 ghost use Rattle.pop_parts.specs.PhaseParts.{beginnings, part_depth as depth_of_parts, part_numbered, parts};
 ghost use Rattle.pop_parts.specs.ties.Beginnings.{beginnings_to_come, FindsNumbered, IsSeeking, Seeks};
@@ -19,7 +19,7 @@ use chess_core::board::Board;
 use chess_core::man::Move;
 use chess_rules::{Moves, Rules, Undo, play};
 use pop_battle::chess::next_move;
-use pop_battle::frame::{Frame, Order, Stretch};
+use pop_battle::frame::{Frame, MoveStage, Order};
 use pop_events::event::Phase;
 use pop_input::problem::Problem;
 use pop_solve::phases::{phase_half_moves, set_up};
@@ -47,7 +47,7 @@ fn idle<R: Rules>(by: Move, undo: Undo) -> Frame<R>
         undo,
         left: 0,
         order: Order::unordered(),
-        stretch: Stretch::Others,
+        move_stage: MoveStage::Others,
         known: None,
     }
 }
@@ -63,7 +63,7 @@ fn seek<R: Rules, const N: usize>(
     requires seeking { (h : ℕ) × (p : Position)
         × IsSeeking R.rule h depth p (reverse frames.old.items) board.old }
     requires open { 0 < array_vec_len frames.old }
-    ensures seeks { (h : ℕ) (p : Position)
+    ensures attacker_to_move { (h : ℕ) (p : Position)
         → IsSeeking R.rule h depth p (reverse frames.old.items) board.old
         → Seeks R.rule h depth p (reverse frames.old.items) (reverse frames.new.items) board.new
         result }
@@ -93,7 +93,7 @@ fn seek<R: Rules, const N: usize>(
 
 /// Puts a phase's first position on the board and its frame on the empty stack. Returns `false`, with
 /// nothing changed, if the phase has no part.
-pub(crate) fn set_out<R: Rules, const N: usize>(
+pub(crate) fn begin_walk<R: Rules, const N: usize>(
     problem: &Problem,
     phase: Phase,
     board: &mut Board,
@@ -102,7 +102,7 @@ pub(crate) fn set_out<R: Rules, const N: usize>(
     requires board { board.old ≡ play_start problem.now }
     requires room { 0 < N }
     requires none { frames.old.items ≡ [] }
-    ensures possible { result ≡ not (is_barred R.rule problem.now phase
+    ensures possible { result ≡ not (is_impossible_phase R.rule problem.now phase
         || (half_moves_of_phase problem.now phase == 0)) }
     ensures seeking { IsSound problem.now → result ≡ true → (d : ℕ) → 1 ≤ d
         → d ≤ half_moves_of_phase problem.now phase
@@ -191,7 +191,7 @@ pub fn count_parts<R: Rules, const N: usize>(problem: &Problem, phase: Phase, de
 {
     let mut board = Board::of(&problem.diagram());
     let mut frames = ArrayVec::<Frame<R>, N>::new();
-    if !set_out::<R, N>(problem, phase, &mut board, &mut frames) {
+    if !begin_walk::<R, N>(problem, phase, &mut board, &mut frames) {
         return 0;
     }
     let depth = part_depth(problem, phase, depth);

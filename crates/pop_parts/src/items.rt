@@ -17,7 +17,7 @@ pub(crate) fn is_end(item: &Item) -> bool
 }
 
 /// Returns whether the item reports a failed device.
-pub(crate) fn tells_failure(item: &Item) -> bool
+pub(crate) fn reports_device_failure(item: &Item) -> bool
     ensures { result ≡ is_failure (entry_in item.now) }
 {
     match item {

@@ -8,15 +8,15 @@
 //! let status = list_parts(2, &mut source, &mut sink);
 //! ```
 //!
-//! `list` and `show` are the interface, with the types of `asked` and, for a search of one part,
+//! `list` and `show` are the interface, with the types of `requested` and, for a search of one part,
 //! `part_search`.
 #![tactic(auto)]
 
-pub mod asked;
 pub mod beginnings;
 mod items;
 pub mod list;
 pub mod part_search;
 mod parts_left;
+pub mod request;
 mod searching;
 pub mod show;

@@ -3,9 +3,9 @@ ghost use Rattle.std.specs.Prelude.{◌≡◌, ◌<◌, ◌≤◌, ◌+◌, ◌+
 ghost use Rattle.pop_text.specs.Bytes.{Writes, count_after, greatest_count};
 ghost use Rattle.pop_input.specs.Blocks.{Sound as SoundEntry};
 ghost use Rattle.pop_input.specs.Posed.{rule_of};
-ghost use Rattle.pop_solve.specs.Events.{is_barred as barred};
+ghost use Rattle.pop_solve.specs.Events.{is_impossible_phase as castling_forbidden};
 ghost use Rattle.pop_run.specs.Run.{FailsOnce, ReadsUpTo, has_grown, input_met, taken_of};
-ghost use Rattle.pop_parts.specs.Parts.{count_of, count_text, parts_line, set_text, told_count};
+ghost use Rattle.pop_parts.specs.Parts.{count_of, count_text, parts_line, set_text, reported_count};
 ghost use Rattle.pop_parts.specs.Runs.{Lists};
 ghost use Rattle.pop_parts.specs.ties.Items.{entry_in, parts_line_if};
 
@@ -154,9 +154,9 @@ fn count_in(problem: &Problem, phase: Phase, depth: usize) -> Option<u64>
 fn count_under<R: Rules>(problem: &Problem, phase: Phase, depth: usize) -> Option<u64>
     requires depth { 1 ≤ depth }
     requires rules { R.rule ≡ rule_of problem.now.condition }
-    ensures { result ≡ told_count R.rule problem.now phase depth }
+    ensures { result ≡ reported_count R.rule problem.now phase depth }
 {
-    if is_barred::<R>(problem, phase) {
+    if is_impossible_phase::<R>(problem, phase) {
         None
     } else {
         Some(parts_in::<R>(problem, phase, depth))
@@ -166,8 +166,8 @@ fn count_under<R: Rules>(problem: &Problem, phase: Phase, depth: usize) -> Optio
 // Returns whether the phase isn't possible: it is set play, and the side that isn't to move would be in
 // check.
 #[tactic(auto, unfolding(pop_battle::specs::Chess::is_impossible, chess_core::specs::Diagrams::position_of))]
-fn is_barred<R: Rules>(problem: &Problem, phase: Phase) -> bool
-    ensures { result ≡ barred R.rule problem.now phase }
+fn is_impossible_phase<R: Rules>(problem: &Problem, phase: Phase) -> bool
+    ensures { result ≡ castling_forbidden R.rule problem.now phase }
 {
     match phase {
         Phase::Play => false,

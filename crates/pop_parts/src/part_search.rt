@@ -13,17 +13,17 @@ ghost use Rattle.pop_battle.specs.ties.Marks.{is_for_mate};
 ghost use Rattle.pop_parts.specs.ties.PartStages.{IsPartOpened, part_left, StandsInPart};
 ghost use Rattle.pop_solve.specs.ties.Phases.{Gives};
 ghost use Rattle.pop_solve.specs.ties.Walk.{IsMatedAtLast, path, seeks_last};
-ghost use Rattle.pop_parts.specs.declared.part_search.PartStage.TheVariants.{First, Within, Behind};
+ghost use Rattle.pop_parts.specs.declared.part_search.PartStage.TheVariants.{First, Within, After};
 
-use crate::parts_left::PartsLeft;
+use crate::parts_left::RemainingParts;
 use arrayvec::ArrayVec;
 use chess_core::board::Board;
 use chess_core::man::Move;
 use chess_rules::{Rules, play};
 use pop_battle::chess::{reaches_goal, retract};
 use pop_battle::frame::Frame;
-use pop_battle::history::History;
 use pop_battle::killers::Killers;
+use pop_battle::search_state::SearchState;
 use pop_events::event::{Event, Phase};
 use pop_input::problem::Problem;
 use pop_solve::guess::guess_killers;
@@ -40,7 +40,7 @@ pub enum PartStage {
     /// After that path; `count` solutions of the part have begun.
     Within { count: u32 },
     /// After the total.
-    Behind,
+    After,
 }
 
 /// Returns whether a path may begin with this legal move, after which `left` half-moves are left: if each
@@ -88,7 +88,7 @@ fn begin<R: Rules, const N: usize>(
     by: Move,
     board: &mut Board,
     frames: &mut ArrayVec<Frame<R>, N>,
-    history: &mut History<R>,
+    search_state: &mut SearchState<R>,
 ) -> PartStage
     requires sound { IsSound problem.now }
     requires room { half_moves problem.now.stipulation < N }
@@ -98,13 +98,13 @@ fn begin<R: Rules, const N: usize>(
         × (array_vec_len frames.old ≡ d) }
     requires legal { is_legal R.rule board.old by ≡ true }
     requires battle { is_help problem.now.stipulation.form ≡ false → array_vec_len frames.old ≡ 1 }
-    requires opened { history.old.opened ≡ 0 }
+    requires opened { search_state.old.opened ≡ 0 }
     ensures stands { StandsInPart R.rule problem.now phase
         (path (reverse frames.old.items) ++ by ∷ []) result (reverse frames.new.items) board.new }
     ensures left { part_left R.rule problem.now phase result (reverse frames.new.items)
         ≡ part_events R.rule problem.now phase (path (reverse frames.old.items) ++ by ∷ []) }
     ensures opens { IsPartOpened R.rule problem.now phase
-        (path (reverse frames.old.items) ++ by ∷ []) (reverse frames.new.items) history.new.opened }
+        (path (reverse frames.old.items) ++ by ∷ []) (reverse frames.new.items) search_state.new.opened }
 {
     let plan = Plan::of(problem);
     let depth = frames.len();
@@ -112,15 +112,15 @@ fn begin<R: Rules, const N: usize>(
     if !may_lead::<R>(plan, left, by, board) {
         return PartStage::Within { count: 0 };
     }
-    guess_killers::<R>(plan, left, by, board, &mut history.killers);
-    if enter::<R, N>(plan, left, by, board, frames, history) {
+    guess_killers::<R>(plan, left, by, board, &mut search_state.killers);
+    if enter::<R, N>(plan, left, by, board, frames, search_state) {
         return PartStage::First;
     }
     PartStage::Within { count: 0 }
 }
 
 /// Returns the event of the path of the part's first moves, with the stage after it.
-fn give_first<R: Rules>(
+fn first_event<R: Rules>(
     problem: &Problem,
     phase: Phase,
     frames: &[Frame<R>],
@@ -145,13 +145,13 @@ fn give_first<R: Rules>(
 }
 
 /// Returns the next event of a part, of which `count` solutions have begun, with the stage after it.
-fn go_on_in_part<R: Rules, const N: usize>(
+fn next_event_in_part<R: Rules, const N: usize>(
     problem: &Problem,
     phase: Phase,
     count: u32,
     board: &mut Board,
     frames: &mut ArrayVec<Frame<R>, N>,
-    history: &mut History<R>,
+    search_state: &mut SearchState<R>,
 ) -> (PartStage, Event)
     requires sound { IsSound problem.now }
     requires room { half_moves problem.now.stipulation < N }
@@ -167,19 +167,19 @@ fn go_on_in_part<R: Rules, const N: usize>(
         result.1 board.new (array_vec_len frames.new) }
     ensures opens { (front : Path) → StandsInPart R.rule problem.now phase front
         (Within count) (reverse frames.old.items) board.old
-        → IsPartOpened R.rule problem.now phase front (reverse frames.old.items) history.old.opened
+        → IsPartOpened R.rule problem.now phase front (reverse frames.old.items) search_state.old.opened
         → IsPartOpened R.rule problem.now phase front
-        (reverse frames.new.items) history.new.opened }
-    ensures grows { min history.old.opened (2 ^ 64 - 1) ≤ history.new.opened }
+        (reverse frames.new.items) search_state.new.opened }
+    ensures grows { min search_state.old.opened (2 ^ 64 - 1) ≤ search_state.new.opened }
 {
     let walk = Walk::of(problem, phase);
-    if walk_on::<R, N>(problem, walk, count, board, frames, history) {
+    if walk_on::<R, N>(problem, walk, count, board, frames, search_state) {
         let count = count_with(problem, frames.len(), count);
         let event = event_at::<R>(problem, walk, frames.as_slice(), board);
         return (PartStage::Within { count }, event);
     }
     end::<R, N>(problem, phase, board, frames);
-    (PartStage::Behind, total(problem, count))
+    (PartStage::After, total(problem, count))
 }
 
 /// The search for the solutions of one part of a phase: those that begin with the part's first moves. It
@@ -193,7 +193,7 @@ pub struct PartSearch<R: Rules, const N: usize> {
     stage: PartStage,
     board: Board,
     frames: ArrayVec<Frame<R>, N>,
-    history: History<R>,
+    search_state: SearchState<R>,
 }
 
 impl<R: Rules, const N: usize> Model for PartSearch<R, N> {
@@ -213,8 +213,8 @@ impl<R: Rules, const N: usize> Model for PartSearch<R, N> {
       left = part_left R.rule s.problem s.phase s.stage (reverse s.frames.items);
       board = s.board;
       depth = array_vec_len s.frames;
-      opened = s.history.opened;
-      killers = s.history.killers;
+      opened = s.search_state.opened;
+      killers = s.search_state.killers;
     } };
 
     ghost invariant = { λ s. IsSound s.problem
@@ -222,7 +222,7 @@ impl<R: Rules, const N: usize> Model for PartSearch<R, N> {
         × StandsInPart R.rule s.problem s.phase s.front.items s.stage (reverse s.frames.items)
         s.board
         × IsPartOpened R.rule s.problem s.phase s.front.items
-        (reverse s.frames.items) s.history.opened };
+        (reverse s.frames.items) s.search_state.opened };
 }
 
 impl<R: Rules, const N: usize> PartSearch<R, N> {
@@ -238,7 +238,7 @@ impl<R: Rules, const N: usize> PartSearch<R, N> {
     ghost use Rattle.pop_solve.specs.ties.Walk.{path};
     ghost use Rattle.pop_parts.specs.PhaseParts.{part_events, part_numbered};
     ghost use Rattle.pop_parts.specs.ties.PartsSeen.{is_part_stopped, part_walk};
-    ghost use Rattle.pop_solve.specs.ties.Seen.{StandsOn};
+    ghost use Rattle.pop_solve.specs.ties.Seen.{IsAtPathOf};
 
     /// Returns a search of the part with this number, counted from 1 in the order of moves; `None` if the
     /// phase has fewer parts. `depth` moves distinguish the parts of help play. `N` must be more than the
@@ -264,7 +264,7 @@ impl<R: Rules, const N: usize> PartSearch<R, N> {
         if number == 0 {
             return None;
         }
-        let mut parts = PartsLeft::<R, N>::of(problem, phase, depth)?;
+        let mut parts = RemainingParts::<R, N>::of(problem, phase, depth)?;
         parts.search(number, killers)
     }
 
@@ -292,8 +292,15 @@ impl<R: Rules, const N: usize> PartSearch<R, N> {
         ensures left { result.left ≡ part_events R.rule problem.now phase result.front }
     {
         let front = front_of::<R, N>(&frames, by);
-        let mut history = History::with(killers);
-        let stage = begin::<R, N>(problem, phase, by, &mut board, &mut frames, &mut history);
+        let mut search_state = SearchState::with(killers);
+        let stage = begin::<R, N>(
+            problem,
+            phase,
+            by,
+            &mut board,
+            &mut frames,
+            &mut search_state,
+        );
         PartSearch {
             problem: *problem,
             phase,
@@ -301,7 +308,7 @@ impl<R: Rules, const N: usize> PartSearch<R, N> {
             stage,
             board,
             frames,
-            history,
+            search_state,
         }
     }
 
@@ -313,17 +320,17 @@ impl<R: Rules, const N: usize> PartSearch<R, N> {
         ensures left { self.new.left ≡ drop 1 self.old.left }
         ensures board { MatchOption (slice_get self.old.left 0)
             (self.new.board ≡ play_start self.old.problem)
-            (λ bare. StandsOn R.rule self.old.problem bare self.new.board self.new.depth) }
+            (λ bare. IsAtPathOf R.rule self.old.problem bare self.new.board self.new.depth) }
         ensures problem { self.new.problem ≡ self.old.problem }
         ensures phase { self.new.phase ≡ self.old.phase }
         ensures front { self.new.front ≡ self.old.front }
         ensures opened { self.old.opened ≤ self.new.opened }
     {
         // For the proof: the count is below 2^64.
-        let _count = self.history.opened;
+        let _count = self.search_state.opened;
         match self.stage {
             PartStage::First => {
-                let (stage, event) = give_first::<R>(
+                let (stage, event) = first_event::<R>(
                     &self.problem,
                     self.phase,
                     self.frames.as_slice(),
@@ -333,18 +340,18 @@ impl<R: Rules, const N: usize> PartSearch<R, N> {
                 Some(event)
             }
             PartStage::Within { count } => {
-                let (stage, event) = go_on_in_part::<R, N>(
+                let (stage, event) = next_event_in_part::<R, N>(
                     &self.problem,
                     self.phase,
                     count,
                     &mut self.board,
                     &mut self.frames,
-                    &mut self.history,
+                    &mut self.search_state,
                 );
                 self.stage = stage;
                 Some(event)
             }
-            PartStage::Behind => None,
+            PartStage::After => None,
         }
     }
 
@@ -352,8 +359,8 @@ impl<R: Rules, const N: usize> PartSearch<R, N> {
     pub fn into_killers(self) -> Killers<R>
         ensures { result ≡ self.killers }
     {
-        let PartSearch { history, .. } = self;
-        history.killers
+        let PartSearch { search_state, .. } = self;
+        search_state.killers
     }
 
     /// Returns the number of positions tried so far, up to the greatest u64, without the first moves and a
@@ -367,6 +374,6 @@ impl<R: Rules, const N: usize> PartSearch<R, N> {
             → result ≡ min (part_walk R.rule self.now.problem self.now.phase self.now.front)
             (2 ^ 64 - 1) }
     {
-        self.history.opened
+        self.search_state.opened
     }
 }

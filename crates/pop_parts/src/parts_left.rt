@@ -2,7 +2,7 @@
 ghost use Rattle.std.specs.Prelude.{◌≡◌, ◌≤◌};
 ghost use Rattle.arrayvec.specs.ArrayVec.{array_vec_len};
 
-use crate::beginnings::{part_depth, seek_numbered, set_out};
+use crate::beginnings::{begin_walk, part_depth, seek_numbered};
 use crate::part_search::PartSearch;
 use arrayvec::ArrayVec;
 use chess_core::board::Board;
@@ -13,9 +13,9 @@ use pop_events::event::Phase;
 use pop_input::problem::Problem;
 use std::marker::Model;
 
-/// The parts of a phase that are still to come. Contracts see the record `LeftSeen`.
+/// The parts of a phase that are still to come. Contracts see the record `RemainingSeen`.
 #[derive(Drop)]
-pub struct PartsLeft<R: Rules, const N: usize> {
+pub struct RemainingParts<R: Rules, const N: usize> {
     problem: Problem,
     phase: Phase,
     depth: usize,
@@ -23,15 +23,15 @@ pub struct PartsLeft<R: Rules, const N: usize> {
     frames: ArrayVec<Frame<R>, N>,
 }
 
-impl<R: Rules, const N: usize> Model for PartsLeft<R, N> {
+impl<R: Rules, const N: usize> Model for RemainingParts<R, N> {
     ghost use Rattle.std.specs.Prelude.{◌≡◌, ◌<◌, reverse};
     ghost use Rattle.pop_input.specs.Posed.{IsSound};
     ghost use Rattle.pop_stipulation.specs.Stipulations.{half_moves};
-    ghost use Rattle.pop_parts.specs.ties.PartsSeen.{LeftSeen};
+    ghost use Rattle.pop_parts.specs.ties.PartsSeen.{RemainingSeen};
     ghost use Rattle.pop_parts.specs.ties.Beginnings.{beginnings_to_come, IsBetweenParts};
     ghost use Rattle.pop_solve.specs.Events.{phase_start};
 
-    ghost Value = { LeftSeen };
+    ghost Value = { RemainingSeen };
 
     ghost view = { λ s. record {
       problem = s.problem;
@@ -45,7 +45,7 @@ impl<R: Rules, const N: usize> Model for PartsLeft<R, N> {
         × IsBetweenParts R.rule s.problem s.phase s.depth (reverse s.frames.items) s.board };
 }
 
-impl<R: Rules, const N: usize> PartsLeft<R, N> {
+impl<R: Rules, const N: usize> RemainingParts<R, N> {
     ghost use Rattle.std.specs.Prelude.{[], ◌≡◌, ◌-◌, ◌<◌, ◌≤◌, MatchOption, None, Some, slice_get, drop};
     ghost use Rattle.pop_stipulation.specs.Stipulations.{half_moves};
     ghost use Rattle.pop_parts.specs.PhaseParts.{part_events, parts};
@@ -62,10 +62,10 @@ impl<R: Rules, const N: usize> PartsLeft<R, N> {
     {
         let mut board = Board::of(&problem.diagram());
         let mut frames = ArrayVec::new();
-        if !set_out::<R, N>(problem, phase, &mut board, &mut frames) {
+        if !begin_walk::<R, N>(problem, phase, &mut board, &mut frames) {
             return None;
         }
-        Some(PartsLeft {
+        Some(RemainingParts {
             problem: *problem,
             phase,
             depth: part_depth(problem, phase, depth),

@@ -3,19 +3,19 @@ ghost use Rattle.std.specs.Prelude.{◌≡◌, ◌<◌, ◌≤◌, ◌==◌, IfO
 ghost use Rattle.std.specs.List.{flat_map};
 ghost use Rattle.pop_text.specs.Bytes.{Writes, count_after, greatest_count};
 ghost use Rattle.pop_input.specs.FaultKinds.{is_device_failure};
-ghost use Rattle.pop_parts.specs.declared.asked.Outcome.TheVariants.{FaultyItem, InputFailed, NoItem};
+ghost use Rattle.pop_parts.specs.declared.request.Outcome.TheVariants.{FaultyItem, InputFailed, NoItem};
 ghost use Rattle.pop_input.specs.Posed.{rule_of};
 ghost use Rattle.pop_solve.specs.Events.{event_of};
 ghost use Rattle.pop_print.specs.Events.{event_text};
 ghost use Rattle.pop_run.specs.Run.{FailsOnce, has_grown, input_met, taken_of};
-ghost use Rattle.pop_parts.specs.Parts.{has_parts as has_the_parts, has_phase as has_the_phase, outcome_at, outcome_in, part_text, parts_asked, text_at, text_in};
+ghost use Rattle.pop_parts.specs.Parts.{has_parts as has_the_parts, has_phase as has_the_phase, outcome_at, outcome_in, part_text, parts_requested, text_at, text_in};
 ghost use Rattle.pop_parts.specs.Runs.{ReadsItems, Shows};
 ghost use Rattle.pop_parts.specs.ties.Items.{entry_in, text_if};
 
-use crate::asked::{Asked, Outcome};
-use crate::items::{is_end, tells_failure};
+use crate::items::{is_end, reports_device_failure};
 use crate::part_search::PartSearch;
-use crate::parts_left::PartsLeft;
+use crate::parts_left::RemainingParts;
+use crate::request::{Outcome, PartRequest};
 use crate::searching::parts_in;
 use chess_rules::{Circe, Madrasi, Orthodox, Rules};
 use pop_battle::killers::Killers;
@@ -35,16 +35,20 @@ use pop_text::source::Source;
 /// has written a beginning of the text, writes nothing more and returns `OutputFailed`. It takes at most
 /// 4,096 bytes after the requested item, and doesn't use them. At most one call to the source and one call
 /// to the sink fail.
-pub fn show_parts<S: Source, W: Sink>(asked: &Asked, source: &mut S, sink: &mut W) -> Outcome
-    requires depth { 1 ≤ asked.now.depth }
+pub fn show_parts<S: Source, W: Sink>(
+    request: &PartRequest,
+    source: &mut S,
+    sink: &mut W,
+) -> Outcome
+    requires depth { 1 ≤ request.now.depth }
     requires source { S.failures source.old < greatest_count }
     requires sink { W.failures sink.old < greatest_count }
     ensures headline { IfSome (S.remaining source.old) (λ had.
-        Shows asked.now (input_met (has_grown (S.failures source.old) (S.failures source.new)) had
+        Shows request.now (input_met (has_grown (S.failures source.old) (S.failures source.new)) had
         (S.remaining source.new))
         (W.taken sink.old) (W.taken sink.new)
         (has_grown (W.failures sink.old) (W.failures sink.new)) result) }
-    ensures reads { IfSome (S.remaining source.old) (λ had. ReadsItems asked.now.item
+    ensures reads { IfSome (S.remaining source.old) (λ had. ReadsItems request.now.item
         (input_met (has_grown (S.failures source.old) (S.failures source.new)) had
         (S.remaining source.new)) (taken_of had (S.remaining source.new))) }
     ensures once { FailsOnce (S.failures source.old) (S.failures source.new)
@@ -58,13 +62,13 @@ pub fn show_parts<S: Source, W: Sink>(asked: &Asked, source: &mut S, sink: &mut 
         if is_end(&item) {
             return outcome_without_item(failed);
         }
-        if number == asked.item {
-            match show_item(sink, asked, &item) {
+        if number == request.item {
+            match show_item(sink, request, &item) {
                 Ok(outcome) => return outcome,
                 Err(_) => return Outcome::OutputFailed,
             }
         }
-        failed |= tells_failure(&item);
+        failed |= reports_device_failure(&item);
         number += 1;
     }
 }
@@ -81,19 +85,23 @@ fn outcome_without_item(failed: bool) -> Outcome
 }
 
 // Prints the requested parts of the item.
-fn show_item<W: Sink>(sink: &mut W, asked: &Asked, item: &Item) -> Result<Outcome, SinkFault>
-    requires depth { 1 ≤ asked.now.depth }
+fn show_item<W: Sink>(
+    sink: &mut W,
+    request: &PartRequest,
+    item: &Item,
+) -> Result<Outcome, SinkFault>
+    requires depth { 1 ≤ request.now.depth }
     requires sink { W.failures sink.old < greatest_count }
     ensures bytes { Writes (W.taken sink.old) (W.taken sink.new)
-        (text_at asked.now (entry_in item.now)) result }
+        (text_at request.now (entry_in item.now)) result }
     ensures outcome { is_some (entry_in item.now) ≡ true
-        → IfOk result (λ outcome. outcome ≡ outcome_at asked.now false (entry_in item.now)) }
+        → IfOk result (λ outcome. outcome ≡ outcome_at request.now false (entry_in item.now)) }
     ensures counted { W.failures sink.new ≡ count_after result (W.failures sink.old) }
 {
     match item {
         Item::End => Ok(Outcome::NoItem),
         Item::Faulty(fault, _) => Ok(outcome_of_fault(fault)),
-        Item::Sound(problem, _) => show_sound(sink, asked, problem),
+        Item::Sound(problem, _) => show_sound(sink, request, problem),
     }
 }
 
@@ -110,19 +118,23 @@ fn outcome_of_fault(fault: &Fault) -> Outcome
 }
 
 // Prints the requested parts of a sound problem, if it has the phase and the parts.
-fn show_sound<W: Sink>(sink: &mut W, asked: &Asked, problem: &Problem) -> Result<Outcome, SinkFault>
-    requires depth { 1 ≤ asked.now.depth }
+fn show_sound<W: Sink>(
+    sink: &mut W,
+    request: &PartRequest,
+    problem: &Problem,
+) -> Result<Outcome, SinkFault>
+    requires depth { 1 ≤ request.now.depth }
     requires sink { W.failures sink.old < greatest_count }
     ensures bytes { Writes (W.taken sink.old) (W.taken sink.new)
-        (text_in (rule_of problem.now.condition) asked.now problem.now) result }
+        (text_in (rule_of problem.now.condition) request.now problem.now) result }
     ensures outcome { IfOk result (λ outcome. outcome
-        ≡ outcome_in (rule_of problem.now.condition) asked.now problem.now) }
+        ≡ outcome_in (rule_of problem.now.condition) request.now problem.now) }
     ensures counted { W.failures sink.new ≡ count_after result (W.failures sink.old) }
 {
     match problem.condition() {
-        None => show_under::<Orthodox, W>(sink, asked, problem),
-        Some(Condition::Circe) => show_under::<Circe, W>(sink, asked, problem),
-        Some(Condition::Madrasi) => show_under::<Madrasi, W>(sink, asked, problem),
+        None => show_under::<Orthodox, W>(sink, request, problem),
+        Some(Condition::Circe) => show_under::<Circe, W>(sink, request, problem),
+        Some(Condition::Madrasi) => show_under::<Madrasi, W>(sink, request, problem),
     }
 }
 
@@ -130,25 +142,25 @@ fn show_sound<W: Sink>(sink: &mut W, asked: &Asked, problem: &Problem) -> Result
 #[tactic(auto, unfolding(crate::specs::Parts::text_in))]
 fn show_under<R: Rules, W: Sink>(
     sink: &mut W,
-    asked: &Asked,
+    request: &PartRequest,
     problem: &Problem,
 ) -> Result<Outcome, SinkFault>
-    requires depth { 1 ≤ asked.now.depth }
+    requires depth { 1 ≤ request.now.depth }
     requires sink { W.failures sink.old < greatest_count }
     requires rules { R.rule ≡ rule_of problem.now.condition }
     ensures bytes { Writes (W.taken sink.old) (W.taken sink.new)
-        (text_in R.rule asked.now problem.now) result }
+        (text_in R.rule request.now problem.now) result }
     ensures outcome { IfOk result (λ outcome. outcome
-        ≡ outcome_in R.rule asked.now problem.now) }
+        ≡ outcome_in R.rule request.now problem.now) }
     ensures counted { W.failures sink.new ≡ count_after result (W.failures sink.old) }
 {
-    if !has_phase(problem, asked.phase) {
+    if !has_phase(problem, request.phase) {
         return Ok(Outcome::NoPhase);
     }
-    if !has_parts::<R>(asked, problem) {
+    if !has_parts::<R>(request, problem) {
         return Ok(Outcome::NoPart);
     }
-    print_parts::<R, W>(sink, asked, problem)?;
+    print_parts::<R, W>(sink, request, problem)?;
     Ok(Outcome::Shown)
 }
 
@@ -163,39 +175,39 @@ fn has_phase(problem: &Problem, phase: Phase) -> bool
 }
 
 // Returns whether the phase has all requested parts.
-fn has_parts<R: Rules>(asked: &Asked, problem: &Problem) -> bool
-    requires depth { 1 ≤ asked.now.depth }
+fn has_parts<R: Rules>(request: &PartRequest, problem: &Problem) -> bool
+    requires depth { 1 ≤ request.now.depth }
     requires rules { R.rule ≡ rule_of problem.now.condition }
-    ensures { result ≡ has_the_parts R.rule asked.now problem.now }
+    ensures { result ≡ has_the_parts R.rule request.now problem.now }
 {
-    1 <= asked.first
-        && asked.first <= asked.last
-        && asked.last <= parts_in::<R>(problem, asked.phase, asked.depth)
+    1 <= request.first
+        && request.first <= request.last
+        && request.last <= parts_in::<R>(problem, request.phase, request.depth)
 }
 
 // Prints the requested parts, one after another.
 fn print_parts<R: Rules, W: Sink>(
     sink: &mut W,
-    asked: &Asked,
+    request: &PartRequest,
     problem: &Problem,
 ) -> Result<(), SinkFault>
-    requires depth { 1 ≤ asked.now.depth }
+    requires depth { 1 ≤ request.now.depth }
     requires sink { W.failures sink.old < greatest_count }
     requires rules { R.rule ≡ rule_of problem.now.condition }
-    requires parts { has_the_parts R.rule asked.now problem.now ≡ true }
+    requires parts { has_the_parts R.rule request.now problem.now ≡ true }
     ensures bytes { Writes (W.taken sink.old) (W.taken sink.new)
-        (flat_map (part_text R.rule problem.now asked.now.phase)
-        (parts_asked R.rule asked.now problem.now)) result }
+        (flat_map (part_text R.rule problem.now request.now.phase)
+        (parts_requested R.rule request.now problem.now)) result }
     ensures counted { W.failures sink.new ≡ count_after result (W.failures sink.old) }
 {
     // For the proof: the stipulation of a problem that was read has at most 32 half-moves.
     let _aim = problem.stipulation();
-    match PartsLeft::<R, 33>::of(problem, asked.phase, asked.depth) {
+    match RemainingParts::<R, 33>::of(problem, request.phase, request.depth) {
         None => Ok(()),
-        Some(mut parts) => print_behind::<R, W>(
+        Some(mut parts) => print_parts_from::<R, W>(
             sink,
-            asked.first,
-            asked.last - asked.first + 1,
+            request.first,
+            request.last - request.first + 1,
             &mut parts,
         ),
     }
@@ -203,11 +215,11 @@ fn print_parts<R: Rules, W: Sink>(
 
 // Prints `count` of the parts still to come, from part `first` on. The search of each part starts with the
 // killers of the part before it.
-fn print_behind<R: Rules, W: Sink>(
+fn print_parts_from<R: Rules, W: Sink>(
     sink: &mut W,
     first: u64,
     count: u64,
-    parts: &mut PartsLeft<R, 33>,
+    parts: &mut RemainingParts<R, 33>,
 ) -> Result<(), SinkFault>
     requires sink { W.failures sink.old < greatest_count }
     requires first { 1 ≤ first }
@@ -234,7 +246,7 @@ fn print_behind<R: Rules, W: Sink>(
 fn print_part<R: Rules, W: Sink>(
     sink: &mut W,
     number: u64,
-    parts: &mut PartsLeft<R, 33>,
+    parts: &mut RemainingParts<R, 33>,
     killers: Killers<R>,
 ) -> Result<Killers<R>, SinkFault>
     requires sink { W.failures sink.old < greatest_count }

@@ -14,14 +14,14 @@ prefix_text half = if half % 2 == 1 then decimal ((half + 1) / 2) ++ codes "."
     else decimal (half / 2) ++ codes "..."
 
 -- what comes before a move of a line: a number before the first move and before each White move, a blank between moves
-abbrev pub lead_text : Bool → ℕ → List ℕ
-lead_text true half = prefix_text half
-lead_text false half = codes " " ++ (if half % 2 == 1 then prefix_text half else [])
+abbrev pub move_number_text : Bool → ℕ → List ℕ
+move_number_text true half = prefix_text half
+move_number_text false half = codes " " ++ (if half % 2 == 1 then prefix_text half else [])
 
 -- the text of moves from a half-move on, with the first move of the line or without it
 abbrev pub moves_text : Bool → ℕ → List Shown → List ℕ
 moves_text first half [] = []
-moves_text first half (shown ∷ moves) = lead_text first half ++ move_text shown
+moves_text first half (shown ∷ moves) = move_number_text first half ++ move_text shown
     ++ moves_text false (half + 1) moves
 
 -- the text of a line of help play

@@ -83,15 +83,15 @@ names_text posed = labelled_text (codes "title: ") posed.title
     ++ labelled_text (codes "author: ") posed.author
 
 -- the line of the stipulation and the condition
-unfoldable pub task_line : Posed → List ℕ
-task_line posed = stipulation_text posed.stipulation ++ condition_text posed.condition ++ codes "\n"
+unfoldable pub stipulation_line : Posed → List ℕ
+stipulation_line posed = stipulation_text posed.stipulation ++ condition_text posed.condition ++ codes "\n"
 
 -- the text of a sound item's head, with the board unless the problem or the settings leave it out
 unfoldable pub head_text : ℕ → Posed → Bool → List ℕ
 head_text number posed no_board =
     item_line number ++ names_text posed
     ++ (if no_board || posed.no_board then [] else board_text posed.diagram.men)
-    ++ task_line posed
+    ++ stipulation_line posed
 
 -- the text of a sound item that is only tested: its head, the line `sound`, an empty line
 abbrev pub checked_text : ℕ → Posed → Bool → List ℕ

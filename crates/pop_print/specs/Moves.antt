@@ -44,8 +44,8 @@ mark_text Check = codes "+"
 mark_text Plain = []
 
 -- the text of a move that isn't castling, without its mark
-abbrev pub going_text : Shown → List ℕ
-going_text shown =
+abbrev pub plain_move_text : Shown → List ℕ
+plain_move_text shown =
     man_text shown.man.kind ++ square_text shown.from ++ step_text shown.capture
     ++ square_text shown.to
     ++ en_passant_text shown.ep ++ promotion_text shown.promo ++ rebirth_text shown.rebirth
@@ -53,7 +53,7 @@ going_text shown =
 -- the text of a move without its mark
 abbrev pub unmarked_text : Option Side → Shown → List ℕ
 unmarked_text (Some side) shown = castling_text side
-unmarked_text None shown = going_text shown
+unmarked_text None shown = plain_move_text shown
 
 -- the text of a move
 unfoldable pub move_text : Shown → List ℕ

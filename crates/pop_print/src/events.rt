@@ -3,7 +3,7 @@ ghost use Rattle.std.specs.Prelude.{◌≡◌, ◌<◌, ◌≤◌, ◌+◌, ◌+
 ghost use Rattle.pop_text.specs.Bytes.{Writes, count_after, greatest_count};
 ghost use Rattle.pop_print.specs.Moves.{move_text};
 ghost use Rattle.pop_print.specs.Notation.{blank};
-ghost use Rattle.pop_print.specs.Events.{event_text, lead_text, line_text, moves_text, node_text, prefix_text, stopped_text as text_of_stopped, total_text};
+ghost use Rattle.pop_print.specs.Events.{event_text, move_number_text, line_text, moves_text, node_text, prefix_text, stopped_text as text_of_stopped, total_text};
 
 use crate::line::{LONGEST, LineBuffer};
 use pop_events::event::{Event, Phase};
@@ -110,10 +110,10 @@ impl<const N: usize> LineBuffer<N> {
     }
 
     // Adds what comes before a move of a line: the first move and each White move have their number.
-    fn add_lead(&mut self, first: bool, half: u64)
+    fn add_move_number(&mut self, first: bool, half: u64)
         requires room { length self.old + 24 ≤ N }
         requires half { half < 2 ^ 33 }
-        ensures text { self.new ≡ self.old ++ lead_text first half }
+        ensures text { self.new ≡ self.old ++ move_number_text first half }
         ensures short { length self.new ≤ length self.old + 24 }
     {
         if first {
@@ -137,7 +137,7 @@ impl<const N: usize> LineBuffer<N> {
         let mut number = half;
         let mut first = true;
         for shown in moves {
-            self.add_lead(first, number);
+            self.add_move_number(first, number);
             self.add_move(shown);
             first = false;
             number += 1;

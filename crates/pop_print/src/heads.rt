@@ -2,7 +2,7 @@
 ghost use Rattle.std.specs.Prelude.{◌≡◌, ◌<◌, ◌≤◌, ◌+◌, ◌++◌, ◌||◌, List, ℕ, [], length, codes, if◌then◌else◌};
 ghost use Rattle.chess_core.specs.Position.{man_on};
 ghost use Rattle.pop_text.specs.Bytes.{Writes, count_after, greatest_count};
-ghost use Rattle.pop_print.specs.Heads.{board_text, cell_of as letter_on, condition_text as text_of_condition, form_text as text_of_form, goal_text as text_of_goal, checked_text, half_text as text_of_half, head_text, item_line, labelled_text, names_text, rank_text, stipulation_text, task_line};
+ghost use Rattle.pop_print.specs.Heads.{board_text, cell_of as letter_on, condition_text as text_of_condition, form_text as text_of_form, goal_text as text_of_goal, checked_text, half_text as text_of_half, head_text, item_line, labelled_text, names_text, rank_text, stipulation_text, stipulation_line};
 
 use crate::line::{LONGEST, LineBuffer};
 use crate::notation::letter_of;
@@ -69,7 +69,7 @@ impl<const N: usize> LineBuffer<N> {
         self.add_item_line(number);
         self.add_names(problem);
         self.add_board_unless(is_left_out(no_board, problem), problem.setup());
-        self.add_task(problem);
+        self.add_stipulation_line(problem);
     }
 
     // Adds the head, the line `sound` and an empty line.
@@ -106,10 +106,10 @@ impl<const N: usize> LineBuffer<N> {
     }
 
     // Adds the line of the stipulation and the condition.
-    #[tactic(auto, unfolding(crate::specs::Heads::task_line))]
-    fn add_task(&mut self, problem: &Problem)
+    #[tactic(auto, unfolding(crate::specs::Heads::stipulation_line))]
+    fn add_stipulation_line(&mut self, problem: &Problem)
         requires { length self.old + 33 ≤ N }
-        ensures text { self.new ≡ self.old ++ task_line problem.now }
+        ensures text { self.new ≡ self.old ++ stipulation_line problem.now }
         ensures short { length self.new ≤ length self.old + 33 }
     {
         self.add_stipulation(problem.stipulation());

@@ -1,6 +1,6 @@
 //! The text of moves.
 ghost use Rattle.std.specs.Prelude.{◌≡◌, ◌≤◌, ◌+◌, ◌++◌, [], ◌∷◌, length};
-ghost use Rattle.pop_print.specs.Moves.{castling_text as text_of_castling, en_passant_text as text_of_en_passant, mark_text as text_of_mark, move_text, promotion_text, rebirth_text, step_text as text_of_step, going_text};
+ghost use Rattle.pop_print.specs.Moves.{castling_text as text_of_castling, en_passant_text as text_of_en_passant, mark_text as text_of_mark, move_text, promotion_text, rebirth_text, step_text as text_of_step, plain_move_text};
 
 use crate::line::LineBuffer;
 use crate::notation::{colour_letter, letter_of};
@@ -53,15 +53,15 @@ impl<const N: usize> LineBuffer<N> {
     {
         match shown.castling {
             Some(side) => self.add(castling_text(side)),
-            None => self.add_way(shown),
+            None => self.add_plain_move(shown),
         }
         self.add(mark_text(shown.mark));
     }
 
     // Adds a move that isn't castling, without its mark.
-    fn add_way(&mut self, shown: &Shown)
+    fn add_plain_move(&mut self, shown: &Shown)
         requires { length self.old + 19 ≤ N }
-        ensures text { self.new ≡ self.old ++ going_text shown.now }
+        ensures text { self.new ≡ self.old ++ plain_move_text shown.now }
         ensures short { length self.new ≤ length self.old + 19 }
     {
         self.add_man(shown.man.kind);

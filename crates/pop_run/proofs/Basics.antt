@@ -5,7 +5,7 @@ pub use Rattle.std.proofs.lemmas.Result.{IfErr-weaker, IfOk-weaker, err_from_is_
 pub use Rattle.std.specs.List.{enumerate_from, flat_map, list_any}
 pub use Rattle.std.specs.Prelude.{IfErr, IfOk, is_err, slice_get, string_bytes}
 pub use Rattle.pop_input.specs.Blocks.{Entry, entries_of}
-pub use Rattle.pop_input.specs.ties.Standing.{Reads, Standing, entries_left, work_left}
+pub use Rattle.pop_input.specs.ties.ReaderState.{Reads, ReaderState, entries_left, work_left}
 pub use Rattle.pop_print.specs.Events.{event_text}
 pub use Rattle.pop_solve.specs.Events.{event_of, events}
 unfoldable pub use Rattle.pop_solve.specs.Events.{events_of}
@@ -17,8 +17,8 @@ unfoldable pub use Rattle.pop_text.specs.Words.{limit}
 pub use Rattle.pop_text.specs.declared.scanner.End.{End}
 pub use Rattle.pop_text.specs.declared.scanner.End.TheVariants.{Broken, Ended, Open}
 pub use Rattle.pop_text.specs.ties.Left.{MayFollow, onto_input, put_before}
-pub use Rattle.pop_text.specs.ties.Reading.{IsSeen, failures_after}
-pub use Rattle.pop_run.specs.Report.{Choice, choice_of, is_faulty, report, report_from, tells_failure}
+pub use Rattle.pop_text.specs.ties.Reading.{IsEndSeen, failures_after}
+pub use Rattle.pop_run.specs.Report.{Choice, choice_of, is_faulty, report, report_from, reports_device_failure}
 unfoldable pub use Rattle.pop_run.specs.Report.{entries_in, entry_text, status_of}
 pub use Rattle.pop_run.specs.Run.{Runs, has_grown, input_met, taken_of}
 pub use Rattle.pop_run.specs.declared.status.Status.TheVariants.{Faulty, InputFailed, OutputFailed, Sound}

@@ -33,8 +33,8 @@ printing_breaks_off text all left item before mid now p q =
 -- the first of some steps, if there is one, and the steps after it
 pub first_shown : {S E : Type 0} (show : S → E) (left new : List S) (event : E) → Some event ≡ option_map show (slice_get left 0) → new ≡ drop 1 left
     → map show left ≡ event ∷ map show new
-first_shown show [] new event shown behind = absurd (none-some event (sym shown))
-first_shown show (step ∷ left) new event shown behind = rw behind (ap (λ e. e ∷ map show left) (sym (same_Some event (show step) shown)))
+first_shown show [] new event shown following = absurd (none-some event (sym shown))
+first_shown show (step ∷ left) new event shown following = rw following (ap (λ e. e ∷ map show left) (sym (same_Some event (show step) shown)))
 
 -- the events of a problem, by the rules of its condition
 pub events_under : (rule : RuleSet) (posed : Posed) → rule ≡ rule_of posed.condition → events_of posed ≡ map (event_of rule posed) (events rule posed)

@@ -1,5 +1,5 @@
 -- How far a run reads.
-use Rattle.pop_run.proofs.Basics.{Entry, Input, IsSeen, List, MayFollow, None, Option, Reads, Some, Standing, Words, [], ap, append-nil, append_assoc, append_cancel_right, arith, count_by, drop, false, inl, input_met, is_line_end, length, limit, not, onto_input, refl, sym, take, taken_of, true, words_of, ℕ, ◌++◌, ◌+◌, ◌∙◌, ◌∷◌, ◌≡◌, ◌≤◌}
+use Rattle.pop_run.proofs.Basics.{Entry, Input, IsEndSeen, List, MayFollow, None, Option, Reads, Some, ReaderState, Words, [], ap, append-nil, append_assoc, append_cancel_right, arith, count_by, drop, false, inl, input_met, is_line_end, length, limit, not, onto_input, refl, sym, take, taken_of, true, words_of, ℕ, ◌++◌, ◌+◌, ◌∙◌, ◌∷◌, ◌≡◌, ◌≤◌}
 use Rattle.std.proofs.Common.{inr, ◌⊎◌}
 use Rattle.std.proofs.Math.Seq.{drop-append_seam, take-append_seam}
 use Rattle.std.proofs.lemmas.List.{take_all}
@@ -20,10 +20,10 @@ use Rattle.pop_input.specs.declared.names.Command.{Command}
 use Rattle.pop_input.specs.declared.reader.Next.{Next}
 use Rattle.pop_input.specs.declared.reader.Next.TheVariants.{Nothing}
 use Rattle.pop_input.specs.ties.Closings.{last_of}
-use Rattle.pop_input.specs.ties.Standing.{first_standing, next_behind}
+use Rattle.pop_input.specs.ties.ReaderState.{initial_state, next_after}
 use Rattle.pop_input.specs.ties.Used.{IsClosed, IsInputOver, IsUnclosed, UsesEntry, UsesTokens}
 use Rattle.pop_run.proofs.Meeting.{is_broken, met_after, taken_front}
-use Rattle.pop_run.specs.Run.{EndsWithInput, EndsWithItem, ReadsUpTo, closings, is_no_end_problem_token, is_no_end_problem, words_behind}
+use Rattle.pop_run.specs.Run.{EndsWithInput, EndsWithItem, ReadsUpTo, closings, is_no_end_problem_token, is_no_end_problem, words_after}
 use Rattle.pop_run.specs.ties.Sessions.{ends}
 
 -- Words and text lines.
@@ -51,7 +51,7 @@ last_closes : (command : Option Command) (last : Last) → last_of command ≡ S
 last_closes command last is = grind arith
 
 -- NextProblem isn't EndProblem
-next_goes_on : (command : Option Command) (last : Last) → last_of command ≡ Some last → ends (next_behind last) ≡ false → is_no_end_problem command ≡ true
+next_goes_on : (command : Option Command) (last : Last) → last_of command ≡ Some last → ends (next_after last) ≡ false → is_no_end_problem command ≡ true
 next_goes_on command last is h = grind arith
 
 none_close : (tokens : List Token) → list_all closes_none tokens ≡ true → closings tokens ≡ 0
@@ -74,7 +74,7 @@ abbrev pub Stops : Reading → List ℕ → List Token → Type 0
 Stops place bytes tokens = EndsWithItem bytes tokens ⊎ ((list_all is_no_end_problem_token tokens ≡ true) × IsInputOver place)
 
 -- From the beginning to now these bytes were used and these words taken, and a run may stop now.
-pub record Stopped (now : Standing) (had left : Option (List ℕ)) : Type 0 where
+pub record Stopped (now : ReaderState) (had left : Option (List ℕ)) : Type 0 where
   pub bytes : List ℕ
   pub tokens : List Token
   pub used : UsesTokens first_reading now.at had left bytes tokens
@@ -82,7 +82,7 @@ pub record Stopped (now : Standing) (had left : Option (List ℕ)) : Type 0 wher
 
 -- From the beginning to now these bytes were used and these words taken. If items are still to come, EndProblem wasn't read; after the last item a run
 -- may stop.
-pub record Reached (now : Standing) (had left : Option (List ℕ)) : Type 0 where
+pub record Reached (now : ReaderState) (had left : Option (List ℕ)) : Type 0 where
   pub bytes : List ℕ
   pub tokens : List Token
   pub used : UsesTokens first_reading now.at had left bytes tokens
@@ -90,7 +90,7 @@ pub record Reached (now : Standing) (had left : Option (List ℕ)) : Type 0 wher
   pub stops : ends now.next ≡ true → Stops now.at bytes tokens
 
 -- at its beginning a run has used nothing
-pub reached_start : (had : Option (List ℕ)) → Reached first_standing had had
+pub reached_start : (had : Option (List ℕ)) → Reached initial_state had had
 reached_start had = record {
   bytes = [];
   tokens = [];
@@ -105,16 +105,16 @@ unfolding reached_start
 start_few had = omega arith
 
 -- after the last item a run may stop
-pub stopped_last : {now : Standing} {had left : Option (List ℕ)} → Reached now had left → ends now.next ≡ true → Stopped now had left
+pub stopped_last : {now : ReaderState} {had left : Option (List ℕ)} → Reached now had left → ends now.next ≡ true → Stopped now had left
 stopped_last p over = record { bytes = p.bytes; tokens = p.tokens; used = p.used; stops = p.stops over }
 
 -- `stopped_last` doesn't change which words are used
-pub last_few : {now : Standing} {had left : Option (List ℕ)} (p : Reached now had left) (over : ends now.next ≡ true)
+pub last_few : {now : ReaderState} {had left : Option (List ℕ)} (p : Reached now had left) (over : ends now.next ≡ true)
     → closings (stopped_last p over).tokens ≡ closings p.tokens
 unfolding stopped_last
 last_few p over = refl
 
-module _ (old new : Standing) (had mid left : Option (List ℕ)) (p : Reached old had mid) (more : ends old.next ≡ false) where
+module _ (old new : ReaderState) (had mid left : Option (List ℕ)) (p : Reached old had mid) (more : ends old.next ≡ false) where
   closed_stops : IsClosed old new mid left → Stopped new had left
   closed_stops c = record {
     bytes = p.bytes ++ (c.before ++ c.word);
@@ -189,7 +189,7 @@ module _ (old new : Standing) (had mid left : Option (List ℕ)) (p : Reached ol
   reached_few (FaultyEntry fault) (inr c) = omega (arith, both_close p.tokens c.tokens, none_close c.tokens c.plain)
 
 -- if an item was read, one was still to come
-pub still_more : (old new : Standing) (had left : Option (List ℕ)) (entry : Entry) (rest : Input) → MayFollow new.at.end rest
+pub still_more : (old new : ReaderState) (had left : Option (List ℕ)) (entry : Entry) (rest : Input) → MayFollow new.at.end rest
     → Reads old new had left (entry ∷ []) → ends old.next ≡ false
 still_more old new had left entry rest may r = by_next old.next refl
   where
@@ -207,9 +207,9 @@ module _ (place : Reading) (taken bytes : List ℕ) (rest : Input) (unread : tak
   whole : taken ++ rest.bytes ≡ bytes ++ (place.window ++ rest.bytes)
   whole = grind (arith, append_assoc)
 
-  behind_is : place.used ≡ 0 + length bytes → place.line ≡ 1 + count_by is_line_end bytes
-      → words_left None place rest ≡ words_behind bytes (onto_input taken rest)
-  behind_is used line =
+  after_is : place.used ≡ 0 + length bytes → place.line ≡ 1 + count_by is_line_end bytes
+      → words_left None place rest ≡ words_after bytes (onto_input taken rest)
+  after_is used line =
       let size : place.used ≡ length bytes = omega (arith, used) in
       let back : drop (length bytes) (taken ++ rest.bytes) ≡ place.window ++ rest.bytes = rw whole (drop-append_seam bytes (place.window ++ rest.bytes)) in
       rw (size, line, back) refl
@@ -226,7 +226,7 @@ module _ (place : Reading) (taken bytes : List ℕ) (rest : Input) (unread : tak
   all_used used (inr (InputTooLong line, at)) may = full_used (omega (arith, used, at.1))
   all_used used (inr (Device line, at)) may = none_waits at.0 (ap (λ (i : Input). i.bytes) (rw at.1 at may)) (omega (arith, used, at.3))
 
-module _ (new : Standing) (r ys : List ℕ) (s : Stopped new (Some r) (Some ys)) where
+module _ (new : ReaderState) (r ys : List ℕ) (s : Stopped new (Some r) (Some ys)) where
   abbrev taken : List ℕ
   taken = s.used.uses.taken
 
@@ -234,13 +234,13 @@ module _ (new : Standing) (r ys : List ℕ) (s : Stopped new (Some r) (Some ys))
   same_taken = append_cancel_right s.used.takes.bytes taken ys (sym s.used.takes.taken ∙ s.used.uses.consumed)
 
   words_are : (rest : Input) → MayFollow new.at.end rest
-      → (words_of (onto_input taken rest)).tokens ≡ s.tokens ++ (words_behind s.bytes (onto_input taken rest)).tokens
+      → (words_of (onto_input taken rest)).tokens ≡ s.tokens ++ (words_after s.bytes (onto_input taken rest)).tokens
   words_are rest may =
       let begin = s.used.takes.begin rest may in
-      let behind = behind_is new.at taken s.bytes rest s.used.uses.unread s.used.uses.used s.used.uses.line in
+      let following = after_is new.at taken s.bytes rest s.used.uses.unread s.used.uses.used s.used.uses.line in
       let first = at_beginning (onto_input taken rest) in
       ap (λ (w : Words). w.tokens) (sym first ∙ ap (λ bytes. words_left None first_reading (onto_input bytes rest)) (sym same_taken) ∙ begin)
-      ∙ ap (λ (w : Words). s.tokens ++ w.tokens) behind
+      ∙ ap (λ (w : Words). s.tokens ++ w.tokens) following
 
   stops_are : (rest : Input) → MayFollow new.at.end rest → EndsWithItem s.bytes s.tokens ⊎ EndsWithInput (onto_input taken rest) s.bytes s.tokens
   stops_are rest may = elim s.stops [
@@ -248,7 +248,7 @@ module _ (new : Standing) (r ys : List ℕ) (s : Stopped new (Some r) (Some ys))
     | inr over ↦ inr (record { all = all_used new.at taken s.bytes rest s.used.uses.unread s.used.uses.used over.1 may; none = over.0 })
   ]
 
-  reads_known : (Q : List Token → Type 0) → Q s.tokens → IsSeen new.at.end (Some ys) → length new.at.window ≤ 4096
+  reads_known : (Q : List Token → Type 0) → Q s.tokens → IsEndSeen new.at.end (Some ys) → length new.at.window ≤ 4096
       → (w : ReadsUpTo (input_met (is_broken new.at.end) r (Some ys)) (taken_of r (Some ys))) × Q w.tokens
   reads_known Q q seen few =
       let m = met_after new.at.end (Some ys) r taken s.used.uses.consumed seen in
@@ -266,13 +266,13 @@ module _ (new : Standing) (r ys : List ℕ) (s : Stopped new (Some r) (Some ys))
       )
 
 -- a run that stops has read up to an item's end or the input's, and at most a window more, with what holds of the words used
-pub stopped_reads_words : (Q : List Token → Type 0) (new : Standing) (r : List ℕ) (left : Option (List ℕ)) (s : Stopped new (Some r) left) → Q s.tokens
-    → IsSeen new.at.end left → length new.at.window ≤ 4096
+pub stopped_reads_words : (Q : List Token → Type 0) (new : ReaderState) (r : List ℕ) (left : Option (List ℕ)) (s : Stopped new (Some r) left) → Q s.tokens
+    → IsEndSeen new.at.end left → length new.at.window ≤ 4096
     → (w : ReadsUpTo (input_met (is_broken new.at.end) r left) (taken_of r left)) × Q w.tokens
 stopped_reads_words Q new r None s q seen few = absurd s.used.uses.consumed
 stopped_reads_words Q new r (Some ys) s q seen few = reads_known new r ys s Q q seen few
 
 -- how far a run that stops has read
-pub stopped_reads : (new : Standing) (r : List ℕ) (left : Option (List ℕ)) → Stopped new (Some r) left → IsSeen new.at.end left
+pub stopped_reads : (new : ReaderState) (r : List ℕ) (left : Option (List ℕ)) → Stopped new (Some r) left → IsEndSeen new.at.end left
     → length new.at.window ≤ 4096 → ReadsUpTo (input_met (is_broken new.at.end) r left) (taken_of r left)
 stopped_reads new r left s seen few = (stopped_reads_words (λ _. Unit {0}) new r left s tt seen few).0

@@ -1,9 +1,9 @@
 -- A run, step by step.
-use Rattle.pop_run.proofs.Basics.{Appends, Begins, Bool, Choice, End, Entry, Err, Finished, IfSome, Input, IsSeen, List, None, Ok, Open, Option, OutputFailed, Problem, Reads, Result, RunState, Runs, Some, Standing, Steps, TakesItem, Writes, [], ap, append-nil, append_assoc, appends_kept, appends_none, appends_then, arith, begins_later}
-use Rattle.pop_run.proofs.Basics.{begins_longer, consumes_then, entries_in, entries_left, entry_text, failures_after, false, first_state, has_grown, input_met, is_err, is_faulty, length, length-append, length-take, limit, list_any, not, refl, report_from, status_of, status_with, step_of, sym, taken_of, tells_failure, true, ℕ, ◌++◌, ◌+◌, ◌^◌, ◌||◌, ◌∙◌, ◌∷◌, ◌≡◌, ◌≤◌}
+use Rattle.pop_run.proofs.Basics.{Appends, Begins, Bool, Choice, End, Entry, Err, Finished, IfSome, Input, IsEndSeen, List, None, Ok, Open, Option, OutputFailed, Problem, Reads, Result, RunState, Runs, Some, ReaderState, Steps, TakesItem, Writes, [], ap, append-nil, append_assoc, appends_kept, appends_none, appends_then, arith, begins_later}
+use Rattle.pop_run.proofs.Basics.{begins_longer, consumes_then, entries_in, entries_left, entry_text, failures_after, false, first_state, has_grown, input_met, is_err, is_faulty, length, length-append, length-take, limit, list_any, not, refl, report_from, status_of, status_with, step_of, sym, taken_of, reports_device_failure, true, ℕ, ◌++◌, ◌+◌, ◌^◌, ◌||◌, ◌∙◌, ◌∷◌, ◌≡◌, ◌≤◌}
 use Rattle.std.proofs.lemmas.Bool.{lt-ltb}
 use Rattle.pop_text.specs.declared.sink.SinkFault.{SinkFault}
-use Rattle.pop_input.specs.ties.Standing.{first_standing}
+use Rattle.pop_input.specs.ties.ReaderState.{initial_state}
 use Rattle.pop_input.proofs.Taking.{some_rest}
 use Rattle.pop_run.proofs.Meeting.{is_broken, met_after}
 use Rattle.pop_run.proofs.Reached.{Reached, Stopped, item_reached, item_stops, reached_start, still_more, stopped_last, stopped_reads}
@@ -20,7 +20,7 @@ item_done old new had left before now entry printed takes stopped written = grin
 -- From the beginning to now these items were read, and their report was written.
 pub record Progress (choice : Choice) (now : RunState) (had left before taken : Option (List ℕ)) : Type 0 where
   pub items : List Entry
-  pub reads : Reads first_standing now.at had left items
+  pub reads : Reads initial_state now.at had left items
   pub written : Appends before taken (report_from choice 1 items)
   pub number : now.number ≡ 1 + length items
   pub status : now.status ≡ status_of items
@@ -29,7 +29,7 @@ pub record Progress (choice : Choice) (now : RunState) (had left before taken : 
   pub reached : Reached now.at had left
 
 -- items read one after another
-pub reads_then : (a b c : Standing) (had mid left : Option (List ℕ)) (xs ys : List Entry) → Reads a b had mid xs → Reads b c mid left ys
+pub reads_then : (a b c : ReaderState) (had mid left : Option (List ℕ)) (xs ys : List Entry) → Reads a b had mid xs → Reads b c mid left ys
     → Reads a c had left (xs ++ ys)
 reads_then a b c had mid left xs ys p q = grind (arith, consumes_then had mid left p.bytes q.bytes p.taken q.taken, append_assoc, length-append p.bytes q.bytes)
 
@@ -45,7 +45,7 @@ any_more test [] x = grind arith
 any_more test (y ∷ xs) x = rw (any_more test xs x) (grind arith)
 
 -- the status of items and one more
-pub status_more : (xs : List Entry) (x : Entry) → status_of (xs ++ x ∷ []) ≡ status_with (status_of xs) (tells_failure x) (is_faulty x)
+pub status_more : (xs : List Entry) (x : Entry) → status_of (xs ++ x ∷ []) ≡ status_with (status_of xs) (reports_device_failure x) (is_faulty x)
 unfolding status_of
 status_more xs x = grind (arith, any_more)
 
@@ -72,24 +72,24 @@ pub progress_step : (choice : Choice) (old new : RunState) (had mid left before 
     → Steps old new mid left t now (Ok (Problem sound)) → Progress choice new had left before now
 progress_step choice old new had mid left before t now sound p q = record {
   items = p.items ++ q.0 ∷ [];
-  reads = reads_then first_standing old.at new.at had mid left p.items (q.0 ∷ []) p.reads q.1.reads;
+  reads = reads_then initial_state old.at new.at had mid left p.items (q.0 ∷ []) p.reads q.1.reads;
   written = rw (report-append choice 1 p.items (q.0 ∷ []), append-nil) (appends_then before t now _ _ p.written (rw (p.number, p.choice_is) at q.2));
   number = q.1.number ∙ ap (λ n. n + 1) p.number ∙ omega (arith, length-append p.items (q.0 ∷ []));
-  status = q.1.status ∙ ap (λ s. status_with s (tells_failure q.0) (is_faulty q.0)) p.status ∙ sym (status_more p.items q.0);
+  status = q.1.status ∙ ap (λ s. status_with s (reports_device_failure q.0) (is_faulty q.0)) p.status ∙ sym (status_more p.items q.0);
   choice_is = q.1.choice ∙ p.choice_is;
   running = q.3;
   reached = item_reached old.at new.at had mid left p.reached (more_left old new mid left q.0 q.1) q.0 q.1.used;
 }
 
 -- before the first item, all items of the input are still to come
-pub all_to_come : (rest : Input) → entries_left first_standing rest ≡ entries_in rest
+pub all_to_come : (rest : Input) → entries_left initial_state rest ≡ entries_in rest
 unfolding entries_in
 all_to_come rest = grind arith
 
 -- what was read of an input that is over
 module _ (choice : Choice) (old new : RunState) (had mid left before t now : Option (List ℕ)) (answer : Status) (p : Progress choice old had mid before t)
     (q : Steps old new mid left t now (Ok (Finished answer))) where
-  last_reads : Reads first_standing new.at had left p.items
+  last_reads : Reads initial_state new.at had left p.items
   last_reads = rw (q.1, q.2) p.reads
 
   last_stops : Stopped new.at had left
@@ -100,7 +100,7 @@ module _ (choice : Choice) (old new : RunState) (had mid left before t now : Opt
 
 -- a run that ends
 progress_end : (choice : Choice) (old new : RunState) (mid left before t now : Option (List ℕ)) (r : List ℕ) (answer : Status)
-    → Progress choice old (Some r) mid before t → Steps old new mid left t now (Ok (Finished answer)) → IsSeen new.at.at.end left
+    → Progress choice old (Some r) mid before t → Steps old new mid left t now (Ok (Finished answer)) → IsEndSeen new.at.at.end left
     → Runs choice (input_met (is_broken new.at.at.end) r left) before now false answer
 progress_end choice old new mid left before t now r answer p q seen =
     let all = last_reads choice old new (Some r) mid left before t now answer p q in
@@ -123,10 +123,10 @@ cut_begins choice items entry more before t now written begun =
 
 -- a run that the sink cuts off
 progress_cut : (choice : Choice) (old new : RunState) (mid left before t now : Option (List ℕ)) (r : List ℕ) (fault : SinkFault)
-    → Progress choice old (Some r) mid before t → Steps old new mid left t now (Err fault) → IsSeen new.at.at.end left
+    → Progress choice old (Some r) mid before t → Steps old new mid left t now (Err fault) → IsEndSeen new.at.at.end left
     → Runs choice (input_met (is_broken new.at.at.end) r left) before now true OutputFailed
 progress_cut choice old new mid left before t now r fault p q seen =
-    let all = reads_then first_standing old.at new.at (Some r) mid left p.items (q.0 ∷ []) p.reads q.1.reads in
+    let all = reads_then initial_state old.at new.at (Some r) mid left p.items (q.0 ∷ []) p.reads q.1.reads in
     let m = met_after new.at.at.end left r all.bytes all.taken seen in
     let items : entries_in (input_met (is_broken new.at.at.end) r left) ≡ (p.items ++ q.0 ∷ []) ++ entries_left new.at m.0 =
     ap entries_in m.2 ∙ sym (all_to_come _) ∙ all.begin m.0 m.1 in
@@ -146,7 +146,7 @@ grew_broken e n m is = grind (arith, grew_same, grew_more)
 
 -- a run that meets the end of its input writes the whole report, and its status is the report's
 pub run_ends : (choice : Choice) (old new : RunState) (had mid left before t now : Option (List ℕ)) (answer : Status) (n m v w : ℕ)
-    → Progress choice old had mid before t → Steps old new mid left t now (Ok (Finished answer)) → IsSeen new.at.at.end left
+    → Progress choice old had mid before t → Steps old new mid left t now (Ok (Finished answer)) → IsEndSeen new.at.at.end left
     → m ≡ failures_after Open new.at.at.end n → w ≡ v → IfSome had (λ r. Runs choice (input_met (has_grown n m) r left) before now (has_grown v w) answer)
 run_ends choice old new None mid left before t now answer n m v w p q seen reads writes = tt
 run_ends choice old new (Some r) mid left before t now answer n m v w p q seen reads writes =
@@ -154,14 +154,14 @@ run_ends choice old new (Some r) mid left before t now answer n m v w p q seen r
 
 -- a run whose sink fails writes a beginning of the report, and its status says so
 pub run_cut : (choice : Choice) (old new : RunState) (had mid left before t now : Option (List ℕ)) (fault : SinkFault) (n m v w : ℕ)
-    → Progress choice old had mid before t → Steps old new mid left t now (Err fault) → IsSeen new.at.at.end left → m ≡ failures_after Open new.at.at.end n
+    → Progress choice old had mid before t → Steps old new mid left t now (Err fault) → IsEndSeen new.at.at.end left → m ≡ failures_after Open new.at.at.end n
     → w ≡ v + 1 → IfSome had (λ r. Runs choice (input_met (has_grown n m) r left) before now (has_grown v w) OutputFailed)
 run_cut choice old new None mid left before t now fault n m v w p q seen reads writes = tt
 run_cut choice old new (Some r) mid left before t now fault n m v w p q seen reads writes =
     rw (grew_broken new.at.at.end n m reads, writes, grew_more v) (progress_cut choice old new mid left before t now r fault p q seen)
 
 -- a run takes as many bytes as are used and as wait in the window
-taken_most : (new : Standing) (r : List ℕ) (left : Option (List ℕ)) (items : List Entry) → Reads first_standing new (Some r) left items
+taken_most : (new : ReaderState) (r : List ℕ) (left : Option (List ℕ)) (items : List Entry) → Reads initial_state new (Some r) left items
     → new.at.used ≤ limit → length new.at.window ≤ 4096 → length (taken_of r left) ≤ 2 ^ 30 + 4096
 unfolding limit
 taken_most new r left items p within waits = grind (arith, length-append, length-take)
@@ -184,13 +184,13 @@ pub cut_most : (choice : Choice) (old new : RunState) (had mid left before t now
     → IfSome had (λ r. length (taken_of r left) ≤ 2 ^ 30 + 4096)
 cut_most choice old new None mid left before t now fault p q within waits = tt
 cut_most choice old new (Some r) mid left before t now fault p q within waits = taken_most new.at r left _
-    (reads_then first_standing old.at new.at (Some r) mid left p.items (q.0 ∷ []) p.reads q.1.reads) within waits
+    (reads_then initial_state old.at new.at (Some r) mid left p.items (q.0 ∷ []) p.reads q.1.reads) within waits
 
 -- How far a run reads.
 
 -- a run that ends reads up to an item's end or the input's, and at most a window more
 pub ended_reads : (choice : Choice) (old new : RunState) (had mid left before t now : Option (List ℕ)) (answer : Status) (n m : ℕ)
-    → Progress choice old had mid before t → Steps old new mid left t now (Ok (Finished answer)) → IsSeen new.at.at.end left
+    → Progress choice old had mid before t → Steps old new mid left t now (Ok (Finished answer)) → IsEndSeen new.at.at.end left
     → length new.at.at.window ≤ 4096 → m ≡ failures_after Open new.at.at.end n
     → IfSome had (λ r. ReadsUpTo (input_met (has_grown n m) r left) (taken_of r left))
 ended_reads choice old new None mid left before t now answer n m p q seen few reads = tt
@@ -199,7 +199,7 @@ ended_reads choice old new (Some r) mid left before t now answer n m p q seen fe
 
 -- a run whose sink fails reads up to an item's end or the input's, and at most a window more
 pub cut_reads : (choice : Choice) (old new : RunState) (had mid left before t now : Option (List ℕ)) (fault : SinkFault) (n m : ℕ)
-    → Progress choice old had mid before t → Steps old new mid left t now (Err fault) → IsSeen new.at.at.end left → length new.at.at.window ≤ 4096
+    → Progress choice old had mid before t → Steps old new mid left t now (Err fault) → IsEndSeen new.at.at.end left → length new.at.at.window ≤ 4096
     → m ≡ failures_after Open new.at.at.end n → IfSome had (λ r. ReadsUpTo (input_met (has_grown n m) r left) (taken_of r left))
 cut_reads choice old new None mid left before t now fault n m p q seen few reads = tt
 cut_reads choice old new (Some r) mid left before t now fault n m p q seen few reads =

@@ -19,14 +19,14 @@ abbrev pub choice_of : Settings → Choice
 choice_of settings = record { check = settings.check; no_board = settings.no_board }
 
 -- what follows the head of a sound problem: its solutions, or that it is sound if problems are only tested
-abbrev pub findings : Bool → Posed → List ℕ
-findings true posed = codes "sound\n"
-findings false posed = flat_map event_text (events_of posed)
+abbrev pub solutions_text : Bool → Posed → List ℕ
+solutions_text true posed = codes "sound\n"
+solutions_text false posed = flat_map event_text (events_of posed)
 
 -- the text of an item with this number
 unfoldable pub entry_text : Choice → ℕ → Entry → List ℕ
 entry_text choice number (SoundEntry posed) = head_text number posed choice.no_board
-    ++ findings choice.check posed ++ codes "\n"
+    ++ solutions_text choice.check posed ++ codes "\n"
 entry_text choice number (FaultyEntry fault) = fault_text number fault
 
 -- the joined texts of items, the first with this number
@@ -44,9 +44,9 @@ abbrev pub report : Choice → Input → List ℕ
 report choice input = report_from choice 1 (entries_in input)
 
 -- whether an item is the fault that the input device failed
-abbrev pub tells_failure : Entry → Bool
-tells_failure (SoundEntry posed) = false
-tells_failure (FaultyEntry fault) = is_device_failure fault.kind
+abbrev pub reports_device_failure : Entry → Bool
+reports_device_failure (SoundEntry posed) = false
+reports_device_failure (FaultyEntry fault) = is_device_failure fault.kind
 
 -- whether an item is a fault
 abbrev pub is_faulty : Entry → Bool
@@ -55,7 +55,7 @@ is_faulty (FaultyEntry fault) = true
 
 -- the status of items: a failed device outweighs other faults
 unfoldable pub status_of : List Entry → Status
-status_of entries = if list_any tells_failure entries then InputFailed
+status_of entries = if list_any reports_device_failure entries then InputFailed
     else (if list_any is_faulty entries then Faulty else Sound)
 
 -- the status of an input

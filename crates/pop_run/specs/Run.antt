@@ -64,8 +64,8 @@ pub record EndsWithInput (input : Input) (used : List ℕ) (tokens : List Token)
   pub none : list_all is_no_end_problem_token tokens ≡ true
 
 -- the words of an input after these bytes
-abbrev pub words_behind : List ℕ → Input → Words
-words_behind used input = words_from None (limit - length used) (1 + count_by is_line_end used)
+abbrev pub words_after : List ℕ → Input → Words
+words_after used input = words_from None (limit - length used) (1 + count_by is_line_end used)
     (record { bytes = drop (length used) input.bytes; ending = input.ending })
 
 -- How far a run reads. The bytes that it takes are those that it uses, and at most 4,096 more that wait in the window.
@@ -77,7 +77,7 @@ pub record ReadsUpTo (input : Input) (taken : List ℕ) : Type 0 where
   pub whole : taken ≡ used ++ waiting
   pub few : length waiting ≤ 4096
   pub tokens : List Token
-  pub words : (words_of input).tokens ≡ tokens ++ (words_behind used input).tokens
+  pub words : (words_of input).tokens ≡ tokens ++ (words_after used input).tokens
   pub stops : EndsWithItem used tokens ⊎ EndsWithInput input used tokens
 
 -- A run writes the report of the input and returns its status. If the sink fails, it writes a beginning of the report

@@ -2,10 +2,10 @@
 ghost use Rattle.std.specs.Prelude.{◌≡◌, ◌==◌, ◌<◌, ◌≤◌, ◌+◌, ◌⊎◌, ◌||◌, IsErr, false, true, is_err, length};
 ghost use Rattle.pop_text.specs.Words.{limit};
 ghost use Rattle.pop_text.specs.Bytes.{count_after, greatest_count};
-ghost use Rattle.pop_text.specs.ties.Reading.{IsSeen, failures_after};
+ghost use Rattle.pop_text.specs.ties.Reading.{IsEndSeen, failures_after};
 ghost use Rattle.pop_text.specs.declared.scanner.End.{End};
 ghost use Rattle.pop_input.specs.FaultKinds.{is_device_failure};
-ghost use Rattle.pop_input.specs.ties.Standing.{work_left};
+ghost use Rattle.pop_input.specs.ties.ReaderState.{work_left};
 ghost use Rattle.pop_run.specs.Report.{choice_of};
 ghost use Rattle.pop_run.specs.ties.Sessions.{HasMore, Steps, first_state, is_problem, status_with as with_item, step_of};
 
@@ -35,8 +35,8 @@ pub struct Session {
 impl Model for Session {
     ghost use Rattle.std.specs.Prelude.{◌≡◌, ◌≤◌, ◌+◌, ◌^◌, length};
     ghost use Rattle.pop_text.specs.Words.{limit};
-    ghost use Rattle.pop_input.specs.ties.Standing.{work_left};
-    ghost use Rattle.pop_run.specs.ties.Sessions.{RunState, ends, says_last};
+    ghost use Rattle.pop_input.specs.ties.ReaderState.{work_left};
+    ghost use Rattle.pop_run.specs.ties.Sessions.{RunState, ends, is_last};
 
     ghost Value = { RunState };
 
@@ -50,7 +50,7 @@ impl Model for Session {
 
     ghost invariant = { λ s. (s.next_number + work_left s.reader ≤ 2 ^ 31)
         × (s.reader.at.used ≤ limit) × (length s.reader.at.window ≤ 4096)
-        × (ends s.reader.next ≡ says_last s.last) };
+        × (ends s.reader.next ≡ is_last s.last) };
 }
 
 impl Session {
@@ -97,8 +97,8 @@ impl Session {
         ensures stopped { self.old.stopped ≡ true
             → IsErr result × (self.new ≡ self.old) × (source.new ≡ source.old)
             × (sink.new ≡ sink.old) }
-        ensures seen { IsSeen self.old.at.at.end (S.remaining source.old)
-            → IsSeen self.new.at.at.end (S.remaining source.new) }
+        ensures seen { IsEndSeen self.old.at.at.end (S.remaining source.old)
+            → IsEndSeen self.new.at.at.end (S.remaining source.new) }
         ensures ends { self.old.at.at.end ≡ End.Open ⊎ self.new.at.at.end ≡ self.old.at.at.end }
         ensures read_failures { S.failures source.new
             ≡ failures_after self.old.at.at.end self.new.at.at.end (S.failures source.old) }

@@ -6,7 +6,7 @@ ghost use Rattle.pop_input.specs.Blocks.{Sound as SoundEntry};
 ghost use Rattle.pop_input.specs.Posed.{rule_of};
 ghost use Rattle.pop_solve.specs.Events.{events, events_of};
 ghost use Rattle.pop_print.specs.Events.{event_text};
-ghost use Rattle.pop_run.specs.Report.{entry_text, findings};
+ghost use Rattle.pop_run.specs.Report.{entry_text, solutions_text};
 
 use crate::choice::Choice;
 use chess_rules::{Circe, Madrasi, Orthodox, Rules};
@@ -58,7 +58,7 @@ fn print_solved<W: Sink>(
 // Writes the solutions of a problem, by the rules of its condition.
 fn print_play<W: Sink>(sink: &mut W, problem: &Problem) -> Result<(), SinkFault>
     requires { W.failures sink.old < greatest_count }
-    ensures bytes { Writes (W.taken sink.old) (W.taken sink.new) (findings false problem.now)
+    ensures bytes { Writes (W.taken sink.old) (W.taken sink.new) (solutions_text false problem.now)
         result }
     ensures counted { W.failures sink.new ≡ count_after result (W.failures sink.old) }
 {

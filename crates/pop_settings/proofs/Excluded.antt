@@ -22,11 +22,11 @@ no_other_flag words s absent given is = (is.check ∙ rw absent refl, is.no_boar
 
 -- words that the command takes don't get the fault `Usage`
 pub taken_words_are_right : (words : List Text) → takes pops.command words ≡ true → pops.IsMemoryIfTaken words Usage → ⊥
-taken_words_are_right words right told = let wrong = told right in cc
+taken_words_are_right words right reported = let wrong = reported right in cc
 
 -- words don't get the fault `Usage` without a cause
 pub refused_words_are_wrong : (words : List Text) → pops.refusals words ≡ [] → pops.IsUsageIfRefused words Usage → ⊥
-refused_words_are_wrong words none told = absurd (told refl none)
+refused_words_are_wrong words none reported = absurd (reported refl none)
 
 -- `pops-part`: words want what clap's matches of them choose, and nothing else
 pub nothing_else_wanted : (words : List Text) (s : PartSettings) (wanted : Wanted) → part.wanted_by (matches_of part.command words) ≡ Some wanted
@@ -57,12 +57,12 @@ list_wanted = (refl, refl, refl, refl)
 -- words that the command takes and that have one of its forms don't get the fault `Usage`
 pub words_of_a_form_are_right : (words : List Text) → takes part.command words ≡ true → is_some (wanted_by (matches_of part.command words)) ≡ true
     → part.IsMemoryIfTaken words Usage → ⊥
-words_of_a_form_are_right words right meant told = let wrong = told right meant in cc
+words_of_a_form_are_right words right meant reported = let wrong = reported right meant in cc
 
 -- words for `pops-part` don't get the fault `Usage` without a cause
 pub words_of_no_form_are_wrong : (words : List Text) (wanted : Wanted) → part.refusals words ≡ []
     → wanted_by (matches_of part.command words) ≡ Some wanted → part.IsUsageIfRefused words Usage → ⊥
-words_of_no_form_are_wrong words wanted none meant told = elim (told refl) [
+words_of_no_form_are_wrong words wanted none meant reported = elim (reported refl) [
   | inl some ↦ absurd (some none)
   | inr neither ↦ absurd (let wrong : Some wanted ≡ None = sym meant ∙ neither in cc)
 ]

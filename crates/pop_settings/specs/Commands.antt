@@ -23,6 +23,6 @@ abbrev pub is_set : Text → List Row → Bool
 is_set name rows = option_map_or (bytes_eq (codes "true")) (first_of name rows) false
 
 -- the fault of words that clap refuses, by the kind of its error
-abbrev pub told_of : ErrorKind → ArgFault
-told_of OutOfMemory = Memory
-told_of _ = Usage
+abbrev pub reported_of : ErrorKind → ArgFault
+reported_of OutOfMemory = Memory
+reported_of _ = Usage

@@ -1,7 +1,7 @@
 //! The faults of command lines.
 ghost use Rattle.std.specs.Prelude.{◌≡◌};
 ghost use Rattle.clap.specs.Values.{kind_of};
-ghost use Rattle.pop_settings.specs.Commands.{told_of};
+ghost use Rattle.pop_settings.specs.Commands.{reported_of};
 
 use clap::Error;
 use clap::error::ErrorKind;
@@ -16,8 +16,8 @@ pub enum ArgFault {
 }
 
 // Returns the fault of a command line that clap refuses with this error.
-pub(crate) fn fault_told(error: &Error) -> ArgFault
-    ensures { result ≡ told_of (kind_of error.now) }
+pub(crate) fn fault_of_error(error: &Error) -> ArgFault
+    ensures { result ≡ reported_of (kind_of error.now) }
 {
     match error.kind() {
         ErrorKind::OutOfMemory => ArgFault::Memory,

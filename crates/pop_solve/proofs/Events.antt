@@ -1,5 +1,5 @@
 -- What a call of `next` returns.
-use Rattle.pop_solve.proofs.Words.{Before, Frame, IsRoomy, IsSound, List, Phase, Play, Posed, Position, RuleSet, Walks, Within, [], append_assoc, arith, cond, drop, eqb, events_from, false, flat_map, half_moves, is_barred, phase_count, Walk, walk_of, is_help_play, Bool, ap, ◌<◌, ◌∙◌, beginning_count, is_help, is_set, kept_paths, left_of, length, length-reverse, nat_tests, opening, phase_events, phase_half_moves, phase_paths, phase_start, plan_of, refl, reverse, rules, solutions, take, total, true, ℕ, ◌+◌, ◌-◌, ◌||◌, ◌∷◌, ◌≡◌, ◌≤◌, drop-drop}
+use Rattle.pop_solve.proofs.Words.{Before, Frame, IsRoomy, IsSound, List, Phase, Play, Posed, Position, RuleSet, Walks, Within, [], append_assoc, arith, cond, drop, eqb, events_from, false, flat_map, half_moves, is_impossible_phase, phase_count, Walk, walk_of, is_help_play, Bool, ap, ◌<◌, ◌∙◌, beginning_count, is_help, is_set, kept_paths, left_of, length, length-reverse, nat_tests, opening, phase_events, phase_half_moves, phase_paths, phase_start, plan_of, refl, reverse, rules, solutions, take, total, true, ℕ, ◌+◌, ◌-◌, ◌||◌, ◌∷◌, ◌≡◌, ◌≤◌, drop-drop}
 use Rattle.pop_solve.proofs.Sound.{helps-form, in_range}
 use Rattle.pop_solve.proofs.Paths.{path-length}
 
@@ -55,7 +55,7 @@ module _ (rule : RuleSet) (problem : Posed) (walk : Walk) (count : ℕ) (old : L
   shallow-given s = search (rules, room-length, length-reverse, in_range)
 
 -- a phase begins
-pub left-begun : (rule : RuleSet) (problem : Posed) (phase : Phase) (old new : List Frame) → is_barred rule problem phase ≡ false
+pub left-begun : (rule : RuleSet) (problem : Posed) (phase : Phase) (old new : List Frame) → is_impossible_phase rule problem phase ≡ false
     → kept_paths (is_help problem.stipulation.form) problem.max_solutions (phase_paths rule problem phase new) ≡ flat_map (λ solution. solution)
     (take problem.max_solutions (solutions rule problem phase)) → beginning_count (is_help problem.stipulation.form) problem.max_solutions
     (phase_paths rule problem phase new) ≡ phase_count rule problem phase → left_of rule problem (Before phase) old ≡ opening phase ∷ left_of rule problem

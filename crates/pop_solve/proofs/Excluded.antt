@@ -1,7 +1,7 @@
 -- What the clauses of a search exclude: events emitted after the board was taken back, or twice; totals
 -- that are wrong or come too early,
 -- mates passed over, and counts of events and frames that begin or grow otherwise.
-use Rattle.pop_solve.proofs.Words.{ArrayVec, BareEvent, Barred, Before, Bool, Event, Frame, Gives, GoesTo, IsGiven, IsOpened, Line, List, Move, Node, Plan, Posed, Position, RuleSet, Shown, Total, Within, [], allows_mate, ap, arith, eqb, event_of, false, filter, filter-append, first_phase, is_help_play, is_help, is_mating, is_walked_once, kept_paths, left_of, length, length-append, map, min, moves_behind, path_event, phase_paths, rest_open, total, true, ℕ, ◌++◌, ◌+◌, ◌-◌, ◌^◌, ◌<◌, ◌∷◌, ◌≡◌, ◌⊎◌, Walk}
+use Rattle.pop_solve.proofs.Words.{ArrayVec, BareEvent, Barred, Before, Bool, Event, Frame, Gives, GoesTo, IsCountedUpTo, IsOpened, Line, List, Move, Node, Plan, Posed, Position, RuleSet, Shown, Total, Within, [], allows_mate, ap, arith, eqb, event_of, false, filter, filter-append, first_phase, is_help_play, is_help, is_mating, is_walked_once, kept_paths, left_of, length, length-append, map, min, moves_after, path_event, phase_paths, rest_open, total, true, ℕ, ◌++◌, ◌+◌, ◌-◌, ◌^◌, ◌<◌, ◌∷◌, ◌≡◌, ◌⊎◌, Walk}
 use Rattle.pop_stipulation.specs.declared.stipulation.Goal.TheVariants.{Stalemate}
 
 module _ (rule : RuleSet) (problem : Posed) (old new : List BareEvent) (board : Position) where
@@ -47,8 +47,8 @@ module _ (rule : RuleSet) (problem : Posed) (event : Event) (board : Position) (
 
 module _ (rule : RuleSet) (problem : Posed) where
   -- each event counts one
-  pub one_event_is_counted : (bare : BareEvent) (left : List BareEvent) (before after : ℕ) → IsGiven rule problem (bare ∷ left) before
-      → IsGiven rule problem left after → after ≡ min (before + 1) (2 ^ 64 - 1)
+  pub one_event_is_counted : (bare : BareEvent) (left : List BareEvent) (before after : ℕ) → IsCountedUpTo rule problem (bare ∷ left) before
+      → IsCountedUpTo rule problem left after → after ≡ min (before + 1) (2 ^ 64 - 1)
   one_event_is_counted bare left before after g h = omega (arith, g.counts, h.counts, g.within)
 
   -- a search before its first event has tried nothing, if no line of moves is walked twice
@@ -60,26 +60,26 @@ module _ (rule : RuleSet) (problem : Posed) where
 module _ (rule : RuleSet) (plan : Plan) (p : Position) (place before after : ℕ) (rest : List Move) where
   -- with one half-move left no mate after the cursor is passed over
   pub no_mate_is_passed_over : GoesTo rule plan 1 p place rest before after
-      → filter (is_mating rule p) (moves_behind rule p place) ≡ filter (is_mating rule p) rest
+      → filter (is_mating rule p) (moves_after rule p place) ≡ filter (is_mating rule p) rest
   no_mate_is_passed_over t = grind (arith, filter-append)
 
   -- with two no move that some reply mates
   pub no_move_before_a_mate_is_passed_over : GoesTo rule plan 2 p place rest before after
-      → filter (allows_mate rule p) (moves_behind rule p place) ≡ filter (allows_mate rule p) rest
+      → filter (allows_mate rule p) (moves_after rule p place) ≡ filter (allows_mate rule p) rest
   no_move_before_a_mate_is_passed_over t = grind (arith, filter-append)
 
   -- with two half-moves left, the moves that are skipped are counted, each once
   pub moves_passed_over_count_once : before < 2 ^ 64 → GoesTo rule plan 2 p place rest before after
-      → after ≡ min (before + (length (moves_behind rule p place) - length rest)) (2 ^ 64 - 1)
+      → after ≡ min (before + (length (moves_after rule p place) - length rest)) (2 ^ 64 - 1)
   moves_passed_over_count_once range t = grind (arith, length-append t.over)
 
   -- with more none is passed over, nor before the last half-move of battle play, nor in play for stalemate
   pub none_is_passed_over : (left : ℕ) → (2 < left) ⊎ (((left ≡ 2) × (is_help_play plan.play ≡ false)) ⊎ (plan.goal ≡ Stalemate))
-      → GoesTo rule plan left p place rest before after → moves_behind rule p place ≡ rest
+      → GoesTo rule plan left p place rest before after → moves_after rule p place ≡ rest
   none_is_passed_over left early t = grind arith
 
 -- with one half-move left, the next move, if it mates, is the next solution
 pub first_mate_is_next : (rule : RuleSet) (plan : Plan) (p : Position) (place before after : ℕ) (m n : Move) (more rest : List Move)
-    → moves_behind rule p place ≡ m ∷ more → is_mating rule p m ≡ true → is_mating rule p n ≡ true → GoesTo rule plan 1 p place (n ∷ rest) before after → n ≡ m
+    → moves_after rule p place ≡ m ∷ more → is_mating rule p m ≡ true → is_mating rule p n ≡ true → GoesTo rule plan 1 p place (n ∷ rest) before after → n ≡ m
 first_mate_is_next rule plan p place before after m n more rest here mates too t =
     grind (arith, no_mate_is_passed_over rule plan p place before after (n ∷ rest) t)

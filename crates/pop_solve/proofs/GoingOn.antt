@@ -1,5 +1,5 @@
 -- For how many half-moves a line goes on after a move, and what is reached at its end.
-use Rattle.pop_solve.proofs.Words.{Battle, BattlePlay, Bool, Game, HelpPlay, Plan, PlayOfSides, arith, cond, ends_at_goal, eqb, false, fewest_half_moves, least_length_from, is_followed, walk_length, inl, inr, nat_tests, shown_length, refl, rules, seeks, suc, true, value, has_variations, zero, ℕ, ◌*◌, ◌+◌, ◌-◌, ◌/◌, ◌||◌, ◌≡◌, ◌≤◌, ◌⊎◌, is_given}
+use Rattle.pop_solve.proofs.Words.{Battle, BattlePlay, Bool, Game, HelpPlay, Plan, PlayOfSides, arith, cond, ends_at_goal, eqb, false, fewest_half_moves, least_length_from, is_followed, walk_length, inl, inr, nat_tests, shown_length, refl, rules, attacker_to_move, suc, true, value, has_variations, zero, ℕ, ◌*◌, ◌+◌, ◌-◌, ◌/◌, ◌||◌, ◌≡◌, ◌≤◌, ◌⊎◌, is_emitted}
 
 -- a test by its two results
 pub cases : (b : Bool) → (b ≡ false) ⊎ (b ≡ true)
@@ -22,7 +22,7 @@ module _ {P M : Type 0} (game : Game P M) where
   least_length_from-most battle q (suc n) a t h = search (rules, least_length_from-most battle q n)
 
   -- the length that is shown is at most what is left
-  pub length_most : (battle : Battle) (t : ℕ) (q : P) (z s goal : Bool) → eqb t 0 ≡ z → seeks battle t ≡ s
+  pub length_most : (battle : Battle) (t : ℕ) (q : P) (z s goal : Bool) → eqb t 0 ≡ z → attacker_to_move battle t ≡ s
       → cond (z || goal) 0 (cond s (least_length_from battle game q ((t - fewest_half_moves battle) / 2) (fewest_half_moves battle)) t) ≤ t
   length_most battle t q z s goal e u = search (rules, least_length_from-most, nat_tests)
 
@@ -39,14 +39,14 @@ module _ {P M : Type 0} (game : Game P M) where
 
   -- where a path that is given ends with the goal, it is reached
   pub ended-reached : (play : PlayOfSides) (variation root : Bool) (t : ℕ) (q : P) → is_followed play game root t q ≡ true
-      → is_given play game t q ≡ true → ends_at_goal play variation (walk_length play variation game t q) ≡ true → game.goal q ≡ true
-  unfolding is_followed is_given value walk_length shown_length
+      → is_emitted play game t q ≡ true → ends_at_goal play variation (walk_length play variation game t q) ≡ true → game.goal q ≡ true
+  unfolding is_followed is_emitted value walk_length shown_length
   ended-reached play variation root t q f g e = search (rules, nat_tests, least_length_from-least)
 
 module _ {P M : Type 0} (plan : Plan) (game : Game P M) where
   -- in a battle each path is given
-  pub given-battle : (battle : Battle) (t : ℕ) (q : P) → plan.play ≡ BattlePlay battle → is_given plan.play game t q ≡ true
-  unfolding is_given
+  pub given-battle : (battle : Battle) (t : ℕ) (q : P) → plan.play ≡ BattlePlay battle → is_emitted plan.play game t q ≡ true
+  unfolding is_emitted
   given-battle battle t q fought = rw fought refl
 
   -- in help play the walk follows each move, with the half-moves that are left
@@ -61,6 +61,6 @@ module _ {P M : Type 0} (plan : Plan) (game : Game P M) where
 
   -- where keys alone are shown it doesn't go on below a move of White
   pub walk_length-keys : (t : ℕ) (q : P) (battle : Battle) → plan.play ≡ BattlePlay battle → has_variations plan.tree ≡ false
-      → seeks battle (t + 1) ≡ true → walk_length plan.play (has_variations plan.tree) game t q ≡ 0
+      → attacker_to_move battle (t + 1) ≡ true → walk_length plan.play (has_variations plan.tree) game t q ≡ 0
   unfolding walk_length
   walk_length-keys t q battle fought b c = rw (fought, b, c) refl

@@ -1,5 +1,5 @@
 -- The first solutions of a phase, from the paths that begin them.
-use Rattle.pop_solve.proofs.Words.{Battle, BattlePlay, Bool, Frame, Game, IsWalking, List, Plan, PlayOfSides, Position, RuleSet, Steps, Walks, [], append-nil, arith, beginning_count, begins_solution, chess, cond, eqb, false, is_help_play, kept_paths, length, moves_behind, nat_tests, is_given, path, position, refl, rules, shown_paths, suc, to_come, true, zero, ℕ, ◌&&◌, ◌+◌, ◌-◌, ◌<◌, ◌||◌, ◌∷◌, ◌≡◌, ◌⊎◌, and_parts, HelpPlay, map-id, nil_from_length}
+use Rattle.pop_solve.proofs.Words.{Battle, BattlePlay, Bool, Frame, Game, IsWalking, List, Plan, PlayOfSides, Position, RuleSet, Steps, Walks, [], append-nil, arith, beginning_count, begins_solution, chess, cond, eqb, false, is_help_play, kept_paths, length, moves_after, nat_tests, is_emitted, path, position, refl, rules, shown_paths, suc, to_come, true, zero, ℕ, ◌&&◌, ◌+◌, ◌-◌, ◌<◌, ◌||◌, ◌∷◌, ◌≡◌, ◌⊎◌, and_parts, HelpPlay, map-id, nil_from_length}
 use Rattle.pop_solve.proofs.Paths.{path-length}
 
 module _ {M : Type 0} where
@@ -25,7 +25,7 @@ module _ {M : Type 0} where
 module _ {P M : Type 0} (plan : Plan) (game : Game P M) (battle : Battle) (fought : plan.play ≡ BattlePlay battle) where
   full-battle : (root : Bool) (k left : ℕ) (p : P) (ms : List M)
       → (kept_paths false 0 (shown_paths plan game root k left p ms) ≡ []) × (beginning_count false 0 (shown_paths plan game root k left p ms) ≡ 0)
-  unfolding shown_paths kept_paths beginning_count is_given
+  unfolding shown_paths kept_paths beginning_count is_emitted
   full-battle root zero left p ms = search rules
   full-battle root (suc k) zero p ms = search rules
   full-battle root (suc k) (suc t) p [] = search rules
@@ -33,7 +33,7 @@ module _ {P M : Type 0} (plan : Plan) (game : Game P M) (battle : Battle) (fough
 
 module _ (rule : RuleSet) (plan : Plan) (h : ℕ) (p : Position) where
   -- the paths to come from the root alone
-  pub to_come-root : (f : Frame) → to_come rule plan h p (f ∷ []) ≡ shown_paths plan (chess plan.goal rule) true (h - 0) f.left p (moves_behind rule p f.place)
+  pub to_come-root : (f : Frame) → to_come rule plan h p (f ∷ []) ≡ shown_paths plan (chess plan.goal rule) true (h - 0) f.left p (moves_after rule p f.place)
   unfolding to_come path position
   to_come-root f = search (rules, append-nil, map-id)
 

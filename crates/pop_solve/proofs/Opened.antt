@@ -1,6 +1,6 @@
 -- How many positions a search counts.
-use Rattle.pop_solve.proofs.Words.{BareEvent, Before, Behind, Frame, IsCounted, IsGiven, IsKeys, IsNarrow, IsOpened, IsSound, are_whites, List, Opens, OpensOn, Phase, Plan, Play, Posed, RuleSet, Stage, Tries, Within, [], arith, cond, drop, eqb, false, fewest_left, inl, inr, HelpPlay, Walk, walk_of, and_parts, is_barred, is_set, is_stop, is_unstopped, min, not, phase_half_moves, phase_start, phase_walk, plan_of, play_of, position, rest_fewest, rest_open, rules, suc, to_open, total, true, zero, ℕ, ◌+◌, ◌-◌, ◌<◌, ◌^◌, ◌∷◌, ◌≡◌, ◌≤◌, ◌⊎◌}
-use Rattle.pop_battle.proofs.Boards.{behind_start}
+use Rattle.pop_solve.proofs.Words.{BareEvent, Before, After, Frame, IsCounted, IsCountedUpTo, IsKeys, IsNarrow, IsOpened, IsSound, are_whites, List, Opens, OpensOn, Phase, Plan, Play, Posed, RuleSet, Stage, Tries, Within, [], arith, cond, drop, eqb, false, fewest_left, inl, inr, HelpPlay, Walk, walk_of, and_parts, is_impossible_phase, is_set, is_stop, is_unstopped, min, not, phase_half_moves, phase_start, phase_walk, plan_of, play_of, position, rest_fewest, rest_open, rules, suc, to_open, total, true, zero, ℕ, ◌+◌, ◌-◌, ◌<◌, ◌^◌, ◌∷◌, ◌≡◌, ◌≤◌, ◌⊎◌}
+use Rattle.pop_battle.proofs.Boards.{after_start}
 use Rattle.pop_solve.proofs.Sound.{some_way}
 use Rattle.pop_solve.proofs.ToCome.{one, walk_count-start}
 use Rattle.pop_solve.proofs.Outcomes.{counted_by}
@@ -11,7 +11,7 @@ counted-along walk later opened rest l c = search rules
 module _ (rule : RuleSet) (problem : Posed) where
   -- a phase begins: its root is opened
   module _ (sound : IsSound problem) (phase : Phase) (f : Frame) (left_is : f.left ≡ phase_half_moves problem phase) (place_is : f.place ≡ 0)
-      (possible : is_barred rule problem phase ≡ false) where
+      (possible : is_impossible_phase rule problem phase ≡ false) where
     abbrev plan : Plan
     plan = plan_of problem
 
@@ -29,7 +29,7 @@ module _ (rule : RuleSet) (problem : Posed) where
     pub opens-begun : (old : List Frame) (count count2 : ℕ) (left : List BareEvent) → (0 < f.left → count2 ≡ min (count + 1) (2 ^ 64 - 1))
         → (f.left ≡ 0 → count2 ≡ count) → OpensOn rule problem (Before phase) (Within (walk_of problem phase) 0) old (f ∷ []) count count2 left
     unfolding rest_open rest_fewest IsNarrow fewest_left position
-    opens-begun old count count2 left more same = search (rules, counted_by, narrow-begun, behind_start, root-open)
+    opens-begun old count count2 left more same = search (rules, counted_by, narrow-begun, after_start, root-open)
 
   -- within a phase
   module _ (walk : Walk) (count : ℕ) (old new : List Frame) (before after : ℕ)
@@ -49,7 +49,7 @@ module _ (rule : RuleSet) (problem : Posed) where
     opens-given next left last kept = rw kept (search (rules, counted-along, narrowed))
 
     -- what it opens that ends the phase
-    pub opens-ended : (stage : Stage) (last : List Frame) (left : List BareEvent) → stage ≡ cond (is_set walk.phase) (Before Play) Behind
+    pub opens-ended : (stage : Stage) (last : List Frame) (left : List BareEvent) → stage ≡ cond (is_set walk.phase) (Before Play) After
         → count ≤ problem.max_solutions → (new ≡ []) ⊎ (problem.max_solutions - count ≡ 0)
         → OpensOn rule problem (Within walk count) stage old last before after (total count (eqb count problem.max_solutions) ∷ left)
     unfolding rest_open rest_fewest IsNarrow to_open fewest_left
@@ -68,6 +68,6 @@ module _ (rule : RuleSet) (problem : Posed) where
   all-drop (suc k) (x ∷ xs) e = all-drop k xs (and_parts (not (is_stop x)) (is_unstopped xs) e).1
 
   -- the counts hold on after a call
-  pub opened-on : (old new : Stage) (frames last : List Frame) (before after given : ℕ) (left : List BareEvent) → IsGiven rule problem left given
+  pub opened-on : (old new : Stage) (frames last : List Frame) (before after given : ℕ) (left : List BareEvent) → IsCountedUpTo rule problem left given
       → OpensOn rule problem old new frames last before after left → IsOpened rule problem old frames before → IsOpened rule problem new last after
   opened-on old new frames last before after given left g x o = search (rules, all-drop)

@@ -1,5 +1,5 @@
 -- The outcomes of a step, with frames listed from the top down.
-use Rattle.pop_solve.proofs.Words.{AreKnown, Bool, CameFrom, CameFromAt, Counts, Frame, GoesTo, HelpPlay, IfSome, IsCounted, IsLinked, IsPlaceIn, IsRoomy, IsWalking, are_whites, LegalPlace, List, Move, Option, Plan, Position, RuleSet, Steps, [], after_well_formed, ap, arith, chess, eqb, false, fewest_left, fewest_walked, shown_paths, is_followed, is_given, walk_length, inl, inr, is_legal, is_pseudo_legal-from_legal, length, min, moves_behind, opened_frame, path, position, refl, rules, suc, to_come, to_open, true, walk_work, undo_of, has_variations, walk_behind, ℕ, ◌+◌, ◌-◌, ◌<◌, ◌^◌, ◌∷◌, ◌≡◌, ◌⊎◌, position_after}
+use Rattle.pop_solve.proofs.Words.{AreKnown, Bool, CameFrom, CameFromAt, Counts, Frame, GoesTo, HelpPlay, IfSome, IsCounted, IsLinked, IsPlaceIn, IsRoomy, IsWalking, are_whites, LegalPlace, List, Move, Option, Plan, Position, RuleSet, Steps, [], after_well_formed, ap, arith, chess, eqb, false, fewest_left, fewest_walked, shown_paths, is_followed, is_emitted, walk_length, inl, inr, is_legal, is_pseudo_legal-from_legal, length, min, moves_after, opened_frame, path, position, refl, rules, suc, to_come, to_open, true, walk_work, undo_of, has_variations, walk_after, ℕ, ◌+◌, ◌-◌, ◌<◌, ◌^◌, ◌∷◌, ◌≡◌, ◌⊎◌, position_after}
 use Rattle.pop_battle.specs.ties.Frames.{learned, moved}
 use Rattle.pop_battle.proofs.Tests.{came_from}
 use Rattle.pop_solve.proofs.GoingOn.{no_zero, walk_length-help, follows-help, walk_length-keys, walk_length-most, ended-reached}
@@ -37,13 +37,13 @@ counted_by rule plan t walk opened opened2 before after e more same c = search r
 -- the outcomes of a step, for frames listed from the top down
 module _ (rule : RuleSet) (plan : Plan) (h : ℕ) (p : Position) (f : Frame) (below : List Frame) (board : Position)
     (r : IsWalking rule h p (f ∷ below) board) where
-  steps-close : (after : Position) (count : ℕ) → (f.left ≡ 0) ⊎ (moves_behind rule board f.place ≡ []) → (length below ≡ 0 → after ≡ board)
+  steps-close : (after : Position) (count : ℕ) → (f.left ≡ 0) ⊎ (moves_after rule board f.place ≡ []) → (length below ≡ 0 → after ≡ board)
       → ((q : Position) → 0 < length below → CameFromAt rule f board q → after ≡ q) → Steps rule plan h p (f ∷ below) below after count count false
-  unfolding are_whites to_come shown_paths fewest_left fewest_walked walk_work to_open walk_behind
+  unfolding are_whites to_come shown_paths fewest_left fewest_walked walk_work to_open walk_after
   steps-close after count e lowest before = search (rules, walking-close rule h p f below board after r lowest before)
 
-  module _ (next : ℕ) (m : Move) (t : ℕ) (left : f.left ≡ suc t) (e : moves_behind rule board f.place ≡ m ∷ moves_behind rule board next) where
-    here : moves_behind rule (position rule p (f ∷ below)) f.place ≡ m ∷ moves_behind rule (position rule p (f ∷ below)) next
+  module _ (next : ℕ) (m : Move) (t : ℕ) (left : f.left ≡ suc t) (e : moves_after rule board f.place ≡ m ∷ moves_after rule board next) where
+    here : moves_after rule (position rule p (f ∷ below)) f.place ≡ m ∷ moves_after rule (position rule p (f ∷ below)) next
     here = rw (← r.board_at) e
 
     after_here : position_after rule board m ≡ position_after rule (position rule p (f ∷ below)) m
@@ -73,8 +73,8 @@ module _ (rule : RuleSet) (plan : Plan) (h : ℕ) (p : Position) (f : Frame) (be
         → Counts rule plan (eqb (length below) 0) t (position_after rule board m) opened opened2
         → Steps rule plan h p (f ∷ below) (opened_frame m (undo_of rule board m)
         (walk_length plan.play (has_variations plan.tree) (chess plan.goal rule) t (position_after rule board m)) ∷ (moved f next ∷
-        below)) after opened opened2 (is_given plan.play (chess plan.goal rule) t (position_after rule board m))
-    unfolding are_whites IsLinked IsRoomy AreKnown position walk_behind to_open
+        below)) after opened opened2 (is_emitted plan.play (chess plan.goal rule) t (position_after rule board m))
+    unfolding are_whites IsLinked IsRoomy AreKnown position walk_after to_open
     steps-enter after opened opened2 lawful b at x =
         let o = open-next rule plan h p f next m below _ t fuel left here in
         let u = undo_of rule board m in
@@ -82,7 +82,7 @@ module _ (rule : RuleSet) (plan : Plan) (h : ℕ) (p : Position) (f : Frame) (be
         let tried = walk_length plan.play (has_variations plan.tree) (chess plan.goal rule) t (position_after rule board m) in
         let helped : plan.play ≡ HelpPlay
         → to_open rule p (f ∷ below) ≡ one rule plan t + to_open rule p (opened_frame m u tried ∷ (moved f next ∷ below)) = λ a.
-        let w : walk_behind rule tried q 0 ≡ walk_behind rule t q 0 = ap (λ x. walk_behind rule x q 0) (walk_length-help plan (chess plan.goal rule) t _ a) in
+        let w : walk_after rule tried q 0 ≡ walk_after rule t q 0 = ap (λ x. walk_after rule x q 0) (walk_length-help plan (chess plan.goal rule) t _ a) in
         omega (arith, o, w, walk_count-start rule plan t q) in
         let more = tries-enter rule plan h p f next m below _ t fuel left here u (rw (← after_here) b) in
         let less = walk_length-most (chess plan.goal rule) plan.play (has_variations plan.tree) t (position_after rule board m) in

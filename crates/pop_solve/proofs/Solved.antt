@@ -1,5 +1,5 @@
 -- The paths to come from the root frame of a phase are the phase's solutions.
-use Rattle.pop_solve.proofs.Words.{Battle, BattlePlay, Bool, Form, Frame, Game, HelpPlay, IsSound, List, Phase, Plan, Play, PlayOfSides, Posed, RuleSet, Set, [], continuations, ap, arith, beginning_count, best_moves, cond, false, filter, flat_map, game_of, half_moves_of, help_lines, is_help_play, is_help, kept_paths, keeps_win, length, list_all, map, moves_behind, nat_tests, node, nodes_below, phase_half_moves, phase_paths, phase_start, plan_of, play_of, refl, rules, seeks, is_in_set_play, set_tree, shown_paths, has_variations, solutions, solutions_by, suc, sym, take, tree_with, true, value, zero, ℕ, ◌++◌, ◌+◌, ◌-◌, ◌∙◌, ◌∷◌, ◌≡◌, legal_moves, list_all-append}
+use Rattle.pop_solve.proofs.Words.{Battle, BattlePlay, Bool, Form, Frame, Game, HelpPlay, IsSound, List, Phase, Plan, Play, PlayOfSides, Posed, RuleSet, Set, [], continuations, ap, arith, beginning_count, best_moves, cond, false, filter, flat_map, game_of, half_moves_of, help_lines, is_help_play, is_help, kept_paths, keeps_win, length, list_all, map, moves_after, nat_tests, node, nodes_below, phase_half_moves, phase_paths, phase_start, plan_of, play_of, refl, rules, attacker_to_move, is_in_set_play, set_tree, shown_paths, has_variations, solutions, solutions_by, suc, sym, take, tree_with, true, value, zero, ℕ, ◌++◌, ◌+◌, ◌-◌, ◌∙◌, ◌∷◌, ◌≡◌, legal_moves, list_all-append}
 use Rattle.pop_solve.proofs.Sound.{helps-form, some_way}
 use Rattle.pop_solve.proofs.Battles.{value-wins, value-self_wins}
 use Rattle.pop_solve.proofs.Trees.{as_nodes, beneath, by_test, flat-filter, halves, halves-seek, keeps-value, nodes_below-key, nodes_below-set, shown_paths-help, shown_paths-zero}
@@ -103,7 +103,7 @@ module _ {P M : Type 0} (game : Game P M) (plan : Plan) (battle : Battle) (fough
   pub set-cut : (n h max : ℕ) (p : P) (ms : List M) → suc h ≡ halves battle n - 1
       → IsCutInto false max (shown_paths plan game true (suc h) (suc h) p ms) (set_by battle game (has_variations plan.tree) n h p ms)
   set-cut n h max p ms e =
-      let s : seeks battle (suc h + 1) ≡ true = halves-seek game battle n (suc h) (omega (arith, e)) in
+      let s : attacker_to_move battle (suc h + 1) ≡ true = halves-seek game battle n (suc h) (omega (arith, e)) in
       root-cut game plan battle fought h max p ms _ _ (λ m. set_value battle n h (game.after p m) e)
       (λ m v. nodes_below-set game plan battle fought n h (game.after p m) (search rules) (grind arith) v)
 
@@ -139,7 +139,7 @@ module _ (rule : RuleSet) (problem : Posed) (stated : IsSound problem) where
 
   -- what is to come from the root frame of a phase
   pub root-solutions : (phase : Phase) (f : Frame) → f.left ≡ phase_half_moves problem phase
-      → moves_behind rule (phase_start problem phase) f.place ≡ legal_moves rule (phase_start problem phase)
+      → moves_after rule (phase_start problem phase) f.place ≡ legal_moves rule (phase_start problem phase)
       → IsCutInto (is_help problem.stipulation.form) problem.max_solutions (phase_paths rule problem phase (f ∷ [])) (solutions rule problem phase)
   unfolding solutions
   root-solutions phase f l b = search (rules, to_come-root, helps-form, cut phase _ refl _ refl)

@@ -1,5 +1,5 @@
 -- What a sound problem guarantees, and how its sides play.
-use Rattle.pop_solve.proofs.Words.{Battle, BattlePlay, Form, HelpPlay, arith, false, is_help_play, is_help, play_of, rules, IsSound, IsWellFormed, Phase, Posed, half_moves, is_crossed_right, phase_start, sym, ap, true, ◌≡◌, ◌≤◌, ◌∙◌}
+use Rattle.pop_solve.proofs.Words.{Battle, BattlePlay, Form, HelpPlay, arith, false, is_help_play, is_help, play_of, rules, IsSound, IsWellFormed, Phase, Posed, half_moves, is_en_passant_square_right, phase_start, sym, ap, true, ◌≡◌, ◌≤◌, ◌∙◌}
 
 -- a problem has 1 to 32 half-moves
 pub some_way : (problem : Posed) → IsSound problem → 1 ≤ half_moves problem.stipulation
@@ -11,7 +11,7 @@ in_range problem s = grind arith
 
 -- the first position of each phase is well formed
 pub start_sound : (problem : Posed) → IsSound problem → (phase : Phase) → IsWellFormed (phase_start problem phase)
-unfolding is_crossed_right
+unfolding is_en_passant_square_right
 start_sound problem s phase = search rules
 
 -- help play and battles, by the form

@@ -1,6 +1,6 @@
 -- What the moves still to come mean for paths, turns and counts: the next move, and the moves passed over.
-use Rattle.pop_solve.proofs.Words.{Battle, BattlePlay, Bool, Frame, GoesTo, HelpPlay, are_whites, List, Mate, Move, Plan, Position, RuleSet, Steps, Undo, [], ap, append_assoc, append-nil, allows_mate, arith, chess, cond, eqb, false, fewest_for, fewest_left, fewest_walked, filter, is_followed, is_given, walk_length, is_mating, length, length-append, map, map-append, mates_behind, moves_behind, opened_frame, path, position, refl, rules, seeks_last, shown_paths, smallest_tree, work_from, work_behind, suc, sum_by-append, sum_by-cons, to_come, to_open, true, walk_work, value, has_variations, walk_behind, walk_count, zero, ℕ, ◌++◌, ◌+◌, ◌-◌, ◌<◌, ◌∙◌, ◌∷◌, ◌≡◌, ◌≤◌, ◌⊎◌, position_after, legal_moves}
-use Rattle.pop_battle.proofs.Boards.{behind_start, each_one, none_of}
+use Rattle.pop_solve.proofs.Words.{Battle, BattlePlay, Bool, Frame, GoesTo, HelpPlay, are_whites, List, Mate, Move, Plan, Position, RuleSet, Steps, Undo, [], ap, append_assoc, append-nil, allows_mate, arith, chess, cond, eqb, false, fewest_for, fewest_left, fewest_walked, filter, is_followed, is_emitted, walk_length, is_mating, length, length-append, map, map-append, mates_after, moves_after, opened_frame, path, position, refl, rules, seeks_last, shown_paths, smallest_tree, work_from, work_after, suc, sum_by-append, sum_by-cons, to_come, to_open, true, walk_work, value, has_variations, walk_after, walk_count, zero, ℕ, ◌++◌, ◌+◌, ◌-◌, ◌<◌, ◌∙◌, ◌∷◌, ◌≡◌, ◌≤◌, ◌⊎◌, position_after, legal_moves}
+use Rattle.pop_battle.proofs.Boards.{after_start, each_one, none_of}
 use Rattle.pop_battle.specs.ties.Frames.{moved}
 use Rattle.pop_solve.proofs.GoingOn.{cases, no_zero, ways, walk_length-help, follows-help}
 
@@ -26,15 +26,15 @@ pub turn : (b : Bool) (L : List Move) (m : Move) (xs ys rest : List (List Move))
 turn b L m xs ys rest = search (rules, append_assoc, map-append, map-path)
 
 -- the steps from a place on, by its next move and by the others
-pub steps-start : (rule : RuleSet) (k : ℕ) (q : Position) → work_from rule k q ≡ 1 + work_behind rule k q 0
-unfolding work_from work_behind
-steps-start rule k q = search (rules, behind_start)
+pub steps-start : (rule : RuleSet) (k : ℕ) (q : Position) → work_from rule k q ≡ 1 + work_after rule k q 0
+unfolding work_from work_after
+steps-start rule k q = search (rules, after_start)
 
 -- the next move takes its own steps
-pub work_behind-next : (rule : RuleSet) (k : ℕ) (P : Position) (place next : ℕ) (m : Move) → moves_behind rule P place ≡ m ∷ moves_behind rule P next
-    → work_behind rule (suc k) P place ≡ (1 + work_from rule k (position_after rule P m)) + work_behind rule (suc k) P next
-unfolding work_behind
-work_behind-next rule k P place next m e = rw e (sum_by-cons (λ x. 1 + work_from rule k (position_after rule P x)) m (moves_behind rule P next))
+pub work_after-next : (rule : RuleSet) (k : ℕ) (P : Position) (place next : ℕ) (m : Move) → moves_after rule P place ≡ m ∷ moves_after rule P next
+    → work_after rule (suc k) P place ≡ (1 + work_from rule k (position_after rule P m)) + work_after rule (suc k) P next
+unfolding work_after
+work_after-next rule k P place next m e = rw e (sum_by-cons (λ x. 1 + work_from rule k (position_after rule P x)) m (moves_after rule P next))
 
 module _ (rule : RuleSet) (plan : Plan) where
   -- a frame counts where it has half-moves below it
@@ -43,12 +43,12 @@ module _ (rule : RuleSet) (plan : Plan) where
   one (suc k) = 1
 
   -- a position counts one where moves are tried from it, and what these open
-  pub walk_count-start : (k : ℕ) (q : Position) → walk_count (legal_moves rule) (position_after rule) k q ≡ one k + walk_behind rule k q 0
-  unfolding walk_count walk_behind
-  walk_count-start k q = search (rules, behind_start)
+  pub walk_count-start : (k : ℕ) (q : Position) → walk_count (legal_moves rule) (position_after rule) k q ≡ one k + walk_after rule k q 0
+  unfolding walk_count walk_after
+  walk_count-start k q = search (rules, after_start)
 
   module _ (h : ℕ) (p : Position) (f : Frame) (next : ℕ) (m : Move) (below : List Frame) (k t : ℕ) (fuel : h - length below ≡ suc k)
-      (left : f.left ≡ suc t) (e : moves_behind rule (position rule p (f ∷ below)) f.place ≡ m ∷ moves_behind rule (position rule p (f ∷ below)) next) where
+      (left : f.left ≡ suc t) (e : moves_after rule (position rule p (f ∷ below)) f.place ≡ m ∷ moves_after rule (position rule p (f ∷ below)) next) where
     -- the position after the move
     abbrev q : Position
     q = position_after rule (position rule p (f ∷ below)) m
@@ -64,14 +64,14 @@ module _ (rule : RuleSet) (plan : Plan) where
 
     -- a move that is followed: its path, where that is given, and what stands below it
     pub come-enter : (undo : Undo) → is_followed plan.play (chess plan.goal rule) root t q ≡ true
-        → to_come rule plan h p (f ∷ below) ≡ given_path (is_given plan.play (chess plan.goal rule) t q)
+        → to_come rule plan h p (f ∷ below) ≡ given_path (is_emitted plan.play (chess plan.goal rule) t q)
         (path (opened_frame m undo (walk_length plan.play (has_variations plan.tree) (chess plan.goal rule) t q)
         ∷ (moved f next ∷ below))) ++ to_come rule plan h p (opened_frame m undo (walk_length plan.play (has_variations plan.tree) (chess plan.goal rule) t q) ∷
         (moved f next ∷ below))
     unfolding to_come position path shown_paths
     come-enter undo b =
         let less : h - suc (length below) ≡ k = omega arith in
-        simp (fuel, less, left, e, b, behind_start, no_zero) (search (rules, turn))
+        simp (fuel, less, left, e, b, after_start, no_zero) (search (rules, turn))
 
     -- a move that isn't followed has only its test
     pub tries-pass : is_followed plan.play (chess plan.goal rule) root t q ≡ false
@@ -87,35 +87,35 @@ module _ (rule : RuleSet) (plan : Plan) where
     unfolding fewest_left position fewest_walked
     tries-enter undo b =
         let less : h - suc (length below) ≡ k = omega arith in
-        simp (fuel, less, left, e, sum_by-cons, b, behind_start, no_zero) (omega arith)
+        simp (fuel, less, left, e, sum_by-cons, b, after_start, no_zero) (omega arith)
 
     -- passing a move over takes a turn
     pub turns-pass : walk_work rule h p (moved f next ∷ below) < walk_work rule h p (f ∷ below)
     unfolding walk_work position
-    turns-pass = rw (fuel, work_behind-next rule k (position rule p (f ∷ below)) f.place next m e) (omega arith)
+    turns-pass = rw (fuel, work_after-next rule k (position rule p (f ∷ below)) f.place next m e) (omega arith)
 
     -- following a move takes a turn
     pub turns-enter : (undo : Undo) (tried : ℕ) → walk_work rule h p (opened_frame m undo tried ∷ (moved f next ∷ below)) < walk_work rule h p (f ∷ below)
     unfolding walk_work position
-    turns-enter undo tried = search (rules, work_behind-next rule k (position rule p (f ∷ below)) f.place next m e, steps-start rule k q)
+    turns-enter undo tried = search (rules, work_after-next rule k (position rule p (f ∷ below)) f.place next m e, steps-start rule k q)
 
     -- the next move opens what it can, and the others theirs
     pub open-next : to_open rule p (f ∷ below) ≡ walk_count (legal_moves rule) (position_after rule) t q + to_open rule p (moved f next ∷ below)
-    unfolding to_open position walk_behind
+    unfolding to_open position walk_after
     open-next =
         let counts = λ (x : Move). walk_count (legal_moves rule) (position_after rule) t (position_after rule (position rule p (f ∷ below)) x) in
-        rw (left, e) (omega (arith, sum_by-cons counts m (moves_behind rule (position rule p (f ∷ below)) next)))
+        rw (left, e) (omega (arith, sum_by-cons counts m (moves_after rule (position rule p (f ∷ below)) next)))
 
   -- a frame without moves gives no path
-  pub come-close : (h : ℕ) (p : Position) (f : Frame) (below : List Frame) → (f.left ≡ 0) ⊎ (moves_behind rule (position rule p (f ∷ below)) f.place ≡ [])
+  pub come-close : (h : ℕ) (p : Position) (f : Frame) (below : List Frame) → (f.left ≡ 0) ⊎ (moves_after rule (position rule p (f ∷ below)) f.place ≡ [])
       → to_come rule plan h p (f ∷ below) ≡ to_come rule plan h p below
   unfolding to_come shown_paths
   come-close h p f below e = search rules
 
   -- a frame without moves opens nothing
-  pub open-close : (p : Position) (f : Frame) (below : List Frame) → (f.left ≡ 0) ⊎ (moves_behind rule (position rule p (f ∷ below)) f.place ≡ [])
+  pub open-close : (p : Position) (f : Frame) (below : List Frame) → (f.left ≡ 0) ⊎ (moves_after rule (position rule p (f ∷ below)) f.place ≡ [])
       → to_open rule p (f ∷ below) ≡ to_open rule p below
-  unfolding to_open walk_behind
+  unfolding to_open walk_after
   open-close p f below e = search rules
 
   -- moves that have no paths: at the last half-move those that don't mate, by a side that seeks mate
@@ -129,7 +129,7 @@ module _ (rule : RuleSet) (plan : Plan) where
     -- a last move that doesn't mate gives no path, where the side seeks mate
     pub skipped : (low : Bool) (fuel : ℕ) → seeks_last plan.play ≡ true → plan.goal ≡ Mate → (m : Move) (ms : List Move) → is_mating rule P m ≡ false
         → shown_paths plan (chess plan.goal rule) low fuel 1 P (m ∷ ms) ≡ shown_paths plan (chess plan.goal rule) low fuel 1 P ms
-    unfolding shown_paths is_given is_followed value
+    unfolding shown_paths is_emitted is_followed value
     skipped low fuel last for m ms misses = search (rules, ways, walk_length-help, ends)
 
     fewest-skipped : (low : Bool) (fuel : ℕ) → seeks_last plan.play ≡ true → plan.goal ≡ Mate → (battle : Battle) → plan.play ≡ BattlePlay battle
@@ -138,23 +138,23 @@ module _ (rule : RuleSet) (plan : Plan) where
     unfolding fewest_walked smallest_tree is_followed value
     fewest-skipped low fuel last for battle fought m ms misses = search (rules, sum_by-cons)
 
-    nothing : (k place : ℕ) → k ≡ 1 → walk_behind rule k P place ≡ 0
-    unfolding walk_behind
-    nothing k place e = rw e (none_of (legal_moves rule) (position_after rule) P (moves_behind rule P place))
+    nothing : (k place : ℕ) → k ≡ 1 → walk_after rule k P place ≡ 0
+    unfolding walk_after
+    nothing k place e = rw e (none_of (legal_moves rule) (position_after rule) P (moves_after rule P place))
 
   -- the last half-move but one of help play, after moves to which no reply mates
   module _ (help : plan.play ≡ HelpPlay) (for : plan.goal ≡ Mate) where
     -- where no move mates no path is left
-    mateless : (P : Position) (fuel : ℕ) → mates_behind rule P 0 ≡ [] → shown_paths plan (chess plan.goal rule) false fuel 1 P (legal_moves rule P) ≡ []
-    unfolding mates_behind shown_paths
+    mateless : (P : Position) (fuel : ℕ) → mates_after rule P 0 ≡ [] → shown_paths plan (chess plan.goal rule) false fuel 1 P (legal_moves rule P) ≡ []
+    unfolding mates_after shown_paths
     mateless P fuel none =
         rw (← append-nil (legal_moves rule P)) (passed-over (shown_paths plan (chess plan.goal rule) false fuel 1 P) (is_mating rule P)
-        (skipped P false fuel (rw help refl) for) (legal_moves rule P) [] (rw (← behind_start rule P) none) ∙ search rules)
+        (skipped P false fuel (rw help refl) for) (legal_moves rule P) [] (rw (← after_start rule P) none) ∙ search rules)
 
-    settled : (P : Position) (low : Bool) (fuel : ℕ) (m : Move) (ms : List Move) → allows_mate rule P m ≡ false
+    is_decided : (P : Position) (low : Bool) (fuel : ℕ) (m : Move) (ms : List Move) → allows_mate rule P m ≡ false
         → shown_paths plan (chess plan.goal rule) low fuel 2 P (m ∷ ms) ≡ shown_paths plan (chess plan.goal rule) low fuel 2 P ms
-    unfolding shown_paths is_given
-    settled P low fuel m ms none = search (rules, follows-help, walk_length-help, mateless)
+    unfolding shown_paths is_emitted
+    is_decided P low fuel m ms none = search (rules, follows-help, walk_length-help, mateless)
 
   -- moves are passed over that have no paths
   module _ (h : ℕ) (p : Position) (f : Frame) (below : List Frame) (rest : List Move) (before between : ℕ)
@@ -168,23 +168,23 @@ module _ (rule : RuleSet) (plan : Plan) where
     -- a count to which these moves add nothing is the same from the later cursor on
     same-later : {A : Type 0} (F : ℕ → List Move → A) → (seeks_last plan.play ≡ true → plan.goal ≡ Mate → (m : Move) (ms : List Move)
         → is_mating rule P m ≡ false → F 1 (m ∷ ms) ≡ F 1 ms) → (plan.play ≡ HelpPlay → plan.goal ≡ Mate → (m : Move) (ms : List Move)
-        → allows_mate rule P m ≡ false → F 2 (m ∷ ms) ≡ F 2 ms) → F f.left (moves_behind rule P f.place) ≡ F f.left (moves_behind rule P g.mid)
+        → allows_mate rule P m ≡ false → F 2 (m ∷ ms) ≡ F 2 ms) → F f.left (moves_after rule P f.place) ≡ F f.left (moves_after rule P g.mid)
     unfolding position
-    same-later F skip settle = grind (arith, g.fits, g.passed, passed-over (F 1) (is_mating rule P), passed-over (F 2) (allows_mate rule P))
+    same-later F skip decide = grind (arith, g.fits, g.passed, passed-over (F 1) (is_mating rule P), passed-over (F 2) (allows_mate rule P))
 
     come-skip : to_come rule plan h p (f ∷ below) ≡ to_come rule plan h p later
     unfolding to_come position path
     come-skip = ap (λ lines. map (λ line. path (f ∷ below) ++ line) lines ++ to_come rule plan h p below)
         (same-later (λ n ms. shown_paths plan (chess plan.goal rule) (eqb (length below) 0) (h - length below) n P ms) (skipped P _ _)
-        (λ help for. settled help for P _ _))
+        (λ help for. is_decided help for P _ _))
 
-    fewer : (k : ℕ) → work_behind rule k P g.mid ≤ work_behind rule k P f.place
-    unfolding work_behind
+    fewer : (k : ℕ) → work_after rule k P g.mid ≤ work_after rule k P f.place
+    unfolding work_after
     fewer k = search (rules, sum_by-append)
 
     -- in play with two half-moves left each opens one frame
-    each : (k : ℕ) → k ≡ 2 → walk_behind rule k P f.place ≡ length g.over + walk_behind rule k P g.mid
-    unfolding walk_behind
+    each : (k : ℕ) → k ≡ 2 → walk_after rule k P f.place ≡ length g.over + walk_after rule k P g.mid
+    unfolding walk_after
     each k e = rw (e, each_one (legal_moves rule) (position_after rule) P, each_one (legal_moves rule) (position_after rule) P) (simp (g.passed, length-append))
 
     tries-skip : (battle : Battle) → plan.play ≡ BattlePlay battle → fewest_left rule plan h p (f ∷ below) ≡ fewest_left rule plan h p later
@@ -195,5 +195,5 @@ module _ (rule : RuleSet) (plan : Plan) where
     -- what follows moves that are passed over follows from before them
     pub steps-skip : (new : List Frame) (board : Position) (after : ℕ) (given : Bool) → Steps rule plan h p later new board between after given
         → Steps rule plan h p (f ∷ below) new board before after given
-    unfolding are_whites to_open position walk_work walk_behind
+    unfolding are_whites to_open position walk_work walk_after
     steps-skip new board after given s = search (rules, come-skip, tries-skip, nothing, each, fewer)

@@ -1,5 +1,5 @@
 -- The walk shows exactly the tree of the definitions.
-use Rattle.pop_solve.proofs.Words.{Battle, BattlePlay, Bool, Direct, Game, HelpPlay, List, Plan, Selfmate, [], continuations, ap, append-nil, arith, best_moves, cond, eqb, every_move, false, fewest_half_moves, filter, least_length_from, flat_map, flat_map_single, is_followed, is_given, walk_length, keeps_win, least_moves, lines_to_goal, list_all, map, nat_tests, node, nodes_below, not, shown_length, refl, rules, seeks, shown_paths, suc, sym, true, value, has_variations, zero, ℕ, ◌%◌, ◌*◌, ◌++◌, ◌+◌, ◌-◌, ◌/◌, ◌<◌, ◌||◌, ◌∙◌, ◌∷◌, ◌≡◌, ◌≤◌, inl, inr}
+use Rattle.pop_solve.proofs.Words.{Battle, BattlePlay, Bool, Direct, Game, HelpPlay, List, Plan, Selfmate, [], continuations, ap, append-nil, arith, best_moves, cond, eqb, every_move, false, fewest_half_moves, filter, least_length_from, flat_map, flat_map_single, is_followed, is_emitted, walk_length, keeps_win, least_moves, lines_to_goal, list_all, map, nat_tests, node, nodes_below, not, shown_length, refl, rules, attacker_to_move, shown_paths, suc, sym, true, value, has_variations, zero, ℕ, ◌%◌, ◌*◌, ◌++◌, ◌+◌, ◌-◌, ◌/◌, ◌<◌, ◌||◌, ◌∙◌, ◌∷◌, ◌≡◌, ◌≤◌, inl, inr}
 use Rattle.pop_solve.proofs.Battles.{value-is_lost, value-is_self_lost, value-zero}
 use Rattle.pop_solve.proofs.Lengths.{length-more}
 use Rattle.pop_solve.proofs.GoingOn.{length_most, walk_length-keys, given-battle, walk_length-help, cases, least_length_from-least}
@@ -44,7 +44,7 @@ module _ {P M : Type 0} (game : Game P M) where
     -- by some of the moves
     pub shown_paths-moves : (root : Bool) (k : ℕ) (p : P) (ms : List M)
         → shown_paths plan game root (suc k) (suc k) p ms ≡ flat_map (λ m. map (λ line. m ∷ line) (lines_to_goal game k (game.after p m))) ms
-    unfolding shown_paths is_followed is_given lines_to_goal
+    unfolding shown_paths is_followed is_emitted lines_to_goal
     shown_paths-moves root zero p ms = grind (arith, flat-same, by_move, append-nil)
     shown_paths-moves root (suc k) p ms = search (rules, flat-same, by_move, walk_length-help, nat_tests, shown_paths-moves false k)
 
@@ -54,41 +54,41 @@ module _ {P M : Type 0} (game : Game P M) where
     shown_paths-help root k p = shown_paths-moves root k p (game.moves p)
 
   -- battle play: parities
-  pub seeks-step : (battle : Battle) (t : ℕ) → seeks battle (t + 1) ≡ not (seeks battle t)
-  seeks-step battle t = search rules
+  pub attacker_to_move-step : (battle : Battle) (t : ℕ) → attacker_to_move battle (t + 1) ≡ not (attacker_to_move battle t)
+  attacker_to_move-step battle t = search rules
 
-  seeks-halves : (battle : Battle) (t : ℕ) → seeks battle t ≡ true → 0 < t → (k : ℕ) × (t ≡ halves battle (suc k))
-  seeks-halves Selfmate t s some = let e : t % 2 ≡ 0 = grind (arith, nat_tests) in (t / 2 - 1, omega (arith, e, some))
-  seeks-halves Direct t s some = let e : t % 2 ≡ 1 = grind (arith, nat_tests) in (t / 2, omega (arith, e))
+  attacker_to_move-halves : (battle : Battle) (t : ℕ) → attacker_to_move battle t ≡ true → 0 < t → (k : ℕ) × (t ≡ halves battle (suc k))
+  attacker_to_move-halves Selfmate t s some = let e : t % 2 ≡ 0 = grind (arith, nat_tests) in (t / 2 - 1, omega (arith, e, some))
+  attacker_to_move-halves Direct t s some = let e : t % 2 ≡ 1 = grind (arith, nat_tests) in (t / 2, omega (arith, e))
 
   -- the test of a move of White
   pub keeps-value : (battle : Battle) (k l : ℕ) (q : P) → suc l ≡ halves battle k → value battle game l q ≡ keeps_win battle game k q
   keeps-value battle k l q e = grind (arith, value-is_lost game (k - 1), value-is_self_lost game (k - 1))
 
   -- the least length by half-moves is that of the least number of moves
-  least_moves-halves : (battle : Battle) (n t : ℕ) (q : P) → seeks battle t ≡ true → 0 < t → t ≤ 2 * n → game.goal q ≡ false → value battle game t q ≡ true
+  least_moves-halves : (battle : Battle) (n t : ℕ) (q : P) → attacker_to_move battle t ≡ true → 0 < t → t ≤ 2 * n → game.goal q ≡ false → value battle game t q ≡ true
       → least_length_from battle game q ((t - fewest_half_moves battle) / 2) (fewest_half_moves battle) ≡ halves battle (least_moves battle game n q)
   least_moves-halves battle n t q s some most open_yet v =
-      grind (arith, seeks-halves battle t s some, length-more, least_moves-selfmate game q open_yet (n - 1), least_moves-direct game q (n - 1))
+      grind (arith, attacker_to_move-halves battle t s some, length-more, least_moves-selfmate game q open_yet (n - 1), least_moves-direct game q (n - 1))
 
   -- the value of Black's position holds after each Black move
-  value-black : (battle : Battle) (t : ℕ) (q : P) → game.goal q ≡ false → seeks battle (suc t) ≡ false → value battle game (suc t) q ≡ true
+  value-black : (battle : Battle) (t : ℕ) (q : P) → game.goal q ≡ false → attacker_to_move battle (suc t) ≡ false → value battle game (suc t) q ≡ true
       → every_move game (value battle game t) q ≡ true
   unfolding value
   value-black battle t q g s v = search rules
 
   -- White is to move with all half-moves of a battle left
-  pub halves-seek : (battle : Battle) (k l : ℕ) → suc l ≡ halves battle k → seeks battle (l + 1) ≡ true
+  pub halves-seek : (battle : Battle) (k l : ℕ) → suc l ≡ halves battle k → attacker_to_move battle (l + 1) ≡ true
   halves-seek battle k l e = grind (arith, nat_tests)
 
   -- in battle play
   module _ (plan : Plan) (battle : Battle) (fought : plan.play ≡ BattlePlay battle) where
     -- a move that is tested, and one that isn't
-    pub by_test : (root : Bool) (t : ℕ) (q : P) → (root || seeks battle (t + 1)) ≡ true → is_followed plan.play game root t q ≡ value battle game t q
+    pub by_test : (root : Bool) (t : ℕ) (q : P) → (root || attacker_to_move battle (t + 1)) ≡ true → is_followed plan.play game root t q ≡ value battle game t q
     unfolding is_followed
     by_test root t q s = rw (fought, s) refl
 
-    by_none : (t : ℕ) (q : P) → seeks battle (t + 1) ≡ false → is_followed plan.play game false t q ≡ true
+    by_none : (t : ℕ) (q : P) → attacker_to_move battle (t + 1) ≡ false → is_followed plan.play game false t q ≡ true
     unfolding is_followed
     by_none t q s = rw (fought, s) refl
 
@@ -104,8 +104,8 @@ module _ {P M : Type 0} (game : Game P M) where
     as_nodes root k t p ms = search (rules, flat-same, given-battle)
 
     -- the moves of White in its least length, over anything
-    white : (n k t : ℕ) (q : P) (G : M → List (List M)) → seeks battle t ≡ true → 0 < t → t ≤ 2 * n → t ≤ suc k → game.goal q ≡ false
-        → value battle game t q ≡ true → ((l : ℕ) (m : M) → seeks battle (l + 1) ≡ true → l + 1 ≤ t
+    white : (n k t : ℕ) (q : P) (G : M → List (List M)) → attacker_to_move battle t ≡ true → 0 < t → t ≤ 2 * n → t ≤ suc k → game.goal q ≡ false
+        → value battle game t q ≡ true → ((l : ℕ) (m : M) → attacker_to_move battle (l + 1) ≡ true → l + 1 ≤ t
         → value battle game l (game.after q m) ≡ true → node m (beneath k l (game.after q m)) ≡ G m)
         → shown_paths plan game false (suc k) (shown_length battle game t q) q (game.moves q)
         ≡ flat_map G (best_moves battle game n q)
@@ -134,7 +134,7 @@ module _ {P M : Type 0} (game : Game P M) where
       beneath-is k t q = rw (fought, variation) refl
 
       abbrev Tie : ℕ → ℕ → ℕ → P → Type 0
-      Tie n k t q = shown_paths plan game false k (shown_length battle game t q) q (game.moves q) ≡ cond (seeks battle t)
+      Tie n k t q = shown_paths plan game false k (shown_length battle game t q) q (game.moves q) ≡ cond (attacker_to_move battle t)
           (continuations battle game n k q) (nodes_below battle game n k q)
 
       tie-goal : (n k t : ℕ) (q : P) → game.goal q ≡ true → Tie n k t q
@@ -142,47 +142,47 @@ module _ {P M : Type 0} (game : Game P M) where
       tie-goal n k t q g = search (rules, shown_paths-zero)
 
       tie-white : (n k t : ℕ) (q : P) → ((l : ℕ) (r : P) → value battle game l r ≡ true → l ≤ k → l ≤ 2 * n → Tie n k l r) → value battle game (suc t) q ≡ true
-          → suc t ≤ suc k → suc t ≤ 2 * n → game.goal q ≡ false → seeks battle (suc t) ≡ true → Tie n (suc k) (suc t) q
+          → suc t ≤ suc k → suc t ≤ 2 * n → game.goal q ≡ false → attacker_to_move battle (suc t) ≡ true → Tie n (suc k) (suc t) q
       unfolding continuations
-      tie-white n k t q ih v room most g s = search (rules, white, seeks-step, beneath-is)
+      tie-white n k t q ih v room most g s = search (rules, white, attacker_to_move-step, beneath-is)
 
       tie-black : (n k t : ℕ) (q : P) → ((l : ℕ) (r : P) → value battle game l r ≡ true → l ≤ k → l ≤ 2 * n → Tie n k l r) → value battle game (suc t) q ≡ true
-          → suc t ≤ suc k → suc t ≤ 2 * n → game.goal q ≡ false → seeks battle (suc t) ≡ false → Tie n (suc k) (suc t) q
+          → suc t ≤ suc k → suc t ≤ 2 * n → game.goal q ≡ false → attacker_to_move battle (suc t) ≡ false → Tie n (suc k) (suc t) q
       unfolding nodes_below shown_length
       tie-black n k t q ih v room most g s =
-          let s1 : seeks battle (t + 1) ≡ false = grind arith in
-          let w : seeks battle t ≡ true = grind (arith, seeks-step) in
+          let s1 : attacker_to_move battle (t + 1) ≡ false = grind arith in
+          let w : attacker_to_move battle t ≡ true = grind (arith, attacker_to_move-step) in
           grind (arith, as_nodes, game.moves q, flat-all, value-black battle t q g s v, by_none, beneath-is)
 
       -- what the walk shows below a move that is shown
       tie : (n k t : ℕ) (q : P) → value battle game t q ≡ true → t ≤ k → t ≤ 2 * n → Tie n k t q
       tie n k zero q v room most = tie-goal n k 0 q (sym (value-zero game battle q) ∙ v)
       tie n zero (suc t) q v room most = absurd (omega (arith, room))
-      tie n (suc k) (suc t) q v room most = search (rules, cases (game.goal q), cases (seeks battle (suc t)), tie-black, tie-white, tie-goal, tie n k)
+      tie n (suc k) (suc t) q v room most = search (rules, cases (game.goal q), cases (attacker_to_move battle (suc t)), tie-black, tie-white, tie-goal, tie n k)
 
     -- where no variations are shown, nothing stands below a move of White
-    beneath-none : (k t : ℕ) (q : P) → has_variations plan.tree ≡ false → seeks battle (t + 1) ≡ true → beneath k t q ≡ []
+    beneath-none : (k t : ℕ) (q : P) → has_variations plan.tree ≡ false → attacker_to_move battle (t + 1) ≡ true → beneath k t q ≡ []
     beneath-none k t q v s = search (rules, walk_length-keys, shown_paths-zero)
 
-    beneath-set : (k t : ℕ) (q : P) → seeks battle (t + 1) ≡ false
+    beneath-set : (k t : ℕ) (q : P) → attacker_to_move battle (t + 1) ≡ false
         → beneath k t q ≡ shown_paths plan game false k (shown_length battle game t q) q (game.moves q)
     unfolding walk_length
     beneath-set k t q s = search rules
 
     -- below a key
-    pub nodes_below-key : (n h : ℕ) (q : P) → seeks battle (h + 1) ≡ true → suc h ≤ 2 * n → value battle game h q ≡ true
+    pub nodes_below-key : (n h : ℕ) (q : P) → attacker_to_move battle (h + 1) ≡ true → suc h ≤ 2 * n → value battle game h q ≡ true
         → beneath h h q ≡ cond (has_variations plan.tree) (nodes_below battle game n h q) []
     nodes_below-key n h q s most v = elim (cases (has_variations plan.tree)) [
       | inl alone ↦ search (rules, beneath-none h h q alone s)
-      | inr e ↦ search (rules, beneath-is e h h q, tie e n h h q v, seeks-step)
+      | inr e ↦ search (rules, beneath-is e h h q, tie e n h h q v, attacker_to_move-step)
     ]
 
     -- below a first move of Black in set play
-    pub nodes_below-set : (n h : ℕ) (r : P) → seeks battle h ≡ true → h ≤ 2 * n → value battle game h r ≡ true
+    pub nodes_below-set : (n h : ℕ) (r : P) → attacker_to_move battle h ≡ true → h ≤ 2 * n → value battle game h r ≡ true
         → beneath h h r ≡ cond (has_variations plan.tree) (continuations battle game n h r)
         (cond (game.goal r) [] (map (λ m. m ∷ []) (best_moves battle game n r)))
     nodes_below-set n h r s most v = elim (cases (has_variations plan.tree)) [
-      | inl alone ↦ beneath-set h h r (seeks-step battle h ∙ ap not s) ∙ (rw alone (no_variation alone h refl (game.goal r) refl))
+      | inl alone ↦ beneath-set h h r (attacker_to_move-step battle h ∙ ap not s) ∙ (rw alone (no_variation alone h refl (game.goal r) refl))
       | inr e ↦ search (rules, beneath-is e h h r, tie e n h h r v)
     ]
       where

@@ -1,6 +1,6 @@
 -- The outcomes of a step, with frames listed from the bottom up, as the code holds them, and what its calls
 -- return.
-use Rattle.pop_solve.proofs.Words.{all_triples, AreKnown, Bool, CameFrom, CameFromAt, Counts, Frame, GoesTo, IfSome, IsNextMate, IsNextOf, IsPlaceIn, IsRoomy, IsWalking, LegalPlace, List, MatchOption, Mate, Option, Plan, Position, RuleSet, Steps, [], ap, append-nil, arith, chess, eqb, false, is_followed, is_given, walk_length, inl, inr, is_legal, length, length-append, length-reverse, get_or, take, mates_behind, nat_tests, moves_behind, moves_behind-end, position, refl, reverse, reverse-append, rules, seeks_last, suc, sym, true, undo_of, has_variations, ℕ, ◌++◌, ◌+◌, ◌-◌, ◌<◌, ◌∙◌, ◌∷◌, ◌≡◌, ◌≤◌, ◌⊎◌, Move, position_after, opened_frame, nil_from_length}
+use Rattle.pop_solve.proofs.Words.{all_triples, AreKnown, Bool, CameFrom, CameFromAt, Counts, Frame, GoesTo, IfSome, IsNextMate, IsNextOf, IsPlaceIn, IsRoomy, IsWalking, LegalPlace, List, MatchOption, Mate, Option, Plan, Position, RuleSet, Steps, [], ap, append-nil, arith, chess, eqb, false, is_followed, is_emitted, walk_length, inl, inr, is_legal, length, length-append, length-reverse, get_or, take, mates_after, nat_tests, moves_after, moves_after-end, position, refl, reverse, reverse-append, rules, seeks_last, suc, sym, true, undo_of, has_variations, ℕ, ◌++◌, ◌+◌, ◌-◌, ◌<◌, ◌∙◌, ◌∷◌, ◌≡◌, ◌≤◌, ◌⊎◌, Move, position_after, opened_frame, nil_from_length}
 use Rattle.std.proofs.lemmas.List.{same_from_push, take_all, take_more}
 use Rattle.pop_battle.specs.ties.Frames.{learned, moved}
 use Rattle.pop_solve.specs.ties.Walk.{MovesOn}
@@ -67,10 +67,10 @@ module _ (rule : RuleSet) (plan : Plan) (h : ℕ) (top : Frame) (old new : List 
 
   module _ (place : ℕ) (known : Option LegalPlace) (m : Move) (board now : Position) (depth : ℕ) (mid last : List Frame) (opened between : ℕ)
       (at : now ≡ board) (d : depth ≡ length new) (some : (0 < top.left)
-      × GoesTo rule plan top.left board top.place (m ∷ moves_behind rule board place) opened between × (is_legal rule board m ≡ true))
+      × GoesTo rule plan top.left board top.place (m ∷ moves_after rule board place) opened between × (is_legal rule board m ≡ true))
       (within : IfSome known (IsPlaceIn rule board)) (put : mid ≡ new ++ moved (learned top known) place ∷ []) where
-    abbrev behind : ℕ
-    behind = top.left - 1
+    abbrev following : ℕ
+    following = top.left - 1
 
     abbrev arrived : Position
     arrived = position_after rule now m
@@ -80,31 +80,31 @@ module _ (rule : RuleSet) (plan : Plan) (h : ℕ) (top : Frame) (old new : List 
 
     -- a step that plays its next move
     pub enter_steps : (root given : Bool) (after : Position) (opened2 : ℕ) → root ≡ eqb depth 0
-        → (is_followed plan.play (chess plan.goal rule) root behind arrived ≡ false → (given ≡ false) × (after ≡ now) × (last ≡ mid))
-        → (is_followed plan.play (chess plan.goal rule) root behind arrived ≡ true → (given ≡ is_given plan.play (chess plan.goal rule) behind arrived)
+        → (is_followed plan.play (chess plan.goal rule) root following arrived ≡ false → (given ≡ false) × (after ≡ now) × (last ≡ mid))
+        → (is_followed plan.play (chess plan.goal rule) root following arrived ≡ true → (given ≡ is_emitted plan.play (chess plan.goal rule) following arrived)
         × (after ≡ arrived)
-        × (last ≡ mid ++ opened_frame m (undo_of rule now m) (walk_length plan.play (has_variations plan.tree) (chess plan.goal rule) behind arrived) ∷ []))
-        → Counts rule plan root behind arrived between opened2
+        × (last ≡ mid ++ opened_frame m (undo_of rule now m) (walk_length plan.play (has_variations plan.tree) (chess plan.goal rule) following arrived) ∷ []))
+        → Counts rule plan root following arrived between opened2
         → (p : Position) → IsWalking rule h p (reverse old) board → Steps rule plan h p (reverse old) (reverse last) after opened opened2 given
     enter_steps root given after opened2 flag passes enters counts p r =
-        let left : top.left ≡ suc behind = omega (arith, some.0) in
+        let left : top.left ≡ suc following = omega (arith, some.0) in
         let f = learned top known in
         let r2 = walking-learned rule h p top known (reverse new) now (walking_top p board now r at) (rw at within) in
         let flag2 : eqb (length (reverse new)) 0 ≡ root = grind (arith, depth_is) in
         let lawful : is_legal rule now m ≡ true = rw at some.2 in
         let g = rw (← at, r2.board_at) at some.1 in
         let r3 = walking-moved rule h p f g.mid (reverse new) now now r2 refl in
-        let here : moves_behind rule now g.mid ≡ m ∷ moves_behind rule now place = rw r2.board_at g.here in
-        elim (cases (is_followed plan.play (chess plan.goal rule) root behind arrived)) [
+        let here : moves_after rule now g.mid ≡ m ∷ moves_after rule now place = rw r2.board_at g.here in
+        elim (cases (is_followed plan.play (chess plan.goal rule) root following arrived)) [
           | inl passed ↦
               let x = passes passed in
-              let s = steps-pass rule plan h p (moved f g.mid) (reverse new) now r3 place m behind left here after between opened2
+              let s = steps-pass rule plan h p (moved f g.mid) (reverse new) now r3 place m following left here after between opened2
               (rw flag2 passed) x.1 (rw flag2 counts) in
               rw (popped old new top taken, x.2, mid_is, x.0) (steps-learned rule plan h p top known (reverse new) _ after opened opened2 false
               (steps-skip rule plan h p f (reverse new) _ opened between g _ after opened2 false s))
           | inr entered ↦
               let x = enters entered in
-              let s = steps-enter rule plan h p (moved f g.mid) (reverse new) now r3 place m behind left here after between opened2 lawful
+              let s = steps-enter rule plan h p (moved f g.mid) (reverse new) now r3 place m following left here after between opened2 lawful
               (rw flag2 entered) x.1 (rw flag2 counts) in
               rw (popped old new top taken, x.2, reverse-push mid, mid_is, x.0) (steps-learned rule plan h p top known (reverse new) _ after opened opened2 _
               (steps-skip rule plan h p f (reverse new) _ opened between g _ after opened2 _ s))
@@ -113,11 +113,11 @@ module _ (rule : RuleSet) (plan : Plan) (h : ℕ) (top : Frame) (old new : List 
 -- the next mate is the next move where play ends with it
 pub next_mating : (rule : RuleSet) (plan : Plan) (left : ℕ) (p : Position) (place next before after : ℕ) (o : Option Move) → plan.goal ≡ Mate
     → seeks_last plan.play ≡ true → left ≡ 1 → after ≡ before
-    → MatchOption o (mates_behind rule p place ≡ []) (λ m. IsNextMate rule p place next m × (is_legal rule p m ≡ true))
+    → MatchOption o (mates_after rule p place ≡ []) (λ m. IsNextMate rule p place next m × (is_legal rule p m ≡ true))
     → IsNextOf rule plan left p place next before after o
-unfolding mates_behind
+unfolding mates_after
 next_mating rule plan left p place next before after o for last single e same =
-    grind (arith, moves_behind-end rule p all_triples (omega arith), append-nil)
+    grind (arith, moves_after-end rule p all_triples (omega arith), append-nil)
 
 -- a frame is closed, whatever is walked
 module _ (rule : RuleSet) (h : ℕ) (top : Frame) (old new : List Frame) (taken : old ≡ new ++ top ∷ []) where

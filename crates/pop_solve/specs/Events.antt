@@ -12,11 +12,11 @@ use Rattle.chess_core.specs.Position.{Position}
 use Rattle.chess_core.specs.declared.man.Move.{Move}
 use Rattle.chess_attacks.specs.RuleSet.{RuleSet}
 use Rattle.pop_battle.specs.Game.{Game, help_lines}
-use Rattle.pop_solve.specs.Tree.{tree, set_tree}
+use Rattle.pop_solve.specs.Detail.{tree, set_tree}
 use Rattle.pop_input.specs.Posed.{Posed, rule_of}
 use Rattle.pop_stipulation.specs.Stipulations.{is_help, first_half, half_moves}
 use Rattle.pop_battle.specs.Chess.{chess, is_impossible, set_start}
-pub use Rattle.pop_events.specs.Shown.{Shown, mark_of, nothing_shown, shown_move}
+pub use Rattle.pop_events.specs.Shown.{Shown, mark_of, no_move_shown, shown_move}
 pub use Rattle.pop_events.specs.declared.event.Event.{Event}
 use Rattle.pop_events.specs.declared.event.Event.TheVariants.{Phase as PhaseEvent, Line, Node, Impossible, Total}
 pub use Rattle.pop_events.specs.declared.event.Phase.{Phase}
@@ -85,8 +85,8 @@ solutions rule problem phase =
     solutions_by (play_of problem.stipulation.form) rule problem phase
 
 -- the phase is set play, and its first position is impossible
-abbrev pub is_barred : RuleSet → Posed → Phase → Bool
-is_barred rule problem phase = is_set phase && is_impossible rule (set_start (play_start problem))
+abbrev pub is_impossible_phase : RuleSet → Posed → Phase → Bool
+is_impossible_phase rule problem phase = is_set phase && is_impossible rule (set_start (play_start problem))
 
 -- the event of a path
 abbrev pub path_event : Posed → Phase → Path → BareEvent
@@ -101,7 +101,7 @@ phase_count rule problem phase = length (take problem.max_solutions (solutions r
 -- their number
 unfoldable pub phase_events : RuleSet → Posed → Phase → List BareEvent
 phase_events rule problem phase =
-    opening phase ∷ (if is_barred rule problem phase then impossible ∷ []
+    opening phase ∷ (if is_impossible_phase rule problem phase then impossible ∷ []
     else map (path_event problem phase) (flat_map (λ solution. solution)
     (take problem.max_solutions (solutions rule problem phase)))
     ++ total (phase_count rule problem phase)
@@ -126,7 +126,7 @@ moves_shown goal rule p (m ∷ path) = shown_move goal rule p m
 
 -- the last move of a path from p as it is shown
 abbrev pub last_shown : Goal → RuleSet → Position → Path → Shown
-last_shown goal rule p [] = nothing_shown
+last_shown goal rule p [] = no_move_shown
 last_shown goal rule p (m ∷ []) = shown_move goal rule p m
 last_shown goal rule p (m ∷ (n ∷ path)) = last_shown goal rule (position_after rule p m) (n ∷ path)
 

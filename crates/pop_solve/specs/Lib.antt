@@ -1,4 +1,4 @@
-pub mod Tree
+pub mod Detail
 pub mod Events
 pub mod Walks
 pub mod Laws

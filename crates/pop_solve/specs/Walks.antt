@@ -9,13 +9,13 @@ use Rattle.pop_input.specs.Posed.{Posed}
 use Rattle.pop_stipulation.specs.Stipulations.{is_help}
 use Rattle.pop_events.specs.declared.event.Phase.{Phase}
 use Rattle.pop_events.specs.declared.event.Phase.TheVariants.{Set, Play}
-use Rattle.pop_solve.specs.Events.{BareEvent, events, first_phase, impossible, is_barred, is_set, line, opening, phase_half_moves, phase_start, total, tree_node}
+use Rattle.pop_solve.specs.Events.{BareEvent, events, first_phase, impossible, is_impossible_phase, is_set, line, opening, phase_half_moves, phase_start, total, tree_node}
 
 -- the walk count of a phase: the number of lists of fewer moves than its half-moves, each legal when it is
 -- played; 0 if the phase is impossible
 abbrev pub phase_walk : RuleSet → Posed → Phase → ℕ
 phase_walk rule problem phase =
-    if is_barred rule problem phase then 0
+    if is_impossible_phase rule problem phase then 0
     else walk_count (legal_moves rule) (position_after rule) (phase_half_moves problem phase)
     (phase_start problem phase)
 

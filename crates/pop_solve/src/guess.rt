@@ -17,8 +17,8 @@ use chess_rules::{Moves, Rules, play};
 use pop_battle::aim::{Aim, Battle, Play};
 use pop_battle::chess::next_move;
 use pop_battle::frame::Frame;
-use pop_battle::history::History;
 use pop_battle::killers::Killers;
+use pop_battle::search_state::SearchState;
 use pop_battle::value::value_of;
 use std::mem;
 
@@ -45,12 +45,12 @@ fn cost_of_test<R: Rules>(
 {
     let mut stand = *board;
     let mut frames = ArrayVec::<Frame<R>, 33>::new();
-    let mut history = History::with(mem::replace(killers, Killers::none()));
-    let wins = value_of::<R, 33>(aim, left, &mut stand, &mut frames, &mut history);
-    let History {
+    let mut search_state = SearchState::with(mem::replace(killers, Killers::none()));
+    let wins = value_of::<R, 33>(aim, left, &mut stand, &mut frames, &mut search_state);
+    let SearchState {
         killers: found,
         opened,
-    } = history;
+    } = search_state;
     *killers = found;
     (wins, opened)
 }

@@ -4,13 +4,13 @@ ghost use Rattle.arrayvec.specs.ArrayVec.{array_vec_len};
 ghost use Rattle.chess_core.specs.Position.{Position};
 ghost use Rattle.pop_input.specs.Posed.{IsSound};
 ghost use Rattle.pop_stipulation.specs.Stipulations.{half_moves, is_help};
-ghost use Rattle.pop_solve.specs.Events.{first_phase, moves_shown, play_start, phase_half_moves as half_moves_of_phase, phase_start, phase_half as half_of_phase, event_of, is_barred, path_event, is_set, opening};
+ghost use Rattle.pop_solve.specs.Events.{first_phase, moves_shown, play_start, phase_half_moves as half_moves_of_phase, phase_start, phase_half as half_of_phase, event_of, is_impossible_phase, path_event, is_set, opening};
 ghost use Rattle.pop_solve.specs.ties.Walk.{IsEnded, IsWalking, Opens, Tries, path};
 ghost use Rattle.pop_solve.specs.ties.Plans.{is_help_play, plan_of, walk_of};
-ghost use Rattle.pop_solve.specs.ties.Phases.{left_of, IsStanding, Walks, Gives, OpensOn};
+ghost use Rattle.pop_solve.specs.ties.Phases.{left_of, HoldsAtStage, Walks, Gives, OpensOn};
 ghost use Rattle.pop_events.specs.declared.event.Event.TheVariants.{Line, Total};
 ghost use Rattle.pop_events.specs.declared.event.Phase.TheVariants.{Play};
-ghost use Rattle.pop_solve.specs.declared.phases.Stage.TheVariants.{Before, Within, Behind};
+ghost use Rattle.pop_solve.specs.declared.phases.Stage.TheVariants.{Before, Within, After};
 
 use crate::plan::Plan;
 use crate::showing::{last_shown, line};
@@ -21,7 +21,7 @@ use chess_rules::{Moves, Rules};
 use pop_battle::aim;
 use pop_battle::chess::{is_impossible, turn_back, turn_over};
 use pop_battle::frame::Frame;
-use pop_battle::history::History;
+use pop_battle::search_state::SearchState;
 use pop_events::event::{Event, Phase};
 use pop_input::problem::Problem;
 
@@ -43,7 +43,7 @@ pub enum Stage {
     /// In a phase; `count` of its solutions have begun.
     Within { walk: Walk, count: u32 },
     /// After the last phase.
-    Behind,
+    After,
 }
 
 /// Returns the phase with which a problem begins.
@@ -108,7 +108,7 @@ pub fn walk_on<R: Rules, const N: usize>(
     count: u32,
     board: &mut Board,
     frames: &mut ArrayVec<Frame<R>, N>,
-    history: &mut History<R>,
+    search_state: &mut SearchState<R>,
 ) -> bool
     requires room { walk.half_moves < N }
     requires count { count ≤ problem.now.max_solutions }
@@ -120,14 +120,14 @@ pub fn walk_on<R: Rules, const N: usize>(
         board.new result }
     ensures opens { Opens R.rule walk.plan (phase_start problem.now walk.phase)
         (reverse frames.old.items)
-        (reverse frames.new.items) history.old.opened history.new.opened }
+        (reverse frames.new.items) search_state.old.opened search_state.new.opened }
     ensures tries { Tries R.rule walk.plan walk.half_moves (phase_start problem.now walk.phase)
         (reverse frames.old.items) (reverse frames.new.items)
-        history.old.opened history.new.opened }
+        search_state.old.opened search_state.new.opened }
 {
     let limit = still_to_begin(problem, count);
     while !frames.is_empty() && !is_full(walk.plan, frames.len(), limit) {
-        if step::<R, N>(walk.plan, walk.half_moves, board, frames, history) {
+        if step::<R, N>(walk.plan, walk.half_moves, board, frames, search_state) {
             return true;
         }
     }
@@ -199,7 +199,7 @@ pub fn event_at<R: Rules>(
 /// impossible and leaves the board unchanged.
 pub fn set_up<R: Rules>(problem: &Problem, phase: Phase, board: &mut Board) -> bool
     requires { board.old ≡ play_start problem.now }
-    ensures possible { result ≡ not (is_barred R.rule problem.now phase) }
+    ensures possible { result ≡ not (is_impossible_phase R.rule problem.now phase) }
     ensures board { board.new ≡ (if result then phase_start problem.now phase
         else play_start problem.now) }
 {
@@ -215,24 +215,24 @@ pub fn set_up<R: Rules>(problem: &Problem, phase: Phase, board: &mut Board) -> b
 }
 
 /// Begins a phase with one frame, or finds that the phase is impossible.
-#[tactic(auto, unfolding(crate::specs::ties::Phases::IsStanding))]
+#[tactic(auto, unfolding(crate::specs::ties::Phases::HoldsAtStage))]
 fn begin<R: Rules, const N: usize>(
     problem: &Problem,
     phase: Phase,
     board: &mut Board,
     frames: &mut ArrayVec<Frame<R>, N>,
-    history: &mut History<R>,
+    search_state: &mut SearchState<R>,
 ) -> Stage
     requires sound { IsSound problem.now }
     requires room { half_moves problem.now.stipulation < N }
-    requires standing { IsStanding R.rule problem.now (Before phase) (reverse frames.old.items)
+    requires standing { HoldsAtStage R.rule problem.now (Before phase) (reverse frames.old.items)
         board.old }
-    ensures standing { IsStanding R.rule problem.now result (reverse frames.new.items) board.new }
+    ensures standing { HoldsAtStage R.rule problem.now result (reverse frames.new.items) board.new }
     ensures left { left_of R.rule problem.now (Before phase) (reverse frames.old.items)
         ≡ opening phase ∷ left_of R.rule problem.now result (reverse frames.new.items) }
     ensures opens { OpensOn R.rule problem.now (Before phase) result (reverse frames.old.items)
         (reverse frames.new.items)
-        history.old.opened history.new.opened
+        search_state.old.opened search_state.new.opened
         (left_of R.rule problem.now (Before phase) (reverse frames.old.items)) }
 {
     if !set_up::<R>(problem, phase, board) {
@@ -246,7 +246,7 @@ fn begin<R: Rules, const N: usize>(
         known: None,
         ..Frame::default()
     });
-    history.opened = opened_after(history.opened, left, false);
+    search_state.opened = opened_after(search_state.opened, left, false);
     Stage::Within { walk, count: 0 }
 }
 
@@ -261,7 +261,7 @@ pub fn end<R: Rules, const N: usize>(
     requires sound { IsSound problem.now }
     requires walking { (h : ℕ) × IsWalking R.rule h (phase_start problem.now phase)
         (reverse frames.old.items) board.old }
-    ensures stage { result ≡ (if is_set phase then Before Play else Behind) }
+    ensures stage { result ≡ (if is_set phase then Before Play else After) }
     ensures none { frames.new.items ≡ [] }
     ensures board { board.new ≡ play_start problem.now }
 {
@@ -271,7 +271,7 @@ pub fn end<R: Rules, const N: usize>(
             turn_back(board, &problem.diagram());
             Stage::Before { phase: Phase::Play }
         }
-        Phase::Play => Stage::Behind,
+        Phase::Play => Stage::After,
     }
 }
 
@@ -312,20 +312,20 @@ pub fn count_with(problem: &Problem, depth: usize, count: u32) -> u32
 
 /// Writes the next event of a search to `event`, or `None` after the last, and updates the stage. It takes
 /// `event` by reference: a returned event would be copied by each caller.
-#[tactic(auto, unfolding(crate::specs::ties::Phases::IsStanding, crate::specs::ties::Phases::left_of))]
+#[tactic(auto, unfolding(crate::specs::ties::Phases::HoldsAtStage, crate::specs::ties::Phases::left_of))]
 pub(crate) fn advance<R: Rules, const N: usize>(
     problem: &Problem,
     stage: &mut Stage,
     board: &mut Board,
     frames: &mut ArrayVec<Frame<R>, N>,
-    history: &mut History<R>,
+    search_state: &mut SearchState<R>,
     event: &mut Option<Event>,
 )
     requires sound { IsSound problem.now }
     requires room { half_moves problem.now.stipulation < N }
-    requires standing { IsStanding R.rule problem.now stage.old (reverse frames.old.items)
+    requires standing { HoldsAtStage R.rule problem.now stage.old (reverse frames.old.items)
         board.old }
-    ensures standing { IsStanding R.rule problem.now stage.new (reverse frames.new.items)
+    ensures standing { HoldsAtStage R.rule problem.now stage.new (reverse frames.new.items)
         board.new }
     ensures gives { MatchOption event.new
         ((left_of R.rule problem.now stage.old (reverse frames.old.items) ≡ [])
@@ -337,12 +337,12 @@ pub(crate) fn advance<R: Rules, const N: usize>(
         event board.new (array_vec_len frames.new)) }
     ensures opens { OpensOn R.rule problem.now stage.old stage.new (reverse frames.old.items)
         (reverse frames.new.items)
-        history.old.opened history.new.opened (left_of R.rule problem.now stage.old
+        search_state.old.opened search_state.new.opened (left_of R.rule problem.now stage.old
         (reverse frames.old.items)) }
 {
     match *stage {
         Stage::Before { phase } => {
-            *stage = begin::<R, N>(problem, phase, board, frames, history);
+            *stage = begin::<R, N>(problem, phase, board, frames, search_state);
             *event = Some(Event::Phase(phase));
         }
         Stage::Barred => {
@@ -350,7 +350,7 @@ pub(crate) fn advance<R: Rules, const N: usize>(
             *event = Some(Event::Impossible);
         }
         Stage::Within { walk, count } => {
-            if walk_on::<R, N>(problem, walk, count, board, frames, history) {
+            if walk_on::<R, N>(problem, walk, count, board, frames, search_state) {
                 let count = count_with(problem, frames.len(), count);
                 *stage = Stage::Within { walk, count };
                 *event = Some(event_at::<R>(problem, walk, frames.as_slice(), board));
@@ -359,6 +359,6 @@ pub(crate) fn advance<R: Rules, const N: usize>(
             *stage = end::<R, N>(problem, walk.phase, board, frames);
             *event = Some(total(problem, count));
         }
-        Stage::Behind => *event = None,
+        Stage::After => *event = None,
     }
 }

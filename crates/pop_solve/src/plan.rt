@@ -8,7 +8,7 @@ use pop_stipulation::stipulation::Goal;
 
 /// What is shown of a battle.
 #[derive(Clone, Copy)]
-pub enum Tree {
+pub enum Detail {
     /// Its keys only.
     Keys,
     /// Its keys with their variations.
@@ -21,18 +21,18 @@ pub struct Plan {
     pub play: Play,
     pub goal: Goal,
     /// What is shown of a battle; without meaning in help play.
-    pub tree: Tree,
+    pub tree: Detail,
 }
 
-impl Tree {
+impl Detail {
     /// Returns what is shown with variations or without.
-    fn with(variation: bool) -> Tree
+    fn with(variation: bool) -> Detail
         ensures { result ≡ tree_with variation }
     {
         if variation {
-            Tree::Variations
+            Detail::Variations
         } else {
-            Tree::Keys
+            Detail::Keys
         }
     }
 
@@ -41,8 +41,8 @@ impl Tree {
         ensures { result ≡ has_variations self }
     {
         match self {
-            Tree::Keys => false,
-            Tree::Variations => true,
+            Detail::Keys => false,
+            Detail::Variations => true,
         }
     }
 }
@@ -56,7 +56,7 @@ impl Plan {
         Plan {
             play: Play::of(stipulation.form),
             goal: stipulation.goal,
-            tree: Tree::with(problem.variation()),
+            tree: Detail::with(problem.variation()),
         }
     }
 }

@@ -4,8 +4,8 @@ use arrayvec::ArrayVec;
 use chess_core::board::Board;
 use chess_rules::Rules;
 use pop_battle::frame::Frame;
-use pop_battle::history::History;
 use pop_battle::killers::Killers;
+use pop_battle::search_state::SearchState;
 use pop_events::event::Event;
 use pop_input::problem::Problem;
 use std::marker::Model;
@@ -20,7 +20,7 @@ pub struct Search<R: Rules, const N: usize> {
     stage: Stage,
     board: Board,
     frames: ArrayVec<Frame<R>, N>,
-    history: History<R>,
+    search_state: SearchState<R>,
     given: u64,
 }
 
@@ -31,7 +31,7 @@ impl<R: Rules, const N: usize> Model for Search<R, N> {
     ghost use Rattle.pop_stipulation.specs.Stipulations.{half_moves};
     ghost use Rattle.pop_solve.specs.Events.{events};
     ghost use Rattle.pop_solve.specs.ties.Seen.{Seen};
-    ghost use Rattle.pop_solve.specs.ties.Phases.{left_of, IsStanding, IsGiven, IsOpened};
+    ghost use Rattle.pop_solve.specs.ties.Phases.{left_of, HoldsAtStage, IsCountedUpTo, IsOpened};
 
     ghost Value = { Seen };
 
@@ -41,15 +41,15 @@ impl<R: Rules, const N: usize> Model for Search<R, N> {
       board = s.board;
       depth = array_vec_len s.frames;
       given = s.given;
-      opened = s.history.opened;
+      opened = s.search_state.opened;
     } };
 
     ghost invariant = { λ s. IsSound s.problem
         × (half_moves s.problem.stipulation < N)
-        × IsStanding R.rule s.problem s.stage (reverse s.frames.items) s.board
-        × IsGiven R.rule s.problem
+        × HoldsAtStage R.rule s.problem s.stage (reverse s.frames.items) s.board
+        × IsCountedUpTo R.rule s.problem
         (left_of R.rule s.problem s.stage (reverse s.frames.items)) s.given
-        × IsOpened R.rule s.problem s.stage (reverse s.frames.items) s.history.opened };
+        × IsOpened R.rule s.problem s.stage (reverse s.frames.items) s.search_state.opened };
 }
 
 impl<R: Rules, const N: usize> Search<R, N> {
@@ -59,7 +59,7 @@ impl<R: Rules, const N: usize> Search<R, N> {
     ghost use Rattle.pop_stipulation.specs.Stipulations.{half_moves, is_help};
     ghost use Rattle.pop_solve.specs.Events.{events, event_of, play_start};
     ghost use Rattle.pop_solve.specs.Walks.{is_never_stopped, is_walked_once, whole_walk};
-    ghost use Rattle.pop_solve.specs.ties.Seen.{fewest_tried, StandsOn};
+    ghost use Rattle.pop_solve.specs.ties.Seen.{fewest_tried, IsAtPathOf};
 
     /// Returns a search before its first event: its board has the play's first position, and no frame is in
     /// use. `N` must be more than the half-moves of the play, and `R` must be the rules of the problem's
@@ -80,7 +80,7 @@ impl<R: Rules, const N: usize> Search<R, N> {
             },
             board: Board::of(&problem.diagram()),
             frames: ArrayVec::new(),
-            history: History::with(Killers::none()),
+            search_state: SearchState::with(Killers::none()),
             given: 0,
         }
     }
@@ -93,19 +93,19 @@ impl<R: Rules, const N: usize> Search<R, N> {
         ensures left { self.new.left ≡ drop 1 self.old.left }
         ensures board { MatchOption (slice_get self.old.left 0)
             (self.new.board ≡ play_start self.old.problem)
-            (λ bare. StandsOn R.rule self.old.problem bare self.new.board self.new.depth) }
+            (λ bare. IsAtPathOf R.rule self.old.problem bare self.new.board self.new.depth) }
         ensures problem { self.new.problem ≡ self.old.problem }
         ensures opened { self.old.opened ≤ self.new.opened }
     {
         // For the proof: the count is below 2^64.
-        let _count = self.history.opened;
+        let _count = self.search_state.opened;
         let mut event = None;
         advance::<R, N>(
             &self.problem,
             &mut self.stage,
             &mut self.board,
             &mut self.frames,
-            &mut self.history,
+            &mut self.search_state,
             &mut event,
         );
         if event.is_some() {
@@ -157,6 +157,6 @@ impl<R: Rules, const N: usize> Search<R, N> {
             → self.now.left ≡ []
             → min (fewest_tried R.rule self.now.problem) (2 ^ 64 - 1) ≤ result }
     {
-        self.history.opened
+        self.search_state.opened
     }
 }

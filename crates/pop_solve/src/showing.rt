@@ -20,7 +20,7 @@ use chess_rules::{Rules, play};
 use pop_battle::aim::Play;
 use pop_battle::chess::{Reached, mark_after, retract, shown_of};
 use pop_battle::frame::Frame;
-use pop_battle::value::seeks;
+use pop_battle::value::attacker_to_move;
 use pop_events::shown::Shown;
 use pop_stipulation::stipulation::Goal;
 
@@ -40,8 +40,10 @@ fn reached_at<R: Rules>(plan: Plan, frame: &Frame<R>) -> Reached
 {
     match plan.play {
         Play::Help => Reached::Surely,
-        Play::Battle(battle) if frame.left == 0 && plan.tree.has_variations() && seeks(battle, 1) =>
-            { Reached::Surely }
+        Play::Battle(battle)
+            if frame.left == 0 && plan.tree.has_variations() && attacker_to_move(battle, 1) => {
+            Reached::Surely
+        }
         _ => Reached::Perhaps,
     }
 }

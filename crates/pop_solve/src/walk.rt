@@ -5,7 +5,7 @@ ghost use Rattle.std.specs.Prelude.{◌≡◌, ◌↔◌, ◌+◌, ◌<◌, ◌�
 ghost use Rattle.chess_core.specs.Position.{Position};
 ghost use Rattle.chess_core.specs.WellFormed.{IsWellFormed};
 ghost use Rattle.chess_rules.specs.Legal.{is_legal, is_mate};
-ghost use Rattle.chess_rules.specs.ties.Places.{IsPlaceIn, moves_behind};
+ghost use Rattle.chess_rules.specs.ties.Places.{IsPlaceIn, moves_after};
 ghost use Rattle.chess_rules.specs.Play.{undo_of};
 ghost use Rattle.arrayvec.specs.ArrayVec.{array_vec_len};
 ghost use Rattle.pop_battle.specs.declared.aim.Battle.{Battle};
@@ -18,21 +18,21 @@ ghost use Rattle.pop_battle.specs.Chess.{chess};
 ghost use Rattle.chess_mates.specs.ties.Threats.{AreThreatsOf};
 ghost use Rattle.pop_stipulation.specs.declared.stipulation.Goal.TheVariants.{Mate};
 ghost use Rattle.pop_battle.specs.ties.Marks.{is_for_mate};
-ghost use Rattle.pop_battle.specs.ties.Values.{seeks, value};
-ghost use Rattle.pop_battle.specs.ties.Passing.{IsNextUnsettled};
-ghost use Rattle.pop_solve.specs.ties.Walk.{MovesOn, fewest_half_moves, least_length_from, shown_length, is_followed, is_given, walk_length, IsMatedAtLast, IsNextOf, IsWalking, seeks_last, Steps};
+ghost use Rattle.pop_battle.specs.ties.Values.{attacker_to_move, value};
+ghost use Rattle.pop_battle.specs.ties.Passing.{IsNextMatable};
+ghost use Rattle.pop_solve.specs.ties.Walk.{MovesOn, fewest_half_moves, least_length_from, shown_length, is_followed, is_emitted, walk_length, IsMatedAtLast, IsNextOf, IsWalking, seeks_last, Steps};
 
 use crate::plan::Plan;
 use arrayvec::ArrayVec;
 use chess_core::board::Board;
 use chess_core::man::Move;
 use chess_mates::threats::Threats;
-use chess_rules::{LegalMoves, Moves, Rules, play};
+use chess_rules::{LegalCursor, Moves, Rules, play};
 use pop_battle::aim::{Aim, Battle, Play};
 use pop_battle::chess::{is_for_mate, next_mate, next_move, reaches_goal, retract};
-use pop_battle::frame::{Frame, Order, Stretch};
-use pop_battle::history::History;
-use pop_battle::value::{seeks, value_of};
+use pop_battle::frame::{Frame, MoveStage, Order};
+use pop_battle::search_state::SearchState;
+use pop_battle::value::{attacker_to_move, value_of};
 
 /// Returns the fewest half-moves with which a move by White is tried.
 fn fewest_half_moves(battle: Battle) -> usize
@@ -52,18 +52,18 @@ fn least_length<R: Rules, const N: usize>(
     left: usize,
     board: &mut Board,
     frames: &mut ArrayVec<Frame<R>, N>,
-    history: &mut History<R>,
+    search_state: &mut SearchState<R>,
 ) -> usize
     requires well_formed { IsWellFormed board.old }
     requires room { array_vec_len frames.old + left ≤ N }
     ensures least { result ≡ least_length_from aim.battle (chess aim.goal R.rule) board.old
         ((left - fewest_half_moves aim.battle) / 2) (fewest_half_moves aim.battle) }
-    ensures rest { Restores board.old board.new frames.old.items frames.new.items history.old.opened
-        history.new.opened }
+    ensures rest { Restores board.old board.new frames.old.items frames.new.items search_state.old.opened
+        search_state.new.opened }
 {
     let mut tried = fewest_half_moves(aim.battle);
     while left >= 2 && tried <= left - 2 {
-        if value_of::<R, N>(aim, tried, board, frames, history) {
+        if value_of::<R, N>(aim, tried, board, frames, search_state) {
             return tried;
         }
         tried += 2;
@@ -79,21 +79,21 @@ fn shown_length<R: Rules, const N: usize>(
     left: usize,
     board: &mut Board,
     frames: &mut ArrayVec<Frame<R>, N>,
-    history: &mut History<R>,
+    search_state: &mut SearchState<R>,
 ) -> usize
     requires well_formed { IsWellFormed board.old }
     requires room { array_vec_len frames.old + left ≤ N }
     ensures length { result ≡ shown_length aim.battle (chess aim.goal R.rule) left board.old }
-    ensures rest { Restores board.old board.new frames.old.items frames.new.items history.old.opened
-        history.new.opened }
+    ensures rest { Restores board.old board.new frames.old.items frames.new.items search_state.old.opened
+        search_state.new.opened }
 {
     if left == 0 || reaches_goal::<R>(aim.goal, board) {
         return 0;
     }
-    if !seeks(aim.battle, left) {
+    if !attacker_to_move(aim.battle, left) {
         return left;
     }
-    least_length::<R, N>(aim, left, board, frames, history)
+    least_length::<R, N>(aim, left, board, frames, search_state)
 }
 
 /// Returns the number of half-moves for which the walk goes on from the board's position, with `left`
@@ -104,41 +104,41 @@ fn walk_length<R: Rules, const N: usize>(
     left: usize,
     board: &mut Board,
     frames: &mut ArrayVec<Frame<R>, N>,
-    history: &mut History<R>,
+    search_state: &mut SearchState<R>,
 ) -> usize
     requires well_formed { IsWellFormed board.old }
     requires room { array_vec_len frames.old + left ≤ N }
     ensures length { result
         ≡ walk_length plan.play (has_variations plan.tree) (chess plan.goal R.rule) left board.old }
-    ensures rest { Restores board.old board.new frames.old.items frames.new.items history.old.opened
-        history.new.opened }
-    ensures opened { plan.play ≡ HelpPlay → history.new.opened ≡ history.old.opened }
+    ensures rest { Restores board.old board.new frames.old.items frames.new.items search_state.old.opened
+        search_state.new.opened }
+    ensures opened { plan.play ≡ HelpPlay → search_state.new.opened ≡ search_state.old.opened }
     ensures keys_alone { (battle : Battle) → plan.play ≡ BattlePlay battle
-        → IsTrue (not (has_variations plan.tree) && seeks battle (left + 1))
-        → history.new.opened ≡ history.old.opened }
+        → IsTrue (not (has_variations plan.tree) && attacker_to_move battle (left + 1))
+        → search_state.new.opened ≡ search_state.old.opened }
 {
     let Play::Battle(battle) = plan.play else {
         return left;
     };
-    if !plan.tree.has_variations() && seeks(battle, left + 1) {
+    if !plan.tree.has_variations() && attacker_to_move(battle, left + 1) {
         return 0;
     }
     let aim = Aim {
         battle,
         goal: plan.goal,
     };
-    shown_length::<R, N>(aim, left, board, frames, history)
+    shown_length::<R, N>(aim, left, board, frames, search_state)
 }
 
 /// Returns the battle in which a move is tested before the walk follows it, with `left` half-moves left
 /// including the move: White's moves and the moves of a phase's first position are tested.
 fn tested_in(play: Play, root: bool, left: usize) -> Option<Battle>
     ensures { MatchOption result ((battle : Battle) → play ≡ BattlePlay battle
-        → (root || seeks battle left) ≡ false)
-        (λ battle. (play ≡ BattlePlay battle) × ((root || seeks battle left) ≡ true)) }
+        → (root || attacker_to_move battle left) ≡ false)
+        (λ battle. (play ≡ BattlePlay battle) × ((root || attacker_to_move battle left) ≡ true)) }
 {
     match play {
-        Play::Battle(battle) if root || seeks(battle, left) => Some(battle),
+        Play::Battle(battle) if root || attacker_to_move(battle, left) => Some(battle),
         _ => None,
     }
 }
@@ -150,7 +150,7 @@ fn seeks_last(play: Play) -> bool
 {
     match play {
         Play::Help => true,
-        Play::Battle(battle) => seeks(battle, 1),
+        Play::Battle(battle) => attacker_to_move(battle, 1),
     }
 }
 
@@ -170,29 +170,29 @@ fn value_after<R: Rules, const N: usize>(
     left: usize,
     board: &mut Board,
     frames: &mut ArrayVec<Frame<R>, N>,
-    history: &mut History<R>,
+    search_state: &mut SearchState<R>,
 ) -> bool
     requires well_formed { IsWellFormed board.old }
     requires room { array_vec_len frames.old + left ≤ N }
-    requires mated { is_for_mate aim.goal ≡ true → seeks aim.battle 1 ≡ true → left ≡ 0
+    requires mated { is_for_mate aim.goal ≡ true → attacker_to_move aim.battle 1 ≡ true → left ≡ 0
         → is_mate R.rule board.old ≡ true }
     ensures { Evaluates R.rule aim left board.old board.new frames.old.items
-        frames.new.items history.old.opened history.new.opened result }
+        frames.new.items search_state.old.opened search_state.new.opened result }
 {
-    if left == 0 && is_for_mate(aim.goal) && seeks(aim.battle, 1) {
+    if left == 0 && is_for_mate(aim.goal) && attacker_to_move(aim.battle, 1) {
         return true;
     }
-    value_of::<R, N>(aim, left, board, frames, history)
+    value_of::<R, N>(aim, left, board, frames, search_state)
 }
 
 /// Returns whether the path to the board's position is emitted, with `left` half-moves left. In help play
 /// for mate the last half-move is known to mate.
-#[tactic(auto, unfolding(crate::specs::ties::Walk::is_given))]
-fn is_given<R: Rules>(plan: Plan, left: usize, board: &mut Board) -> bool
+#[tactic(auto, unfolding(crate::specs::ties::Walk::is_emitted))]
+fn is_emitted<R: Rules>(plan: Plan, left: usize, board: &mut Board) -> bool
     requires well_formed { IsWellFormed board.old }
     requires mated { IsMatedAtLast R.rule plan left board.old }
     ensures unchanged { board.new ≡ board.old }
-    ensures given { result ≡ is_given plan.play (chess plan.goal R.rule) left board.old }
+    ensures given { result ≡ is_emitted plan.play (chess plan.goal R.rule) left board.old }
 {
     match plan.play {
         Play::Battle(_) => true,
@@ -225,7 +225,7 @@ pub fn enter<R: Rules, const N: usize>(
     by: Move,
     board: &mut Board,
     frames: &mut ArrayVec<Frame<R>, N>,
-    history: &mut History<R>,
+    search_state: &mut SearchState<R>,
 ) -> bool
     requires well_formed { IsWellFormed board.old }
     requires room { array_vec_len frames.old + left < N }
@@ -238,7 +238,7 @@ pub fn enter<R: Rules, const N: usize>(
     ensures enters { is_followed plan.play (chess plan.goal R.rule)
         (array_vec_len frames.old == 1) left
         (position_after R.rule board.old by) ≡ true
-        → (result ≡ is_given plan.play (chess plan.goal R.rule) left
+        → (result ≡ is_emitted plan.play (chess plan.goal R.rule) left
         (position_after R.rule board.old by))
         × (board.new ≡ position_after R.rule board.old by)
         × (frames.new.items ≡ frames.old.items ++ opened_frame by (undo_of R.rule board.old by)
@@ -246,7 +246,7 @@ pub fn enter<R: Rules, const N: usize>(
         (position_after R.rule board.old by))
         ∷ []) }
     ensures counts { Counts R.rule plan (array_vec_len frames.old == 1) left
-        (position_after R.rule board.old by) history.old.opened history.new.opened }
+        (position_after R.rule board.old by) search_state.old.opened search_state.new.opened }
 {
     let root = frames.len() == 1;
     let undo = play::<R>(board, by);
@@ -256,29 +256,29 @@ pub fn enter<R: Rules, const N: usize>(
             battle,
             goal: plan.goal,
         };
-        if !value_after::<R, N>(aim, left, board, frames, history) {
+        if !value_after::<R, N>(aim, left, board, frames, search_state) {
             retract::<R>(board, by, undo);
             return false;
         }
     }
-    let tried = walk_length::<R, N>(plan, left, board, frames, history);
+    let tried = walk_length::<R, N>(plan, left, board, frames, search_state);
     frames.push(Frame {
         place: Moves::start(),
         by,
         undo,
         left: tried,
         order: Order::unordered(),
-        stretch: Stretch::Others,
+        move_stage: MoveStage::Others,
         known: None,
     });
-    history.opened = opened_after(history.opened, tried, tested.is_some());
-    is_given::<R>(plan, left, board)
+    search_state.opened = opened_after(search_state.opened, tried, tested.is_some());
+    is_emitted::<R>(plan, left, board)
 }
 
 /// Returns whether the search passes over moves to which no reply mates: in help play for mate with two
 /// half-moves left.
 #[tactic(auto, using(pop_battle::proofs::Boards::for_mate))]
-fn may_settle(plan: Plan, left: usize) -> bool
+fn may_pass_over(plan: Plan, left: usize) -> bool
     ensures { result ≡ true → (plan.play ≡ HelpPlay) × (plan.goal ≡ Mate) × (left ≡ 2) }
 {
     left == 2 && plan.play == Play::Help && is_for_mate(plan.goal)
@@ -288,7 +288,7 @@ fn may_settle(plan: Plan, left: usize) -> bool
 /// moves passed over to `opened`, each as the position that it would have reached.
 fn next_risky<R: Rules>(
     threats: &mut Threats,
-    known: &mut Option<LegalMoves<R>>,
+    known: &mut Option<LegalCursor<R>>,
     place: &mut Moves<R>,
     board: &mut Board,
     opened: &mut u64,
@@ -298,46 +298,46 @@ fn next_risky<R: Rules>(
     requires known { IfSome known.old (λ k. IsPlaceIn R.rule board.old k) }
     ensures unchanged { board.new ≡ board.old }
     ensures within { IfSome known.new (λ k. IsPlaceIn R.rule board.old k) }
-    ensures next { IsNextUnsettled R.rule board.old place.old place.new opened.old opened.new
+    ensures next { IsNextMatable R.rule board.old place.old place.new opened.old opened.new
         result }
 {
     if known.is_none() {
-        *known = Some(LegalMoves::<R>::of(board));
+        *known = Some(LegalCursor::<R>::of(board));
     }
     let Some(moves) = known else {
         return None;
     };
     moves.go_to(*place);
-    let sifted = moves.next_sifted(threats, board);
-    *opened = opened.saturating_add(u64::from(sifted.passed));
+    let filtered = moves.next_filtered(threats, board);
+    *opened = opened.saturating_add(u64::from(filtered.passed));
     *place = moves.place();
-    sifted.found
+    filtered.found
 }
 
 /// Returns the next move after `place` to which a reply may mate; without threats each move.
 #[tactic(auto, using(pop_battle::proofs::Passing::none_passed))]
-fn next_unsettled<R: Rules>(
-    known: &mut Option<LegalMoves<R>>,
+fn next_matable<R: Rules>(
+    known: &mut Option<LegalCursor<R>>,
     place: &mut Moves<R>,
     board: &mut Board,
-    history: &mut History<R>,
+    search_state: &mut SearchState<R>,
 ) -> Option<Move>
     requires well_formed { IsWellFormed board.old }
     requires known { IfSome known.old (λ k. IsPlaceIn R.rule board.old k) }
     ensures unchanged { board.new ≡ board.old }
     ensures within { IfSome known.new (λ k. IsPlaceIn R.rule board.old k) }
-    ensures next { IsNextUnsettled R.rule board.old place.old place.new history.old.opened
-        history.new.opened result }
+    ensures next { IsNextMatable R.rule board.old place.old place.new search_state.old.opened
+        search_state.new.opened result }
 {
     // For the proof: the count is below 2^64.
-    let _counted = history.opened;
+    let _counted = search_state.opened;
     if known.is_none() {
-        history.killers.renew_threats(board);
+        search_state.killers.renew_threats(board);
     } else {
-        history.killers.tell_threats(board);
+        search_state.killers.compute_threats(board);
     }
-    let opened = &mut history.opened;
-    match &mut history.killers.threats {
+    let opened = &mut search_state.opened;
+    match &mut search_state.killers.threats {
         Some(threats) => next_risky::<R>(threats, known, place, board, opened),
         None => next_move::<R>(known, place, board),
     }
@@ -349,17 +349,17 @@ fn next_unsettled<R: Rules>(
 fn next_of<R: Rules>(
     plan: Plan,
     left: usize,
-    known: &mut Option<LegalMoves<R>>,
+    known: &mut Option<LegalCursor<R>>,
     place: &mut Moves<R>,
     board: &mut Board,
-    history: &mut History<R>,
+    search_state: &mut SearchState<R>,
 ) -> Option<Move>
     requires well_formed { IsWellFormed board.old }
     requires known { IfSome known.old (λ k. IsPlaceIn R.rule board.old k) }
     ensures unchanged { board.new ≡ board.old }
     ensures within { IfSome known.new (λ k. IsPlaceIn R.rule board.old k) }
-    ensures next { IsNextOf R.rule plan left board.old place.old place.new history.old.opened
-        history.new.opened result }
+    ensures next { IsNextOf R.rule plan left board.old place.old place.new search_state.old.opened
+        search_state.new.opened result }
     ensures mated { IfSome result
         (λ m. IsMatedAtLast R.rule plan (left - 1) (position_after R.rule board.old m)) }
 {
@@ -369,8 +369,8 @@ fn next_of<R: Rules>(
     if ends_with_mate(plan, left) {
         return next_mate::<R>(place, board);
     }
-    if may_settle(plan, left) {
-        return next_unsettled::<R>(known, place, board, history);
+    if may_pass_over(plan, left) {
+        return next_matable::<R>(known, place, board, search_state);
     }
     next_move::<R>(known, place, board)
 }
@@ -402,7 +402,7 @@ fn next_of_top<R: Rules, const N: usize>(
     plan: Plan,
     board: &mut Board,
     frames: &mut ArrayVec<Frame<R>, N>,
-    history: &mut History<R>,
+    search_state: &mut SearchState<R>,
 ) -> Option<Move>
     requires well_formed { IsWellFormed board.old }
     requires open { 0 < array_vec_len frames.old }
@@ -410,7 +410,7 @@ fn next_of_top<R: Rules, const N: usize>(
         → IfSome top.known (λ k. IsPlaceIn R.rule board.old k) }
     ensures unchanged { board.new ≡ board.old }
     ensures top { MovesOn R.rule plan board.old frames.old.items frames.new.items
-        history.old.opened history.new.opened result }
+        search_state.old.opened search_state.new.opened result }
     ensures len { array_vec_len frames.new ≡ array_vec_len frames.old }
 {
     let last = frames.len() - 1;
@@ -421,7 +421,7 @@ fn next_of_top<R: Rules, const N: usize>(
         &mut top.known,
         &mut top.place,
         board,
-        history,
+        search_state,
     )
 }
 
@@ -433,7 +433,7 @@ pub(crate) fn step<R: Rules, const N: usize>(
     half_moves: usize,
     board: &mut Board,
     frames: &mut ArrayVec<Frame<R>, N>,
-    history: &mut History<R>,
+    search_state: &mut SearchState<R>,
 ) -> bool
     requires well_formed { IsWellFormed board.old }
     requires room { half_moves < N }
@@ -443,16 +443,16 @@ pub(crate) fn step<R: Rules, const N: usize>(
     ensures steps { (p : Position) → IsWalking R.rule half_moves p (reverse frames.old.items)
         board.old
         → Steps R.rule plan half_moves p (reverse frames.old.items) (reverse frames.new.items)
-        board.new history.old.opened history.new.opened result }
+        board.new search_state.old.opened search_state.new.opened result }
 {
     let depth = frames.len() - 1;
     let top = top_of(frames);
     let left = top.left;
-    let Some(by) = next_of_top::<R, N>(plan, board, frames, history) else {
+    let Some(by) = next_of_top::<R, N>(plan, board, frames, search_state) else {
         if let Some(top) = frames.pop() {
             step_back::<R>(depth, top, board);
         }
         return false;
     };
-    enter::<R, N>(plan, left - 1, by, board, frames, history)
+    enter::<R, N>(plan, left - 1, by, board, frames, search_state)
 }

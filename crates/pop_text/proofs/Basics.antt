@@ -15,8 +15,8 @@ pub use Rattle.pop_text.specs.declared.read_fault.ReadFault.TheVariants.{Device,
 pub use Rattle.pop_text.specs.declared.scanner.End.{End}
 pub use Rattle.pop_text.specs.declared.scanner.End.TheVariants.{Broken, Ended, Open}
 pub use Rattle.pop_text.specs.declared.text.Text.{Text}
-pub use Rattle.pop_text.specs.ties.Left.{GoesOn, IsOver, MayFollow, NextWord, RestOfLine, Takes, TakesNone, TakesWord, among, behind_word, found_by, found_of, onto_input, words_left}
+pub use Rattle.pop_text.specs.ties.Left.{Advances, IsOver, MayFollow, NextWord, RestOfLine, Takes, TakesNone, TakesWord, among, after_word, found_by, found_of, onto_input, words_left}
 pub use Rattle.pop_text.specs.ties.Plain.{ArePlain, IsPlain, RunsOut, Skips, is_named, is_plain}
-pub use Rattle.pop_text.specs.ties.Reading.{AreFirst, Asks, IsFront, IsView, Leads, Reading, Uses, UsesAll, failures_after}
-pub use Rattle.pop_text.specs.ties.Runs.{IsRunOver, Peeks, RunsTo, Stands, Sticks, UsesLine, UsesRun, UsesSolid, UsesWhole, UsesWord}
+pub use Rattle.pop_text.specs.ties.Reading.{AreFirst, CallsSource, IsFront, IsView, Leads, Reading, Uses, UsesAll, failures_after}
+pub use Rattle.pop_text.specs.ties.Runs.{IsRunOver, ComesNext, RunsTo, HoldsAfterWord, Sticks, UsesLine, UsesRun, UsesSolid, UsesWhole, UsesWord}
 pub use Rattle.pop_text.specs.ties.Texts.{IsPadded, padded_cells, with_byte}

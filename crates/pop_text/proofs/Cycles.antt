@@ -20,7 +20,7 @@ cycled_whole text = cycled_rest text text
 
 -- What a call returns.
 
-module _ (text rest back : List ℕ) (left count : ℕ) (behind : back ≡ drop count rest) where
+module _ (text rest back : List ℕ) (left count : ℕ) (following : back ≡ drop count rest) where
   -- a call returns the first bytes of those to come, and leaves the others
   pub gives : (given after : List ℕ) → count ≤ left → count ≤ length rest → given ≡ take count rest
       → cycled_bytes text rest left ≡ take count (given ++ after) ++ cycled_bytes text back (left - count)

@@ -1,5 +1,5 @@
 -- Which words used bytes take from the words still to come.
-use Rattle.pop_text.proofs.Basics.{Bool, Device, Err, Input, InputTooLong, IsOver, IsRunOver, List, Long, MayFollow, NextWord, None, Ok, Option, Peeks, ReadFault, Reading, RestOfLine, Result, Some, Stands, Tail, Takes, TakesNone, TakesWord, Text, TextLine, Token, TooLong, Uses, UsesAll, UsesLine, UsesRun, UsesWhole, UsesWord, Word, Words, [], among, ap, append-nil, append_assoc, arith, behind_word, cond, count_by, onto_input}
+use Rattle.pop_text.proofs.Basics.{Bool, Device, Err, Input, InputTooLong, IsOver, IsRunOver, List, Long, MayFollow, NextWord, None, Ok, Option, ComesNext, ReadFault, Reading, RestOfLine, Result, Some, HoldsAfterWord, Tail, Takes, TakesNone, TakesWord, Text, TextLine, Token, TooLong, Uses, UsesAll, UsesLine, UsesRun, UsesWhole, UsesWord, Word, Words, [], among, ap, append-nil, append_assoc, arith, after_word, cond, count_by, onto_input}
 use Rattle.pop_text.proofs.Basics.{drop, drop-append-add, drop-nil, false, inl, inr, is_cut, is_gap, is_in_line, is_in_word, is_line_end, is_short_form, is_text_word, length, length-append, length-map, limit, list_all, nat_eq, refl, starts_with, sum_by-append, tail_of, take, take-append-add, take-nil, tokens_from, true, words_by, words_left, ℕ, ◌&&◌, ◌++◌, ◌+◌, ◌-◌, ◌<◌, ◌∙◌, ◌∷◌, ◌≡◌, ◌≤◌}
 use Rattle.pop_text.specs.Words.{End as AtEnd, Broken as Failing}
 use Rattle.pop_text.proofs.WordLaws.{skip_gap, take_run, drop_run, take_line, take_last_line, run_tokens, RunEnds, with_view, with_gap, line_lines, solid_line}
@@ -49,7 +49,7 @@ module _ {old new : Reading} {had left : Option (List ℕ)} {used : List ℕ} (u
   -- used bytes take their tokens, whatever follows them
   pub takes : (tokens : List Token) → ((rest : Input) → MayFollow new.end rest
       → tokens_from b (is_cut (tail_at new rest)) old.line (used ++ view_at new rest) ≡ tokens ++ tokens_from c (is_cut (tail_at new rest)) new.line (view_at
-      new rest)) → Takes (record { behind = b; at = old }) (record { behind = c; at = new }) had left tokens
+      new rest)) → Takes (record { following = b; at = old }) (record { following = c; at = new }) had left tokens
   takes tokens say = record {
     bytes = u.taken;
     taken = u.consumed;
@@ -75,10 +75,10 @@ fault_tail (TooLong line) = Long
 fault_tail (InputTooLong line) = Long
 fault_tail (Device line) = Failing
 
-stops_at_end : (place : Reading) → Peeks place (Ok None) → Stops place AtEnd
+stops_at_end : (place : Reading) → ComesNext place (Ok None) → Stops place AtEnd
 stops_at_end place at = grind arith
 
-stops_at_fault : (fault : ReadFault) (place : Reading) → Peeks place (Err fault) → Stops place (fault_tail fault)
+stops_at_fault : (fault : ReadFault) (place : Reading) → ComesNext place (Err fault) → Stops place (fault_tail fault)
 stops_at_fault (TooLong line) place at = absurd at
 stops_at_fault (InputTooLong line) place at = λ rest may. full_view (limit - place.used) place.window rest (omega (arith, at.1)) at.0
 stops_at_fault (Device line) place at = grind (arith, take-nil, drop-nil)
@@ -104,8 +104,8 @@ gap_takes : {old new : Reading} {had left : Option (List ℕ)} → UsesAll is_ga
 gap_takes {old} {new} p within = grind (arith, takes p.uses within None None, skip_gap)
 
 -- if a fault comes next, no word is taken and none is left
-none_left : {old new : Reading} {had left : Option (List ℕ)} (b : Option (List ℕ)) (fault : ReadFault) → Peeks new (Err fault) → old.used ≤ new.used
-    → Takes (record { behind = b; at = old }) (among new) had left [] → TakesNone (record { behind = b; at = old }) new had left fault
+none_left : {old new : Reading} {had left : Option (List ℕ)} (b : Option (List ℕ)) (fault : ReadFault) → ComesNext new (Err fault) → old.used ≤ new.used
+    → Takes (record { following = b; at = old }) (among new) had left [] → TakesNone (record { following = b; at = old }) new had left fault
 none_left = grind (arith, over, stops_at_fault)
 
 module _ {old new : Reading} {had left : Option (List ℕ)} {number : ℕ} (run : List ℕ) (p : UsesRun old new had left number run) where
@@ -113,7 +113,7 @@ module _ {old new : Reading} {had left : Option (List ℕ)} {number : ℕ} (run 
   number_is = omega (arith, p.line, p.uses.line, count_then old.line p.gap run, line_lines run (solid_line run p.solid))
 
   -- a run that a fault cuts is no word
-  cut_takes : (fault : ReadFault) → Peeks new (Err fault) → TakesNone (among old) new had left fault
+  cut_takes : (fault : ReadFault) → ComesNext new (Err fault) → TakesNone (among old) new had left fault
   cut_takes fault at = none_left None fault at (grind arith) (takes p.uses (grind arith) None None [] (λ rest may.
       grind (arith, stops_at_fault, append-nil, skip_gap, drop_run)))
 
@@ -128,7 +128,7 @@ module _ {old new : Reading} {had left : Option (List ℕ)} {number : ℕ} (run 
   word_takes false is some over = rw number_is (takes p.uses (grind arith) None None (Word new.line run ∷ []) (over_said false is some over))
 
 -- which word is taken, by the bytes used and the state after them
-pub next_of : (old new : Reading) (had left : Option (List ℕ)) (result : Result (Option Read) ReadFault) → UsesWord old new had left result → Stands new result
+pub next_of : (old new : Reading) (had left : Option (List ℕ)) (result : Result (Option Read) ReadFault) → UsesWord old new had left result → HoldsAfterWord new result
     → NextWord old new had left result
 next_of old new had left (Ok None) p at = (gap_takes p.0 at.2, over new AtEnd (stops_at_end new at), (omega (arith, p.0.uses.used), at.2))
 next_of old new had left (Ok (Some word)) p some = grind (arith, word_takes, length-append)
@@ -141,7 +141,7 @@ next_of old new had left (Err (Device line)) p at = cut_takes p.0 p.1 (Device li
 -- Text lines.
 
 line_takes : {old new : Reading} {had left : Option (List ℕ)} (keyword line : List ℕ) → list_all is_in_line line ≡ true → UsesWhole old new had left line
-    → new.used ≤ limit → Takes (behind_word keyword old) (among new) had left (TextLine old.line keyword line ∷ [])
+    → new.used ≤ limit → Takes (after_word keyword old) (among new) had left (TextLine old.line keyword line ∷ [])
 line_takes {old} {new} keyword line plain (inl u) within =
     let next : old.line + 1 ≡ new.line = grind (arith, u.line, count_then old.line line (10 ∷ []), line_lines) in
     takes u within (Some keyword) None (TextLine old.line keyword line ∷ []) (grind (arith, append_assoc, take_line))
@@ -155,6 +155,6 @@ line_of old new had left keyword text (line, plain, is, whole) within = (line, l
 
 -- if a fault cuts a text line, no word is taken and none is left
 pub line_cut : {old new : Reading} {had left : Option (List ℕ)} (keyword : List ℕ) (fault : ReadFault) → UsesAll is_in_line old new had left
-    → Peeks new (Err fault) → RestOfLine keyword old new had left (Err fault)
+    → ComesNext new (Err fault) → RestOfLine keyword old new had left (Err fault)
 line_cut {old} {new} keyword fault p at = none_left (Some keyword) fault at (omega (arith, p.uses.used))
     (takes p.uses (grind arith) (Some keyword) None [] (grind (arith, stops_at_fault, append-nil, take_last_line)))

@@ -33,22 +33,22 @@ plain_no_closing word h = grind (arith, or_parts, no_front)
 
 -- without bytes there are no words, so all are plain
 pub none_plain : IsPlain []
-none_plain = record { tokens = λ line. []; plain = λ line. refl; words = λ cut line behind ends. let same : line + 0 ≡ line = omega arith in rw same refl }
+none_plain = record { tokens = λ line. []; plain = λ line. refl; words = λ cut line following ends. let same : line + 0 ≡ line = omega arith in rw same refl }
 
 -- a run after bytes begins after a gap, or there are no bytes
-runs_start : (bytes gap word rest behind : List ℕ) → list_all is_gap gap ≡ true → list_all is_in_word word ≡ true → 0 < length word
-    → RunsOut bytes ((gap ++ word) ++ rest) → (bytes ≡ []) ⊎ ((c : ℕ) × (more : List ℕ) × ((gap ++ word) ++ behind ≡ c ∷ more) × (is_gap c ≡ true))
-runs_start bytes [] [] rest behind g w some out = absurd (omega arith)
-runs_start bytes [] (b ∷ word) rest behind g w some h = grind (arith, gap_or_word, all_parts)
-runs_start bytes (c ∷ gap) word rest behind g w some out = inr (c, (gap ++ word) ++ behind, refl, (all_parts is_gap c gap g).0)
+runs_start : (bytes gap word rest following : List ℕ) → list_all is_gap gap ≡ true → list_all is_in_word word ≡ true → 0 < length word
+    → RunsOut bytes ((gap ++ word) ++ rest) → (bytes ≡ []) ⊎ ((c : ℕ) × (more : List ℕ) × ((gap ++ word) ++ following ≡ c ∷ more) × (is_gap c ≡ true))
+runs_start bytes [] [] rest following g w some out = absurd (omega arith)
+runs_start bytes [] (b ∷ word) rest following g w some h = grind (arith, gap_or_word, all_parts)
+runs_start bytes (c ∷ gap) word rest following g w some out = inr (c, (gap ++ word) ++ following, refl, (all_parts is_gap c gap g).0)
 
 module _ (bytes gap word : List ℕ) (some : 0 < length word) (blank : list_all is_gap gap ≡ true) (solid : list_all is_in_word word ≡ true)
     (plain : is_named word ≡ false) where
   abbrev piece : List ℕ
   piece = gap ++ word
 
-  ends_by : (cut : Bool) (behind : List ℕ) → (bytes ++ piece ≡ []) ⊎ ((c : ℕ) × (more : List ℕ) × (behind ≡ c ∷ more) × (is_gap c ≡ true)) → RunEnds cut behind
-  ends_by cut behind h = grind (arith, length-append bytes piece, length-append gap word, with_gap)
+  ends_by : (cut : Bool) (following : List ℕ) → (bytes ++ piece ≡ []) ⊎ ((c : ℕ) × (more : List ℕ) × (following ≡ c ∷ more) × (is_gap c ≡ true)) → RunEnds cut following
+  ends_by cut following h = grind (arith, length-append bytes piece, length-append gap word, with_gap)
 
   lines_are : (line : ℕ) → (line + count_by is_line_end bytes) + count_by is_line_end gap ≡ line + count_by is_line_end (bytes ++ piece)
   lines_are line = omega (arith, count_then line bytes piece, count_then (line + count_by is_line_end bytes) gap word, line_lines word (solid_line word solid))
@@ -57,56 +57,56 @@ module _ (bytes gap word : List ℕ) (some : 0 < length word) (blank : list_all 
   plain_more rest p out = record {
     tokens = λ line. p.tokens line ++ Word ((line + count_by is_line_end bytes) + count_by is_line_end gap) word ∷ [];
     plain = λ line. list_all-append is_plain (p.tokens line) _ ∙ rw (p.plain line, plain) refl;
-    words = λ cut line behind ends.
+    words = λ cut line following ends.
         let next : ℕ = line + count_by is_line_end bytes in
         grind (
           arith,
-          append_assoc bytes piece behind,
-          p.words cut line (piece ++ behind) (runs_start bytes gap word rest behind blank solid some out),
-          run_said cut next gap word behind blank solid some (ends_by cut behind ends),
+          append_assoc bytes piece following,
+          p.words cut line (piece ++ following) (runs_start bytes gap word rest following blank solid some out),
+          run_said cut next gap word following blank solid some (ends_by cut following ends),
           plain_no_text word plain,
           lines_are line,
-          append_assoc (p.tokens line) (Word (next + count_by is_line_end gap) word ∷ []) (tokens_from None cut (next + count_by is_line_end gap) behind),
+          append_assoc (p.tokens line) (Word (next + count_by is_line_end gap) word ∷ []) (tokens_from None cut (next + count_by is_line_end gap) following),
         );
   }
 
 -- A step over a view: after the first k bytes, a gap of g bytes and a run of r bytes.
 
 -- if no byte is taken, no run is cut
-pub none_out : (behind : List ℕ) → RunsOut [] behind
-none_out behind = grind arith
+pub none_out : (following : List ℕ) → RunsOut [] following
+none_out following = grind arith
 
-module _ (view left behind : List ℕ) (k g r lines more : ℕ) (at_left : left ≡ drop k view) (at_behind : behind ≡ drop g left) (some : r ≡ 0 → ⊥)
-    (short : r ≡ length behind → ⊥) (few : g ≤ length left) (fits : r ≤ length behind) where
+module _ (view left following : List ℕ) (k g r lines more : ℕ) (at_left : left ≡ drop k view) (at_after : following ≡ drop g left) (some : r ≡ 0 → ⊥)
+    (short : r ≡ length following → ⊥) (few : g ≤ length left) (fits : r ≤ length following) where
   word : List ℕ
-  word = take r behind
+  word = take r following
 
-  pieces : take (k + (g + r)) view ≡ take k view ++ (take g left ++ take r behind)
+  pieces : take (k + (g + r)) view ≡ take k view ++ (take g left ++ take r following)
   pieces = grind (arith, take-add)
 
-  rest_is : drop (k + (g + r)) view ≡ drop r behind
+  rest_is : drop (k + (g + r)) view ≡ drop r following
   rest_is = grind (arith, drop-drop (g + r) k view, drop-drop r g left)
 
-  parts : drop k view ≡ (take g left ++ take r behind) ++ drop r behind
-  parts = grind (arith, take-append-drop g left, take-append-drop r behind, append_assoc (take g left) (take r behind) (drop r behind))
+  parts : drop k view ≡ (take g left ++ take r following) ++ drop r following
+  parts = grind (arith, take-append-drop g left, take-append-drop r following, append_assoc (take g left) (take r following) (drop r following))
 
-  less : r < length behind
+  less : r < length following
   less = omega (arith, short, fits)
 
   -- after plain words, a gap and one more plain word
-  pub step_more : list_all is_gap (take g left) ≡ true → list_all is_in_word (take r behind) ≡ true → (r < length behind → is_gap (get_or behind r 0) ≡ true)
-      → is_named (take r behind) ≡ false → more ≡ count_by is_line_end (take g left) → ArePlain view k lines → ArePlain view (k + (g + r)) (lines + more)
+  pub step_more : list_all is_gap (take g left) ≡ true → list_all is_in_word (take r following) ≡ true → (r < length following → is_gap (get_or following r 0) ≡ true)
+      → is_named (take r following) ≡ false → more ≡ count_by is_line_end (take g left) → ArePlain view k lines → ArePlain view (k + (g + r)) (lines + more)
   step_more blank solid over plain are s =
-      let size : length (take r behind) ≡ r = omega (arith, length-take r behind, fits) in record {
-        within = let at = s.within in omega (arith, at, ap length at_left, length-drop k view, ap length at_behind, length-drop g left, few, fits);
+      let size : length (take r following) ≡ r = omega (arith, length-take r following, fits) in record {
+        within = let at = s.within in omega (arith, at, ap length at_left, length-drop k view, ap length at_after, length-drop g left, few, fits);
         plain = rw pieces (grind (arith, plain_more, parts));
         over = rw rest_is (grind (arith, less, length-drop, drop_more));
         lines = let n = s.lines in rw pieces (grind (
           arith,
-          count_then 0 (take k view) (take g left ++ take r behind),
-          count_then 0 (take g left) (take r behind),
-          line_lines (take r behind) (solid_line (take r behind) solid),
-          solid_line (take r behind) solid,
+          count_then 0 (take k view) (take g left ++ take r following),
+          count_then 0 (take g left) (take r following),
+          line_lines (take r following) (solid_line (take r following) solid),
+          solid_line (take r following) solid,
         ));
       }
 
@@ -144,8 +144,8 @@ module _ (old new : Reading) (bytes out : List ℕ) (uses : (had : Option (List 
   }
 
 -- what follows a prefix of a view
-pub behind_view : (view window : List ℕ) (room k : ℕ) → view ≡ take room window → k ≤ room → drop k view ≡ take (room - k) (drop k window)
-behind_view view window room k is few = let parts : room ≡ k + (room - k) = omega arith in grind (arith, drop-take k (room - k) window)
+pub after_view : (view window : List ℕ) (room k : ℕ) → view ≡ take room window → k ≤ room → drop k view ≡ take (room - k) (drop k window)
+after_view view window room k is few = let parts : room ≡ k + (room - k) = omega arith in grind (arith, drop-take k (room - k) window)
 
 -- if no byte is used, no word is taken
 pub takes_none : (place : Reading) (had : Option (List ℕ)) → Takes (among place) (among place) had had []

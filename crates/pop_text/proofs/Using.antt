@@ -1,5 +1,5 @@
 -- Bytes used one after another.
-use Rattle.pop_text.proofs.Basics.{Asks, Bool, Consumes, Device, End, Err, InputTooLong, IsRunOver, List, Ok, Open, Option, Peeks, ReadFault, Reading, Result, RunsTo, Stands, Sticks, TooLong, Uses, UsesAll, UsesRun, UsesSolid, UsesWord, [], ap, append-nil, append_assoc, arith, cases_lt, eqb-true, failures_after, false, found_by, found_of}
+use Rattle.pop_text.proofs.Basics.{CallsSource, Bool, Consumes, Device, End, Err, InputTooLong, IsRunOver, List, Ok, Open, Option, ComesNext, ReadFault, Reading, Result, RunsTo, HoldsAfterWord, Sticks, TooLong, Uses, UsesAll, UsesRun, UsesSolid, UsesWord, [], ap, append-nil, append_assoc, arith, cases_lt, eqb-true, failures_after, false, found_by, found_of}
 use Rattle.pop_text.proofs.Basics.{inl, inr, is_gap, is_in_word, is_line_end, le-ltb, length, length-append, length-take, list_all, list_all-append, ltb-false, ltb-true, nat_lt, refl, subst, sum_by-append, sym, take, take-append-add, take-append-le, take_all, true, ℕ, ◌++◌, ◌+◌, ◌<◌, ◌∙◌, ◌∷◌, ◌≡◌, ◌⊎◌}
 use Rattle.pop_text.specs.declared.word.Word.{Word as Read}
 use Rattle.pop_text.proofs.WordLaws.{line_lines, solid_line}
@@ -72,12 +72,12 @@ pub failures_then : (a b c : End) (n m k : ℕ) → a ≡ Open ⊎ b ≡ a → b
 failures_then a b c n m k p q e f = grind arith
 
 -- a source that isn't called doesn't fail
-pub asks_none : (end : End) (had : Option (List ℕ)) (n : ℕ) → Asks end end had had n n
-asks_none end had n = grind arith
+pub calls_none : (end : End) (had : Option (List ℕ)) (n : ℕ) → CallsSource end end had had n n
+calls_none end had n = grind arith
 
 -- the calls of a source in two steps
-pub asks_then : {a b c : End} {had mid left : Option (List ℕ)} {n m k : ℕ} → Asks a b had mid n m → Asks b c mid left m k → Asks a c had left n k
-asks_then p q = grind arith
+pub calls_then : {a b c : End} {had mid left : Option (List ℕ)} {n m k : ℕ} → CallsSource a b had mid n m → CallsSource b c mid left m k → CallsSource a c had left n k
+calls_then p q = grind arith
 
 -- Runs.
 
@@ -126,18 +126,18 @@ found_uses old mid new had met left word (Err (Device number)) p line (run, q, a
 
 -- the word has a byte if the run's first byte is in no gap
 pub found_stands : (mid new : Reading) (met left : Option (List ℕ)) (word : Read) (run : Result Bool ReadFault) (b : ℕ) (rest : List ℕ)
-    → RunsTo mid new met left word.bytes.items run → mid.window ≡ b ∷ rest → is_gap b ≡ false → Stands new (found_by word (found_of run word.line))
+    → RunsTo mid new met left word.bytes.items run → mid.window ≡ b ∷ rest → is_gap b ≡ false → HoldsAfterWord new (found_by word (found_of run word.line))
 found_stands mid new met left word run b rest p at out = grind (arith, first_byte)
 
 -- a gap up to a fault
-pub uses_cut : (old new : Reading) (had left : Option (List ℕ)) (fault : ReadFault) → UsesAll is_gap old new had left → Peeks new
+pub uses_cut : (old new : Reading) (had left : Option (List ℕ)) (fault : ReadFault) → UsesAll is_gap old new had left → ComesNext new
     (Err fault) → UsesWord old new had left (Err fault)
 unfolding no_run
 uses_cut old new had left fault p at = found_uses old new new had left left (record { bytes = record { items = [] }; line = new.line }) (Err fault) p refl
     ([], record { solid = refl; uses = (no_run is_gap new left).uses }, at)
 
 -- a fault that comes next is found again by every later call
-pub fault_sticks : (fault : ReadFault) (place : Reading) → Peeks place (Err fault) → Sticks place fault
+pub fault_sticks : (fault : ReadFault) (place : Reading) → ComesNext place (Err fault) → Sticks place fault
 fault_sticks fault place at = grind arith
 
 -- a line, and the line end after it
@@ -146,5 +146,5 @@ pub line_ends : {old here new : Reading} {had left : Option (List ℕ)} {line : 
 line_ends = grind (arith, eqb-true, uses_then)
 
 -- a fault in a state is a fault in an equal state
-pub still_stuck : (a b : Reading) (fault : ReadFault) → b ≡ a → Peeks a (Err fault) → Peeks b (Err fault)
-still_stuck a b fault same at = subst (λ place. Peeks place (Err fault)) (sym same) at
+pub still_stuck : (a b : Reading) (fault : ReadFault) → b ≡ a → ComesNext a (Err fault) → ComesNext b (Err fault)
+still_stuck a b fault same at = subst (λ place. ComesNext place (Err fault)) (sym same) at

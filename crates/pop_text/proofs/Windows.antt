@@ -1,5 +1,5 @@
 -- The window: a slice of an array of bytes.
-use Rattle.pop_text.proofs.Basics.{Bool, End, IsFront, IsView, Leads, List, Ok, Option, Peeks, Reading, Some, Uses, [], append-nil, arith, count_by, drop, drop-drop, drop-take, drop_more, get_or, is_in_line, is_line_end, le-ltb, length, length-drop, length-take, length-take-le, limit, list_all, refl, slice_index, slice_range, suc, take, take-append-drop, take-take, true, with_byte, zero, ℕ, ◌+◌, ◌-◌, ◌<◌, ◌==◌, ◌∷◌, ◌≡◌, ◌≤◌}
+use Rattle.pop_text.proofs.Basics.{Bool, End, IsFront, IsView, Leads, List, Ok, Option, ComesNext, Reading, Some, Uses, [], append-nil, arith, count_by, drop, drop-drop, drop-take, drop_more, get_or, is_in_line, is_line_end, le-ltb, length, length-drop, length-take, length-take-le, limit, list_all, refl, slice_index, slice_range, suc, take, take-append-drop, take-take, true, with_byte, zero, ℕ, ◌+◌, ◌-◌, ◌<◌, ◌==◌, ◌∷◌, ◌≡◌, ◌≤◌}
 use Rattle.pop_text.proofs.Using.{keeps_bytes}
 use Rattle.pop_text.proofs.WordLaws.{line_lines}
 
@@ -18,7 +18,7 @@ module _ (cells : List ℕ) (start stop : ℕ) (within : stop ≤ length cells) 
   reading from used line end = record { window = slice_range cells from stop; used = used; line = line; end = end }
 
   -- the first byte of the window is the next byte
-  pub front_peeks : (used line : ℕ) (end : End) → start < stop → used < limit → Peeks (reading start used line end) (Ok (Some (get_or cells start 0)))
+  pub front_peeks : (used line : ℕ) (end : End) → start < stop → used < limit → ComesNext (reading start used line end) (Ok (Some (get_or cells start 0)))
   front_peeks used line end some room = (slice_range cells (start + 1) stop, window_front cells start stop some within, room)
 
   -- the first bytes of the window are used, and their lines counted
@@ -56,15 +56,15 @@ pub front_is : {now : Reading} {view : List ℕ} {count : ℕ} (test : ℕ → B
 front_is {now} {view} {count} test is p plain = grind (arith, length-take-le count view p.within, view_within is p.within, line_lines, view_some)
 
 -- bytes before the first line end
-pub plain_front : (view : List ℕ) (count : ℕ) → count ≤ length view → ((k : ℕ) → k < count → (slice_index view k == 10) ≡ true → ⊥)
+pub plain_prefix : (view : List ℕ) (count : ℕ) → count ≤ length view → ((k : ℕ) → k < count → (slice_index view k == 10) ≡ true → ⊥)
     → list_all is_in_line (take count view) ≡ true
-plain_front view zero within none = refl
-plain_front [] (suc count) within none = absurd (omega arith)
-plain_front (b ∷ view) (suc count) within none = grind (arith, none 0, plain_front view count (omega arith) (λ k lt. none (suc k) (omega arith)))
+plain_prefix view zero within none = refl
+plain_prefix [] (suc count) within none = absurd (omega arith)
+plain_prefix (b ∷ view) (suc count) within none = grind (arith, none 0, plain_prefix view count (omega arith) (λ k lt. none (suc k) (omega arith)))
 
 -- a view without a line end is part of one line
 pub plain_all : (view : List ℕ) → ((k : ℕ) → k < length view → (slice_index view k == 10) ≡ true → ⊥) → list_all is_in_line (take (length view) view) ≡ true
-plain_all view none = plain_front view (length view) (omega arith) none
+plain_all view none = plain_prefix view (length view) (omega arith) none
 
 -- a full text takes no more
 pub full_stays : (kept : List ℕ) (byte : ℕ) → length kept ≡ 200 → with_byte 200 kept byte ≡ kept

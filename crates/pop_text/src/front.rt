@@ -15,7 +15,7 @@ const BLOCK: usize = 32;
 
 /// A prefix of a view.
 #[derive(Clone, Copy)]
-pub struct Front {
+pub struct Prefix {
     /// The number of bytes.
     pub count: usize,
     /// The number of line ends among the bytes.
@@ -24,7 +24,7 @@ pub struct Front {
 
 // Returns blanks and line ends at the front: the first `NEAR` bytes, then whole blocks. May stop before the gap ends.
 #[inline(always)]
-pub(crate) fn gap_front(view: &[u8]) -> Front
+pub(crate) fn gap_prefix(view: &[u8]) -> Prefix
     ensures first { AreFirst is_gap view.now result.count result.line_ends }
     ensures some { (b : ℕ) → (rest : List ℕ) → view.now ≡ b ∷ rest → is_gap b ≡ true
         → 0 < result.count }
@@ -38,20 +38,20 @@ pub(crate) fn gap_front(view: &[u8]) -> Front
 }
 
 // Adds two prefixes, the second of which comes after the first.
-fn both(near: Front, far: Front) -> Front
+fn both(near: Prefix, far: Prefix) -> Prefix
     requires bytes { near.count + far.count < 2 ^ 63 }
     requires line_ends { near.line_ends + far.line_ends < 2 ^ 63 }
     ensures count { result.count ≡ near.count + far.count }
     ensures line_ends { result.line_ends ≡ near.line_ends + far.line_ends }
 {
-    Front {
+    Prefix {
         count: near.count + far.count,
         line_ends: near.line_ends + far.line_ends,
     }
 }
 
 // Returns the blanks and line ends among the first `NEAR` bytes, up to another byte.
-fn near_gap(view: &[u8]) -> Front
+fn near_gap(view: &[u8]) -> Prefix
     ensures first { AreFirst is_gap view.now result.count result.line_ends }
     ensures some { (b : ℕ) → (rest : List ℕ) → view.now ≡ b ∷ rest → is_gap b ≡ true
         → 0 < result.count }
@@ -59,13 +59,13 @@ fn near_gap(view: &[u8]) -> Front
     let mut line_ends = 0;
     for (count, &byte) in view.iter().enumerate() {
         if count == NEAR || !in_gap(byte) {
-            return Front { count, line_ends };
+            return Prefix { count, line_ends };
         }
         if byte == b'\n' {
             line_ends += 1;
         }
     }
-    Front {
+    Prefix {
         count: view.len(),
         line_ends,
     }
@@ -73,10 +73,10 @@ fn near_gap(view: &[u8]) -> Front
 
 // Returns the whole blocks of blanks and line ends at the front. Out of line: long gaps are rare.
 #[inline(never)]
-fn gap_blocks(view: &[u8]) -> Front
+fn gap_blocks(view: &[u8]) -> Prefix
     ensures { AreFirst is_gap view.now result.count result.line_ends }
 {
-    let mut blocks = Front {
+    let mut blocks = Prefix {
         count: 0,
         line_ends: 0,
     };
@@ -178,22 +178,22 @@ fn are_in_run(block: &[u8]) -> bool
 }
 
 // Returns the plain words at the front, with the gaps before them. A gap follows each of the words.
-pub(crate) fn plain_front(view: &[u8]) -> Front
+pub(crate) fn plain_prefix(view: &[u8]) -> Prefix
     ensures { ArePlain view.now result.count result.line_ends }
 {
-    let mut plain = Front {
+    let mut plain = Prefix {
         count: 0,
         line_ends: 0,
     };
     while plain.count < view.len() {
         let left = &view[plain.count..];
-        let gap = gap_front(left);
-        let behind = &left[gap.count..];
-        let run = run_front(behind);
-        if !says_nothing(behind, run) {
+        let gap = gap_prefix(left);
+        let following = &left[gap.count..];
+        let run = run_front(following);
+        if !says_nothing(following, run) {
             return plain;
         }
-        let more = Front {
+        let more = Prefix {
             count: gap.count + run,
             line_ends: gap.line_ends,
         };

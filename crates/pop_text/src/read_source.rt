@@ -1,7 +1,7 @@
 //! Readers of the standard library as sources.
 ghost use Rattle.std.specs.Prelude.{◌≡◌, ℕ, List, ◌<◌, ◌+◌, ◌^◌, ◌-◌, Option, IfOk, IsOk, IsErr, OnErr};
 ghost use Rattle.std.specs.Io.{ReadsAtMost};
-ghost use Rattle.pop_text.specs.Bytes.{Keeps, Consumes, ReadConsumes, TellsRead, count_after, greatest_count};
+ghost use Rattle.pop_text.specs.Bytes.{Keeps, Consumes, ReadConsumes, PassesOnRead, count_after, greatest_count};
 
 use crate::source::{Device, Source};
 use std::io;
@@ -30,7 +30,7 @@ impl<R: Read + Drop> ReadSource<R> {
     // Turns the reader's result into the source's, and counts a failure.
     fn result_of(&mut self, answer: io::Result<usize>) -> Result<usize, Device>
         requires { self.old.failures < greatest_count }
-        ensures answer { TellsRead answer result }
+        ensures answer { PassesOnRead answer result }
         ensures counted { self.new.failures ≡ count_after result self.old.failures }
         ensures reader { self.new.reader ≡ self.old.reader }
     {

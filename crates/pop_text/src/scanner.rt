@@ -3,16 +3,16 @@ ghost use Rattle.std.specs.Prelude.{◌≡◌, ◌<◌, ◌+◌, ◌-◌, ◌^�
 ghost use Rattle.pop_text.specs.Bytes.{greatest_count};
 ghost use Rattle.std.specs.List.{list_all};
 ghost use Rattle.pop_text.specs.Words.{limit, is_gap, is_in_line, is_in_word, is_line_end};
-ghost use Rattle.pop_text.specs.ties.Reading.{first_reading, AreFirst, IsView, Leads, Asks, IsFront, Uses, UsesAll, IsSeen, failures_after};
-ghost use Rattle.pop_text.specs.ties.Runs.{Peeks, RunsTo, Sticks, UsesLine, UsesWord};
+ghost use Rattle.pop_text.specs.ties.Reading.{first_reading, AreFirst, IsView, Leads, CallsSource, IsFront, Uses, UsesAll, IsEndSeen, failures_after};
+ghost use Rattle.pop_text.specs.ties.Runs.{ComesNext, RunsTo, Sticks, UsesLine, UsesWord};
 ghost use Rattle.pop_text.specs.ties.Plain.{ArePlain, Skips, is_named, is_named_front};
 ghost use Rattle.pop_text.specs.ties.Left.{NextWord, RestOfLine, found_by, found_of};
 ghost use Rattle.pop_text.specs.declared.read_fault.ReadFault.{ReadFault};
 
-use crate::front::{gap_front, in_gap, line_front, plain_front, run_length};
+use crate::front::{gap_prefix, in_gap, line_front, plain_prefix, run_length};
 use crate::read_fault::ReadFault;
 use crate::source::Source;
-use crate::text::{Text, keep_all};
+use crate::text::{Text, extend_kept};
 use crate::word::Word;
 use arrayvec::ArrayVec;
 use std::marker::Model;
@@ -100,7 +100,7 @@ impl Scanner {
         ensures uses { Uses self.old self.new (S.remaining source.old) (S.remaining source.new) [] }
         ensures known { self.new.window ≡ [] → self.new.end ≢ End.Open }
         ensures waits { length self.new.window ≤ 4096 }
-        ensures asks { Asks self.old.end self.new.end (S.remaining source.old)
+        ensures calls_source { CallsSource self.old.end self.new.end (S.remaining source.old)
             (S.remaining source.new) (S.failures source.old) (S.failures source.new) }
         ensures kept { self.old.end ≢ End.Open ⊎ 0 < length self.old.window → self.new ≡ self.old }
     {
@@ -124,11 +124,11 @@ impl Scanner {
     fn peek<S: Source>(&mut self, source: &mut S) -> Result<Option<u8>, ReadFault>
         requires { self.old.end ≡ End.Open → S.failures source.old < greatest_count }
         ensures uses { Uses self.old self.new (S.remaining source.old) (S.remaining source.new) [] }
-        ensures at { Peeks self.new result }
+        ensures at { ComesNext self.new result }
         ensures waits { length self.new.window ≤ 4096 }
-        ensures asks { Asks self.old.end self.new.end (S.remaining source.old)
+        ensures calls_source { CallsSource self.old.end self.new.end (S.remaining source.old)
             (S.remaining source.new) (S.failures source.old) (S.failures source.new) }
-        ensures stuck { (fault : ReadFault) → Peeks self.old (Err fault)
+        ensures stuck { (fault : ReadFault) → ComesNext self.old (Err fault)
             → (result ≡ Err fault) × (self.new ≡ self.old) }
     {
         self.refill(source);
@@ -158,7 +158,7 @@ impl Scanner {
     {
         self.start += count;
         self.used += count as u32;
-        self.line = line_behind(self.line, line_ends);
+        self.line = line_after(self.line, line_ends);
     }
 
     // Returns how many bytes may still be used.
@@ -205,7 +205,7 @@ impl Scanner {
         ensures some { (b : ℕ) → (rest : List ℕ) → self.old.window ≡ b ∷ rest → is_gap b ≡ true
             → self.old.used < limit → self.old.used < self.new.used }
     {
-        let gap = gap_front(self.view());
+        let gap = gap_prefix(self.view());
         self.advance(gap.count, gap.line_ends);
     }
 
@@ -214,12 +214,12 @@ impl Scanner {
         requires { self.old.end ≡ End.Open → S.failures source.old < greatest_count }
         ensures uses { UsesAll is_gap self.old self.new (S.remaining source.old)
             (S.remaining source.new) }
-        ensures at { Peeks self.new result }
+        ensures at { ComesNext self.new result }
         ensures other { IfOk result (λ o. IfSome o (λ b. is_gap b ≡ false)) }
         ensures waits { length self.new.window ≤ 4096 }
-        ensures asks { Asks self.old.end self.new.end (S.remaining source.old)
+        ensures calls_source { CallsSource self.old.end self.new.end (S.remaining source.old)
             (S.remaining source.new) (S.failures source.old) (S.failures source.new) }
-        ensures stuck { (fault : ReadFault) → Peeks self.old (Err fault)
+        ensures stuck { (fault : ReadFault) → ComesNext self.old (Err fault)
             → (result ≡ Err fault) × (self.new ≡ self.old) }
     {
         loop {
@@ -241,7 +241,7 @@ impl Scanner {
         ensures run { RunsTo self.old self.new (S.remaining source.old) (S.remaining source.new)
             word.new.items result }
         ensures waits { length self.new.window ≤ 4096 }
-        ensures asks { Asks self.old.end self.new.end (S.remaining source.old)
+        ensures calls_source { CallsSource self.old.end self.new.end (S.remaining source.old)
             (S.remaining source.new) (S.failures source.old) (S.failures source.new) }
     {
         let mut fits = true;
@@ -250,7 +250,7 @@ impl Scanner {
                 Some(byte) if !in_gap(byte) => {
                     let part = self.run_part(!fits);
                     let more = part.len();
-                    fits = keep_run(word, part);
+                    fits = extend_word(word, part);
                     self.advance(more, 0);
                 }
                 _ => return Ok(fits),
@@ -262,7 +262,7 @@ impl Scanner {
     pub fn skip_plain(&mut self)
         ensures { Skips self.old self.new }
     {
-        let plain = plain_front(self.view());
+        let plain = plain_prefix(self.view());
         self.advance(plain.count, plain.line_ends);
     }
 
@@ -280,12 +280,12 @@ impl Scanner {
             result }
         ensures sticks { IfErr result (Sticks self.new) }
         ensures waits { length self.new.window ≤ 4096 }
-        ensures seen { IsSeen self.old.end (S.remaining source.old)
-            → IsSeen self.new.end (S.remaining source.new) }
+        ensures seen { IsEndSeen self.old.end (S.remaining source.old)
+            → IsEndSeen self.new.end (S.remaining source.new) }
         ensures ends { self.old.end ≡ End.Open ⊎ self.new.end ≡ self.old.end }
         ensures counted { S.failures source.new
             ≡ failures_after self.old.end self.new.end (S.failures source.old) }
-        ensures stuck { (fault : ReadFault) → Peeks self.old (Err fault)
+        ensures stuck { (fault : ReadFault) → ComesNext self.old (Err fault)
             → (result ≡ Err fault) × (self.new ≡ self.old) }
     {
         let mut word = Word::new();
@@ -313,12 +313,12 @@ impl Scanner {
             (found_by word.new result) }
         ensures sticks { IfErr result (Sticks self.new) }
         ensures waits { length self.new.window ≤ 4096 }
-        ensures seen { IsSeen self.old.end (S.remaining source.old)
-            → IsSeen self.new.end (S.remaining source.new) }
+        ensures seen { IsEndSeen self.old.end (S.remaining source.old)
+            → IsEndSeen self.new.end (S.remaining source.new) }
         ensures ends { self.old.end ≡ End.Open ⊎ self.new.end ≡ self.old.end }
         ensures counted { S.failures source.new
             ≡ failures_after self.old.end self.new.end (S.failures source.old) }
-        ensures stuck { (fault : ReadFault) → Peeks self.old (Err fault)
+        ensures stuck { (fault : ReadFault) → ComesNext self.old (Err fault)
             → (result ≡ Err fault) × (self.new ≡ self.old) }
     {
         match self.skip_gap(source) {
@@ -329,7 +329,7 @@ impl Scanner {
                 word.line = line;
                 word.bytes = ArrayVec::new();
                 let run = self.take_run(source, &mut word.bytes);
-                run_told(run, line)
+                found_of_run(run, line)
             }
         }
     }
@@ -350,12 +350,12 @@ impl Scanner {
             result }
         ensures sticks { IfErr result (Sticks self.new) }
         ensures waits { length self.new.window ≤ 4096 }
-        ensures seen { IsSeen self.old.end (S.remaining source.old)
-            → IsSeen self.new.end (S.remaining source.new) }
+        ensures seen { IsEndSeen self.old.end (S.remaining source.old)
+            → IsEndSeen self.new.end (S.remaining source.new) }
         ensures ends { self.old.end ≡ End.Open ⊎ self.new.end ≡ self.old.end }
         ensures counted { S.failures source.new
             ≡ failures_after self.old.end self.new.end (S.failures source.old) }
-        ensures stuck { (fault : ReadFault) → Peeks self.old (Err fault)
+        ensures stuck { (fault : ReadFault) → ComesNext self.old (Err fault)
             → (result ≡ Err fault) × (self.new ≡ self.old) }
     {
         let mut kept = ArrayVec::new();
@@ -368,7 +368,7 @@ impl Scanner {
                 Ok(Some(_)) => {
                     let part = self.line_part();
                     let count = part.len();
-                    keep_all(&mut kept, part);
+                    extend_kept(&mut kept, part);
                     self.advance(count, 0);
                 }
                 Ok(None) => return Ok(Text::of_line(kept)),
@@ -379,7 +379,7 @@ impl Scanner {
 }
 
 // Turns the outcome of a run, which begins in this line, into a `Found`.
-fn run_told(run: Result<bool, ReadFault>, line: u64) -> Result<Found, ReadFault>
+fn found_of_run(run: Result<bool, ReadFault>, line: u64) -> Result<Found, ReadFault>
     ensures { result ≡ found_of run line }
 {
     match run {
@@ -390,7 +390,7 @@ fn run_told(run: Result<bool, ReadFault>, line: u64) -> Result<Found, ReadFault>
 }
 
 // Returns the number of the line after `line_ends` line ends.
-fn line_behind(line: u64, line_ends: usize) -> u64
+fn line_after(line: u64, line_ends: usize) -> u64
     requires { line + line_ends < 2 ^ 64 }
     ensures { result ≡ line + line_ends }
 {
@@ -398,7 +398,7 @@ fn line_behind(line: u64, line_ends: usize) -> u64
 }
 
 // Appends the bytes that fit, and returns whether all fit.
-fn keep_run(word: &mut ArrayVec<u8, 160>, part: &[u8]) -> bool
+fn extend_word(word: &mut ArrayVec<u8, 160>, part: &[u8]) -> bool
     ensures kept { word.new.items ≡ take 160 (word.old.items ++ part.now) }
     ensures fits { result ≡ nat_lt (length (word.old.items ++ part.now)) 161 }
 {

@@ -77,7 +77,7 @@ impl Text {
 }
 
 /// Appends the next bytes of a line, without leading blanks, until the text is full.
-pub(crate) fn keep_all(kept: &mut ArrayVec<u8, 200>, bytes: &[u8])
+pub(crate) fn extend_kept(kept: &mut ArrayVec<u8, 200>, bytes: &[u8])
     ensures { kept.new.items ≡ fold (with_byte 200) kept.old.items bytes.now }
 {
     for &byte in bytes {

@@ -1,7 +1,7 @@
 //! Writers of the standard library as sinks.
 ghost use Rattle.std.specs.Prelude.{◌≡◌, ℕ, List, ◌<◌, ◌≤◌, ◌+◌, ◌^◌, ◌-◌, Option, IfOk, IsOk, IsErr, OnErr, OnOk, length};
 ghost use Rattle.std.specs.Io.{WritesAtMost};
-ghost use Rattle.pop_text.specs.Bytes.{Keeps, Appends, TellsWrite, WriteAppends, count_after, greatest_count, Writes};
+ghost use Rattle.pop_text.specs.Bytes.{Keeps, Appends, PassesOnWrite, WriteAppends, count_after, greatest_count, Writes};
 
 use crate::sink::{Sink, SinkFault};
 use std::io;
@@ -41,7 +41,7 @@ impl<W: Write + Drop> WriteSink<W> {
     // Turns the writer's result into the sink's, and counts a failure. `Ok(0)` for a non-empty text is a failure.
     fn result_of(&mut self, answer: io::Result<usize>, text: &[u8]) -> Result<usize, SinkFault>
         requires { self.old.failures < greatest_count }
-        ensures answer { TellsWrite (length text.now) answer result }
+        ensures answer { PassesOnWrite (length text.now) answer result }
         ensures counted { self.new.failures ≡ count_after result self.old.failures }
         ensures writer { self.new.writer ≡ self.old.writer }
     {

@@ -7,8 +7,8 @@ use Rattle.pop_run.specs.declared.choice.Choice.{Choice}
 use Rattle.pop_run.specs.Report.{entries_in, report, status, status_of}
 use Rattle.pop_run.specs.declared.status.Status.TheVariants.{OutputFailed}
 use Rattle.pop_parts.specs.Parts.{list_text, outcome_of, text_of}
-use Rattle.pop_parts.specs.declared.asked.Asked.{Asked}
-use Rattle.pop_parts.specs.declared.asked.Outcome.TheVariants.{OutputFailed as PartsCut}
+use Rattle.pop_parts.specs.declared.request.PartRequest.{PartRequest}
+use Rattle.pop_parts.specs.declared.request.Outcome.TheVariants.{OutputFailed as PartsCut}
 use Rattle.pop_web.specs.Page.{Fills, Lists, Shows, ShowsParts, status_number, outcome_number, room, whole_input}
 
 -- no status of an input has the number of a failed output
@@ -17,8 +17,8 @@ unfolding status_of
 other_number entries = grind arith
 
 -- no outcome of parts has the number of a failed output
-other_outcome : (asked : Asked) (text : List ℕ) → outcome_number (outcome_of asked (whole_input text)) ≢ outcome_number PartsCut
-other_outcome asked text = grind arith
+other_outcome : (request : PartRequest) (text : List ℕ) → outcome_number (outcome_of request (whole_input text)) ≢ outcome_number PartsCut
+other_outcome request text = grind arith
 
 -- A call writes these bytes and ends well, or writes a beginning of them and is cut. What a page is shown of it:
 module _ (Ending : Type 0) (number : Ending → ℕ) (Does : List ℕ → Bool → Ending → Type 0) (bytes : List ℕ) (well cut_short : Ending)
@@ -27,34 +27,34 @@ module _ (Ending : Type 0) (number : Ending → ℕ) (Does : List ℕ → Bool �
     (shown : List ℕ) (answer : ℕ) where
   same : (cut : Bool) (ending : Ending) → answer ≡ number ending → Does shown cut ending → answer ≢ number cut_short
       → (shown ≡ bytes) × (answer ≡ number well)
-  same false ending told does other = let it = all shown ending does in (it.0, told ∙ ap number it.1)
-  same true ending told does other = absurd (other (told ∙ ap number (some shown ending does).1))
+  same false ending reported does other = let it = all shown ending does in (it.0, reported ∙ ap number it.1)
+  same true ending reported does other = absurd (other (reported ∙ ap number (some shown ending does).1))
 
   first : (cut : Bool) (ending : Ending) → answer ≡ number ending → Does shown cut ending → (cut ≡ true → length shown ≡ room)
       → number well ≢ number cut_short → answer ≡ number cut_short → shown ≡ take room bytes
-  first false ending told does full other over = absurd (other (sym (ap number (all shown ending does).1) ∙ sym told ∙ over))
-  first true ending told does full other over = let begun = (some shown ending does).0 in
+  first false ending reported does full other over = absurd (other (sym (ap number (all shown ending does).1) ∙ sym reported ∙ over))
+  first true ending reported does full other over = let begun = (some shown ending does).0 in
       begun.taken ∙ sym (take-append_seam begun.front begun.rest)
       ∙ ap₂ (λ n now. take n now) (sym (ap length begun.taken) ∙ full refl) (sym begun.whole)
 
   filled : (cut : Bool) (ending : Ending) → answer ≡ number ending → Does shown cut ending → (cut ≡ true → length shown ≡ room)
       → number well ≢ number cut_short → answer ≡ number cut_short → length shown ≡ room
-  filled false ending told does full other over = absurd (other (sym (ap number (all shown ending does).1) ∙ sym told ∙ over))
-  filled true ending told does full other over = full refl
+  filled false ending reported does full other over = absurd (other (sym (ap number (all shown ending does).1) ∙ sym reported ∙ over))
+  filled true ending reported does full other over = full refl
 
   -- a call whose result says that it is cut has filled the output
   room_is_full : Fills Ending number Does shown answer → number well ≢ number cut_short → answer ≡ number cut_short
       → length shown ≡ room
-  room_is_full f other over = filled f.cut f.ending f.told f.does f.full other over
+  room_is_full f other over = filled f.cut f.ending f.reported f.does f.full other over
 
   -- a call that isn't cut has shown all
   shown_whole : Fills Ending number Does shown answer → answer ≢ number cut_short → (shown ≡ bytes) × (answer ≡ number well)
-  shown_whole f other = same f.cut f.ending f.told f.does other
+  shown_whole f other = same f.cut f.ending f.reported f.does other
 
   -- a call that is cut has shown as many bytes as the output has
   shown_first : Fills Ending number Does shown answer → number well ≢ number cut_short → answer ≡ number cut_short
       → shown ≡ take room bytes
-  shown_first f other over = first f.cut f.ending f.told f.does f.full other over
+  shown_first f other over = first f.cut f.ending f.reported f.does f.full other over
 
 module _ (choice : Choice) (text shown : List ℕ) (answer : ℕ) (f : Shows choice text shown answer) where
   -- a report that isn't cut is shown whole, with the number of the text's status
@@ -88,19 +88,19 @@ module _ (depth : ℕ) (text shown : List ℕ) (answer : ℕ) (f : Lists depth t
   list_full over = room_is_full _ _ _ (list_text depth (whole_input text)) (status (whole_input text)) OutputFailed (λ now ending does. does)
       (λ now ending does. does) _ _ f (other_number (entries_in (whole_input text))) over
 
-module _ (asked : Asked) (text shown : List ℕ) (answer : ℕ) (f : ShowsParts asked text shown answer) where
+module _ (request : PartRequest) (text shown : List ℕ) (answer : ℕ) (f : ShowsParts request text shown answer) where
   -- a part that isn't cut is shown whole, with how its call ended
-  pub part_whole : answer ≢ outcome_number PartsCut → (shown ≡ text_of asked (whole_input text))
-      × (answer ≡ outcome_number (outcome_of asked (whole_input text)))
-  part_whole other = shown_whole _ _ _ (text_of asked (whole_input text)) (outcome_of asked (whole_input text)) PartsCut (λ now ending does. does)
+  pub part_whole : answer ≢ outcome_number PartsCut → (shown ≡ text_of request (whole_input text))
+      × (answer ≡ outcome_number (outcome_of request (whole_input text)))
+  part_whole other = shown_whole _ _ _ (text_of request (whole_input text)) (outcome_of request (whole_input text)) PartsCut (λ now ending does. does)
       (λ now ending does. does) _ _ f other
 
   -- of a part that is cut, as many bytes are shown as the output has
-  pub part_first : answer ≡ outcome_number PartsCut → shown ≡ take room (text_of asked (whole_input text))
-  part_first over = shown_first _ _ _ (text_of asked (whole_input text)) (outcome_of asked (whole_input text)) PartsCut (λ now ending does. does)
-      (λ now ending does. does) _ _ f (other_outcome asked text) over
+  pub part_first : answer ≡ outcome_number PartsCut → shown ≡ take room (text_of request (whole_input text))
+  part_first over = shown_first _ _ _ (text_of request (whole_input text)) (outcome_of request (whole_input text)) PartsCut (λ now ending does. does)
+      (λ now ending does. does) _ _ f (other_outcome request text) over
 
   -- a part that is cut has filled the output
   pub part_full : answer ≡ outcome_number PartsCut → length shown ≡ room
-  part_full over = room_is_full _ _ _ (text_of asked (whole_input text)) (outcome_of asked (whole_input text)) PartsCut (λ now ending does. does)
-      (λ now ending does. does) _ _ f (other_outcome asked text) over
+  part_full over = room_is_full _ _ _ (text_of request (whole_input text)) (outcome_of request (whole_input text)) PartsCut (λ now ending does. does)
+      (λ now ending does. does) _ _ f (other_outcome request text) over

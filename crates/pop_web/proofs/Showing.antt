@@ -7,10 +7,10 @@ use Rattle.pop_web.specs.Page.{Fills, room}
 pub call_is_shown : (Ending : Type 0) (number : Ending → ℕ) (Does : List ℕ → Bool → Ending → Type 0) (taken shown : List ℕ)
     (failures answer : ℕ) (ending : Ending) → Does taken (has_grown 0 failures) ending → shown ≡ taken
     → (0 < failures → length shown ≡ room) → answer ≡ number ending → Fills Ending number Does shown answer
-call_is_shown Ending number Does taken shown failures answer ending does same full told = record {
+call_is_shown Ending number Does taken shown failures answer ending does same full reported = record {
   cut = has_grown 0 failures;
   ending = ending;
-  told = told;
+  reported = reported;
   does = rw same does;
   full = λ cut. full (grind arith);
 }

@@ -8,20 +8,20 @@ use Rattle.pop_run.specs.Run.{Runs}
 use Rattle.pop_run.specs.declared.status.Status.{Status}
 use Rattle.pop_run.specs.declared.status.Status.TheVariants.{Sound, Faulty, InputFailed, OutputFailed}
 use Rattle.pop_parts.specs.Runs.{Lists as ListRuns, Shows as PartsRun}
-use Rattle.pop_parts.specs.declared.asked.Asked.{Asked}
-use Rattle.pop_parts.specs.declared.asked.Outcome.{Outcome}
-use Rattle.pop_parts.specs.declared.asked.Outcome.TheVariants.{Shown, NoItem, FaultyItem, NoPhase, NoPart, InputFailed as PartsBroken, OutputFailed as PartsCut}
+use Rattle.pop_parts.specs.declared.request.PartRequest.{PartRequest}
+use Rattle.pop_parts.specs.declared.request.Outcome.{Outcome}
+use Rattle.pop_parts.specs.declared.request.Outcome.TheVariants.{Shown, NoItem, FaultyItem, NoPhase, NoPart, InputFailed as PartsBroken, OutputFailed as PartsCut}
 
 -- the size of the output, in bytes
 abbrev pub room : ℕ
 room = 2 ^ 22
 
 -- the result if the output is smaller
-abbrev pub too_short : ℕ
-too_short = 4
+abbrev pub too_small : ℕ
+too_small = 4
 
 -- the bytes that a sink has taken, and how many of its calls failed
-pub record Kept : Type 0 where
+pub record MemoryOutput : Type 0 where
   pub taken : List ℕ
   pub failures : ℕ
 
@@ -56,7 +56,7 @@ abbrev pub depth_of : ℕ → ℕ
 depth_of depth = if depth == 0 then 1 else depth
 
 -- one part of the first item
-abbrev pub part_of : Bool → ℕ → ℕ → Asked
+abbrev pub part_of : Bool → ℕ → ℕ → PartRequest
 part_of set_play depth number = record {
   item = 1;
   phase = phase_of set_play;
@@ -71,7 +71,7 @@ pub record Fills (Ending : Type 0) (number : Ending → ℕ)
     (Does : List ℕ → Bool → Ending → Type 0) (shown : List ℕ) (answer : ℕ) : Type 0 where
   pub cut : Bool
   pub ending : Ending
-  pub told : answer ≡ number ending
+  pub reported : answer ≡ number ending
   pub does : Does shown cut ending
   pub full : cut ≡ true → length shown ≡ room
 
@@ -91,7 +91,7 @@ Lists depth text shown answer = Fills Status status_number
 
 -- The bytes are the text of the parts, and the result is the number of the outcome; or they are a beginning of the text
 -- that fills the output, and the result is the number of a failed output.
-abbrev pub ShowsParts : Asked → List ℕ → List ℕ → ℕ → Type 0
-ShowsParts asked text shown answer = Fills Outcome outcome_number
-    (λ bytes cut ending. PartsRun asked (whole_input text) (Some []) (Some bytes) cut ending) shown
+abbrev pub ShowsParts : PartRequest → List ℕ → List ℕ → ℕ → Type 0
+ShowsParts request text shown answer = Fills Outcome outcome_number
+    (λ bytes cut ending. PartsRun request (whole_input text) (Some []) (Some bytes) cut ending) shown
     answer

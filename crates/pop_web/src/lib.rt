@@ -10,10 +10,10 @@
 //! ```
 //!
 //! The interface is `pops_report`, `pops_list` and `pops_part`, which are exported by these names. They use a source
-//! and a sink in memory, `text_source` and `kept_sink`. `specs/Page.antt` defines what the calls return. No call
+//! and a sink in memory, `text_source` and `memory_sink`. `specs/Page.antt` defines what the calls return. No call
 //! allocates.
 #![tactic(auto)]
 
-pub mod kept_sink;
+pub mod memory_sink;
 pub mod page;
 pub mod text_source;

@@ -1,12 +1,12 @@
 //! The calls of a page: a text's report, the list of its parts, the solutions of one part.
 ghost use Rattle.std.specs.Prelude.{◌≡◌, ◌<◌, ◌≤◌, length, take};
-ghost use Rattle.pop_web.specs.Page.{Lists, Shows, ShowsParts, depth_of as depth_by, status_number, outcome_number, part_of as part_by, phase_of as phase_by, room, too_short};
+ghost use Rattle.pop_web.specs.Page.{Lists, Shows, ShowsParts, depth_of as depth_by, status_number, outcome_number, part_of as part_by, phase_of as phase_by, room, too_small};
 
-use crate::kept_sink::KeptSink;
+use crate::memory_sink::MemorySink;
 use crate::text_source::TextSource;
 use pop_events::event::Phase;
-use pop_parts::asked::{Asked, Outcome};
 use pop_parts::list::list_parts;
+use pop_parts::request::{Outcome, PartRequest};
 use pop_parts::show::show_parts;
 use pop_run::{Choice, Status, report};
 
@@ -35,7 +35,7 @@ pub extern "C" fn pops_report(
       check = check;
       no_board = no_board;
     }) input.now (take written.new output.new) result }
-    ensures short { length output.old < room → (result ≡ too_short) × (written.new ≡ 0)
+    ensures short { length output.old < room → (result ≡ too_small) × (written.new ≡ 0)
         × (output.new ≡ output.old) }
     ensures inside { written.new ≤ length output.new }
     ensures room { length output.new ≡ length output.old }
@@ -45,9 +45,9 @@ pub extern "C" fn pops_report(
     }
     let choice = Choice { check, no_board };
     let mut source = TextSource::new(input);
-    let mut sink = KeptSink::<ROOM>::new();
+    let mut sink = MemorySink::<ROOM>::new();
     let status = report(choice, &mut source, &mut sink);
-    *written = hand_out(&sink, output);
+    *written = copy_out(&sink, output);
     status_number(status)
 }
 
@@ -64,7 +64,7 @@ pub extern "C" fn pops_list(
 ) -> u32
     ensures lists { room ≤ length output.old → Lists (depth_by depth) input.now
         (take written.new output.new) result }
-    ensures short { length output.old < room → (result ≡ too_short) × (written.new ≡ 0)
+    ensures short { length output.old < room → (result ≡ too_small) × (written.new ≡ 0)
         × (output.new ≡ output.old) }
     ensures inside { written.new ≤ length output.new }
     ensures room { length output.new ≡ length output.old }
@@ -73,9 +73,9 @@ pub extern "C" fn pops_list(
         return refuse(written);
     }
     let mut source = TextSource::new(input);
-    let mut sink = KeptSink::<ROOM>::new();
+    let mut sink = MemorySink::<ROOM>::new();
     let ending = list_parts(depth_of(depth), &mut source, &mut sink);
-    *written = hand_out(&sink, output);
+    *written = copy_out(&sink, output);
     status_number(ending)
 }
 
@@ -102,7 +102,7 @@ pub extern "C" fn pops_part(
 ) -> u32
     ensures shows { room ≤ length output.old → ShowsParts (part_by set_play depth number) input.now
         (take written.new output.new) result }
-    ensures short { length output.old < room → (result ≡ too_short) × (written.new ≡ 0)
+    ensures short { length output.old < room → (result ≡ too_small) × (written.new ≡ 0)
         × (output.new ≡ output.old) }
     ensures inside { written.new ≤ length output.new }
     ensures room { length output.new ≡ length output.old }
@@ -110,24 +110,24 @@ pub extern "C" fn pops_part(
     if output.len() < ROOM {
         return refuse(written);
     }
-    let asked = part_of(set_play, depth, number);
+    let request = part_of(set_play, depth, number);
     let mut source = TextSource::new(input);
-    let mut sink = KeptSink::<ROOM>::new();
-    let outcome = show_parts(&asked, &mut source, &mut sink);
-    *written = hand_out(&sink, output);
+    let mut sink = MemorySink::<ROOM>::new();
+    let outcome = show_parts(&request, &mut source, &mut sink);
+    *written = copy_out(&sink, output);
     outcome_number(outcome)
 }
 
 // Notes that nothing is written, and returns the result for an output that is too small.
 fn refuse(written: &mut usize) -> u32
-    ensures { (result ≡ too_short) × (written.new ≡ 0) }
+    ensures { (result ≡ too_small) × (written.new ≡ 0) }
 {
     *written = 0;
     4
 }
 
 // Copies the bytes of a sink to the front of the output, and returns their number.
-fn hand_out(sink: &KeptSink<ROOM>, output: &mut [u8]) -> usize
+fn copy_out(sink: &MemorySink<ROOM>, output: &mut [u8]) -> usize
     requires { room ≤ length output.old }
     ensures text { take result output.new ≡ sink.now.taken }
     ensures full { 0 < sink.now.failures → length (take result output.new) ≡ room }
@@ -148,10 +148,10 @@ fn depth_of(depth: usize) -> usize
 }
 
 // Returns the request for one part of the first problem.
-fn part_of(set_play: bool, depth: usize, number: u64) -> Asked
+fn part_of(set_play: bool, depth: usize, number: u64) -> PartRequest
     ensures { result ≡ part_by set_play depth number }
 {
-    Asked {
+    PartRequest {
         item: 1,
         phase: phase_of(set_play),
         first: number,

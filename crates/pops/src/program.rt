@@ -88,6 +88,6 @@ fn exit_status(status: Status, flushed: bool) -> Option<u8>
 fn refuse<E: Write + Drop>(mut errors: E, text: &[u8], status: u8) -> u8
     ensures { result ≡ status }
 {
-    let _told = errors.write_all(text);
+    let _reported = errors.write_all(text);
     status
 }

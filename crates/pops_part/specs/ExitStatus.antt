@@ -2,8 +2,8 @@
 use Rattle.std.specs.Prelude.{ℕ, List, [], Bool, false, true, codes}
 use Rattle.pop_run.specs.declared.status.Status.{Status}
 use Rattle.pop_run.specs.declared.status.Status.TheVariants.{Sound, Faulty as SomeFaulty, InputFailed as ListBroken, OutputFailed as ListCut}
-use Rattle.pop_parts.specs.declared.asked.Outcome.{Outcome}
-use Rattle.pop_parts.specs.declared.asked.Outcome.TheVariants.{Shown, NoItem, FaultyItem, NoPhase, NoPart, InputFailed as PartsBroken, OutputFailed as PartsCut}
+use Rattle.pop_parts.specs.declared.request.Outcome.{Outcome}
+use Rattle.pop_parts.specs.declared.request.Outcome.TheVariants.{Shown, NoItem, FaultyItem, NoPhase, NoPart, InputFailed as PartsBroken, OutputFailed as PartsCut}
 use Rattle.pops_part.specs.declared.program.Ending.{Ending}
 use Rattle.pops_part.specs.declared.program.Ending.TheVariants.{Done, Faulty, Refused, InputFailed, OutputFailed}
 

@@ -11,7 +11,7 @@ use Rattle.pops_part.specs.declared.program.Ending.{Ending}
 use Rattle.pops_part.specs.declared.program.Ending.TheVariants.{OutputFailed}
 use Rattle.pop_events.specs.declared.event.Phase.{Phase}
 use Rattle.pop_events.specs.declared.event.Phase.TheVariants.{Set, Play}
-use Rattle.pop_parts.specs.declared.asked.Asked.{Asked}
+use Rattle.pop_parts.specs.declared.request.PartRequest.{PartRequest}
 use Rattle.pop_settings.specs.declared.pops_part.wanted.NamedParts.{NamedParts}
 use Rattle.pop_settings.specs.declared.pops_part.wanted.PhaseName.{PhaseName}
 use Rattle.pop_settings.specs.declared.pops_part.wanted.PhaseName.TheVariants.{Set as SetName, Play as PlayName}
@@ -24,8 +24,8 @@ phase_named SetName = Set
 phase_named PlayName = Play
 
 -- the request for the parts that are named
-abbrev pub asked_for : NamedParts → Asked
-asked_for named = record {
+abbrev pub request_of : NamedParts → PartRequest
+request_of named = record {
   item = named.item;
   phase = phase_named named.phase;
   first = named.first;
@@ -36,12 +36,12 @@ asked_for named = record {
 -- the text that is wanted: the list of the input's parts, or the text of the parts that are named
 abbrev pub text_wanted : Wanted → Input → List ℕ
 text_wanted (ListOf depth) input = list_text depth input
-text_wanted (Parts named) input = text_of (asked_for named) input
+text_wanted (Parts named) input = text_of (request_of named) input
 
 -- how a run ends if its output can be written
 abbrev pub ending_wanted : Wanted → Input → Ending
 ending_wanted (ListOf depth) input = ending_of_list (status input)
-ending_wanted (Parts named) input = ending_of_parts (outcome_of (asked_for named) input)
+ending_wanted (Parts named) input = ending_of_parts (outcome_of (request_of named) input)
 
 -- A run writes the text that is wanted and returns how it ends. If the sink fails, it writes a beginning of the text
 -- and returns `OutputFailed`.

@@ -18,7 +18,7 @@ fn main(rt: HostRuntime) -> ExitCode {
     match run_words(&rt) {
         Ok(status) => ExitCode::from(status),
         Err(_) => {
-            let _told = rt.stderr().write_all(b"pops-part: out of memory\n");
+            let _reported = rt.stderr().write_all(b"pops-part: out of memory\n");
             ExitCode::from(4)
         }
     }

@@ -2,13 +2,13 @@
 ghost use Rattle.std.specs.Prelude.{◌≡◌, ◌<◌, ◌≤◌, IfSome};
 ghost use Rattle.pop_text.specs.Bytes.{greatest_count};
 ghost use Rattle.pop_run.specs.Run.{FailsOnce, has_grown, input_met, taken_of};
-ghost use Rattle.pop_settings.specs.pops_part.CommandLine.{IsDeep};
+ghost use Rattle.pop_settings.specs.pops_part.CommandLine.{HasDepth};
 ghost use Rattle.pops_part.specs.ExitStatus.{ending_flushed, ending_of_list, ending_of_parts, message_of, status_of};
-ghost use Rattle.pops_part.specs.Runs.{Answers, ReadsWanted, asked_for, phase_named};
+ghost use Rattle.pops_part.specs.Runs.{Answers, ReadsWanted, request_of, phase_named};
 
 use pop_events::event::Phase;
-use pop_parts::asked::{Asked, Outcome};
 use pop_parts::list::list_parts;
+use pop_parts::request::{Outcome, PartRequest};
 use pop_parts::show::show_parts;
 use pop_run::Status;
 use pop_settings::ArgFault;
@@ -85,7 +85,7 @@ fn report<R: Read + Drop, W: Write + Drop, E: Write + Drop>(
     output: W,
     errors: E,
 ) -> u8
-    requires { IsDeep wanted.now }
+    requires { HasDepth wanted.now }
     ensures { result ≤ 4 }
 {
     let mut source = ReadSource::new(input);
@@ -106,7 +106,7 @@ fn report<R: Read + Drop, W: Write + Drop, E: Write + Drop>(
 // Writes exactly the list of the input or the text of the parts, or a beginning of it if the sink fails. At most one
 // source call and one sink call fail.
 fn answer<S: Source, W: Sink>(wanted: &Wanted, source: &mut S, sink: &mut W) -> Ending
-    requires deep { IsDeep wanted.now }
+    requires deep { HasDepth wanted.now }
     requires source { S.failures source.old < greatest_count }
     requires sink { W.failures sink.old < greatest_count }
     ensures headline { IfSome (S.remaining source.old) (λ had.
@@ -123,15 +123,15 @@ fn answer<S: Source, W: Sink>(wanted: &Wanted, source: &mut S, sink: &mut W) -> 
 {
     match wanted {
         Wanted::List { depth } => ending_of_list(list_parts(*depth, source, sink)),
-        Wanted::Parts(named) => ending_of_parts(show_parts(&asked_for(named), source, sink)),
+        Wanted::Parts(named) => ending_of_parts(show_parts(&request_of(named), source, sink)),
     }
 }
 
 // Returns the request for the parts that are named.
-fn asked_for(named: &NamedParts) -> Asked
-    ensures { result ≡ asked_for named.now }
+fn request_of(named: &NamedParts) -> PartRequest
+    ensures { result ≡ request_of named.now }
 {
-    Asked {
+    PartRequest {
         item: named.item,
         phase: phase_named(named.phase),
         first: named.first,
@@ -215,6 +215,6 @@ fn message_of(ending: Ending) -> &'static [u8]
 fn refuse<E: Write + Drop>(mut errors: E, text: &[u8], status: u8) -> u8
     ensures { result ≡ status }
 {
-    let _told = errors.write_all(text);
+    let _reported = errors.write_all(text);
     status
 }

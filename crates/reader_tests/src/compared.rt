@@ -2,7 +2,7 @@
 ghost use Rattle.std.specs.Prelude.{◌<◌};
 
 use crate::plain::{ITEMS, items};
-use crate::summary::{Told, tell};
+use crate::summary::{Expected, compute};
 use arrayvec::ArrayVec;
 use pop_input::item::{Item, Last};
 use pop_input::reader::Reader;
@@ -10,7 +10,7 @@ use pop_text::trial_source::TrialSource;
 
 // Returns the items that the reader reads of an input, from a source of at most `at_most` bytes a call, which may fail
 // at the end.
-fn read(input: &[u8], at_most: usize, failed: bool) -> ArrayVec<Told, ITEMS>
+fn read(input: &[u8], at_most: usize, failed: bool) -> ArrayVec<Expected, ITEMS>
     requires { 0 < at_most }
 {
     let fails_at = if failed { Some(input.len()) } else { None };
@@ -34,8 +34,8 @@ fn read(input: &[u8], at_most: usize, failed: bool) -> ArrayVec<Told, ITEMS>
                 }
             }
         }
-        if let Some(told) = tell(&item) {
-            let _ = items.try_push(told);
+        if let Some(reported) = compute(&item) {
+            let _ = items.try_push(reported);
         }
     }
     items
@@ -51,10 +51,10 @@ pub(crate) fn agree(input: &[u8], at_most: usize) -> bool
 
 /// Marks the numbers of the faults of an input, and 0 if it has a sound problem.
 pub(crate) fn mark(input: &[u8], failed: bool, seen: &mut [bool; 22]) {
-    for told in items(input, failed).as_slice() {
-        match told {
-            Told::Sound(_) => seen[0] = true,
-            Told::Faulty(number, _) => {
+    for reported in items(input, failed).as_slice() {
+        match reported {
+            Expected::Sound(_) => seen[0] = true,
+            Expected::Faulty(number, _) => {
                 if *number < 22 {
                     seen[*number as usize] = true;
                 }

@@ -1,6 +1,6 @@
 //! A plain reader: one pass over the words of a whole input, with all its state in variables.
 use crate::plain_words::{Token, is_short, last_line, tokens, without_leading, without_trailing};
-use crate::summary::{CORNERS, Summary, Told, digest};
+use crate::summary::{CORNERS, Expected, Summary, digest};
 use arrayvec::ArrayVec;
 use chess_attacks::{Circe, Madrasi, Orthodox, in_check};
 use chess_core::{Board, Colour, Diagram, Kind, Man, Square};
@@ -45,7 +45,7 @@ struct Known {
     options: [bool; 3],
     limit: u32,
     crossed: u8,
-    barred: [bool; 6],
+    castling_forbidden: [bool; 6],
     title: u64,
     author: u64,
     fault: Option<FaultKind>,
@@ -67,7 +67,7 @@ fn nothing_known(begun: bool) -> Known {
         options: [false; 3],
         limit: 4_000_000_000,
         crossed: 64,
-        barred: [false; 6],
+        castling_forbidden: [false; 6],
         title: digest(b""),
         author: digest(b""),
         fault: None,
@@ -243,7 +243,7 @@ fn bar(known: &mut Known, squares: &[u8]) -> Option<FaultKind> {
 fn bar_one(known: &mut Known, square: u8) -> bool {
     for place in 0..6usize {
         if CORNERS[place] == square {
-            known.barred[place] = true;
+            known.castling_forbidden[place] = true;
             return true;
         }
     }
@@ -320,7 +320,7 @@ fn read_condition(known: &mut Known, word: &[u8]) -> Option<FaultKind> {
 
 const FLAGS: [&[u8]; 3] = [b"setplay", b"variation", b"noboard"];
 
-const AWAITING: [(&[u8], Await); 3] = [
+const EXPECTING: [(&[u8], Await); 3] = [
     (b"maxsolutions", Await::Limit),
     (b"enpassant", Await::Square),
     (b"nocastling", Await::Squares),
@@ -333,7 +333,7 @@ fn read_option(known: &mut Known, word: &[u8]) -> Option<FaultKind> {
             return None;
         }
     }
-    for (name, wait) in &AWAITING {
+    for (name, wait) in &EXPECTING {
         if is_short(name, word, 3) {
             known.wait = *wait;
             return None;
@@ -351,14 +351,14 @@ fn read_men(known: &mut Known, word: &[u8]) -> Option<FaultKind> {
         known.colour = b'b';
         return None;
     }
-    let [letter, behind @ ..] = word else {
+    let [letter, following @ ..] = word else {
         return Some(FaultKind::WordMisplaced);
     };
     let letter = letter.to_ascii_uppercase();
     if !b"KQRBSPGN".contains(&letter) {
         return Some(FaultKind::WordMisplaced);
     }
-    read_squares(known, word, letter, squares_named(behind))
+    read_squares(known, word, letter, squares_named(following))
 }
 
 // Puts men on the squares after a letter, if the word has squares.
@@ -472,8 +472,8 @@ fn was_passed(known: &Known) -> bool {
 }
 
 // Returns a faulty item.
-fn told(fault: FaultKind, line: u64) -> Told {
-    Told::Faulty(fault.number(), line)
+fn reported(fault: FaultKind, line: u64) -> Expected {
+    Expected::Faulty(fault.number(), line)
 }
 
 // Returns the fault at the end of a block.
@@ -502,21 +502,21 @@ fn unmoved(known: &Known) -> [bool; 6] {
     let home = [b'R', b'K', b'R', b'r', b'k', b'r'];
     let mut unmoved = [false; 6];
     for place in 0..6usize {
-        unmoved[place] = !known.barred[place]
+        unmoved[place] = !known.castling_forbidden[place]
             && known.men[(CORNERS[place] & 63) as usize] == home[place];
     }
     unmoved
 }
 
 // Returns the item of a block that a word in this line closes.
-fn closed(known: &Known, line: u64) -> Told {
+fn closed(known: &Known, line: u64) -> Expected {
     if let Some(fault) = known.fault {
-        return told(fault, known.line);
+        return reported(fault, known.line);
     }
     if let Some(fault) = fault_at_end(known) {
-        return told(fault, line);
+        return reported(fault, line);
     }
-    Told::Sound(Summary {
+    Expected::Sound(Summary {
         men: known.men,
         black_starts: known.form == 2,
         unmoved: unmoved(known),
@@ -545,7 +545,7 @@ fn note(known: &mut Known, token: &Token<'_>, rest: &[u8]) {
 }
 
 /// Returns the items of an input, whose source ends cleanly or fails at its end.
-pub(crate) fn items(input: &[u8], failed: bool) -> ArrayVec<Told, ITEMS> {
+pub(crate) fn items(input: &[u8], failed: bool) -> ArrayVec<Expected, ITEMS> {
     let mut items = ArrayVec::new();
     let mut known = nothing_known(false);
     let mut first = true;
@@ -570,17 +570,17 @@ pub(crate) fn items(input: &[u8], failed: bool) -> ArrayVec<Told, ITEMS> {
     }
     let line = last_line(input);
     if let Some(fault) = known.fault {
-        let _ = items.try_push(told(fault, known.line));
+        let _ = items.try_push(reported(fault, known.line));
     }
     if failed {
-        let _ = items.try_push(told(FaultKind::DeviceFailed, line));
+        let _ = items.try_push(reported(FaultKind::DeviceFailed, line));
     } else if known.fault.is_none() {
         let fault = if first && !known.begun {
             FaultKind::BeginProblemMissing
         } else {
             FaultKind::EndProblemMissing
         };
-        let _ = items.try_push(told(fault, line));
+        let _ = items.try_push(reported(fault, line));
     }
     items
 }

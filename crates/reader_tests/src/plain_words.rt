@@ -92,16 +92,16 @@ pub(crate) fn tokens(input: &[u8], failed: bool) -> ArrayVec<Token<'_>, MOST> {
     let mut left = input;
     let mut line = 1u64;
     for _round in input {
-        let [byte, behind @ ..] = left else {
+        let [byte, following @ ..] = left else {
             break;
         };
         if *byte == b'\n' {
             line = line.wrapping_add(1);
-            left = behind;
+            left = following;
             continue;
         }
         if is_blank(*byte) {
-            left = behind;
+            left = following;
             continue;
         }
         let (text, after) = left.split_at(reach(left, true));

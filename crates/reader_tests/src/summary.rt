@@ -24,14 +24,14 @@ pub(crate) struct Summary {
 
 /// An item: a problem, or the number and line of a fault.
 #[derive(Clone, Copy, PartialEq, Eq)]
-pub(crate) enum Told {
+pub(crate) enum Expected {
     Sound(Summary),
     Faulty(u8, u64),
 }
 
-impl Default for Told {
-    fn default() -> Told {
-        Told::Faulty(0, 0)
+impl Default for Expected {
+    fn default() -> Expected {
+        Expected::Faulty(0, 0)
     }
 }
 
@@ -74,7 +74,7 @@ fn men_of(diagram: &Diagram) -> [u8; 64] {
     men
 }
 
-fn unmoved_of(diagram: &Diagram) -> [bool; 6] {
+fn castling_rights_of(diagram: &Diagram) -> [bool; 6] {
     let mut unmoved = [false; 6];
     for place in 0..6usize {
         unmoved[place] = diagram.unmoved.has(Square::numbered(CORNERS[place] & 63));
@@ -112,7 +112,7 @@ fn summary_of(problem: &Problem) -> Summary {
     Summary {
         men: men_of(&diagram),
         black_starts: diagram.turn == Colour::Black,
-        unmoved: unmoved_of(&diagram),
+        unmoved: castling_rights_of(&diagram),
         crossed: match diagram.crossed {
             Some(square) => square.index(),
             None => 64,
@@ -129,10 +129,10 @@ fn summary_of(problem: &Problem) -> Summary {
 }
 
 /// Returns an item of the reader as a value that can be compared, or `None` for `End`.
-pub(crate) fn tell(item: &Item) -> Option<Told> {
+pub(crate) fn compute(item: &Item) -> Option<Expected> {
     match item {
-        Item::Sound(problem, _) => Some(Told::Sound(summary_of(problem))),
-        Item::Faulty(fault, _) => Some(Told::Faulty(fault.number(), fault.line)),
+        Item::Sound(problem, _) => Some(Expected::Sound(summary_of(problem))),
+        Item::Faulty(fault, _) => Some(Expected::Faulty(fault.number(), fault.line)),
         Item::End => None,
     }
 }

@@ -3,7 +3,7 @@
 ghost use Rattle.std.specs.Prelude.{◌≡◌, ◌+◌, ◌≤◌};
 ghost use Rattle.chess_core.specs.WellFormed.{IsWellFormed};
 
-use crate::row::{half_moves, tell};
+use crate::row::{add_event, half_moves};
 use arrayvec::ArrayVec;
 use chess_core::{Board, Diagram, Kind, Man, Move, Square};
 use chess_rules::{Moves, Rules, has_legal_move, in_check, play};
@@ -13,7 +13,7 @@ use pop_stipulation::stipulation::{Form, Goal};
 
 /// The text of a phase: its first `limit` solutions, and their number.
 #[derive(Drop)]
-struct Told {
+struct PhaseText {
     text: ArrayVec<u8, 4096>,
     half: u32,
     limit: u32,
@@ -21,7 +21,7 @@ struct Told {
     over: bool,
 }
 
-impl Told {
+impl PhaseText {
     /// Begins a solution, or notes that there are too many.
     fn begin(&mut self) {
         if self.count == self.limit {
@@ -38,7 +38,7 @@ impl Told {
         }
         if !self.over {
             let half = self.half.saturating_add(depth);
-            tell(&Event::Node { depth, half, shown }, &mut self.text);
+            add_event(&Event::Node { depth, half, shown }, &mut self.text);
         }
     }
 
@@ -50,7 +50,7 @@ impl Told {
             for shown in path {
                 let _fits = moves.try_push(*shown);
             }
-            tell(
+            add_event(
                 &Event::Line {
                     half: self.half,
                     moves,
@@ -275,7 +275,14 @@ struct Battle {
 /// defences below each with the shortest continuations.
 #[cycle(tree)]
 #[tactic(auto, using(chess_rules::proofs::listing_moves::Calls::playing))]
-fn white<R: Rules>(told: &mut Told, battle: Battle, board: &Board, moves: u8, depth: u32, left: u8)
+fn white<R: Rules>(
+    reported: &mut PhaseText,
+    battle: Battle,
+    board: &Board,
+    moves: u8,
+    depth: u32,
+    left: u8,
+)
     requires { IsWellFormed board.now }
 {
     let mut here = *board;
@@ -284,9 +291,9 @@ fn white<R: Rules>(told: &mut Told, battle: Battle, board: &Board, moves: u8, de
         let mut there = here;
         let _undo = play::<R>(&mut there, by);
         if keeps::<R>(battle.goal, battle.selfmate, &there, moves) {
-            told.node(depth, shown::<R>(battle.goal, &here, &there, by));
+            reported.node(depth, shown::<R>(battle.goal, &here, &there, by));
             if left > 0 && !is_goal_reached::<R>(battle.goal, &there) {
-                black::<R>(told, battle, &there, depth.saturating_add(1), left);
+                black::<R>(reported, battle, &there, depth.saturating_add(1), left);
             }
         }
     }
@@ -295,7 +302,7 @@ fn white<R: Rules>(told: &mut Told, battle: Battle, board: &Board, moves: u8, de
 /// Adds the defences, with the shortest continuations.
 #[cycle(tree)]
 #[tactic(auto, using(chess_rules::proofs::listing_moves::Calls::playing))]
-fn black<R: Rules>(told: &mut Told, battle: Battle, board: &Board, depth: u32, left: u8)
+fn black<R: Rules>(reported: &mut PhaseText, battle: Battle, board: &Board, depth: u32, left: u8)
     requires well_formed { IsWellFormed board.now }
     requires some { 1 ≤ left }
 {
@@ -304,11 +311,11 @@ fn black<R: Rules>(told: &mut Told, battle: Battle, board: &Board, depth: u32, l
     while let Some(defence) = defences.next(&mut here) {
         let mut there = here;
         let _undo = play::<R>(&mut there, defence);
-        told.node(depth, shown::<R>(battle.goal, &here, &there, defence));
+        reported.node(depth, shown::<R>(battle.goal, &here, &there, defence));
         if !is_goal_reached::<R>(battle.goal, &there) {
             let moves = least::<R>(battle.goal, battle.selfmate, &there, battle.moves);
             white::<R>(
-                told,
+                reported,
                 battle,
                 &there,
                 moves,
@@ -321,7 +328,7 @@ fn black<R: Rules>(told: &mut Told, battle: Battle, board: &Board, depth: u32, l
 
 /// Adds set play: the first moves by Black after which White still wins, with the shortest continuations.
 #[tactic(auto, using(chess_rules::proofs::listing_moves::Calls::playing))]
-fn set<R: Rules>(told: &mut Told, battle: Battle, board: &Board, left: u8)
+fn set<R: Rules>(reported: &mut PhaseText, battle: Battle, board: &Board, left: u8)
     requires { IsWellFormed board.now }
 {
     let mut here = *board;
@@ -332,10 +339,10 @@ fn set<R: Rules>(told: &mut Told, battle: Battle, board: &Board, left: u8)
         let mates = is_goal_reached::<R>(battle.goal, &there);
         let further = battle.moves.saturating_sub(1);
         if battle.selfmate && mates || wins::<R>(battle.goal, battle.selfmate, &there, further) {
-            told.node(0, shown::<R>(battle.goal, &here, &there, by));
+            reported.node(0, shown::<R>(battle.goal, &here, &there, by));
             if !mates {
                 let moves = least::<R>(battle.goal, battle.selfmate, &there, battle.moves);
-                white::<R>(told, battle, &there, moves, 1, left);
+                white::<R>(reported, battle, &there, moves, 1, left);
             }
         }
     }
@@ -344,7 +351,7 @@ fn set<R: Rules>(told: &mut Told, battle: Battle, board: &Board, left: u8)
 /// Adds the lines of `left` further half-moves that reach the goal.
 #[tactic(auto, using(chess_rules::proofs::listing_moves::Calls::playing))]
 fn help<R: Rules>(
-    told: &mut Told,
+    reported: &mut PhaseText,
     goal: Goal,
     board: &Board,
     left: usize,
@@ -356,7 +363,7 @@ fn help<R: Rules>(
 {
     if left == 0 {
         if is_goal_reached::<R>(goal, board) {
-            told.line(&path[..len]);
+            reported.line(&path[..len]);
         }
         return;
     }
@@ -367,13 +374,13 @@ fn help<R: Rules>(
         let _undo = play::<R>(&mut there, by);
         let mut longer = path;
         longer[len] = shown::<R>(goal, &here, &there, by);
-        help::<R>(told, goal, &there, left - 1, longer, len + 1);
+        help::<R>(reported, goal, &there, left - 1, longer, len + 1);
     }
 }
 
 /// Adds a phase from its first position.
 fn phase<R: Rules>(
-    told: &mut Told,
+    reported: &mut PhaseText,
     problem: &Problem,
     board: &Board,
     in_set: bool,
@@ -399,7 +406,7 @@ fn phase<R: Rules>(
     match stipulation.form {
         Form::Help | Form::HelpHalf => {
             help::<R>(
-                told,
+                reported,
                 stipulation.goal,
                 board,
                 half_moves,
@@ -407,9 +414,9 @@ fn phase<R: Rules>(
                 0,
             );
         }
-        Form::Direct | Form::SelfMate if in_set => set::<R>(told, battle, board, left),
+        Form::Direct | Form::SelfMate if in_set => set::<R>(reported, battle, board, left),
         Form::Direct | Form::SelfMate => {
-            white::<R>(told, battle, board, stipulation.n, 0, left);
+            white::<R>(reported, battle, board, stipulation.n, 0, left);
         }
     }
 }
@@ -426,16 +433,16 @@ pub(crate) fn first_diagram(problem: &Problem, in_set: bool) -> Diagram {
 }
 
 /// Adds the text of a phase.
-fn tell_phase<R: Rules>(told: &mut Told, problem: &Problem, in_set: bool) {
+fn add_phase<R: Rules>(reported: &mut PhaseText, problem: &Problem, in_set: bool) {
     let diagram = first_diagram(problem, in_set);
     if !diagram.is_well_formed() {
         return;
     }
     let board = Board::of(&diagram);
     let name = if in_set { Phase::Set } else { Phase::Play };
-    tell(&Event::Phase(name), &mut told.text);
+    add_event(&Event::Phase(name), &mut reported.text);
     if in_set && in_check::<R>(&board, board.turn().other()) {
-        tell(&Event::Impossible, &mut told.text);
+        add_event(&Event::Impossible, &mut reported.text);
         return;
     }
     let half_moves = half_moves(problem);
@@ -444,28 +451,28 @@ fn tell_phase<R: Rules>(told: &mut Told, problem: &Problem, in_set: bool) {
     } else {
         1
     };
-    told.half = if in_set { half + 1 } else { half };
-    told.count = 0;
-    told.over = false;
+    reported.half = if in_set { half + 1 } else { half };
+    reported.count = 0;
+    reported.over = false;
     let left = if in_set {
         half_moves.saturating_sub(1)
     } else {
         half_moves
     };
-    phase::<R>(told, problem, &board, in_set, left);
-    let stopped = told.count == told.limit;
-    tell(
+    phase::<R>(reported, problem, &board, in_set, left);
+    let stopped = reported.count == reported.limit;
+    add_event(
         &Event::Total {
-            count: told.count,
+            count: reported.count,
             stopped,
         },
-        &mut told.text,
+        &mut reported.text,
     );
 }
 
 /// Returns the text of all events of a problem.
 pub(crate) fn solve<R: Rules>(problem: &Problem) -> ArrayVec<u8, 4096> {
-    let mut told = Told {
+    let mut reported = PhaseText {
         text: ArrayVec::new(),
         half: 1,
         limit: problem.max_solutions(),
@@ -473,8 +480,8 @@ pub(crate) fn solve<R: Rules>(problem: &Problem) -> ArrayVec<u8, 4096> {
         over: false,
     };
     if problem.set_play() {
-        tell_phase::<R>(&mut told, problem, true);
+        add_phase::<R>(&mut reported, problem, true);
     }
-    tell_phase::<R>(&mut told, problem, false);
-    told.text
+    add_phase::<R>(&mut reported, problem, false);
+    reported.text
 }

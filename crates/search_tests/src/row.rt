@@ -43,9 +43,9 @@ struct Given {
 }
 
 /// Adds the text of an event.
-pub(crate) fn tell(event: &Event, text: &mut ArrayVec<u8, 4096>) {
+pub(crate) fn add_event(event: &Event, text: &mut ArrayVec<u8, 4096>) {
     let mut sink = TrialSink::<256>::new(256, None);
-    let _told = print_event(&mut sink, event);
+    let _reported = print_event(&mut sink, event);
     let _fits = text.try_extend_from_slice(sink.text());
 }
 
@@ -72,7 +72,7 @@ fn run<R: Rules, const N: usize>(problem: &Problem, most: u64) -> Given
         let Some(event) = search.next() else {
             break;
         };
-        tell(&event, &mut text);
+        add_event(&event, &mut text);
         deepest = deepest.max(search.depth());
         events += 1;
     }

@@ -25,7 +25,7 @@ pub(crate) struct Seen {
     pub most: u32,
     /// The phases that the limit stopped, and set play that isn't possible.
     pub stopped: u32,
-    pub barred: u32,
+    pub castling_forbidden: u32,
     /// The lines and nodes with a check that is no mate, and with a rebirth.
     pub checks: u32,
     pub rebirths: u32,
@@ -58,7 +58,7 @@ impl Seen {
 
 /// The number of positions from which the lines and nodes so far go on: the search must have tried each.
 #[derive(Drop)]
-struct Stood {
+struct ShownPositions {
     line: ArrayVec<Shown, 32>,
     /// A node of this depth or more is the first below another node.
     below: u32,
@@ -66,7 +66,7 @@ struct Stood {
 }
 
 /// Returns the number of moves with which both lines begin.
-fn alike(one: &[Shown], other: &[Shown]) -> usize {
+fn common_length(one: &[Shown], other: &[Shown]) -> usize {
     let length = one.len().min(other.len());
     for k in 0..length {
         let (a, b) = (one[k], other[k]);
@@ -77,7 +77,7 @@ fn alike(one: &[Shown], other: &[Shown]) -> usize {
     length
 }
 
-impl Stood {
+impl ShownPositions {
     fn phase_begins(&mut self) {
         self.line = ArrayVec::new();
         self.below = 0;
@@ -88,7 +88,7 @@ impl Stood {
         let shared = if self.line.is_empty() {
             0
         } else {
-            alike(self.line.as_slice(), moves).saturating_add(1)
+            common_length(self.line.as_slice(), moves).saturating_add(1)
         };
         let more = moves.len().saturating_sub(shared);
         self.positions = self.positions.saturating_add(more as u64);
@@ -106,7 +106,7 @@ impl Stood {
 }
 
 /// Counts an event.
-fn note(event: &Event, opened: u64, seen: &mut Seen, stood: &mut Stood) {
+fn note(event: &Event, opened: u64, seen: &mut Seen, stood: &mut ShownPositions) {
     match event {
         Event::Phase(phase) => {
             stood.phase_begins();
@@ -126,7 +126,7 @@ fn note(event: &Event, opened: u64, seen: &mut Seen, stood: &mut Stood) {
             stood.node(*depth);
             seen.moves(&[*shown]);
         }
-        Event::Impossible => seen.barred = seen.barred.saturating_add(1),
+        Event::Impossible => seen.castling_forbidden = seen.castling_forbidden.saturating_add(1),
         Event::Total { count, stopped } => seen.phase_ends(*count, *stopped),
     }
 }
@@ -139,7 +139,7 @@ fn watch_under<R: Rules>(rt: &impl Abort, problem: &Problem, most: u64) -> Seen
     // For the proof: a stipulation that was read has at most 32 half-moves.
     let _half_moves = half_moves(problem);
     let mut seen = Seen::default();
-    let mut stood = Stood {
+    let mut stood = ShownPositions {
         line: ArrayVec::new(),
         below: 0,
         positions: 0,

@@ -1,5 +1,5 @@
 -- Attackers of a square, found by looking outward from it.
-use Rattle.chess_attacks.proofs.Chess.{Bishop, Bool, Colour, Grasshopper, Hopper, Kind, King, Knight, List, Man, Nightrider, Option, Pawn, Queen, Rook, RuleSet, Step, [], and_left, any_kept, any_range_same, any_range_true, arith, bit_and, bit_at, bit_or, diagonal_steps, differs, eq-eqb, faced_men_stand_still, faces, faces_its_like, false, false_from_ne_true, false≢true, first_of_and, gait_of, hopped_from, hops, is_ahead, is_attacked, is_attacker, is_fairy_man, is_leaping_man, is_man, is_met, is_of_colour, is_on_some, is_paralysed, is_reached, joined, list_any, list_any-append, man_on, not, other, queen_steps, reaches, reaches_as, reaches_of, refl, rides, rules, same_colour-true, same_kind-true, second_of_and, shared, some_square, some_square_told, squares, squares_of, squares_same, straight_steps, sym, true, word, word_empty, word_has, word_lacks, ℕ, ◌&&◌, ◌<◌, ◌==◌, ◌||◌, ◌∙◌, ◌∷◌, ◌≡◌, bit_not, w64}
+use Rattle.chess_attacks.proofs.Chess.{Bishop, Bool, Colour, Grasshopper, Hopper, Kind, King, Knight, List, Man, Nightrider, Option, Pawn, Queen, Rook, RuleSet, Step, [], and_left, any_kept, any_range_same, any_range_true, arith, bit_and, bit_at, bit_or, diagonal_steps, differs, eq-eqb, like_men_paralyse, attacks_like, is_attacked_by_like, false, false_from_ne_true, false≢true, first_of_and, gait_of, hopped_from, hops, is_ahead, is_attacked, is_attacker, is_fairy_man, is_leaping_man, is_man, is_met, is_of_colour, is_on_some, is_paralysed, is_reached, joined, list_any, list_any-append, man_on, not, other, queen_steps, reaches, reaches_as, reaches_of, refl, rides, rules, same_colour-true, same_kind-true, second_of_and, shared, some_square, some_square_known, squares, squares_of, squares_same, straight_steps, sym, true, word, word_empty, word_has, word_lacks, ℕ, ◌&&◌, ◌<◌, ◌==◌, ◌||◌, ◌∙◌, ◌∷◌, ◌≡◌, bit_not, w64}
 use Rattle.chess_attacks.proofs.rays.Flips.{diagonal-back, hops-turned, queen_rides-back, reaches_back, straight-back}
 use Rattle.chess_attacks.proofs.rays.Ways.{ride_on-found}
 use Rattle.chess_attacks.proofs.Bits.{every_square}
@@ -132,8 +132,8 @@ pub some_reach : (men : List (Option Man)) (c : Colour) (t l r b f : ℕ) → t 
     → (((not (l == 0) || not (r == 0)) || not (b == 0)) || not (f == 0)) ≡ is_reached men t c
 unfolding reaches is_met is_reached
 some_reach men c t l r b f q hl hr hb hf =
-    some_either _ _ _ _ (some_either _ _ _ _ (some_either _ _ _ _ (some_square_told _ l hl) (some_square_told _ r hr)) (some_square_told _ b hb))
-    (some_square_told _ f hf)
+    some_either _ _ _ _ (some_either _ _ _ _ (some_either _ _ _ _ (some_square_known _ l hl) (some_square_known _ r hr)) (some_square_known _ b hb))
+    (some_square_known _ f hf)
     ∙ some_square_same _ _ (λ s p. at_square men c _ s t p q)
 
 -- some leaper reaches t
@@ -193,16 +193,16 @@ unfolding is_attacked is_attacker
 attacked_by rule men t w c h = search (rules, some_square_same, word_has)
 
 -- where nobody is paralysed, a square is attacked if some man reaches it
-pub attacked_plainly : (rule : RuleSet) (men : List (Option Man)) (t : ℕ) (c : Colour) (b : Bool) → faced_men_stand_still rule ≡ false → b ≡ is_reached men t c
+pub attacked_plainly : (rule : RuleSet) (men : List (Option Man)) (t : ℕ) (c : Colour) (b : Bool) → like_men_paralyse rule ≡ false → b ≡ is_reached men t c
     → b ≡ is_attacked rule men t c
 unfolding is_attacked is_attacker is_paralysed is_reached
 attacked_plainly rule men t c b off h = search (rules, some_square_same, off, h)
 
 -- an enemy of a man's kind reaches its square exactly if the word of those isn't 0
 pub faced : (men : List (Option Man)) (x : Man) (t w : ℕ) → w ≡ word (λ s. is_man (man_on men s) (other x.colour) x.kind && reaches men s t)
-    → not (w == 0) ≡ faces_its_like men x t
-unfolding faces_its_like faces
-faced men x t w h = some_square_told _ w h
+    → not (w == 0) ≡ is_attacked_by_like men x t
+unfolding is_attacked_by_like attacks_like
+faced men x t w h = some_square_known _ w h
 
 -- all men of the board
 pub seen_now : (men : List (Option Man)) (c : Colour) (k : Kind) → bit_and (squares_of men c k) (bit_not w64 0) ≡ squares_of men c k

@@ -1,4 +1,4 @@
--- What a man reaches, it reaches on some board: supersets for `open_reach`.
+-- What a man reaches, it reaches on some board: supersets for `unblocked_reach`.
 use Rattle.chess_attacks.proofs.Chess.{Bool, Grasshopper, Kind, Leaper, List, Man, Nightrider, Option, Queen, Rider, arith, bit_or, diagonal_steps, gait_of, inl, inr, is_on_some, kind_steps, leaps, list_any, list_any-append, men_on, AreReached, occupied_squares, on_left, on_right, or_cases, reaches_as, refl, rides, rules, straight_steps, sym, true, word, word_has, ℕ, ◌∙◌, ◌≡◌}
 use Rattle.chess_attacks.proofs.attacks.Attacking.{goes_on}
 use Rattle.chess_attacks.proofs.rays.OnSquares.{hops_openly, occupied_on, rides_openly}
@@ -8,7 +8,7 @@ pub rides_on : (men : List (Option Man)) (s t : ℕ) (ds : List _) → list_any 
 unfolding is_on_some
 rides_on men s t ds h = goes_on men s t ds h
 
--- what a man reaches, he would reach on an empty board: for `open_reach`, kind by kind
+-- what a man reaches, he would reach on an empty board: for `unblocked_reach`, kind by kind
 module _ (x : Man) (s : ℕ) where
   -- a rook's lines and a bishop's
   pub ride_reach : (k : Kind) (l : ℕ) → x.kind ≡ k → gait_of k ≡ Rider → l ≡ word (is_on_some (kind_steps x.colour k) s) → AreReached x s l

@@ -59,8 +59,8 @@ occupied_not_vacant men o q at man = rw at (ap not man)
 
 -- a square after the stop isn't reached
 blocked : (men : List (Option Man)) (s : ℕ) (d : Step) (b t k : ℕ) → Ordered d → Stops men s d b → t < 64 → Ride 1 men s t d k → place d b < place d t → ⊥
-blocked men s d b t k line stop p ride behind =
-    let here = stop.here (omega (arith, behind, place_le (rises d) t p)) in
+blocked men s d b t k line stop p ride following =
+    let here = stop.here (omega (arith, following, place_le (rises d) t p)) in
     let to = steps_on s d b (first_of_and _ _ here) in
     let man = second_of_and (is_ahead s d b) _ here in
     grind (arith, to, earlier s to.0 k b t d line, ride.at, ride.free to.0, occupied_not_vacant men (along s d to.0) b, man)

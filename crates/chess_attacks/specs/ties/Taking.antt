@@ -3,7 +3,7 @@ use Rattle.std.specs.Prelude.{ℕ, ◌≡◌, ◌≢◌, ◌<◌, ◌==◌, true
 use Rattle.std.specs.Int.{bit_at}
 
 -- s is the lowest square of the bitboard w, and `rest` is w without it
-pub record IsTaken (w s rest : ℕ) : Type 0 where
+pub record IsPopped (w s rest : ℕ) : Type 0 where
   pub small : s < 64
   pub here : (bit_at w s == 1) ≡ true
   pub first : (t : ℕ) → t < s → (bit_at w t == 1) ≡ false

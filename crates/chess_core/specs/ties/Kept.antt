@@ -17,18 +17,18 @@ abbrev pub colours : List Colour
 colours = White ∷ Black ∷ []
 
 -- for each kind the squares of its men
-unfoldable pub kind_words : List (Option Man) → List ℕ
-kind_words men = map (λ k. word_of (λ x. is_kind x k) men) kinds
+unfoldable pub kind_bitboards : List (Option Man) → List ℕ
+kind_bitboards men = map (λ k. word_of (λ x. is_kind x k) men) kinds
 
 -- for each colour the squares of its men
-unfoldable pub side_words : List (Option Man) → List ℕ
-side_words men = map (λ c. word_of (λ x. is_of_colour x c) men) colours
+unfoldable pub side_bitboards : List (Option Man) → List ℕ
+side_bitboards men = map (λ c. word_of (λ x. is_of_colour x c) men) colours
 
 -- for each colour the square of its king, if it has one
 unfoldable pub king_squares : List (Option Man) → List (Option ℕ)
 king_squares men = map (king_square men) colours
 
 -- the words say what the men on the squares say
-pub record IsInStep (men : List (Option Man)) (by_kind by_side : List ℕ) : Type 0 where
-  pub kinds_are : by_kind ≡ kind_words men
-  pub sides_are : by_side ≡ side_words men
+pub record Agrees (men : List (Option Man)) (by_kind by_side : List ℕ) : Type 0 where
+  pub kinds_are : by_kind ≡ kind_bitboards men
+  pub sides_are : by_side ≡ side_bitboards men

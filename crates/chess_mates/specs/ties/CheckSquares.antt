@@ -17,8 +17,8 @@ use Rattle.chess_rules.specs.Play.{position_after}
 use Rattle.chess_attacks.specs.Reaches.{reaches_as}
 use Rattle.chess_attacks.specs.RuleSet.{RuleSet, captures_are_reborn, orthodox}
 use Rattle.chess_attacks.specs.ties.Lines.{is_two_files_aside}
-use Rattle.chess_rules.specs.ties.Shields.{may_expose, may_stand_between}
-use Rattle.chess_rules.specs.ties.Targets.{may_go}
+use Rattle.chess_rules.specs.ties.Blockers.{may_expose, may_be_hurdle}
+use Rattle.chess_rules.specs.ties.Targets.{may_arrive}
 
 -- x is a fairy man, and no man of its colour and kind is on the board
 abbrev pub is_absent : List (Option Man) → Man → Bool
@@ -56,8 +56,8 @@ own_man p j = record { colour = p.turn; kind = j }
 -- from which its enemies of each kind but kings may give check to it
 pub record AreCheckSquares (men : List (Option Man)) (c : Colour)
     (s : CheckSquares) : Type 0 where
-  pub shield_squares : s.shield_squares ≡ word (may_expose men c)
-  pub fairy_lines : s.fairy_lines ≡ word (may_stand_between men c)
+  pub blocker_squares : s.blocker_squares ≡ word (may_expose men c)
+  pub fairy_lines : s.fairy_lines ≡ word (may_be_hurdle men c)
   pub straight : s.straight ≡ word (may_check_from men c (enemy c Rook))
   pub diagonal : s.diagonal ≡ word (may_check_from men c (enemy c Bishop))
   pub knight : s.knight ≡ word (may_check_from men c (enemy c Knight))
@@ -95,5 +95,5 @@ pub record AreCheckOrigins (rule : RuleSet) (p : Position) (w : ℕ) : Type 0 wh
 
 -- w holds each square from which this man, on some board, may go to one of the targets
 pub record AreApproaches (x : Man) (targets w : ℕ) : Type 0 where
-  pub approach : (p : Position) (s t : ℕ) → s < 64 → t < 64 → may_go p x s t ≡ true
+  pub approach : (p : Position) (s t : ℕ) → s < 64 → t < 64 → may_arrive p x s t ≡ true
       → (bit_at targets t == 1) ≡ true → (bit_at w s == 1) ≡ true

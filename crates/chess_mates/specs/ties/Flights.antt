@@ -11,17 +11,17 @@ use Rattle.chess_core.specs.declared.man.Kind.TheVariants.{King}
 use Rattle.chess_core.specs.declared.man.Man.{Man}
 use Rattle.chess_core.specs.declared.man.Move.{Move}
 use Rattle.chess_mates.specs.declared.flights.Flights.{Flights}
-use Rattle.chess_mates.specs.declared.flights.Flights.TheVariants.{Left, NoneLeft, Untold}
+use Rattle.chess_mates.specs.declared.flights.Flights.TheVariants.{Left, NoneLeft, Unknown}
 use Rattle.chess_attacks.specs.Attacks.{in_check}
 use Rattle.chess_rules.specs.Legal.{is_arrival_free, is_legal, is_pseudo_legal}
 use Rattle.chess_rules.specs.Play.{capture_square}
 use Rattle.chess_attacks.specs.Reaches.{reaches_as}
 use Rattle.chess_attacks.specs.RuleSet.{RuleSet, captures_do_more}
 use Rattle.chess_attacks.specs.ties.Outward.{is_reached}
-use Rattle.chess_rules.specs.ties.Sifting.{is_of_others}
-use Rattle.chess_attacks.specs.ties.Sight.{AreSeen, sight_after}
+use Rattle.chess_rules.specs.ties.Filtering.{is_of_others}
+use Rattle.chess_attacks.specs.ties.Occupancy.{DescribesMen, sight_after}
 use Rattle.chess_rules.specs.ties.Exposure.{is_simple}
-use Rattle.chess_attacks.specs.declared.sight.Sight.{Sight}
+use Rattle.chess_attacks.specs.declared.occupancy.Occupancy.{Occupancy}
 
 -- the king on this square, if there is one, may go to t
 abbrev pub is_flight_at : RuleSet → Position → Option ℕ → ℕ → Bool
@@ -66,28 +66,28 @@ pub record IsSeenFrom (rule : RuleSet) (p : Position) (m : Move) (x : Man) (k : 
 
 -- the sight after a man has gone from a to b, the man on o has left the board, and the enemy king is lifted
 -- from k; the moved man isn't among the standing men
-abbrev pub sight_lifted : List (Option Man) → ℕ → Option ℕ → ℕ → ℕ → Sight
+abbrev pub sight_lifted : List (Option Man) → ℕ → Option ℕ → ℕ → ℕ → Occupancy
 sight_lifted men a o b k = record {
   occupied = bit_and (sight_after men a o b).occupied (bit_not w64 (word (is_square (Some k))));
   standing = bit_and (sight_after men a o b).standing (bit_not w64 (word (is_square (Some a))));
 }
 
 -- the sight after the lifted king is put on t, whoever was there
-abbrev pub sight_with : Sight → ℕ → Sight
+abbrev pub sight_with : Occupancy → ℕ → Occupancy
 sight_with v t = record {
   occupied = bit_or v.occupied (word (is_square (Some t)));
   standing = bit_and v.standing (bit_not w64 (word (is_square (Some t))));
 }
 
 -- t is a square of w, and no man of colour c but the moved one reaches the king there
-pub record IsSafe (before : List (Option Man)) (c : Colour) (v : Sight) (w t : ℕ) : Type 0 where
+pub record IsSafe (before : List (Option Man)) (c : Colour) (v : Occupancy) (w t : ℕ) : Type 0 where
   pub small : t < 64
   pub here : (bit_at w t == 1) ≡ true
-  pub unreached : (men : List (Option Man)) → AreSeen before men c (sight_with v t)
+  pub unreached : (men : List (Option Man)) → DescribesMen before men c (sight_with v t)
       → is_reached men t c ≡ false
 
 -- the sight after the lifted king of k is put on t; the king isn't among the standing men
-abbrev pub sight_stepped : Sight → ℕ → ℕ → Sight
+abbrev pub sight_stepped : Occupancy → ℕ → ℕ → Occupancy
 sight_stepped v k t = record {
   occupied = (sight_with v t).occupied;
   standing = bit_and (sight_with v t).standing (bit_not w64 (word (is_square (Some k))));
@@ -95,14 +95,14 @@ sight_stepped v k t = record {
 
 -- after the step from k to t no man of the stepping side but the king reaches s, where the mover, of colour
 -- c, has its king
-pub record IsQuietTo (before : List (Option Man)) (c : Colour) (v : Sight) (k t s : ℕ) : Type 0 where
-  pub unreached : (men : List (Option Man)) → AreSeen before men (other c) (sight_stepped v k t)
+pub record IsQuietTo (before : List (Option Man)) (c : Colour) (v : Occupancy) (k t s : ℕ) : Type 0 where
+  pub unreached : (men : List (Option Man)) → DescribesMen before men (other c) (sight_stepped v k t)
       → is_reached men s (other c) ≡ false
 
 -- on each square of w a man of colour c other than the moved one reaches the king there
-pub record AreUnsafe (before : List (Option Man)) (c : Colour) (v : Sight) (w : ℕ) : Type 0 where
+pub record AreUnsafe (before : List (Option Man)) (c : Colour) (v : Occupancy) (w : ℕ) : Type 0 where
   pub reached : (t : ℕ) → t < 64 → (bit_at w t == 1) ≡ true → (men : List (Option Man))
-      → AreSeen before men c (sight_with v t) → is_reached men t c ≡ true
+      → DescribesMen before men c (sight_with v t) → is_reached men t c ≡ true
 
 -- the king of the side to move has no legal move if it is in check
 pub record IsFlightless (rule : RuleSet) (p : Position) : Type 0 where
@@ -110,14 +110,14 @@ pub record IsFlightless (rule : RuleSet) (p : Position) : Type 0 where
       → is_legal rule p m ≡ false
 
 -- what is known of the flights of the side to move is true
-abbrev pub IsTold : RuleSet → Position → Flights → Type 0
-IsTold rule p Left = has_flight rule p ≡ true
-IsTold rule p NoneLeft = IsFlightless rule p
-IsTold rule p Untold = ⊤
+abbrev pub IsKnown : RuleSet → Position → Flights → Type 0
+IsKnown rule p Left = has_flight rule p ≡ true
+IsKnown rule p NoneLeft = IsFlightless rule p
+IsKnown rule p Unknown = ⊤
 
 -- no enemy of the side to move reaches its king x after the step from k to t
 pub record IsUnreached (p : Position) (x : Man) (k t : ℕ) : Type 0 where
   pub none : (men : List (Option Man))
-      → AreSeen p.men men (other p.turn) (sight_after p.men k
+      → DescribesMen p.men men (other p.turn) (sight_after p.men k
       (capture_square p x (record { from = k; to = t; promo = None })) t)
       → is_reached men t (other p.turn) ≡ false

@@ -15,7 +15,7 @@ use Rattle.chess_mates.specs.declared.lasting_flights.OpenTargets.{OpenTargets}
 use Rattle.chess_mates.specs.ties.Attackers.{IsAttacker, is_promotion}
 use Rattle.chess_attacks.specs.Reaches.{leaps, reaches_as}
 use Rattle.chess_attacks.specs.ties.Lines.{AreReached}
-use Rattle.chess_rules.specs.ties.Targets.{is_promoting, may_go}
+use Rattle.chess_rules.specs.ties.Targets.{is_promoting, may_arrive}
 
 -- w holds each square from which x reaches t on some board
 pub record AreApproached (x : Man) (t w : ℕ) : Type 0 where
@@ -27,9 +27,9 @@ pub record AreApproached (x : Man) (t w : ℕ) : Type 0 where
 pub record AreGuarded (a : Attackers) (w : ℕ) : Type 0 where
   pub guards : (s : ℕ) (x : Man) → IsAttacker a x s → AreReached x s w
 
--- w holds all squares to which x on s may go on some board, by `may_go`
+-- w holds all squares to which x on s may go on some board, by `may_arrive`
 pub record AreTargets (x : Man) (s w : ℕ) : Type 0 where
-  pub inside : (p : Position) (t : ℕ) → t < 64 → may_go p x s t ≡ true
+  pub inside : (p : Position) (t : ℕ) → t < 64 → may_arrive p x s t ≡ true
       → (bit_at w t == 1) ≡ true
 
 -- the squares where men of a kind may go
@@ -58,7 +58,7 @@ counts_as k = k
 
 -- the targets of each kind hold the squares where x from s promotes to a man that counts as this kind
 pub record ArePromoted (b : Bool) (o : OpenTargets) (x : Man) (s : ℕ) : Type 0 where
-  pub inside : (p : Position) (z : Man) (t : ℕ) → t < 64 → may_go p x s t ≡ true
+  pub inside : (p : Position) (z : Man) (t : ℕ) → t < 64 → may_arrive p x s t ≡ true
       → is_promoting x t ≡ true → MayBecome b x t z
       → (bit_at (targets_for o (counts_as z.kind)) t == 1) ≡ true
 
@@ -79,7 +79,7 @@ pub record IsLeft (w : ℕ) (x : Man) (t f : ℕ) : Type 0 where
 
 -- wherever x goes from s, and whatever it becomes there, a square of w remains; and x can't castle
 pub record LeavesOne (b : Bool) (w : ℕ) (x : Man) (s : ℕ) : Type 0 where
-  pub left : (p : Position) (z : Man) (t : ℕ) → t < 64 → may_go p x s t ≡ true → MayBecome b x t z
+  pub left : (p : Position) (z : Man) (t : ℕ) → t < 64 → may_arrive p x s t ≡ true → MayBecome b x t z
       → (f : ℕ) × IsLeft w z t f
   pub away : same_kind x.kind King ≡ true → (s ≢ e1) × (s ≢ e8)
 

@@ -5,9 +5,9 @@ use Rattle.chess_core.specs.declared.man.Move.{Move}
 use Rattle.chess_attacks.specs.RuleSet.{RuleSet}
 use Rattle.chess_rules.specs.Legal.{is_legal, is_mate, is_nil}
 use Rattle.chess_rules.specs.Play.{position_after}
-use Rattle.chess_rules.specs.ties.Places.{moves_behind, moves_between}
-use Rattle.chess_rules.specs.ties.Targets.{AreKept}
-use Rattle.chess_rules.specs.declared.targets.Kept.{Kept}
+use Rattle.chess_rules.specs.ties.Places.{moves_after, moves_between}
+use Rattle.chess_rules.specs.ties.Targets.{IsTargetCacheOf}
+use Rattle.chess_rules.specs.declared.targets.TargetCache.{TargetCache}
 use Rattle.chess_mates.specs.declared.mating_moves.MateClues.{MateClues}
 use Rattle.chess_mates.specs.ties.CheckSquares.{AreCheckSquares}
 use Rattle.chess_mates.specs.ties.StandingFlights.{AreStandingFlights}
@@ -17,8 +17,8 @@ abbrev pub is_mating : RuleSet → Position → Move → Bool
 is_mating rule p m = is_mate rule (position_after rule p m)
 
 -- the mating moves after a cursor
-unfoldable pub mates_behind : RuleSet → Position → ℕ → List Move
-mates_behind rule p place = filter (is_mating rule p) (moves_behind rule p place)
+unfoldable pub mates_after : RuleSet → Position → ℕ → List Move
+mates_after rule p place = filter (is_mating rule p) (moves_after rule p place)
 
 -- the mating moves after one cursor and not after another
 unfoldable pub mates_between : RuleSet → Position → ℕ → ℕ → List Move
@@ -26,14 +26,14 @@ mates_between rule p place end = filter (is_mating rule p) (moves_between rule p
 
 -- some reply to the move mates
 abbrev pub allows_mate : RuleSet → Position → Move → Bool
-allows_mate rule p m = not (is_nil (mates_behind rule (position_after rule p m) 0))
+allows_mate rule p m = not (is_nil (mates_after rule (position_after rule p m) 0))
 
 -- from one cursor to the next are the moves `over`, none of which mates, and then m, which mates
 pub record IsNextMate (rule : RuleSet) (p : Position) (old new : ℕ) (m : Move) : Type 0 where
   pub over : List Move
-  pub passed : moves_behind rule p old ≡ over ++ moves_behind rule p (new - 1)
+  pub passed : moves_after rule p old ≡ over ++ moves_after rule p (new - 1)
   pub none : filter (is_mating rule p) over ≡ []
-  pub here : moves_behind rule p (new - 1) ≡ m ∷ moves_behind rule p new
+  pub here : moves_after rule p (new - 1) ≡ m ∷ moves_after rule p new
   pub mates : is_mating rule p m ≡ true
 
 -- the move is legal, and the side then to move is mated
@@ -49,9 +49,9 @@ pub record AreMateClues (rule : RuleSet) (p : Position) (v : MateClues) : Type 0
 pub record MatingPlace : Type 0 where
   pub place : ℕ
   pub clues : MateClues
-  pub kept : Kept
+  pub kept : TargetCache
 
 -- the cursor belongs to this position
 pub record IsMatingPlaceIn (rule : RuleSet) (p : Position) (v : MatingPlace) : Type 0 where
   pub clues : AreMateClues rule p v.clues
-  pub kept : AreKept rule p (mates rule p) v.kept
+  pub kept : IsTargetCacheOf rule p (mates rule p) v.kept

@@ -17,18 +17,18 @@ use Rattle.chess_core.specs.declared.man.Man.{Man}
 use Rattle.chess_core.specs.declared.man.Move.{Move}
 use Rattle.chess_core.specs.ties.Words.{word}
 use Rattle.chess_attacks.specs.Reaches.{reaches, reaches_as}
-use Rattle.chess_attacks.specs.RuleSet.{RuleSet, captures_do_more, faced_men_stand_still}
+use Rattle.chess_attacks.specs.RuleSet.{RuleSet, captures_do_more, like_men_paralyse}
 use Rattle.chess_attacks.specs.ties.Lines.{is_advance, is_on_some, occupied_squares}
-use Rattle.chess_rules.specs.ties.Shields.{cannot_expose, is_fairy, may_expose, may_stand_between}
-use Rattle.chess_rules.specs.ties.Sifting.{is_of_others}
+use Rattle.chess_rules.specs.ties.Blockers.{cannot_expose, is_fairy, may_expose, may_be_hurdle}
+use Rattle.chess_rules.specs.ties.Filtering.{is_of_others}
 
 -- parries of the move m of x are computed: x is no king and doesn't promote, the move opens no line to the
 -- enemy king, nobody is reborn, and no man is paralysed
-pub record AreParriesTold (rule : RuleSet) (p : Position) (x : Man) (m : Move) : Type 0 where
+pub record AreParriesKnown (rule : RuleSet) (p : Position) (x : Man) (m : Move) : Type 0 where
   pub mortal : same_kind x.kind King ≡ false
   pub unpromoted : m.promo ≡ None
   pub reborn : captures_do_more rule ≡ false
-  pub able : faced_men_stand_still rule ≡ false
+  pub able : like_men_paralyse rule ≡ false
   pub cannot_expose : cannot_expose rule p (other p.turn) m ≡ true
 
 -- s is on a file, rank or diagonal of k
@@ -58,7 +58,7 @@ pub record IsInterposed (men : List (Option Man)) (p : Position) (x : Man) (m : 
   pub unpinned : is_unpinned p m k from ≡ true
   pub way : IsWayBetween men p from square
   pub vacant : man_on men square ≡ None
-  pub aside : may_stand_between p.men (other p.turn) square ≡ false
+  pub aside : may_be_hurdle p.men (other p.turn) square ≡ false
   pub shut : (l : List (Option Man)) → bit_or (bit_and (occupied_squares men)
       (bit_not w64 (word (is_square (Some from))))) (word (is_square (Some square)))
       ≡ occupied_squares l → reaches_as l x.colour x.kind m.to k ≡ false
@@ -110,10 +110,10 @@ pub record NobodyComes (men : List (Option Man)) (c : Colour) (b k : ℕ) : Type
       → some_square (comes men c k t) ≡ false
 
 -- what is known of men that interpose, after x has arrived by m, is true
-abbrev pub IsToldBetween : List (Option Man) → Position → Man → Move → ℕ → Parries → Type 0
-IsToldBetween men p x m k Possible = IsInterposed men p x m k
-IsToldBetween men p x m k Impossible = NobodyComes men (other p.turn) m.to k
-IsToldBetween men p x m k Unknown = ⊤
+abbrev pub IsKnownBetween : List (Option Man) → Position → Man → Move → ℕ → Parries → Type 0
+IsKnownBetween men p x m k Possible = IsInterposed men p x m k
+IsKnownBetween men p x m k Impossible = NobodyComes men (other p.turn) m.to k
+IsKnownBetween men p x m k Unknown = ⊤
 
 -- x, no pawn (which might be captured en passant) and no fairy man, gives check from b to the king on k,
 -- and nobody but this king takes it

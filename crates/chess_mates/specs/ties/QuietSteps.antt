@@ -13,11 +13,11 @@ use Rattle.chess_mates.specs.ties.LastingFlights.{IsLeft}
 use Rattle.chess_mates.specs.ties.Mates.{is_mating}
 use Rattle.chess_rules.specs.Legal.{moves}
 use Rattle.chess_rules.specs.Play.{capture_square, is_castling, position_after}
-use Rattle.chess_attacks.specs.RuleSet.{RuleSet, captures_do_more, faced_men_stand_still}
-use Rattle.chess_attacks.specs.declared.sight.Sight.{Sight}
+use Rattle.chess_attacks.specs.RuleSet.{RuleSet, captures_do_more, like_men_paralyse}
+use Rattle.chess_attacks.specs.declared.occupancy.Occupancy.{Occupancy}
 use Rattle.chess_attacks.specs.ties.Lines.{occupied_squares}
 use Rattle.chess_attacks.specs.ties.Outward.{is_reached}
-use Rattle.chess_attacks.specs.ties.Sight.{AreSeen}
+use Rattle.chess_attacks.specs.ties.Occupancy.{DescribesMen}
 use Rattle.chess_rules.specs.ties.Targets.{is_promoting}
 
 -- each reply to the move mates
@@ -26,7 +26,7 @@ must_reply_with_mate rule p m =
     list_all (is_mating rule (position_after rule p m)) (moves rule (position_after rule p m))
 
 -- the sight without the men on two squares
-abbrev pub sight_without : List (Option Man) → ℕ → ℕ → Sight
+abbrev pub sight_without : List (Option Man) → ℕ → ℕ → Occupancy
 sight_without men a k =
     let gone = bit_or (word (is_square (Some a))) (word (is_square (Some k))) in
     record {
@@ -43,17 +43,17 @@ pub record GoesSimply (rule : RuleSet) (p : Position) (x : Man) (m : Move) : Typ
 
 -- after x has arrived on t, the enemy king's step to f remains of w: neither x nor another standing man of
 -- the mover reaches f
-pub record IsStepLeft (p : Position) (v : Sight) (w : ℕ) (x : Man) (t f : ℕ) : Type 0 where
+pub record IsStepLeft (p : Position) (v : Occupancy) (w : ℕ) (x : Man) (t f : ℕ) : Type 0 where
   pub left : IsLeft w x t f
-  pub others : (men : List (Option Man)) → AreSeen p.men men p.turn v
+  pub others : (men : List (Option Man)) → DescribesMen p.men men p.turn v
       → is_reached men f p.turn ≡ false
 
 -- after x has left and the enemy king has stepped from k, none of its side's standing men reaches the
 -- mover's king; if x is that king, none reaches k, and no man is paralysed
-pub record AreQuiet (rule : RuleSet) (p : Position) (v : Sight) (x : Man) (k : ℕ) : Type 0 where
+pub record AreQuiet (rule : RuleSet) (p : Position) (v : Occupancy) (x : Man) (k : ℕ) : Type 0 where
   pub stands : same_kind x.kind King ≡ false → (s : ℕ) × (king_square p.men p.turn ≡ Some s)
-      × ((men : List (Option Man)) → AreSeen p.men men (other p.turn) v
+      × ((men : List (Option Man)) → DescribesMen p.men men (other p.turn) v
       → is_reached men s (other p.turn) ≡ false)
-  pub goes : same_kind x.kind King ≡ true → (faced_men_stand_still rule ≡ false)
-      × ((men : List (Option Man)) → AreSeen p.men men (other p.turn) v
+  pub goes : same_kind x.kind King ≡ true → (like_men_paralyse rule ≡ false)
+      × ((men : List (Option Man)) → DescribesMen p.men men (other p.turn) v
       → is_reached men k (other p.turn) ≡ false)

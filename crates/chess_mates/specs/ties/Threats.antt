@@ -8,30 +8,30 @@ use Rattle.chess_core.specs.declared.man.Colour.{Colour}
 use Rattle.chess_core.specs.declared.man.Kind.TheVariants.{Pawn}
 use Rattle.chess_core.specs.declared.man.Man.{Man}
 use Rattle.chess_core.specs.declared.man.Move.{Move}
-use Rattle.chess_mates.specs.declared.siege.Siege.{Siege}
-use Rattle.chess_mates.specs.ties.Mates.{mates_behind}
-use Rattle.chess_mates.specs.ties.Siege.{IsSiege, IsSiegeOf, IsWhole}
+use Rattle.chess_mates.specs.declared.king_attack.KingAttack.{KingAttack}
+use Rattle.chess_mates.specs.ties.Mates.{mates_after}
+use Rattle.chess_mates.specs.ties.KingAttack.{IsKingAttack, IsKingAttackOf, IsWhole}
 use Rattle.chess_core.specs.Steps.{pawn_capture_steps}
 use Rattle.chess_attacks.specs.Reaches.{leaps}
 use Rattle.chess_rules.specs.Legal.{is_legal}
 use Rattle.chess_rules.specs.Play.{capture_square, halfway, is_castling, is_double_step, position_after}
 use Rattle.chess_attacks.specs.RuleSet.{RuleSet, captures_are_reborn, captures_do_more}
-use Rattle.chess_rules.specs.ties.Targets.{is_promoting, may_go}
+use Rattle.chess_rules.specs.ties.Targets.{is_promoting, may_arrive}
 
 -- threats can be computed: captures only remove men, which may be reborn
-pub record IsTold (rule : RuleSet) : Type 0 where
+pub record IsKnown (rule : RuleSet) : Type 0 where
   pub captures : captures_do_more rule ≡ true → captures_are_reborn rule ≡ true
 
 -- what contracts see of threats: the men around the king
-pub record ToldThreats : Type 0 where
-  pub siege : Siege
+pub record ThreatsSeen : Type 0 where
+  pub king_attack : KingAttack
 
 -- the threats belong to this position
-pub record AreThreatsOf (rule : RuleSet) (p : Position) (t : ToldThreats) : Type 0 where
-  pub told : IsTold rule
-  pub fits : IsSiegeOf rule p t.siege
-  pub siege : IsSiege t.siege
-  pub whole : IsWhole t.siege
+pub record AreThreatsOf (rule : RuleSet) (p : Position) (t : ThreatsSeen) : Type 0 where
+  pub reported : IsKnown rule
+  pub fits : IsKingAttackOf rule p t.king_attack
+  pub king_attack : IsKingAttack t.king_attack
+  pub whole : IsWhole t.king_attack
 
 -- w holds each square from which a pawn of colour c captures on one of the targets
 pub record AreCapturers (c : Colour) (targets w : ℕ) : Type 0 where
@@ -42,7 +42,7 @@ pub record AreCapturers (c : Colour) (targets w : ℕ) : Type 0 where
 pub record IsPassing (p : Position) (x : Man) (m : Move) : Type 0 where
   pub freely : is_double_step x m ≡ true → (q : Position) (s : ℕ) (z : Man) → s < 64
       → halfway m < 64 → man_on p.men s ≡ Some z → z.colour ≡ other x.colour
-      → same_kind z.kind Pawn ≡ true → may_go q z s (halfway m) ≡ false
+      → same_kind z.kind Pawn ≡ true → may_arrive q z s (halfway m) ≡ false
 
 -- x doesn't castle, captures only on its arrival, and no en passant capture of it is possible
 pub record IsPlainMove (p : Position) (x : Man) (m : Move) : Type 0 where
@@ -52,7 +52,7 @@ pub record IsPlainMove (p : Position) (x : Man) (m : Move) : Type 0 where
 
 -- the move of x from s to each square outside w is plain
 pub record ArePlain (p : Position) (x : Man) (s w : ℕ) : Type 0 where
-  pub plain : (m : Move) → m.from ≡ s → m.to < 64 → may_go p x s m.to ≡ true
+  pub plain : (m : Move) → m.from ≡ s → m.to < 64 → may_arrive p x s m.to ≡ true
       → (bit_at w m.to == 1) ≡ false → IsPlainMove p x m
 
 -- x captures nobody, doesn't promote, and as a pawn stays on its file
@@ -63,11 +63,11 @@ pub record IsMereMove (p : Position) (x : Man) (m : Move) : Type 0 where
 
 -- the move of x from s to each square outside w is no capture and no promotion
 pub record AreMere (p : Position) (x : Man) (s w : ℕ) : Type 0 where
-  pub mere : (m : Move) → m.from ≡ s → m.to < 64 → may_go p x s m.to ≡ true
+  pub mere : (m : Move) → m.from ≡ s → m.to < 64 → may_arrive p x s m.to ≡ true
       → (bit_at w m.to == 1) ≡ false → IsMereMove p x m
 
 -- no reply mates after a legal move from s to one of the squares that isn't risky
 pub record AreRisky (rule : RuleSet) (p : Position) (s squares risky : ℕ) : Type 0 where
-  pub settled : (m : Move) → is_legal rule p m ≡ true → m.from ≡ s
+  pub is_decided : (m : Move) → is_legal rule p m ≡ true → m.from ≡ s
       → (bit_at squares m.to == 1) ≡ true → (bit_at risky m.to == 1) ≡ false
-      → mates_behind rule (position_after rule p m) 0 ≡ []
+      → mates_after rule (position_after rule p m) 0 ≡ []

@@ -1,12 +1,12 @@
 -- Whether a move leaves its own king in check, from the attacks after it.
-use Rattle.chess_rules.proofs.Chess.{AreArrived, AreOthers, AreSeen, Bool, Colour, IsWellFormed, Kind, King, List, Man, Move, None, Option, Position, RuleSet, Some, and_from, and_left, and_parts, ap, arith, arriving_man, bit_at, capture_square, captures_do_more, cases_Bool, cases_eq, cond-false, cond-true, differs, eq-eqb, faced_men_stand_still, faces, faces_its_like, false, false≢true, in_check, is_arrival_free, is_arriving_as, is_attacked, is_attacked_at, is_castling, is_man, is_of_colour, is_paralysed, is_promotion_right, is_pseudo_legal, is_simple, is_some, is_square, joined, king_after, king_square, man_on, not, not-true, not_zero, or_parts, other, own_after, position_after, reaches, refl, rules, same_colour, same_colour-refl, same_colour-true, same_kind, shared, sight_after, some_square, squares_not, squares_of, squares_same, subst, sym, true, word, word_empty, word_has, ℕ, ◌&&◌, ◌<◌, ◌==◌, ◌||◌, ◌∙◌, ◌≡◌}
-use Rattle.chess_attacks.specs.declared.sight.Sight.{Sight}
+use Rattle.chess_rules.proofs.Chess.{DescribesMenAfter, AreOthers, DescribesMen, Bool, Colour, IsWellFormed, Kind, King, List, Man, Move, None, Option, Position, RuleSet, Some, and_from, and_left, and_parts, ap, arith, arriving_man, bit_at, capture_square, captures_do_more, cases_Bool, cases_eq, cond-false, cond-true, differs, eq-eqb, like_men_paralyse, attacks_like, is_attacked_by_like, false, false≢true, in_check, is_arrival_free, is_arriving_as, is_attacked, is_attacked_at, is_castling, is_man, is_of_colour, is_paralysed, is_promotion_right, is_pseudo_legal, is_simple, is_some, is_square, joined, king_after, king_square, man_on, not, not-true, not_zero, or_parts, other, own_after, position_after, reaches, refl, rules, same_colour, same_colour-refl, same_colour-true, same_kind, shared, sight_after, some_square, squares_not, squares_of, squares_same, subst, sym, true, word, word_empty, word_has, ℕ, ◌&&◌, ◌<◌, ◌==◌, ◌||◌, ◌∙◌, ◌≡◌}
+use Rattle.chess_attacks.specs.declared.occupancy.Occupancy.{Occupancy}
 use Rattle.chess_attacks.proofs.attacks.Attacking.{attacked_by}
 use Rattle.chess_attacks.proofs.rays.Ends.{square_is}
 use Rattle.chess_rules.proofs.making_moves.Fits.{arrived, arriving_king, pawn_is_no_king, taken}
 use Rattle.chess_rules.proofs.making_moves.Pseudo.{IsMade, made}
 use Rattle.chess_rules.proofs.attacks.Seeing.{IsCapture, IsNoKing, kept_now, king_stands, left_now, seen_after, there_now}
-use Rattle.chess_rules.proofs.attacks.Shielding.{other_twice, arriving_colour, king_is, moved_plainly, other_differs, simple_after}
+use Rattle.chess_rules.proofs.attacks.Blocking.{other_twice, arriving_colour, king_is, moved_plainly, other_differs, simple_after}
 use Rattle.chess_rules.proofs.making_moves.Returns.{moved_arrival}
 use Rattle.chess_rules.proofs.making_moves.Stays.{moved_sound}
 
@@ -34,8 +34,8 @@ faced_after men c k t w h = ap (λ n. not (n == 0)) h ∙ not_zero (λ s. is_man
 
 -- paralysis by the mover's men
 faced_is : (men : List (Option Man)) (c : Colour) (y : Man) (s : ℕ) → same_colour y.colour (other c) ≡ true
-    → some_square (λ q. is_man (man_on men q) c y.kind && reaches men q s) ≡ faces_its_like men y s
-unfolding faces_its_like faces
+    → some_square (λ q. is_man (man_on men q) c y.kind && reaches men q s) ≡ is_attacked_by_like men y s
+unfolding is_attacked_by_like attacks_like
 faced_is men c y s side = grind (arith, same_colour-true, other_twice)
 
 -- a king is none
@@ -43,16 +43,16 @@ pub faced_king : (king f : Bool) → king ≡ true → not king ≡ (not king &&
 faced_king king f h = (λ i. not (h i)) ∙ sym (ap (λ (k : Bool). not k && f) h)
 
 -- an enemy man, if no king, is paralysed exactly if a mover's man of its kind reaches it
-pub paralysed_by : (rule : RuleSet) (before men : List (Option Man)) (x : Man) (m : Move) (v : Sight) (s : ℕ) (y : Man) (b : Bool)
-    → faced_men_stand_still rule ≡ true → AreArrived before men x m v → is_of_colour (man_on men s) (other x.colour) ≡ true → man_on before s ≡ Some y
+pub paralysed_by : (rule : RuleSet) (before men : List (Option Man)) (x : Man) (m : Move) (v : Occupancy) (s : ℕ) (y : Man) (b : Bool)
+    → like_men_paralyse rule ≡ true → DescribesMenAfter before men x m v → is_of_colour (man_on men s) (other x.colour) ≡ true → man_on before s ≡ Some y
     → b ≡ (not (same_kind y.kind King) && some_square (λ q. is_man (man_on men q) x.colour y.kind && reaches men q s)) → b ≡ is_paralysed rule men s
 unfolding is_paralysed
 paralysed_by rule before men x m v s y b is are side at h = grind (arith, are.others s side, faced_is men x.colour y s)
 
 -- outside Madrasi nobody is paralysed
-pub none_paralysed : (rule : RuleSet) (men : List (Option Man)) (s : ℕ) → faced_men_stand_still rule ≡ false → false ≡ is_paralysed rule men s
+pub none_paralysed : (rule : RuleSet) (men : List (Option Man)) (s : ℕ) → like_men_paralyse rule ≡ false → false ≡ is_paralysed rule men s
 unfolding is_paralysed
-none_paralysed rule men s off = sym (and_left (faced_men_stand_still rule) _ off)
+none_paralysed rule men s off = sym (and_left (like_men_paralyse rule) _ off)
 
 -- the man that goes and the man that is captured
 pub captures_arrival : (p : Position) (x : Man) (m : Move) → is_some (man_on p.men m.to) ≡ true → is_square (capture_square p x m) m.to ≡ true
@@ -138,7 +138,7 @@ own_words rule p x m k well is small =
     joined _ _ _ _ (shared _ _ _ _ (shared _ _ _ _ refl (squares_not _)) (squares_not _)) refl ∙ squares_same _ _ (λ s b. own_on rule p x m k s well is small)
 
 are_arrived : (rule : RuleSet) (p : Position) (x : Man) (m : Move) → IsWellFormed p → IsMade rule p x m → m.to < 64
-    → AreArrived p.men (arrived p x m) x m (sight_after p.men m.from (capture_square p x m) m.to)
+    → DescribesMenAfter p.men (arrived p x m) x m (sight_after p.men m.from (capture_square p x m) m.to)
 are_arrived rule p x m well is small = search (rules, seen_after, goes_capturing, own_words, others_on)
 
 -- a square is attacked after a move exactly if a man of the word of those that reach it isn't paralysed
@@ -150,14 +150,14 @@ attacked_after rule men c t w b are free = search (rules, and_parts, word_has, a
 -- the mover is in check exactly if the king's square is attacked then
 pub exposed_is : (rule : RuleSet) (p : Position) (x : Man) (m : Move) (k : ℕ) (b : Bool) → IsWellFormed p → is_pseudo_legal rule p m ≡ true → m.to < 64
     → man_on p.men m.from ≡ Some x → is_simple rule x m (is_some (capture_square p x m)) ≡ true → king_after p x m ≡ Some k
-    → ((men : List (Option Man)) → AreArrived p.men men x m (sight_after p.men m.from (capture_square p x m) m.to)
-    → AreSeen p.men men (other x.colour) (sight_after p.men m.from (capture_square p x m) m.to) → b ≡ is_attacked rule men k (other x.colour))
+    → ((men : List (Option Man)) → DescribesMenAfter p.men men x m (sight_after p.men m.from (capture_square p x m) m.to)
+    → DescribesMen p.men men (other x.colour) (sight_after p.men m.from (capture_square p x m) m.to) → b ≡ is_attacked rule men k (other x.colour))
     → b ≡ in_check rule (position_after rule p m).men p.turn
 exposed_is rule p x m k b well may small here simple king attacked =
     let is : IsMade rule p x m = made rule p m x may here in
     let parts : IsSimple rule p x m = simple_parts rule p x m simple in
     attacked (arrived p x m) (are_arrived rule p x m well is small)
-    (subst (λ (c : Colour). AreSeen p.men (arrived p x m) (other c) (sight_after p.men m.from (capture_square p x m) m.to)) (sym is.mine)
+    (subst (λ (c : Colour). DescribesMen p.men (arrived p x m) (other c) (sight_after p.men m.from (capture_square p x m) m.to)) (sym is.mine)
     (seen_after p.men m.from (capture_square p x m) m.to (arriving_man x m.promo) p.turn (goes_capturing rule p x m well is small)))
     ∙ ap (λ (c : Colour). is_attacked rule (arrived p x m) k (other c)) is.mine
     ∙ sym (check_is rule p x m (Some k) well is small parts king)

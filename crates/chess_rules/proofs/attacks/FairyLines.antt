@@ -1,5 +1,5 @@
 -- Lines of grasshoppers and nightriders to a square: men off the lines don't matter.
-use Rattle.chess_rules.proofs.Chess.{Bool, Colour, Direction, Grasshopper, Kind, List, Man, Nightrider, None, Option, Some, Step, [], along, and_from, and_left, and_right, any_range_true, ap, arith, bit_or, eq-eqb, false, false_from_ne_true, false≢true, has_fairy, hops, is_ahead, is_lined, is_man, is_occupied, is_on_fairy_line, is_on_fairy_line_at, is_square, joined, king_square, knight_steps, list_any, man_on, may_stand_between, or_cases, or_left, or_parts, or_right, other, place, queen_steps, refl, rides, rules, some_square, some_square_false, some_square_true, squares_same, step_of, sym, true, word, word_empty, ℕ, ◌&&◌, ◌-◌, ◌<◌, ◌||◌, ◌∙◌, ◌∷◌, ◌≡◌, ◌≤◌, ◌⊎◌}
+use Rattle.chess_rules.proofs.Chess.{Bool, Colour, Direction, Grasshopper, Kind, List, Man, Nightrider, None, Option, Some, Step, [], along, and_from, and_left, and_right, any_range_true, ap, arith, bit_or, eq-eqb, false, false_from_ne_true, false≢true, has_fairy, hops, is_ahead, is_lined, is_man, is_occupied, is_on_fairy_line, is_on_fairy_line_at, is_square, joined, king_square, knight_steps, list_any, man_on, may_be_hurdle, or_cases, or_left, or_parts, or_right, other, place, queen_steps, refl, rides, rules, some_square, some_square_false, some_square_true, squares_same, step_of, sym, true, word, word_empty, ℕ, ◌&&◌, ◌-◌, ◌<◌, ◌||◌, ◌∙◌, ◌∷◌, ◌≡◌, ◌≤◌, ◌⊎◌}
 use Rattle.chess_attacks.proofs.rays.Ahead.{ordered}
 use Rattle.chess_attacks.proofs.rays.Ends.{back, mirrored, square_is, stays}
 use Rattle.chess_attacks.proofs.rays.Ways.{hop-found, hop-made, ride-found, ride-made}
@@ -108,18 +108,18 @@ no_line men e k t h =
     (λ i. no_man_lined men e Grasshopper k t queen_steps n.0 i || no_man_lined men e Nightrider k t knight_steps n.1 i)
 
 -- without enemy fairy men no square is on a fairy line to the king
-pub no_fairy_line : (men : List (Option Man)) (c : Colour) → has_fairy men (other c) ≡ false → 0 ≡ word (may_stand_between men c)
-unfolding may_stand_between
+pub no_fairy_line : (men : List (Option Man)) (c : Colour) → has_fairy men (other c) ≡ false → 0 ≡ word (may_be_hurdle men c)
+unfolding may_be_hurdle
 no_fairy_line men c h = search (rules, no_line, word_empty)
 
 -- without a king none is either
-pub no_king_lined : (men : List (Option Man)) (c : Colour) → king_square men c ≡ None → 0 ≡ word (may_stand_between men c)
-unfolding may_stand_between
+pub no_king_lined : (men : List (Option Man)) (c : Colour) → king_square men c ≡ None → 0 ≡ word (may_be_hurdle men c)
+unfolding may_be_hurdle
 no_king_lined men c h = word_empty _ (λ t b. ap (λ (o : Option ℕ). is_on_fairy_line_at men o c t) h)
 
 -- the squares on a grasshopper's line to the king, and those on a nightrider's
 pub fairy_lines_are : (men : List (Option Man)) (c : Colour) (k w n : ℕ) → king_square men c ≡ Some k
     → w ≡ word (λ t. list_any (is_lined men (other c) Grasshopper k t) queen_steps)
-    → n ≡ word (λ t. list_any (is_lined men (other c) Nightrider k t) knight_steps) → bit_or w n ≡ word (may_stand_between men c)
-unfolding may_stand_between is_on_fairy_line
+    → n ≡ word (λ t. list_any (is_lined men (other c) Nightrider k t) knight_steps) → bit_or w n ≡ word (may_be_hurdle men c)
+unfolding may_be_hurdle is_on_fairy_line
 fairy_lines_are men c k w n at h i = joined _ _ _ _ h i ∙ squares_same _ _ (λ t less. ap (λ (o : Option ℕ). is_on_fairy_line_at men o c t) (sym at))

@@ -1,5 +1,5 @@
 -- The men that attacks depend on after a move.
-use Rattle.chess_rules.proofs.Chess.{AreSeen, Bool, Colour, Kind, King, List, Man, None, Option, Some, and_left, ap, arith, bit_not, cases_Bool, cases_eq, differs, eq-eqb, eqb-true, false, false≢true, is_man, is_of_colour, is_some, is_square, joined, king_square, length, man_on, man_on-with_other, man_on-without_other, man_on-without_same, not, or_cases, or_parts, or_right, other, refl, rules, same_colour, shared, sight_after, squares, squares_either, squares_not, squares_of, squares_same, true, w64, with_man, without_at, without_man, word, ℕ, ◌&&◌, ◌<◌, ◌||◌, ◌∙◌, ◌≡◌, ◌≢◌}
+use Rattle.chess_rules.proofs.Chess.{DescribesMen, Bool, Colour, Kind, King, List, Man, None, Option, Some, and_left, ap, arith, bit_not, cases_Bool, cases_eq, differs, eq-eqb, eqb-true, false, false≢true, is_man, is_of_colour, is_some, is_square, joined, king_square, length, man_on, man_on-with_other, man_on-without_other, man_on-without_same, not, or_cases, or_parts, or_right, other, refl, rules, same_colour, shared, sight_after, squares, squares_either, squares_not, squares_of, squares_same, true, w64, with_man, without_at, without_man, word, ℕ, ◌&&◌, ◌<◌, ◌||◌, ◌∙◌, ◌≡◌, ◌≢◌}
 use Rattle.chess_rules.proofs.making_moves.Plays.{stays_empty}
 
 -- a man is on s after the men on a and o have left and one has come to b
@@ -57,7 +57,7 @@ enemy_now men a o b z c k q i =
 
 -- the bitboards after a move describe the men after it
 pub seen_after : (men : List (Option Man)) (a : ℕ) (o : Option ℕ) (b : ℕ) (z : Man) (c : Colour) → IsCapture men a o b z c
-    → AreSeen men (gone_to men a o b z) (other c) (sight_after men a o b)
+    → DescribesMen men (gone_to men a o b z) (other c) (sight_after men a o b)
 unfolding squares_of
 seen_after men a o b z c i = record {
   occupied = occupied_words men a o b ∙ squares_same _ _ (λ q less. occupied_now men a o b z q i.small);

@@ -1,6 +1,6 @@
 -- A check that isn't parried stays.
-use Rattle.chess_rules.proofs.Chess.{AreEvasions, AtMostOneKing, Bool, Colour, IsNoEvasion, IsWellFormed, Kind, King, List, Man, Move, Option, Position, Queen, RuleSet, Some, Step, and_from, and_parts, and_right, ap, arith, arriving_man, bit_and, bit_at, bit_not, bit_or, capture_square, cases_eq, cond-false, eq-eqb, faced_men_stand_still, faces, faces_its_like, false, false≢true, find_first, first_of_and, has_fairy_lines, has_fairy_lines_of, in_check, is_attacked, is_attacker, is_checker, is_man, is_of_colour, is_paralysed, is_plain, is_pseudo_legal, is_square, is_vacant_at, king_square, list_any, list_any-append, man_on, may_be_paralysed, may_paralyse_anew, not-true, or_left, or_parts, or_right, other, position_after, queen_steps, reaches, reaches_as, rides, rules, same_colour, same_kind, second_fails, second_of_and, some_square, some_square_false, some_square_true, squares, squares_both, squares_either, subst, sym, true, w64, word, word_has, ℕ, ◌&&◌, ◌<◌, ◌==◌, ◌∙◌, ◌≡◌, ◌≢◌}
-use Rattle.chess_rules.proofs.attacks.Shielding.{IsPlain, IsShift, arrived_shift, king_is, man_there, men_after, other_differs}
+use Rattle.chess_rules.proofs.Chess.{AreEvasions, AtMostOneKing, Bool, Colour, IsNoEvasion, IsWellFormed, Kind, King, List, Man, Move, Option, Position, Queen, RuleSet, Some, Step, and_from, and_parts, and_right, ap, arith, arriving_man, bit_and, bit_at, bit_not, bit_or, capture_square, cases_eq, cond-false, eq-eqb, like_men_paralyse, attacks_like, is_attacked_by_like, false, false≢true, find_first, first_of_and, has_fairy_lines, has_fairy_lines_of, in_check, is_attacked, is_attacker, is_checker, is_man, is_of_colour, is_paralysed, is_plain, is_pseudo_legal, is_square, is_vacant_at, king_square, list_any, list_any-append, man_on, may_be_paralysed, may_paralyse_new_kind, not-true, or_left, or_parts, or_right, other, position_after, queen_steps, reaches, reaches_as, rides, rules, same_colour, same_kind, second_fails, second_of_and, some_square, some_square_false, some_square_true, squares, squares_both, squares_either, subst, sym, true, w64, word, word_has, ℕ, ◌&&◌, ◌<◌, ◌==◌, ◌∙◌, ◌≡◌, ◌≢◌}
+use Rattle.chess_rules.proofs.attacks.Blocking.{IsPlain, IsShift, arrived_shift, king_is, man_there, men_after, other_differs}
 use Rattle.chess_rules.proofs.attacks.Exposing.{free_of_own}
 use Rattle.chess_rules.proofs.listing_moves.Targeting.{every_square_on}
 use Rattle.chess_rules.proofs.making_moves.Fits.{arrived}
@@ -48,11 +48,11 @@ record IsAway (rule : RuleSet) (men : List (Option Man)) (c : Colour) (a b : ℕ
   pub size : (s : ℕ) (y : Man) → man_on men s ≡ Some y → s < 64
   pub king : (k : ℕ) → king_square men c ≡ Some k → (k ≢ a) × (k ≢ b)
   pub enemy : (s : ℕ) → is_of_colour (man_on men s) (other c) ≡ true → s ≢ a
-  pub same : faced_men_stand_still rule ≡ true → man_on men a ≡ Some z
+  pub same : like_men_paralyse rule ≡ true → man_on men a ≡ Some z
 
 module _ (rule : RuleSet) (men after : List (Option Man)) (a b : ℕ) (z : Man) (c : Colour) (i : IsShift men after a b z) (away : IsAway rule men c a b z) where
   -- a side that has a man of a kind after the move had one before it
-  like_stood : (k : Kind) (q : ℕ) → faced_men_stand_still rule ≡ true → is_man (man_on after q) c k ≡ true → some_square (λ s. is_man (man_on men s) c k) ≡ true
+  like_stood : (k : Kind) (q : ℕ) → like_men_paralyse rule ≡ true → is_man (man_on after q) c k ≡ true → some_square (λ s. is_man (man_on men s) c k) ≡ true
   like_stood k q stands h =
       let x = man_there (man_on after q) c k h in
       let some = some_square_true (λ s. is_man (man_on men s) c k) in
@@ -61,8 +61,8 @@ module _ (rule : RuleSet) (men after : List (Option Man)) (a b : ℕ) (z : Man) 
   -- a man that faced no man of its kind before the move isn't paralysed after it
   unfaced : (s : ℕ) (y : Man) → man_on after s ≡ Some y → same_colour y.colour (other c) ≡ true → may_be_paralysed rule men c (Some y) ≡ false
       → is_paralysed rule after s ≡ false
-  unfolding is_paralysed faces_its_like faces
-  unfaced s y at side none = grind (arith, like_stood, some_square_false (faces after y s) 64)
+  unfolding is_paralysed is_attacked_by_like attacks_like
+  unfaced s y at side none = grind (arith, like_stood, some_square_false (attacks_like after y s) 64)
 
 no_evasion_stays : (rule : RuleSet) (men after : List (Option Man)) (a b : ℕ) (z : Man) (c : Colour) → IsShift men after a b z → AtMostOneKing after
     → IsAway rule men c a b z → IsNoEvasion rule men c b → in_check rule after c ≡ true
@@ -83,7 +83,7 @@ no_evasion_stays rule men after a b z c i one away u =
 
 -- a plain move that doesn't meet a check, and isn't the king's, leaves its mover in check
 check_stays : (rule : RuleSet) (p : Position) (x : Man) (m : Move) → IsWellFormed p → is_pseudo_legal rule p m ≡ true → man_on p.men m.from ≡ Some x → m.to < 64
-    → IsPlain rule p x m → same_kind x.kind King ≡ false → may_paralyse_anew rule m ≡ false → IsNoEvasion rule p.men p.turn m.to
+    → IsPlain rule p x m → same_kind x.kind King ≡ false → may_paralyse_new_kind rule m ≡ false → IsNoEvasion rule p.men p.turn m.to
     → in_check rule (position_after rule p m).men p.turn ≡ true
 check_stays rule p x m well may here small plain piece none u =
     let is = made rule p m x may here in
@@ -115,7 +115,7 @@ evasion_squares_one rule men c k s w n r t at moving plain all small set h i j =
 
 -- the same, for a word
 pub check_unmet : (rule : RuleSet) (p : Position) (x : Man) (m : Move) (w t : ℕ) → IsWellFormed p → is_pseudo_legal rule p m ≡ true
-    → man_on p.men m.from ≡ Some x → t ≡ m.to → t < 64 → is_plain rule p x m ≡ true → same_kind x.kind King ≡ false → may_paralyse_anew rule m ≡ false
+    → man_on p.men m.from ≡ Some x → t ≡ m.to → t < 64 → is_plain rule p x m ≡ true → same_kind x.kind King ≡ false → may_paralyse_new_kind rule m ≡ false
     → AreEvasions rule p.men p.turn w → (bit_at w t == 1) ≡ false → in_check rule (position_after rule p m).men p.turn ≡ true
 unfolding is_plain capture_square
 check_unmet rule p x m w t well may here same small plain piece none evasion_squares off =

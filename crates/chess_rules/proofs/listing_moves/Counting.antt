@@ -2,13 +2,13 @@
 use Rattle.std.proofs.lemmas.List.Sums.{count_by-le-length, length-filter}
 use Rattle.std.specs.Int.Count.{ones_step}
 use Rattle.std.specs.Prelude.{count_ones}
-use Rattle.chess_rules.proofs.Chess.{AreCandidates, AreLegal, Bool, HaveNone, IsBarrenFrom, Move, None, Pawn, Position, RuleSet, all_triples, ap, arith, bit_at, bit_at-lt, cases_Bool, cases_eq, cases_lt, differs, false, from_bool, inl, inr, is_legal, is_legal-idle, is_man, length, length-append, length-take, man_on, moves_between, ones-le, passes_to, per_arrival, per_origin, pow_mono, promotion_at, refl, rules, shr-shr, shr_below, suc, sym, triple_at, true, zero, ℕ, ◌%◌, ◌&&◌, ◌*◌, ◌+◌, ◌-◌, ◌/◌, ◌<◌, ◌==◌, ◌^◌, ◌∙◌, ◌≡◌, ◌≤◌}
+use Rattle.chess_rules.proofs.Chess.{AreCandidates, AreLegal, Bool, NonePass, HasNoMoveFrom, Move, None, Pawn, Position, RuleSet, all_triples, ap, arith, bit_at, bit_at-lt, cases_Bool, cases_eq, cases_lt, differs, false, from_bool, inl, inr, is_legal, is_legal-idle, is_man, length, length-append, length-take, man_on, moves_between, ones-le, passes_to, per_arrival, per_origin, pow_mono, promotion_at, refl, rules, shr-shr, shr_below, suc, sym, triple_at, true, zero, ℕ, ◌%◌, ◌&&◌, ◌*◌, ◌+◌, ◌-◌, ◌/◌, ◌<◌, ◌==◌, ◌^◌, ◌∙◌, ◌≡◌, ◌≤◌}
 use Rattle.chess_rules.proofs.listing_moves.Between.{between-here, between-none, between-none-is_legal, between-past, between-skip, between_cut}
 use Rattle.chess_rules.proofs.listing_moves.Targeting.{arrival_from, named_by, no_promotion_here, some_named}
 use Rattle.chess_rules.proofs.listing_moves.Walks.{IsWalked, none-from, none-plain, none-to, triple_of, walk_before}
 use Rattle.chess_attacks.proofs.Bits.{off_zero}
 use Rattle.chess_attacks.proofs.Basics.{nat_le}
-use Rattle.chess_attacks.specs.ties.Taking.{IsTaken}
+use Rattle.chess_attacks.specs.ties.Taking.{IsPopped}
 
 bit_is : (n : ℕ) → n < 2 → n ≡ from_bool (n == 1)
 bit_is n less = grind arith
@@ -58,7 +58,7 @@ module _ (rule : RuleSet) (p : Position) where
   none_left a e le = ap length (between-none rule p a e le)
 
   -- over a range without moves the count stays
-  count_over : (a b e : ℕ) → a ≤ b → b ≤ all_triples → HaveNone (is_legal rule p) a b → between a e ≡ between b e
+  count_over : (a b e : ℕ) → a ≤ b → b ≤ all_triples → NonePass (is_legal rule p) a b → between a e ≡ between b e
   count_over a b e lo hi none = ap length (between-none-is_legal rule p a b e (λ less. lo) hi none)
 
   -- where no move was taken yet
@@ -71,7 +71,7 @@ module _ (rule : RuleSet) (p : Position) where
     counted = none ∙ sym (none_left start start (omega arith));
   }
 
-  module _ (start rest count s left n z : ℕ) (h : IsCounted rule p start rest count) (next : IsTaken rest s left) (first : n ≡ per_origin * s)
+  module _ (start rest count s left n z : ℕ) (h : IsCounted rule p start rest count) (next : IsPopped rest s left) (first : n ≡ per_origin * s)
       (begin : z ≡ start - n) where
     abbrev same : h.reached - n ≡ z
     same = grind (arith, h.begin s, next.small, next.here)
@@ -81,7 +81,7 @@ module _ (rule : RuleSet) (p : Position) where
     pub counted_to : (a : ℕ) → z ≤ a → between start (n + a) ≡ count + between (per_origin * s + z) (per_origin * s + a)
     counted_to a more =
         let before = walk_before (is_legal rule p) h.reached rest s n h.walked next.first (omega (arith, next.small)) (omega (arith, first)) in
-        let free : HaveNone (is_legal rule p) h.reached (n + z) = record { fails = λ k lo hi. grind (arith, same, cases_lt k n, before.fails k) } in
+        let free : NonePass (is_legal rule p) h.reached (n + z) = record { fails = λ k lo hi. grind (arith, same, cases_lt k n, before.fails k) } in
         grind (arith, same, h.low, h.counted, count_cut start h.reached (n + a), between-none-is_legal rule p h.reached (n + z) (n + a), free, next.small)
 
     -- past it
@@ -109,7 +109,7 @@ module _ (rule : RuleSet) (p : Position) where
 
   module _ (s w : ℕ) (small : s < 64) (are : AreCandidates rule p (is_legal rule p) s w) where
     -- triples that are no moves don't count
-    pub count_barren : (a b e : ℕ) → a ≤ b → b ≤ per_origin → IsBarrenFrom p s w a b → between (per_origin * s + a) e ≡ between (per_origin * s + b) e
+    pub count_barren : (a b e : ℕ) → a ≤ b → b ≤ per_origin → HasNoMoveFrom p s w a b → between (per_origin * s + a) e ≡ between (per_origin * s + b) e
     count_barren a b e lo hi h = count_over _ _ e (omega arith) (omega arith) (none-from rule p (is_legal rule p) (is_legal-idle rule p) s w a b hi are h)
 
     -- one that is a move counts once
@@ -133,7 +133,7 @@ module _ (rule : RuleSet) (p : Position) where
       counted_end b off small past = grind (arith, h.all, cases_lt (per_arrival * b) h.at, skip b off small, none_left)
 
       -- past the next square
-      pub counted_past : (t left : ℕ) (legal : Bool) → IsTaken rest t left → per_arrival * t < end
+      pub counted_past : (t left : ℕ) (legal : Bool) → IsPopped rest t left → per_arrival * t < end
           → is_legal rule p (record { from = s; to = t; promo = None }) ≡ legal → IsCountedTo rule p s w start end left (count + from_bool legal)
       counted_past t left legal next before answer =
           let from : h.at ≤ per_arrival * t = grind (arith, h.left t next.small, next.here) in

@@ -28,16 +28,16 @@ module _ {X : Type 0} where
   in_filter test [] x c t = absurd (none_in_nil x c)
   in_filter test (y ∷ xs) x c t = elim (in_cases y xs x c) [
     | inl same ↦ here (test y) (ap test same ∙ t) same
-    | inr r ↦ behind (test y) (in_filter test xs x r t)
+    | inr r ↦ following (test y) (in_filter test xs x r t)
   ]
     where
       here : (b : Bool) → b ≡ true → y ≡ x → Contains (cond b (y ∷ filter test xs) (filter test xs)) x
       here true e same = (0, omega arith, same)
       here false e same = absurd (false≢true e)
 
-      behind : (b : Bool) → Contains (filter test xs) x → Contains (cond b (y ∷ filter test xs) (filter test xs)) x
-      behind true w = later_in y (filter test xs) x w
-      behind false w = w
+      following : (b : Bool) → Contains (filter test xs) x → Contains (cond b (y ∷ filter test xs) (filter test xs)) x
+      following true w = later_in y (filter test xs) x w
+      following false w = w
 
 -- the numbers of a range
 pub in_range : (a n k : ℕ) → a ≤ k → k < a + n → Contains (range_with_len a n) k

@@ -1,6 +1,6 @@
 -- Moves that are legal without a test of each.
-use Rattle.chess_rules.proofs.Chess.{AreCandidates, AreLegal, Bool, IsAimed, IsWellFormed, King, Man, Move, None, Pawn, Position, RuleSet, Some, and_from, and_left, arith, bit_and, bit_at, bit_or, cannot_expose, captures_do_more, eqb-true, false, if◌then◌else◌, is_legal, is_plain, is_promoting, is_some, is_square, is_unsure, joined, last_rank, man_on, may_expose, may_stand_between, or_parts, rank_of, refl, rules, same_kind, squares_same, sym, true, word, word_empty, word_has, ℕ, ◌&&◌, ◌<◌, ◌==◌, ◌∙◌, ◌≡◌}
-use Rattle.chess_rules.proofs.attacks.Shielding.{cannot_expose_own}
+use Rattle.chess_rules.proofs.Chess.{AreCandidates, AreLegal, Bool, IsAimed, IsWellFormed, King, Man, Move, None, Pawn, Position, RuleSet, Some, and_from, and_left, arith, bit_and, bit_at, bit_or, cannot_expose, captures_do_more, eqb-true, false, if◌then◌else◌, is_legal, is_plain, is_promoting, is_some, is_square, is_untested, joined, last_rank, man_on, may_expose, may_be_hurdle, or_parts, rank_of, refl, rules, same_kind, squares_same, sym, true, word, word_empty, word_has, ℕ, ◌&&◌, ◌<◌, ◌==◌, ◌∙◌, ◌≡◌}
+use Rattle.chess_rules.proofs.attacks.Blocking.{cannot_expose_own}
 use Rattle.chess_rules.proofs.listing_moves.Arrivals.{aimed_plain, goes_on, may_go_aimed}
 use Rattle.chess_rules.proofs.listing_moves.Targeting.{no_pawn_arrives}
 use Rattle.chess_rules.proofs.listing_moves.Walks.{off_second}
@@ -8,20 +8,20 @@ use Rattle.chess_attacks.proofs.Bits.{off_zero}
 
 -- a move to a square that is sure changes nothing else, and uncovers no king
 sure_unexposed : (rule : RuleSet) (p : Position) (x : Man) (m : Move) → man_on p.men m.from ≡ Some x → same_kind x.kind King ≡ false
-    → may_expose p.men p.turn m.from ≡ false → is_unsure rule p x m.to ≡ false → (cannot_expose rule p p.turn m ≡ true) × (is_promoting x m.to ≡ false)
-unfolding cannot_expose is_plain is_unsure
+    → may_expose p.men p.turn m.from ≡ false → is_untested rule p x m.to ≡ false → (cannot_expose rule p p.turn m ≡ true) × (is_promoting x m.to ≡ false)
+unfolding cannot_expose is_plain is_untested
 sure_unexposed rule p x m here piece from sure = search (rules, and_from, and_left, or_parts)
 
 -- each move to a sure square by a man that isn't the king and blocks no line to it is legal
 pub surely_legal : (rule : RuleSet) (p : Position) (x : Man) (s w v u : ℕ) → IsWellFormed p → man_on p.men s ≡ Some x → s < 64
     → AreCandidates rule p (is_legal rule p) s w → same_kind x.kind King ≡ false → v ≡ word (may_expose p.men p.turn) → (bit_at v s == 1) ≡ false
-    → u ≡ word (is_unsure rule p x) → (bit_and w u == 0) ≡ true → AreLegal rule p s w
+    → u ≡ word (is_untested rule p x) → (bit_and w u == 0) ≡ true → AreLegal rule p s w
 unfolding is_legal
-surely_legal rule p x s w v u well here small are piece shields unshielding unsure none =
+surely_legal rule p x s w v u well here small are piece blockers unblocking unsure none =
     let zero : bit_and w u ≡ 0 = eqb-true (bit_and w u) 0 none in
     let parts = λ (t : ℕ) (lt : t < 64) (on : (bit_at w t == 1) ≡ true). sure_unexposed rule p x (record { from = s; to = t; promo = None }) here piece
-    (sym (word_has (may_expose p.men p.turn) v s shields small) ∙ unshielding)
-    (sym (word_has (is_unsure rule p x) u t unsure lt) ∙ off_second w u t (rw zero (off_zero t)) on) in
+    (sym (word_has (may_expose p.men p.turn) v s blockers small) ∙ unblocking)
+    (sym (word_has (is_untested rule p x) u t unsure lt) ∙ off_second w u t (rw zero (off_zero t)) on) in
     record {
       man = x;
       here = here;
@@ -38,10 +38,10 @@ reborn_word b test = search (rules, word_empty)
 
 -- the word of the squares that aren't sure: those on the lines of fairy men, the en passant square, those
 -- with men that may be reborn, and a pawn's last rank
-pub unsure_word : (rule : RuleSet) (p : Position) (x : Man) (f c r l : ℕ) → f ≡ word (may_stand_between p.men p.turn) → c ≡ word (λ t. is_square p.crossed t)
+pub unsure_word : (rule : RuleSet) (p : Position) (x : Man) (f c r l : ℕ) → f ≡ word (may_be_hurdle p.men p.turn) → c ≡ word (λ t. is_square p.crossed t)
     → r ≡ (if captures_do_more rule then word (λ t. is_some (man_on p.men t)) else 0) → l ≡ word (is_promoting x)
-    → bit_or (bit_or (bit_or f c) r) l ≡ word (is_unsure rule p x)
-unfolding is_unsure
+    → bit_or (bit_or (bit_or f c) r) l ≡ word (is_untested rule p x)
+unfolding is_untested
 unsure_word rule p x f c r l hf hc hr hl = joined _ _ _ _ (joined _ _ _ _ (joined _ _ _ _ hf hc) (hr ∙ reborn_word _ _)) hl
 
 -- the squares on which a pawn is promoted

@@ -1,5 +1,5 @@
 -- Arrival squares: walking from one to the next misses no move.
-use Rattle.chess_rules.proofs.Chess.{Bool, IsAimed, IsBarrenFrom, IsFirst, IsNamed, Kind, King, List, Man, Move, None, Option, Pawn, Position, RuleSet, Some, agree_below_at, along, and_from, and_parts, ap, arith, bit_at, bit_not, can_castle, cases_Bool, cond-false, cond-true, false, file_of, find, find_first, find_no, is_advance, is_arrival, is_castling, is_of_colour, is_promoting, is_promotion_right, is_pseudo_legal, is_pseudo_legal_of, is_some, is_square, is_two_files_aside, man_on, may_castle, may_go, or_left, or_right, per_arrival, per_origin, promotion_at, range_with_len, rank_of, reaches, reaches_as, refl, rules, same_colour-refl, same_kind, square_at, squares_same, steps_to, sym, true, w64, word, word_empty, ℕ, ◌%◌, ◌*◌, ◌+◌, ◌-◌, ◌/◌, ◌<◌, ◌==◌, ◌∙◌, ◌≡◌, ◌≤◌}
+use Rattle.chess_rules.proofs.Chess.{Bool, IsAimed, HasNoMoveFrom, IsFirst, NamesMove, Kind, King, List, Man, Move, None, Option, Pawn, Position, RuleSet, Some, agree_below_at, along, and_from, and_parts, ap, arith, bit_at, bit_not, can_castle, cases_Bool, cond-false, cond-true, false, file_of, find, find_first, find_no, is_advance, is_arrival, is_castling, is_of_colour, is_promoting, is_promotion_right, is_pseudo_legal, is_pseudo_legal_of, is_some, is_square, is_two_files_aside, man_on, may_castle, may_arrive, or_left, or_right, per_arrival, per_origin, promotion_at, range_with_len, rank_of, reaches, reaches_as, refl, rules, same_colour-refl, same_kind, square_at, squares_same, steps_to, sym, true, w64, word, word_empty, ℕ, ◌%◌, ◌*◌, ◌+◌, ◌-◌, ◌/◌, ◌<◌, ◌==◌, ◌∙◌, ◌≡◌, ◌≤◌}
 use Rattle.chess_rules.proofs.making_moves.Pseudo.{made}
 use Rattle.std.proofs.Math.Bool.{beq}
 
@@ -34,7 +34,7 @@ reaches_man men x s t here h = rw here at h
 -- a move goes where its man may go
 arrival_by : (rule : RuleSet) (p : Position) (m : Move) (o : Option Man) → m.to < 64 → man_on p.men m.from ≡ o → is_pseudo_legal_of rule p o m ≡ true
     → is_arrival rule p m.from m.to ≡ true
-unfolding is_arrival may_go can_castle may_castle
+unfolding is_arrival may_arrive can_castle may_castle
 arrival_by rule p m o small here h = grind (arith, and_from, and_parts, castling_steps, cond-false, cond-true, or_left, or_right, reaches_man)
 
 -- a move that may be made goes where its man may go
@@ -95,11 +95,11 @@ abbrev pub arrival_from : ℕ → ℕ
 arrival_from a = (a + per_arrival - 1) / per_arrival
 
 -- two adjacent ranges of one origin without a move make one
-pub from-join : (p : Position) (s z a b c : ℕ) → IsBarrenFrom p s z a b → IsBarrenFrom p s z b c → IsBarrenFrom p s z a c
+pub from-join : (p : Position) (s z a b c : ℕ) → HasNoMoveFrom p s z a b → HasNoMoveFrom p s z b c → HasNoMoveFrom p s z a c
 from-join p s z a b c x y = search rules
 
 -- no square of the word lies between
-from-missed : (p : Position) (s a b w : ℕ) → ((t : ℕ) → a / per_arrival ≤ t → per_arrival * t < b → (bit_at w t == 1) ≡ false) → IsBarrenFrom p s w a b
+from-missed : (p : Position) (s a b w : ℕ) → ((t : ℕ) → a / per_arrival ≤ t → per_arrival * t < b → (bit_at w t == 1) ≡ false) → HasNoMoveFrom p s w a b
 from-missed p s a b w none = search rules
 
 -- each promotion but the first names a kind
@@ -112,7 +112,7 @@ named_by o h = grind arith
 
 -- on another rank than the last there is no promotion
 pub from-unpromoted : (p : Position) (x : Man) (s z t a : ℕ) → man_on p.men s ≡ Some x → is_promoting x t ≡ false → per_arrival * t < a
-    → IsBarrenFrom p s z a (per_arrival * t + per_arrival)
+    → HasNoMoveFrom p s z a (per_arrival * t + per_arrival)
 from-unpromoted p x s z t a here h lt = record {
   fails = λ rule k lo hi on.
       let some = named_by (promotion_at (k % per_arrival)) (some_named (k % per_arrival) (omega arith) (omega arith)) in
@@ -121,7 +121,7 @@ from-unpromoted p x s z t a here h lt = record {
 
 -- on the last there is one
 from-promoted : (p : Position) (x : Man) (s z t : ℕ) → man_on p.men s ≡ Some x → is_promoting x t ≡ true
-    → IsBarrenFrom p s z (per_arrival * t) (per_arrival * t + 1)
+    → HasNoMoveFrom p s z (per_arrival * t) (per_arrival * t + 1)
 from-promoted p x s z t here h = record {
   fails = λ rule k lo hi on.
       let to : k / per_arrival ≡ t = omega arith in
@@ -130,21 +130,21 @@ from-promoted p x s z t here h = record {
 }
 
 -- up to the first target
-pub from-target : (p : Position) (s start at t w : ℕ) → IsBarrenFrom p s w start at
-    → IsFirst (λ q. bit_at w q == 1) (at / per_arrival) (64 - at / per_arrival) t → IsBarrenFrom p s w start (per_arrival * t)
+pub from-target : (p : Position) (s start at t w : ℕ) → HasNoMoveFrom p s w start at
+    → IsFirst (λ q. bit_at w q == 1) (at / per_arrival) (64 - at / per_arrival) t → HasNoMoveFrom p s w start (per_arrival * t)
 from-target p s start at t w past f = search rules
 
 -- a pawn that arrives on its last rank has no move up to the first target, nor one to that target without a
 -- promotion
-pub from-first : (p : Position) (x : Man) (s start at t w n : ℕ) → man_on p.men s ≡ Some x → IsBarrenFrom p s w start at
+pub from-first : (p : Position) (x : Man) (s start at t w n : ℕ) → man_on p.men s ≡ Some x → HasNoMoveFrom p s w start at
     → find (λ q. bit_at w q == 1) (range_with_len (at / per_arrival) (64 - at / per_arrival)) ≡ Some t → is_promoting x t ≡ true → n ≡ per_arrival * t
-    → IsBarrenFrom p s w start (n + 1)
+    → HasNoMoveFrom p s w start (n + 1)
 from-first p x s start at t w n here past found last e =
     from-join p s w start (per_arrival * t) (n + 1) (from-target p s start at t w past (find_first _ _ _ t found)) (rw e (from-promoted p x s w t here last))
 
 -- up to the end, where there is none
-pub from-none : (p : Position) (s start at w : ℕ) → IsBarrenFrom p s w start at
-    → find (λ q. bit_at w q == 1) (range_with_len (at / per_arrival) (64 - at / per_arrival)) ≡ None → IsBarrenFrom p s w start per_origin
+pub from-none : (p : Position) (s start at w : ℕ) → HasNoMoveFrom p s w start at
+    → find (λ q. bit_at w q == 1) (range_with_len (at / per_arrival) (64 - at / per_arrival)) ≡ None → HasNoMoveFrom p s w start per_origin
 from-none p s start at w past none = grind (arith, from-join p s w start at per_origin past, from-missed p s at per_origin w, find_no (λ q. bit_at w q == 1))
 
 -- another man than a pawn never arrives as one
@@ -153,7 +153,7 @@ no_pawn_arrives x t h = rw h refl
 
 -- the triple that is found
 pub named_at : (p : Position) (x : Man) (s t n w : ℕ) → man_on p.men s ≡ Some x → (bit_at w t == 1) ≡ true → n / per_arrival ≡ t
-    → is_some (promotion_at (n % per_arrival)) ≡ is_promoting x t → IsNamed p s w n
+    → is_some (promotion_at (n % per_arrival)) ≡ is_promoting x t → NamesMove p s w n
 named_at p x s t n w here set at named = record { man = x; here = here; inside = rw at set; promotion = rw at named }
 
 -- the first promotion names no kind
@@ -162,7 +162,7 @@ none_named n e = rw e refl
 
 -- where none may be named it is the one without a promotion
 pub unnamed_at : (p : Position) (x : Man) (s a t n w : ℕ) → man_on p.men s ≡ Some x → is_promoting x t ≡ false
-    → find (λ q. bit_at w q == 1) (range_with_len a (64 - a)) ≡ Some t → n ≡ per_arrival * t → IsNamed p s w n
+    → find (λ q. bit_at w q == 1) (range_with_len a (64 - a)) ≡ Some t → n ≡ per_arrival * t → NamesMove p s w n
 unnamed_at p x s a t n w here off found e =
     named_at p x s t n w here (find_first _ a (64 - a) t found).here (omega (arith, e)) (none_named (n % per_arrival) (omega (arith, e)) ∙ sym off)
 

@@ -2,7 +2,7 @@
 use Rattle.chess_rules.proofs.Chess.{AllPairs, Bishop, Bool, Colour, Contains, Gait, Grasshopper, Hopper, Kind, King, Knight, Leaper, List, Man, Move, Nightrider, Option, Pawn, Position, Queen, Rider, Rook, RuleSet, Some, Step, [], all_triples, along, along-is, and_parts, ap, arith, can_castle, false≢true, flat_map, gait_of, get_or-range_with_len, goes_by, hops, is_nil, is_promotion_right, is_pseudo_legal, is_square, kind_steps, leaps, length, length-range_with_len, list_any, man_on, map, may_castle, may_promote, or_cases, order_number, promotion_order, promotions, range_with_len, reaches, reaches_as, reaches_of, refl, rides, rules, squares, suc, triple_at, triples, true, zero, ℕ, ◌+◌, ◌-◌, ◌<◌, ◌↔◌, ◌∷◌, ◌≡◌, ◌⊎◌}
 use Rattle.chess_rules.proofs.listing_moves.Members.{first_in, none_in_nil, from_flat_map, from_map, from_range, in_flat_map, in_map, in_range, pairs_map}
 use Rattle.chess_rules.proofs.listing_moves.Places.{triples_numbered}
-use Rattle.chess_rules.proofs.making_moves.Pseudo.{IsMade, made, pawn_goes, ways}
+use Rattle.chess_rules.proofs.making_moves.Pseudo.{IsMade, made, pawn_steps_to, ways}
 use Rattle.chess_attacks.proofs.rays.OnSquares.{on_board}
 use Rattle.chess_rules.proofs.making_moves.Stays.{maker}
 
@@ -76,7 +76,7 @@ unfolding can_castle may_castle
 castling_on_board rule p x m from h = search rules
 
 arrival_on_board : (rule : RuleSet) (p : Position) (x : Man) (m : Move) → m.from < 64 → IsMade rule p x m → m.to < 64
-arrival_on_board rule p x m from made = search (rules, castling_on_board, pawn_goes, reach_on_board, ways)
+arrival_on_board rule p x m from made = search (rules, castling_on_board, pawn_steps_to, reach_on_board, ways)
 
 may_be_promoted : (p : Position) (k : Kind) → may_promote p k ≡ true → Contains promotions (Some k)
 may_be_promoted p King h = absurd (false≢true h)

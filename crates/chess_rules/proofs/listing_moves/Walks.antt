@@ -1,7 +1,7 @@
 -- Walking from candidate to candidate misses no move.
-use Rattle.chess_rules.proofs.Chess.{AreCandidates, AreEvasionsFrom, AreOrigins, Bool, HaveNone, IsAimed, IsBarrenFrom, IsNamed, Move, None, Pawn, Position, RuleSet, all_triples, and_parts, and_right, ap, arith, bit_and, bit_at, bit_at-lt, bit_at_and, cases_Bool, cases_eq, cases_lt, eq-eqb, eqb-true, false, false≢true, is_arrival, is_legal, is_legal-idle, is_man, is_pseudo_legal, is_some, man_on, not, passes_to, per_arrival, per_origin, promotion_at, refl, rules, side_of, triple_at, true, word, word_has, ℕ, ◌%◌, ◌&&◌, ◌*◌, ◌+◌, ◌-◌, ◌/◌, ◌<◌, ◌==◌, ◌≡◌, ◌≤◌}
+use Rattle.chess_rules.proofs.Chess.{AreCandidates, AreEvasionsFrom, AreOrigins, Bool, NonePass, IsAimed, HasNoMoveFrom, NamesMove, Move, None, Pawn, Position, RuleSet, all_triples, and_parts, and_right, ap, arith, bit_and, bit_at, bit_at-lt, bit_at_and, cases_Bool, cases_eq, cases_lt, eq-eqb, eqb-true, false, false≢true, is_arrival, is_legal, is_legal-idle, is_man, is_pseudo_legal, is_some, man_on, not, passes_to, per_arrival, per_origin, promotion_at, refl, rules, side_of, triple_at, true, word, word_has, ℕ, ◌%◌, ◌&&◌, ◌*◌, ◌+◌, ◌-◌, ◌/◌, ◌<◌, ◌==◌, ◌≡◌, ◌≤◌}
 use Rattle.chess_attacks.proofs.Basics.{nat_le}
-use Rattle.chess_attacks.specs.ties.Taking.{IsTaken}
+use Rattle.chess_attacks.specs.ties.Taking.{IsPopped}
 use Rattle.chess_rules.proofs.listing_moves.Targeting.{arrival_from, arrival_needed, false_by, named_by, no_pawn_arrives, no_promotion_here, own_moves, some_named}
 use Rattle.chess_attacks.proofs.Bits.{off_zero}
 
@@ -30,8 +30,8 @@ plain_aimed rule p m none h e = grind (arith, false≢true, no_pawn_arrives, and
 
 -- where none is found that goes to a candidate, none passes
 pub none-to : (rule : RuleSet) (p : Position) (test found : Move → Bool) (s w a b : ℕ) → b ≤ per_origin → AreCandidates rule p test s w
-    → ((m : Move) → found m ≡ false → test m ≡ false) → HaveNone (passes_to w found) (per_origin * s + a) (per_origin * s + b)
-    → HaveNone test (per_origin * s + a) (per_origin * s + b)
+    → ((m : Move) → found m ≡ false → test m ≡ false) → NonePass (passes_to w found) (per_origin * s + a) (per_origin * s + b)
+    → NonePass test (per_origin * s + a) (per_origin * s + b)
 unfolding triple_at
 none-to rule p test found s w a b le are less h = record {
   fails = λ k lo hi. grind (arith, cases_Bool (bit_at w (triple_at k).to == 1), are.outside (triple_at k), less (triple_at k), h.fails k lo hi);
@@ -54,8 +54,8 @@ module _ (rule : RuleSet) (p : Position) (test : Move → Bool) (needs : (m : Mo
   none-move s w m are at small h = search (rules, cases_Bool)
 
   -- over a range without a move no candidate of an origin passes
-  pub none-from : (s w a b : ℕ) → b ≤ per_origin → AreCandidates rule p test s w → IsBarrenFrom p s w a b
-      → HaveNone test (per_origin * s + a) (per_origin * s + b)
+  pub none-from : (s w a b : ℕ) → b ≤ per_origin → AreCandidates rule p test s w → HasNoMoveFrom p s w a b
+      → NonePass test (per_origin * s + a) (per_origin * s + b)
   none-from s w a b le are h = record {
     fails = λ k lo hi.
         let at : per_origin * s + (k - per_origin * s) ≡ k = omega (arith, lo) in
@@ -63,8 +63,8 @@ module _ (rule : RuleSet) (p : Position) (test : Move → Bool) (needs : (m : Mo
   }
 
   -- past one that fails too
-  pub none-onward : (s w z a b : ℕ) → b ≤ per_origin → AreCandidates rule p test s w → HaveNone test (per_origin * s + z) (per_origin * s + a)
-      → test (triple_at (per_origin * s + a)) ≡ false → IsBarrenFrom p s w (a + 1) b → HaveNone test (per_origin * s + z) (per_origin * s + b)
+  pub none-onward : (s w z a b : ℕ) → b ≤ per_origin → AreCandidates rule p test s w → NonePass test (per_origin * s + z) (per_origin * s + a)
+      → test (triple_at (per_origin * s + a)) ≡ false → HasNoMoveFrom p s w (a + 1) b → NonePass test (per_origin * s + z) (per_origin * s + b)
   none-onward s w z a b le are past fails here = search (rules, none-from, cases_lt, cases_eq, le, are, past, fails, here)
 
   -- the squares of the side to move are all its origins
@@ -88,15 +88,15 @@ module _ (test : Move → Bool) where
 
   -- up to the next origin, or to the end, where there is none
   pub walk_before : (start rest s e : ℕ) → IsWalked test start rest → ((t : ℕ) → t < s → (bit_at rest t == 1) ≡ false) → s ≤ 64 → e ≤ per_origin * s
-      → HaveNone test start e
+      → NonePass test start e
   walk_before start rest s e w off small le = record {
     fails = λ k lo hi. w.none k lo (omega (arith, hi, le, small)) (off (k / per_origin) (omega (arith, hi, le)));
   }
 
-  module _ (start rest s left n z a : ℕ) (w : IsWalked test start rest) (next : IsTaken rest s left) (first : n ≡ per_origin * s) (begin : z ≡ start - n)
-      (here : HaveNone test (per_origin * s + z) (per_origin * s + a)) where
+  module _ (start rest s left n z a : ℕ) (w : IsWalked test start rest) (next : IsPopped rest s left) (first : n ≡ per_origin * s) (begin : z ≡ start - n)
+      (here : NonePass test (per_origin * s + z) (per_origin * s + a)) where
     -- up to one of its triples
-    pub walk_to : HaveNone test start (n + a)
+    pub walk_to : NonePass test start (n + a)
     walk_to = grind (arith, cases_lt, walk_before start rest s n w next.first, next.small)
 
     -- the walk continues after the last of the origin's triples
@@ -118,7 +118,7 @@ pub none-plain : (rule : RuleSet) (p : Position) (test : Move → Bool) → ((m 
     → ((t : ℕ) → t < 64 → (bit_at w t == 1) ≡ true → (bit_at rest t == 1) ≡ false → arrival_from a ≤ t
     → test (record { from = s; to = t; promo = None }) ≡ false)
     → ((t : ℕ) → t < b → (bit_at rest t == 1) ≡ false) → n ≤ per_arrival * b → b ≤ 64
-    → HaveNone (passes_to w test) (per_origin * s + a) (per_origin * s + n)
+    → NonePass (passes_to w test) (per_origin * s + a) (per_origin * s + n)
 none-plain rule p test needs s w rest a b n are none fails off up small = record {
   fails = λ k lo hi.
       let c : ℕ = k - per_origin * s in
@@ -129,7 +129,7 @@ none-plain rule p test needs s w rest a b n are none fails off up small = record
 }
 
 -- the triple that is found
-pub aimed_from : (rule : RuleSet) (p : Position) (test : Move → Bool) (s w a : ℕ) → a < per_origin → AreCandidates rule p test s w → IsNamed p s w a
+pub aimed_from : (rule : RuleSet) (p : Position) (test : Move → Bool) (s w a : ℕ) → a < per_origin → AreCandidates rule p test s w → NamesMove p s w a
     → IsAimed rule p (triple_at (per_origin * s + a))
 aimed_from rule p test s w a lt are named = rw (triple_of s a lt) (grind (arith, are.inside (a / per_arrival), named))
 

@@ -1,14 +1,14 @@
 -- A pseudo-legal move can be made on the board.
-use Rattle.chess_rules.proofs.Chess.{CanCastle, CanMove, Colour, HasNoKing, IsAt, IsSome, IsWellFormed, Kind, King, List, Man, Move, None, Option, Pawn, Position, RuleSet, Some, and_parts, arith, arriving_man, capture_square, cases_Bool, cond-false, cond-true, corner, eq-eqb, eqb-true, false, false_from_ne_true, file_of, halfway, inl, inr, is_castling, is_crossed_right, is_diagonal, is_man, is_man-without, is_promotion_right, is_some, is_square, leaps, list_any, man_on, man_on-without_none, man_on-without_other, queen_steps, rank_of, reaches, reaches_as, refl, rules, same_colour, same_kind, same_kind-true, square_at, square_at-is, sym, true, was_passed, with_man, without_at, without_man, ℕ, ◌&&◌, ◌∙◌, ◌≡◌, ◌≢◌}
+use Rattle.chess_rules.proofs.Chess.{CanCastle, CanMove, Colour, HasNoKing, IsAt, IsSome, IsWellFormed, Kind, King, List, Man, Move, None, Option, Pawn, Position, RuleSet, Some, and_parts, arith, arriving_man, capture_square, cases_Bool, cond-false, cond-true, corner, eq-eqb, eqb-true, false, false_from_ne_true, file_of, halfway, inl, inr, is_castling, is_en_passant_square_right, is_diagonal, is_man, is_man-without, is_promotion_right, is_some, is_square, leaps, list_any, man_on, man_on-without_none, man_on-without_other, queen_steps, rank_of, reaches, reaches_as, refl, rules, same_colour, same_kind, same_kind-true, square_at, square_at-is, sym, true, was_passed, with_man, without_at, without_man, ℕ, ◌&&◌, ◌∙◌, ◌≡◌, ◌≢◌}
 use Rattle.chess_rules.proofs.making_moves.Castles.{no_king_left, same_colour_self}
 use Rattle.chess_rules.proofs.making_moves.Plays.{stays_empty}
-use Rattle.chess_rules.proofs.making_moves.Pseudo.{IsCastle, IsMade, IsPawnTake, king_castles, king_is_no_pawn, made, pawn_goes, pawn_reaches, ways}
+use Rattle.chess_rules.proofs.making_moves.Pseudo.{IsCastle, IsMade, IsPawnTake, king_castles, king_is_no_pawn, made, pawn_steps_to, pawn_reaches, ways}
 use Rattle.chess_attacks.proofs.rays.OnSquares.{on_board}
 use Rattle.chess_attacks.proofs.rays.Ends.{square_is}
 use Rattle.chess_attacks.proofs.rays.Tables.{king_step_is_no_castling}
 
 -- an enemy is on the capture square, not on the origin, and is no king
-pub record IsTaken (p : Position) (m : Move) (s : ℕ) : Type 0 where
+pub record IsPopped (p : Position) (m : Move) (s : ℕ) : Type 0 where
   pub man : Man
   pub there : man_on p.men s ≡ Some man
   pub apart : s ≢ m.from
@@ -16,7 +16,7 @@ pub record IsTaken (p : Position) (m : Move) (s : ℕ) : Type 0 where
   pub enemy : same_colour man.colour p.turn ≡ false
 
 -- an enemy on the arrival
-taken_there : (rule : RuleSet) (p : Position) (x : Man) (m : Move) → IsMade rule p x m → is_some (man_on p.men m.to) ≡ true → IsTaken p m m.to
+taken_there : (rule : RuleSet) (p : Position) (x : Man) (m : Move) → IsMade rule p x m → is_some (man_on p.men m.to) ≡ true → IsPopped p m m.to
 taken_there rule p x m made e = search rules
 
 is_man-some : (o : Option Man) (c : Colour) (k : Kind) → is_man o c k ≡ true
@@ -29,17 +29,17 @@ pawn_is_no_king k h = grind arith
 
 -- en passant: the pawn that passed the en passant square is one rank beyond it
 taken_passing : (c : Colour) (p : Position) (x : Man) (m : Move) (s : ℕ) → p.turn ≡ c → x.colour ≡ c → man_on p.men m.from ≡ Some x → IsPawnTake c m.from m.to
-    → was_passed p.men c m.to ≡ true → IsAt (file_of m.to) (rank_of m.from) s → IsTaken p m s
+    → was_passed p.men c m.to ≡ true → IsAt (file_of m.to) (rank_of m.from) s → IsPopped p m s
 taken_passing c p x m s turn mine here take passed at = grind (arith, and_parts, eqb-true, is_man-some, pawn_is_no_king)
 
 -- a pawn that leaves its file captures
 diagonal_takes : (rule : RuleSet) (p : Position) (x : Man) (m : Move) → IsMade rule p x m → same_kind x.kind Pawn ≡ true → is_diagonal m ≡ true
     → IsPawnTake x.colour m.from m.to
-diagonal_takes rule p x m made pawn diagonal = search (rules, pawn_goes, pawn_reaches, ways)
+diagonal_takes rule p x m made pawn diagonal = search (rules, pawn_steps_to, pawn_reaches, ways)
 
 -- the man that is captured
-pub taken : (rule : RuleSet) (p : Position) (x : Man) (m : Move) (s : ℕ) → IsWellFormed p → IsMade rule p x m → capture_square p x m ≡ Some s → IsTaken p m s
-unfolding capture_square is_crossed_right
+pub taken : (rule : RuleSet) (p : Position) (x : Man) (m : Move) (s : ℕ) → IsWellFormed p → IsMade rule p x m → capture_square p x m ≡ Some s → IsPopped p m s
+unfolding capture_square is_en_passant_square_right
 taken rule p x m s well made h = elim (cases_Bool (is_some (man_on p.men m.to))) [
   | inl e ↦ grind (arith, taken_there rule p x m made e, cond-true)
   | inr e ↦ elim (cases_Bool (same_kind x.kind Pawn && is_diagonal m && is_square p.crossed m.to)) [

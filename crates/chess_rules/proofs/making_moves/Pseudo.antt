@@ -68,8 +68,8 @@ ahead : (c : Colour) (s t n : ℕ) → is_square (along s (forward c) n) t ≡ t
 ahead c s t n h = grind (arith, along-is)
 
 -- where a pawn steps, it goes so
-pub pawn_goes : (p : Position) (x : Man) (m : Move) → is_pawn_step p x m ≡ true → IsPawnStep p x m
-pawn_goes p x m h = grind (arith, and_parts, or_cases, ahead x.colour m.from m.to 1, ahead x.colour m.from m.to 2, no_man, eqb-true)
+pub pawn_steps_to : (p : Position) (x : Man) (m : Move) → is_pawn_step p x m ≡ true → IsPawnStep p x m
+pawn_steps_to p x m h = grind (arith, and_parts, or_cases, ahead x.colour m.from m.to 1, ahead x.colour m.from m.to 2, no_man, eqb-true)
 
 -- a king and a rook that castle
 pub record IsCastle (p : Position) (m : Move) : Type 0 where

@@ -1,10 +1,10 @@
 -- Taking a move back restores the position before it.
-use Rattle.chess_rules.proofs.Chess.{CanCastle, CanReturn, IsSome, IsWellFormed, Kind, List, Man, Move, None, Option, Position, RuleSet, Some, and_parts, arith, arriving_man, before_by, capture_square, captured_man, cases_Bool, corner, halfway, inl, inr, is_castling, is_crossed_right, is_promotion_right, is_pseudo_legal, leaving_man, length, length-set, man_on, man_on-with_same, man_on-without_other, man_on-without_same, man_on_at, moved_men, position_after, position_after_by, put_at, reborn_square, refl, return_square, returned_men, rules, same_kind-true, true, uncastled_men, undo_by, undo_of, without_at, without_man, ℕ, ◌<◌, ◌∙◌, ◌≡◌}
+use Rattle.chess_rules.proofs.Chess.{CanCastle, CanReturn, IsSome, IsWellFormed, Kind, List, Man, Move, None, Option, Position, RuleSet, Some, and_parts, arith, arriving_man, before_by, capture_square, captured_man, cases_Bool, corner, halfway, inl, inr, is_castling, is_en_passant_square_right, is_promotion_right, is_pseudo_legal, leaving_man, length, length-set, man_on, man_on-with_same, man_on-without_other, man_on-without_same, man_on_at, moved_men, position_after, position_after_by, put_at, reborn_square, refl, return_square, returned_men, rules, same_kind-true, true, uncastled_men, undo_by, undo_of, without_at, without_man, ℕ, ◌<◌, ◌∙◌, ◌≡◌}
 use Rattle.chess_core.specs.Undo.{Undo}
 use Rattle.chess_rules.proofs.making_moves.Pseudo.{made}
 use Rattle.chess_rules.proofs.making_moves.Back.{lift_after_place, place_after_lift, unborn, uncastled}
 use Rattle.chess_rules.proofs.making_moves.Castles.{no_king_left, same_colour_self}
-use Rattle.chess_rules.proofs.making_moves.Fits.{IsTaken, arrived, can_move, castle_of, corner_stays, some_there, taken}
+use Rattle.chess_rules.proofs.making_moves.Fits.{IsPopped, arrived, can_move, castle_of, corner_stays, some_there, taken}
 use Rattle.chess_rules.proofs.making_moves.Plays.{capture_clears, length-without_at}
 use Rattle.chess_rules.proofs.making_moves.Pseudo.{IsCastle, IsMade}
 use Rattle.chess_rules.proofs.making_moves.Stays.{captured_mortal, move_man_other, moved_sound, reborn_is, rebirth_small, maker}
@@ -44,7 +44,7 @@ uncastles rule p x m well made = elim (cases_Bool (is_castling x m)) [
 
 returns_some : (p : Position) (x : Man) (m : Move) (s : ℕ) (w : Man) → IsWellFormed p → capture_square p x m ≡ Some s
     → return_square x m p.crossed (Some w) ≡ Some s
-unfolding capture_square is_crossed_right
+unfolding capture_square is_en_passant_square_right
 returns_some p x m s w well h = search rules
 
 returns_there : (rule : RuleSet) (p : Position) (x : Man) (m : Move) → IsWellFormed p → IsMade rule p x m
@@ -63,7 +63,7 @@ returned rule p x m u well made lost =
     let lifted = lift_after_place (cleared p x m) m.to (arriving_man x m.promo) (capture_clears p x m) in
     rw (lost, uncastles rule p x m well made, lifted, returns_there rule p x m well made) back
   where
-    recapture : (o : Option ℕ) → ((s : ℕ) → o ≡ Some s → IsTaken p m s)
+    recapture : (o : Option ℕ) → ((s : ℕ) → o ≡ Some s → IsPopped p m s)
         → put_at (without_at (without_man p.men m.from) o) o (man_on_at p.men o) ≡ without_man p.men m.from
     recapture None t = refl
     recapture (Some s) t = let k = t s refl in grind (arith, k, man_on-without_other p.men m.from s, place_after_lift (without_man p.men m.from) s k.man)

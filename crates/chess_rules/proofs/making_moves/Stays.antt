@@ -1,9 +1,9 @@
 -- A move leads from a well-formed position to a well-formed one.
-use Rattle.chess_rules.proofs.Chess.{AtMostOneKing, AtMostOneKing-without, Bool, Colour, HasNoKing, IsWellFormed, Kind, King, List, Man, Move, None, Option, Pawn, Position, Rook, RuleSet, Some, and_from, and_parts, arith, arriving_man, capture_square, captured_man, captures_are_reborn, cases_Bool, cases_eq, cases_lt, cond-false, cond-true, corner, eq-eqb, eqb-true, false, file_of, halfway, has_unmoved, has_unmoved-mark_other, has_unmoved-parts, inl, inr, is_castling, is_crossed_right, is_double_step, is_home, is_home-none, is_man, is_pawn_inside, is_promotion_right, is_pseudo_legal, is_vacant, length, length-set, man_on, man_on-with_other, man_on-with_same, man_on-without_none, man_on-without_other, man_on-without_same, man_on_at, move_man, moved_men, ne_eqb, not-true, or_cases, other, position_after, position_after_by, put_at, rank_of, rebirth, reborn_square, refl, rules, same_colour, same_colour-refl, same_kind, same_kind-true, second_fails, second_rank, set_past, square_at-is, true, unmoved_after, unmoved_with_rook, unmoved_without_at, was_passed, with_man, without_at, without_man, without_unmoved, ℕ, if◌then◌else◌, ◌<◌, ◌≡◌, ◌≢◌, ◌⊎◌}
+use Rattle.chess_rules.proofs.Chess.{AtMostOneKing, AtMostOneKing-without, Bool, Colour, HasNoKing, IsWellFormed, Kind, King, List, Man, Move, None, Option, Pawn, Position, Rook, RuleSet, Some, and_from, and_parts, arith, arriving_man, capture_square, captured_man, captures_are_reborn, cases_Bool, cases_eq, cases_lt, cond-false, cond-true, corner, eq-eqb, eqb-true, false, file_of, halfway, has_unmoved, has_unmoved-mark_other, has_unmoved-parts, inl, inr, is_castling, is_en_passant_square_right, is_double_step, is_home, is_home-none, is_man, is_pawn_inside, is_promotion_right, is_pseudo_legal, is_vacant, length, length-set, man_on, man_on-with_other, man_on-with_same, man_on-without_none, man_on-without_other, man_on-without_same, man_on_at, move_man, moved_men, ne_eqb, not-true, or_cases, other, position_after, position_after_by, put_at, rank_of, rebirth, reborn_square, refl, rules, same_colour, same_colour-refl, same_kind, same_kind-true, second_fails, second_rank, set_past, square_at-is, true, unmoved_after, unmoved_with_rook, unmoved_without_at, was_passed, with_man, without_at, without_man, without_unmoved, ℕ, if◌then◌else◌, ◌<◌, ◌≡◌, ◌≢◌, ◌⊎◌}
 use Rattle.chess_core.specs.declared.man.Unmoved.{Unmoved}
 use Rattle.chess_rules.proofs.making_moves.Fits.{arrived, arrived_other, can_move, castle_of, corner_stays, no_capture, pawn_is_no_king, taken}
 use Rattle.chess_rules.proofs.making_moves.Plays.{none_from_is_some}
-use Rattle.chess_rules.proofs.making_moves.Pseudo.{Advances, IsMade, made, pawn_goes, pawn_reaches, ways}
+use Rattle.chess_rules.proofs.making_moves.Pseudo.{Advances, IsMade, made, pawn_steps_to, pawn_reaches, ways}
 
 -- the men of a well-formed position
 pub record IsSound (men : List (Option Man)) : Type 0 where
@@ -34,7 +34,7 @@ other_inside y s h = cond-false (same_kind y.kind Pawn) _ _ h
 arriving_inside : (rule : RuleSet) (p : Position) (x : Man) (m : Move) (r : Option Kind) → IsWellFormed p → IsMade rule p x m
     → is_promotion_right p x m r ≡ true → is_pawn_inside (Some (arriving_man x r)) m.to ≡ true
 arriving_inside rule p x m r well made right =
-    search (rules, and_parts, other_inside, second_fails, cases_Bool, not-true, pawn_goes, pawn_reaches, ways, cases_eq, eq-eqb)
+    search (rules, and_parts, other_inside, second_fails, cases_Bool, not-true, pawn_steps_to, pawn_reaches, ways, cases_eq, eq-eqb)
 
 rook_is_no_pawn : (k : Kind) → same_kind k Rook ≡ true → same_kind k Pawn ≡ false
 rook_is_no_pawn k h = grind arith
@@ -195,11 +195,11 @@ plain_men rule p x m none plain = rw (none, plain) refl
 double_right : (rule : RuleSet) (p : Position) (x : Man) (m : Move) → IsWellFormed p → IsMade rule p x m → is_double_step x m ≡ true
     → was_passed (put_at (moved_men p x m) (reborn_square rule p x m) (captured_man p x m)) (other p.turn) (halfway m) ≡ true
 double_right rule p x m well made double =
-    search (rules, double_passed, no_capture, pawn_goes, pawn_is_no_king, pawn_reaches, plain_men, ways, and_parts, ne_eqb, eqb-true, or_cases)
+    search (rules, double_passed, no_capture, pawn_steps_to, pawn_is_no_king, pawn_reaches, plain_men, ways, and_parts, ne_eqb, eqb-true, or_cases)
 
 -- the position after a man's move is well formed
 pub after_by_well : (rule : RuleSet) (p : Position) (x : Man) (m : Move) → IsWellFormed p → IsMade rule p x m → IsWellFormed (position_after_by rule p x m)
-unfolding position_after_by is_crossed_right
+unfolding position_after_by is_en_passant_square_right
 after_by_well rule p x m well made = grind (arith, after_sound rule p x m well made, made, after_home rule p x m well made, double_right)
 
 -- some man makes the move

@@ -9,21 +9,21 @@ use Rattle.chess_rules.specs.Legal.{is_legal}
 use Rattle.chess_attacks.specs.RuleSet.{RuleSet, captures_do_more}
 use Rattle.chess_rules.specs.declared.counting.Candidates.{Candidates}
 use Rattle.chess_rules.specs.declared.counting.Legality.TheVariants.{Sure}
-use Rattle.chess_rules.specs.declared.legal_moves.Known.{Known}
+use Rattle.chess_rules.specs.declared.legal_moves.LegalityMasks.{LegalityMasks}
 use Rattle.chess_rules.specs.ties.Evasions.{AreEvasions}
-use Rattle.chess_rules.specs.ties.Shields.{may_expose, may_stand_between}
+use Rattle.chess_rules.specs.ties.Blockers.{may_expose, may_be_hurdle}
 use Rattle.chess_rules.specs.ties.Targets.{AreCandidates, is_promoting}
 
 -- k is true of position p
-pub record IsKnownIn (rule : RuleSet) (p : Position) (k : Known) : Type 0 where
-  pub shield_squares : k.shield_squares ≡ word (may_expose p.men p.turn)
+pub record IsKnownIn (rule : RuleSet) (p : Position) (k : LegalityMasks) : Type 0 where
+  pub blocker_squares : k.blocker_squares ≡ word (may_expose p.men p.turn)
   pub evasion_squares : AreEvasions rule p.men p.turn k.evasion_squares
 
 -- the arrival of x, not a king, on t may do more than change its two squares: it is on a fairy line of its
 -- king, captures en passant, captures a man that is reborn, or promotes
-unfoldable pub is_unsure : RuleSet → Position → Man → ℕ → Bool
-is_unsure rule p x t =
-    may_stand_between p.men p.turn t || is_square p.crossed t
+unfoldable pub is_untested : RuleSet → Position → Man → ℕ → Bool
+is_untested rule p x t =
+    may_be_hurdle p.men p.turn t || is_square p.crossed t
     || (captures_do_more rule && is_some (man_on p.men t)) || is_promoting x t
 
 -- each move of the man on s to a square of the bitboard w is legal and doesn't promote
@@ -41,6 +41,6 @@ pub record AreExact (rule : RuleSet) (p : Position) (s w : ℕ) : Type 0 where
 
 -- all legal moves of the man on s go to the candidate squares; if their legality is `Sure`, it has one to
 -- each
-pub record AreGiven (rule : RuleSet) (p : Position) (s : ℕ) (c : Candidates) : Type 0 where
+pub record AreKnownCandidates (rule : RuleSet) (p : Position) (s : ℕ) (c : Candidates) : Type 0 where
   pub candidates : AreCandidates rule p (is_legal rule p) s c.squares
   pub legal : c.legality ≡ Sure → AreLegal rule p s c.squares

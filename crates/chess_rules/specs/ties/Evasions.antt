@@ -11,8 +11,8 @@ use Rattle.chess_attacks.specs.Attacks.{in_check}
 use Rattle.chess_rules.specs.Legal.{is_pseudo_legal}
 use Rattle.chess_rules.specs.Play.{position_after}
 use Rattle.chess_attacks.specs.Reaches.{reaches, reaches_as}
-use Rattle.chess_rules.specs.ties.Shields.{has_fairy_lines}
-use Rattle.chess_attacks.specs.RuleSet.{RuleSet, faced_men_stand_still}
+use Rattle.chess_rules.specs.ties.Blockers.{has_fairy_lines}
+use Rattle.chess_attacks.specs.RuleSet.{RuleSet, like_men_paralyse}
 
 -- a move to t parries the check by the man on q to the king of colour c on k: it captures the checker, or
 -- arrives between them, on a square that a queen reaches from both
@@ -31,11 +31,11 @@ has_like men c (Some y) = some_square (λ s. is_man (man_on men s) c y.kind)
 
 -- in Madrasi: colour c has a man that might paralyse this man, if there is one
 abbrev pub may_be_paralysed : RuleSet → List (Option Man) → Colour → Option Man → Bool
-may_be_paralysed rule men c o = faced_men_stand_still rule && has_like men c o
+may_be_paralysed rule men c o = like_men_paralyse rule && has_like men c o
 
 -- in Madrasi: the move might paralyse a man of a kind that its side didn't have
-abbrev pub may_paralyse_anew : RuleSet → Move → Bool
-may_paralyse_anew rule m = faced_men_stand_still rule && is_some m.promo
+abbrev pub may_paralyse_new_kind : RuleSet → Move → Bool
+may_paralyse_new_kind rule m = like_men_paralyse rule && is_some m.promo
 
 -- an orthodox check to the king of colour c that a move to t doesn't parry
 pub record IsNoEvasion (rule : RuleSet) (men : List (Option Man)) (c : Colour) (t : ℕ) : Type

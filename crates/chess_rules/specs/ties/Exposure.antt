@@ -13,7 +13,7 @@ use Rattle.chess_core.specs.declared.man.Move.{Move}
 use Rattle.chess_attacks.specs.ties.Lines.{occupied_squares}
 use Rattle.chess_rules.specs.Play.{arriving_man, is_castling}
 use Rattle.chess_attacks.specs.RuleSet.{RuleSet, captures_do_more}
-use Rattle.chess_attacks.specs.declared.sight.Sight.{Sight}
+use Rattle.chess_attacks.specs.declared.occupancy.Occupancy.{Occupancy}
 
 -- the move of x does no more than move it and remove at most one captured man
 abbrev pub is_simple : RuleSet → Man → Move → Bool → Bool
@@ -24,14 +24,14 @@ abbrev pub is_arriving_as : Man → Move → Kind → ℕ → Bool
 is_arriving_as x m k s = same_kind (arriving_man x m.promo).kind k && is_square (Some m.to) s
 
 -- the squares of the men of kind k of the mover after x has made the move m
-abbrev pub own_after : List (Option Man) → Sight → Man → Move → Kind → ℕ
+abbrev pub own_after : List (Option Man) → Occupancy → Man → Move → Kind → ℕ
 own_after men v x m k =
     bit_or (bit_and (bit_and (squares_of men x.colour k) v.standing)
     (bit_not w64 (word (is_square (Some m.from))))) (word (is_arriving_as x m k))
 
 -- v describes these men, those after the move m of x: its side's men as in `own_after`, the others where
 -- they stood
-pub record AreArrived (before men : List (Option Man)) (x : Man) (m : Move) (v : Sight) : Type
+pub record DescribesMenAfter (before men : List (Option Man)) (x : Man) (m : Move) (v : Occupancy) : Type
     0 where
   pub occupied : v.occupied ≡ occupied_squares men
   pub own : (k : Kind) → own_after before v x m k ≡ squares_of men x.colour k

@@ -5,7 +5,7 @@ use Rattle.chess_core.specs.Position.{Position}
 use Rattle.chess_core.specs.declared.man.Move.{Move}
 use Rattle.chess_rules.specs.Legal.{is_legal, is_pseudo_legal}
 use Rattle.chess_attacks.specs.RuleSet.{RuleSet}
-use Rattle.chess_rules.specs.ties.Sifting.{is_wanted}
+use Rattle.chess_rules.specs.ties.Filtering.{is_unfiltered}
 
 -- a move that isn't pseudo-legal isn't legal
 pub is_legal-idle : (rule : RuleSet) (p : Position) (m : Move) → is_pseudo_legal rule p m ≡ false
@@ -14,6 +14,6 @@ unfolding is_legal
 is_legal-idle rule p m h = and_left _ _ h
 
 -- a move that isn't pseudo-legal isn't wanted
-pub is_wanted-idle : (rule : RuleSet) (p : Position) (test : Move → Bool) (m : Move)
-    → is_pseudo_legal rule p m ≡ false → is_wanted rule p test m ≡ false
-is_wanted-idle rule p test m h = and_left _ _ (is_legal-idle rule p m h)
+pub is_unfiltered-idle : (rule : RuleSet) (p : Position) (test : Move → Bool) (m : Move)
+    → is_pseudo_legal rule p m ≡ false → is_unfiltered rule p test m ≡ false
+is_unfiltered-idle rule p test m h = and_left _ _ (is_legal-idle rule p m h)

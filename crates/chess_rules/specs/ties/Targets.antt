@@ -13,7 +13,7 @@ use Rattle.chess_attacks.specs.Reaches.{forward}
 use Rattle.chess_rules.specs.Legal.{is_arrival_free, last_rank, is_pawn_step}
 use Rattle.chess_attacks.specs.Reaches.{reaches_as}
 use Rattle.chess_attacks.specs.RuleSet.{RuleSet}
-use Rattle.chess_rules.specs.declared.targets.Kept.{Kept}
+use Rattle.chess_rules.specs.declared.targets.TargetCache.{TargetCache}
 
 -- a pawn goes one or two squares forward, a king two files to either side
 unfoldable pub steps_to : Man → ℕ → ℕ → Bool
@@ -24,15 +24,15 @@ steps_to x s t =
     || is_square (along s (step_by 0 2 0 0) 1) t else false)
 
 -- a pawn on s steps to t
-abbrev pub pawn_goes : Position → Man → ℕ → ℕ → Bool
-pawn_goes p x s t = is_pawn_step p x (record { from = s; to = t; promo = None })
+abbrev pub pawn_steps_to : Position → Man → ℕ → ℕ → Bool
+pawn_steps_to p x s t = is_pawn_step p x (record { from = s; to = t; promo = None })
 
 -- x goes from s to t, without most tests of castling: a pawn captures or steps, another man reaches t, and
 -- a king with castling rights goes two files to either side
-unfoldable pub may_go : Position → Man → ℕ → ℕ → Bool
-may_go p x s t =
+unfoldable pub may_arrive : Position → Man → ℕ → ℕ → Bool
+may_arrive p x s t =
     if same_kind x.kind Pawn then (reaches_as p.men x.colour x.kind s t
-    && (is_some (man_on p.men t) || is_square p.crossed t)) || pawn_goes p x s t
+    && (is_some (man_on p.men t) || is_square p.crossed t)) || pawn_steps_to p x s t
     else reaches_as p.men x.colour x.kind s t || (has_unmoved p.unmoved s && steps_to x s t)
 
 -- this man, if there is one, is the mover's, isn't paralysed and goes to t, which holds no man of the mover
@@ -41,7 +41,7 @@ abbrev pub is_arrival_of : RuleSet → Position → Option Man → ℕ → ℕ �
 is_arrival_of rule p None s t = false
 is_arrival_of rule p (Some x) s t =
     same_colour x.colour p.turn && not (is_paralysed rule p.men s)
-    && is_arrival_free p.turn (man_on p.men t) && may_go p x s t
+    && is_arrival_free p.turn (man_on p.men t) && may_arrive p x s t
 
 -- the man on s may go to t, without the tests of castling and of the promotion
 unfoldable pub is_arrival : RuleSet → Position → ℕ → ℕ → Bool
@@ -70,7 +70,7 @@ abbrev pub passes_to : ℕ → (Move → Bool) → Move → Bool
 passes_to w test m = bit_at w m.to == 1 && test m
 
 -- the kept squares are candidates of the kept origin
-pub record AreKept (rule : RuleSet) (p : Position) (test : Move → Bool) (k : Kept) : Type 0 where
+pub record IsTargetCacheOf (rule : RuleSet) (p : Position) (test : Move → Bool) (k : TargetCache) : Type 0 where
   pub are : (s : ℕ) → k.origin ≡ Some s → AreCandidates rule p test s k.squares
 
 -- no move from a square outside w passes the test

@@ -80,7 +80,7 @@ pub fn capture_square(board: &Board, man: Man, m: &Move) -> Option<Square>
 }
 
 // Removes the man on the square, if there is a square.
-pub(crate) fn take_off(board: &mut Board, square: Option<Square>)
+pub(crate) fn remove_at(board: &mut Board, square: Option<Square>)
     requires { (s : ℕ) → square ≡ Some s → IsSome (man_on board.old.men s) }
     ensures { board.new ≡ record board.old { men = without_at board.old.men square } }
 {
@@ -99,7 +99,7 @@ fn move_men(board: &mut Board, man: Man, m: &Move, captured: Option<Square>)
     ensures { board.new ≡ record board.old { men = moved_men board.old man m.now } }
 {
     board.lift(m.from);
-    take_off(board, captured);
+    remove_at(board, captured);
     board.place(m.to, arriving_man(man, m.promo));
     if is_castling(man, m) {
         castle(board, corner(m), halfway(m));

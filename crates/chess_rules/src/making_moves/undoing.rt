@@ -1,13 +1,13 @@
 //! Takes moves back.
 ghost use Rattle.std.specs.Prelude.{◌≡◌, ℕ, IsSome, Some, true};
 ghost use Rattle.chess_core.specs.Position.{man_on, with_man};
-ghost use Rattle.chess_rules.specs.ties.Games.{GivesBack, WasPlayed};
+ghost use Rattle.chess_rules.specs.ties.Games.{RestoresPosition, WasPlayed};
 ghost use Rattle.chess_rules.specs.Play.{corner, halfway, is_castling, without_at};
 ghost use Rattle.chess_rules.specs.ties.Playing.{CanCastle};
 ghost use Rattle.chess_rules.specs.ties.Undoing.{CanReturn, before_by, leaving_man, returned_men, return_square, uncastled_men};
 ghost use Rattle.chess_core.specs.WellFormed.{IsWellFormed};
 
-use crate::making_moves::play::{Undo, castle, corner, halfway, is_castling, put_at, take_off};
+use crate::making_moves::play::{Undo, castle, corner, halfway, is_castling, put_at, remove_at};
 use chess_attacks::rules::Rules;
 use chess_core::board::Board;
 use chess_core::man::{Kind, Man, Move};
@@ -80,13 +80,13 @@ fn take_reborn_off(board: &mut Board, undo: &Undo)
     requires { (s : ℕ) → undo.now.rebirth ≡ Some s → IsSome (man_on board.old.men s) }
     ensures { board.new ≡ record board.old { men = without_at board.old.men undo.now.rebirth } }
 {
-    take_off(board, undo.rebirth);
+    remove_at(board, undo.rebirth);
 }
 
 // Takes back a move: removes the reborn man first, then returns the men of the move and the captured man.
 fn take_back<R: Rules>(board: &mut Board, m: Move, undo: Undo)
     requires { WasPlayed R.rule board.old m undo }
-    ensures { GivesBack R.rule board.old m undo board.new }
+    ensures { RestoresPosition R.rule board.old m undo board.new }
 {
     take_reborn_off(board, &undo);
     let arrival = Square::numbered(m.to.index());
@@ -98,7 +98,7 @@ fn take_back<R: Rules>(board: &mut Board, m: Move, undo: Undo)
 /// Takes back the last move played. `undo` is what `play` returned for it.
 pub fn unplay<R: Rules>(board: &mut Board, m: Move, undo: Undo)
     requires { WasPlayed R.rule board.old m undo }
-    ensures before { GivesBack R.rule board.old m undo board.new }
+    ensures before { RestoresPosition R.rule board.old m undo board.new }
     ensures well_formed { IsWellFormed board.new }
 {
     take_back::<R>(board, m, undo);

@@ -64,8 +64,8 @@ pub(crate) fn nightrider_lines(draw: &mut Draw) -> Diagram {
 fn put_nightrider(diagram: &mut Diagram, draw: &mut Draw, king: Square, rear: Colour) {
     let leap = draw.leap();
     let front = man(diagram.turn, draw.kind(Kinds::All));
-    let behind = steps(king, leap, 2 + draw.below(2));
-    if put(diagram, behind, man(rear, Kind::Nightrider)) {
+    let following = steps(king, leap, 2 + draw.below(2));
+    if put(diagram, following, man(rear, Kind::Nightrider)) {
         let _front = put(diagram, next(king, leap), front);
     }
 }

@@ -69,8 +69,8 @@ fn put_ends(diagram: &mut Diagram, draw: &mut Draw, front: Square, way: (u8, u8)
     let to_rider = 1 + draw.below(4);
     let _king = put(diagram, steps(front, way, to_king), man(king, Kind::King));
     let rider = draw.pick(3, Kind::Queen, line_rider(way));
-    let behind = steps(front, back(way), to_rider);
-    let _rider = put(diagram, behind, man(king.other(), rider));
+    let following = steps(front, back(way), to_rider);
+    let _rider = put(diagram, following, man(king.other(), rider));
 }
 
 // Pawns one step before promotion, men to capture on the last rank, and kings nearby.

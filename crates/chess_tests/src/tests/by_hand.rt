@@ -1,6 +1,6 @@
 //! Small positions whose legal moves or mates are worked out by hand.
 use crate::plain::Rule;
-use crate::probe::{has_mates, has_moves, is_told_harmless, is_told_to_step};
+use crate::probe::{has_mates, has_moves, has_seen_step, is_ruled_safe};
 
 // The rules, the position, and White's legal moves.
 const LEGAL_MOVES: [(Rule, &str, &str); 28] = [
@@ -261,7 +261,7 @@ const QUIET_STEPS: [(Rule, &str, &str, bool); 11] = [
 fn quiet_steps(rt: HostRuntime) {
     for (rule, position, m, wanted) in &QUIET_STEPS {
         assert!(rt;
-            is_told_to_step(*rule, position, m, *wanted),
+            has_seen_step(*rule, position, m, *wanted),
             "{position} {m}"
         );
     }
@@ -271,7 +271,7 @@ fn quiet_steps(rt: HostRuntime) {
 fn harmless_moves(rt: HostRuntime) {
     for (rule, position, m, wanted) in &HARMLESS {
         assert!(rt;
-            is_told_harmless(*rule, position, m, *wanted),
+            is_ruled_safe(*rule, position, m, *wanted),
             "{position} {m}"
         );
     }

@@ -20,13 +20,13 @@ const FAMILIES: [(&str, Rule, Family, u64, u32); 6] = [
 fn defences(rt: HostRuntime) {
     for (name, rule, family, count, least) in &FAMILIES {
         let defences = defended(*rule, *family, *count);
-        let (wrong, told) = (defences.wrong, defences.told);
+        let (wrong, reported) = (defences.wrong, defences.reported);
         assert!(rt;
             wrong.is_none(),
             "{name}: a mate follows in number {wrong:?}"
         );
         assert!(rt;
-            told >= *least,
+            reported >= *least,
             "{name}: threats rule out a mate after {told} moves"
         );
     }

@@ -156,7 +156,7 @@ const KINGS: [Row<'static>; 7] = [
         Family::Refuges,
         400,
         &[
-            Motif::FlightBehind,
+            Motif::FlightBeyond,
             Motif::FlightUnmasked,
             Motif::FlightOpened,
             Motif::FlightCovered,
@@ -227,7 +227,7 @@ const CONDITIONS: [Row<'static>; 7] = [
         &[Rule::Circe],
         Family::Nets,
         2_000,
-        &[Motif::RebirthMates, Motif::RebirthAnswers],
+        &[Motif::RebirthMates, Motif::RebirthParriesMate],
         3,
     ),
     (

@@ -3,7 +3,7 @@ use Rattle.std.specs.Prelude.{ℕ, zero, suc, ◌+◌, ◌-◌, ◌≤◌, ◌^�
 use Rattle.std.specs.List.{sum_by}
 use Rattle.pop_battle.specs.declared.aim.Battle.{Battle}
 use Rattle.pop_battle.specs.Game.{Game, can_move}
-use Rattle.pop_battle.specs.ties.Values.{decides, seeks, value}
+use Rattle.pop_battle.specs.ties.Values.{decides, attacker_to_move, value}
 
 -- the count rose from `before` to `after` by at least `least`, up to the greatest u64
 abbrev pub HasCounted : ℕ → ℕ → ℕ → Type 0
@@ -19,7 +19,7 @@ module _ {M : Type 0} where
 module _ {P M : Type 0} where
   -- the move m, after which t half-moves are left, decides p
   abbrev pub decided_by : Battle → Game P M → ℕ → P → M → Bool
-  decided_by battle game t p m = decides (seeks battle (suc t))
+  decided_by battle game t p m = decides (attacker_to_move battle (suc t))
       (value battle game t (game.after p m))
 
   -- the number of positions in a smallest tree that decides p with t half-moves left: none if no half-move

@@ -11,15 +11,15 @@ use Rattle.chess_core.specs.WellFormed.{IsWellFormed}
 use Rattle.chess_rules.specs.Legal.{is_legal}
 use Rattle.chess_core.specs.Undo.{Undo}
 use Rattle.chess_mates.specs.ties.Aims.{aims_at_king}
-use Rattle.chess_rules.specs.ties.Places.{IsPlaceIn, LegalPlace, moves_behind, moves_between, place_of}
+use Rattle.chess_rules.specs.ties.Places.{IsPlaceIn, LegalPlace, moves_after, moves_between, place_of}
 use Rattle.chess_rules.specs.Play.{undo_of}
 use Rattle.chess_attacks.specs.RuleSet.{RuleSet}
 use Rattle.pop_battle.specs.Chess.{chess}
 use Rattle.pop_battle.specs.Walks.{walk_count}
 use Rattle.pop_battle.specs.ties.Counts.{smallest_below}
-use Rattle.pop_battle.specs.ties.Values.{decides, seeks, join, joined_value}
-use Rattle.pop_battle.specs.declared.frame.Stretch.{Stretch}
-use Rattle.pop_battle.specs.declared.frame.Stretch.TheVariants.{Killer, Earlier, Aimed, Others}
+use Rattle.pop_battle.specs.ties.Values.{decides, attacker_to_move, join, joined_value}
+use Rattle.pop_battle.specs.declared.frame.MoveStage.{MoveStage}
+use Rattle.pop_battle.specs.declared.frame.MoveStage.TheVariants.{Killer, Earlier, Aimed, Others}
 use Rattle.pop_battle.specs.declared.frame.Early.{Early}
 use Rattle.pop_battle.specs.declared.frame.Early.TheVariants.{AimedMoves, NoMoves}
 
@@ -43,7 +43,7 @@ pub record Frame : Type 0 where
   pub undo : Undo
   pub left : ℕ
   pub order : Order
-  pub stretch : Stretch
+  pub move_stage : MoveStage
   pub known : Option LegalPlace
 
 -- a frame of no position
@@ -54,7 +54,7 @@ no_frame = record {
   undo = record { captured = None; rebirth = None; unmoved = none_unmoved; crossed = None };
   left = 0;
   order = unordered;
-  stretch = Others;
+  move_stage = Others;
   known = None;
 }
 
@@ -92,7 +92,7 @@ abbrev pub is_at : ℕ → Move → Bool
 is_at place m = place_of (Some m) == place
 
 -- the move belongs to this stage, and so to no earlier one
-unfoldable pub belongs : Position → Order → Stretch → Move → Bool
+unfoldable pub belongs : Position → Order → MoveStage → Move → Bool
 belongs p order Killer m = is_at order.killer m
 belongs p order Earlier m = not (is_at order.killer m) && is_at order.earlier m
 belongs p order Aimed m =
@@ -101,18 +101,18 @@ belongs p order Others m =
     not (is_at order.killer m) && (not (is_at order.earlier m) && not (comes_early order.early p m))
 
 -- the legal moves of a stage
-abbrev pub all_moves_of : RuleSet → Position → Order → Stretch → List Move
+abbrev pub all_moves_of : RuleSet → Position → Order → MoveStage → List Move
 all_moves_of rule p order s = filter (belongs p order s) (legal_moves rule p)
 
 -- the legal moves of a stage after a place in it
-unfoldable pub moves_here : RuleSet → Position → Order → Stretch → ℕ → List Move
+unfoldable pub moves_here : RuleSet → Position → Order → MoveStage → ℕ → List Move
 moves_here rule p order Killer place = moves_between rule p place order.killer
 moves_here rule p order Earlier place = moves_between rule p place order.earlier
-moves_here rule p order Aimed place = filter (belongs p order Aimed) (moves_behind rule p place)
-moves_here rule p order Others place = filter (belongs p order Others) (moves_behind rule p place)
+moves_here rule p order Aimed place = filter (belongs p order Aimed) (moves_after rule p place)
+moves_here rule p order Others place = filter (belongs p order Others) (moves_after rule p place)
 
 -- the legal moves of the stages after this one
-unfoldable pub moves_later : RuleSet → Position → Order → Stretch → List Move
+unfoldable pub moves_later : RuleSet → Position → Order → MoveStage → List Move
 moves_later rule p order Killer = all_moves_of rule p order Earlier
     ++ (all_moves_of rule p order Aimed ++ all_moves_of rule p order Others)
 moves_later rule p order Earlier =
@@ -121,31 +121,31 @@ moves_later rule p order Aimed = all_moves_of rule p order Others
 moves_later rule p order Others = []
 
 -- the moves that a test has still to try
-abbrev pub moves_ahead : RuleSet → Position → Order → Stretch → ℕ → List Move
+abbrev pub moves_ahead : RuleSet → Position → Order → MoveStage → ℕ → List Move
 moves_ahead rule p order s place = moves_here rule p order s place ++ moves_later rule p order s
 
 -- the moves that a test has still to try, if perhaps only the killer has been tested and nothing is known
 -- of the moves
-abbrev pub moves_unlooked : RuleSet → Position → Order → Stretch → Option LegalPlace → List Move
+abbrev pub moves_unlooked : RuleSet → Position → Order → MoveStage → Option LegalPlace → List Move
 moves_unlooked rule p order s None = moves_later rule p order Killer
 moves_unlooked rule p order s (Some known) = moves_ahead rule p order s known.place
 
 -- the number of stages after this one
-abbrev pub stretches_behind : Stretch → ℕ
-stretches_behind Killer = 3
-stretches_behind Earlier = 2
-stretches_behind Aimed = 1
-stretches_behind Others = 0
+abbrev pub move_stages_after : MoveStage → ℕ
+move_stages_after Killer = 3
+move_stages_after Earlier = 2
+move_stages_after Aimed = 1
+move_stages_after Others = 0
 
 -- the moves of a frame that a test has still to try
 abbrev pub untried_moves : RuleSet → Position → Frame → List Move
-untried_moves rule p f = moves_ahead rule p f.order f.stretch f.place
+untried_moves rule p f = moves_ahead rule p f.order f.move_stage f.place
 
 -- the value of the lowest position, once v is known for the top position
 unfoldable pub delivered_value : RuleSet → Aim → Position → List Frame → Bool → Bool
 delivered_value rule aim p [] v = v
 delivered_value rule aim p (f ∷ below) v =
-    delivered_value rule aim p below (join (seeks aim.battle f.left) v
+    delivered_value rule aim p below (join (attacker_to_move aim.battle f.left) v
     (joined_value aim.battle (chess aim.goal rule) f.left (position rule p (f ∷ below))
     (untried_moves rule (position rule p (f ∷ below)) f)))
 
@@ -166,10 +166,10 @@ work_from rule (suc h) p =
     1 + sum_by (λ m. 1 + work_from rule h (position_after rule p m)) (legal_moves rule p)
 
 -- the most turns for the moves after a place
-unfoldable pub work_behind : RuleSet → ℕ → Position → ℕ → ℕ
-work_behind rule zero p place = 0
-work_behind rule (suc h) p place =
-    sum_by (λ m. 1 + work_from rule h (position_after rule p m)) (moves_behind rule p place)
+unfoldable pub work_after : RuleSet → ℕ → Position → ℕ → ℕ
+work_after rule zero p place = 0
+work_after rule (suc h) p place =
+    sum_by (λ m. 1 + work_from rule h (position_after rule p m)) (moves_after rule p place)
 
 -- the most turns for these moves
 unfoldable pub work_among : RuleSet → ℕ → Position → List Move → ℕ
@@ -184,17 +184,17 @@ test_work rule p (f ∷ below) =
     (untried_moves rule (position rule p (f ∷ below)) f) + test_work rule p below
 
 -- the most frames that the moves after a place can still open
-unfoldable pub walk_behind : RuleSet → ℕ → Position → ℕ → ℕ
-walk_behind rule zero p place = 0
-walk_behind rule (suc h) p place =
+unfoldable pub walk_after : RuleSet → ℕ → Position → ℕ → ℕ
+walk_after rule zero p place = 0
+walk_after rule (suc h) p place =
     sum_by (λ m. walk_count (legal_moves rule) (position_after rule) h (position_after rule p m))
-    (moves_behind rule p place)
+    (moves_after rule p place)
 
 -- the most frames that all frames of a walk can still open
 unfoldable pub to_open : RuleSet → Position → List Frame → ℕ
 to_open rule p [] = 0
 to_open rule p (f ∷ below) =
-    walk_behind rule f.left (position rule p (f ∷ below)) f.place + to_open rule p below
+    walk_after rule f.left (position rule p (f ∷ below)) f.place + to_open rule p below
 
 -- the most frames that these moves can still open
 unfoldable pub walk_among : RuleSet → ℕ → Position → List Move → ℕ
@@ -213,10 +213,10 @@ to_test rule p (f ∷ below) =
 unfoldable pub to_try_with : RuleSet → Aim → Position → List Frame → Bool → ℕ
 to_try_with rule aim p [] v = 0
 to_try_with rule aim p (f ∷ below) v =
-    (if decides (seeks aim.battle f.left) v then 0
+    (if decides (attacker_to_move aim.battle f.left) v then 0
     else smallest_below aim.battle (chess aim.goal rule) f.left (position rule p (f ∷ below))
     (untried_moves rule (position rule p (f ∷ below)) f))
-    + to_try_with rule aim p below (join (seeks aim.battle f.left) v
+    + to_try_with rule aim p below (join (attacker_to_move aim.battle f.left) v
     (joined_value aim.battle (chess aim.goal rule) f.left (position rule p (f ∷ below))
     (untried_moves rule (position rule p (f ∷ below)) f)))
 
@@ -302,7 +302,7 @@ opened_frame by undo left = record {
   undo = undo;
   left = left;
   order = unordered;
-  stretch = Others;
+  move_stage = Others;
   known = None;
 }
 
@@ -314,7 +314,7 @@ tested_frame order by undo left known = record {
   undo = undo;
   left = left;
   order = order;
-  stretch = Killer;
+  move_stage = Killer;
   known = known;
 }
 

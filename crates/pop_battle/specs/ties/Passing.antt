@@ -2,7 +2,7 @@
 use Rattle.std.specs.Prelude.{◌≡◌, ℕ, ◌+◌, ◌-◌, ◌^◌, min, Bool, true, List, [], ◌∷◌, ◌++◌, length, filter, Option, MatchOption}
 use Rattle.chess_core.specs.Position.{Position}
 use Rattle.chess_core.specs.declared.man.Move.{Move}
-use Rattle.chess_rules.specs.ties.Places.{moves_behind}
+use Rattle.chess_rules.specs.ties.Places.{moves_after}
 use Rattle.chess_mates.specs.ties.Mates.{allows_mate}
 use Rattle.chess_rules.specs.Legal.{is_legal}
 use Rattle.chess_attacks.specs.RuleSet.{RuleSet}
@@ -12,8 +12,8 @@ pub record Passes (rule : RuleSet) (p : Position) (place : ℕ) (rest : List Mov
     (what : List Move → Type 0) : Type 0 where
   pub mid : ℕ
   pub over : List Move
-  pub passed : moves_behind rule p place ≡ over ++ moves_behind rule p mid
-  pub here : moves_behind rule p mid ≡ rest
+  pub passed : moves_after rule p place ≡ over ++ moves_after rule p mid
+  pub here : moves_after rule p mid ≡ rest
   pub fits : what over
 
 -- none of these moves passes the test, and each has counted as one tried position
@@ -22,18 +22,18 @@ pub record AreTaken (test : Move → Bool) (before after : ℕ) (over : List Mov
   pub counts : after ≡ min (before + length over) (2 ^ 64 - 1)
 
 -- no reply to any of these moves mates, and each has counted as one tried position
-abbrev pub AreSettled : RuleSet → Position → (before after : ℕ) → List Move → Type 0
-AreSettled rule p = AreTaken (allows_mate rule p)
+abbrev pub CannotBeMated : RuleSet → Position → (before after : ℕ) → List Move → Type 0
+CannotBeMated rule p = AreTaken (allows_mate rule p)
 
 -- `found` is the next move after `place` that a filter for the test leaves
 abbrev pub IsNextLeft : RuleSet → Position → (Move → Bool) → (place next before after : ℕ)
     → Option Move → Type 0
 IsNextLeft rule p test place next before after found =
     MatchOption found (Passes rule p place [] (AreTaken test before after))
-    (λ m. Passes rule p place (m ∷ moves_behind rule p next) (AreTaken test before after)
+    (λ m. Passes rule p place (m ∷ moves_after rule p next) (AreTaken test before after)
     × (is_legal rule p m ≡ true))
 
 -- `found` is the next move after `place` to which a reply may mate
-abbrev pub IsNextUnsettled : RuleSet → Position → (place next before after : ℕ) → Option Move → Type
+abbrev pub IsNextMatable : RuleSet → Position → (place next before after : ℕ) → Option Move → Type
     0
-IsNextUnsettled rule p = IsNextLeft rule p (allows_mate rule p)
+IsNextMatable rule p = IsNextLeft rule p (allows_mate rule p)

@@ -6,9 +6,9 @@ use Rattle.std.specs.List.{list_any, list_all}
 use Rattle.pop_battle.specs.Game.{Game, can_move, some_move, every_move}
 
 -- with t half-moves left White is to move, who needs one good move
-abbrev pub seeks : Battle → ℕ → Bool
-seeks Direct t = t % 2 == 1
-seeks Selfmate t = t % 2 == 0
+abbrev pub attacker_to_move : Battle → ℕ → Bool
+attacker_to_move Direct t = t % 2 == 1
+attacker_to_move Selfmate t = t % 2 == 0
 
 -- the values of all moves joined: some is true, or all are
 abbrev pub join : Bool → Bool → Bool → Bool
@@ -24,12 +24,12 @@ module _ {P M : Type 0} where
   value battle game zero p = game.goal p
   value battle game (suc t) p =
       (suc t % 2 == 0 && game.goal p)
-      || (if seeks battle (suc t) then some_move game (value battle game t) p
+      || (if attacker_to_move battle (suc t) then some_move game (value battle game t) p
       else (can_move game p && every_move game (value battle game t) p))
 
   -- the joined value of these moves of p
   unfoldable pub joined_value : Battle → Game P M → ℕ → P → List M → Bool
   joined_value battle game zero p moves = false
   joined_value battle game (suc t) p moves =
-      if seeks battle (suc t) then list_any (λ m. value battle game t (game.after p m)) moves
+      if attacker_to_move battle (suc t) then list_any (λ m. value battle game t (game.after p m)) moves
       else list_all (λ m. value battle game t (game.after p m)) moves

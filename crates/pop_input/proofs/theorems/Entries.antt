@@ -30,9 +30,9 @@ abbrev pub AreNext : List ClosedBlock → Type 0
 AreNext blocks = list_all (λ block. is_next (command_of block.closer)) blocks ≡ true
 
 -- The entries of words after a closing word: after EndProblem there are none.
-abbrev pub entries_behind : Option Command → Words → List Entry
-entries_behind (Some Last) words = []
-entries_behind _ words = entries_of false words
+abbrev pub entries_after : Option Command → Words → List Entry
+entries_after (Some Last) words = []
+entries_after _ words = entries_of false words
 
 -- Whether a list of blocks is empty: then the next block is the first of the input.
 abbrev pub is_first : List ClosedBlock → Bool
@@ -53,14 +53,14 @@ put_both : (xs ys : List Token) (words : Words) → put_before xs (put_before ys
 put_both xs ys words = ap (λ l. record { tokens = l; tail = words.tail; tail_line = words.tail_line }) (sym (append_assoc xs ys words.tokens))
 
 by_command : (first : Bool) (block : ClosedBlock) (words : Words) (c : Option Command) → command_of block.closer ≡ c → closes c ≡ true
-    → entries_of first (put_before (tokens_in block) words) ≡ own_entry first block ∷ entries_behind c words
+    → entries_of first (put_before (tokens_in block) words) ≡ own_entry first block ∷ entries_after c words
 by_command first block words (Some Next) is h = next_entries first block.front block.line block.closer block.plain words is
 by_command first block words (Some Last) is h = last_entries first block.front block.line block.closer block.plain words is
 by_command first block words c is h = absurd (grind arith)
 
 -- The entries of a closed block and of any words after it are its own entry, then the entries of these words, however the input ends.
 pub block_and_rest : (first : Bool) (block : ClosedBlock) (words : Words)
-    → entries_of first (put_before (tokens_in block) words) ≡ own_entry first block ∷ entries_behind (command_of block.closer) words
+    → entries_of first (put_before (tokens_in block) words) ≡ own_entry first block ∷ entries_after (command_of block.closer) words
 block_and_rest first block words = by_command first block words (command_of block.closer) refl block.closing
 
 next_and_rest : (first : Bool) (block : ClosedBlock) (blocks : List ClosedBlock) (words : Words) → AreNext (block ∷ blocks)
@@ -96,7 +96,7 @@ open_block first front tail line plain = ended_entries first front tail line pla
 -- of the rest, none after EndProblem.
 pub entries_are : (before : List ClosedBlock) (block : ClosedBlock) (words : Words) → AreNext before
     → entries_of true (put_before (flat_map tokens_in before) (put_before (tokens_in block) words))
-    ≡ own_entries before ++ own_entry (is_first before) block ∷ entries_behind (command_of block.closer) words
+    ≡ own_entries before ++ own_entry (is_first before) block ∷ entries_after (command_of block.closer) words
 entries_are before block words next = blocks_first before (put_before (tokens_in block) words) next
     ∙ ap (λ entries. own_entries before ++ entries) (block_and_rest (is_first before) block words)
 
@@ -105,5 +105,5 @@ pub entry_is_its_own : (before : List ClosedBlock) (block : ClosedBlock) (words 
     → get_or (entries_of true (put_before (flat_map tokens_in before) (put_before (tokens_in block) words))) (length before) d
     ≡ own_entry (is_first before) block
 entry_is_its_own before block words d next = ap (λ entries. get_or entries (length before) d) (entries_are before block words next)
-    ∙ get_or_at (own_entries before) (own_entry (is_first before) block) (entries_behind (command_of block.closer) words) d (length before)
+    ∙ get_or_at (own_entries before) (own_entry (is_first before) block) (entries_after (command_of block.closer) words) d (length before)
     (length-own_entries before)

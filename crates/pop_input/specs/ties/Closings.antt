@@ -6,9 +6,9 @@ use Rattle.pop_text.specs.Words.{End}
 use Rattle.pop_text.specs.declared.read_fault.ReadFault.{ReadFault}
 use Rattle.pop_text.specs.declared.read_fault.ReadFault.TheVariants.{TooLong, InputTooLong as PastLimit, Device}
 use Rattle.pop_input.specs.Names.{or_else}
-use Rattle.pop_input.specs.Blocks.{Entry, Sound as SoundEntry, Faulty as FaultyEntry, judged_entry, tail_fault}
+use Rattle.pop_input.specs.Blocks.{Entry, Sound as SoundEntry, Faulty as FaultyEntry, judged_entry, end_fault}
 use Rattle.pop_input.specs.WordFaults.{fault_of}
-use Rattle.pop_input.specs.Drafts.{Draft, nothing_said, draft_after}
+use Rattle.pop_input.specs.Drafts.{Draft, empty_draft, draft_after}
 use Rattle.pop_input.specs.declared.block.Block.{Block}
 use Rattle.pop_input.specs.declared.item.Fault.{Fault}
 use Rattle.pop_input.specs.declared.item.Item.{Item}
@@ -22,9 +22,9 @@ use Rattle.pop_input.specs.declared.names.TextWord.TheVariants.{Title, Author}
 use Rattle.std.specs.Prelude.{List, [], not}
 
 -- the draft after one more word: the first word of the input says nothing
-abbrev pub said_after : Bool → Draft → List ℕ → Draft
-said_after true draft text = draft_after draft text
-said_after false draft text = draft
+abbrev pub draft_of_next : Bool → Draft → List ℕ → Draft
+draft_of_next true draft text = draft_after draft text
+draft_of_next false draft text = draft
 
 -- the text of a wanted text word after one more text line
 abbrev pub text_with : TextWord → List ℕ → TextWord → List ℕ → List ℕ
@@ -41,7 +41,7 @@ noted_text false wanted old keyword text = old
 pub record IsNew (first : Bool) (block : Block) : Type 0 where
   pub fault : block.fault ≡ None
   pub begun : block.begun ≡ not first
-  pub draft : block.draft ≡ nothing_said
+  pub draft : block.draft ≡ empty_draft
   pub title : block.title ≡ []
   pub author : block.author ≡ []
 
@@ -49,7 +49,7 @@ pub record IsNew (first : Bool) (block : Block) : Type 0 where
 pub record ReadsWord (old new : Block) (line : ℕ) (text : List ℕ) : Type 0 where
   pub fault : new.fault ≡ or_else old.fault (at_line line (fault_of old.begun old.draft text))
   pub begun : new.fault ≡ None → new.begun ≡ true
-  pub draft : new.fault ≡ None → new.draft ≡ said_after old.begun old.draft text
+  pub draft : new.fault ≡ None → new.draft ≡ draft_of_next old.begun old.draft text
   pub title : new.title ≡ old.title
   pub author : new.author ≡ old.author
 
@@ -77,7 +77,7 @@ ended_by None other = other
 
 -- the item of a block in which the input ends
 abbrev pub ended_item : Block → ℕ → Item
-ended_item block line = Faulty (ended_by block.fault (fault_at (tail_fault block.begun End) line))
+ended_item block line = Faulty (ended_by block.fault (fault_at (end_fault block.begun End) line))
     Yes
 
 -- the fault of an input that is cut
@@ -88,9 +88,9 @@ cut_fault (Device line) = fault_at DeviceFailed line
 
 -- the fault to report if the input is cut in a block with this fault or none, and whether it is the last: after a fault
 -- the cut is an item of its own
-abbrev pub told_of_cut : Option Fault → ReadFault → Fault × Last
-told_of_cut (Some fault) cut = (fault, No)
-told_of_cut None cut = (cut_fault cut, Yes)
+abbrev pub item_of_cut : Option Fault → ReadFault → Fault × Last
+item_of_cut (Some fault) cut = (fault, No)
+item_of_cut None cut = (cut_fault cut, Yes)
 
 -- whether the item that a command closes is the last, if it closes one
 abbrev pub last_of : Option Command → Option Last

@@ -2,8 +2,8 @@
 use Rattle.std.specs.Prelude.{◌≡◌, ◌<◌, ◌≤◌, ℕ, List, [], ◌∷◌, length, Option, Some, None, Ok, Err}
 use Rattle.pop_text.specs.Words.{Token, Word, TextLine, Tail, End as AtEnd, Long, Broken as Failing, text_of_line}
 use Rattle.pop_text.specs.ties.Reading.{Reading, Uses}
-use Rattle.pop_text.specs.ties.Runs.{IsRunOver, Peeks, UsesRun}
-use Rattle.pop_text.specs.ties.Left.{Takes, among, IsOver, GoesOn, StaysWithin}
+use Rattle.pop_text.specs.ties.Runs.{IsRunOver, ComesNext, UsesRun}
+use Rattle.pop_text.specs.ties.Left.{Takes, among, IsOver, Advances, WithinLimit}
 use Rattle.pop_text.specs.declared.read_fault.ReadFault.{ReadFault}
 use Rattle.pop_text.specs.declared.scanner.End.TheVariants.{Broken}
 use Rattle.pop_text.specs.declared.read_fault.ReadFault.TheVariants.{TooLong as LongWord, InputTooLong, Device}
@@ -15,12 +15,12 @@ use Rattle.pop_input.specs.declared.token.ReadToken.TheVariants.{Word as AWord, 
 -- the call takes this token of the input
 abbrev pub TakesPart : Reading → Reading → Option (List ℕ) → Option (List ℕ) → Token → Type 0
 TakesPart old new had left part = Takes (among old) (among new) had left (part ∷ [])
-    × GoesOn old new
+    × Advances old new
 
 -- the call takes no token: none is left
 abbrev pub TakesNothing : Reading → Reading → Option (List ℕ) → Option (List ℕ) → Tail → ℕ → Type 0
 TakesNothing old new had left tail line = Takes (among old) (among new) had left []
-    × IsOver new tail × (line ≡ new.line) × StaysWithin old new
+    × IsOver new tail × (line ≡ new.line) × WithinLimit old new
 
 -- the call takes no token: the input is cut
 abbrev pub CutsOff : Reading → Reading → Option (List ℕ) → Option (List ℕ) → ReadFault → Type 0
@@ -41,8 +41,8 @@ UsesToken old new had left word AWord = UsesRun old new had left word.line word.
     × IsRunOver new
 UsesToken old new had left word (TooLong line) = UsesSome old new had left
 UsesToken old new had left word (Line keyword) = UsesSome old new had left
-UsesToken old new had left word (Ended line) = UsesSome old new had left × Peeks new (Ok None)
-UsesToken old new had left word (Cut fault) = UsesSome old new had left × Peeks new (Err fault)
+UsesToken old new had left word (Ended line) = UsesSome old new had left × ComesNext new (Ok None)
+UsesToken old new had left word (Cut fault) = UsesSome old new had left × ComesNext new (Err fault)
 
 -- what `next_token` does, with the word and the text that it stores
 abbrev pub NextToken : Reading → Reading → Option (List ℕ) → Option (List ℕ) → Room → List ℕ

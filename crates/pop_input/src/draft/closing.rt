@@ -5,7 +5,7 @@ ghost use Rattle.chess_core.specs.Diagrams.{position_of};
 ghost use Rattle.chess_core.specs.WellFormed.{IsWellFormed};
 ghost use Rattle.chess_attacks.specs.Attacks.{in_check};
 ghost use Rattle.pop_input.specs.Posed.{rule_of};
-ghost use Rattle.pop_input.specs.Ends.{counts_as_unmoved, diagram_fault, diagram_of, position_fault, unmoved_of};
+ghost use Rattle.pop_input.specs.Ends.{has_castling_rights, diagram_fault, diagram_of, position_fault, castling_rights_of};
 ghost use Rattle.pop_input.specs.Blocks.{posed_entry};
 ghost use Rattle.pop_input.specs.ties.Closings.{item_of};
 ghost use Rattle.pop_stipulation.specs.Stipulations.{has_king_to_mate};
@@ -95,24 +95,24 @@ impl Draft {
     }
 
     // Returns the castling rights, as squares (Codex).
-    #[tactic(auto, unfolding(crate::specs::Ends::unmoved_of))]
+    #[tactic(auto, unfolding(crate::specs::Ends::castling_rights_of))]
     fn unmoved(&self) -> Unmoved
-        ensures { result ≡ unmoved_of self.now.men self.now.barred }
+        ensures { result ≡ castling_rights_of self.now.men self.now.castling_forbidden }
     {
         let mut set = Unmoved::none();
         let castling = Square::castling();
         for &square in &castling {
-            set = self.with_counted(set, square);
+            set = self.with_rights(set, square);
         }
         set
     }
 
     // Adds the square to the set if it has castling rights, else removes it, as the definition does.
-    fn with_counted(&self, set: Unmoved, square: Square) -> Unmoved
+    fn with_rights(&self, set: Unmoved, square: Square) -> Unmoved
         ensures { result ≡ mark_unmoved set square
-            (counts_as_unmoved self.now.men self.now.barred square) }
+            (has_castling_rights self.now.men self.now.castling_forbidden square) }
     {
-        if self.diagram.is_home(square) && !self.barred.has(square) {
+        if self.diagram.is_home(square) && !self.castling_forbidden.has(square) {
             set.with(square)
         } else {
             set.without(square)

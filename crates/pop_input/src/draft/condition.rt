@@ -2,7 +2,7 @@
 ghost use Rattle.std.specs.Prelude.{◌≡◌, ◌≤◌, ◌<◌, length, None, Some};
 ghost use Rattle.pop_input.specs.Drafts.{draft_by};
 ghost use Rattle.pop_input.specs.WordFaults.{role_fault};
-ghost use Rattle.pop_input.specs.declared.place.Role.TheVariants.{Within};
+ghost use Rattle.pop_input.specs.declared.context.Role.TheVariants.{Within};
 ghost use Rattle.pop_input.specs.declared.names.Section.TheVariants.{Condition as Conditions};
 
 use crate::draft::Draft;
@@ -23,7 +23,7 @@ impl Draft {
                     return Some(FaultKind::SecondCondition);
                 }
                 self.condition = Some(condition);
-                self.place.awaited = None;
+                self.context.expected = None;
                 None
             }
             None => Some(FaultKind::WordMisplaced),

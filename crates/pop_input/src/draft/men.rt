@@ -5,8 +5,8 @@ ghost use Rattle.chess_core.specs.Position.{with_man};
 ghost use Rattle.pop_input.specs.Names.{kind_of};
 ghost use Rattle.pop_input.specs.Values.{is_digit, squares_named};
 ghost use Rattle.pop_input.specs.Drafts.{put_kind, put_men, draft_by};
-ghost use Rattle.pop_input.specs.WordFaults.{is_foreign, letter_fault, man_fault, men_fault, role_fault};
-ghost use Rattle.pop_input.specs.declared.place.Role.TheVariants.{Within};
+ghost use Rattle.pop_input.specs.WordFaults.{is_other_word, letter_fault, man_fault, men_fault, role_fault};
+ghost use Rattle.pop_input.specs.declared.context.Role.TheVariants.{Within};
 ghost use Rattle.pop_input.specs.declared.names.Section.TheVariants.{Pieces};
 
 use crate::draft::Draft;
@@ -24,7 +24,7 @@ impl Draft {
         ensures draft { result ≡ None → self.new
             ≡ draft_by (Within (Some Pieces)) self.old word.now }
     {
-        self.place.awaited = None;
+        self.context.expected = None;
         let word = word.bytes();
         match (colour_of(word), word) {
             (Some(colour), _) => {
@@ -68,7 +68,7 @@ impl Draft {
                 None => Some(FaultKind::ColourMissing),
             },
             None => {
-                if is_foreign(text) {
+                if is_other_word(text) {
                     Some(FaultKind::WordMisplaced)
                 } else if self.colour.is_none() {
                     Some(FaultKind::ColourMissing)
@@ -124,8 +124,8 @@ impl Draft {
 }
 
 // Returns whether the text has two bytes or more and no digit: then the word isn't a letter and squares at all.
-fn is_foreign(text: &[u8]) -> bool
-    ensures { result ≡ is_foreign text.now }
+fn is_other_word(text: &[u8]) -> bool
+    ensures { result ≡ is_other_word text.now }
 {
     text.len() >= 2 && !has_digit(text)
 }

@@ -1,8 +1,8 @@
 //! The words of the section Option.
 ghost use Rattle.std.specs.Prelude.{◌≡◌, ◌≤◌, ◌<◌, length, None, Some};
-ghost use Rattle.pop_input.specs.Drafts.{awaited_by, draft_by, switches_with};
+ghost use Rattle.pop_input.specs.Drafts.{expected_by, draft_by, switches_with};
 ghost use Rattle.pop_input.specs.WordFaults.{role_fault};
-ghost use Rattle.pop_input.specs.declared.place.Role.TheVariants.{Within};
+ghost use Rattle.pop_input.specs.declared.context.Role.TheVariants.{Within};
 ghost use Rattle.pop_input.specs.declared.names.Section.TheVariants.{Options};
 
 use crate::draft::Draft;
@@ -29,16 +29,16 @@ impl Draft {
     // Sets an option without a value, or notes which value the option expects.
     fn apply(&mut self, option: OptionWord)
         ensures { self.new ≡ record self.old {
-          place = record { section = self.old.place.section; awaited = awaited_by (Some option) };
+          context = record { section = self.old.context.section; expected = expected_by (Some option) };
           switches = switches_with (Some option) self.old.switches;
         } }
     {
-        self.place.awaited = None;
+        self.context.expected = None;
         match option {
             OptionWord::SetPlay => self.switches.set_play = true,
             OptionWord::Variation => self.switches.variation = true,
             OptionWord::NoBoard => self.switches.no_board = true,
-            OptionWord::Awaits(awaited) => self.place.awaited = Some(awaited),
+            OptionWord::Expects(expected) => self.context.expected = Some(expected),
         }
     }
 }

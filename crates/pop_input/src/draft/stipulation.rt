@@ -2,7 +2,7 @@
 ghost use Rattle.std.specs.Prelude.{◌≡◌, ◌≤◌, ◌<◌, length, None, Some};
 ghost use Rattle.pop_input.specs.Drafts.{draft_by};
 ghost use Rattle.pop_input.specs.WordFaults.{role_fault};
-ghost use Rattle.pop_input.specs.declared.place.Role.TheVariants.{Within};
+ghost use Rattle.pop_input.specs.declared.context.Role.TheVariants.{Within};
 ghost use Rattle.pop_input.specs.declared.names.Section.TheVariants.{Stipulation as Stipulations};
 
 use crate::draft::Draft;
@@ -28,7 +28,7 @@ impl Draft {
         match stipulation_of(word.bytes()) {
             Some(stipulation) => {
                 self.stipulation = Some(stipulation);
-                self.place.awaited = None;
+                self.context.expected = None;
                 None
             }
             None => Some(FaultKind::BadStipulation),

@@ -1,6 +1,6 @@
 -- The parts of a phase, by the first moves of its solutions: joined they are the phase, and no solution is
 -- in two of them.
-use Rattle.pop_parts.proofs.Words.{AllPairs, Contains, IsSound, List, Move, Phase, Posed, Precedes, RuleSet, StandsBefore, ap, arith, begins_so, count_by, false, flat_map, is_barred, length, length-take, min, never_before_itself, pairs_weaker, part_count, part_depth, part_solutions, parts, phase_count, phase_half_moves, phase_start, refl, solutions, start_sound, sum_by, sym, take, ℕ, ◌↔◌, ◌∙◌, ◌≡◌, ◌≢◌, ◌≤◌}
+use Rattle.pop_parts.proofs.Words.{AllPairs, Contains, IsSound, List, Move, Phase, Posed, Precedes, RuleSet, StandsBefore, ap, arith, begins_so, count_by, false, flat_map, is_impossible_phase, length, length-take, min, never_before_itself, pairs_weaker, part_count, part_depth, part_solutions, parts, phase_count, phase_half_moves, phase_start, refl, solutions, start_sound, sum_by, sym, take, ℕ, ◌↔◌, ◌∙◌, ◌≡◌, ◌≢◌, ◌≤◌}
 use Rattle.std.proofs.lemmas.List.Concat.{length-flat_map}
 use Rattle.std.proofs.lemmas.List.Sums.{length-filter}
 use Rattle.pop_parts.proofs.PartLists.{first-of-firsts}
@@ -19,7 +19,7 @@ module _ (rule : RuleSet) (problem : Posed) (phase : Phase) (depth : ℕ) where
       (never_before_itself Precedes never_itself) parts_in_order
 
 -- A sound problem, one of its possible phases, and any number of moves that distinguish its parts.
-module _ (rule : RuleSet) (problem : Posed) (phase : Phase) (depth : ℕ) (free : is_barred rule problem phase ≡ false) (sound : IsSound problem) where
+module _ (rule : RuleSet) (problem : Posed) (phase : Phase) (depth : ℕ) (free : is_impossible_phase rule problem phase ≡ false) (sound : IsSound problem) where
   -- The parts are the lists of this many moves, each legal in its position; if the phase has no half-move
   -- there is none.
   pub parts_are : (front : List Move)

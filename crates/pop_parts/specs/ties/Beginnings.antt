@@ -7,7 +7,7 @@ use Rattle.chess_core.specs.declared.man.Move.{Move}
 use Rattle.chess_rules.specs.Legal.{is_legal}
 use Rattle.chess_rules.specs.Play.{position_after}
 use Rattle.chess_attacks.specs.RuleSet.{RuleSet}
-use Rattle.chess_rules.specs.ties.Places.{moves_behind}
+use Rattle.chess_rules.specs.ties.Places.{moves_after}
 use Rattle.pop_stipulation.specs.declared.stipulation.Goal.{Goal}
 use Rattle.pop_input.specs.Posed.{Posed}
 use Rattle.pop_stipulation.specs.Stipulations.{is_help}
@@ -34,7 +34,7 @@ beginnings_to_come goal rule d p [] = []
 beginnings_to_come goal rule d p (f ∷ below) =
     map (λ rest. path (f ∷ below) ++ rest)
     (beginnings_by goal rule (d - length below - 1) (position rule p (f ∷ below))
-    (moves_behind rule (position rule p (f ∷ below)) f.place))
+    (moves_after rule (position rule p (f ∷ below)) f.place))
     ++ beginnings_to_come goal rule d p below
 
 -- the board has the position of the top frame of a walk over lists of d first moves
@@ -66,7 +66,7 @@ pub record FindsNumbered (rule : RuleSet) (h d : ℕ) (p : Position) (old new : 
     (board : Position) (number : ℕ) (found : Option Move) : Type 0 where
   pub here : (goal : Goal) → slice_get (beginnings_to_come goal rule d p old) (number - 1)
       ≡ option_map (λ m. path new ++ m ∷ []) found
-  pub behind : (goal : Goal) → beginnings_to_come goal rule d p new
+  pub following : (goal : Goal) → beginnings_to_come goal rule d p new
       ≡ drop number (beginnings_to_come goal rule d p old)
   pub seeking : IsSeeking rule h d p new board
   pub stands : IfSome found (λ m. IsSeeking rule h d p new board × (is_legal rule board m ≡ true)

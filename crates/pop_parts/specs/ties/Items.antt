@@ -7,7 +7,7 @@ use Rattle.chess_attacks.specs.RuleSet.{RuleSet}
 use Rattle.pop_input.specs.Posed.{Posed}
 use Rattle.pop_solve.specs.Events.{Path}
 use Rattle.pop_events.specs.declared.event.Phase.{Phase}
-use Rattle.pop_run.specs.Report.{is_faulty, tells_failure}
+use Rattle.pop_run.specs.Report.{is_faulty, reports_device_failure}
 use Rattle.pop_run.specs.declared.status.Status.{Status}
 use Rattle.pop_run.specs.ties.Sessions.{status_with}
 use Rattle.pop_parts.specs.Parts.{parts_line, part_text}
@@ -26,12 +26,12 @@ parts_line_if number depth (Some entry) = parts_line number depth entry
 -- the status after one more item
 abbrev pub status_after : Status → Option Entry → Status
 status_after so_far None = so_far
-status_after so_far (Some entry) = status_with so_far (tells_failure entry) (is_faulty entry)
+status_after so_far (Some entry) = status_with so_far (reports_device_failure entry) (is_faulty entry)
 
 -- the entry reports a failed device
 abbrev pub is_failure : Option Entry → Bool
 is_failure None = false
-is_failure (Some entry) = tells_failure entry
+is_failure (Some entry) = reports_device_failure entry
 
 -- the text of a part, if there is one
 abbrev pub text_if : RuleSet → Posed → Phase → Option Path → List ℕ

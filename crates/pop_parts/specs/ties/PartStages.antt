@@ -8,7 +8,7 @@ use Rattle.pop_solve.specs.Events.{BareEvent, Path, path_event, phase_half_moves
 use Rattle.pop_parts.specs.PhaseParts.{part_count}
 use Rattle.pop_events.specs.declared.event.Phase.{Phase}
 use Rattle.pop_parts.specs.declared.part_search.PartStage.{PartStage}
-use Rattle.pop_parts.specs.declared.part_search.PartStage.TheVariants.{First, Within, Behind}
+use Rattle.pop_parts.specs.declared.part_search.PartStage.TheVariants.{First, Within, After}
 use Rattle.pop_battle.specs.ties.Frames.{Frame, to_open}
 use Rattle.pop_parts.specs.ties.PartsSeen.{is_part_stopped, part_walk}
 use Rattle.pop_solve.specs.ties.Phases.{beginning_count, kept_paths, phase_paths}
@@ -19,13 +19,13 @@ use Rattle.pop_solve.specs.ties.Walk.{IsCounted, IsEnded, IsWalking, path}
 abbrev pub begun_at : PartStage → ℕ
 begun_at First = 0
 begun_at (Within count) = count
-begun_at Behind = 0
+begun_at After = 0
 
 -- the paths still to come at a stage
 unfoldable pub part_paths : RuleSet → Posed → Phase → PartStage → List Frame → List Path
 part_paths rule problem phase First frames = path frames ∷ phase_paths rule problem phase frames
 part_paths rule problem phase (Within count) frames = phase_paths rule problem phase frames
-part_paths rule problem phase Behind frames = []
+part_paths rule problem phase After frames = []
 
 -- the number of solutions that have begun or are still to begin
 abbrev pub begun_in_all : RuleSet → Posed → Phase → PartStage → List Frame → ℕ
@@ -49,7 +49,7 @@ part_left rule problem phase First frames =
     events_left problem phase 0 (part_paths rule problem phase First frames)
 part_left rule problem phase (Within count) frames =
     events_left problem phase count (part_paths rule problem phase (Within count) frames)
-part_left rule problem phase Behind frames = []
+part_left rule problem phase After frames = []
 
 -- the board has the position of the top frame of a part's walk, and the solutions add up to the part's
 pub record IsInPart (rule : RuleSet) (problem : Posed) (phase : Phase) (front : Path)
@@ -67,7 +67,7 @@ StandsInPart rule problem phase front First frames board =
     × IsEnded rule (plan_of problem) frames board
 StandsInPart rule problem phase front (Within count) frames board =
     IsInPart rule problem phase front (Within count) frames board
-StandsInPart rule problem phase front Behind frames board = (frames ≡ [])
+StandsInPart rule problem phase front After frames board = (frames ≡ [])
     × (board ≡ play_start problem)
 
 -- in help play, if no limit stops the part, exactly the positions of its walk that aren't still to be tried

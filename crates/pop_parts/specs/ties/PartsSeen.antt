@@ -27,7 +27,7 @@ pub record PartSeen (R : Type 0) : Type 0 where
   pub killers : Killers R
 
 -- what contracts see of the parts still to come: the problem, the phase, and the first moves of each part
-pub record LeftSeen : Type 0 where
+pub record RemainingSeen : Type 0 where
   pub problem : Posed
   pub phase : Phase
   pub left : List Path

@@ -28,11 +28,11 @@ abbrev kind_written : ℕ → Kind
 kind_written l = cond (eqb l 75) King (cond (eqb l 81) Queen (cond (eqb l 82) Rook (cond (eqb l 66) Bishop
     (cond (eqb l 83) Knight (cond (eqb l 80) Pawn (cond (eqb l 71) Grasshopper Nightrider))))))
 
-letter_tells : (k : Kind) → kind_written (letter_of k) ≡ k
-letter_tells k = grind arith
+letter_reports : (k : Kind) → kind_written (letter_of k) ≡ k
+letter_reports k = grind arith
 
 same_letter : (j k : Kind) → letter_of j ≡ letter_of k → j ≡ k
-same_letter j k e = sym (letter_tells j) ∙ ap kind_written e ∙ letter_tells k
+same_letter j k e = sym (letter_reports j) ∙ ap kind_written e ∙ letter_reports k
 
 capital_letter : (k : Kind) → letter_of k < 96
 capital_letter k = grind arith
@@ -118,13 +118,13 @@ same_going a b j k p q e = grind (arith, man_case, same_way, no_file, same_lette
 regrouped : (m s c q e p r k : List ℕ) → m ++ s ++ c ++ q ++ e ++ p ++ r ++ k ≡ m ++ (s ++ (c ++ (q ++ (e ++ (p ++ r ++ k)))))
 regrouped m s c q e p r k = grind (arith, append_assoc)
 
-behind_step : (c : Bool) (s q : ℕ) (rest : List ℕ) → square_text s ++ (step_text c ++ (square_text q ++ rest)) ≡ ways s (step_byte c) q rest
-behind_step c s q rest = grind arith
+after_step : (c : Bool) (s q : ℕ) (rest : List ℕ) → square_text s ++ (step_text c ++ (square_text q ++ rest)) ≡ ways s (step_byte c) q rest
+after_step c s q rest = grind arith
 
 -- The text of a move that isn't castling, byte by byte.
 going_is : (a : Shown) → unmarked_text None a ++ mark_text a.mark
     ≡ man_text a.man.kind ++ ways a.from (step_byte a.capture) a.to (tail_text a)
-going_is a = grind (arith, regrouped, behind_step)
+going_is a = grind (arith, regrouped, after_step)
 
 -- The first byte of a move that isn't castling is a letter.
 begins_by : (k : Kind) (s : ℕ) (rest : List ℕ) → 60 < first (man_text k ++ (96 + file_of s) ∷ rest)
@@ -212,6 +212,6 @@ module _ (goal : Goal) (rule : RuleSet) (p : Position) (well : IsWellFormed p) w
   moves_are_written_apart m n h k e =
       let a = shown_by_man m (man_on p.men m.from) refl h in
       let b = shown_by_man n (man_on p.men n.from) refl k in
-      let told = written_alike (shown_move goal rule p m) (shown_move goal rule p n) e in
+      let reported = written_alike (shown_move goal rule p m) (shown_move goal rule p n) e in
       same_move m n a.0 b.0 (castling_side a.0 m) (castling_side b.0 n) a.1 b.1 refl refl
-      (sym a.1.castling ∙ told.0 ∙ b.1.castling) (λ none. told.1 (a.1.castling ∙ none))
+      (sym a.1.castling ∙ reported.0 ∙ b.1.castling) (λ none. reported.1 (a.1.castling ∙ none))

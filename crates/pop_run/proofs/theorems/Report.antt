@@ -1,9 +1,9 @@
 -- The report of an input is the texts of its items joined. Each text depends on its own block, its number and the flags: no neighbour changes it.
 use Rattle.pop_run.proofs.Basics.{Choice, Entry, Input, List, None, Words, [], ap, arith, drop, entries_in, entries_of, entry_text, enumerate_from, flat_map, get_or, length, limit, map, put_before, refl, report, report_from, sym, words_from, words_of, ℕ, ◌++◌, ◌+◌, ◌-◌, ◌<◌, ◌∙◌, ◌∷◌, ◌≡◌, ◌≤◌}
 use Rattle.pop_run.proofs.Running.{report-append}
-use Rattle.pop_input.proofs.theorems.Entries.{AreNext, ClosedBlock, blocks_first, entries_are, entries_behind, is_first, length-own_entries, own_entries, own_entry, tokens_in}
+use Rattle.pop_input.proofs.theorems.Entries.{AreNext, ClosedBlock, blocks_first, entries_are, entries_after, is_first, length-own_entries, own_entries, own_entry, tokens_in}
 use Rattle.pop_input.proofs.Pieces.{tokens_at}
-use Rattle.pop_input.proofs.theorems.Inputs.{AreWholeLines, IsLineOver, line_behind, rest_of, words_of_last, words_of_lines_and_own, words_of_lines_and_rest}
+use Rattle.pop_input.proofs.theorems.Inputs.{AreWholeLines, IsLineOver, line_after, rest_of, words_of_last, words_of_lines_and_own, words_of_lines_and_rest}
 use Rattle.pop_text.specs.Words.{tail_of, words_by}
 use Rattle.pop_input.specs.Names.{command_of}
 
@@ -36,15 +36,15 @@ module _ (choice : Choice) where
       → report_from choice number (first ++ others) ≡ report_from choice number first ++ report_from choice (number + length first) others
   report_of_both number first others = report-append choice number first others
 
-  text_behind : (number : ℕ) (first : List Entry) (entry : Entry) (others : List Entry)
+  text_after : (number : ℕ) (first : List Entry) (entry : Entry) (others : List Entry)
       → get_or (texts_from number (first ++ entry ∷ others)) (length first) [] ≡ entry_text choice (number + length first) entry
-  text_behind number [] entry others = let e : number + 0 ≡ number = omega arith in rw e refl
-  text_behind number (other ∷ first) entry others = grind (arith, text_behind (number + 1) first entry others)
+  text_after number [] entry others = let e : number + 0 ≡ number = omega arith in rw e refl
+  text_after number (other ∷ first) entry others = grind (arith, text_after (number + 1) first entry others)
 
-  texts_behind : (number : ℕ) (first others : List Entry)
+  texts_after : (number : ℕ) (first others : List Entry)
       → drop (length first) (texts_from number (first ++ others)) ≡ texts_from (number + length first) others
-  texts_behind number [] others = let e : number + 0 ≡ number = omega arith in rw e refl
-  texts_behind number (other ∷ first) others = grind (arith, texts_behind (number + 1) first others)
+  texts_after number [] others = let e : number + 0 ≡ number = omega arith in rw e refl
+  texts_after number (other ∷ first) others = grind (arith, texts_after (number + 1) first others)
 
   -- The report of an input of blocks that NextProblem closes, one more closed block and any words after it: the report of the blocks before; the text
   -- of the block's own entry, with its number; then the report of the rest, none after EndProblem.
@@ -52,7 +52,7 @@ module _ (choice : Choice) where
       → words_of input ≡ put_before (flat_map tokens_in before) (put_before (tokens_in block) words)
       → report choice input
       ≡ report_from choice 1 (own_entries before) ++ (entry_text choice (1 + length before) (own_entry (is_first before) block)
-      ++ report_from choice (1 + length before + 1) (entries_behind (command_of block.closer) words))
+      ++ report_from choice (1 + length before + 1) (entries_after (command_of block.closer) words))
   unfolding entries_in
   report_around_a_block input before block words next are = grind (arith, entries_are, report_of_both, length-own_entries)
 
@@ -61,7 +61,7 @@ module _ (choice : Choice) where
       → words_of input ≡ put_before (flat_map tokens_in before) (put_before (tokens_in block) words)
       → get_or (texts input) (length before) [] ≡ entry_text choice (1 + length before) (own_entry (is_first before) block)
   unfolding entries_in
-  text_of_a_block input before block words next are = grind (arith, entries_are before block words next, length-own_entries before, text_behind)
+  text_of_a_block input before block words next are = grind (arith, entries_are before block words next, length-own_entries before, text_after)
 
   -- No neighbour changes a text: if two inputs have equally many blocks before one block with the same lines, its text is the same in both, whatever
   -- the blocks before are, whatever words follow, and however the inputs end.
@@ -78,7 +78,7 @@ module _ (choice : Choice) where
       → input.bytes ≡ lines ++ (own ++ rest) → other.bytes ≡ instead ++ (own ++ after) → AreWholeLines lines → AreWholeLines instead
       → IsLineOver input rest → IsLineOver other after → length lines + length own < limit → length instead + length own < limit
       → AreNext before → AreNext those → tokens_at 1 lines ≡ flat_map tokens_in before → tokens_at 1 instead ≡ flat_map tokens_in those
-      → length before ≡ length those → line_behind lines ≡ line_behind instead → tokens_at (line_behind lines) own ≡ tokens_in block
+      → length before ≡ length those → line_after lines ≡ line_after instead → tokens_at (line_after lines) own ≡ tokens_in block
       → get_or (texts input) (length before) [] ≡ get_or (texts other) (length those) []
   bytes_around_change_nothing input other lines instead own rest after before those block here there whole wholes over overs small fits next these
       first second as_many level is =
@@ -90,7 +90,7 @@ module _ (choice : Choice) where
       → drop (length before) (texts input) ≡ texts_from (1 + length before) (entries_of (is_first before) words)
   unfolding entries_in
   texts_of_rest input before words next are =
-      grind (arith, blocks_first before words next, length-own_entries before, texts_behind 1 (own_entries before))
+      grind (arith, blocks_first before words next, length-own_entries before, texts_after 1 (own_entries before))
 
   -- The texts of all items after some blocks depend on their own words: if two inputs have equally many blocks before the same words and end alike,
   -- these texts are the same, also the text of an item in which the input ends or breaks off.
@@ -106,13 +106,13 @@ module _ (choice : Choice) where
       → input.bytes ≡ lines ++ own → other.bytes ≡ instead ++ own → input.ending ≡ other.ending → AreWholeLines lines → AreWholeLines instead
       → length lines + length own ≤ limit → length instead + length own ≤ limit → AreNext before → AreNext those
       → tokens_at 1 lines ≡ flat_map tokens_in before → tokens_at 1 instead ≡ flat_map tokens_in those → length before ≡ length those
-      → line_behind lines ≡ line_behind instead → drop (length before) (texts input) ≡ drop (length those) (texts other)
+      → line_after lines ≡ line_after instead → drop (length before) (texts input) ≡ drop (length those) (texts other)
   bytes_before_change_nothing input other lines instead own before those here there alike whole wholes small fits next these first second as_many level =
-      let number = line_behind lines in
+      let number = line_after lines in
       let w = words_of_lines_and_rest input lines own here whole (omega (arith, small)) in
       let v = words_of_lines_and_rest other instead own there wholes (omega (arith, fits)) in
       let here_last = words_of_last (limit - length lines) number (rest_of input own) (omega (arith, small)) in
-      let there_last = words_of_last (limit - length instead) (line_behind instead) (rest_of other own) (omega (arith, fits)) in
+      let there_last = words_of_last (limit - length instead) (line_after instead) (rest_of other own) (omega (arith, fits)) in
       let last = there_last ∙ ap (λ n. words_by None n own (tail_of [] other.ending)) (sym level)
       ∙ ap (λ ending. words_by None number own (tail_of [] ending)) (sym alike) ∙ sym here_last in
       let words = words_from None (limit - length lines) number (rest_of input own) in

@@ -7,9 +7,9 @@ use Rattle.pop_input.specs.declared.item.Last.TheVariants.{Yes, No}
 use Rattle.pop_input.specs.declared.reader.Next.{Next}
 use Rattle.pop_input.specs.declared.reader.Next.TheVariants.{First, Later, Nothing}
 use Rattle.pop_input.specs.Blocks.{Entry}
-use Rattle.pop_input.specs.ties.Standing.{Standing, Reads, first_standing}
+use Rattle.pop_input.specs.ties.ReaderState.{ReaderState, Reads, initial_state}
 use Rattle.pop_input.specs.ties.Used.{UsesEntry}
-use Rattle.pop_run.specs.Report.{Choice, entry_text, is_faulty, tells_failure}
+use Rattle.pop_run.specs.Report.{Choice, entry_text, is_faulty, reports_device_failure}
 use Rattle.pop_run.specs.declared.status.Status.{Status}
 use Rattle.pop_run.specs.declared.status.Status.TheVariants.{Sound, Faulty, InputFailed}
 use Rattle.pop_run.specs.declared.status.Step.{Step}
@@ -18,7 +18,7 @@ use Rattle.pop_run.specs.declared.status.Step.TheVariants.{Problem, Finished}
 -- the state of a session: the reader's state, the next item's number, the status so far, whether the sink has failed,
 -- and the flags
 pub record RunState : Type 0 where
-  pub at : Standing
+  pub at : ReaderState
   pub number : ℕ
   pub status : Status
   pub stopped : Bool
@@ -31,9 +31,9 @@ ends Later = false
 ends Nothing = true
 
 -- whether the item is the last
-abbrev pub says_last : Last → Bool
-says_last Yes = true
-says_last No = false
+abbrev pub is_last : Last → Bool
+is_last Yes = true
+is_last No = false
 
 -- an item is still to come, and the sink hasn't failed
 pub record HasMore (place : RunState) : Type 0 where
@@ -43,7 +43,7 @@ pub record HasMore (place : RunState) : Type 0 where
 -- the state before the first item
 abbrev pub first_state : Choice → RunState
 first_state choice = record {
-  at = first_standing;
+  at = initial_state;
   number = 1;
   status = Sound;
   stopped = false;
@@ -63,7 +63,7 @@ pub record TakesItem (old new : RunState) (had left : Option (List ℕ)) (entry 
     pub reads : Reads old.at new.at had left (entry ∷ [])
     pub used : UsesEntry old.at new.at had left entry
     pub number : new.number ≡ old.number + 1
-    pub status : new.status ≡ status_with old.status (tells_failure entry) (is_faulty entry)
+    pub status : new.status ≡ status_with old.status (reports_device_failure entry) (is_faulty entry)
     pub choice : new.choice ≡ old.choice
 
 -- what a step does

@@ -24,13 +24,13 @@ command = with_rule (with_rule (with_rule (with_rule (with_rule (with_rule
     (new_rule (codes "file"))
 
 -- whether an option is there
-abbrev pub is_given : Text → List Row → Bool
-is_given name rows = is_some (first_of name rows)
+abbrev pub is_emitted : Text → List Row → Bool
+is_emitted name rows = is_some (first_of name rows)
 
 -- whether an option that names parts is there
 abbrev pub has_others : List Row → Bool
-has_others rows = is_given (codes "item") rows
-    || (is_given (codes "phase") rows || is_given (codes "part") rows)
+has_others rows = is_emitted (codes "item") rows
+    || (is_emitted (codes "phase") rows || is_emitted (codes "part") rows)
 
 -- how many first moves a part of help play fixes: 1 without the option
 abbrev pub depth_said : Option Text → Option ℕ
@@ -91,6 +91,6 @@ IsUsageIfRefused words fault = fault ≡ Usage
     → (refusals words ≢ []) ⊎ (wanted_by (matches_of command words) ≡ None)
 
 -- a part of help play fixes at least one move
-abbrev pub IsDeep : Wanted → Type 0
-IsDeep (ListOf depth) = 1 ≤ depth
-IsDeep (Parts asked) = 1 ≤ asked.depth
+abbrev pub HasDepth : Wanted → Type 0
+HasDepth (ListOf depth) = 1 ≤ depth
+HasDepth (Parts request) = 1 ≤ request.depth

@@ -58,8 +58,8 @@ ordered_range first (Some last) =
 
 -- the range of a first number and the text after it
 abbrev pub range_from : Option ℕ → List ℕ → Option Range
-range_from None behind = None
-range_from (Some first) behind = ordered_range first (last_in first behind)
+range_from None following = None
+range_from (Some first) following = ordered_range first (last_in first following)
 
 -- a range: `A`, or `A..B` with B at least A
 unfoldable pub range_in : List ℕ → Option Range

@@ -8,7 +8,7 @@ ghost use Rattle.clap.specs.Takes.{takes};
 ghost use Rattle.clap.specs.Kinds.{FailsBy};
 ghost use Rattle.pop_settings.specs.pops.CommandLine.{command, refusals, IsChosen, IsMemoryIfTaken, IsSettings, IsUsageIfRefused};
 
-use crate::arg_fault::{ArgFault, fault_told};
+use crate::arg_fault::{ArgFault, fault_of_error};
 use crate::commands::{is_set, text_of, with_flag, with_value};
 use clap::error::ErrorKind;
 use clap::{ArgMatches, Command, Error};
@@ -29,7 +29,7 @@ pub fn settings(alloc: Global, words: &[&str]) -> Result<Settings, ArgFault>
 {
     match arg_matches(alloc, words) {
         Ok(matches) => settings_of(alloc, &matches),
-        Err(error) => Err(fault_told(&error)),
+        Err(error) => Err(fault_of_error(&error)),
     }
 }
 

@@ -7,10 +7,10 @@ ghost use Rattle.clap.specs.Matches.{found_of};
 ghost use Rattle.clap.specs.Simple.{matches_of};
 ghost use Rattle.clap.specs.Takes.{takes};
 ghost use Rattle.clap.specs.Kinds.{FailsBy};
-ghost use Rattle.pop_settings.specs.pops_part.CommandLine.{command, depth_said, fault_by, list_wanted, parts_wanted, refusals, wanted_by, IsChosen, IsDeep, IsMemoryIfTaken, IsSettings, IsUsageIfRefused};
+ghost use Rattle.pop_settings.specs.pops_part.CommandLine.{command, depth_said, fault_by, list_wanted, parts_wanted, refusals, wanted_by, IsChosen, HasDepth, IsMemoryIfTaken, IsSettings, IsUsageIfRefused};
 ghost use Rattle.pop_settings.specs.pops_part.Numbers.{number_in, phase_in, range_in};
 
-use crate::arg_fault::{ArgFault, fault_told};
+use crate::arg_fault::{ArgFault, fault_of_error};
 use crate::commands::{is_set, text_of, with_flag, with_option, with_value};
 use crate::pops_part::values::{depth_of, number_of, phase_of, range_of};
 use crate::pops_part::wanted::{NamedParts, Settings, Wanted};
@@ -28,11 +28,11 @@ pub fn settings(alloc: Global, words: &[&str]) -> Result<Settings, ArgFault>
     ensures memory { IfErr result (IsMemoryIfTaken (map (λ s. s.now) words.now)) }
     ensures taken { IfOk result (λ s. refusals (map (λ s. s.now) words.now) ≡ []) }
     ensures usage { IfErr result (IsUsageIfRefused (map (λ s. s.now) words.now)) }
-    ensures deep { IfOk result (λ s. IsDeep s.wanted) }
+    ensures deep { IfOk result (λ s. HasDepth s.wanted) }
 {
     match arg_matches(alloc, words) {
         Ok(matches) => settings_of(alloc, &matches),
-        Err(error) => Err(fault_told(&error)),
+        Err(error) => Err(fault_of_error(&error)),
     }
 }
 
@@ -41,7 +41,7 @@ fn settings_of(alloc: Global, matches: &ArgMatches<'_>) -> Result<Settings, ArgF
     ensures chosen { IfOk result (IsChosen (rows_of (found_of matches.now))) }
     ensures refused { IfErr result (λ fault.
         fault ≡ fault_by (wanted_by (rows_of (found_of matches.now)))) }
-    ensures deep { IfOk result (λ s. IsDeep s.wanted) }
+    ensures deep { IfOk result (λ s. HasDepth s.wanted) }
 {
     let Some(wanted) = wanted_of(matches) else {
         return Err(ArgFault::Usage);
@@ -60,9 +60,9 @@ fn settings_of(alloc: Global, matches: &ArgMatches<'_>) -> Result<Settings, ArgF
 #[tactic(auto, unfolding(crate::specs::pops_part::CommandLine::wanted_by))]
 fn wanted_of(matches: &ArgMatches<'_>) -> Option<Wanted>
     ensures value { result ≡ wanted_by (rows_of (found_of matches.now)) }
-    ensures deep { IfSome result IsDeep }
+    ensures deep { IfSome result HasDepth }
 {
-    let depth = depth_told(text_of(matches, "depth"));
+    let depth = depth_or_default(text_of(matches, "depth"));
     let item = text_of(matches, "item");
     let phase = text_of(matches, "phase");
     let part = text_of(matches, "part");
@@ -83,7 +83,7 @@ fn is_any(item: Option<&str>, phase: Option<&str>, part: Option<&str>) -> bool
 }
 
 // Returns how many first moves a part of help play fixes, by the value of `--depth`: 1 without one.
-fn depth_told(said: Option<&str>) -> Option<usize>
+fn depth_or_default(said: Option<&str>) -> Option<usize>
     ensures value { result ≡ depth_said (option_map (λ s. s.now) said.entry) }
     ensures range { IfSome result (λ depth. 1 ≤ depth) }
 {
@@ -97,7 +97,7 @@ fn depth_told(said: Option<&str>) -> Option<usize>
 fn list_of(has_others: bool, depth: Option<usize>) -> Option<Wanted>
     requires { IfSome depth (λ depth. 1 ≤ depth) }
     ensures value { result ≡ list_wanted has_others depth }
-    ensures deep { IfSome result IsDeep }
+    ensures deep { IfSome result HasDepth }
 {
     if has_others {
         return None;
@@ -117,7 +117,7 @@ fn parts_of(
         (option_and_then number_in (option_map (λ s. s.now) item.entry))
         (option_and_then phase_in (option_map (λ s. s.now) phase.entry))
         (option_and_then range_in (option_map (λ s. s.now) part.entry)) depth }
-    ensures deep { IfSome result IsDeep }
+    ensures deep { IfSome result HasDepth }
 {
     let item = number_of(item?.as_bytes())?;
     let phase = phase_of(phase?.as_bytes())?;

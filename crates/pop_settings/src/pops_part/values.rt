@@ -6,7 +6,7 @@ ghost use Rattle.pop_settings.specs.pops_part.Numbers.{depth_in, is_digit, last_
 use crate::pops_part::wanted::PhaseName;
 
 // The greatest number that an option takes (own).
-const MOST: u64 = 999_999_999_999_999_999;
+const GREATEST_NUMBER: u64 = 999_999_999_999_999_999;
 
 /// The numbers from `first` to `last`.
 #[derive(Clone, Copy)]
@@ -58,11 +58,11 @@ pub fn number_of(text: &[u8]) -> Option<u64>
         if !is_digit(byte) {
             return None;
         }
-        if value <= MOST {
+        if value <= GREATEST_NUMBER {
             value = 10 * value + (byte - b'0') as u64;
         }
     }
-    if text.is_empty() || value > MOST {
+    if text.is_empty() || value > GREATEST_NUMBER {
         None
     } else {
         Some(value)
@@ -74,13 +74,13 @@ pub fn number_of(text: &[u8]) -> Option<u64>
 pub fn range_of(text: &[u8]) -> Option<Range>
     ensures { result ≡ range_in text.now }
 {
-    let at = digits_in_front(text);
+    let at = digit_count(text);
     let first = number_of(&text[..at])?;
     range_in_order(first, last_of(first, &text[at..]))
 }
 
 // Returns how many digits the text begins with.
-fn digits_in_front(text: &[u8]) -> usize
+fn digit_count(text: &[u8]) -> usize
     ensures { result ≡ prefix_len is_digit text.now }
 {
     let mut at = 0;
@@ -91,10 +91,10 @@ fn digits_in_front(text: &[u8]) -> usize
 }
 
 // Returns the last number of a range, by its first number and the text after it.
-fn last_of(first: u64, behind: &[u8]) -> Option<u64>
-    ensures { result ≡ last_in first behind.now }
+fn last_of(first: u64, following: &[u8]) -> Option<u64>
+    ensures { result ≡ last_in first following.now }
 {
-    match behind {
+    match following {
         [] => Some(first),
         [b'.', b'.', text @ ..] => number_of(text),
         _ => None,

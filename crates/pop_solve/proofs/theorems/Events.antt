@@ -1,5 +1,5 @@
 -- The events of a problem before they are shown: no line and no node comes twice.
-use Rattle.pop_solve.proofs.Words.{AllPairs, BareEvent, Bool, Contains, Contains-append_cases, List, Move, Phase, Play, Posed, RuleSet, Set, [], arith, cond, events, false, from_map, impossible, in_cases, inl, inr, is_barred, line, map, none_in_nil, opening, pairs_append, pairs_map, pairs_nil, pairs_of, path_event, phase_events, solutions, subst, take, total, tree_node, true, ◌++◌, ◌∷◌, ◌≡◌, ◌≢◌}
+use Rattle.pop_solve.proofs.Words.{AllPairs, BareEvent, Bool, Contains, Contains-append_cases, List, Move, Phase, Play, Posed, RuleSet, Set, [], arith, cond, events, false, from_map, impossible, in_cases, inl, inr, is_impossible_phase, line, map, none_in_nil, opening, pairs_append, pairs_map, pairs_nil, pairs_of, path_event, phase_events, solutions, subst, take, total, tree_node, true, ◌++◌, ◌∷◌, ◌≡◌, ◌≢◌}
 use Rattle.pop_solve.proofs.theorems.Lists.{paths}
 use Rattle.pop_solve.proofs.theorems.Solutions.{shown_paths_differ}
 
@@ -45,7 +45,7 @@ module _ (rule : RuleSet) (problem : Posed) where
       → (path : List Move) × (path_event problem phase path ≡ x)
   unfolding phase_events
   in_phase phase x c gives =
-      elim (in_cases (opening phase) _ x c) [ inl e ↦ grind arith | inr r ↦ in_rest phase (is_barred rule problem phase) _ x (λ none. none) r gives ]
+      elim (in_cases (opening phase) _ x c) [ inl e ↦ grind arith | inr r ↦ in_rest phase (is_impossible_phase rule problem phase) _ x (λ none. none) r gives ]
 
   both : AllPairs IsOtherThan (phase_events rule problem Set ++ phase_events rule problem Play)
   both = pairs_append IsOtherThan (phase_events rule problem Set) (phase_events rule problem Play) (events_of_a_phase_differ Set)

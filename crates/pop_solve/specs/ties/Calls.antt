@@ -11,7 +11,7 @@ use Rattle.pop_battle.specs.declared.aim.Play.TheVariants.{Help as HelpPlay, Bat
 use Rattle.pop_solve.specs.declared.plan.Plan.{Plan}
 use Rattle.pop_solve.specs.ties.Plans.{has_variations}
 use Rattle.pop_solve.specs.ties.Walk.{fewest_for}
-use Rattle.pop_battle.specs.ties.Values.{seeks}
+use Rattle.pop_battle.specs.ties.Values.{attacker_to_move}
 use Rattle.std.specs.Prelude.{◌≡◌, ◌+◌, ◌-◌, ◌^◌, ◌<◌, ◌≤◌, min, ℕ, Bool, false, true}
 
 -- what a move to q has counted, with `left` half-moves left there: in help play one frame, if moves are
@@ -22,7 +22,7 @@ pub record Counts (rule : RuleSet) (plan : Plan) (root : Bool) (left : ℕ) (q :
   pub more : plan.play ≡ HelpPlay → 0 < left → after ≡ min (before + 1) (2 ^ 64 - 1)
   pub none : plan.play ≡ HelpPlay → left ≡ 0 → after ≡ before
   pub keys : (battle : Battle) → plan.play ≡ BattlePlay battle → has_variations plan.tree ≡ false
-      → seeks battle (left + 1) ≡ true
+      → attacker_to_move battle (left + 1) ≡ true
       → after ≤ before + walk_count (legal_moves rule) (position_after rule) left q
   pub tries : HasCounted before after (fewest_for plan.play (has_variations plan.tree)
       (chess plan.goal rule) root left q)

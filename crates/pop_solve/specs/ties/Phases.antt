@@ -11,12 +11,12 @@ use Rattle.pop_battle.specs.ties.Frames.{Frame, to_open}
 use Rattle.pop_solve.specs.ties.Walk.{fewest_left, path, to_come, IsEnded, IsWalking, IsCounted, are_whites}
 use Rattle.pop_solve.specs.Events.{BareEvent, Path, impossible, is_set, total, play_start, events_from, path_event, phase_start, phase_half_moves, event_of, events}
 use Rattle.pop_solve.specs.Walks.{is_never_stopped, is_unstopped, is_walked_once, walk_from, whole_walk}
-use Rattle.pop_solve.specs.ties.Seen.{fewest_from, fewest_tried, StandsOn}
+use Rattle.pop_solve.specs.ties.Seen.{fewest_from, fewest_tried, IsAtPathOf}
 use Rattle.pop_events.specs.declared.event.Event.{Event}
 use Rattle.pop_events.specs.declared.event.Phase.{Phase}
 use Rattle.pop_events.specs.declared.event.Phase.TheVariants.{Play}
 use Rattle.pop_solve.specs.declared.phases.Stage.{Stage}
-use Rattle.pop_solve.specs.declared.phases.Stage.TheVariants.{Before, Barred, Within, Behind}
+use Rattle.pop_solve.specs.declared.phases.Stage.TheVariants.{Before, Barred, Within, After}
 use Rattle.pop_solve.specs.declared.plan.Plan.{Plan}
 use Rattle.pop_solve.specs.ties.Plans.{plan_of, walk_of}
 
@@ -59,17 +59,17 @@ left_of rule problem (Within walk count) frames =
     map (path_event problem walk.phase) (kept_paths (is_help problem.stipulation.form) limit paths)
     ++ total all (all == problem.max_solutions)
     ∷ (if is_set walk.phase then events_from rule problem Play else [])
-left_of rule problem Behind frames = []
+left_of rule problem After frames = []
 
 -- what holds of board and frames at a stage
-unfoldable pub IsStanding : RuleSet → Posed → Stage → List Frame → Position → Type 0
-IsStanding rule problem (Before phase) frames board = (frames ≡ []) × (board ≡ play_start problem)
-IsStanding rule problem Barred frames board = (frames ≡ []) × (board ≡ play_start problem)
-IsStanding rule problem (Within walk count) frames board =
+unfoldable pub HoldsAtStage : RuleSet → Posed → Stage → List Frame → Position → Type 0
+HoldsAtStage rule problem (Before phase) frames board = (frames ≡ []) × (board ≡ play_start problem)
+HoldsAtStage rule problem Barred frames board = (frames ≡ []) × (board ≡ play_start problem)
+HoldsAtStage rule problem (Within walk count) frames board =
     IsWalking rule (phase_half_moves problem walk.phase) (phase_start problem walk.phase) frames
     board
     × (count ≤ problem.max_solutions) × (walk ≡ walk_of problem walk.phase)
-IsStanding rule problem Behind frames board = (frames ≡ []) × (board ≡ play_start problem)
+HoldsAtStage rule problem After frames board = (frames ≡ []) × (board ≡ play_start problem)
 
 -- what walking on in a phase leaves, if at most `limit` solutions may still begin
 pub record Walks (rule : RuleSet) (plan : Plan) (help : Bool) (h : ℕ) (p : Position) (limit : ℕ)
@@ -96,7 +96,7 @@ pub record Gives (rule : RuleSet) (problem : Posed) (old new : List BareEvent) (
   pub bare : BareEvent
   pub left : old ≡ bare ∷ new
   pub event_is : event ≡ event_of rule problem bare
-  pub stands : StandsOn rule problem bare board depth
+  pub stands : IsAtPathOf rule problem bare board depth
 
 -- the most frames that can still be opened
 unfoldable pub rest_open : RuleSet → Posed → Stage → List Frame → ℕ
@@ -105,7 +105,7 @@ rest_open rule problem Barred frames = walk_from rule problem Play
 rest_open rule problem (Within walk count) frames =
     to_open rule (phase_start problem walk.phase) frames
     + (if is_set walk.phase then walk_from rule problem Play else 0)
-rest_open rule problem Behind frames = 0
+rest_open rule problem After frames = 0
 
 -- the fewest positions that have still to be tried
 unfoldable pub rest_fewest : RuleSet → Posed → Stage → List Frame → ℕ
@@ -115,7 +115,7 @@ rest_fewest rule problem (Within walk count) frames =
     fewest_left rule (plan_of problem) (phase_half_moves problem walk.phase)
     (phase_start problem walk.phase) frames
     + (if is_set walk.phase then fewest_from rule problem Play else 0)
-rest_fewest rule problem Behind frames = 0
+rest_fewest rule problem After frames = 0
 
 -- the phase is the play of a battle, and only keys are shown
 pub record IsKeys (problem : Posed) (phase : Phase) : Type 0 where
@@ -132,7 +132,7 @@ IsNarrow problem Barred frames = play_of problem.stipulation.form ≡ HelpPlay
 IsNarrow problem (Within walk count) frames =
     (play_of problem.stipulation.form ≡ HelpPlay)
     ⊎ ((keys : IsKeys problem walk.phase) × (are_whites keys.battle frames ≡ true))
-IsNarrow problem Behind frames = Unit {0}
+IsNarrow problem After frames = Unit {0}
 
 -- what a call opens; `left` are the events still to come before it
 pub record OpensOn (rule : RuleSet) (problem : Posed) (old new : Stage) (frames last : List Frame)
@@ -165,7 +165,7 @@ pub record IsOpened (rule : RuleSet) (problem : Posed) (stage : Stage) (frames :
 
 -- the count of events returned so far, up to the greatest u64; the events still to come are the end of all
 -- events
-pub record IsGiven (rule : RuleSet) (problem : Posed) (left : List BareEvent)
+pub record IsCountedUpTo (rule : RuleSet) (problem : Posed) (left : List BareEvent)
     (given : ℕ) : Type 0 where
   pub within : length left ≤ length (events rule problem)
   pub ending : left ≡ drop (length (events rule problem) - length left) (events rule problem)

@@ -8,16 +8,16 @@ use Rattle.pop_events.specs.declared.event.Phase.{Phase}
 use Rattle.pop_solve.specs.Events.{phase_half_moves}
 use Rattle.pop_solve.specs.declared.phases.Walk.{Walk}
 use Rattle.pop_solve.specs.declared.plan.Plan.{Plan}
-use Rattle.pop_solve.specs.declared.plan.Tree.{Tree}
-use Rattle.pop_solve.specs.declared.plan.Tree.TheVariants.{Keys, Variations}
+use Rattle.pop_solve.specs.declared.plan.Detail.{Detail}
+use Rattle.pop_solve.specs.declared.plan.Detail.TheVariants.{Keys, Variations}
 
 -- what is shown with variations or without
-abbrev pub tree_with : Bool → Tree
+abbrev pub tree_with : Bool → Detail
 tree_with true = Variations
 tree_with false = Keys
 
 -- variations are shown
-abbrev pub has_variations : Tree → Bool
+abbrev pub has_variations : Detail → Bool
 has_variations Keys = false
 has_variations Variations = true
 

@@ -11,28 +11,28 @@ use Rattle.pop_solve.specs.ties.Walk.{fewest_walked}
 use Rattle.pop_input.specs.Posed.{Posed}
 use Rattle.pop_events.specs.declared.event.Phase.{Phase}
 use Rattle.pop_events.specs.declared.event.Phase.TheVariants.{Set, Play}
-use Rattle.pop_solve.specs.Events.{BareEvent, first_phase, impossible, is_barred, is_set, line, opening, phase_half_moves, phase_start, total, tree_node}
+use Rattle.pop_solve.specs.Events.{BareEvent, first_phase, impossible, is_impossible_phase, is_set, line, opening, phase_half_moves, phase_start, total, tree_node}
 use Rattle.pop_solve.specs.ties.Plans.{plan_of}
 
 -- after a line or node the board has the position to which its path leads, and there is one frame more than
 -- the path has moves
-abbrev pub StandsOn : RuleSet → Posed → BareEvent → Position → ℕ → Type 0
-StandsOn rule problem (opening phase) board depth = Unit {0}
-StandsOn rule problem impossible board depth = Unit {0}
-StandsOn rule problem (line phase path) board
+abbrev pub IsAtPathOf : RuleSet → Posed → BareEvent → Position → ℕ → Type 0
+IsAtPathOf rule problem (opening phase) board depth = Unit {0}
+IsAtPathOf rule problem impossible board depth = Unit {0}
+IsAtPathOf rule problem (line phase path) board
     depth = (board ≡ path_end (position_after rule) (phase_start problem phase) path)
     × (depth ≡ length path + 1)
-StandsOn rule problem (tree_node phase path) board
+IsAtPathOf rule problem (tree_node phase path) board
     depth = (board ≡ path_end (position_after rule) (phase_start problem phase) path)
     × (depth ≡ length path + 1)
-StandsOn rule problem (total count stopped) board depth = Unit {0}
+IsAtPathOf rule problem (total count stopped) board depth = Unit {0}
 
 -- the fewest positions that have to be tried to show a phase of a battle: the first position; for each of
 -- White's moves and each first move the positions of a smallest tree that decides it; for any other shown
 -- move the position after it
 abbrev pub phase_fewest : RuleSet → Posed → Phase → ℕ
 phase_fewest rule problem phase =
-    if is_barred rule problem phase then 0
+    if is_impossible_phase rule problem phase then 0
     else (if phase_half_moves problem phase == 0 then 0 else 1)
     + fewest_walked (plan_of problem) (chess problem.stipulation.goal rule) true
     (phase_half_moves problem phase) (phase_half_moves problem phase)

@@ -9,7 +9,7 @@ use Rattle.chess_core.specs.Position.{Position}
 use Rattle.chess_core.specs.declared.man.Move.{Move}
 use Rattle.chess_core.specs.WellFormed.{IsWellFormed}
 use Rattle.chess_rules.specs.Play.{position_after}
-use Rattle.chess_rules.specs.ties.Places.{IsPlaceIn, LegalPlace, moves_behind}
+use Rattle.chess_rules.specs.ties.Places.{IsPlaceIn, LegalPlace, moves_after}
 use Rattle.chess_mates.specs.ties.Mates.{is_mating}
 use Rattle.chess_rules.specs.Legal.{is_legal, is_mate}
 use Rattle.chess_attacks.specs.RuleSet.{RuleSet}
@@ -17,11 +17,11 @@ use Rattle.pop_battle.specs.declared.aim.Play.{Play}
 use Rattle.pop_battle.specs.declared.aim.Play.TheVariants.{Help as HelpPlay, Battle as BattlePlay}
 use Rattle.pop_battle.specs.Game.{Game}
 use Rattle.pop_battle.specs.ties.Counts.{smallest_tree}
-use Rattle.pop_battle.specs.ties.Values.{seeks, value}
+use Rattle.pop_battle.specs.ties.Values.{attacker_to_move, value}
 use Rattle.pop_battle.specs.Chess.{chess}
 pub use Rattle.pop_battle.specs.ties.Frames.{Frame}
-use Rattle.pop_battle.specs.ties.Frames.{AreKnown, learned, moved, position, IsLinked, work_behind, to_open, left_at_top}
-use Rattle.pop_battle.specs.ties.Passing.{AreSettled, Passes}
+use Rattle.pop_battle.specs.ties.Frames.{AreKnown, learned, moved, position, IsLinked, work_after, to_open, left_at_top}
+use Rattle.pop_battle.specs.ties.Passing.{CannotBeMated, Passes}
 use Rattle.pop_solve.specs.declared.plan.Plan.{Plan}
 use Rattle.pop_battle.specs.ties.Marks.{is_for_mate}
 use Rattle.pop_solve.specs.ties.Plans.{has_variations}
@@ -44,7 +44,7 @@ module _ {P M : Type 0} where
   unfoldable pub shown_length : Battle → Game P M → ℕ → P → ℕ
   shown_length battle game t q =
       if t == 0 || game.goal q then 0
-      else (if seeks battle t
+      else (if attacker_to_move battle t
       then least_length_from battle game q ((t - fewest_half_moves battle) / 2)
       (fewest_half_moves battle) else t)
 
@@ -52,19 +52,19 @@ module _ {P M : Type 0} where
   -- phase's first position are tested
   unfoldable pub is_followed : Play → Game P M → Bool → ℕ → P → Bool
   is_followed HelpPlay game root t q = true
-  is_followed (BattlePlay battle) game root t q = not (root || seeks battle (t + 1))
+  is_followed (BattlePlay battle) game root t q = not (root || attacker_to_move battle (t + 1))
       || value battle game t q
 
   -- the path to q is emitted: in help play if the last half-move reaches the goal
-  unfoldable pub is_given : Play → Game P M → ℕ → P → Bool
-  is_given HelpPlay game t q = t == 0 && game.goal q
-  is_given (BattlePlay battle) game t q = true
+  unfoldable pub is_emitted : Play → Game P M → ℕ → P → Bool
+  is_emitted HelpPlay game t q = t == 0 && game.goal q
+  is_emitted (BattlePlay battle) game t q = true
 
   -- the number of half-moves for which the walk goes on from q, with variations or without
   unfoldable pub walk_length : Play → Bool → Game P M → ℕ → P → ℕ
   walk_length HelpPlay variation game t q = t
   walk_length (BattlePlay battle) variation game t q =
-      if not variation && seeks battle (t + 1) then 0 else shown_length battle game t q
+      if not variation && attacker_to_move battle (t + 1) then 0 else shown_length battle game t q
 
   -- the paths that the walk emits from p by these moves, with `left` half-moves; `fuel` is at least `left`
   unfoldable pub shown_paths : Plan → Game P M → Bool → ℕ → ℕ → P → List M → List (List M)
@@ -73,7 +73,7 @@ module _ {P M : Type 0} where
   shown_paths plan game root (suc fuel) (suc t) p ms =
       flat_map (λ m. let q = game.after p m in
       if is_followed plan.play game root t q
-      then (if is_given plan.play game t q then (m ∷ []) ∷ [] else [])
+      then (if is_emitted plan.play game t q then (m ∷ []) ∷ [] else [])
       ++ map (λ path. m ∷ path) (shown_paths plan game false fuel
       (walk_length plan.play (has_variations plan.tree) game t q) q (game.moves q))
       else []) ms
@@ -83,7 +83,7 @@ module _ {P M : Type 0} where
   abbrev pub fewest_for : Play → Bool → Game P M → Bool → ℕ → P → ℕ
   fewest_for HelpPlay variation game root t q = if t == 0 then 0 else 1
   fewest_for (BattlePlay battle) variation game root t q =
-      if root || seeks battle (t + 1) then smallest_tree battle game t q
+      if root || attacker_to_move battle (t + 1) then smallest_tree battle game t q
       else (if walk_length (BattlePlay battle) variation game t q == 0 then 0 else 1)
 
   -- the fewest positions that have to be tried for these moves of p, with `left` half-moves, and for all
@@ -109,7 +109,7 @@ to_come rule plan h p [] = []
 to_come rule plan h p (f ∷ below) =
     map (λ line. path (f ∷ below) ++ line)
     (shown_paths plan (chess plan.goal rule) (length below == 0) (h - length below) f.left
-    (position rule p (f ∷ below)) (moves_behind rule (position rule p (f ∷ below)) f.place))
+    (position rule p (f ∷ below)) (moves_after rule (position rule p (f ∷ below)) f.place))
     ++ to_come rule plan h p below
 
 -- the fewest positions that have still to be tried for all frames
@@ -117,7 +117,7 @@ unfoldable pub fewest_left : RuleSet → Plan → ℕ → Position → List Fram
 fewest_left rule plan h p [] = 0
 fewest_left rule plan h p (f ∷ below) =
     fewest_walked plan (chess plan.goal rule) (length below == 0) (h - length below) f.left
-    (position rule p (f ∷ below)) (moves_behind rule (position rule p (f ∷ below)) f.place)
+    (position rule p (f ∷ below)) (moves_after rule (position rule p (f ∷ below)) f.place)
     + fewest_left rule plan h p below
 
 -- each frame has room for its half-moves
@@ -138,7 +138,7 @@ pub record IsWalking (rule : RuleSet) (h : ℕ) (p : Position) (frames : List Fr
 unfoldable pub walk_work : RuleSet → ℕ → Position → List Frame → ℕ
 walk_work rule h p [] = 0
 walk_work rule h p (f ∷ below) =
-    1 + work_behind rule (h - length below) (position rule p (f ∷ below)) f.place
+    1 + work_after rule (h - length below) (position rule p (f ∷ below)) f.place
     + walk_work rule h p below
 
 -- all but `rest` of `walk` frames have been opened, counted up to the greatest u64
@@ -148,7 +148,7 @@ pub record IsCounted (walk opened rest : ℕ) : Type 0 where
 
 -- at each frame White is to move, or nothing is tried
 unfoldable pub are_whites : Battle → List Frame → Bool
-are_whites battle frames = list_all (λ f. f.left == 0 || seeks battle f.left) frames
+are_whites battle frames = list_all (λ f. f.left == 0 || attacker_to_move battle f.left) frames
 
 -- the frames opened and still to be opened before and after some steps of a walk: in help play, and if only
 -- keys are shown, their sum doesn't grow
@@ -175,7 +175,7 @@ pub record Tries (rule : RuleSet) (plan : Plan) (h : ℕ) (p : Position) (old ne
 -- the side that makes the last half-move wants the goal: each side in help play, White in direct play
 abbrev pub seeks_last : Play → Bool
 seeks_last HelpPlay = true
-seeks_last (BattlePlay battle) = seeks battle 1
+seeks_last (BattlePlay battle) = attacker_to_move battle 1
 
 -- if the move to q was the last half-move, by a side that wants mate, then it mated
 abbrev pub IsMatedAtLast : RuleSet → Plan → ℕ → Position → Type 0
@@ -190,7 +190,7 @@ HaveNoPaths rule plan left p before after over =
     ((after ≡ before) × ((over ≡ []) ⊎ ((seeks_last plan.play ≡ true) × (plan.goal ≡ Mate)
     × (left ≡ 1) × (filter (is_mating rule p) over ≡ []))))
     ⊎ ((plan.play ≡ HelpPlay) × (plan.goal ≡ Mate) × (left ≡ 2)
-    × AreSettled rule p before after over)
+    × CannotBeMated rule p before after over)
 
 -- the walk passes over only moves without paths, from `place` to the moves `rest` after a later place
 abbrev pub GoesTo : RuleSet → Plan → ℕ → Position → ℕ → List Move → (before after : ℕ) → Type 0
@@ -204,7 +204,7 @@ IsNextOf rule plan left p place next before after found =
     MatchOption found
     (((left ≡ 0) × (after ≡ before)) ⊎ GoesTo rule plan left p place [] before after)
     (λ m. (0 < left)
-    × GoesTo rule plan left p place (m ∷ moves_behind rule p next) before after
+    × GoesTo rule plan left p place (m ∷ moves_after rule p next) before after
     × (is_legal rule p m ≡ true))
 
 -- the top frame moves on to its next move, in the board's position p
@@ -224,7 +224,7 @@ pub record MovesOn (rule : RuleSet) (plan : Plan) (p : Position) (old new : List
 -- play with variations if it is a whole variation
 abbrev pub ends_at_goal : Play → Bool → ℕ → Bool
 ends_at_goal HelpPlay variation left = true
-ends_at_goal (BattlePlay battle) variation left = left == 0 && (variation && seeks battle 1)
+ends_at_goal (BattlePlay battle) variation left = left == 0 && (variation && attacker_to_move battle 1)
 
 -- if the path to the top frame ends with the goal, the board's position reaches it
 abbrev pub IsEnded : RuleSet → Plan → List Frame → Position → Type 0

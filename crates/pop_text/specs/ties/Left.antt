@@ -24,7 +24,7 @@ MayFollow Broken rest = rest ≡ record { bytes = []; ending = Failed }
 
 -- the words still to come, after a text word of the line or after none, if the source continues with this rest
 abbrev pub words_left : Option (List ℕ) → Reading → Input → Words
-words_left behind place rest = words_from behind (limit - place.used) place.line
+words_left following place rest = words_from following (limit - place.used) place.line
     (onto_input place.window rest)
 
 -- these tokens put before words
@@ -36,30 +36,30 @@ put_before tokens words = record {
 }
 
 -- the state of a scanner, and the text word that it has just read, if any
-pub record Spot : Type 0 where
-  pub behind : Option (List ℕ)
+pub record ScannerSpot : Type 0 where
+  pub following : Option (List ℕ)
   pub at : Reading
 
 -- From old to new these tokens are taken: some bytes are taken from the source, and however it continues, these tokens
 -- are the first of the words still to come.
-pub record Takes (old new : Spot) (had left : Option (List ℕ)) (tokens : List Token) : Type 0 where
+pub record Takes (old new : ScannerSpot) (had left : Option (List ℕ)) (tokens : List Token) : Type 0 where
   pub bytes : List ℕ
   pub taken : Consumes had left bytes
   pub follows : (rest : Input) → MayFollow new.at.end rest
       → MayFollow old.at.end (onto_input bytes rest)
   pub begin : (rest : Input) → MayFollow new.at.end rest
-      → words_left old.behind old.at (onto_input bytes rest)
-      ≡ put_before tokens (words_left new.behind new.at rest)
+      → words_left old.following old.at (onto_input bytes rest)
+      ≡ put_before tokens (words_left new.following new.at rest)
   pub amount : length bytes + (old.at.used + length old.at.window)
       ≡ new.at.used + length new.at.window
 
 -- a scanner that has read no text word
-abbrev pub among : Reading → Spot
-among place = record { behind = None; at = place }
+abbrev pub among : Reading → ScannerSpot
+among place = record { following = None; at = place }
 
 -- a scanner that has just read this text word
-abbrev pub behind_word : List ℕ → Reading → Spot
-behind_word keyword place = record { behind = Some keyword; at = place }
+abbrev pub after_word : List ℕ → Reading → ScannerSpot
+after_word keyword place = record { following = Some keyword; at = place }
 
 -- no words, with this tail and the line of the end
 abbrev pub no_words : Tail → ℕ → Words
@@ -73,25 +73,25 @@ IsOver place tail = (rest : Input) → MayFollow place.end rest
 -- a word is taken; if it is a text word, its text line isn't taken yet
 abbrev pub TakesWord : Bool → Reading → Reading → Option (List ℕ) → Option (List ℕ) → ℕ → List ℕ
     → Type 0
-TakesWord true old new had left line text = Takes (among old) (behind_word text new) had left []
+TakesWord true old new had left line text = Takes (among old) (after_word text new) had left []
 TakesWord false old new had left line text = Takes (among old) (among new) had left
     (Word line text ∷ [])
 
 -- no byte is put back, and the limit holds
-abbrev pub StaysWithin : Reading → Reading → Type 0
-StaysWithin old new = (old.used ≤ new.used) × (new.used ≤ limit)
+abbrev pub WithinLimit : Reading → Reading → Type 0
+WithinLimit old new = (old.used ≤ new.used) × (new.used ≤ limit)
 
 -- no word is taken, and none is left
-abbrev pub TakesNone : Spot → Reading → Option (List ℕ) → Option (List ℕ) → ReadFault → Type 0
+abbrev pub TakesNone : ScannerSpot → Reading → Option (List ℕ) → Option (List ℕ) → ReadFault → Type 0
 TakesNone old new had left (TooLong line) = ⊥
 TakesNone old new had left (InputTooLong line) = Takes old (among new) had left [] × IsOver new Long
-    × (line ≡ new.line) × StaysWithin old.at new
+    × (line ≡ new.line) × WithinLimit old.at new
 TakesNone old new had left (Device line) = Takes old (among new) had left [] × IsOver new Failing
-    × (line ≡ new.line) × StaysWithin old.at new × (new.end ≡ Broken)
+    × (line ≡ new.line) × WithinLimit old.at new × (new.end ≡ Broken)
 
 -- bytes are used, and the limit holds
-abbrev pub GoesOn : Reading → Reading → Type 0
-GoesOn old new = (old.used < new.used) × (new.used ≤ limit)
+abbrev pub Advances : Reading → Reading → Type 0
+Advances old new = (old.used < new.used) × (new.used ≤ limit)
 
 -- the result of `next_word`, by the word that `read_word` stored and its result
 abbrev pub found_by : Read → Result Found ReadFault → Result (Option Read) ReadFault
@@ -109,11 +109,11 @@ found_of (Err fault) line = Err fault
 abbrev pub NextWord : Reading → Reading → Option (List ℕ) → Option (List ℕ)
     → Result (Option Read) ReadFault → Type 0
 NextWord old new had left (Ok None) = Takes (among old) (among new) had left [] × IsOver new AtEnd
-    × StaysWithin old new
+    × WithinLimit old new
 NextWord old new had left (Ok (Some word)) = TakesWord (is_text_word word.bytes.items) old new had
-    left word.line word.bytes.items × (0 < length word.bytes.items) × GoesOn old new
+    left word.line word.bytes.items × (0 < length word.bytes.items) × Advances old new
 NextWord old new had left (Err (TooLong line)) = (text : List ℕ) × (160 < length text)
-    × Takes (among old) (among new) had left (Word line text ∷ []) × GoesOn old new
+    × Takes (among old) (among new) had left (Word line text ∷ []) × Advances old new
 NextWord old new had left (Err (InputTooLong line)) = TakesNone (among old) new had left
     (InputTooLong line)
 NextWord old new had left (Err (Device line)) = TakesNone (among old) new had left (Device line)
@@ -122,7 +122,7 @@ NextWord old new had left (Err (Device line)) = TakesNone (among old) new had le
 abbrev pub RestOfLine : List ℕ → Reading → Reading → Option (List ℕ) → Option (List ℕ)
     → Result Text ReadFault → Type 0
 RestOfLine keyword old new had left (Ok text) = (line : List ℕ)
-    × Takes (behind_word keyword old) (among new) had left (TextLine old.line keyword line ∷ [])
+    × Takes (after_word keyword old) (among new) had left (TextLine old.line keyword line ∷ [])
     × (text ≡ text_of_line line) × (old.used ≤ new.used) × (new.used ≤ limit)
-RestOfLine keyword old new had left (Err fault) = TakesNone (behind_word keyword old) new had left
+RestOfLine keyword old new had left (Err fault) = TakesNone (after_word keyword old) new had left
     fault

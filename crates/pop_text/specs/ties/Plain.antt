@@ -30,16 +30,16 @@ is_plain (TextLine line keyword text) = false
 -- there are no bytes, or a gap or nothing follows them
 abbrev pub RunsOut : List ℕ → List ℕ → Type 0
 RunsOut bytes [] = bytes ≡ []
-RunsOut bytes (b ∷ behind) = (bytes ≡ []) ⊎ (is_gap b ≡ true)
+RunsOut bytes (b ∷ following) = (bytes ≡ []) ⊎ (is_gap b ≡ true)
 
 -- the bytes are plain words, with the gaps before them
 pub record IsPlain (bytes : List ℕ) : Type 0 where
   pub tokens : ℕ → List Token
   pub plain : (line : ℕ) → list_all is_plain (tokens line) ≡ true
-  pub words : (cut : Bool) (line : ℕ) (behind : List ℕ)
-      → (bytes ≡ []) ⊎ ((b : ℕ) × (more : List ℕ) × (behind ≡ b ∷ more) × (is_gap b ≡ true))
-      → tokens_from None cut line (bytes ++ behind) ≡ tokens line
-      ++ tokens_from None cut (line + count_by is_line_end bytes) behind
+  pub words : (cut : Bool) (line : ℕ) (following : List ℕ)
+      → (bytes ≡ []) ⊎ ((b : ℕ) × (more : List ℕ) × (following ≡ b ∷ more) × (is_gap b ≡ true))
+      → tokens_from None cut line (bytes ++ following) ≡ tokens line
+      ++ tokens_from None cut (line + count_by is_line_end bytes) following
 
 -- the first `count` bytes of the view are plain words, and `line_ends` of them are line ends
 pub record ArePlain (view : List ℕ) (count line_ends : ℕ) : Type 0 where

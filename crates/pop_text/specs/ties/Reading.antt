@@ -64,10 +64,10 @@ pub record IsFront (test : ℕ → Bool) (now : Reading) (part : List ℕ) : Typ
       → 0 < length part
 
 -- an end that the scanner has seen is the end of the source
-abbrev pub IsSeen : End → Option (List ℕ) → Type 0
-IsSeen Open left = Unit {0}
-IsSeen Ended left = IsAtEnd left
-IsSeen Broken left = Unit {0}
+abbrev pub IsEndSeen : End → Option (List ℕ) → Type 0
+IsEndSeen Open left = Unit {0}
+IsEndSeen Ended left = IsAtEnd left
+IsEndSeen Broken left = Unit {0}
 
 -- the count of failures after a call: it grows if the input breaks off
 abbrev pub failures_after : End → End → ℕ → ℕ
@@ -76,7 +76,7 @@ failures_after _ _ n = n
 
 -- Between two states the source is called only if its end isn't known: a known end stays, an end that was seen is still
 -- the end of the source, and a failure is counted.
-pub record Asks (old new : End) (had left : Option (List ℕ)) (before after : ℕ) : Type 0 where
-  pub seen : IsSeen old had → IsSeen new left
+pub record CallsSource (old new : End) (had left : Option (List ℕ)) (before after : ℕ) : Type 0 where
+  pub seen : IsEndSeen old had → IsEndSeen new left
   pub ends : old ≡ Open ⊎ new ≡ old
   pub counted : after ≡ failures_after old new before

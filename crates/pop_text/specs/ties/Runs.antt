@@ -10,20 +10,20 @@ use Rattle.pop_text.specs.declared.text.Text.{Text}
 use Rattle.pop_text.specs.declared.word.Word.{Word}
 
 -- what comes next: a byte, the end of the input, or a fault
-abbrev pub Peeks : Reading → Result (Option ℕ) ReadFault → Type 0
-Peeks new (Ok (Some b)) = (rest : List ℕ) × (new.window ≡ b ∷ rest) × (new.used < limit)
-Peeks new (Ok None) = (new.window ≡ []) × (new.end ≡ Ended) × (new.used ≤ limit)
-Peeks new (Err (InputTooLong line)) = (0 < length new.window) × (new.used ≡ limit)
+abbrev pub ComesNext : Reading → Result (Option ℕ) ReadFault → Type 0
+ComesNext new (Ok (Some b)) = (rest : List ℕ) × (new.window ≡ b ∷ rest) × (new.used < limit)
+ComesNext new (Ok None) = (new.window ≡ []) × (new.end ≡ Ended) × (new.used ≤ limit)
+ComesNext new (Err (InputTooLong line)) = (0 < length new.window) × (new.used ≡ limit)
     × (line ≡ new.line)
-Peeks new (Err (TooLong line)) = ⊥
-Peeks new (Err (Device line)) = (new.window ≡ []) × (new.end ≡ Broken) × (line ≡ new.line)
+ComesNext new (Err (TooLong line)) = ⊥
+ComesNext new (Err (Device line)) = (new.window ≡ []) × (new.end ≡ Broken) × (line ≡ new.line)
     × (new.used ≤ limit)
 
 -- a fault that every later call finds again; a word that is too long isn't one, since it is used
 abbrev pub Sticks : Reading → ReadFault → Type 0
 Sticks new (TooLong line) = Unit {0}
-Sticks new (InputTooLong line) = Peeks new (Err (InputTooLong line))
-Sticks new (Device line) = Peeks new (Err (Device line))
+Sticks new (InputTooLong line) = ComesNext new (Err (InputTooLong line))
+Sticks new (Device line) = ComesNext new (Err (Device line))
 
 -- a run is over: a gap follows it, or nothing does
 abbrev pub IsRunOver : Reading → Type 0
@@ -42,7 +42,7 @@ RunsTo old new had left kept (Ok true) = UsesSolid old new had left kept × IsRu
 RunsTo old new had left kept (Ok false) = (run : List ℕ) × (160 < length run)
     × UsesSolid old new had left run × IsRunOver new
 RunsTo old new had left kept (Err fault) = (run : List ℕ) × UsesSolid old new had left run
-    × Peeks new (Err fault)
+    × ComesNext new (Err fault)
 
 -- a gap and the run after it are used, and no byte after the run; the run begins in the line with this number
 pub record UsesRun (old new : Reading) (had left : Option (List ℕ)) (number : ℕ)
@@ -57,7 +57,7 @@ pub record UsesRun (old new : Reading) (had left : Option (List ℕ)) (number : 
 -- beginning of a run that a fault cuts
 abbrev pub UsesWord : Reading → Reading → Option (List ℕ) → Option (List ℕ)
     → Result (Option Word) ReadFault → Type 0
-UsesWord old new had left (Ok None) = UsesAll is_gap old new had left × Peeks new (Ok None)
+UsesWord old new had left (Ok None) = UsesAll is_gap old new had left × ComesNext new (Ok None)
 UsesWord old new had left (Ok (Some word)) = UsesRun old new had left word.line word.bytes.items
     × IsRunOver new
 UsesWord old new had left (Err (TooLong line)) = (run : List ℕ) × (160 < length run)
@@ -67,10 +67,10 @@ UsesWord old new had left (Err (InputTooLong line)) = (run : List ℕ)
 UsesWord old new had left (Err (Device line)) = (run : List ℕ) × UsesRun old new had left line run
 
 -- what holds of the state after `next_word`, by its result
-abbrev pub Stands : Reading → Result (Option Word) ReadFault → Type 0
-Stands new (Ok None) = Peeks new (Ok None)
-Stands new (Ok (Some word)) = 0 < length word.bytes.items
-Stands new (Err fault) = Sticks new fault
+abbrev pub HoldsAfterWord : Reading → Result (Option Word) ReadFault → Type 0
+HoldsAfterWord new (Ok None) = ComesNext new (Ok None)
+HoldsAfterWord new (Ok (Some word)) = 0 < length word.bytes.items
+HoldsAfterWord new (Err fault) = Sticks new fault
 
 -- a line and its line end are used, or a line that ends with the input
 abbrev pub UsesWhole : Reading → Reading → Option (List ℕ) → Option (List ℕ) → List ℕ → Type 0

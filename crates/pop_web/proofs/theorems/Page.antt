@@ -5,9 +5,9 @@ use Rattle.pop_run.specs.Run.{Runs}
 use Rattle.pop_run.specs.declared.status.Status.{Status}
 use Rattle.pop_run.specs.declared.status.Status.TheVariants.{OutputFailed}
 use Rattle.pop_parts.specs.Runs.{Lists as ListRuns, Shows as PartsRun}
-use Rattle.pop_parts.specs.declared.asked.Asked.{Asked}
-use Rattle.pop_parts.specs.declared.asked.Outcome.{Outcome}
-use Rattle.pop_parts.specs.declared.asked.Outcome.TheVariants.{OutputFailed as PartsCut}
+use Rattle.pop_parts.specs.declared.request.PartRequest.{PartRequest}
+use Rattle.pop_parts.specs.declared.request.Outcome.{Outcome}
+use Rattle.pop_parts.specs.declared.request.Outcome.TheVariants.{OutputFailed as PartsCut}
 use Rattle.pop_web.proofs.Filled.{list_first, list_whole, part_first, part_whole, report_first, report_whole}
 use Rattle.pop_web.specs.Page.{Lists, Shows, ShowsParts, status_number, outcome_number, room, whole_input}
 
@@ -34,13 +34,13 @@ module _ (depth : ℕ) (text shown written : List ℕ) (answer : ℕ) (ends : St
   first_of_the_list f over = list_first _ _ _ _ f over ∙ ap (λ now. take room now) (sym writes.0)
 
 -- The bytes that a page is shown of a part, and the text that `pops-part` writes of it.
-module _ (asked : Asked) (text shown written : List ℕ) (answer : ℕ) (ends : Outcome)
-    (writes : PartsRun asked (whole_input text) (Some []) (Some written) false ends) where
+module _ (request : PartRequest) (text shown written : List ℕ) (answer : ℕ) (ends : Outcome)
+    (writes : PartsRun request (whole_input text) (Some []) (Some written) false ends) where
   -- if the part isn't cut, the bytes and the outcome are the program's
-  pub same_part_as_the_program : ShowsParts asked text shown answer → answer ≢ outcome_number PartsCut
+  pub same_part_as_the_program : ShowsParts request text shown answer → answer ≢ outcome_number PartsCut
       → (shown ≡ written) × (answer ≡ outcome_number ends)
   same_part_as_the_program f other = let it = part_whole _ _ _ _ f other in (it.0 ∙ sym writes.0, it.1 ∙ ap outcome_number (sym writes.1))
 
   -- if the part is cut, the bytes are the first of the program's
-  pub first_of_the_part : ShowsParts asked text shown answer → answer ≡ outcome_number PartsCut → shown ≡ take room written
+  pub first_of_the_part : ShowsParts request text shown answer → answer ≡ outcome_number PartsCut → shown ≡ take room written
   first_of_the_part f over = part_first _ _ _ _ f over ∙ ap (λ now. take room now) (sym writes.0)

@@ -136,7 +136,7 @@ fn failure_in(bytes: &[u8]) -> &'static [u8] {
 }
 
 // Returns whether a source that fails after this beginning is reported and isn't called again.
-fn tells_failure(beginning: &[u8], given: usize) -> bool
+fn reports_device_failure(beginning: &[u8], given: usize) -> bool
     requires { 0 < given }
 {
     let bytes = beginning.len();
@@ -154,7 +154,10 @@ fn tells_failure(beginning: &[u8], given: usize) -> bool
 fn a_source_that_fails(rt: HostRuntime) {
     for bytes in 0..THREE.len() + 1 {
         for given in &[1, 4096] {
-            assert!(rt; tells_failure(&THREE[..bytes], *given), "{bytes} bytes");
+            assert!(rt;
+                reports_device_failure(&THREE[..bytes], *given),
+                "{bytes} bytes"
+            );
         }
     }
 }

@@ -9,7 +9,7 @@ const LIMIT: usize = 1 << 30;
 const WITHOUT_END: usize = LIMIT + 8192;
 
 // Returns whether the text over and over, `bytes` bytes in all, has this report of faults.
-fn tells(text: &[u8], bytes: usize, report: &[u8]) -> bool {
+fn reports(text: &[u8], bytes: usize, report: &[u8]) -> bool {
     let mut source = TrialSource::repeated(text, bytes, 4096, None);
     let mut sink = TrialSink::<256>::new(256, None);
     let status = run(&settings(false), &mut source, &mut sink);
@@ -19,21 +19,21 @@ fn tells(text: &[u8], bytes: usize, report: &[u8]) -> bool {
 #[test]
 fn letters_without_end(rt: HostRuntime) {
     let report = b"problem 1\nline 1: fault 20: input too long\n\n";
-    assert!(rt; tells(&[b'x'; 4096], WITHOUT_END, report));
+    assert!(rt; reports(&[b'x'; 4096], WITHOUT_END, report));
 }
 
 // The line after 2^30 line ends.
 #[test]
 fn line_ends_without_end(rt: HostRuntime) {
     let report = b"problem 1\nline 1073741825: fault 20: input too long\n\n";
-    assert!(rt; tells(&[b'\n'; 4096], WITHOUT_END, report));
+    assert!(rt; reports(&[b'\n'; 4096], WITHOUT_END, report));
 }
 
 // An input that ends cleanly at the limit isn't too long.
 #[test]
 fn blanks_up_to_the_limit(rt: HostRuntime) {
     let report = b"problem 1\nline 1: fault 1: BeginProblem expected\n\n";
-    assert!(rt; tells(&[b' '; 4096], LIMIT, report));
+    assert!(rt; reports(&[b' '; 4096], LIMIT, report));
 }
 
 // The first word is a fault, and the text that is skipped reaches the limit.
@@ -45,5 +45,5 @@ fn letters_and_blanks_without_end(rt: HostRuntime) {
     }
     let report =
         b"problem 1\nline 1: fault 1: BeginProblem expected\n\nproblem 2\nline 1: fault 20: input too long\n\n";
-    assert!(rt; tells(&text, WITHOUT_END, report));
+    assert!(rt; reports(&text, WITHOUT_END, report));
 }

@@ -15,7 +15,7 @@ struct Tally {
     problems: u32,
     solved: u32,
     solved_in_set_play: u32,
-    barred: u32,
+    castling_forbidden: u32,
     stopped: u32,
     checks: u32,
     rebirths: u32,
@@ -51,7 +51,7 @@ impl Tally {
             &mut self.solved_in_set_play,
             seen.solutions > in_play.solutions,
         );
-        add(&mut self.barred, seen.barred > 0);
+        add(&mut self.castling_forbidden, seen.castling_forbidden > 0);
         add(&mut self.checks, seen.checks > 0);
         add(&mut self.rebirths, seen.rebirths > 0);
         add(
@@ -118,7 +118,7 @@ fn made_help_problems(rt: HostRuntime) {
         (tally.problems, 100, "problems"),
         (tally.solved, 40, "solved"),
         (tally.solved_in_set_play, 10, "solved in set play"),
-        (tally.barred, 10, "without set play"),
+        (tally.castling_forbidden, 10, "without set play"),
         (tally.stopped, 40, "phases stopped"),
         (tally.checks, 10, "with a check on the way"),
         (tally.rebirths, 2, "with a rebirth"),

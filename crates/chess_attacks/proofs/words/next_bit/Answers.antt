@@ -10,5 +10,5 @@ returns-then-rest-eq0-clause-value c = sym (next_none c.args.word c.args.from (o
 pub returns-clause-value : goal.returns-clause-value
 returns-clause-value c = rw c.lowest.ensures (sym (next_some c.args.word c.args.from (omega arith) (omega arith) (fits c.args.word c.args.from (omega arith))))
 
-pub returns-clause-behind : goal.returns-clause-behind
-returns-clause-behind c = search (rules, fits, next_low)
+pub returns-clause-following : goal.returns-clause-following
+returns-clause-following c = search (rules, fits, next_low)

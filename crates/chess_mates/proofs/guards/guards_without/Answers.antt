@@ -7,10 +7,10 @@ pub returns : goal.returns
 returns c =
     let fits : c.only.result < 2 ^ 64 = omega arith in
     let others = c.without-men.ensures in
-    let rides = c.ridden_squares-ridden.ensures.all in
+    let rides = c.rider_reach-ridden.ensures.all in
     record {
       hurdles = _;
-      kept = λ e small on. (on_first c.args.siege.now.hurdles _ e on, λ same. search (rules, fits, off_denied, word_has));
+      kept = λ e small on. (on_first c.args.king_attack.now.hurdles _ e on, λ same. search (rules, fits, off_denied, word_has));
       rides = λ q z i ne rider near. rides.reach q z (others q z i ne) rider near;
       guards = λ q z i ne plain near. (all_reach _ _ _ _ _ rides c.leapt_squares.ensures.all).reach q z (others q z i ne) (ap not plain) near;
     }

@@ -3,4 +3,4 @@ use Rattle.chess_mates.proofs.homes.pawn_homes.Goals as goal
 
 pub loop-from-preserved : goal.loop-from-preserved
 loop-from-preserved c =
-    search (rules, taken_on, taken_map, on_left, on_right, c.take_first.ensures.taken, c.loop-from.invariant, c.pawn_home-home.ensures)
+    search (rules, taken_on, taken_map, on_left, on_right, c.pop_first.ensures.taken, c.loop-from.invariant, c.pawn_home-home.ensures)

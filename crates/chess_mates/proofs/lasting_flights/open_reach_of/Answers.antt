@@ -4,4 +4,4 @@ use Rattle.chess_mates.proofs.lasting_flights.open_reach_of.Goals as goal
 
 pub loop-from-preserved : goal.loop-from-preserved
 loop-from-preserved c =
-    search (rules, taken_on, taken_map, reached_left, reached_right, c.take_first.ensures.taken, c.loop-from.invariant, c.open_reach-more.ensures)
+    search (rules, taken_on, taken_map, reached_left, reached_right, c.pop_first.ensures.taken, c.loop-from.invariant, c.unblocked_reach-more.ensures)

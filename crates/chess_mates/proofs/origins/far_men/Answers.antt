@@ -5,7 +5,7 @@ use Rattle.chess_mates.proofs.origins.far_men.Goals as goal
 
 pub is_far-requires : goal.is_far-requires
 is_far-requires g c =
-    let men = c.men_off_shields-men.ensures in
-    let targets = c.targets_off_shields-targets.ensures in
-    let one = found _ _ _ _ _ _ men.stands men.unshielding _ _ _ c.turn.ensures (search (rules, rest_here)) (λ king. cc) targets in
+    let men = c.men_off_blockers-men.ensures in
+    let targets = c.targets_off_blockers-targets.ensures in
+    let one = found _ _ _ _ _ _ men.stands men.unblocking _ _ _ c.turn.ensures (search (rules, rest_here)) (λ king. cc) targets in
     record { here = one.0; targets = one.1 }

@@ -4,5 +4,5 @@ use Rattle.chess_mates.proofs.origins.far_pawns.Goals as goal
 
 pub returns : goal.returns
 returns g c =
-    let men = c.men_off_shields.ensures in
-    far_apart _ _ _ _ _ _ men.stands men.unshielding _ _ (omega arith) refl c.targets_off_shields-targets.ensures c.turn.ensures c.pawns_before.ensures
+    let men = c.men_off_blockers.ensures in
+    far_apart _ _ _ _ _ _ men.stands men.unblocking _ _ (omega arith) refl c.targets_off_blockers-targets.ensures c.turn.ensures c.pawns_before.ensures

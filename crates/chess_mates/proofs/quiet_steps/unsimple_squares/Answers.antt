@@ -1,5 +1,5 @@
 use Rattle.chess_mates.proofs.Chess.{rules}
-use Rattle.chess_mates.proofs.QuietSieve.{goes_simply}
+use Rattle.chess_mates.proofs.QuietFilter.{goes_simply}
 use Rattle.chess_mates.proofs.quiet_steps.unsimple_squares.Goals as goal
 
 pub returns : goal.returns

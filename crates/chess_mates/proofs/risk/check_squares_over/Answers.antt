@@ -1,6 +1,6 @@
 use Rattle.chess_mates.proofs.Chess.{Bishop, Queen, Rook, refl, sym, ◌∙◌}
 use Rattle.chess_mates.proofs.Risks.{check_lines}
-use Rattle.chess_mates.proofs.Sieges.{queen_lines}
+use Rattle.chess_mates.proofs.KingAttacks.{queen_lines}
 use Rattle.chess_mates.proofs.risk.check_squares_over.Goals as goal
 
 pub returns-then-is : goal.returns-then-is

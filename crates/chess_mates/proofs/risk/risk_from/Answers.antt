@@ -4,7 +4,7 @@ use Rattle.chess_mates.proofs.risk.risk_from.Goals as goal
 
 pub returns-then-not-contains : goal.returns-then-not-contains
 returns-then-not-contains c =
-    harmless_quietly _ _ _ _ _ _ c.checking_targets-most.result (open_arrivals _ _ _ c.open_targets-open.result c.open_targets-open.ensures)
+    harmless_quietly _ _ _ _ _ _ c.checking_targets-most.result (open_arrivals _ _ _ c.unblocked_targets-open.result c.unblocked_targets-open.ensures)
     (search (rules, c.checking_targets-most.ensures)) c.if-most-eq0.true (search rules)
 
 pub returns-then-not-contains-2 : goal.returns-then-not-contains-2

@@ -8,13 +8,13 @@ returns-then-may_spring c = λ a b t inside small off low on there. absurd (fals
 
 pub returns : goal.returns
 returns c = λ a b t inside small off low on there.
-    let g = c.args.field.now in
+    let g = c.args.king_zone.now in
     let o = c.only.result in
     let guards = c.guards_without-guards in
     let seen = guards.result.guarded in
     let watched = c.watched_squares-watched in
     let left = c.uncaptured_squares-left in
-    let at = unguarded_at c.args.siege.now g c.args.from o guards.result a guards.ensures off.lines in
+    let at = unguarded_at c.args.king_attack.now g c.args.from o guards.result a guards.ensures off.lines in
     elim (cases_Bool (bit_at left.result t == 1)) [
       | inl left_on ↦ inr (inr (λ z becomes.
           let going = c.critical_of_going.ensures t low left_on z (c.may_become_fairy.ensures c.if-may_become_fairy.false t low left_on z becomes) in

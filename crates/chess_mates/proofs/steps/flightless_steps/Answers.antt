@@ -4,4 +4,4 @@ use Rattle.chess_mates.proofs.steps.flightless_steps.Goals as goal
 pub loop-to-preserved : goal.loop-to-preserved
 loop-to-preserved g c =
     taken_on _ _ _ _ _ _ (taken_map _ _ _ _ (λ t h off. h (search (rules, off_left))) c.loop-to.invariant)
-    c.take_first.ensures.taken c.in-Some.is (λ off. search (rules, off_right, c.flightless_step-more.ensures))
+    c.pop_first.ensures.taken c.in-Some.is (λ off. search (rules, off_right, c.flightless_step-more.ensures))

@@ -4,5 +4,5 @@ use Rattle.chess_mates.proofs.steps.plain_squares.Goals as goal
 
 pub returns-then-captures_do_more : goal.returns-then-captures_do_more
 returns-then-captures_do_more g c =
-    let fits : c.args.siege.now.hurdles < 2 ^ 64 = omega arith in
+    let fits : c.args.king_attack.now.hurdles < 2 ^ 64 = omega arith in
     search (rules, empty_step, c.king_leaps-near.ensures)

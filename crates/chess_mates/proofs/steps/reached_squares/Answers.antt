@@ -3,4 +3,4 @@ use Rattle.chess_mates.proofs.Hurdles.{on_one}
 use Rattle.chess_mates.proofs.steps.reached_squares.Goals as goal
 
 pub returns-clause-alone : goal.returns-clause-alone
-returns-clause-alone c = λ t small on. search (rules, c.ridden_squares-ridden.ensures.alone, c.leapt_squares.ensures.alone, on_one)
+returns-clause-alone c = λ t small on. search (rules, c.rider_reach-ridden.ensures.alone, c.leapt_squares.ensures.alone, on_one)

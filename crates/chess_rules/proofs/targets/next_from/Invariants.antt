@@ -1,11 +1,11 @@
-use Rattle.chess_rules.proofs.Chess.{IsBarrenFrom, per_origin, ◌-◌, ◌≤◌}
+use Rattle.chess_rules.proofs.Chess.{HasNoMoveFrom, per_origin, ◌-◌, ◌≤◌}
 use Rattle.chess_rules.proofs.targets.next_from.Given as goal
 
 abbrev pub invariant-loop-to : goal.invariant-loop-to
 invariant-loop-to l = record {
   low : l.fn.start ≤ l.at;
   high : l.at ≤ per_origin;
-  barren : IsBarrenFrom l.board l.fn.from l.fn.word l.fn.start l.at;
+  barren : HasNoMoveFrom l.board l.fn.from l.fn.word l.fn.start l.at;
 }
 
 abbrev pub decreases-loop-to : goal.decreases-loop-to

@@ -1,6 +1,6 @@
 use Rattle.std.proofs.Common.{◌≡◌, length}
 use Rattle.chess_core.specs.Diagrams.{position_of}
-use Rattle.chess_mates.specs.ties.Mates.{IsMatingPlaceIn, mates_behind}
+use Rattle.chess_mates.specs.ties.Mates.{IsMatingPlaceIn, mates_after}
 use Rattle.chess_tests.proofs.probe.mates_under.Given as goal
 
 -- the board is the diagram's, and the place is one in its mating moves
@@ -12,4 +12,4 @@ invariant-loop-m g l = record {
 
 -- fewer mating moves are still to come
 abbrev pub decreases-loop-m : goal.decreases-loop-m
-decreases-loop-m g l = length (mates_behind g.R.Rules.rule (position_of l.fn.diagram) l.place.place)
+decreases-loop-m g l = length (mates_after g.R.Rules.rule (position_of l.fn.diagram) l.place.place)

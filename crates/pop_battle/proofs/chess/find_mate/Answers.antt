@@ -1,9 +1,9 @@
 use Rattle.pop_battle.proofs.Words.{MatingPlace, ap, rules}
-use Rattle.pop_battle.proofs.Boards.{mate_before, mate_behind, no_mate}
+use Rattle.pop_battle.proofs.Boards.{mate_before, mate_after, no_mate}
 use Rattle.pop_battle.proofs.chess.find_mate.Goals as goal
 
 pub returns-then-is_some-clause-mates : goal.returns-then-is_some-clause-mates
-returns-then-is_some-clause-mates g c = let found = mate_behind g.R.Rules.rule c.args.board.now _ _ c.next.result c.next.ensures.rest in search (rules, found)
+returns-then-is_some-clause-mates g c = let found = mate_after g.R.Rules.rule c.args.board.now _ _ c.next.result c.next.ensures.rest in search (rules, found)
 
 pub returns-then-is_some-2-clause-mates : goal.returns-then-is_some-2-clause-mates
 returns-then-is_some-2-clause-mates g c =

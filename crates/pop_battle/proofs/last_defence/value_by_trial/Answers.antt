@@ -11,8 +11,8 @@ returns-then-is_none g c = search (rules, stuck, found_first, c.first_defence-ne
 
 pub loop-next-init : goal.loop-next-init
 loop-next-init g c =
-    let b = begins_first g.R.Rules.rule c.args.board.now _ _ _ _ _ c.first_defence-next.ensures c.args.history.now.opened
-    c.saturating_add-history.result (search rules) (search rules) (search rules) in
+    let b = begins_first g.R.Rules.rule c.args.board.now _ _ _ _ _ c.first_defence-next.ensures c.args.search_state.now.opened
+    c.saturating_add-search_state.result (search rules) (search rules) (search rules) in
     (c.first_defence-next.ensures.unchanged, c.first_defence-next.ensures.within, b.0, b.1)
 
 pub returns-then-not-lets_mate : goal.returns-then-not-lets_mate

@@ -1,4 +1,4 @@
-use Rattle.pop_battle.proofs.Words.{Frame, None, Some, ap, not, rules, seeks, sym, untried_moves, ◌∙◌, ◌≡◌, ◌⊎◌}
+use Rattle.pop_battle.proofs.Words.{Frame, None, Some, ap, not, rules, attacker_to_move, sym, untried_moves, ◌∙◌, ◌≡◌, ◌⊎◌}
 use Rattle.pop_battle.proofs.Tests as test
 use Rattle.pop_battle.proofs.value.turn.Goals as goal
 
@@ -12,9 +12,9 @@ returns-then-is_decided-clause-room g c =
 
 pub returns-then-is_decided-clause-next : goal.returns-then-is_decided-clause-next
 returns-then-is_decided-clause-next g c = λ p r.
-    let seek : c.seeks-seek.result ≡ seeks c.args.aim.battle c.in-Some.top.left = c.seeks-seek.ensures
-    ∙ ap (λ (f : Frame). seeks c.args.aim.battle f.left) c.top.view_is in
-    let s : c.args.answer.now ≡ Some (seeks c.args.aim.battle c.in-Some.top.left) = rw (← seek) c.if-is_decided.ensures in
+    let seek : c.attacker_to_move-seek.result ≡ attacker_to_move c.args.aim.battle c.in-Some.top.left = c.attacker_to_move-seek.ensures
+    ∙ ap (λ (f : Frame). attacker_to_move c.args.aim.battle f.left) c.top.view_is in
+    let s : c.args.answer.now ≡ Some (attacker_to_move c.args.aim.battle c.in-Some.top.left) = rw (← seek) c.if-is_decided.ensures in
     test.close_turns g.R.Rules.rule c.args.aim _ _ _ _ c.in-Some.ensures.items c.requires.above _ _ _ _ _ _ _ c.len-depth.ensures.value
     c.close.ensures.lowest c.close.ensures.above c.close.ensures.before _ p r
     (rw seek (test.decided g.R.Rules.rule c.args.aim _ _ _ _ c.in-Some.ensures.items c.requires.above p _ s))
@@ -35,10 +35,10 @@ returns-in_default-next_tried-clause-room g c =
 
 pub returns-in_default-next_tried-clause-next : goal.returns-in_default-next_tried-clause-next
 returns-in_default-next_tried-clause-next g c = λ p r.
-    let seek : c.seeks-seek.result ≡ seeks c.args.aim.battle c.in-Some.top.left = c.seeks-seek.ensures
-    ∙ ap (λ (f : Frame). seeks c.args.aim.battle f.left) c.top.view_is in
+    let seek : c.attacker_to_move-seek.result ≡ attacker_to_move c.args.aim.battle c.in-Some.top.left = c.attacker_to_move-seek.ensures
+    ∙ ap (λ (f : Frame). attacker_to_move c.args.aim.battle f.left) c.top.view_is in
     let same = ap (λ (f : Frame). untried_moves g.R.Rules.rule c.args.board.now f) c.top.view_is in
-    let u : (c.args.answer.now ≡ None) ⊎ (c.args.answer.now ≡ Some (not (seeks c.args.aim.battle c.in-Some.top.left))) = rw (← seek) c.if-is_decided.ensures in
+    let u : (c.args.answer.now ≡ None) ⊎ (c.args.answer.now ≡ Some (not (attacker_to_move c.args.aim.battle c.in-Some.top.left))) = rw (← seek) c.if-is_decided.ensures in
     test.close_turns g.R.Rules.rule c.args.aim _ _ _ _ c.in-Some.ensures.items c.requires.above _ _ _ _ _ _ _ c.len-depth.ensures.value
     c.close-in_default-next_tried.ensures.lowest c.close-in_default-next_tried.ensures.above c.close-in_default-next_tried.ensures.before _ p
     (test.testing_same _ _ _ _ _ r c.next_tried.ensures.unchanged)
@@ -55,8 +55,8 @@ descend-requires g c =
 pub returns-clause-room : goal.returns-clause-room
 returns-clause-room g c =
     let taken = rw (← c.top.view_is) at c.in-Some.ensures.items in
-    let u : (c.args.answer.now ≡ None) ⊎ (c.args.answer.now ≡ Some (not (seeks c.args.aim.battle c.top.inside.left))) =
-    rw (← c.seeks-seek.ensures) c.if-is_decided.ensures in
+    let u : (c.args.answer.now ≡ None) ⊎ (c.args.answer.now ≡ Some (not (attacker_to_move c.args.aim.battle c.top.inside.left))) =
+    rw (← c.attacker_to_move-seek.ensures) c.if-is_decided.ensures in
     let some = test.top_some g.R.Rules.rule c.args.aim _ _ _ _ taken c.requires.above _ _ c.requires.testing.1 in
     test.descend_room g.R.Rules.rule c.args.aim _ _ _ _ taken c.requires.above _ _ _ _ _ _ _ _ _ some u
     (rw (c.moves_at-moves.ensures.place, ← c.place.ensures) at c.in-Some-next_tried.ensures.next.0) c.in-Some-next_tried.ensures.next.1
@@ -65,8 +65,8 @@ returns-clause-room g c =
 pub returns-clause-next : goal.returns-clause-next
 returns-clause-next g c = λ p r.
     let taken = rw (← c.top.view_is) at c.in-Some.ensures.items in
-    let u : (c.args.answer.now ≡ None) ⊎ (c.args.answer.now ≡ Some (not (seeks c.args.aim.battle c.top.inside.left))) =
-    rw (← c.seeks-seek.ensures) c.if-is_decided.ensures in
+    let u : (c.args.answer.now ≡ None) ⊎ (c.args.answer.now ≡ Some (not (attacker_to_move c.args.aim.battle c.top.inside.left))) =
+    rw (← c.attacker_to_move-seek.ensures) c.if-is_decided.ensures in
     let some = test.top_some g.R.Rules.rule c.args.aim _ _ _ _ taken c.requires.above _ _ r in
     test.descend_turns g.R.Rules.rule c.args.aim _ _ _ _ taken c.requires.above _ _ _ _ _ _ 0 _ _ some u
     (rw (c.moves_at-moves.ensures.place, ← c.place.ensures) at c.in-Some-next_tried.ensures.next.0) c.in-Some-next_tried.ensures.next.1

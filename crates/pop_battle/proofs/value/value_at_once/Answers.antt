@@ -9,15 +9,15 @@ returns-then-left-eq0-clause-value g c = search rules
 
 pub returns-else-is_some-clause-tried : goal.returns-else-is_some-clause-tried
 unfolding smallest_tree
-returns-else-is_some-clause-tried g c = search (rules, c.first_look.ensures.moves c.args.aim.goal, c.if-is_some.ensures)
+returns-else-is_some-clause-tried g c = search (rules, c.cursor_if_any_move.ensures.moves c.args.aim.goal, c.if-is_some.ensures)
 
 pub value_without_move-requires : goal.value_without_move-requires
-value_without_move-requires g c = search (rules, c.first_look.ensures.unchanged, c.first_look.ensures.moves, c.if-is_some.ensures)
+value_without_move-requires g c = search (rules, c.cursor_if_any_move.ensures.unchanged, c.cursor_if_any_move.ensures.moves, c.if-is_some.ensures)
 
 pub returns-then-is_some-clause-value : goal.returns-then-is_some-clause-value
-returns-then-is_some-clause-value g c = search (rules, values.value-open, unreached, c.first_look.ensures.moves c.args.aim.goal, c.if-is_some.ensures)
+returns-then-is_some-clause-value g c = search (rules, values.value-open, unreached, c.cursor_if_any_move.ensures.moves c.args.aim.goal, c.if-is_some.ensures)
 
 pub returns-else-is_some-clause-value : goal.returns-else-is_some-clause-value
 returns-else-is_some-clause-value g c =
-    let told = rw c.first_look.ensures.unchanged at c.value_without_move.ensures in
-    search (rules, values.value-stuck, c.first_look.ensures.moves c.args.aim.goal, c.if-is_some.ensures)
+    let reported = rw c.cursor_if_any_move.ensures.unchanged at c.value_without_move.ensures in
+    search (rules, values.value-stuck, c.cursor_if_any_move.ensures.moves c.args.aim.goal, c.if-is_some.ensures)

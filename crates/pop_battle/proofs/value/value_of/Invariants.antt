@@ -6,9 +6,9 @@ use Rattle.pop_battle.proofs.value.value_of.Given as goal
 
 abbrev pub invariant-loop-known : goal.invariant-loop-known
 invariant-loop-known g l = IsUnderway g.R.Rules.rule l.aim l.floor l.fn.board g.row.N
-    (value l.aim.battle (chess l.aim.goal g.R.Rules.rule) l.left l.fn.board) l.fn.frames.items l.frames.items l.answer l.board l.history.opened
-    (l.fn.history.opened + walk_count (legal_moves g.R.Rules.rule) (position_after g.R.Rules.rule) l.left l.fn.board)
-    (l.fn.history.opened + smallest_tree l.aim.battle (chess l.aim.goal g.R.Rules.rule) l.left l.fn.board)
+    (value l.aim.battle (chess l.aim.goal g.R.Rules.rule) l.left l.fn.board) l.fn.frames.items l.frames.items l.answer l.board l.search_state.opened
+    (l.fn.search_state.opened + walk_count (legal_moves g.R.Rules.rule) (position_after g.R.Rules.rule) l.left l.fn.board)
+    (l.fn.search_state.opened + smallest_tree l.aim.battle (chess l.aim.goal g.R.Rules.rule) l.left l.fn.board)
 
 abbrev pub decreases-loop-known : goal.decreases-loop-known
 decreases-loop-known g l = test_work g.R.Rules.rule l.fn.board (tests l.floor l.frames.items)

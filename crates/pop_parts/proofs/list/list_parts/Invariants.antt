@@ -1,4 +1,4 @@
-use Rattle.pop_parts.proofs.Words.{IsSeen, Open, failures_after, work_left, ◌+◌, ◌^◌, ◌≡◌, ◌≤◌}
+use Rattle.pop_parts.proofs.Words.{IsEndSeen, Open, failures_after, work_left, ◌+◌, ◌^◌, ◌≡◌, ◌≤◌}
 use Rattle.pop_parts.proofs.Listing.{Listed}
 use Rattle.pop_parts.proofs.list.list_parts.Given as goal
 
@@ -7,7 +7,7 @@ abbrev pub invariant-loop-reader : goal.invariant-loop-reader
 invariant-loop-reader g l = record {
   listed : Listed l.depth l.reader l.number l.so_far (g.S.Source.remaining l.fn.source) (g.S.Source.remaining l.source) (g.W.Sink.taken l.fn.sink)
       (g.W.Sink.taken l.sink);
-  seen : IsSeen l.reader.at.end (g.S.Source.remaining l.source);
+  seen : IsEndSeen l.reader.at.end (g.S.Source.remaining l.source);
   read_failures : g.S.Source.failures l.source ≡ failures_after Open l.reader.at.end (g.S.Source.failures l.fn.source);
   write_failures : g.W.Sink.failures l.sink ≡ g.W.Sink.failures l.fn.sink;
   few : l.number + work_left l.reader ≤ 2 ^ 31;

@@ -19,7 +19,7 @@ returns-then-is_end-clause-headline g c =
     let i = c.loop-reader.invariant in
     let next = c.next_problem-item in
     let none : entry_in next.result ≡ None = none_there _ (sym c.is_end.ensures ∙ c.if-is_end.true) in
-    rw i.untouched (item_missing c.args.asked.now c.loop-reader.reader next.new.self c.loop-reader.number c.loop-reader.failed _
+    rw i.untouched (item_missing c.args.request.now c.loop-reader.reader next.new.self c.loop-reader.number c.loop-reader.failed _
     (g.S.Source.remaining c.loop-reader.source) (g.S.Source.remaining next.new.source) _ next.result _ _ _ _ _ i.passed next.ensures.item none
     (next.ensures.seen i.seen) c.outcome_without_item.ensures
     (failures_then _ _ _ _ _ _ (inl refl) next.ensures.ends i.read_failures next.ensures.counted) refl)
@@ -29,9 +29,9 @@ returns-in-Ok-clause-headline g c =
     let i = c.loop-reader.invariant in
     let next = c.next_problem-item in
     let there = entry_there _ (sym c.is_end.ensures ∙ c.if-is_end.false) in
-    let one : c.loop-reader.number ≡ c.args.asked.now.item = grind (arith, c.if-number-asked.true) in
+    let one : c.loop-reader.number ≡ c.args.request.now.item = grind (arith, c.if-number-request.true) in
     let some : is_some (entry_in next.result) ≡ true = rw there.1 refl in
-    item_shown c.args.asked.now c.loop-reader.reader next.new.self c.loop-reader.number c.loop-reader.failed _ (g.S.Source.remaining c.loop-reader.source)
+    item_shown c.args.request.now c.loop-reader.reader next.new.self c.loop-reader.number c.loop-reader.failed _ (g.S.Source.remaining c.loop-reader.source)
     (g.S.Source.remaining next.new.source) _ _ next.result there.0 _ _ _ _ _ i.passed next.ensures.item there.1 (next.ensures.seen i.seen) one
     (rw i.untouched at c.in-Ok.ensures.bytes) (c.in-Ok.ensures.outcome some)
     (failures_then _ _ _ _ _ _ (inl refl) next.ensures.ends i.read_failures next.ensures.counted)
@@ -42,8 +42,8 @@ returns-in-Err-clause-headline g c =
     let i = c.loop-reader.invariant in
     let next = c.next_problem-item in
     let there = entry_there _ (sym c.is_end.ensures ∙ c.if-is_end.false) in
-    let one : c.loop-reader.number ≡ c.args.asked.now.item = grind (arith, c.if-number-asked.true) in
-    item_cut c.args.asked.now c.loop-reader.reader next.new.self c.loop-reader.number c.loop-reader.failed _ (g.S.Source.remaining c.loop-reader.source)
+    let one : c.loop-reader.number ≡ c.args.request.now.item = grind (arith, c.if-number-request.true) in
+    item_cut c.args.request.now c.loop-reader.reader next.new.self c.loop-reader.number c.loop-reader.failed _ (g.S.Source.remaining c.loop-reader.source)
     (g.S.Source.remaining next.new.source) _ _ next.result there.0 _ _ _ _ i.passed next.ensures.item there.1 (next.ensures.seen i.seen) one
     (rw i.untouched at c.in-Err.ensures.bytes)
     (failures_then _ _ _ _ _ _ (inl refl) next.ensures.ends i.read_failures next.ensures.counted)
@@ -63,7 +63,7 @@ returns-in-Ok-clause-reads g c =
     let i = c.loop-reader.invariant in
     let next = c.next_problem-item in
     let there = entry_there _ (sym c.is_end.ensures ∙ c.if-is_end.false) in
-    let one : c.loop-reader.number ≡ c.args.asked.now.item = grind (arith, c.if-number-asked.true) in
+    let one : c.loop-reader.number ≡ c.args.request.now.item = grind (arith, c.if-number-request.true) in
     found_reads _ c.loop-reader.reader next.new.self c.loop-reader.number c.loop-reader.failed _ (g.S.Source.remaining c.loop-reader.source)
     (g.S.Source.remaining next.new.source) next.result there.0 _ _ i.passed next.ensures.item next.ensures.used there.1 one (next.ensures.seen i.seen)
     next.ensures.waits (failures_then _ _ _ _ _ _ (inl refl) next.ensures.ends i.read_failures next.ensures.counted)
@@ -73,7 +73,7 @@ returns-in-Err-clause-reads g c =
     let i = c.loop-reader.invariant in
     let next = c.next_problem-item in
     let there = entry_there _ (sym c.is_end.ensures ∙ c.if-is_end.false) in
-    let one : c.loop-reader.number ≡ c.args.asked.now.item = grind (arith, c.if-number-asked.true) in
+    let one : c.loop-reader.number ≡ c.args.request.now.item = grind (arith, c.if-number-request.true) in
     found_reads _ c.loop-reader.reader next.new.self c.loop-reader.number c.loop-reader.failed _ (g.S.Source.remaining c.loop-reader.source)
     (g.S.Source.remaining next.new.source) next.result there.0 _ _ i.passed next.ensures.item next.ensures.used there.1 one (next.ensures.seen i.seen)
     next.ensures.waits (failures_then _ _ _ _ _ _ (inl refl) next.ensures.ends i.read_failures next.ensures.counted)
@@ -84,9 +84,9 @@ loop-reader-preserved g c =
     let next = c.next_problem-item in
     let there = entry_there _ (sym c.is_end.ensures ∙ c.if-is_end.false) in
     let less = next.ensures.less (item_there next.result there.0 there.1) in
-    let another : c.loop-reader.number ≢ c.args.asked.now.item = grind (arith, c.if-number-asked.false) in
+    let another : c.loop-reader.number ≢ c.args.request.now.item = grind (arith, c.if-number-request.false) in
     record {
-      passed = rw c.tells_failure-failed.ensures (passed_step _ c.loop-reader.reader next.new.self c.loop-reader.number c.loop-reader.failed _
+      passed = rw c.reports_device_failure-failed.ensures (passed_step _ c.loop-reader.reader next.new.self c.loop-reader.number c.loop-reader.failed _
           (g.S.Source.remaining c.loop-reader.source)
           (g.S.Source.remaining next.new.source) next.result there.0 i.passed next.ensures.item next.ensures.used there.1 another);
       seen = next.ensures.seen i.seen;

@@ -1,12 +1,12 @@
-use Rattle.pop_parts.proofs.Words.{IsSeen, Open, failures_after, work_left, ◌+◌, ◌^◌, ◌≡◌, ◌≤◌}
+use Rattle.pop_parts.proofs.Words.{IsEndSeen, Open, failures_after, work_left, ◌+◌, ◌^◌, ◌≡◌, ◌≤◌}
 use Rattle.pop_parts.proofs.Showing.{Passed}
 use Rattle.pop_parts.proofs.show.show_parts.Given as goal
 
 -- the items so far are read, and none is the one that is asked for
 abbrev pub invariant-loop-reader : goal.invariant-loop-reader
 invariant-loop-reader g l = record {
-  passed : Passed l.asked.item l.reader l.number l.failed (g.S.Source.remaining l.fn.source) (g.S.Source.remaining l.source);
-  seen : IsSeen l.reader.at.end (g.S.Source.remaining l.source);
+  passed : Passed l.request.item l.reader l.number l.failed (g.S.Source.remaining l.fn.source) (g.S.Source.remaining l.source);
+  seen : IsEndSeen l.reader.at.end (g.S.Source.remaining l.source);
   read_failures : g.S.Source.failures l.source ≡ failures_after Open l.reader.at.end (g.S.Source.failures l.fn.source);
   untouched : l.sink ≡ l.fn.sink;
   few : l.number + work_left l.reader ≤ 2 ^ 31;

@@ -1,4 +1,4 @@
-use Rattle.pop_solve.proofs.Words.{IsNarrow, IsStanding, left_of, length-reverse, nat_tests, refl, rest_fewest, rest_open, rules}
+use Rattle.pop_solve.proofs.Words.{IsNarrow, HoldsAtStage, left_of, length-reverse, nat_tests, refl, rest_fewest, rest_open, rules}
 use Rattle.pop_solve.proofs.Paths.{path_end-path, path-length}
 use Rattle.pop_solve.proofs.Events as events
 use Rattle.pop_solve.proofs.Opened as opened
@@ -9,25 +9,25 @@ unfolding rest_open rest_fewest IsNarrow
 returns-in-Barred-clause-opens g c = search rules
 
 pub returns-in-Barred-clause-gives : goal.returns-in-Barred-clause-gives
-unfolding IsStanding left_of
+unfolding HoldsAtStage left_of
 returns-in-Barred-clause-gives g c = search rules
 
 pub count_with-count-requires-clause-begins : goal.count_with-count-requires-clause-begins
-unfolding IsStanding
+unfolding HoldsAtStage
 count_with-count-requires-clause-begins g c =
     let is = (rw c.in-Within.is at c.requires.standing).2 in
     let w = events.walks-are c.args.problem.now c.in-Within.walk is _ _ _ _ _ _ _ c.if-walk_on.ensures.walks in
     search (rules, events.room-given, w)
 
 pub event_at-requires : goal.event_at-requires
-unfolding IsStanding
+unfolding HoldsAtStage
 event_at-requires g c =
     let is = (rw c.in-Within.is at c.requires.standing).2 in
     let w = events.walks-are c.args.problem.now c.in-Within.walk is _ _ _ _ _ _ _ c.if-walk_on.ensures.walks in
     search (rules, events.plan-is, events.deep-given, events.shallow-given, w)
 
 pub returns-then-walk_on : goal.returns-then-walk_on
-unfolding IsStanding left_of
+unfolding HoldsAtStage left_of
 returns-then-walk_on g c =
     let stands = rw c.in-Within.is at c.requires.standing in
     let walk = c.in-Within.walk in
@@ -42,7 +42,7 @@ returns-then-walk_on g c =
     }
 
 pub returns-else-walk_on : goal.returns-else-walk_on
-unfolding IsStanding left_of
+unfolding HoldsAtStage left_of
 returns-else-walk_on g c =
     let stands = rw c.in-Within.is at c.requires.standing in
     let walk = c.in-Within.walk in

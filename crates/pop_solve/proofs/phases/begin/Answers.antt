@@ -1,9 +1,9 @@
-use Rattle.pop_solve.proofs.Words.{ap, Walk, IsStanding, refl, rules, left_of, phase_events, rest_open, rest_fewest, IsNarrow, IsLinked, IsRoomy, AreKnown, position}
+use Rattle.pop_solve.proofs.Words.{ap, Walk, HoldsAtStage, refl, rules, left_of, phase_events, rest_open, rest_fewest, IsNarrow, IsLinked, IsRoomy, AreKnown, position}
 use Rattle.pop_solve.proofs.Walking as walking
 use Rattle.pop_solve.proofs.Events as events
 use Rattle.pop_solve.proofs.Opened as opened
 use Rattle.pop_solve.proofs.Solved as solved
-use Rattle.pop_battle.proofs.Boards.{behind_start}
+use Rattle.pop_battle.proofs.Boards.{after_start}
 use Rattle.pop_solve.proofs.Sound.{start_sound}
 use Rattle.pop_solve.proofs.phases.begin.Goals as goal
 
@@ -12,19 +12,19 @@ unfolding left_of phase_events
 returns-then-not-set_up-clause-left g c = search rules
 
 pub returns-clause-standing : goal.returns-clause-standing
-unfolding IsStanding IsLinked IsRoomy AreKnown position
+unfolding HoldsAtStage IsLinked IsRoomy AreKnown position
 returns-clause-standing g c = search (rules, walking.reverse-push, start_sound)
 
 pub returns-clause-left : goal.returns-clause-left
-unfolding IsStanding
-returns-clause-left g c = search (rules, solved.root-solutions, behind_start, walking.reverse-push, events.left-begun)
+unfolding HoldsAtStage
+returns-clause-left g c = search (rules, solved.root-solutions, after_start, walking.reverse-push, events.left-begun)
 
 pub returns-then-not-set_up-clause-opens : goal.returns-then-not-set_up-clause-opens
 unfolding rest_open rest_fewest IsNarrow
 returns-then-not-set_up-clause-opens g c = search rules
 
 pub returns-clause-opens : goal.returns-clause-opens
-unfolding IsStanding
+unfolding HoldsAtStage
 returns-clause-opens g c = rw (c.of-walk.ensures, c.push-2.ensures.items, walking.reverse-push, c.requires.standing.0)
     (opened.opens-begun g.R.Rules.rule c.args.problem.now c.requires.sound c.args.phase _ (ap (λ (w : Walk). w.half_moves) c.of-walk.ensures) c.start.ensures
-    (search rules) _ _ _ _ (λ some. c.opened_after-history.ensures.more some refl) c.opened_after-history.ensures.none)
+    (search rules) _ _ _ _ (λ some. c.opened_after-search_state.ensures.more some refl) c.opened_after-search_state.ensures.none)

@@ -6,9 +6,9 @@ invariant-loop-frames g l = IsWalking g.R.Rules.rule l.fn.walk.half_moves (phase
     × (to_come g.R.Rules.rule l.fn.walk.plan l.fn.walk.half_moves (phase_start l.problem l.fn.walk.phase) (reverse l.fn.frames.items)
     ≡ to_come g.R.Rules.rule l.fn.walk.plan l.fn.walk.half_moves (phase_start l.problem l.fn.walk.phase) (reverse l.frames.items))
     × Opens g.R.Rules.rule l.fn.walk.plan (phase_start l.problem l.fn.walk.phase) (reverse l.fn.frames.items) (reverse l.frames.items)
-    l.fn.history.opened l.history.opened
+    l.fn.search_state.opened l.search_state.opened
     × Tries g.R.Rules.rule l.fn.walk.plan l.fn.walk.half_moves (phase_start l.problem l.fn.walk.phase) (reverse l.fn.frames.items)
-    (reverse l.frames.items) l.fn.history.opened l.history.opened
+    (reverse l.frames.items) l.fn.search_state.opened l.search_state.opened
 
 abbrev pub decreases-loop-frames : goal.decreases-loop-frames
 decreases-loop-frames g l = walk_work g.R.Rules.rule l.fn.walk.half_moves (phase_start l.problem l.fn.walk.phase) (reverse l.frames.items)

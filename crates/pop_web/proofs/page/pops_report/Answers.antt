@@ -6,5 +6,5 @@ pub returns-clause-shows : goal.returns-clause-shows
 returns-clause-shows c enough =
     let text = same_Some _ _ c.new-source.ensures in
     let empty = c.new-sink.ensures in
-    call_is_shown _ _ _ _ _ _ _ _ (rw (text, empty) at c.report-status.ensures.headline) c.hand_out.ensures.text
-    c.hand_out.ensures.full c.status_number.ensures
+    call_is_shown _ _ _ _ _ _ _ _ (rw (text, empty) at c.report-status.ensures.headline) c.copy_out.ensures.text
+    c.copy_out.ensures.full c.status_number.ensures

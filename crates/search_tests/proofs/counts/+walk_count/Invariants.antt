@@ -1,6 +1,6 @@
 use Rattle.std.proofs.Common.{length}
 use Rattle.chess_core.specs.WellFormed.{IsWellFormed}
-use Rattle.chess_rules.specs.ties.Places.{moves_behind}
+use Rattle.chess_rules.specs.ties.Places.{moves_after}
 use Rattle.search_tests.proofs.counts.+walk_count.Given as goal
 
 -- each call has fewer half-moves left
@@ -13,4 +13,4 @@ invariant-loop-by g l = IsWellFormed l.here
 
 -- fewer legal moves are still to come
 abbrev pub decreases-loop-by : goal.decreases-loop-by
-decreases-loop-by g l = length (moves_behind g.R.Rules.rule l.here l.moves)
+decreases-loop-by g l = length (moves_after g.R.Rules.rule l.here l.moves)

@@ -1,6 +1,6 @@
 use Rattle.std.proofs.Common.{length}
 use Rattle.chess_core.specs.WellFormed.{IsWellFormed}
-use Rattle.chess_rules.specs.ties.Places.{moves_behind}
+use Rattle.chess_rules.specs.ties.Places.{moves_after}
 use Rattle.search_tests.proofs.counts.try_all.Given as goal
 
 -- the position may be played from
@@ -9,4 +9,4 @@ invariant-loop-by g l = IsWellFormed l.here
 
 -- fewer legal moves are still to come
 abbrev pub decreases-loop-by : goal.decreases-loop-by
-decreases-loop-by g l = length (moves_behind g.R.Rules.rule l.here l.moves)
+decreases-loop-by g l = length (moves_after g.R.Rules.rule l.here l.moves)

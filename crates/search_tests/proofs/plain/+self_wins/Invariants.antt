@@ -1,6 +1,6 @@
 use Rattle.std.proofs.Common.{length}
 use Rattle.chess_core.specs.WellFormed.{IsWellFormed}
-use Rattle.chess_rules.specs.ties.Places.{moves_behind}
+use Rattle.chess_rules.specs.ties.Places.{moves_after}
 use Rattle.search_tests.proofs.plain.+self_wins.Given as goal
 
 -- each call has fewer moves left
@@ -13,7 +13,7 @@ invariant-loop-by g l = IsWellFormed l.here
 
 -- fewer tries are still to come
 abbrev pub decreases-loop-by : goal.decreases-loop-by
-decreases-loop-by g l = length (moves_behind g.R.Rules.rule l.here l.tries)
+decreases-loop-by g l = length (moves_after g.R.Rules.rule l.here l.tries)
 
 -- the position after the try may be played from
 abbrev pub invariant-loop-defence : goal.invariant-loop-defence
@@ -21,4 +21,4 @@ invariant-loop-defence g l = IsWellFormed l.there
 
 -- fewer defences are still to come
 abbrev pub decreases-loop-defence : goal.decreases-loop-defence
-decreases-loop-defence g l = length (moves_behind g.R.Rules.rule l.there l.defences)
+decreases-loop-defence g l = length (moves_after g.R.Rules.rule l.there l.defences)

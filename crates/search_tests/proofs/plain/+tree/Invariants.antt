@@ -1,6 +1,6 @@
 use Rattle.std.proofs.Common.{◌+◌, ◌*◌, length}
 use Rattle.chess_core.specs.WellFormed.{IsWellFormed}
-use Rattle.chess_rules.specs.ties.Places.{moves_behind}
+use Rattle.chess_rules.specs.ties.Places.{moves_after}
 use Rattle.search_tests.proofs.plain.+tree.Given as goal
 
 -- White's call comes before Black's with as many moves left
@@ -17,7 +17,7 @@ invariant-white-loop-by g l = IsWellFormed l.here
 
 -- fewer tries are still to come
 abbrev pub decreases-white-loop-by : goal.decreases-white-loop-by
-decreases-white-loop-by g l = length (moves_behind g.R.Rules.rule l.here l.tries)
+decreases-white-loop-by g l = length (moves_after g.R.Rules.rule l.here l.tries)
 
 -- the position may be played from
 abbrev pub invariant-black-loop-defence : goal.invariant-black-loop-defence
@@ -25,4 +25,4 @@ invariant-black-loop-defence g l = IsWellFormed l.here
 
 -- fewer defences are still to come
 abbrev pub decreases-black-loop-defence : goal.decreases-black-loop-defence
-decreases-black-loop-defence g l = length (moves_behind g.R.Rules.rule l.here l.defences)
+decreases-black-loop-defence g l = length (moves_after g.R.Rules.rule l.here l.defences)

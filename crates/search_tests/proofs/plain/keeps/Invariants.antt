@@ -1,6 +1,6 @@
 use Rattle.std.proofs.Common.{length}
 use Rattle.chess_core.specs.WellFormed.{IsWellFormed}
-use Rattle.chess_rules.specs.ties.Places.{moves_behind}
+use Rattle.chess_rules.specs.ties.Places.{moves_after}
 use Rattle.search_tests.proofs.plain.keeps.Given as goal
 
 -- the position may be played from
@@ -9,4 +9,4 @@ invariant-loop-defence g l = IsWellFormed l.here
 
 -- fewer defences are still to come
 abbrev pub decreases-loop-defence : goal.decreases-loop-defence
-decreases-loop-defence g l = length (moves_behind g.R.Rules.rule l.here l.defences)
+decreases-loop-defence g l = length (moves_after g.R.Rules.rule l.here l.defences)

@@ -1,6 +1,6 @@
 use Rattle.chess_mates.proofs.Chess.{arith, off_left, off_right, rules}
 use Rattle.chess_mates.proofs.KeptFlights.{no_mate_left}
-use Rattle.chess_mates.proofs.QuietSieve.{all_left}
+use Rattle.chess_mates.proofs.QuietFilter.{all_left}
 use Rattle.chess_mates.proofs.standing_flights.StandingFlights.mating_squares.Goals as goal
 
 pub returns-then-self-eq0 : goal.returns-then-self-eq0

@@ -1,5 +1,5 @@
 use Rattle.pop_input.proofs.Words.{ArePut, ap, has_king_to_mate, in_check, other, rule_of, starting_side, sym, ◌∙◌, ◌≡◌}
-use Rattle.pop_input.proofs.Posing.{ill_fault, position_told, shown_men}
+use Rattle.pop_input.proofs.Posing.{ill_fault, position_reported, shown_men}
 use Rattle.pop_input.proofs.draft.Draft.diagram_fault.Goals as goal
 
 pub returns-then-not-is_well_formed-clause-fault : goal.returns-then-not-is_well_formed-clause-fault
@@ -17,5 +17,5 @@ returns-clause-fault c =
     c.has_king_to_mate-has_king.ensures in
     let check : c.is_in_check-in_check.result ≡ in_check (rule_of c.args.self.now.condition) c.args.diagram.now.men
     (other (starting_side c.args.stipulation.form)) = rw (← condition, ← men, ← c.starting_side.ensures, ← c.other.ensures) c.is_in_check-in_check.ensures in
-    c.position_fault.ensures ∙ position_told c.args.self.now c.args.stipulation c.args.diagram.now c.requires put
+    c.position_fault.ensures ∙ position_reported c.args.self.now c.args.stipulation c.args.diagram.now c.requires put
     (sym c.has_men.ensures ∙ c.if-not-has_men.false) c.if-not-is_well_formed.ensures c.has_king_to_mate-has_king.result c.is_in_check-in_check.result king check

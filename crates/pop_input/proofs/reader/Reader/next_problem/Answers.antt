@@ -1,4 +1,4 @@
-use Rattle.pop_input.proofs.Words.{None, Nothing, Standing, ap, asks_none, asks_then, command_of, inl, inr, last_of, next_behind, refl, rules, sym, ◌∙◌, ◌≡◌}
+use Rattle.pop_input.proofs.Words.{None, Nothing, ReaderState, ap, calls_none, calls_then, command_of, inl, inr, last_of, next_after, refl, rules, sym, ◌∙◌, ◌≡◌}
 use Rattle.pop_input.proofs.Items.{block_starts, line_read, long_read, open_read, not_closing}
 use Rattle.pop_input.proofs.Skipping.{skip_read}
 use Rattle.pop_input.proofs.Ends.{word_closes, input_ends, cut_read}
@@ -12,7 +12,7 @@ loop-keyword-init g c = rw (← c.self.view_is) (record {
   block = block_starts c.match-self.first c.self.inside.scanner (g.S.Source.remaining c.args.source.now) c.new-block.result c.new-block.ensures;
   used = some_none c.self.inside.scanner (g.S.Source.remaining c.args.source.now);
   starts = elim c.match-self.branch [ in-First w ↦ rw w.first-is w.in-First.is | in-Later w ↦ rw w.first-is w.in-Later.is ];
-  asks = asks_none c.self.inside.scanner.end (g.S.Source.remaining c.args.source.now) (g.S.Source.failures c.args.source.now);
+  calls_source = calls_none c.self.inside.scanner.end (g.S.Source.remaining c.args.source.now) (g.S.Source.failures c.args.source.now);
 })
 
 pub loop-keyword-preserved-in-Line : goal.loop-keyword-preserved-in-Line
@@ -23,7 +23,7 @@ loop-keyword-preserved-in-Line g c =
       block = line_read _ _ _ _ _ _ _ _ _ i.block t.0 t.1 t.2 c.in-Line.keyword c.next_token.new.text t.3 t.4 t.5 c.note.ensures;
       used = some_then i.used c.in-Line.ensures.used;
       starts = i.starts;
-      asks = asks_then i.asks c.next_token.ensures.asks;
+      calls_source = calls_then i.calls_source c.next_token.ensures.calls_source;
     }
 
 pub loop-keyword-preserved-in-TooLong : goal.loop-keyword-preserved-in-TooLong
@@ -34,7 +34,7 @@ loop-keyword-preserved-in-TooLong g c =
       block = long_read _ _ _ _ _ _ _ _ _ i.block c.in-TooLong.line t.0 t.1 t.2 c.read_long.ensures.fault;
       used = some_then i.used c.in-TooLong.ensures.used;
       starts = i.starts;
-      asks = asks_then i.asks c.next_token.ensures.asks;
+      calls_source = calls_then i.calls_source c.next_token.ensures.calls_source;
     }
 
 pub loop-keyword-preserved : goal.loop-keyword-preserved
@@ -49,51 +49,51 @@ loop-keyword-preserved g c =
           c.skip_on.ensures.skips c.skip_on.ensures.sound;
       used = some_skipped (some_then i.used (some_run (rw c.in-Word.is at c.next_token.ensures.used).0)) c.skip_on.ensures.skips;
       starts = i.starts;
-      asks = rw c.skip_on.ensures.skips.end (asks_then i.asks c.next_token.ensures.asks);
+      calls_source = rw c.skip_on.ensures.skips.end (calls_then i.calls_source c.next_token.ensures.calls_source);
     }
 
 pub returns-in-Some-clause-item : goal.returns-in-Some-clause-item
 returns-in-Some-clause-item g c =
     let i = c.loop-keyword.invariant in
-    let new : Standing = record { next = c.next_behind-self-inside.result; at = c.next_token.new.scanner } in
+    let new : ReaderState = record { next = c.next_after-self-inside.result; at = c.next_token.new.scanner } in
     rw c.item_at_close.ensures (word_closes _ _ new _ _ i.starts _ _ _ _ i.block _ _ c.in-Word.ensures.token.0 c.read_word.ensures.read c.in-Some.last _
-    refl (sym c.read_word.ensures.closes ∙ c.in-Some.is) c.next_behind-self-inside.ensures)
+    refl (sym c.read_word.ensures.closes ∙ c.in-Some.is) c.next_after-self-inside.ensures)
 
 pub returns-in-Some-clause-used : goal.returns-in-Some-clause-used
 returns-in-Some-clause-used g c =
     let i = c.loop-keyword.invariant in
-    let behind : Standing = record { next = c.next_behind-self-inside.result; at = c.next_token.new.scanner } in
-    rw c.item_at_close.ensures (closed_item _ _ behind _ _ (g.S.Source.remaining c.next_token.new.source) _ _
-    (word_used _ _ behind _ _ _ _ _ i.block i.used _ _ c.in-Some.last c.in-Word.ensures.token.0 c.in-Word.ensures.used
-    (sym c.read_word.ensures.closes ∙ c.in-Some.is) c.next_behind-self-inside.ensures) (search rules) (search rules))
+    let following : ReaderState = record { next = c.next_after-self-inside.result; at = c.next_token.new.scanner } in
+    rw c.item_at_close.ensures (closed_item _ _ following _ _ (g.S.Source.remaining c.next_token.new.source) _ _
+    (word_used _ _ following _ _ _ _ _ i.block i.used _ _ c.in-Some.last c.in-Word.ensures.token.0 c.in-Word.ensures.used
+    (sym c.read_word.ensures.closes ∙ c.in-Some.is) c.next_after-self-inside.ensures) (search rules) (search rules))
 
 pub returns-in-Ended-clause-used : goal.returns-in-Ended-clause-used
 returns-in-Ended-clause-used g c =
     let i = c.loop-keyword.invariant in
-    let new : Standing = record { next = Nothing; at = c.next_token.new.scanner } in
+    let new : ReaderState = record { next = Nothing; at = c.next_token.new.scanner } in
     let u = c.in-Ended.ensures.used in
     rw c.item_at_end.ensures (inr (end_used _ _ new _ _ _ _ _ i.block i.used c.in-Ended.ensures.token.0 u.0 (inl u.1)))
 
 pub returns-in-Cut-clause-used : goal.returns-in-Cut-clause-used
 returns-in-Cut-clause-used g c =
     let i = c.loop-keyword.invariant in
-    let new : Standing = record { next = c.next_behind-self-inside-in-Cut.result; at = c.next_token.new.scanner } in
+    let new : ReaderState = record { next = c.next_after-self-inside-in-Cut.result; at = c.next_token.new.scanner } in
     let u = c.in-Cut.ensures.used in
     inr (end_used _ _ new _ _ _ _ _ i.block i.used (cut_takes c.in-Cut.cut c.in-Cut.ensures.token) u.0 (inr (c.in-Cut.cut, u.1)))
 
 pub returns-in-Ended-clause-item : goal.returns-in-Ended-clause-item
 returns-in-Ended-clause-item g c =
     let i = c.loop-keyword.invariant in
-    let new : Standing = record { next = Nothing; at = c.next_token.new.scanner } in
+    let new : ReaderState = record { next = Nothing; at = c.next_token.new.scanner } in
     rw c.item_at_end.ensures (input_ends _ _ new _ _ i.starts _ _ _ i.block c.in-Ended.line c.in-Ended.ensures.token refl)
 
 pub returns-in-Cut-clause-item : goal.returns-in-Cut-clause-item
 returns-in-Cut-clause-item g c =
     let i = c.loop-keyword.invariant in
-    let told = c.told_of_cut-last.ensures in
-    let new : Standing = record { next = c.next_behind-self-inside-in-Cut.result; at = c.next_token.new.scanner } in
-    rw told (cut_read _ _ new _ _ i.starts _ _ _ i.block c.loop-keyword.block.fault c.in-Cut.cut refl c.in-Cut.ensures.token
-    (c.next_behind-self-inside-in-Cut.ensures ∙ ap (λ t. next_behind t.1) told))
+    let reported = c.item_of_cut-last.ensures in
+    let new : ReaderState = record { next = c.next_after-self-inside-in-Cut.result; at = c.next_token.new.scanner } in
+    rw reported (cut_read _ _ new _ _ i.starts _ _ _ i.block c.loop-keyword.block.fault c.in-Cut.cut refl c.in-Cut.ensures.token
+    (c.next_after-self-inside-in-Cut.ensures ∙ ap (λ t. next_after t.1) reported))
 
 pub returns-in-Some-clause-failed : goal.returns-in-Some-clause-failed
 returns-in-Some-clause-failed g c =
@@ -106,5 +106,5 @@ returns-in-Ended-clause-failed g c =
     (ended_textual c.next_token.new.scanner c.loop-keyword.block c.in-Ended.line (block_fault_textual _ _ _ _ _ _ c.loop-keyword.invariant.block))
 
 pub returns-in-Cut-clause-failed : goal.returns-in-Cut-clause-failed
-returns-in-Cut-clause-failed g c = rw c.told_of_cut-last.ensures
+returns-in-Cut-clause-failed g c = rw c.item_of_cut-last.ensures
     (cut_failed _ _ _ _ c.loop-keyword.block.fault c.in-Cut.cut c.in-Cut.ensures.token (block_fault_textual _ _ _ _ _ _ c.loop-keyword.invariant.block))

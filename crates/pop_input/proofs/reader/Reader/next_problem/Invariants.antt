@@ -1,4 +1,4 @@
-use Rattle.pop_input.proofs.Words.{Asks, UsesSome, limit, ◌-◌, ◌≡◌}
+use Rattle.pop_input.proofs.Words.{CallsSource, UsesSome, limit, ◌-◌, ◌≡◌}
 use Rattle.pop_input.proofs.Items.{BlockSoFar}
 use Rattle.pop_input.proofs.Ends.{block_of}
 use Rattle.pop_input.proofs.reader.Reader.next_problem.Given as goal
@@ -9,7 +9,7 @@ invariant-loop-keyword g l = record {
   block : BlockSoFar l.first l.fn.self.at l.self-inside.scanner (g.S.Source.remaining l.fn.source) (g.S.Source.remaining l.source) l.block;
   used : UsesSome l.fn.self.at l.self-inside.scanner (g.S.Source.remaining l.fn.source) (g.S.Source.remaining l.source);
   starts : l.fn.self.next ≡ block_of l.first;
-  asks : Asks l.fn.self.at.end l.self-inside.scanner.end (g.S.Source.remaining l.fn.source) (g.S.Source.remaining l.source)
+  calls_source : CallsSource l.fn.self.at.end l.self-inside.scanner.end (g.S.Source.remaining l.fn.source) (g.S.Source.remaining l.source)
       (g.S.Source.failures l.fn.source) (g.S.Source.failures l.source);
 }
 

@@ -1,11 +1,11 @@
 use Rattle.pop_text.proofs.Basics.{Uses, ap, arith, inl, inr, not, subst, sym, without_trailing, ◌∙◌}
 use Rattle.pop_text.proofs.Lines.{kept_all, kept_of_line}
 use Rattle.pop_text.proofs.Left.{line_of, line_cut}
-use Rattle.pop_text.proofs.Using.{asks_none, asks_then, more_so_far, none_so_far, line_ends, seen_so_far, still_stuck}
+use Rattle.pop_text.proofs.Using.{calls_none, calls_then, more_so_far, none_so_far, line_ends, seen_so_far, still_stuck}
 use Rattle.pop_text.proofs.scanner.Scanner.rest_of_line.Goals as goal
 
 pub loop-byte-init : goal.loop-byte-init
-loop-byte-init g c = grind (arith, none_so_far, kept_of_line, asks_none)
+loop-byte-init g c = grind (arith, none_so_far, kept_of_line, calls_none)
 
 pub loop-byte-preserved : goal.loop-byte-preserved
 loop-byte-preserved g c =
@@ -15,12 +15,12 @@ loop-byte-preserved g c =
     let bytes = c.line_part-part.result.now in
     let new = c.advance-in-Ok-Some-2.new.self in
     record {
-      line = rw c.keep_all.ensures (more_so_far bytes _ i.line c.peek.ensures.uses part.all
+      line = rw c.extend_kept.ensures (more_so_far bytes _ i.line c.peek.ensures.uses part.all
           (subst (λ b. Uses c.peek.new.self new now now b) part.front (c.advance-in-Ok-Some-2.ensures.uses now))
           (rw i.line.is (kept_all i.line.used.bytes bytes)));
       stuck = λ fault at. let bad = (c.peek.ensures.stuck fault (still_stuck c.args.self.now c.loop-byte.self fault (i.stuck fault at) at)).0 in
           let read = c.in-Ok-Some-2.is in cc;
-      asks = rw c.advance-in-Ok-Some-2.ensures.end (asks_then i.asks c.peek.ensures.asks);
+      calls_source = rw c.advance-in-Ok-Some-2.ensures.end (calls_then i.calls_source c.peek.ensures.calls_source);
     }
 
 pub loop-byte-smaller : goal.loop-byte-smaller

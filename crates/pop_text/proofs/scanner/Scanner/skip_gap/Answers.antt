@@ -1,5 +1,5 @@
 use Rattle.pop_text.proofs.Basics.{arith, sym, ◌∙◌}
-use Rattle.pop_text.proofs.Using.{all_then, all_seen, asks_then, still_stuck}
+use Rattle.pop_text.proofs.Using.{all_then, all_seen, calls_then, still_stuck}
 use Rattle.pop_text.proofs.scanner.Scanner.skip_gap.Goals as goal
 
 pub loop-byte-preserved : goal.loop-byte-preserved
@@ -9,7 +9,7 @@ loop-byte-preserved g c =
       uses = all_then (all_seen i.uses c.peek.ensures.uses) (c.skip_part.ensures.uses (g.S.Source.remaining c.peek.new.source));
       stuck = λ fault at. let bad = (c.peek.ensures.stuck fault (still_stuck c.args.self.now c.loop-byte.self fault (i.stuck fault at) at)).0 in
           let read = c.in-Ok-Some.is in cc;
-      asks = rw c.skip_part.ensures.end (asks_then i.asks c.peek.ensures.asks);
+      calls_source = rw c.skip_part.ensures.end (calls_then i.calls_source c.peek.ensures.calls_source);
     }
 
 pub loop-byte-smaller : goal.loop-byte-smaller

@@ -1,12 +1,12 @@
 use Rattle.pop_text.proofs.Basics.{Uses, ap, arith, inl, inr, is_in_word, not, subst, sym, true, ◌++◌, ◌∙◌, ◌≡◌}
 use Rattle.std.proofs.lemmas.Result.{err_from_is_err_and}
-use Rattle.pop_text.proofs.Using.{asks_none, asks_then, kept_of_run, more_so_far, none_so_far, run_more, run_over, seen_so_far}
+use Rattle.pop_text.proofs.Using.{calls_none, calls_then, kept_of_run, more_so_far, none_so_far, run_more, run_over, seen_so_far}
 use Rattle.pop_text.proofs.scanner.Scanner.take_run.Goals as goal
 
 pub loop-byte-init : goal.loop-byte-init
 loop-byte-init g c = record {
   run = rw c.requires.empty (none_so_far is_in_word kept_of_run c.args.self.now (g.S.Source.remaining c.args.source.now));
-  asks = asks_none c.args.self.now.end (g.S.Source.remaining c.args.source.now) (g.S.Source.failures c.args.source.now);
+  calls_source = calls_none c.args.self.now.end (g.S.Source.remaining c.args.source.now) (g.S.Source.failures c.args.source.now);
 }
 
 pub loop-byte-preserved : goal.loop-byte-preserved
@@ -22,8 +22,8 @@ loop-byte-preserved g c =
     record {
       run = more_so_far bytes _ i.run c.peek.ensures.uses part.all
           (subst (λ b. Uses c.peek.new.self c.advance.new.self now now b) part.front (c.advance.ensures.uses now))
-          (rw (c.keep_run-fits.ensures.kept, c.keep_run-fits.ensures.fits) kept);
-      asks = rw c.advance.ensures.end (asks_then i.asks c.peek.ensures.asks);
+          (rw (c.extend_word-fits.ensures.kept, c.extend_word-fits.ensures.fits) kept);
+      calls_source = rw c.advance.ensures.end (calls_then i.calls_source c.peek.ensures.calls_source);
     }
 
 pub loop-byte-smaller : goal.loop-byte-smaller

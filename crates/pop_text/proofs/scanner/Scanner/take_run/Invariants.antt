@@ -1,4 +1,4 @@
-use Rattle.pop_text.proofs.Basics.{Asks, is_in_word, limit, ◌-◌}
+use Rattle.pop_text.proofs.Basics.{CallsSource, is_in_word, limit, ◌-◌}
 use Rattle.pop_text.proofs.Using.{SoFar, kept_of_run}
 use Rattle.pop_text.proofs.scanner.Scanner.take_run.Given as goal
 
@@ -6,7 +6,7 @@ use Rattle.pop_text.proofs.scanner.Scanner.take_run.Given as goal
 abbrev pub invariant-loop-byte : goal.invariant-loop-byte
 invariant-loop-byte g l = record {
   run : SoFar is_in_word kept_of_run l.fn.self l.self (g.S.Source.remaining l.fn.source) (g.S.Source.remaining l.source) (l.word.items, l.fits);
-  asks : Asks l.fn.self.end l.self.end (g.S.Source.remaining l.fn.source) (g.S.Source.remaining l.source) (g.S.Source.failures l.fn.source)
+  calls_source : CallsSource l.fn.self.end l.self.end (g.S.Source.remaining l.fn.source) (g.S.Source.remaining l.source) (g.S.Source.failures l.fn.source)
       (g.S.Source.failures l.source);
 }
 

@@ -1,7 +1,0 @@
-use Rattle.chess_attacks.proofs.attacks.Attacking.{attackers_are}
-use Rattle.chess_attacks.proofs.outward.attackers_seen.Goals as goal
-
-pub returns : goal.returns
-returns c = λ men seen.
-    attackers_are _ _ _ _ _ _ _ (rw c.index-small.ensures.value at c.index-small.ensures.small) (c.leapers_seen.ensures men seen)
-    (c.straight_attackers.ensures men seen) (c.diagonal_attackers.ensures men seen) (c.fairy_attackers.ensures men seen)

@@ -1,0 +1,25 @@
+//! Where a man could go on some board: a superset of its moves that ignores the other men.
+ghost use Rattle.chess_attacks.specs.ties.Lines.{AreReached};
+
+use crate::leaps::{king_leaps, knight_leaps, pawn_leaps};
+use crate::lines::{diagonal_lines, straight_lines};
+use crate::reach::reach_over;
+use chess_core::man::{Kind, Man};
+use chess_core::square::{Square, Squares};
+
+/// Returns the squares that the man on `from` could reach on some board; for a grasshopper all of a queen's
+/// lines.
+#[tactic(auto, using(crate::proofs::rays::OpenBoard::grasshopper_reach, crate::proofs::rays::OpenBoard::leap_reach, crate::proofs::rays::OpenBoard::nightrider_reach, crate::proofs::rays::OpenBoard::queen_reach, crate::proofs::rays::OpenBoard::ride_reach))]
+pub fn unblocked_reach(man: Man, from: Square) -> Squares
+    ensures { AreReached man from result }
+{
+    match man.kind {
+        Kind::Queen | Kind::Grasshopper => straight_lines(from) | diagonal_lines(from),
+        Kind::Rook => straight_lines(from),
+        Kind::Bishop => diagonal_lines(from),
+        Kind::Knight => knight_leaps(from),
+        Kind::Pawn => pawn_leaps(man.colour, from),
+        Kind::King => king_leaps(from),
+        Kind::Nightrider => reach_over(0, man.colour, Kind::Nightrider, from),
+    }
+}

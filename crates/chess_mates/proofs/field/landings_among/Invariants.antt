@@ -1,8 +1,0 @@
-use Rattle.chess_mates.proofs.Chess.{IsUnsprung, bit_at, true, ℕ, ◌<◌, ◌==◌, ◌≡◌}
-use Rattle.chess_mates.proofs.field.landings_among.Given as goal
-
-abbrev pub invariant-loop-to : goal.invariant-loop-to
-invariant-loop-to l = (f : ℕ) → f < 64 → (bit_at l.found f == 1) ≡ true → IsUnsprung l.siege l.king f l.springboards
-
-abbrev pub decreases-loop-to : goal.decreases-loop-to
-decreases-loop-to l = l.rest
