@@ -24,8 +24,8 @@ unfoldable pub use Rattle.pop_solve.specs.Events.{phase_events, solutions}
 pub use Rattle.pop_battle.specs.Game.{path_end}
 unfoldable pub use Rattle.pop_battle.specs.Game.{help_lines, is_lost, is_self_lost, lines_to_goal, self_wins, wins}
 pub use Rattle.pop_events.specs.Shown.{Shown}
-pub use Rattle.pop_solve.specs.Detail.{best_moves, keeps_win, least_moves, node, is_in_set_play, tree, wins_in}
-unfoldable pub use Rattle.pop_solve.specs.Detail.{continuations, nodes_below, set_tree}
+pub use Rattle.pop_solve.specs.Tree.{best_moves, keeps_win, least_moves, node, is_in_set_play, tree, wins_in}
+unfoldable pub use Rattle.pop_solve.specs.Tree.{continuations, nodes_below, set_tree}
 pub use Rattle.pop_battle.specs.declared.aim.Battle.{Battle}
 pub use Rattle.pop_battle.specs.declared.aim.Battle.TheVariants.{Direct, Selfmate}
 pub use Rattle.pop_battle.specs.declared.aim.Play.{Play as PlayOfSides}

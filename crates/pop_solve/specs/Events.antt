@@ -12,7 +12,7 @@ use Rattle.chess_core.specs.Position.{Position}
 use Rattle.chess_core.specs.declared.man.Move.{Move}
 use Rattle.chess_attacks.specs.RuleSet.{RuleSet}
 use Rattle.pop_battle.specs.Game.{Game, help_lines}
-use Rattle.pop_solve.specs.Detail.{tree, set_tree}
+use Rattle.pop_solve.specs.Tree.{tree, set_tree}
 use Rattle.pop_input.specs.Posed.{Posed, rule_of}
 use Rattle.pop_stipulation.specs.Stipulations.{is_help, first_half, half_moves}
 use Rattle.pop_battle.specs.Chess.{chess, is_impossible, set_start}

@@ -1,4 +1,4 @@
-pub mod Detail
+pub mod Tree
 pub mod Events
 pub mod Walks
 pub mod Laws
