@@ -1,5 +1,5 @@
 use Rattle.chess_mates.proofs.Chess.{off_second}
-use Rattle.chess_mates.proofs.quiet_steps.QuietStepsFilter.filter_moves.Goals as goal
+use Rattle.chess_mates.proofs.quiet_steps.QuietStepsFilteredMoves.filter_moves.Goals as goal
 
 pub returns-clause-filtered : goal.returns-clause-filtered
 returns-clause-filtered g c = record {
