@@ -31,12 +31,12 @@ pub grasshopper_lands_after_its_hurdle : (hops (set_up (on Black Pawn a5 ∷ [])
 unfolding hops is_clear along
 grasshopper_lands_after_its_hurdle = (refl, refl)
 
--- a man who arrives on a4 shuts the file: a rook on a8 reached a1 before
+-- a man that arrives on a4 blocks the file: before, a rook on a8 reached a1
 pub arriving_man_shuts : (reaches (set_up (on Black Rook a8 ∷ [])) a8 a1 ≡ true) × (reaches (set_up (on Black Rook a8 ∷ on White Pawn a4 ∷ [])) a8 a1 ≡ false)
 unfolding reaches reaches_as rides is_clear along
 arriving_man_shuts = (refl, refl)
 
--- of a1 and b1 the first from b1 on is b1
+-- the first square from b1 on, of the word of a1 and b1, is b1
 pub earlier_squares_are_passed : find (λ s. bit_at 3 s == 1) (range_with_len 1 63) ≡ Some b1
 earlier_squares_are_passed = refl
 
@@ -55,7 +55,7 @@ pub rider_gets_to_the_next_square : rides (set_up []) a1 a2 (step_by 0 0 1 0) �
 unfolding rides is_clear along
 rider_gets_to_the_next_square = refl
 
--- looked for from a6, a grasshopper that hops over a5 stands on a4, and not on a5
+-- from a6, the grasshopper that hops over a5 is on a4, and not on a5
 pub grasshopper_stands_after_its_hurdle : (hopped_from (set_up (on Black Pawn a5 ∷ [])) a6 a4 (step_by 0 0 0 1) ≡ true)
     × (hopped_from (set_up (on Black Pawn a5 ∷ [])) a6 a5 (step_by 0 0 0 1) ≡ false)
 unfolding hopped_from rides_on along

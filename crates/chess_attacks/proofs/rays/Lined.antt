@@ -6,27 +6,27 @@ use Rattle.chess_attacks.proofs.attacks.Attacking.{some_square_same}
 abbrev pub queen_directions : List Direction
 queen_directions = East ∷ West ∷ North ∷ South ∷ NorthEast ∷ SouthEast ∷ NorthWest ∷ SouthWest ∷ []
 
--- and those of a knight
+-- the nightrider's eight directions
 abbrev pub knight_directions : List Direction
 knight_directions = NorthNorthEast ∷ SouthSouthEast ∷ NorthNorthWest ∷ SouthSouthWest ∷ EastNorthEast ∷ EastSouthEast ∷ WestNorthWest ∷ WestSouthWest ∷ []
 
--- the words of such lines
+-- a line and a bitboard share a square exactly if some square of the bitboard is on the line
 passed : (test : ℕ → Bool) (k w r : ℕ) (d : Step) → w ≡ word test → r ≡ ray k d → not (bit_and r w == 0) ≡ some_square (λ q. test q && is_ahead k d q)
 unfolding ray
 passed test k w r d h i = grind (arith, squares_both, not_zero, some_square_same)
 
--- of a line on which such a man stands, every square is lined with it
+-- every square of a line that carries a man of this kind is lined with it
 pub line_passes : (test : ℕ → Bool) (k w r : ℕ) (d : Step) → w ≡ word test → r ≡ ray k d → (bit_and r w == 0) ≡ false
     → r ≡ word (λ t. is_ahead k d t && some_square (λ q. test q && is_ahead k d q))
 unfolding ray
 line_passes test k w r d h i some = grind (arith, squares_same, passed test k w r d h i)
 
--- of one on which none stands, no square is
+-- if a line carries no man of this kind, no square of the line is lined with it
 pub line_misses : (test : ℕ → Bool) (k w r : ℕ) (d : Step) → w ≡ word test → r ≡ ray k d → (bit_and r w == 0) ≡ true
     → 0 ≡ word (λ t. is_ahead k d t && some_square (λ q. test q && is_ahead k d q))
 line_misses test k w r d h i none = grind (arith, word_empty, and_right, passed test k w r d h i)
 
--- the word of the men of a colour and kind, told by a test
+-- the bitboard of the men of a colour and kind, by a test
 pub man_test : (men : List (Option Man)) (e : Colour) (j : Kind) (w : ℕ) → w ≡ squares_of men e j → w ≡ word (λ q. is_man (man_on men q) e j)
 unfolding squares_of
 man_test men e j w h = h
