@@ -24,7 +24,7 @@ pub square_is_in : has_unmoved (with_unmoved none_unmoved a1) a1 ≡ true
 unfolding has_unmoved mark_unmoved none_unmoved
 square_is_in = refl
 
--- so is h8, the last square
+-- h8, the last square, can be put into the set
 pub h8_is_in : has_unmoved (with_unmoved none_unmoved h8) h8 ≡ true
 unfolding has_unmoved mark_unmoved none_unmoved
 h8_is_in = refl
@@ -54,20 +54,20 @@ pub king_at_home : (is_home (Some white_king) e1 ≡ true) × (is_home (Some whi
 unfolding is_home
 king_at_home = (refl, refl)
 
--- a man who is put on a square stands there, with his colour and kind
+-- a man that is put on a square is there, with its colour and kind
 pub man_stands : man_on (with_man empty a1 white_king) a1 ≡ Some white_king
 man_stands = refl
 
--- lifted, he stands there no more
+-- a man that is taken off is there no more
 pub man_is_gone : man_on (without_man (with_man empty a1 white_king) a1) a1 ≡ None
 man_is_gone = refl
 
--- his square is in the word of his colour, at its own bit
+-- a man's square is in the word of its colour, at its own bit
 pub colour_has_square : side_of (with_man empty a1 white_king) White ≡ 1
 unfolding side_of word word_of squares
 colour_has_square = refl
 
--- and in the word of his kind
+-- the square of a placed man is in the word of its kind
 pub kind_has_square : squares_of (with_man empty b1 white_king) White King ≡ 2
 unfolding squares_of word word_of squares
 kind_has_square = refl
@@ -83,12 +83,12 @@ pub pawn_is_astray : (some_square (is_stray_pawn (with_man empty a1 white_pawn))
 unfolding is_stray_pawn some_square squares
 pawn_is_astray = (refl, refl)
 
--- of two kings the first is found
+-- where a board has two kings of a colour, the lower square is found
 pub first_king_is_found : king_square two_kings White ≡ Some a1
 unfolding king_square squares
 first_king_is_found = refl
 
--- the second of two kings is seen; one king alone has none beside him
+-- the second of two kings is seen; a lone king has none beside it
 pub second_king_is_seen : (some_square (is_second_king two_kings White) ≡ true)
     × (some_square (is_second_king (with_man empty a1 white_king) White) ≡ false)
 unfolding is_second_king is_other_king some_square squares

@@ -18,7 +18,7 @@ is_end s d = list_all (λ n. not (is_some (along s d n))) (range_with_len 1 7)
 abbrev is_half : ℕ → Bool
 is_half h = h == 3 || h == 5 || h == 59 || h == 61
 
--- no square is right behind h on a line from elsewhere, the two beside h on its rank apart
+-- no square is right beyond h on a line from elsewhere, except the two next to h on its rank
 abbrev is_beside_alone : ℕ → Step → Bool
 is_beside_alone h d = not (is_some (along h (back d) 1)) || not (is_some (along h d 1)) || is_square (along h d 1) (h + 1)
     || is_square (along h d 1) (h - 1)
@@ -35,7 +35,7 @@ bare x b lt = agree_below_at (is_bare (step_of x)) (λ b. true) 64 b refl lt
 end_none : (s : ℕ) (d : Step) (n t : ℕ) → is_end s d ≡ true → 1 ≤ n → n ≤ 7 → along s d n ≡ Some t → ⊥
 end_none s d n t h low le at = search (rules, all_at, false≢true)
 
--- so a man in a corner stands between no two squares
+-- a man in a corner stands between no two squares
 corner_beside : (x : Direction) (b s k : ℕ) → is_corner b ≡ true → b < 64 → s < 64 → IsBeside b s k (step_of x)
 corner_beside x b s k h inside small = λ n i at low lt le. false_from_ne_true _ (λ y.
     let here : along s (step_of x) i ≡ Some b = square_is _ b y in
@@ -43,7 +43,7 @@ corner_beside x b s k h inside small = λ n i at low lt le. false_from_ne_true _
     let came : along b (back (step_of x)) i ≡ Some s = square_is _ s (return_square s b (step_of x) i small y) in
     grind (arith, on, came, or_cases, and_parts, bare x b inside, end_none b (step_of x) (n - i) k, end_none b (back (step_of x)) i s))
 
--- who stands halfway is a hurdle before none but the squares beside him
+-- a man halfway is a hurdle only to the squares beside it
 half_no_hurdle : (x : Direction) (h s k : ℕ) → is_half h ≡ true → h < 64 → s < 64 → k ≢ h + 1 → k ≢ h - 1 → IsNoHurdle h s k (step_of x)
 half_no_hurdle x h s k half inside small ne1 ne2 = λ n at low le. false_from_ne_true _ (λ y.
     let here : along s (step_of x) (n - 1) ≡ Some h = square_is _ h y in
@@ -70,7 +70,7 @@ module _ (men after : List (Option Man)) (b s k : ℕ) (free : Frees after men b
   reached t holds none e Nightrider h = rode knight_directions h
   reached t holds none e j h = h
 
--- what stands on a straight line with both of the king's squares stands on one with the rook's
+-- a man on a straight line with both of the king's squares is on one with the rook's
 abbrev is_lined_up : ℕ → ℕ → ℕ → ℕ → Bool
 is_lined_up a c h k = not (is_on_some straight_steps k h && is_on_some straight_steps k a) || (k == c || is_on_some straight_steps k c)
 
@@ -130,7 +130,7 @@ module _ (rule : RuleSet) (p : Position) (x : Man) (m : Move) (well : IsWellForm
   frees_corner : Frees castled stepped (corner m)
   frees_corner = frees stepped castled (corner m) (halfway m) rook.0 rook_shift
 
-  -- what is asked, so that castling gives no check to the king of colour c
+  -- what must hold for castling to give no check to the king of colour c
   module _ (c : Colour) (enemy_of : same_colour x.colour c ≡ false) (covered : may_expose p.men c m.from ≡ false)
       (aside : may_stand_between p.men c m.to ≡ false) (king_off : may_check_from p.men c x m.to ≡ false)
       (rook_off : may_check_from p.men c (enemy c Rook) (halfway m) ≡ false) where
@@ -144,7 +144,7 @@ module _ (rule : RuleSet) (p : Position) (x : Man) (m : Move) (well : IsWellForm
       unfolding may_stand_between may_check_from
       king_steps = search (rules, unreached, king_shift, parts, or_parts, stood, small, at, aside, king_off)
 
-      -- nor does the rook from halfway
+      -- once the king has castled, the rook doesn't reach the other king from halfway
       rook_strikes : is_of_colour (man_on castled (halfway m)) (other c) ≡ true → reaches castled (halfway m) k ≡ true → ⊥
       unfolding reaches reaches_as is_on_some may_check_from
       rook_strikes side hit =
@@ -160,7 +160,8 @@ module _ (rule : RuleSet) (p : Position) (x : Man) (m : Move) (well : IsWellForm
           (grind (arith, lined, goes_on p.men k m.from straight_steps both.0, or_cases, and_from, eqb-true)) (both.0, the_way.2)) before in
           grind (arith, rook_off, at, rode, or_parts)
 
-      -- nor another man, who would have reached him before the rook went
+      -- once the king has castled, no other man reaches the other king: it would have reached it before the
+      -- rook went
       man_strikes : (s : ℕ) (o : Option Man) → man_on castled s ≡ o → s < 64 → s ≢ halfway m → is_of_colour o (other c) ≡ true → reaches castled s k ≡ true → ⊥
       unfolding reaches is_reached
       man_strikes s None there lt ne side hit = cc
@@ -176,7 +177,7 @@ module _ (rule : RuleSet) (p : Position) (x : Man) (m : Move) (well : IsWellForm
       unfolding is_reached
       castled_unreached = grind (arith, some_square_false, false_from_ne_true, and_parts, cases_eq, rook_strikes, man_strikes)
 
-    -- the king of colour c stands where he stood
+    -- the king of colour c keeps its square
     king_stood : (k : ℕ) → is_man (man_on castled k) c King ≡ true → is_man (man_on p.men k) c King ≡ true
     king_stood k h =
         let y = man_there (man_on castled k) c King h in
@@ -184,7 +185,7 @@ module _ (rule : RuleSet) (p : Position) (x : Man) (m : Move) (well : IsWellForm
         let off_to : k ≢ m.to = λ e. grind (arith, rook_shift.others k y.0 y.1 off_half, king_shift.arrived y.0, enemy_of, and_parts) in
         grind (arith, king_shift.others k y.0 (rook_shift.others k y.0 y.1 off_half) off_to)
 
-    -- for castlings told by words: neither king nor rook gives check, nor is one uncovered
+    -- for castlings described by bitboards: neither king nor rook gives check, and none is uncovered
     pub castling_gives_no_check : in_check rule (position_after rule p m).men c ≡ false
     castling_gives_no_check = rw after_is (unchecked rule castled c (λ k small here.
         not_attacked rule castled (other c) k (castled_unreached k (king_is p.men c k well.kings small (king_stood k here)) (king_stood k here) small)))

@@ -81,7 +81,7 @@ module _ (rule : RuleSet) (p : Position) (v : Siege) (squares w : ℕ) (well : I
     legal_is : is_legal rule p m ≡ not (is_attacked rule (arrived p x m) t (other p.turn))
     legal_is = step_is rule p x v.king t step
 
-  -- the steps that are told are the legal ones
+  -- the computed steps are exactly the legal ones
   pub are_exact : AreExact rule p v.king w
   are_exact = record {
     candidates = record {
@@ -107,7 +107,7 @@ module _ (rule : RuleSet) (p : Position) (v : Siege) (squares w : ℕ) (well : I
     };
   }
 
--- for the squares that a sieve tells
+-- for `legal_squares` of filters
 pub told_exactly : (rule : RuleSet) (p : Position) (v : Siege) (s squares : ℕ) (o : Option ℕ) → IsWellFormed p → IsSiegeOf rule p v → IsSiege v → IsWhole v
     → v.king ≡ s → AreCandidates rule p (is_legal rule p) s squares → IfSome o (λ w. AreExactSteps rule v squares w) → IfSome o (λ w. AreExact rule p s w)
 told_exactly rule p v s squares None well of siege whole at are steps = steps

@@ -17,7 +17,7 @@ flight_there rule p h =
     let f = is_flight_at rule p (king_square p.men p.turn) in
     elim (any_range_cases f 0 64) [ inl w ↦ flight_is_legal rule p _ w.0 refl w.2 w.3 | inr off ↦ absurd (false≢true (sym (any_range_false f 0 64 off) ∙ h)) ]
 
--- for moves behind which a flight is left
+-- after these moves a flight remains
 pub no_mate_with_flight : (rule : RuleSet) (p : Position) (m : Move) → has_flight rule (position_after rule p m) ≡ true → false ≡ mates rule p m
 unfolding mates is_mate
 no_mate_with_flight rule p m h = search (rules, flight_there)
@@ -30,11 +30,11 @@ no_king_free c d o h = grind (arith, and_parts, and_right, not-true)
 pub on_second : (a b i : ℕ) → (bit_at (bit_and a b) i == 1) ≡ true → (bit_at b i == 1) ≡ true
 on_second a b i h = search (rules, bit_at-lt, bit_at_and, eq-eqb, eqb-true)
 
--- for a square of a difference of words, of which the second is told by a test
+-- a square of the difference of two bitboards isn't in the second
 pub unseen_bit : (test : ℕ → Bool) (n w t : ℕ) → w ≡ word test → t < 64 → (bit_at (bit_and n (bit_not w64 w)) t == 1) ≡ true → (bit_at w t == 1) ≡ false
 unseen_bit test n w t h small on = search (rules, on_second, squares_not, word_has)
 
--- and for one of the first that the test leaves out
+-- a square of the first word that the test leaves out is in the difference
 pub seen_bit : (test : ℕ → Bool) (n w t : ℕ) → w ≡ word test → t < 64 → (bit_at n t == 1) ≡ true → (bit_at w t == 1) ≡ false
     → (bit_at (bit_and n (bit_not w64 w)) t == 1) ≡ true
 seen_bit test n w t h small on off = search (rules, bit_at_and, eq-eqb, eqb-true, squares_not, word_has)
@@ -43,13 +43,13 @@ seen_bit test n w t h small on off = search (rules, bit_at_and, eq-eqb, eqb-true
 pub some_of_colour : (o : Option Man) (c : Colour) → is_of_colour o c ≡ true → is_some o ≡ true
 some_of_colour o c h = grind arith
 
--- a king reaches the squares of his leaps
+-- a king reaches the squares of its leaps
 pub reached_near : (men : List (Option Man)) (c : Colour) (k w t : ℕ) → w ≡ word (λ t. list_any (leaps k t) queen_steps) → t < 64 → (bit_at w t == 1) ≡ true
     → reaches_as men c King k t ≡ true
 unfolding reaches_as
 reached_near men c k w t h small on = search (rules, word_has)
 
--- the king of the side that waits stays where he stood
+-- the king of the side that waits keeps its square
 pub king_waits : (rule : RuleSet) (p : Position) (x : Man) (m : Move) (c : Colour) → IsWellFormed p → IsMade rule p x m → m.to < 64 → c ≡ other p.turn
     → king_square (arrived p x m) c ≡ king_square p.men c
 king_waits rule p x m c well is small e = king_stands p.men m.from (capture_square p x m) m.to (arriving_man x m.promo) c (record {
@@ -75,7 +75,7 @@ module _ (rule : RuleSet) (p : Position) (m : Move) (x : Man) (k : ℕ) (i : IsS
   no_own_arrives = grind (arith, arriving_colour, is_made, other_differs)
 
   module _ (small : m.to < 64) where
-    -- its king stands where he stood
+    -- the king of the side that waits keeps its square
     pub king_seen : king_square (position_after rule p m).men (other p.turn) ≡ Some k
     king_seen = search (rules, after_seen, king_waits rule p x m (other p.turn) i.well_formed is_made small refl, i.king)
 
@@ -96,7 +96,7 @@ module _ (rule : RuleSet) (p : Position) (m : Move) (x : Man) (k : ℕ) (i : IsS
       ]
     ]
 
-    -- but where he has come
+    -- a free square other than the arrival may be stepped to
     free_elsewhere : (t : ℕ) → t ≢ m.to → is_free t ≡ true → is_arrival_free (other p.turn) (man_on (arrived p x m) t) ≡ true
     free_elsewhere t ne free = grind (arith, cases_Bool, left_now, kept_now, or_parts)
 
@@ -108,7 +108,7 @@ module _ (rule : RuleSet) (p : Position) (m : Move) (x : Man) (k : ℕ) (i : IsS
       | inl king ↦ grind (arith, free_elsewhere t, cases_eq t m.to, i.apart king, and_parts, false≢true)
     ]
 
-    -- for the word of squares open to the king: without Circe
+    -- the squares open to the king, without Circe
     pub open_squares : (w l h : ℕ) → captures_do_more rule ≡ false → w ≡ word (λ t. list_any (leaps k t) queen_steps)
         → l ≡ (sight_lifted p.men m.from (capture_square p x m) m.to k).standing
         → h ≡ bit_or (bit_and (side_of p.men (other p.turn)) l) (squares_of p.men p.turn King)
@@ -123,7 +123,7 @@ module _ (rule : RuleSet) (p : Position) (m : Move) (x : Man) (k : ℕ) (i : IsS
           outside = λ mortal _ t lt off. grind (arith, told t lt, free_there mortal t, after_seen);
         }
 
-    -- in Circe, where he mayn't capture
+    -- in Circe, where the king may not capture
     pub open_squares_in_circe : (w l : ℕ) → captures_do_more rule ≡ true → w ≡ word (λ t. list_any (leaps k t) queen_steps)
         → l ≡ (sight_lifted p.men m.from (capture_square p x m) m.to k).occupied
         → AreSteps rule (position_after rule p m).men x (other p.turn) k (bit_and w (bit_not w64 l))
@@ -144,7 +144,7 @@ pub record IsStepSeen (men : List (Option Man)) (a : ℕ) (o : Option ℕ) (b : 
     pub size : length men ≡ 64
     pub arrived : (l : List (Option Man)) → (sight_lifted men a o b k).occupied ≡ occupied_squares l → r ≡ word (reaches_as l z.colour z.kind b)
 
--- where men stand on the same squares, t apart, whoever reaches t on one board reaches it on the other
+-- if the same squares are occupied, except perhaps t, a man reaches t on both boards or on neither
 pub reaches_alike_of : (men others : List (Option Man)) (o : Option Man) (s t : ℕ) → StandAlike men others t → reaches_of men o s t ≡ reaches_of others o s t
 reaches_alike_of men others o s t a = grind (arith, reaches_alike)
 
@@ -159,13 +159,13 @@ module _ (men : List (Option Man)) (a : ℕ) (o : Option ℕ) (b : ℕ) (z : Man
   arrival_seen : reaches_as now z.colour z.kind b t ≡ (bit_at r t == 1)
   arrival_seen = search (rules, reaches_alike now (without_man (gone_to men a o b z) k), lifted_alike, word_has, occupied_lifted, i)
 
-  -- whom the man that has arrived doesn't reach is reached by the others alone
+  -- what the man that has arrived doesn't reach, only the others reach
   pub reached_alike : (bit_at r t == 1) ≡ false → is_reached now t c ≡ is_reached then t c
   unfolding is_reached reaches
   reached_alike unseen = some_square_same _ _ (λ s lt.
       grind (arith, cases_eq s b, cases_eq s t, same_elsewhere, reaches_alike_of, arrival_alike, stands_arrived, arrival_seen))
 
-  -- whom the man that has arrived reaches
+  -- what the man that has arrived reaches
   pub arrived_strikes : same_colour z.colour c ≡ true → (bit_at r t == 1) ≡ true → is_reached now t c ≡ true
   unfolding is_reached reaches
   arrived_strikes mine on =
@@ -176,7 +176,7 @@ module _ (men : List (Option Man)) (a : ℕ) (o : Option ℕ) (b : ℕ) (z : Man
 other_side : (o : Option Man) (c : Colour) → is_man o (other c) King ≡ true → is_of_colour o c ≡ false
 other_side o c h = grind (arith, same_colour-true, first_of_and)
 
--- once the king has stepped, he stands there
+-- once the king has stepped, it is there
 pub steps_there : (men : List (Option Man)) (x : Man) (c : Colour) (k t : ℕ) → man_on men k ≡ Some x → same_colour x.colour c ≡ true
     → same_kind x.kind King ≡ true → reaches_as men c King k t ≡ true → reaches men k t ≡ true
 unfolding reaches
@@ -218,7 +218,7 @@ module _ (rule : RuleSet) (q : Position) (x : Man) (k t : ℕ) (i : IsKingStep r
   unfolding is_pseudo_legal
   may_step = grind (arith, open_parts, king_is_no_pawn, king_is_able, and_left, cond-false, or_left, steps_there, and_from)
 
-  -- and nobody is reborn by it
+  -- by a step of the king to an open square nobody is reborn
   pub simple_step : IsSimple rule q x (step_to k t)
   simple_step =
       let way = open_parts rule q.men q.turn k t i.near in
@@ -227,7 +227,7 @@ module _ (rule : RuleSet) (q : Position) (x : Man) (k t : ℕ) (i : IsKingStep r
         rebirth = search (rules, no_capture, way.nobody, and_left, king_is_no_pawn);
       }
 
-  -- and it is legal exactly where nobody attacks the square then
+  -- a step of the king to an open square is legal exactly where nobody attacks the square after it
   pub step_is : is_legal rule q (step_to k t) ≡ not (is_attacked rule (arrived q x (step_to k t)) t (other q.turn))
   unfolding is_legal
   step_is =
@@ -241,7 +241,7 @@ pub record IsKingOn (men : List (Option Man)) (c : Colour) (k : ℕ) (x : Man) :
   pub mine : same_colour x.colour c ≡ true
   pub king : same_kind x.kind King ≡ true
 
--- the king who stands on his square
+-- the king on its square
 pub king_on : (men : List (Option Man)) (c : Colour) (k : ℕ) → king_square men c ≡ Some k → (x : Man) × IsKingOn men c k x
 king_on men c k at = grind (arith, king_there men c k, man_there, and_parts)
 
@@ -254,18 +254,18 @@ pub no_king_square : (men : List (Option Man)) (c d : Colour) (k b : ℕ) → ki
 no_king_square men c d k b at free e = grind (arith, false≢true, no_king_free c d (man_on men b) free, king_there men d k)
 
 module _ (rule : RuleSet) (p : Position) (m : Move) (x : Man) (k : ℕ) (i : IsSeenFrom rule p m x k) (small : m.to < 64) where
-  -- the king's step after the move meets what is asked of the squares
+  -- the king's step after the move meets these conditions
   pub is_step : (y : Man) (t : ℕ) → t < 64 → IsKingOn (position_after rule p m).men (other p.turn) k y
       → IsStep p.men m.from (capture_square p x m) m.to k (capture_square (position_after rule p m) y (step_to k t)) t y p.turn
   is_step y t there king =
       let free = (is_made rule p m x k i).arrival in
       grind (arith, taken, capture_of_piece, king_is_no_pawn, square_is, king_is_other, other_side, king_there, and_parts, not-true, no_king_square)
 
-  -- the square on which his step captures
+  -- the square on which the king's step captures
   abbrev pub step_taken : Man → ℕ → Option ℕ
   step_taken y t = capture_square (position_after rule p m) y (step_to k t)
 
-  -- the men after the move and his step
+  -- the men after the move and the king's step
   abbrev pub men_stepped : Man → ℕ → List (Option Man)
   men_stepped y t = stepped p.men m.from (capture_square p x m) m.to (arriving_man x m.promo) k (step_taken y t) t y
 
@@ -273,12 +273,12 @@ module _ (rule : RuleSet) (p : Position) (m : Move) (x : Man) (k : ℕ) (i : IsS
   pub turn_is : (position_after rule p m).turn ≡ other p.turn
   turn_is = turn_after rule p m i.pseudo
 
-  -- to an open square he has a step
+  -- the king has a step to an open square
   pub king_step : (y : Man) (t : ℕ) → t < 64 → IsKingOn (position_after rule p m).men (other p.turn) k y
       → is_open rule (position_after rule p m).men (other p.turn) k t ≡ true → IsKingStep rule (position_after rule p m) y k t
   king_step y t there king way = search (rules, after_well_formed, turn_is, i.pseudo)
 
-  -- the king's step is legal where nobody attacks him then
+  -- the king's step is legal if no enemy attacks its arrival then
   pub step_legal_is : (y : Man) (t : ℕ) → t < 64 → IsKingOn (position_after rule p m).men (other p.turn) k y
       → is_open rule (position_after rule p m).men (other p.turn) k t ≡ true
       → is_legal rule (position_after rule p m) (step_to k t) ≡ not (is_attacked rule (men_stepped y t) t p.turn)
@@ -288,7 +288,7 @@ module _ (rule : RuleSet) (p : Position) (m : Move) (x : Man) (k : ℕ) (i : IsS
   module _ (n r : ℕ)
       (arrives : (l : List (Option Man)) → (sight_lifted p.men m.from (capture_square p x m) m.to k).occupied ≡ occupied_squares l
       → r ≡ word (reaches_as l (arriving_man x m.promo).colour (arriving_man x m.promo).kind m.to)) where
-    -- what is seen of an attack on him holds once he has stepped there
+    -- what is seen of an attack on the arrival holds once the king has stepped there
     pub step_seen : (y : Man) (t : ℕ) → t < 64 → IsKingOn (position_after rule p m).men (other p.turn) k y
         → IsStepSeen p.men m.from (capture_square p x m) m.to (arriving_man x m.promo) k (step_taken y t) t y p.turn r
     step_seen y t there king = search (rules, is_step y t there king)

@@ -24,7 +24,7 @@ on_either a b i h off = grind (arith, eqb-true, bit_at_or, unset, bit_at-lt, eq-
 pub on_one : (a b i : ℕ) → (bit_at (bit_or a b) i == 1) ≡ true → ((bit_at a i == 1) ≡ true) ⊎ ((bit_at b i == 1) ≡ true)
 on_one a b i h = search (rules, cases_Bool, on_either)
 
--- for reach told over a word of hurdles
+-- for squares reached over a bitboard of hurdles
 pub reached_is : (d : ℕ) (x : Man) (s r : ℕ) → d < 2 ^ 64 → ((men : List (Option Man)) → d ≡ occupied_squares men → r ≡ word (reaches_as men x.colour x.kind s))
     → IsReached d x s r
 unfolding reached_over
@@ -46,7 +46,7 @@ rest_on w rest k left h next = record { within = λ s small on. grind (arith, ca
 pub rest_here : (w rest k left : ℕ) → IsRest w rest → IsTaken rest k left → (bit_at w k == 1) ≡ true
 rest_here w rest k left h next = h.within k next.small next.here
 
--- those that the attackers reach, kind by kind
+-- the squares that the attackers reach, kind by kind
 module _ (d : ℕ) (a : Attackers) (region : ℕ) where
   abbrev ReachAs : Kind → ℕ → Type 0
   ReachAs k w = (s : ℕ) → s < 64 → (bit_at (squares_for a k) s == 1) ≡ true → IsNear (record { colour = a.colour; kind = k }) s region
@@ -87,11 +87,11 @@ module _ (d : ℕ) (a : Attackers) (region : ℕ) where
   all_reach r l rides leaps = search (rules, of_either)
 
 module _ (d : ℕ) (a : Attackers) where
-  -- the converse: who is reached is attacked
+  -- the converse: a man that is reached is attacked
   pub attacked_by : (k : Kind) (t : ℕ) → IsReachedFrom d (record { colour = a.colour; kind = k }) (squares_for a k) t → IsAttackedOver d a t
   attacked_by k t r = search rules
 
--- on a board where each hurdle that a man reaches over the hurdles still stands, he reaches no more than over them
+-- where all hurdles that a man reaches over the hurdles still stand, it reaches no more than over them
 module _ (d : ℕ) (men : List (Option Man)) where
   -- the hurdles that a step from s leads to still stand
   abbrev Stand : ℕ → Step → Type 0
@@ -122,7 +122,7 @@ module _ (d : ℕ) (men : List (Option Man)) where
   some_over s t [] stand h = h
   some_over s t (st ∷ ds) stand h = search (rules, or_cases, or_left, or_right, rides_over, some_over s t ds)
 
-  -- a man who is no hopper
+  -- a man that is no hopper
   pub later : (c : Colour) (k : Kind) (s t : ℕ) → is_hopper (gait_of k) ≡ false
       → (is_rider k ≡ true → (b : ℕ) → b < 64 → (bit_at d b == 1) ≡ true → reaches_as (men_on d) c k s b ≡ true → is_some (man_on men b) ≡ true)
       → reaches_as men c k s t ≡ true → reaches_as (men_on d) c k s t ≡ true
@@ -134,7 +134,7 @@ module _ (d : ℕ) (men : List (Option Man)) where
   later c Grasshopper s t plain stand h = absurd (false≢true (sym plain))
   later c _ s t plain stand h = h
 
-  -- the same where two hurdles may be gone, on none of his lines
+  -- a man that is no hopper, where two hurdles on none of its lines may be gone
   pub later_but : (a o : ℕ) (c : Colour) (k : Kind) (s t : ℕ) → is_hopper (gait_of k) ≡ false
       → ((e : ℕ) → e < 64 → (bit_at d e == 1) ≡ true → e ≢ a → e ≢ o → is_some (man_on men e) ≡ true)
       → (is_rider k ≡ true → (bit_at d a == 1) ≡ true → reaches_as (men_on d) c k s a ≡ true → ⊥)

@@ -12,7 +12,7 @@ pub mates_behind-end : (rule : RuleSet) (p : Position) (n : ℕ) → all_triples
 unfolding mates_behind
 mates_behind-end rule p n ge = search (rules, moves_behind-end)
 
--- over a stretch without mates
+-- over a range without mates
 pub mates_behind-none : (rule : RuleSet) (p : Position) (a b : ℕ) → (b < all_triples → a ≤ b) → b ≤ all_triples → HaveNone (mates rule p) a b
     → mates_behind rule p a ≡ mates_behind rule p b
 unfolding mates_behind mates

@@ -51,7 +51,7 @@ pub unpromoted_leaves : (w e c s : ℕ) (x z : Man) (t : ℕ) → t < 64 → (bi
     → (bit_and s 18374686479671623935 == 0) ≡ true → MayBecome false x t z → LeavesOne w e c z t
 unpromoted_leaves w e c s x z t small on leaves none may = rw (unchanged false x z t (no_last_rank x s t none small on) may) leaves
 
--- and on them
+-- for `critical_of_pawn`: on the last ranks too
 pub pawn_leaves : (w e c q n s : ℕ) (x z : Man) (t : ℕ) → t < 64 → (bit_at s t == 1) ≡ true → LeavesOne w e c x t
     → ((bit_at (bit_and s 18374686479671623935) t == 1) ≡ true → LeavesOne w e q (record { colour = x.colour; kind = Queen }) t)
     → ((bit_at (bit_and s 18374686479671623935) t == 1) ≡ true → LeavesOne w e n (record { colour = x.colour; kind = Knight }) t)
@@ -74,7 +74,7 @@ pawn_leaves w e c q n s x z t small on leaves queens knights may = elim (cases_B
   by last Knight may = leaves_right w e (bit_or c q) n _ t (knights last)
   by last _ may = absurd (false≢true may)
 
--- for `critical_of_going`: whoever else stands on the board
+-- for `critical_of_going`: on any board
 pub leaves_untaken : (d k w e c : ℕ) (x : Man) (t : ℕ) → LeavesOne w e c x t → LeavesUntaken d k w e c x t
 leaves_untaken d k w e c x t h = record {
   left = λ b small off there.
@@ -82,6 +82,6 @@ leaves_untaken d k w e c x t h = record {
       (f.0, search (rules, f.1, f.1.unreached, f.2));
 }
 
--- for `may_become_fairy`: who isn't promoted becomes stays fairy man
+-- for `may_become_fairy`: a man that isn't promoted stays a fairy man
 pub no_fairy : (b : Bool) (x z : Man) (t : ℕ) → is_promoting x t ≡ false → MayBecome b x t z → MayBecome false x t z
 no_fairy b x z t stays may = record { mine = may.mine; same = may.same; promoted = λ goes. absurd (false≢true (sym stays ∙ goes)) }

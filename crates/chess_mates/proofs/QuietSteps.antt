@@ -11,7 +11,7 @@ unfolding is_open is_arrival
 open_steps rule p k n w circe near at x here king =
     grind (arith, reached_near p.men p.turn k n, word_has (is_arrival rule p k) w, on_first n w, on_second n w, near, at, here, and_parts, and_from)
 
--- for steps told by a word of what enemies reach: a step to where none reaches the king is legal
+-- a step to a square where no enemy reaches the king is legal
 pub step_legal : (rule : RuleSet) (p : Position) (x : Man) (k t w : ℕ) → IsWellFormed p → king_square p.men p.turn ≡ Some k → man_on p.men k ≡ Some x
     → ((y : Man) → man_on p.men k ≡ Some y → same_kind y.kind King ≡ true → AreOpen rule p.men p.turn k w)
     → (t < 64) × ((bit_at w t == 1) ≡ true) → IsUnreached p x k t → is_legal rule p (step_to k t) ≡ true

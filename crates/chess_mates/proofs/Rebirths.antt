@@ -6,7 +6,7 @@ use Rattle.chess_mates.proofs.Checking.{no_check, unchecked}
 abbrev LacksGrasshopper : List (Option Man) → Colour → Type 0
 LacksGrasshopper men e = (s : ℕ) → is_man (man_on men s) e Grasshopper ≡ false
 
--- once y stands on r too, lines are shut and none is opened
+-- y is put on r too: lines are blocked and none is opened
 module _ (men : List (Option Man)) (r : ℕ) (y : Man) where
   was_vacant : (o : Option ℕ) → is_vacant_at (with_man men r y) o ≡ true → is_vacant_at men o ≡ true
   was_vacant o h = grind (arith, man_on-with_cases, false≢true)
@@ -20,7 +20,7 @@ module _ (men : List (Option Man)) (r : ℕ) (y : Man) where
   unfolding reaches_as
   reached e v1 s t g h = search (rules, any_kept (rides (with_man men r y) s t) (rides men s t), rode, false≢true)
 
-  -- so y gives the king of his colour no check
+  -- the reborn man y gives the king of its own colour no check
   module _ (c : Colour) (own : same_colour y.colour (other c) ≡ false) (mortal : same_kind y.kind King ≡ false) (lacks : LacksGrasshopper men (other c))
       (one : AtMostOneKing men) where
     struck : (k s : ℕ) → is_attacker circe (with_man men r y) k (other c) s ≡ true → is_attacker orthodox men k (other c) s ≡ true
@@ -64,7 +64,7 @@ absent_lacks : (men : _) (e : Colour) → length men ≡ 64 → is_absent men (r
 absent_lacks men e size absent = λ s. false_from_ne_true _ (λ h.
     search (rules, man_there (man_on men s) e Grasshopper h, false≢true, not-true _ absent, some_square_true, on_board))
 
--- the position after a move, by the man who makes it
+-- the position after a move, by the man that makes it
 pub after_is : (rule : RuleSet) (p : Position) (x : Man) (m : Move) → man_on p.men m.from ≡ Some x
     → (position_after rule p m).men ≡ put_at (moved_men p x m) (reborn_square rule p x m) (man_on_at p.men (capture_square p x m))
 unfolding position_after position_after_by

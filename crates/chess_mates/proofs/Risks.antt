@@ -11,7 +11,7 @@ use Rattle.chess_rules.specs.ties.Targets.{AreReached}
 pub none_at : (w s : ℕ) → w ≡ 0 → (bit_at w s == 1) ≡ true → ⊥
 none_at w s empty on = false≢true (sym (off_zero s) ∙ ap (λ (n : ℕ). bit_at n s == 1) (sym empty) ∙ on)
 
--- the same by a test
+-- a word that a test finds empty has no square
 pub none_on : (w s : ℕ) → (w == 0) ≡ true → (bit_at w s == 1) ≡ true → ⊥
 none_on w s empty on = none_at w s (eqb-true w 0 empty) on
 
@@ -27,11 +27,11 @@ denied_on a b i fits small on off = on_both a (bit_not w64 b) i on (bit_denied b
 pub open_arrivals : (d : ℕ) (x : Man) (s w : ℕ) → ((p : Position) (t : ℕ) → t < 64 → may_go p x s t ≡ true → (bit_at w t == 1) ≡ true) → AreArrivals d x s w
 open_arrivals d x s w ways = record { inside = λ t i. ways i.position t i.small i.goes }
 
--- where he doesn't check
+-- a king gives no check off the springboards
 pub king_targets : (x : Man) (g : Field) (checks t : ℕ) → same_kind x.kind King ≡ true → (bit_at g.springboards t == 1) ≡ false → IsNoCheck g checks x t
 king_targets x g checks t king unsprung = search (rules, king_is_no_pawn, no_pawn_arrives)
 
--- a pawn checks as what he is, or as what he becomes
+-- a pawn gives check as a pawn, or as the man to which it promotes
 pub pawn_targets : (x : Man) (g : Field) (checks t : ℕ) → (bit_at (bit_or (bit_or checks g.promotions) g.springboards) t == 1) ≡ false → IsNoCheck g checks x t
 pawn_targets x g checks t off = search (rules, off_left, off_right)
 
@@ -40,26 +40,27 @@ pub piece_targets : (x : Man) (g : Field) (checks t : ℕ) → same_kind x.kind 
     → IsNoCheck g checks x t
 piece_targets x g checks t piece off = search (rules, no_pawn_arrives, off_left, off_right)
 
--- for `risk_of_going`: one attacker goes, and a square next to the king or his own isn't guarded
+-- for `risk_of_going`: one attacker goes, and a square next to the king or the king's own isn't guarded
 pub unguarded_at : (v : Siege) (g : Field) (s o : ℕ) (gs : Guards) (a : ℕ) → AreGuardsWithout v s (bit_or (bit_or g.near g.captures) o) gs
     → ((bit_at v.hurdles a == 1) ≡ true → (bit_at gs.ridden a == 1) ≡ false) → (f : ℕ)
     → (bit_at (bit_or (bit_or g.near g.captures) o) f == 1) ≡ true → (bit_at gs.guarded f == 1) ≡ false → IsUnguarded v s a f
 unguarded_at v g s o gs a are shut f near unseen = record { region = _; near = near; guards = gs; are = are; shut = shut; off = unseen }
 
--- who never checks and uncovers nothing
+-- a man that never gives check and opens nothing
 idly : (v : Siege) (g : Field) (checks : ℕ) (r : Risk) (x : Man) (s : ℕ) → ((t : ℕ) → IsArrival v.hurdles x s t → IsNoCheck g checks x t)
     → (bit_at g.lines s == 1) ≡ false → IsHarmless v g checks r x s
 idly v g checks r x s calm hidden =
     record { mild = λ a b low inside off. record { each = λ t i there. inl (record { check = calm t i; covered = inl hidden }) } }
 
--- for `risk_from`: for a man who goes to no target and uncovers nothing
+-- for `risk_from`: a man that goes to no target and opens nothing
 pub harmless_quietly : (v : Siege) (g : Field) (checks : ℕ) (x : Man) (s reached targets : ℕ) → AreArrivals v.hurdles x s reached
     → ((t : ℕ) → t < 64 → (bit_at reached t == 1) ≡ true → (bit_at targets t == 1) ≡ false → IsNoCheck g checks x t)
     → targets ≡ 0 → (bit_at g.lines s == 1) ≡ false → IsHarmless v g checks (record { critical = 0; lines = 0 }) x s
 harmless_quietly v g checks x s reached targets are quiet none =
     idly v g checks _ x s (λ t i. quiet t i.small (are.inside t i) (false_by _ (none_at targets t none)))
 
--- for `suspect_squares`: who uncovers nothing, and a pawn who comes to no target, by the squares from which he might
+-- for `suspect_squares`: a man that opens nothing, and a pawn that comes to no target, by the squares from
+-- which it might
 pub pawn_idly : (v : Siege) (g : Field) (checks : ℕ) (x : Man) (s w : ℕ) → same_kind x.kind Pawn ≡ true
     → AreApproaches (record { colour = x.colour; kind = Pawn }) (bit_or checks g.promotions) w → s < 64 → (bit_at (bit_or g.lines w) s == 1) ≡ false
     → g.springboards ≡ 0 → IsHarmless v g checks (record { critical = 0; lines = 0 }) x s
@@ -74,12 +75,12 @@ pawn_idly v g checks x s w pawn before small off none =
 abbrev Both : Risk → Risk → Risk
 Both q r = record { critical = bit_or q.critical r.critical; lines = bit_or q.lines r.lines }
 
--- a man who doesn't reach the region on the empty board
+-- a man that doesn't reach the region on the empty board
 pub not_near : (x : Man) (s o region : ℕ) → AreReached x s o → bit_and o region ≡ 0 → IsNear x s region → ⊥
 not_near x s o region reached none near =
     none_at (bit_and o region) near.square none (on_both o region near.square (reached.inside near.men near.square near.small near.reaches) near.on)
 
--- for men who are harmless and don't check now
+-- for men that are harmless and give no check now
 pub weak_is : (v : Siege) (g : Field) (r : Risk) (x : Man) (checks s : ℕ) → IsCheckWord v.hurdles g.king x checks
     → (is_hopper (gait_of x.kind) ≡ false → (bit_at checks s == 1) ≡ false) → IsHarmless v g checks r x s → IsWeak v g r x s
 weak_is v g r x checks s word off harmless = grind (arith, word, off, harmless)
@@ -89,7 +90,7 @@ pub none_checks : (checks squares s : ℕ) → not (bit_and checks squares == 0)
 none_checks checks squares s none on = false_by _ (λ h.
     none_on (bit_and checks squares) s (true_from_ne_false _ (λ some. false≢true (sym none ∙ ap not some))) (on_both checks squares s h on))
 
--- for check squares told from the king's square
+-- for check squares computed from the king's square
 pub check_word : (d k w : ℕ) (x : Man) → d < 2 ^ 64 → same_kind x.kind Grasshopper ≡ false
     → ((men : List (Option Man)) → d ≡ occupied_squares men → w ≡ word (reaches_as men (other x.colour) x.kind k)) → IsCheckWord d k x w
 check_word d k w x fits kind h = record {
@@ -97,7 +98,7 @@ check_word d k w x fits kind h = record {
   inside = λ plain t small reached. (reached_is d (record { colour = other x.colour; kind = x.kind }) k w fits h).inside t small reached;
 }
 
--- or by the lines of his field
+-- for check squares computed from the lines of the king's square
 pub check_lines : (d k w : ℕ) (x : Man) (j : Kind) → same_kind x.kind j ≡ true → is_hopper (gait_of j) ≡ false
     → ((c : Colour) → IsReached d (record { colour = c; kind = j }) k w) → IsCheckWord d k x w
 check_lines d k w x j kind plain h = record {
@@ -105,7 +106,7 @@ check_lines d k w x j kind plain h = record {
   inside = λ plain t small reached. (h (other x.colour)).inside t small (rw (same_kind-true x.kind j kind) at reached);
 }
 
--- of a grasshopper by those from which he might come
+-- for a grasshopper's check squares: those from which it might come
 pub check_hops : (d k w : ℕ) (x : Man) → same_kind x.kind Grasshopper ≡ true → AreApproached x k w → IsCheckWord d k x w
 check_hops d k w x kind are = search (rules, same_kind-true)
 

@@ -12,7 +12,7 @@ use Rattle.chess_mates.proofs.Springboards.{grasshopper_on, unsprung_right}
 use Rattle.chess_mates.proofs.Risks.{denied_on, none_at, none_on, weak_left}
 use Rattle.chess_mates.proofs.LastingFlights.{on_both}
 
--- for `capture_squares`: where no attacker stands on a closed square, and none is a hopper
+-- for `capture_squares`: no attacker is on a closed square, and none is a hopper
 pub captures_are : (v : Siege) (k n : ℕ) → n ≡ word (λ t. list_any (leaps k t) queen_steps) → bit_and v.closed v.enemies ≡ 0 → v.men.grasshoppers ≡ 0
     → AreCaptureSquares v k n
 captures_are v k n near none plain = record {
@@ -106,7 +106,7 @@ harmless_castling v g l lines h = elim (or_cases _ _ h) [
       }
 ]
 
--- for the risk told of all attackers
+-- for the risk of all attackers
 pub risk_is : (v : Siege) (k : ℕ) (g : Field) (r : Risk) (o : ℕ) → g.king ≡ k → IsField v g → IsCastlingHarmless v g → AreWeak v g r
     → AreFree v k g.springboards → o ≡ word (λ s. is_square (Some k) s) → o < 2 ^ 64
     → IsRiskAt v k (record { critical = bit_or r.critical (bit_and g.hops (bit_not w64 o)); lines = bit_or r.lines g.lines })
@@ -147,23 +147,23 @@ threats_are v critical lines w siege whole risk ridden = record {
   };
 }
 
--- the men of the siege
+-- the men around the king
 pub hurdles_are : (own enemies k o w : ℕ) → o ≡ word (λ t. is_square (Some k) t) → o < 2 ^ 64
     → AreHurdles own enemies k (bit_and (bit_and (bit_or own enemies) (bit_not w64 o)) (bit_not w64 w))
 hurdles_are own enemies k o w only fits = search (rules, off_denied, on_first, on_one, word_has)
 
--- all of them but who is lifted
+-- all men around the king but a lifted one
 pub hurdles_whole : (own enemies k o w : ℕ) (lifted : Option ℕ) → o ≡ word (λ t. is_square (Some k) t) → o < 2 ^ 64 → w ≡ word (λ t. is_square lifted t)
     → w < 2 ^ 64 → (e : ℕ) → e < 64 → lifted ≢ Some e → IsHurdle own enemies k (bit_and (bit_and (bit_or own enemies) (bit_not w64 o)) (bit_not w64 w)) e
 hurdles_whole own enemies k o w lifted only fits at low e small off there ne =
     grind (arith, denied_on, false_by, ne_eqb, on_left, on_right, square_is, word_has)
 
--- for a man who is lifted: his square isn't a hurdle
+-- for a man that is lifted: its square isn't a hurdle
 pub lifted_off : (a w s : ℕ) (o : Option ℕ) → w ≡ word (λ t. is_square o t) → w < 2 ^ 64 → s < 64 → o ≡ Some s
     → (bit_at (bit_and a (bit_not w64 w)) s == 1) ≡ false
 lifted_off a w s o only fits small e = search (rules, false_by, off_denied, word_has)
 
--- who stands on a square is of his colour and kind
+-- the man on a square is of its colour and kind
 there : (men : List (Option Man)) (s : ℕ) (x : Man) (c : Colour) → man_on men s ≡ Some x → x.colour ≡ c → is_man (man_on men s) c x.kind ≡ true
 there men s x c here mine = grind (arith, eq-eqb)
 
@@ -193,12 +193,12 @@ king_castles : (p : Position) (c : Colour) (w k : ℕ) → IsWellFormed p → ki
     → (has_unmoved p.unmoved k ≡ false) ⊎ (IsShut p c w (k + 3) (k + 1) × IsShut p c w (k - 4) (k - 1)) → AreCastlingSquares p c w
 king_castles p c w k well king sides = record { sides = λ s small is. rw (well.kings.same c s k is (king_there p.men c k king).1) sides }
 
--- with one who has moved
+-- any word has the castling squares of a king that has moved
 pub moved_king_castles : (p : Position) (c : Colour) (w k : ℕ) → king_square p.men c ≡ Some k → has_unmoved p.unmoved k ≡ false → IsWellFormed p
     → AreCastlingSquares p c w
 moved_king_castles p c w k king moved well = king_castles p c w k well king (inl moved)
 
--- with one whose squares aside aren't on the board
+-- the word of all squares has the castling squares of any king
 pub king_castles_anywhere : (p : Position) (c : Colour) (k : ℕ) → king_square p.men c ≡ Some k → IsWellFormed p → AreCastlingSquares p c (bit_not w64 0)
 king_castles_anywhere p c k king well =
     king_castles p c (bit_not w64 0) k well king (inr (inr (inr (λ low. every_square_on (k + 1) low)), inr (inr (λ low. every_square_on (k - 1) low))))
@@ -209,7 +209,7 @@ pub king_castles_to : (p : Position) (c : Colour) (k long short : ℕ) → king_
 king_castles_to p c k long short king far near well =
     king_castles p c (bit_or long short) k well king (inr (search (shut_in, on_left, on_right, far, near)))
 
--- for a siege by the board's men
+-- for `siege_of`
 pub siege_fits : (rule : RuleSet) (p : Position) (v : Siege) → v.men.colour ≡ other p.turn → king_square p.men p.turn ≡ Some v.king
     → v.own ≡ side_of p.men p.turn
     → v.enemies ≡ side_of p.men v.men.colour → AreAttackers p.men v.men → v.men.kings ≡ squares_of p.men v.men.colour King

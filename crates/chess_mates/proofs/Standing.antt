@@ -5,7 +5,7 @@ use Rattle.chess_core.proofs.Castlings.{has_unmoved-parts}
 pub use Rattle.chess_mates.proofs.Fleeing.{some_of_colour as some_side}
 use Rattle.chess_mates.proofs.Fleeing.{IsKingOn, IsKingStep, king_on, step_is, step_to}
 
--- who stands on a square once a move is made: the man that came, or who stood there
+-- a man on a square after a move: the one that arrived, or one that was there
 pub stood : (p : Position) (x : Man) (m : Move) (t : ℕ) (z : Man) → m.to < length p.men → man_on (arrived p x m) t ≡ Some z
     → ((t ≡ m.to) × (z ≡ arriving_man x m.promo)) ⊎ ((t ≢ m.to) × ((t ≢ m.from) × (man_on p.men t ≡ Some z)))
 stood p x m t z size there = elim (cases_eq t m.to) [
@@ -17,11 +17,11 @@ stood p x m t z size there = elim (cases_eq t m.to) [
 pub not_mine : (x : Man) (c : Colour) → x.colour ≡ other c → same_colour x.colour c ≡ false
 not_mine x c e = grind arith
 
--- a man may arrive where neither his side nor a king stands
+-- a man may arrive on a square without a man of its side and without a king
 pub free_man : (c : Colour) (o : Option Man) → is_of_colour o c ≡ false → is_man o (other c) King ≡ false → is_arrival_free c o ≡ true
 free_man c o side king = grind (arith, false≢true)
 
--- but not where his side stands
+-- a man may not arrive where its own side stands
 pub unfree : (c : Colour) (o : Option Man) → is_arrival_free c o ≡ true → is_of_colour o c ≡ true → ⊥
 unfree c o free side = grind (arith, and_parts, not-true, false≢true)
 
@@ -39,12 +39,12 @@ pub captured_there : (p : Position) (x : Man) (m : Move) (s : ℕ) → is_square
 unfolding capture_square
 captured_there p x m s off h = grind (arith, and_right, cond-false, cond-true)
 
--- who stands elsewhere than where the man leaves and arrives stays
+-- a man on another square than origin and arrival stays
 pub stays_there : (p : Position) (x : Man) (m : Move) (b : ℕ) → ((s : ℕ) → capture_square p x m ≡ Some s → s ≡ m.to) → b ≢ m.from → b ≢ m.to
     → man_on (arrived p x m) b ≡ man_on p.men b
 stays_there p x m b here from to = arrived_other p x m b from (λ s cap e. to (e ∙ here s cap)) to
 
--- who stands elsewhere than where the man leaves stays or is captured by him
+-- a man on another square than the origin stays or is captured
 pub some_stays : (p : Position) (x : Man) (m : Move) (b : ℕ) → ((s : ℕ) → capture_square p x m ≡ Some s → s ≡ m.to) → m.to < length p.men → b ≢ m.from
     → is_some (man_on p.men b) ≡ true → is_some (man_on (arrived p x m) b) ≡ true
 some_stays p x m b here size from some = search (rules, cases_eq, there_now, stays_there)
@@ -55,26 +55,26 @@ pub no_rebirth : (rule : RuleSet) (p : Position) (x : Man) (m : Move) → (captu
 unfolding reborn_square
 no_rebirth rule p x m nobody = grind (arith, cases_Bool (captures_do_more rule))
 
--- who has moved stays so
+-- a man that has moved stays moved
 pub moved_stays : (rule : RuleSet) (p : Position) (x : Man) (m : Move) (s : ℕ) → (captures_do_more rule ≡ true → capture_square p x m ≡ None)
     → is_castling x m ≡ false → man_on p.men m.from ≡ Some x → has_unmoved p.unmoved s ≡ false → has_unmoved (position_after rule p m).unmoved s ≡ false
 unfolding position_after position_after_by unmoved_after
 moved_stays rule p x m s nobody plain here moved = search (rules, false_by, false≢true, has_unmoved-parts, no_rebirth)
 
--- once a man is reborn, who stands on a square stood there, or is reborn there
+-- after a rebirth a man on a square was there, or is reborn there
 pub stood_reborn : (men : List (Option Man)) (o : Option ℕ) (w : Option Man) (s : ℕ)
     → (man_on (put_at men o w) s ≡ man_on men s) ⊎ ((o ≡ Some s) × ((y : Man) × ((w ≡ Some y) × (man_on (put_at men o w) s ≡ Some y))))
 stood_reborn men o w s = grind (arith, man_on-with_cases)
 
--- who stands on one square is one man
+-- the man on a square is one man
 pub same_man : (a b : Man) → Some a ≡ Some b → a ≡ b
 same_man a b h = cc
 
--- who is no man of one side is one of the other's
+-- a man that isn't one side's is the other's
 pub mine_again : (a c : Colour) → same_colour a (other c) ≡ false → a ≡ c
 mine_again a c h = grind arith
 
--- who is no grasshopper is no hopper
+-- a man that is no grasshopper is no hopper
 pub no_hopper : (k : Kind) → same_kind k Grasshopper ≡ false → is_hopper (gait_of k) ≡ false
 no_hopper k other = grind (arith, false≢true)
 
@@ -86,7 +86,7 @@ not_mine_enemy x c e = grind (arith, other_differs)
 pub and_left_king : (z : Man) → same_kind z.kind King ≡ true → same_kind z.kind Pawn ≡ false
 and_left_king z king = king_is_no_pawn z.kind king
 
--- a king castles from a square where he is unmoved, and the rook too
+-- a king castles only if king and rook are unmoved
 pub castle_unmoved : (rule : RuleSet) (p : Position) (x : Man) (m : Move) → IsWellFormed p → IsMade rule p x m → is_castling x m ≡ true
     → (has_unmoved p.unmoved m.from ≡ true) × (has_unmoved p.unmoved (corner m) ≡ true)
 unfolding can_castle may_castle
@@ -98,7 +98,7 @@ pub piece_reaches : (rule : RuleSet) (p : Position) (x : Man) (m : Move) → IsM
 unfolding can_castle may_castle reaches
 piece_reaches rule p x m made piece plain = grind (arith, cond-false, made, or_cases, and_parts, false≢true)
 
--- a king reaches what he does whoever stands on the board
+-- what a king reaches doesn't depend on the other men
 pub king_reaches : (men others : List (Option Man)) (c : Colour) (k : Kind) (s t : ℕ) → k ≡ King → reaches_as men c k s t ≡ reaches_as others c k s t
 unfolding reaches_as
 king_reaches men others c k s t e = rw e refl
@@ -117,7 +117,7 @@ pub nobody_strikes : (rule : RuleSet) (men : List (Option Man)) (t : ℕ) (c : C
 unfolding is_attacked is_attacker
 nobody_strikes rule men t c none = grind (arith, reach_none men t c none, some_square_false)
 
--- the king flees to a free square next to him that no enemy reaches once he stands there
+-- the king flees to a free square next to it that no enemy reaches once it is there
 module _ (rule : RuleSet) (p : Position) (c : Colour) (k f : ℕ) (well : IsWellFormed p) (turn : p.turn ≡ c)
     (king : king_square p.men c ≡ Some k) (small : f < 64) (near : list_any (leaps k f) queen_steps ≡ true)
     (free : is_arrival_free c (man_on p.men f) ≡ true) (vacant : captures_do_more rule ≡ true → man_on p.men f ≡ None)

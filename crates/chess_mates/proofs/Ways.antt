@@ -13,7 +13,7 @@ no_step_back : (t : ℕ) → t < 64 → list_any (leaps t t) queen_steps ≡ fal
 unfolding along leaps
 no_step_back t small = agree_below_at (λ n. list_any (leaps n n) queen_steps) (λ _. false) 64 t refl small
 
--- a siege of the same men is one of the same position
+-- two values of `Siege` with equal men around the king belong to one position
 like_fits : (rule : RuleSet) (p : Position) (v w : Siege) → IsLike v w → IsSiegeOf rule p v → IsSiegeOf rule p w
 like_fits rule p v w l fits = search (rules, l.men, l.own, l.enemies, l.king, l.castled, l.closed, fits)
 
@@ -32,7 +32,7 @@ module _ (rule : RuleSet) (p : Position) (x : Man) (v : ToldThreats) (well : IsW
           king = λ f low on. search (rules, false_by, next.kings f low on, fits.kings f low);
         }) v.siege.men fits.men fits.colour fits.promotions kept
 
-    -- beside him, whoever comes elsewhere
+    -- beside the king, wherever the man comes
     man_keeps : same_kind x.kind King ≡ false → captures_do_more rule ≡ false → KeepsFlightBeside v.siege m.to
         → mates_behind rule (position_after rule p m) 0 ≡ []
     man_keeps mortal captures kept =
@@ -41,7 +41,7 @@ module _ (rule : RuleSet) (p : Position) (x : Man) (v : ToldThreats) (well : IsW
         (cond-false (same_kind x.kind King) _ _ mortal ∙ sym threats.fits.king) kept.adjacent
         (λ f low on same. false≢true (sym kept.off ∙ (rw same at on))) kept.keeps
 
-    -- the king's own step begins on his square
+    -- the king's own step begins on its square
     at_king : m.from < 64 → same_kind x.kind King ≡ true → v.siege.king ≡ m.from
     at_king from king =
         let is : is_man (man_on p.men m.from) p.turn King ≡ true = rw (here, (made rule p m x may here).mine) (and_from _ _ (same_colour-refl p.turn) king) in
@@ -65,7 +65,7 @@ module _ (rule : RuleSet) (p : Position) (x : Man) (v : ToldThreats) (well : IsW
           whole = λ e inside left there apart. threats.whole.hurdles e inside there (λ at. left (sym at ∙ same));
         })
 
-    -- after his step
+    -- after the king's step
     king_keeps : same_kind x.kind King ≡ true → KeepsFlight rule v.siege m.to → mates_behind rule (position_after rule p m) 0 ≡ []
     king_keeps king kept =
         keeps m may here small m.to kept.near kept.captures plain.castling (cond-true (same_kind x.kind King) _ _ king) kept.adjacent
@@ -93,7 +93,8 @@ module _ (rule : RuleSet) (p : Position) (x : Man) (v : ToldThreats) (well : IsW
   inside : (w t : ℕ) → w < 2 ^ 64 → (bit_at w t == 1) ≡ true → t < 64
   inside w t fits on = grind (arith, bit_at_above w 64 t fits, cases_lt t 64)
 
-  -- of the squares of w those of l, if off them the king keeps a flight beside the man
+  -- among the squares of w only the ones in l are risky, if elsewhere the king keeps a flight when the man
+  -- arrives
   pub unkept_are_risky : (s w l r : ℕ) → man_on p.men s ≡ Some x → w < 2 ^ 64 → same_kind x.kind King ≡ false
       → ((t : ℕ) → t < 64 → (bit_at w t == 1) ≡ true → (bit_at l t == 1) ≡ false → (captures_do_more rule ≡ false) × KeepsFlightBeside v.siege t)
       → AreRisky rule p s l r → AreRisky rule p s w r
@@ -107,7 +108,7 @@ module _ (rule : RuleSet) (p : Position) (x : Man) (v : ToldThreats) (well : IsW
     ];
   }
 
-  -- of the squares of w those of u, where moves aren't plain, and of r
+  -- the squares of w that are in u, where moves aren't plain, or in r
   module _ (s w u r : ℕ) (here : man_on p.men s ≡ Some x) (from : s < 64) (fits : w < 2 ^ 64) (plain : ArePlain p x s u)
       (mere : captures_do_more rule ≡ true → AreMere p x s u) where
     -- by what spares a move off them
@@ -158,13 +159,13 @@ needed_are_risky rule v s w n low fits circe needed apart p well threats = recor
       (needed.keeps m.to small (off_second w n m.to off on));
 }
 
--- for `keep_flights`: he comes to none of them
+-- for `keep_flights`: no square to which the man comes is needed
 pub kept_are_risky : (rule : RuleSet) (v : ToldThreats) (s w n : ℕ) → s < 64 → w < 2 ^ 64 → captures_do_more rule ≡ false → AreNeeded v.siege n
     → (bit_and w n == 0) ≡ true → s ≢ v.siege.king → (p : Position) → IsWellFormed p → AreThreatsOf rule p v → AreRisky rule p s w 0
 kept_are_risky rule v s w n low fits circe needed none apart p well threats =
     rw (eqb-true (bit_and w n) 0 none) at (needed_are_risky rule v s w n low fits circe needed apart p well threats)
 
--- for the king's steps, where captures do no more: off the risky ones he keeps a flight, and castling is one of these
+-- for the king's steps, where captures do no more: off the risky squares a flight stays, castlings included
 pub flightless_are_risky : (rule : RuleSet) (p : Position) (v : ToldThreats) (s w n u r : ℕ) → IsWellFormed p → AreThreatsOf rule p v → s ≡ v.siege.king
     → s < 64 → w < 2 ^ 64 → n < 2 ^ 64 → captures_do_more rule ≡ false → n ≡ word (λ t. list_any (leaps s t) queen_steps) → u ≡ bit_not w64 n
     → ((t : ℕ) → t < 64 → (bit_at (bit_and w (bit_not w64 u)) t == 1) ≡ true → (bit_at r t == 1) ≡ false → KeepsFlight rule v.siege t)

@@ -137,7 +137,7 @@ fn landing_on(siege: &Siege, king: Square, to: Square) -> Landings
     }
 }
 
-// Returns the squares of `squares` that no grasshopper reaches as the men are, with their springboards.
+// Returns the squares among `squares` that no grasshopper reaches as the men are, with their springboards.
 #[tactic(auto, using(chess_rules::proofs::HoldTaken::rest_falls, crate::proofs::Risks::none_at, crate::proofs::Springboards::landing_anywhere))]
 fn landings_among(siege: &Siege, king: Square, squares: Squares) -> Landings
     ensures { (f : ℕ) → f < 64 → (bit_at result.squares f == 1) ≡ true

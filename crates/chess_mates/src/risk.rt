@@ -184,7 +184,7 @@ fn watched_squares(guards: &Guards, king: Square, reached: Squares, targets: Squ
     }
 }
 
-// Returns which of `squares` are out of reach: those on which the king can't capture the arriving man.
+// Returns the squares among `squares` on which the king can't capture the arriving man.
 #[tactic(auto, using(crate::proofs::Risks::bit_denied, chess_rules::proofs::Bits::off_left, chess_rules::proofs::Bits::off_right, chess_rules::proofs::listing_moves::Walks::off_second))]
 fn uncaptured_squares(field: &Field, guards: &Guards, squares: Squares) -> Squares
     ensures { (t : ℕ) → t < 64 → (bit_at squares t == 1) ≡ true

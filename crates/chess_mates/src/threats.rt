@@ -200,8 +200,8 @@ impl Threats {
         self.steps = ToldSteps::none();
     }
 
-    /// Returns whether threats can be computed under these rules: captures do no more than remove and
-    /// rebirth men.
+    /// Returns whether threats can be computed under these rules: captures only remove men, which may be
+    /// reborn.
     pub fn are_told<R: Rules>() -> bool
         ensures { result ≡ true → IsTold R.rule }
     {
@@ -218,7 +218,7 @@ impl Threats {
     }
 
     /// Returns the risky squares among `squares`: where the arrival of the man on `from` by a legal move might allow
-    /// mate. They include all squares reached by castling, by a capture of the king, by en passant or a
+    /// mate. They include all squares reached by castling, by the king's captures, by en passant or a
     /// double step that it might capture, and in Circe by any capture or promotion; but, except in Circe,
     /// no square where the king keeps a flight whatever is played. What is computed is kept for later
     /// calls.

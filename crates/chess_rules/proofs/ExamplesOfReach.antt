@@ -33,7 +33,7 @@ rook_checks : (in_check orthodox three Black ≡ true) × (in_check madrasi (wit
 unfolding reaches reaches_as rides hops leaps is_clear along squares some_square king_square faces_its_like faces is_attacker is_paralysed is_attacked in_check
 rook_checks = (refl, refl)
 
--- but not where a black rook on a3 paralyses it
+-- in Madrasi a black rook on a3 paralyses the rook, which gives no check
 paralysed_rook : in_check madrasi (with_man (with_man three a4 (man White Knight)) a3 (man Black Rook)) Black ≡ false
 unfolding reaches reaches_as rides hops leaps is_clear along squares some_square king_square faces_its_like faces is_attacker is_paralysed is_attacked in_check
 paralysed_rook = refl

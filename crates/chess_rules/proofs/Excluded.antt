@@ -47,7 +47,8 @@ en_passant_meets : (in_check orthodox passing_check.men White ≡ true) × (is_p
 unfolding check_after_a_move
 en_passant_meets = (refl, refl, refl)
 
--- so the squares to which the pawn must go to leave no check hold d6, which meets it in no other way
+-- the squares to which the pawn must go to leave no check hold d6, though a man on d6 meets the check in no
+-- other way
 pub crossed_square_may_meet_a_check : (w : ℕ) → AreEvasionsFrom orthodox passing_check e5 w → (bit_at w d6 == 1) ≡ true
 crossed_square_may_meet_a_check w are = search (rules, true_from_ne_false, true≢false, en_passant_meets, are)
 
@@ -65,7 +66,7 @@ king_goes : (in_check orthodox rook_check.men White ≡ true) × (is_pseudo_lega
 unfolding check_after_a_move
 king_goes = (refl, refl, refl)
 
--- so the squares to which the king must go hold b1
+-- the squares to which the king must go to leave no check hold b1
 pub king_may_leave_a_check : (w : ℕ) → AreEvasionsFrom orthodox rook_check a1 w → (bit_at w b1 == 1) ≡ true
 king_may_leave_a_check w are = true_from_ne_false _ (λ e. true≢false (sym (are.elsewhere (go a1 b1) refl (omega arith) king_goes.1 e) ∙ king_goes.2))
 
@@ -74,21 +75,21 @@ pub no_other_man_meets_it_there : is_evasion rook_check.men White a1 a8 b1 ≡ f
 unfolding reaches_as rides is_clear along
 no_other_man_meets_it_there = refl
 
--- a man who arrives on a4 shuts the file: a rook on a8 reached a1 before
+-- a man that arrives on a4 blocks the file: before, a rook on a8 reached a1
 pub arriving_man_shuts : (reaches (set_up (on Black Rook a8 ∷ [])) a8 a1 ≡ true) × (reaches (set_up (on Black Rook a8 ∷ on White Pawn a4 ∷ [])) a8 a1 ≡ false)
 unfolding reaches reaches_as rides is_clear along
 arriving_man_shuts = (refl, refl)
 
--- no pawn becomes a grasshopper where the diagram has none, though he may become a queen
+-- no pawn promotes to a grasshopper where the diagram has none, though it may promote to a queen
 pub promotion_needs_its_man : (may_promote (position [] White) Grasshopper ≡ false) × (may_promote (position [] White) Queen ≡ true)
 promotion_needs_its_man = (refl, refl)
 
--- the last per_origin triples are those of a man on h8
+-- the last per_origin triples are the triples of a man on h8
 pub last_triples_are_from_h8 : (triple_at (per_origin * h8)).from ≡ h8
 unfolding triple_at
 last_triples_are_from_h8 = refl
 
--- of a1 and b1 the first from b1 on is b1
+-- the first square from b1 on, of the word of a1 and b1, is b1
 pub earlier_squares_are_passed : find (λ s. bit_at 3 s == 1) (range_with_len 1 63) ≡ Some b1
 earlier_squares_are_passed = refl
 
@@ -120,7 +121,7 @@ crossing_a_line =
           (with_unmoved none_unmoved e1) h1;
     }
 
--- he doesn't castle, and would without that rook
+-- the king may not castle, and might without that rook
 pub no_castling_through_an_attack : (may_go crossing_a_line (man White King) e1 g1 ≡ true)
     × (can_castle orthodox crossing_a_line (man White King) (go e1 g1) ≡ false) × (can_go orthodox crossing_a_line (man White King) (go e1 g1) ≡ false)
     × (can_castle orthodox (record crossing_a_line { men = without_man crossing_a_line.men f8 }) (man White King) (go e1 g1) ≡ true)
@@ -144,13 +145,13 @@ pub rider_gets_to_the_next_square : rides (set_up []) a1 a2 (step_by 0 0 1 0) �
 unfolding rides is_clear along
 rider_gets_to_the_next_square = refl
 
--- looked for from a6, a grasshopper that hops over a5 stands on a4, and not on a5
+-- from a6, the grasshopper that hops over a5 is on a4, and not on a5
 pub grasshopper_stands_behind_its_hurdle : (hopped_from (set_up (on Black Pawn a5 ∷ [])) a6 a4 (step_by 0 0 0 1) ≡ true)
     × (hopped_from (set_up (on Black Pawn a5 ∷ [])) a6 a5 (step_by 0 0 0 1) ≡ false)
 unfolding hopped_from rides_on along
 grasshopper_stands_behind_its_hurdle = (refl, refl)
 
--- Black's grasshopper is a fairy man of his, of White's none; a rook is none
+-- Black's grasshopper is a fairy man of Black's, not of White's; a rook isn't one
 pub grasshopper_is_seen : (has_fairy (set_up (on Black Grasshopper a1 ∷ [])) Black ≡ true)
     × (has_fairy (set_up (on Black Grasshopper a1 ∷ [])) White ≡ false) × (has_fairy (set_up (on Black Rook a1 ∷ [])) Black ≡ false)
 unfolding has_fairy squares some_square
@@ -170,7 +171,7 @@ abbrev orthodox_checker : ℕ → Bool
 orthodox_checker s =
     (is_of_colour (man_on grasshopper_check s) Black && reaches grasshopper_check s a1) && not (has_fairy_lines_of (man_on grasshopper_check s))
 
--- so a grasshopper's check may be met everywhere
+-- a grasshopper's check may be met on every square
 pub any_square_may_meet_a_fairy_check : (w t : ℕ) → t < 64 → AreEvasions orthodox grasshopper_check White w → (bit_at w t == 1) ≡ true
 unfolding check_after_a_move
 any_square_may_meet_a_fairy_check w t small are = true_from_ne_false _ (λ e.
@@ -186,7 +187,7 @@ any_square_may_meet_a_fairy_check w t small are = true_from_ne_false _ (λ e.
 abbrev unmet : ℕ → ℕ → Bool
 unmet t s = (is_of_colour (man_on rook_check.men s) Black && reaches rook_check.men s a1) && not (is_evasion rook_check.men White a1 s t)
 
--- the rook's check is met where no such enemy is
+-- the rook's check is parried if no enemy of the kind above is there
 met_there : (w t : ℕ) → t < 64 → ((s : ℕ) → s < 64 → unmet t s ≡ false) → AreEvasions orthodox rook_check.men White w → (bit_at w t == 1) ≡ true
 unfolding king_square squares
 met_there w t small none are = true_from_ne_false _ (λ e.
@@ -195,7 +196,7 @@ met_there w t small none are = true_from_ne_false _ (λ e.
     let on = on_board rook_check.men u.checker enemy.0 refl enemy.1.0 in
     grind (arith, none u.checker on, u.enemy, u.here, u.check, u.no_evasion))
 
--- so a man may capture the rook on a8, or shut the file on a4
+-- White may capture the rook on a8, or interpose on a4
 pub captures_and_shuts_meet_a_check : (w : ℕ) → AreEvasions orthodox rook_check.men White w → ((bit_at w a8 == 1) ≡ true) × ((bit_at w a4 == 1) ≡ true)
 unfolding reaches reaches_as rides hops leaps is_clear along
 captures_and_shuts_meet_a_check w are = (
@@ -213,14 +214,16 @@ attacked_square_is_no_flight = (refl, refl)
 abbrev king_and : Colour → Kind → ℕ → List (Option Man)
 king_and c k s = set_up (on White King a1 ∷ on c k s ∷ [])
 
--- a knight on b3 checks him, and so does a nightrider there; on b2 a bishop does, and a rook doesn't; on a8 an enemy rook does, and his own doesn't
+-- the king on a1 is in check by a knight or nightrider on b3, by a bishop on b2 but no rook there, by an
+-- enemy rook on a8 but not by its own
 pub men_check_along_their_lines : (is_checker (king_and Black Knight b3) White b3 ≡ true) × (is_checker (king_and Black Nightrider b3) White b3 ≡ true)
     × (is_checker (king_and Black Bishop b2) White b2 ≡ true) × (is_checker (king_and Black Rook b2) White b2 ≡ false)
     × (is_checker (king_and Black Rook a8) White a8 ≡ true) × (is_checker (king_and White Rook a8) White a8 ≡ false)
 unfolding is_checker check_after_a_move
 men_check_along_their_lines = (refl, refl, refl, refl, refl, refl)
 
--- while the rook gives check, a move may expose him even from h2, on none of his lines; a bishop on a8 gives none
+-- while the rook gives check, a move may leave the king exposed even from h2, which is on none of its
+-- lines; a bishop on a8 gives no check
 pub any_move_may_leave_a_check : (may_expose (king_and Black Rook a8) White h2 ≡ true) × (may_expose (king_and Black Bishop a8) White h2 ≡ false)
 unfolding may_expose is_reached is_on_fairy_line is_ahead is_on_some is_shut is_behind check_after_a_move
 any_move_may_leave_a_check = (refl, refl)
@@ -250,7 +253,7 @@ pub arriving_man_paralyses : (in_check madrasi rook_faces_rook.men White ≡ tru
 unfolding check_after_a_move
 arriving_man_paralyses = (refl, refl, refl, refl)
 
--- a Black man who gives check, and of whose kind White has none: there is none
+-- a Black man that gives check, of a kind of which White has none: no square has one
 abbrev moving_checker : ℕ → Bool
 moving_checker s = (is_of_colour (man_on rook_faces_rook.men s) Black && reaches rook_faces_rook.men s h1)
     && not (may_be_paralysed madrasi rook_faces_rook.men White (man_on rook_faces_rook.men s))
@@ -259,7 +262,7 @@ moving_checker_there : (s : ℕ) → s < 64 → moving_checker s ≡ false
 unfolding check_after_a_move
 moving_checker_there s lt = agree_below_at moving_checker (λ _. false) 64 s refl lt
 
--- so a White man who goes to d3 may meet the check
+-- in Madrasi a White man that goes to d3 may meet the check
 pub men_of_the_checkers_kind_may_meet_its_check : (w : ℕ) → AreEvasions madrasi rook_faces_rook.men White w → (bit_at w d3 == 1) ≡ true
 unfolding king_square squares
 men_of_the_checkers_kind_may_meet_its_check w are = true_from_ne_false _ (λ e.
@@ -272,7 +275,7 @@ men_of_the_checkers_kind_may_meet_its_check w are = true_from_ne_false _ (λ e.
 abbrev promotion_faces_rook : Position
 promotion_faces_rook = position (on White King h1 ∷ on White Pawn e7 ∷ on Black King a3 ∷ on Black Rook h8 ∷ []) White
 
--- so the pawn's promotion may end the check
+-- the pawn's promotion to a rook ends the check, the promotion to a queen doesn't
 pub promoted_man_paralyses : (in_check madrasi promotion_faces_rook.men White ≡ true)
     × (is_pseudo_legal madrasi promotion_faces_rook (promoting e7 e8 Rook) ≡ true)
     × (in_check madrasi (position_after madrasi promotion_faces_rook (promoting e7 e8 Rook)).men White ≡ false)
@@ -280,7 +283,7 @@ pub promoted_man_paralyses : (in_check madrasi promotion_faces_rook.men White �
 unfolding check_after_a_move
 promoted_man_paralyses = (refl, refl, refl, refl)
 
--- and the squares to which the pawn must go to leave no check hold e8
+-- the squares to which the pawn must go to leave no check hold e8
 pub promotion_may_meet_a_check : (w : ℕ) → AreEvasionsFrom madrasi promotion_faces_rook e7 w → (bit_at w e8 == 1) ≡ true
 promotion_may_meet_a_check w are = search (rules, true_from_ne_false, true≢false, promoted_man_paralyses, are)
 
@@ -288,14 +291,15 @@ promotion_may_meet_a_check w are = search (rules, true_from_ne_false, true≢fal
 abbrev king_faces_king : Position
 king_faces_king = position (on White King a1 ∷ on Black King c3 ∷ []) White
 
--- so Black's king isn't paralysed and gives check
+-- a king that faces a king isn't paralysed: Black's gives check
 pub kings_are_never_paralysed : (faces_its_like (position_after madrasi king_faces_king (go a1 b2)).men (man Black King) c3 ≡ true)
     × (is_paralysed madrasi (position_after madrasi king_faces_king (go a1 b2)).men c3 ≡ false)
     × (in_check madrasi (position_after madrasi king_faces_king (go a1 b2)).men White ≡ true)
 unfolding check_after_a_move
 kings_are_never_paralysed = (refl, refl, refl)
 
--- but queens are: White Kh1 Qd1, Black Kb8 Qh3, which gives check, and the queen goes to d3
+-- White Kh1 Qd1, Black Kb8 Qh3, which gives check: a queen that faces a queen is paralysed, here after
+-- Qd1-d3
 abbrev queen_faces_queen : Position
 queen_faces_queen = position (on White King h1 ∷ on White Queen d1 ∷ on Black King b8 ∷ on Black Queen h3 ∷ []) White
 
@@ -305,17 +309,17 @@ pub queens_are_paralysed : (in_check madrasi queen_faces_queen.men White ≡ tru
 unfolding check_after_a_move
 queens_are_paralysed = (refl, refl)
 
--- what the examples of shields compute with beside it
+-- what the examples of blockers compute with as well
 lines_to_a_king : Unit {0}
 unfolding may_expose cannot_expose may_stand_between is_on_fairy_line is_plain is_reached is_ahead is_on_some is_shut is_behind
 lines_to_a_king = tt
 
--- White Ka1 Rh2, Black Kh8 Ga8: on a2 the rook is the hurdle over which the grasshopper gives check, though the rook stood on no line to
--- the king
+-- White Ka1 Rh2, Black Kh8 Ga8: on a2 the rook is the hurdle over which the grasshopper gives check, though
+-- the rook was on no line to the king
 abbrev hurdle_comes : Position
 hurdle_comes = position (on White King a1 ∷ on White Rook h2 ∷ on Black King h8 ∷ on Black Grasshopper a8 ∷ []) White
 
--- so the move to a2 uncovers the king: the arrival tells, the origin doesn't
+-- the move to a2 exposes the king: the arrival is a line square, the origin isn't
 pub arriving_man_is_a_hurdle : (may_expose hurdle_comes.men White h2 ≡ false) × (may_stand_between hurdle_comes.men White h2 ≡ false)
     × (may_stand_between hurdle_comes.men White a2 ≡ true) × (cannot_expose orthodox hurdle_comes White (go h2 a2) ≡ false)
     × (is_pseudo_legal orthodox hurdle_comes (go h2 a2) ≡ true) × (in_check orthodox hurdle_comes.men White ≡ false)
@@ -327,7 +331,7 @@ arriving_man_is_a_hurdle = (refl, refl, refl, refl, refl, refl, refl)
 abbrev hurdle_goes : Position
 hurdle_goes = position (on White King a1 ∷ on White Rook a2 ∷ on White Knight a4 ∷ on Black King h8 ∷ on Black Grasshopper a8 ∷ []) White
 
--- so a move from a4 may uncover the king, and Na4-b6 does
+-- a move from a4 may expose the king, and Na4-b6 does
 pub leaving_man_opens_a_hop : (is_shut hurdle_goes.men Black Rook straight_steps a1 a4 ≡ false) × (may_stand_between hurdle_goes.men Black a4 ≡ false)
     × (may_expose hurdle_goes.men White a4 ≡ true) × (is_pseudo_legal orthodox hurdle_goes (go a4 b6) ≡ true)
     × (in_check orthodox hurdle_goes.men White ≡ false) × (in_check orthodox (position_after orthodox hurdle_goes (go a4 b6)).men White ≡ true)
@@ -338,7 +342,8 @@ leaving_man_opens_a_hop = (refl, refl, refl, refl, refl, refl)
 abbrev shut_nightrider : Kind → Position
 shut_nightrider k = position (on White King c1 ∷ on White Bishop d3 ∷ on Black King h8 ∷ on Black k e5 ∷ []) White
 
--- so d3 lies on a fairy line to the king, on none with a knight, and Bd3-e4 uncovers him
+-- d3 lies on a fairy line to the king with a nightrider on e5, on none with a knight; Bd3-e4 exposes the
+-- king
 pub nightriders_line_is_shut : (may_stand_between (shut_nightrider Nightrider).men White d3 ≡ true)
     × (may_stand_between (shut_nightrider Knight).men White d3 ≡ false)
     × (is_pseudo_legal orthodox (shut_nightrider Nightrider) (go d3 e4) ≡ true) × (in_check orthodox (shut_nightrider Nightrider).men White ≡ false)
@@ -346,17 +351,17 @@ pub nightriders_line_is_shut : (may_stand_between (shut_nightrider Nightrider).m
 unfolding lines_to_a_king check_after_a_move
 nightriders_line_is_shut = (refl, refl, refl, refl, refl)
 
--- a stretch without a move ends before a move to one of the word's squares
+-- a range without a move ends before a move to one of the bitboard's squares
 ends_at : (p : Position) (s w k b : ℕ) → (bit_at w (k / per_arrival) == 1) ≡ true
     → is_pseudo_legal orthodox p (record { from = s; to = k / per_arrival; promo = promotion_at (k % per_arrival) }) ≡ true → IsBarrenFrom p s w 0 b → b ≤ k
 ends_at p s w k b on may barren = grind (arith, cases_lt, false≢true)
 
--- of a rook on a1 to b1, and of a pawn that becomes a queen on e8
+-- a range without a move ends before the move of a rook from a1 to b1
 pub stretch_ends_at_a_move : (w b : ℕ) → (bit_at w b1 == 1) ≡ true → IsBarrenFrom (position (on White Rook a1 ∷ []) White) a1 w 0 b → b ≤ per_arrival
 unfolding check_after_a_move
 stretch_ends_at_a_move w b there barren = ends_at (position (on White Rook a1 ∷ []) White) a1 w 7 b there refl barren
 
--- of a pawn on e7 to e8, where it becomes a queen
+-- a range without a move ends before the promotion to a queen of a pawn that goes from e7 to e8
 pub stretch_ends_at_a_promotion : (w b : ℕ) → (bit_at w e8 == 1) ≡ true → IsBarrenFrom (position (on White Pawn e7 ∷ []) White) e7 w 0 b
     → b ≤ per_arrival * e8 + 1
 unfolding check_after_a_move

@@ -5,7 +5,7 @@ use Rattle.chess_rules.proofs.Basics.{Bool, List, None, Some, [], and_from, and_
 pub first_of_and : (a b : Bool) → (a && b) ≡ true → a ≡ true
 first_of_and a b h = grind arith
 
--- and the second
+-- where two tests both pass, the second does
 pub second_of_and : (a b : Bool) → (a && b) ≡ true → b ≡ true
 second_of_and a b h = grind (arith, false≢true)
 

@@ -34,18 +34,18 @@ position xs c = record {
 abbrev pub go : ℕ → ℕ → Move
 go a b = record { from = a; to = b; promo = None }
 
--- the same with a promotion
+-- a promotion: the move from one square to another, and the kind that the pawn becomes
 abbrev pub promoting : ℕ → ℕ → Kind → Move
 promoting a b k = record { from = a; to = b; promo = Some k }
 
--- what tells whether a move may be made, and of the check after it
+-- what decides whether a move is pseudo-legal, and whether check follows it
 unfoldable pub check_after_a_move : Unit {0}
 unfolding reaches reaches_as rides hops leaps is_clear along squares some_square king_square faces_its_like faces is_attacker is_paralysed is_attacked in_check
     position_after position_after_by unmoved_after moved_men capture_square reborn_square rebirth can_castle may_castle is_pseudo_legal none_unmoved has_unmoved
     mark_unmoved
 check_after_a_move = tt
 
--- and what the legal moves and mate
+-- what decides which moves are legal, and whether a position is mate
 unfoldable pub legal_moves : Unit {0}
 unfolding check_after_a_move is_legal moves triples is_mate
 legal_moves = tt

@@ -10,7 +10,7 @@ module _ {M : Type 0} (a b c : M → Bool) where
   parted ms = filter a ms ++ (filter (λ m. not (a m) && b m) ms ++ (filter (λ m. not (a m) && (not (b m) && c m)) ms
       ++ filter (λ m. not (a m) && (not (b m) && not (c m))) ms))
 
--- a fold whose steps may change places says the same of a list and of its parts
+-- a fold with steps that may change places is equal over a list and over its parts
 module _ {M C : Type 0} (step : M → C → C) (g : List M → C) (cons : (x : M) (xs : List M) → g (x ∷ xs) ≡ step x (g xs))
     (swap : (x y : M) (c : C) → step x (step y c) ≡ step y (step x c)) where
   -- an element may come first
@@ -32,7 +32,7 @@ filter-none : (f : Move → Bool) (none : (m : Move) → f m ≡ false) → (ms 
 filter-none f none [] = refl
 filter-none f none (m ∷ ms) = rw (none m) (filter-none f none ms)
 
--- what stands behind a place, one place after another
+-- the moves after a cursor, one cursor after another
 ruleset places = (cases_lt, cases_Bool, moves_behind-end, moves_behind-here, moves_behind-skip, place_of_triple)
 
 -- the moves at one place
@@ -54,7 +54,7 @@ module _ (rule : RuleSet) (p : Position) (k : ℕ) where
   one_place = search (rules, ← behind_start, pass_all (k - 1) 0 (k - 1), here_alone)
 
 module _ (rule : RuleSet) (p : Position) (order : Order) where
-  -- the place before a stretch
+  -- the cursor before a stage
   pub before_killer : (place : ℕ) → place ≡ order.killer - 1 → moves_here rule p order Killer place ≡ all_moves_of rule p order Killer
   unfolding moves_here belongs
   before_killer place at = rw at (one_place rule p order.killer)
@@ -71,7 +71,7 @@ module _ (rule : RuleSet) (p : Position) (order : Order) where
   unfolding moves_here belongs
   behind_earlier place at same = search (rules, between-none, filter-none, nat_tests)
 
-  -- the stretches behind one
+  -- the stages after one
   pub later_aimed : order.early ≡ NoMoves → moves_later rule p order Earlier ≡ all_moves_of rule p order Others ++ moves_later rule p order Others
   unfolding moves_later belongs
   later_aimed none = search (rules, filter-none, append-nil)
@@ -89,15 +89,16 @@ module _ (rule : RuleSet) (p : Position) (order : Order) where
   same_start step g cons swap = ap (λ ms. g (ms ++ moves_later rule p order Killer)) (before_killer (order.killer - 1) refl)
       ∙ same_parted step g cons swap (is_at order.killer) (is_at order.earlier) (comes_early order.early p) (legal_moves rule p)
 
--- the aimed moves of a list, where these come first, are those that aim at the king and are no killers
+-- the aimed moves of a list, if these come early: the moves that give check or attack next to the king and
+-- are no killers
 pub aimed_filtered : (p : Position) (order : Order) → order.early ≡ AimedMoves → (ms : List Move)
     → filter (belongs p order Aimed) ms ≡ filter (λ m. not (is_at order.killer m || is_at order.earlier m)) (filter (aims_at_king p) ms)
 unfolding belongs
 aimed_filtered p order early [] = refl
 aimed_filtered p order early (m ∷ ms) = search (rules, aimed_filtered p order early ms, cases_Bool)
 
--- for `place_before`: what is ahead at the start of each stretch
+-- for `place_before`: what is ahead at the start of each stage
 pub ruleset first_place = (before_killer, before_earlier, behind_earlier, behind_start)
 
--- for `stretch_behind`: what is ahead behind each stretch
+-- for `stretch_behind`: what is ahead after each stage
 pub ruleset next_stretch = (later_aimed, append-nil)

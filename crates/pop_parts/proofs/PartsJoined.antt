@@ -29,7 +29,7 @@ module _ (rule : RuleSet) (problem : Posed) (phase : Phase) where
       → parts rule problem phase depth ≡ beginnings (game_of rule problem) 1 (phase_start problem phase)
   parts-battle depth free some battle = rw battle at (parts-some depth free some)
 
-  -- the parts are the lists of so many legal moves
+  -- the parts are the lists of this number of legal moves
   pub parts-are : (depth : ℕ) → is_barred rule problem phase ≡ false → (h : ℕ) → phase_half_moves problem phase ≡ h → (front : List Move)
       → Contains (parts rule problem phase depth) front
       ↔ ((1 ≤ phase_half_moves problem phase) × IsPlayable (game_of rule problem) (phase_start problem phase) front

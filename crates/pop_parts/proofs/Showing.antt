@@ -8,7 +8,8 @@ use Rattle.pop_parts.specs.declared.asked.Asked.{Asked}
 use Rattle.pop_parts.specs.declared.asked.Outcome.{Outcome}
 use Rattle.pop_parts.specs.declared.asked.Outcome.TheVariants.{OutputFailed}
 
--- From the beginning to now these items were read, none of which is the one with the number, and some of which tell of a failed device or not.
+-- These items were read so far: none has the requested number, and they report a failed device exactly if
+-- `failed`.
 pub record Passed (wanted : ℕ) (now : Standing) (number : ℕ) (failed : Bool) (had left : Option (List ℕ)) : Type 0 where
   pub items : List Entry
   pub reads : Reads first_standing now had left items
@@ -57,7 +58,7 @@ found_there : (items : List Entry) (entry : Entry) (more : List Entry) (wanted :
     → entry_numbered ((items ++ entry ∷ []) ++ more) wanted ≡ Some entry
 found_there items entry more wanted is = grind (arith, get_seam items entry more)
 
--- the input has no such item
+-- the input has no item of this number
 pub item_missing : (asked : Asked) (old new : Standing) (number : ℕ) (failed : Bool) (had mid left before : Option (List ℕ)) (item : Item) (answer : Outcome)
     (n m v w : ℕ) → Passed asked.item old number failed had mid → NextItem old new mid left item → entry_in item ≡ None → IsSeen new.at.end left
     → answer ≡ outcome_at asked failed None → m ≡ failures_after Open new.at.end n → w ≡ v

@@ -19,7 +19,7 @@ module _ (problem : Posed) (walk : Walk) (is : walk ≡ walk_of problem walk.pha
   pub half_moves-are : walk.half_moves ≡ phase_half_moves problem walk.phase
   half_moves-are = ap (λ (w : Walk). w.half_moves) is
 
-  -- no more than those of the play
+  -- a phase has at most the half-moves of the play
   pub half_moves-fit : (n : ℕ) → half_moves problem.stipulation < n → walk.half_moves < n
   half_moves-fit n lt = grind arith
 

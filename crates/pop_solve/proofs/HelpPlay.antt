@@ -12,7 +12,7 @@ module _ {P M : Type 0} (game : Game P M) where
       let w = from_flat_map (λ m. map (λ line. m ∷ line) (lines_to_goal game h (game.after p m))) (game.moves p) line c in
       grind (arith, from_map (λ line. w.0 ∷ line) (lines_to_goal game h (game.after p w.0)) line w.2, from_lines h (game.after p w.0))
 
-  -- any such line is in the list
+  -- any line with these properties is in the list
   pub in_lines : (h : ℕ) (p : P) (line : List M) → length line ≡ h → IsPlayable game p line → game.goal (path_end game.after p line) ≡ true
       → Contains (lines_to_goal game h p) line
   unfolding lines_to_goal

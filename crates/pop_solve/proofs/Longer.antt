@@ -12,13 +12,13 @@ module _ {X : Type 0} (f g : X → Bool) (weaker : (x : X) → f x ≡ true → 
   all_weaker (x ∷ xs) h = search (rules, all_weaker xs, weaker)
 
 module _ {P M : Type 0} (game : Game P M) where
-  -- who is lost within some moves is lost within more
+  -- a side that loses within some moves loses within more
   pub is_lost-more : (j : ℕ) (q : P) → is_lost game j q ≡ true → is_lost game (suc j) q ≡ true
   unfolding is_lost
   is_lost-more zero q h = search rules
   is_lost-more (suc j) q h = search (rules, all_weaker, any_weaker, is_lost-more j)
 
-  -- who wins within some moves wins within more
+  -- a side that wins within some moves wins within more
   pub wins-more : (k : ℕ) (p : P) → wins game k p ≡ true → wins game (suc k) p ≡ true
   unfolding wins
   wins-more k p h = search (rules, any_weaker, is_lost-more)
@@ -28,13 +28,13 @@ module _ {P M : Type 0} (game : Game P M) where
       → (can_move game q && every_move game (λ r. game.goal r || f r) q) ≡ true → (can_move game q && every_move game (λ r. game.goal r || g r) q) ≡ true
   won-more f g w q h = search (rules, all_weaker)
 
-  -- the same of a selfmate
+  -- in a selfmate White also wins in one move more
   pub self_wins-more : (k : ℕ) (p : P) → self_wins game k p ≡ true → self_wins game (suc k) p ≡ true
   unfolding self_wins
   self_wins-more zero p h = absurd cc
   self_wins-more (suc k) p h = search (rules, any_weaker, all_weaker, self_wins-more k)
 
-  -- and after a move of White's
+  -- in a selfmate Black also loses in one move more
   pub is_self_lost-more : (j : ℕ) (q : P) → is_self_lost game j q ≡ true → is_self_lost game (suc j) q ≡ true
   unfolding is_self_lost
   is_self_lost-more zero q h = h
@@ -57,6 +57,6 @@ module _ (test : ℕ → Bool) (n : ℕ) where
   pub first_is_first : (k : ℕ) → k < position_or_len test (range_with_len 0 n) → test k ≡ false
   first_is_first k less = search (rules, get_or-range_with_len, length-range_with_len, fails_before_first test (range_with_len 0 n) k 0, first_at_most)
 
-  -- it passes itself, if the count does
+  -- the first number that passes does pass, if the count does
   pub first_passes : test n ≡ true → test (position_or_len test (range_with_len 0 n)) ≡ true
   first_passes h = search (rules, cases_lt, get_or-range_with_len, length-range_with_len, passes_at_first test (range_with_len 0 n) 0, first_at_most)

@@ -57,7 +57,7 @@ module _ {P M : Type 0} (game : Game P M) (plan : Plan) where
   shown_paths-full root (suc k) (suc t) p [] = search rules
   shown_paths-full root (suc k) (suc t) p (m ∷ ms) = search (rules, list_all-append, all-over, shown_paths-full root (suc k) (suc t) p ms)
 
-  -- the root in battle play: those of its moves that pass the test, each with what stands below it
+  -- the root in battle play: its moves that pass the test, each with the nodes below it
   root-cut : (battle : Battle) (fought : plan.play ≡ BattlePlay battle) (h n : ℕ) (p : P) (ms : List M) (other : M → Bool) (G : M → List (List M))
       → ((m : M) → value battle game h (game.after p m) ≡ other m)
       → ((m : M) → value battle game h (game.after p m) ≡ true → beneath game plan battle fought h h (game.after p m) ≡ G m)
@@ -80,7 +80,7 @@ module _ {P M : Type 0} where
   tree_by battle game variation n h p ms =
       map (λ m. node m (cond variation (nodes_below battle game n (h - 1) (game.after p m)) [])) (filter (λ m. keeps_win battle game n (game.after p m)) ms)
 
-  -- the same in set play
+  -- the solutions of set play that begin with some moves of the root
   abbrev pub set_by : Battle → Game P M → Bool → ℕ → ℕ → P → List M → List (List (List M))
   set_by battle game variation n h p ms =
       map (λ d. node d (cond variation (continuations battle game n h (game.after p d))

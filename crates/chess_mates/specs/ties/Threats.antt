@@ -18,7 +18,7 @@ use Rattle.chess_rules.specs.Play.{capture_square, halfway, is_castling, is_doub
 use Rattle.chess_rules.specs.RuleSet.{RuleSet, captures_are_reborn, captures_do_more}
 use Rattle.chess_rules.specs.ties.Targets.{is_promoting, may_go}
 
--- threats can be computed: captures do no more than remove and rebirth men
+-- threats can be computed: captures only remove men, which may be reborn
 pub record IsTold (rule : RuleSet) : Type 0 where
   pub captures : captures_do_more rule ≡ true → captures_are_reborn rule ≡ true
 

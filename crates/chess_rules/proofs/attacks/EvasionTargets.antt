@@ -21,7 +21,8 @@ module _ (rule : RuleSet) (p : Position) (x : Man) (f : ℕ) (well : IsWellForme
     (reborn : captures_do_more rule ≡ true → c ≡ word (λ t. is_some (man_on p.men t)))
     (promoted : faced_men_stand_still rule ≡ true → e ≡ word (is_promoting x))
     (targets : (q : Position) (t : ℕ) → t < 64 → may_go q x f t ≡ true → (bit_at d t == 1) ≡ true) where
-  -- another man than the king needs the evasions, the crossed square, in Circe those with men and in Madrasi those of a promotion, if he might go there
+  -- another man than the king needs an evasion, the en passant square, in Circe an occupied square and in
+  -- Madrasi a promotion square, if it might go there
   pub evasions_from_some : AreEvasionsFrom rule p f (bit_and d (bit_or (bit_or (bit_or a b) c) e))
   evasions_from_some = record {
     elsewhere = λ m at small may off.

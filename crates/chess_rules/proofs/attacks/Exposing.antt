@@ -23,7 +23,7 @@ pub arrives_as : (x : Man) (m : Move) (k : Kind) (w : ℕ) → w ≡ word (is_sq
     → w ≡ word (is_arriving_as x m k)
 arrives_as x m k w h is = h ∙ squares_same _ _ (λ s b. sym (ap (λ (y : Bool). y && is_square (Some m.to) s) is))
 
--- it is in no word of another kind
+-- the arriving man is in no word of another kind
 pub arrives_otherwise : (x : Man) (m : Move) (k : Kind) → same_kind (arriving_man x m.promo).kind k ≡ false → 0 ≡ word (is_arriving_as x m k)
 arrives_otherwise x m k off = word_empty (is_arriving_as x m k) (λ s b. and_left _ (is_square (Some m.to) s) off)
 
@@ -54,7 +54,7 @@ pub none_paralysed : (rule : RuleSet) (men : List (Option Man)) (s : ℕ) → fa
 unfolding is_paralysed
 none_paralysed rule men s off = sym (and_left (faced_men_stand_still rule) _ off)
 
--- who goes and who is captured
+-- the man that goes and the man that is captured
 pub captures_arrival : (p : Position) (x : Man) (m : Move) → is_some (man_on p.men m.to) ≡ true → is_square (capture_square p x m) m.to ≡ true
 unfolding capture_square
 captures_arrival p x m h = search (rules, cond-true, eq-eqb)
@@ -85,7 +85,7 @@ goes_without_king rule p x m well is small other_man = record {
 -- where a king stands once a man has moved
 ruleset king_moves = (goes_without_king, king_is, king_stands, king_stays_king, moved_arrival, moved_plainly, moved_sound)
 
--- the mover's king stands on the arrival if he went, else where he stood
+-- the mover's king is on the arrival if it moved, otherwise where it was
 pub king_is_after : (rule : RuleSet) (p : Position) (x : Man) (m : Move) → IsWellFormed p → IsMade rule p x m → m.to < 64 → is_castling x m ≡ false
     → king_square (arrived p x m) p.turn ≡ king_after p x m
 king_is_after rule p x m well is small castling = grind (arith, and_from, cases_Bool, cond-false, cond-true, same_colour-refl, king_moves)

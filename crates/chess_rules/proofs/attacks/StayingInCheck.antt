@@ -37,7 +37,7 @@ module _ (men after : List (Option Man)) (a b : ℕ) (z : Man) (c : Colour) (k s
 pub side_there : (o : Option Man) (c : Colour) → is_of_colour o c ≡ true → (y : Man) × ((o ≡ Some y) × (same_colour y.colour c ≡ true))
 side_there o c h = grind arith
 
--- on the square of a king, which is on the board, he stands
+-- the king's square is on the board and has the king
 pub king_there : (men : List (Option Man)) (c : Colour) (k : ℕ) → king_square men c ≡ Some k → (k < 64) × (is_man (man_on men k) c King ≡ true)
 unfolding king_square squares
 king_there men c k h = let f = find_first (λ s. is_man (man_on men s) c King) 0 64 k h in (omega (arith, f.high), f.here)
@@ -50,14 +50,14 @@ record IsAway (rule : RuleSet) (men : List (Option Man)) (c : Colour) (a b : ℕ
   pub same : faced_men_stand_still rule ≡ true → man_on men a ≡ Some z
 
 module _ (rule : RuleSet) (men after : List (Option Man)) (a b : ℕ) (z : Man) (c : Colour) (i : IsShift men after a b z) (away : IsAway rule men c a b z) where
-  -- then a man of each kind that has one now stood before
+  -- a side that has a man of a kind after the move had one before it
   like_stood : (k : Kind) (q : ℕ) → faced_men_stand_still rule ≡ true → is_man (man_on after q) c k ≡ true → some_square (λ s. is_man (man_on men s) c k) ≡ true
   like_stood k q stands h =
       let x = man_there (man_on after q) c k h in
       let some = some_square_true (λ s. is_man (man_on men s) c k) in
       grind (arith, cases_eq q b, i.arrived x.0, i.others q x.0, x.1, away.size a z, away.size q x.0, some a, some q)
 
-  -- so a man whose like didn't stand isn't paralysed
+  -- a man that faced no man of its kind before the move isn't paralysed after it
   unfaced : (s : ℕ) (y : Man) → man_on after s ≡ Some y → same_colour y.colour (other c) ≡ true → may_be_paralysed rule men c (Some y) ≡ false
       → is_paralysed rule after s ≡ false
   unfolding is_paralysed faces_its_like faces

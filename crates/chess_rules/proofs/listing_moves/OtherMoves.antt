@@ -12,7 +12,7 @@ module _ (rule : RuleSet) (p : Position) where
   unfolding squares_of
   other_origins o k own kings = search (rules, cases_Bool, and_right, word_has, squares_not, off_second, and_left)
 
-  -- candidates for all legal moves are candidates for those of other men
+  -- candidates for all legal moves are candidates for the moves of other men
   pub other_candidates : (s w : ℕ) → AreCandidates rule p (is_legal rule p) s w → AreCandidates rule p (is_wanted rule p (is_of_others p)) s w
   other_candidates s w are = search (rules, and_left)
 

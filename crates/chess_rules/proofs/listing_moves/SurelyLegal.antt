@@ -11,7 +11,7 @@ sure_unexposed : (rule : RuleSet) (p : Position) (x : Man) (m : Move) → man_on
 unfolding cannot_expose is_plain is_unsure
 sure_unexposed rule p x m here piece from sure = search (rules, and_from, and_left, or_parts)
 
--- of a man who isn't the king and shields him from nobody, each move to such a square is legal
+-- each move to a sure square by a man that isn't the king and blocks no line to it is legal
 pub surely_legal : (rule : RuleSet) (p : Position) (x : Man) (s w v u : ℕ) → IsWellFormed p → man_on p.men s ≡ Some x → s < 64
     → AreCandidates rule p (is_legal rule p) s w → same_kind x.kind King ≡ false → v ≡ word (may_expose p.men p.turn) → (bit_at v s == 1) ≡ false
     → u ≡ word (is_unsure rule p x) → (bit_and w u == 0) ≡ true → AreLegal rule p s w
@@ -35,7 +35,8 @@ surely_legal rule p x s w v u well here small are piece shields unshielding unsu
 reborn_word : (b : Bool) (test : ℕ → Bool) → (if b then word test else 0) ≡ word (λ t. b && test t)
 reborn_word b test = search (rules, word_empty)
 
--- the word of the squares that aren't sure: those on the lines of fairy men, the crossed one, those with men who may be reborn, and of a pawn's last rank
+-- the word of the squares that aren't sure: those on the lines of fairy men, the en passant square, those
+-- with men that may be reborn, and a pawn's last rank
 pub unsure_word : (rule : RuleSet) (p : Position) (x : Man) (f c r l : ℕ) → f ≡ word (may_stand_between p.men p.turn) → c ≡ word (λ t. is_square p.crossed t)
     → r ≡ (if captures_do_more rule then word (λ t. is_some (man_on p.men t)) else 0) → l ≡ word (is_promoting x)
     → bit_or (bit_or (bit_or f c) r) l ≡ word (is_unsure rule p x)

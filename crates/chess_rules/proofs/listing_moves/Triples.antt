@@ -15,7 +15,7 @@ in_triples m a b c =
     (in_range 0 64 m.to (omega arith) (omega (arith, b)))
     (in_map (λ r. record { from = m.from; to = m.to; promo = r }) promotions m.promo c))
 
--- and there are no other triples
+-- every triple has an origin, an arrival and a promotion from the lists
 pub from_triples : (m : Move) → Contains triples m → (m.from < 64) × (m.to < 64) × Contains promotions m.promo
 unfolding triples squares
 from_triples m c =

@@ -56,7 +56,7 @@ module _ (rule : RuleSet) (p : Position) (test : Move → Bool) (needs : (m : Mo
       → test m ≡ false
   none-move s w m are at small h = search (rules, cases_Bool)
 
-  -- of an origin's candidates none passes over a stretch without a move
+  -- over a range without a move no candidate of an origin passes
   pub none-from : (s w a b : ℕ) → b ≤ per_origin → AreCandidates rule p test s w → IsBarrenFrom p s w a b
       → HaveNone test (per_origin * s + a) (per_origin * s + b)
   none-from s w a b le are h = record {
@@ -102,7 +102,7 @@ module _ (test : Move → Bool) where
     pub walk_to : HaveNone test start (n + a)
     walk_to = grind (arith, cases_lt, walk_before start rest s n w next.first, next.small)
 
-    -- and past it
+    -- the walk continues after the last of the origin's triples
     pub walk_on : a ≡ per_origin → IsWalked test start left
     walk_on all = record {
       ahead = λ t small on. w.ahead t small (grind (arith, cases_eq s t, next.gone, next.others t));

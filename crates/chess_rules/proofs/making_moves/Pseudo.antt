@@ -35,7 +35,7 @@ king_is_no_pawn k h = grind arith
 pub on_board : (men : List (Option Man)) (s : ℕ) (x : Man) → length men ≡ 64 → man_on men s ≡ Some x → s < 64
 on_board men s x size here = search (rules, cases_lt, get_or_past)
 
--- so many ranks forward
+-- a number of ranks forward
 abbrev pub Advances : Colour → ℕ → ℕ → ℕ → Type 0
 Advances White s t n = rank_of t ≡ rank_of s + n
 Advances Black s t n = rank_of s ≡ rank_of t + n
@@ -50,7 +50,7 @@ pawn_leaps : (c : Colour) (s t : ℕ) → list_any (leaps s t) (pawn_capture_ste
 unfolding leaps
 pawn_leaps c s t h = grind (arith, along-is, or_cases)
 
--- where a pawn reaches, it goes by such a step
+-- a pawn reaches a square by a capturing step
 pub pawn_reaches : (men : List (Option Man)) (x : Man) (s t : ℕ) → man_on men s ≡ Some x → same_kind x.kind Pawn ≡ true → reaches men s t ≡ true
     → IsPawnTake x.colour s t
 unfolding reaches reaches_as
@@ -84,7 +84,7 @@ pub record IsCastle (p : Position) (m : Move) : Type 0 where
   pub rook : (z : Man) → man_on p.men (corner m) ≡ Some z → same_kind z.kind Rook ≡ true
   pub stands : man_on p.men (corner m) ≡ None → ⊥
 
--- where a king castles, he and the rook stand and go so
+-- where a king castles, king and rook are on their squares and go to theirs
 pub king_castles : (rule : RuleSet) (p : Position) (x : Man) (m : Move) → IsWellFormed p → man_on p.men m.from ≡ Some x → can_castle rule p x m ≡ true
     → IsCastle p m
 unfolding can_castle may_castle

@@ -16,7 +16,7 @@ cleared p x m = without_at (without_man p.men m.from) (capture_square p x m)
 arrived_there : (p : Position) (x : Man) (m : Move) → length p.men ≡ 64 → m.to < 64 → man_on (arrived p x m) m.to ≡ Some (arriving_man x m.promo)
 arrived_there p x m size small = search rules
 
--- after any move, castling too, its man stands on the arrival
+-- after any move, castling included, its man is on the arrival
 pub moved_arrival : (rule : RuleSet) (p : Position) (x : Man) (m : Move) → IsWellFormed p → IsMade rule p x m → m.to < 64
     → man_on (moved_men p x m) m.to ≡ Some (arriving_man x m.promo)
 unfolding moved_men
@@ -99,7 +99,7 @@ before_is : (rule : RuleSet) (p : Position) (x : Man) (m : Move) (u : Undo) → 
 unfolding before_by position_after_by undo_by
 before_is rule p x m u well made lost = search (rules, place_after_lift, returned)
 
--- a reborn man stands on his square
+-- a reborn man is on its rebirth square
 reborn_stands : (rule : RuleSet) (p : Position) (x : Man) (m : Move) (s : ℕ) → IsWellFormed p → IsMade rule p x m → reborn_square rule p x m ≡ Some s
     → IsSome (man_on (put_at (moved_men p x m) (reborn_square rule p x m) (captured_man p x m)) s)
 reborn_stands rule p x m s well made e =

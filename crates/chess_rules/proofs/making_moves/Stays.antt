@@ -30,7 +30,7 @@ IsSound-with men s y sound inside king = search (rules, man_on-with_cases)
 other_inside : (y : Man) (s : ℕ) → same_kind y.kind Pawn ≡ false → is_pawn_inside (Some y) s ≡ true
 other_inside y s h = cond-false (same_kind y.kind Pawn) _ _ h
 
--- the man that arrives stands where he may
+-- the man that arrives is on a square where it may be
 arriving_inside : (rule : RuleSet) (p : Position) (x : Man) (m : Move) (r : Option Kind) → IsWellFormed p → IsMade rule p x m
     → is_promotion_right p x m r ≡ true → is_pawn_inside (Some (arriving_man x r)) m.to ≡ true
 arriving_inside rule p x m r well made right =
@@ -58,7 +58,7 @@ moved_sound rule p x m well made = elim (cases_Bool (is_castling x m)) [
   | inr e ↦ rw e (arrived_sound rule p x m well made)
 ]
 
--- where and who is reborn
+-- the man that is reborn, and where
 pub record IsReborn (circe : Bool) (men : List (Option Man)) (o : Option Man) (c : Option ℕ) (r : ℕ) : Type 0 where
   pub man : Man
   pub square : ℕ
@@ -100,7 +100,7 @@ pub captured_mortal : (rule : RuleSet) (p : Position) (x : Man) (m : Move) (z : 
     → captured_man p x m ≡ Some z → same_kind z.kind King ≡ false
 captured_mortal rule p x m z well made h = (captured rule p x m z well made h).0
 
--- and no man of the mover
+-- a captured man is the opponent's
 pub captured_enemy : (rule : RuleSet) (p : Position) (x : Man) (m : Move) (z : Man) → IsWellFormed p → IsMade rule p x m
     → captured_man p x m ≡ Some z → same_colour z.colour p.turn ≡ false
 captured_enemy rule p x m z well made h = (captured rule p x m z well made h).1
@@ -117,7 +117,7 @@ after_sound rule p x m well made =
     reborn_sound (moved_men p x m) (reborn_square rule p x m) (captured_man p x m) (moved_sound rule p x m well made)
     (λ r z at who. grind (arith, reborn_is rule p x m r at, reborn_inside, captured_mortal rule p x m z well made who))
 
--- a set of unmoved squares each of which has its man
+-- each square with castling rights holds its man
 abbrev AreHome : Unmoved → List (Option Man) → Type 0
 AreHome u men = (s : ℕ) → has_unmoved u s ≡ true → is_home (man_on men s) s ≡ true
 
@@ -157,7 +157,7 @@ moved_home rule p x m well made = λ t h. elim (cases_Bool (is_castling x m)) [
   | inr e ↦ rw e (home_stays p x m t well (is_left p x m t (rw e at h)))
 ]
 
--- a reborn man stands on no unmoved square but as a rook
+-- after a rebirth each square with castling rights still holds its man
 reborn_home : (u : Unmoved) (men : List (Option Man)) (o : Option ℕ) (y : Option Man) → length men ≡ 64 → AreHome u men
     → ((r : ℕ) → o ≡ Some r → (man_on men r ≡ None) × ((r < 64) × ((z : Man) × ((y ≡ Some z) × (same_kind z.kind Rook ≡ true → is_home (Some z) r ≡ true)))))
     → AreHome (unmoved_with_rook u o y) (put_at men o y)
@@ -175,7 +175,7 @@ after_home rule p x m well made =
     reborn_home (stayed p x m) (moved_men p x m) (reborn_square rule p x m) (captured_man p x m) (moved_sound rule p x m well made).size
     (moved_home rule p x m well made) (λ r at. let b = reborn_is rule p x m r at in search (rules, rebirth_small, reborn_rook_home))
 
--- a double step leaves the pawn behind the square that it passed
+-- a double step leaves the pawn one rank beyond the square that it passed
 vacant : (men : List (Option Man)) (s : ℕ) → man_on men s ≡ None → is_vacant men s ≡ true
 vacant men s h = rw h refl
 

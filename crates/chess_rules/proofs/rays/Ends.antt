@@ -46,7 +46,7 @@ pub stays : (s : ℕ) (d : Step) → s < 64 → along s d 0 ≡ Some s
 unfolding along
 stays s d p = search rules
 
--- so j steps back from the end lies what is i steps on
+-- on a line of k = i + j steps, j steps back from the end and i steps from the start lead to one square
 pub mirrored : (s t : ℕ) (d : Step) (k i j : ℕ) → i + j ≡ k → along s d k ≡ Some t → along t (back d) j ≡ along s d i
 mirrored s t d k i j e h = let same : k - i ≡ j = omega arith in rw same at (between s t d k i (omega arith) h)
 

@@ -41,7 +41,7 @@ lowest_bits n t pos fits =
     let less = less_one (trailing_zeros w64 n) n pos z.1 z.2 in
     grind (arith, cases_lt t (trailing_zeros w64 n), cases_eq t (trailing_zeros w64 n), less, z.1, z.2 t, bit_at_xor n (n - 1) t, bit_at-lt n t)
 
--- where they rise, what isn't passed behind the first: those bits, or all of them where there is none
+-- if square numbers rise, the squares up to the first: these bits, or all bits if there is none
 pub rising_up_to : (d : Step) (w : ℕ) → w < 2 ^ 64 → rises d ≡ true → IsUpTo d w (bit_xor w ((w + (2 ^ 64 - 1)) % 2 ^ 64))
 rising_up_to d zero fits up = record { last = 63; stop = grind arith; squares = square_word _ _ (omega arith) (grind (arith, bit_at_ones 64)) }
 rising_up_to d (suc n) fits up =

@@ -9,7 +9,8 @@ bit_small d s = grind (arith, bit_at-lt d s)
 abbrev placed : ℕ → ℕ → Option Man
 placed d s = if bit_at d s == 1 then Some (record { colour = White; kind = Pawn }) else None
 
--- on such a board a man stands on a square exactly where it is one of the word
+-- on the board with men exactly on a bitboard's squares, a man is on a square exactly if the bitboard holds
+-- it
 pub one_on : (d s : ℕ) → s < 64 → is_some (man_on (men_on d) s) ≡ (bit_at d s == 1)
 unfolding squares
 one_on d s small = grind (arith, get_or-map-range_with_len (placed d) 0 64 s s None small (omega arith))
@@ -35,16 +36,16 @@ module _ (men : List (Option Man)) where
   ride_openly : (s t : ℕ) (st : Step) → rides men s t st ≡ true → rides (men_on 0) s t st ≡ true
   ride_openly s t st h = search (rules, ride-found, on_line, or_left, ride-made)
 
-  -- a nightrider reaches there what he does on some board
+  -- a nightrider reaches on the empty board what it reaches on some board
   pub rides_openly : (c : Colour) (s t : ℕ) → reaches_as men c Nightrider s t ≡ true → reaches_as (men_on 0) c Nightrider s t ≡ true
   unfolding reaches_as
   rides_openly c s t h = any_kept (rides men s t) (rides (men_on 0) s t) knight_steps (ride_openly s t) h
 
-  -- where one hops on some board, he could ride
+  -- where a hop is possible on some board, a ride is possible on the empty one
   pub hop_openly : (s t : ℕ) (st : Step) → hops men s t st ≡ true → rides (men_on 0) s t st ≡ true
   hop_openly s t st h = search (rules, cases_lt, hop-found, on_line, or_left, or_right, ride-made)
 
-  -- and a grasshopper what a queen does
+  -- where a grasshopper hops on some board, a queen rides on the empty board
   pub hops_openly : (b c : Colour) (s t : ℕ) → reaches_as men b Grasshopper s t ≡ true → reaches_as (men_on 0) c Queen s t ≡ true
   unfolding reaches_as
   hops_openly b c s t h = any_kept (hops men s t) (rides (men_on 0) s t) queen_steps (hop_openly s t) h
