@@ -24,7 +24,7 @@ king_square-some men c h =
 
 -- ---- the squares that are kept
 
--- the only king of a colour is found where he stands
+-- the search finds the only king of a colour
 king_square-at : (men : List (Option Man)) (c : Colour) (s : ℕ) → s < 64 → AtMostOneKing men → is_man (man_on men s) c King ≡ true
     → king_square men c ≡ Some s
 unfolding king_square
@@ -32,29 +32,29 @@ king_square-at men c s p one h =
     find_square_some (λ t. is_man (man_on men t) c King) s p h
     (record { fails = λ t q. false_from_ne_true _ (λ e. omega (arith, one.same c t s e h, q)) })
 
--- where there is no king none is found
+-- where there is no king the search finds none
 king_square-gone : (men : List (Option Man)) (c : Colour) → HasNoKing men c → king_square men c ≡ None
 unfolding king_square
 king_square-gone men c none = find_square_none (λ t. is_man (man_on men t) c King) 64 (omega arith) (record { fails = λ t q. none t })
 
--- where the kings stand as before they are found as before
+-- boards with kings on equal squares have equal results of the search
 king_square-same : (men others : List (Option Man)) (c : Colour) → ((t : ℕ) → is_man (man_on men t) c King ≡ is_man (man_on others t) c King)
     → king_square men c ≡ king_square others c
 unfolding king_square
 king_square-same men others c h = λ i. find (λ t. h t i) squares
 
--- a king taken off leaves none of his colour
+-- after a king is taken off, its colour has none
 none_after : (men : List (Option Man)) (s : ℕ) (x : Man) → AtMostOneKing men → man_on men s ≡ Some x → same_kind x.kind King ≡ true
     → HasNoKing (without_man men s) x.colour
 none_after men s x one held king t =
     grind (arith, cases_eq t s, man_on-without_same, man_on-without_other, same_colour-refl, one.same x.colour t s)
 
--- taken off, a man who isn't this king leaves him where he stands
+-- taking off another man leaves this king on its square
 as_without : (men : List (Option Man)) (s : ℕ) (x : Man) (c : Colour) (t : ℕ) → man_on men s ≡ Some x → is_man (Some x) c King ≡ false
     → is_man (man_on men t) c King ≡ is_man (man_on (without_man men s) t) c King
 as_without men s x c t held other = grind (arith, cases_eq t s, man_on-without_same, man_on-without_other)
 
--- nor does he move this king when he is put down
+-- putting down another man leaves this king on its square
 as_with : (men : List (Option Man)) (s : ℕ) (x : Man) (c : Colour) (t : ℕ) → man_on men s ≡ None → s < length men → is_man (Some x) c King ≡ false
     → is_man (man_on men t) c King ≡ is_man (man_on (with_man men s x) t) c King
 as_with men s x c t empty p other = grind (arith, cases_eq t s, man_on-with_same, man_on-with_other)

@@ -2,20 +2,29 @@
 use Rattle.chess_mates.proofs.Chess.{AreCastlingTargets, AreCheckSquares, AreCheckTargets, Black, CheckSquares, Colour, IsMade, IsWellFormed, King, Man, Move, Pawn, Position, Rook, RuleSet, Some, White, agree_below_at, and_parts, ap, are_rebirths_quiet, arith, arrival_needed, bit_at, bit_or, cannot_expose, captures_do_more, cases_Bool, castling_steps, check_squares_for, enemy, false, false_by, halfway, implied, in_check, inl, inr, is_castling, is_pseudo_legal, is_pseudo_legal-from_legal, is_some, is_square, is_two_files_aside, last_rank, made, man_on, may_check_from, may_expose, may_arrive, may_go_aimed, may_be_hurdle, not, off_left, off_right, other, position_after, rank_of, refl, rules, same_kind, steps_to, sym, true, word, word_has, ℕ, ◌+◌, ◌/◌, ◌<◌, ◌==◌, ◌||◌, ◌∙◌, ◌≡◌}
 use Rattle.chess_rules.proofs.attacks.EvasionTargets.{plain_elsewhere}
 use Rattle.chess_mates.proofs.CastlingChecks.{castling_gives_no_check}
+use Rattle.chess_mates.proofs.Becoming.{becomes}
 use Rattle.chess_mates.proofs.KingsApart.{kings_apart}
+use Rattle.chess_mates.proofs.Promoting.{no_check_unreached}
 use Rattle.chess_mates.proofs.Rebirths.{no_check_by_rebirth}
 use Rattle.chess_mates.proofs.Standing.{not_mine_enemy, unnamed}
+use Rattle.chess_mates.specs.ties.CheckSquares.{ArePromotionTargets}
 
 -- a pawn's last rank is in the word of both
 pub last_rank_on : (c : Colour) (t : ℕ) → t < 64 → (rank_of t == last_rank c) ≡ true → (bit_at 18374686479671623935 t == 1) ≡ true
 last_rank_on White t lt = implied _ _ (agree_below_at (λ n. not (rank_of n == 8) || bit_at 18374686479671623935 n == 1) (λ _. true) 64 t refl lt)
 last_rank_on Black t lt = implied _ _ (agree_below_at (λ n. not (rank_of n == 1) || bit_at 18374686479671623935 n == 1) (λ _. true) 64 t refl lt)
 
--- off the words of the check squares, of the crossed square, of last ranks or castlings, and of the men where a rebirth may give check
+-- where captures do no more, the rule set of checks is the rule set of play
+known_rule : (rule : RuleSet) (men : List (Option Man)) (e : Colour) → captures_do_more rule ≡ false → rule_of_checks rule men e ≡ rule
+unfolding are_rebirths_quiet
+known_rule rule men e plain = rw plain refl
+
+-- off the words of the check squares, of the en passant square, of promotions or castlings, and of the men
+-- where a rebirth may give check
 module _ (rule : RuleSet) (p : Position) (x : Man) (s : CheckSquares) (f : ℕ) (well : IsWellFormed p) (here : man_on p.men f ≡ Some x)
     (checks : AreCheckSquares p.men (other p.turn) s) (inside : f < 64) (covered : (bit_at s.blocker_squares f == 1) ≡ false) (a b c d : ℕ)
     (checked_from : a ≡ check_squares_for s x.kind) (crossed : b ≡ word (λ t. is_square p.crossed t))
-    (promotes : same_kind x.kind Pawn ≡ true → c ≡ 18374686479671623935) (castles : same_kind x.kind King ≡ true → AreCastlingTargets s f c)
+    (promotes : same_kind x.kind Pawn ≡ true → ArePromotionTargets rule p s c) (castles : same_kind x.kind King ≡ true → AreCastlingTargets s f c)
     (reborn : are_rebirths_quiet rule p.men p.turn ≡ false → captures_do_more rule ≡ true → d ≡ word (λ t. is_some (man_on p.men t))) where
   module _ (m : Move) (at : m.from ≡ f) (small : m.to < 64) (may : is_pseudo_legal rule p m ≡ true)
       (apart : same_kind x.kind King ≡ true → may_check_from p.men (other p.turn) x m.to ≡ false)
@@ -44,13 +53,27 @@ module _ (rule : RuleSet) (p : Position) (x : Man) (s : CheckSquares) (f : ℕ) 
         (sym (word_has (may_check_from p.men (other p.turn) (enemy (other p.turn) Rook)) s.straight (halfway m) checks.straight (omega arith))
         ∙ ap (λ n. bit_at s.straight ((n + m.to) / 2) == 1) at ∙ (castles king).elsewhere m.to small beside off.2)
 
-    no_check_elsewhere : in_check rule (position_after rule p m).men (other p.turn) ≡ false
+    -- a move other than castling exposes no king
+    covered_still : is_castling x m ≡ false → cannot_expose (rule_of_checks rule p.men p.turn) p (other p.turn) m ≡ true
     unfolding cannot_expose
+    covered_still n = grind (arith, plain_elsewhere, off, is.here, origin_stays, aside, cases_Bool (are_rebirths_quiet rule p.men p.turn), reborn)
+
+    -- a pawn that promotes gives no check
+    promoted : is_castling x m ≡ false → is_promoting x m.to ≡ true → in_check rule (position_after rule p m).men (other p.turn) ≡ false
+    promoted n goes =
+        let quiet = (promotes (and_parts _ _ goes).0).elsewhere x m.to small goes off.2 in
+        no_check_unreached rule p x m well may is.here small (rw (known_rule rule p.men p.turn quiet.plain) at covered_still n) (λ k there.
+        false_by _ (λ r. false≢true (sym quiet.off ∙ (checks.promotions k there).inside x (arriving_man x m.promo) m.to (arrived p x m)
+        (is.mine ∙ sym (other_twice p.turn)) small goes (becomes false p x m m.promo is.promotion quiet.kinds) r)))
+
+    no_check_elsewhere : in_check rule (position_after rule p m).men (other p.turn) ≡ false
     no_check_elsewhere = elim (cases_Bool (is_castling x m)) [
       | inl y ↦ castled y
-      | inr n ↦ no_check_by_rebirth rule p x m s a well may is.here checks checked_from small off.0 apart
-          (unnamed p x m m.promo (search (rules, and_parts, false_by, last_rank_on, off)) is.promotion)
-          (grind (arith, plain_elsewhere, off, is.here, origin_stays, aside, cases_Bool (are_rebirths_quiet rule p.men p.turn), reborn))
+      | inr n ↦ elim (cases_Bool (is_promoting x m.to)) [
+        | inl goes ↦ promoted n goes
+        | inr stays ↦ no_check_by_rebirth rule p x m s a well may is.here checks checked_from small off.0 apart
+            (unnamed p x m m.promo stays is.promotion) (covered_still n)
+      ]
     ]
 
   -- for a man that may give check, open a line, castle, capture en passant or cause a rebirth: each by its

@@ -45,7 +45,7 @@ pub field_is : (v : KingAttack) (k c r b l w : ℕ) (i : HopTargets) → AreHopT
     → ((men : List (Option Man)) → v.hurdles ≡ occupied_squares men → r ≡ word (reaches_as men White Rook k))
     → ((men : List (Option Man)) → v.hurdles ≡ occupied_squares men → b ≡ word (reaches_as men White Bishop k))
     → (v.men.nightriders ≢ 0 → (c : Colour) → IsReached v.hurdles (record { colour = c; kind = Nightrider }) k l)
-    → AreCaptureSquares v k c → ArePromotions v.men k w
+    → AreCaptureSquares v k c → ArePromotions v.men.colour v.men.fairy_promotions k w
     → IsField v (record {
       king = k;
       near = i.near;

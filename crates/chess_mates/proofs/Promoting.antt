@@ -58,15 +58,23 @@ module _ (rule : RuleSet) (p : Position) (x : Man) (m : Move) (well : IsWellForm
       (record { quiet = λ h. absurd (false≢true (sym (other_differs c) ∙ h)); stood = λ h. absurd (false≢true (sym (other_differs c) ∙ h)) }) in
       unreached_in_place then m.to k instead (other c) size_then (rw there refl) (grind (arith, there, harmless, and_right)) others
 
-  -- for the squares that he sees, told by those that are occupied then
+  -- a promotion gives no check, if the man that arrives doesn't reach the king
+  pub no_check_unreached : ((k : ℕ) → king_square p.men c ≡ Some k
+      → reaches_as then (arriving_man x m.promo).colour (arriving_man x m.promo).kind m.to k ≡ false) → in_check rule (position_after rule p m).men c ≡ false
+  unfolding in_check
+  no_check_unreached harmless = rw (simple_after rule p x m here parts.plain.castling parts.plain.rebirth) (by (king_square p.men c) refl) where
+    by : (o : Option ℕ) → king_square p.men c ≡ o → in_check rule then c ≡ false
+    by None at = rw (king_waits rule p x m c well is small refl ∙ at) refl
+    by (Some k) at = rw (king_waits rule p x m c well is small refl ∙ at) (not_attacked rule then (other c) k (unreached_then k at (harmless k at)))
+
+  -- a promotion gives no check, if the king isn't on a square that the man reaches with the squares occupied
+  -- after it
   pub no_check_seen : (w k : ℕ) → king_square p.men c ≡ Some k → ((men : List (Option Man))
       → (sight_after p.men m.from None m.to).occupied ≡ occupied_squares men
       → w ≡ word (reaches_as men (arriving_man x m.promo).colour (arriving_man x m.promo).kind m.to))
       → (bit_at w k == 1) ≡ false → in_check rule (position_after rule p m).men c ≡ false
-  unfolding in_check
   no_check_seen w k at seen off =
       let occupied = occupied_there p.men m.from (capture_square p x m) m.to (arriving_man x m.promo)
       (λ s h. captured_there p x m s parts.plain.crossed (square_is (capture_square p x m) s h)) size in
       let harmless = sym (word_has _ w k (seen then occupied) (king_there p.men c k at).0) ∙ off in
-      rw (simple_after rule p x m here parts.plain.castling parts.plain.rebirth) (rw (king_waits rule p x m c well is small refl ∙ at)
-      (not_attacked rule then (other c) k (unreached_then k at harmless)))
+      grind (arith, no_check_unreached, harmless, at)

@@ -6,28 +6,39 @@ use Rattle.chess_mates.proofs.KindByKind.{man_is}
 use Rattle.chess_mates.proofs.LastingFlights.{no_last_rank, on_both}
 use Rattle.chess_mates.specs.ties.Attackers.{is_promotion}
 use Rattle.chess_mates.specs.ties.LastingFlights.{MayBecome, counts_as}
+use Rattle.chess_core.specs.Position.{may_promote}
+use Rattle.chess_mates.specs.ties.CheckSquares.{ArePromotionTargets}
 use Rattle.chess_mates.specs.ties.KingAttack.{ArePromotions}
 
 -- a pawn is promoted on the last ranks
 promotes_on : (x : Man) (t : ℕ) → t < 64 → is_promoting x t ≡ true → (bit_at 18374686479671623935 t == 1) ≡ true
 promotes_on x t small goes = last_rank_on x.colour t small (and_parts _ _ goes).1
 
--- for `promotion_squares`: all of them
-pub any_rank : (a : Attackers) (k : ℕ) → ArePromotions a k 18374686479671623935
-any_rank a k = record { inside = λ x z t men mine small goes may h. promotes_on x t small goes }
+-- for `promotion_squares`: all squares of the last ranks
+pub any_rank : (c : Colour) (b : Bool) (k : ℕ) → ArePromotions c b k 18374686479671623935
+any_rank c b k = record { inside = λ x z t men mine small goes may h. promotes_on x t small goes }
+
+-- for `promotion_targets`: all squares of the last ranks
+pub any_target : (rule : RuleSet) (p : Position) (v : CheckSquares) → ArePromotionTargets rule p v 18374686479671623935
+any_target rule p v = record { elsewhere = λ x t small goes off. absurd (false≢true (sym off ∙ promotes_on x t small goes)) }
+
+-- for `promotion_targets`: the squares that `CheckSquares` holds
+pub target_known : (rule : RuleSet) (p : Position) (v : CheckSquares) (b : Bool) → ((k : Kind) → may_promote p k ≡ true → is_promotion b k ≡ true)
+    → b ≡ false → captures_do_more rule ≡ false → ArePromotionTargets rule p v v.promotions
+target_known rule p v b kinds none plain = record { elsewhere = λ x t small goes off. record { kinds = rw none at kinds; plain = plain; off = off } }
 
 -- without fairy men those from which a queen or a knight comes
-pub queen_or_knight : (a : Attackers) (k q n : ℕ) → a.fairy_promotions ≡ false → AreApproached (record { colour = a.colour; kind = Queen }) k q
-    → AreApproached (record { colour = a.colour; kind = Knight }) k n → ArePromotions a k (bit_and 18374686479671623935 (bit_or q n))
-queen_or_knight a k q n none queens knights = record {
+pub queen_or_knight : (c : Colour) (b : Bool) (k q n : ℕ) → b ≡ false → AreApproached (record { colour = c; kind = Queen }) k q
+    → AreApproached (record { colour = c; kind = Knight }) k n → ArePromotions c b k (bit_and 18374686479671623935 (bit_or q n))
+queen_or_knight c b k q n none queens knights = record {
   inside = λ x z t men mine small goes may h. on_both 18374686479671623935 (bit_or q n) t (promotes_on x t small goes)
       (by men t small z.kind (rw none at (may.promoted goes)) (rw (may.mine ∙ mine) at h));
 } where
-  by : (men : List (Option Man)) (t : ℕ) → t < 64 → (j : Kind) → is_promotion false j ≡ true → reaches_as men a.colour j t k ≡ true
+  by : (men : List (Option Man)) (t : ℕ) → t < 64 → (j : Kind) → is_promotion false j ≡ true → reaches_as men c j t k ≡ true
       → (bit_at (bit_or q n) t == 1) ≡ true
   by men t small Queen may h = on_left q n t (queens.inside men t small h)
-  by men t small Rook may h = on_left q n t (queens.inside men t small (reaches_counted men a.colour Rook t k h))
-  by men t small Bishop may h = on_left q n t (queens.inside men t small (reaches_counted men a.colour Bishop t k h))
+  by men t small Rook may h = on_left q n t (queens.inside men t small (reaches_counted men c Rook t k h))
+  by men t small Bishop may h = on_left q n t (queens.inside men t small (reaches_counted men c Bishop t k h))
   by men t small Knight may h = on_right q n t (knights.inside men t small h)
   by men t small _ may h = absurd (false≢true may)
 

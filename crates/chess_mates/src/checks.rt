@@ -1,18 +1,22 @@
 //! Moves that can't give check, recognised before they are made.
 ghost use Rattle.std.specs.Prelude.{◌≡◌, ◌<◌, ◌==◌, ℕ, None, Some, false, not, true, is_some};
 ghost use Rattle.std.specs.Int.{bit_at};
-ghost use Rattle.chess_core.specs.Position.{man_on, other, same_kind};
+ghost use Rattle.chess_core.specs.Position.{king_square, man_on, other, same_kind};
 ghost use Rattle.chess_core.specs.declared.man.Kind.TheVariants.{Bishop, King, Pawn, Rook};
 ghost use Rattle.chess_core.specs.WellFormed.{IsWellFormed};
 ghost use Rattle.chess_core.specs.ties.Words.{word};
 ghost use Rattle.chess_attacks.specs.Attacks.{in_check};
-ghost use Rattle.chess_mates.specs.ties.CheckSquares.{AreCastlingTargets, AreCheckSquares, AreCheckTargets, enemy, is_absent, may_check_from, check_squares_for, own_man, are_rebirths_quiet, rule_of_checks};
+ghost use Rattle.chess_mates.specs.ties.CheckSquares.{AreCastlingTargets, AreCheckSquares, ArePromotionTargets, AreCheckTargets, enemy, is_absent, may_check_from, check_squares_for, own_man, are_rebirths_quiet, rule_of_checks};
+ghost use Rattle.chess_mates.specs.ties.KingAttack.{ArePromotions};
 ghost use Rattle.chess_rules.specs.ties.Blockers.{cannot_expose, may_expose, may_be_hurdle};
 ghost use Rattle.chess_rules.specs.Legal.{is_legal, is_pseudo_legal};
 ghost use Rattle.chess_rules.specs.Play.{position_after};
 ghost use Rattle.chess_attacks.specs.RuleSet.{captures_do_more};
 
+use crate::attackers::has_fairy_promotions;
 use crate::flights::covered_squares;
+use crate::king_zone::promotion_squares;
+use crate::lasting_flights::LAST_RANKS;
 use chess_attacks::attacks_on::reach_to;
 use chess_attacks::leaps::squares_aside;
 use chess_attacks::lines::occupied;
@@ -26,9 +30,10 @@ use chess_rules::blockers::{cannot_expose, fairy_lines, safety_from};
 use chess_rules::evasions::rebirth_captures;
 use chess_rules::targets::unblocked_targets;
 
-/// The squares from which a move may give check: by exposing the king, or by a man of this kind that
-/// arrives there. A king never gives check by arriving: next to the other king it would be in check itself.
-/// The lines to the king with a fairy man on them are kept too.
+/// The squares from which a move may give check in a position: by exposing the king, or by a man of the
+/// kind that arrives there. A king gives no check itself: next to the other king it would be in check.
+/// Besides: the lines to the king with a fairy man on them, and the squares on which a pawn may promote
+/// to a man other than a fairy man that checks the king on any board.
 #[derive(Clone, Copy)]
 pub(crate) struct CheckSquares {
     blocker_squares: Squares,
@@ -39,6 +44,7 @@ pub(crate) struct CheckSquares {
     pawn: Squares,
     grasshopper: Squares,
     nightrider: Squares,
+    promotions: Squares,
 }
 
 // Returns whether this is a fairy kind and the colour has no man of it.
@@ -88,6 +94,19 @@ fn blockers_from(
     safety_from(board, colour, king, straight, diagonal, lines).blockers
 }
 
+// Returns the squares on which a pawn may promote to a man other than a fairy man that checks the
+// colour's king on any board.
+#[inline(always)]
+fn promotions_seen(board: &Board, colour: Colour) -> Squares
+    ensures { (k : ℕ) → king_square board.now.men colour ≡ Some k
+        → ArePromotions (other colour) false k result }
+{
+    let Some(king) = board.king_of(colour) else {
+        return 0;
+    };
+    promotion_squares(colour.other(), false, king)
+}
+
 // Returns the squares from which a move may give check to the colour's king.
 #[inline(always)]
 pub(crate) fn check_squares(board: &Board, colour: Colour) -> CheckSquares
@@ -105,6 +124,7 @@ pub(crate) fn check_squares(board: &Board, colour: Colour) -> CheckSquares
         pawn: check_squares_of(board, colour, Kind::Pawn),
         grasshopper: check_squares_of(board, colour, Kind::Grasshopper),
         nightrider: check_squares_of(board, colour, Kind::Nightrider),
+        promotions: promotions_seen(board, colour),
     }
 }
 
@@ -152,11 +172,7 @@ pub(crate) fn may_check_from_everywhere<R: Rules>(board: &Board, squares: &Check
     squares.blocker_squares == !0 || R::captures_do_more() && !are_rebirths_quiet::<R>(board)
 }
 
-// The first rank and the last.
-const LAST_RANKS: Squares = 0xff00_0000_0000_00ff;
-
-// The squares to which a king on `from` castles so that the rook, who comes to the square halfway, gives check,
-// and perhaps more.
+// Returns the squares to which a king on `from` castles with check by the rook, and perhaps more.
 #[inline(never)]
 #[tactic(auto, using(crate::proofs::CastlingChecks::castling_targets_are))]
 fn castling_targets(squares: &CheckSquares, from: Square) -> Squares
@@ -166,16 +182,36 @@ fn castling_targets(squares: &CheckSquares, from: Square) -> Squares
     squares_aside(from) & (checked_from << 1 | checked_from >> 1)
 }
 
-// The squares to which a man of this kind promotes, or castles if he is a king on `king`, and perhaps more.
+// Returns the squares on which a pawn may promote to a man that checks the king: all of the last ranks
+// where captures do more, or if it may promote to a fairy man.
 #[inline(always)]
-fn special_targets(squares: &CheckSquares, kind: Kind, king: Option<Square>) -> Squares
-    ensures promotes { same_kind kind Pawn ≡ true → result ≡ 18374686479671623935 }
+#[tactic(auto, using(crate::proofs::Promotions::any_target, crate::proofs::Promotions::target_known))]
+fn promotion_targets<R: Rules>(board: &Board, squares: &CheckSquares) -> Squares
+    ensures { ArePromotionTargets R.rule board.now squares.now result }
+{
+    if R::captures_do_more() || has_fairy_promotions(board) {
+        return LAST_RANKS;
+    }
+    squares.promotions
+}
+
+// Returns the squares to which a man of this kind promotes with check, or castles if it is a king on
+// `king`, and perhaps more.
+#[inline(always)]
+fn special_targets<R: Rules>(
+    board: &Board,
+    squares: &CheckSquares,
+    kind: Kind,
+    king: Option<Square>,
+) -> Squares
+    ensures promotes { same_kind kind Pawn ≡ true
+        → ArePromotionTargets R.rule board.now squares.now result }
     ensures castles { (s : ℕ) → king ≡ Some s → same_kind kind King ≡ true
         → AreCastlingTargets squares.now s result }
 {
     match king {
         Some(from) if kind.is(Kind::King) => castling_targets(squares, from),
-        _ if kind.is(Kind::Pawn) => LAST_RANKS,
+        _ if kind.is(Kind::Pawn) => promotion_targets::<R>(board, squares),
         _ => 0,
     }
 }
@@ -200,7 +236,7 @@ pub(crate) fn targets_off_blockers<R: Rules>(
     let checked_from = check_squares_for(squares, kind);
     checked_from
         | only(board.crossed())
-        | special_targets(squares, kind, king)
+        | special_targets::<R>(board, squares, kind, king)
         | checking_rebirths::<R>(board)
         | squares.fairy_lines
 }

@@ -57,6 +57,11 @@ impl KeptFlights {
         }
     }
 
+    /// Returns whether the filter may pass moves of men other than the king.
+    pub fn takes_others(&self) -> bool {
+        self.needed != !0
+    }
+
     // Returns which of `squares` are risky: where the arrival of the man on `from` might leave the king without a
     // flight.
     fn unkept_squares<R: Rules>(&self, _board: &Board, from: Square, squares: Squares) -> Squares

@@ -190,15 +190,15 @@ pub(crate) fn no_hop_targets(king_attack: &KingAttack, king: Square) -> HopTarge
     }
 }
 
-// The squares on which a pawn may become a man who checks the king, whoever else stands on the board.
+// Returns the squares on which a pawn of the colour may promote to a man that checks the king, on any
+// board.
 #[tactic(auto, using(crate::proofs::Promotions::any_rank, crate::proofs::Promotions::queen_or_knight))]
-fn promotion_squares(men: &Attackers, king: Square) -> Squares
-    ensures { ArePromotions men.now king result }
+pub(crate) fn promotion_squares(colour: Colour, fairy_promotions: bool, king: Square) -> Squares
+    ensures { ArePromotions colour fairy_promotions king result }
 {
-    if men.fairy_promotions {
+    if fairy_promotions {
         return LAST_RANKS;
     }
-    let colour = men.colour;
     let kind = Kind::Queen;
     let queens = open_approaches(Man { colour, kind }, king);
     let kind = Kind::Knight;
@@ -232,7 +232,11 @@ pub(crate) fn field_of(
         lines: straight | diagonal | riders,
         springboards: hop_targets.own,
         hops: hop_targets.all,
-        promotions: promotion_squares(&king_attack.men, king),
+        promotions: promotion_squares(
+            king_attack.men.colour,
+            king_attack.men.fairy_promotions,
+            king,
+        ),
     }
 }
 

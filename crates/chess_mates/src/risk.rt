@@ -73,6 +73,7 @@ fn critical_with(near: Squares, enemies: Squares, man: Man, to: Square) -> Squar
 // Returns the squares whose occupation by a defender might leave none of `near`, wherever the man arrives
 // on a target.
 #[tactic(auto, using(chess_attacks::proofs::HoldTaken::rest_falls, chess_attacks::proofs::HoldTaken::taken_all, chess_attacks::proofs::HoldTaken::taken_none))]
+#[inline(always)]
 fn critical_after(near: Squares, enemies: Squares, man: Man, targets: Squares) -> Squares
     ensures { (t : ℕ) → t < 64 → (bit_at targets t == 1) ≡ true
         → LeavesOne near enemies result man t }
@@ -89,6 +90,7 @@ fn critical_after(near: Squares, enemies: Squares, man: Man, targets: Squares) -
 // Returns the squares whose occupation by a defender might leave none of `near` after a pawn arrives on a
 // target, whatever it promotes to: a promoted rook or bishop takes no more than a queen.
 #[tactic(auto, using(crate::proofs::Promotions::pawn_leaves, crate::proofs::Promotions::unpromoted_leaves))]
+#[inline(never)]
 fn critical_of_pawn(near: Squares, enemies: Squares, man: Man, targets: Squares) -> Squares
     ensures { (t : ℕ) → t < 64 → (bit_at targets t == 1) ≡ true → (z : Man)
         → MayBecome false man t z → LeavesOne near enemies result z t }

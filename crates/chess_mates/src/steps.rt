@@ -126,7 +126,6 @@ fn plain_squares<R: Rules>(king_attack: &KingAttack) -> Squares
 // Returns exactly which of the squares the king may legally step to, if they can be computed: not in
 // Madrasi, not for few squares, and not if the king may castle or, in Circe, capture on one of them.
 #[tactic(auto, using(crate::proofs::ExactSteps::unreached_are))]
-#[inline(always)]
 pub(crate) fn exact_steps<R: Rules>(king_attack: &KingAttack, squares: Squares) -> Option<Squares>
     ensures { IfSome result (λ w. AreExactSteps R.rule king_attack.now squares w) }
 {

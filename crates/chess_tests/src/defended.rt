@@ -74,7 +74,7 @@ fn rules_out_a_mate<R: Rules>(rule: Rule, board: &mut Board, reported: &mut u32)
 }
 
 // Returns whether some reply to the move mates, by the plain rules.
-fn is_followed_by_mate(rule: Rule, plain: &Plain, m: &Move) -> bool {
+pub(crate) fn is_followed_by_mate(rule: Rule, plain: &Plain, m: &Move) -> bool {
     let after = plain.after(rule, m);
     let replies = after.moves_but_for_check(rule);
     for reply in replies.as_slice() {

@@ -4,6 +4,7 @@ mod fairy;
 mod kings;
 mod lines;
 mod pawns;
+mod promotions;
 mod rebirths;
 
 use crate::draw::Draw;
@@ -22,6 +23,12 @@ pub(crate) enum Family {
     EnPassant,
     // Pawns one step before their last rank.
     Promotions,
+    // A pawn before its last rank that opens its own line to the other king.
+    OpenedLines,
+    // A pawn that gives check once it is a knight.
+    Underpromotions,
+    // A pawn before its last rank, with a fairy man elsewhere.
+    FairyPromotions,
     // Kings and rooks at home.
     Castling,
     // Kings and rooks at home, with the other king on their rank.
@@ -61,6 +68,9 @@ impl Family {
             Family::DoubleChecks => lines::double_checks(draw),
             Family::EnPassant => pawns::en_passant(draw),
             Family::Promotions => pawns::promotions(draw),
+            Family::OpenedLines => promotions::opened_lines(draw),
+            Family::Underpromotions => promotions::underpromotions(draw),
+            Family::FairyPromotions => promotions::fairy_promotions(draw),
             Family::Castling => castling::castling(draw),
             Family::HomeRanks => castling::home_ranks(draw),
             Family::KingSteps => kings::king_steps(draw),

@@ -15,6 +15,8 @@ mod defended;
 #[cfg(test)]
 mod draw;
 #[cfg(test)]
+mod escaped;
+#[cfg(test)]
 mod family;
 #[cfg(test)]
 mod motif;

@@ -3,5 +3,6 @@ mod agreements;
 mod by_hand;
 mod counts;
 mod defences;
+mod escapes;
 mod positions;
 mod surveys;

@@ -160,7 +160,8 @@ fn keeps_flight<R: Rules>(board: &mut Board, king: Square) -> bool
     let known = LegalCursor::<R>::of(board);
     let kings = board.squares(board.turn(), Kind::King);
     let men = board.side(board.turn()) & !kings;
-    known.has_filtered(&mut flights, board, men) || known.has_filtered(&mut flights, board, kings)
+    flights.takes_others() && known.has_filtered(&mut flights, board, men)
+        || known.has_filtered(&mut flights, board, kings)
 }
 
 // The most attackers against which kept flights are computed before any defence is tried. The limit affects

@@ -2,7 +2,7 @@
 use Rattle.std.specs.Prelude.{◌≡◌, ℕ, ◌+◌, ◌/◌, ◌<◌, Bool, true, false, ◌&&◌, ◌||◌, ◌==◌, not, List, Option, Some, None, if◌then◌else◌}
 use Rattle.std.specs.Int.{bit_at}
 use Rattle.std.specs.Int.Bits.{bit_or}
-use Rattle.chess_core.specs.Position.{Position, is_fairy, is_man, king_square, man_on, other}
+use Rattle.chess_core.specs.Position.{Position, is_fairy, is_man, king_square, man_on, may_promote, other}
 use Rattle.chess_core.specs.Squares.{some_square}
 use Rattle.chess_core.specs.ties.Words.{word}
 use Rattle.chess_core.specs.declared.man.Man.{Man}
@@ -11,14 +11,16 @@ use Rattle.chess_core.specs.declared.man.Colour.{Colour}
 use Rattle.chess_core.specs.declared.man.Kind.{Kind}
 use Rattle.chess_core.specs.declared.man.Kind.TheVariants.{King, Queen, Rook, Bishop, Knight, Pawn, Grasshopper, Nightrider}
 use Rattle.chess_mates.specs.declared.checks.CheckSquares.{CheckSquares}
+use Rattle.chess_mates.specs.ties.Attackers.{is_promotion}
+use Rattle.chess_mates.specs.ties.KingAttack.{ArePromotions}
 use Rattle.chess_attacks.specs.Attacks.{in_check}
 use Rattle.chess_rules.specs.Legal.{is_legal}
 use Rattle.chess_rules.specs.Play.{position_after}
 use Rattle.chess_attacks.specs.Reaches.{reaches_as}
-use Rattle.chess_attacks.specs.RuleSet.{RuleSet, captures_are_reborn, orthodox}
+use Rattle.chess_attacks.specs.RuleSet.{RuleSet, captures_are_reborn, captures_do_more, orthodox}
 use Rattle.chess_attacks.specs.ties.Lines.{is_two_files_aside}
 use Rattle.chess_rules.specs.ties.Blockers.{may_expose, may_be_hurdle}
-use Rattle.chess_rules.specs.ties.Targets.{may_arrive}
+use Rattle.chess_rules.specs.ties.Targets.{is_promoting, may_arrive}
 
 -- x is a fairy man, and no man of its colour and kind is on the board
 abbrev pub is_absent : List (Option Man) → Man → Bool
@@ -64,6 +66,8 @@ pub record AreCheckSquares (men : List (Option Man)) (c : Colour)
   pub pawn : s.pawn ≡ word (may_check_from men c (enemy c Pawn))
   pub grasshopper : s.grasshopper ≡ word (may_check_from men c (enemy c Grasshopper))
   pub nightrider : s.nightrider ≡ word (may_check_from men c (enemy c Nightrider))
+  pub promotions : (k : ℕ) → king_square men c ≡ Some k
+      → ArePromotions (other c) false k s.promotions
 
 -- the check squares for a kind; none for a king, which would be in check itself where it gives check
 abbrev pub check_squares_for : CheckSquares → Kind → ℕ
@@ -75,6 +79,19 @@ check_squares_for s Knight = s.knight
 check_squares_for s Pawn = s.pawn
 check_squares_for s Grasshopper = s.grasshopper
 check_squares_for s Nightrider = s.nightrider
+
+-- no pawn may promote to a fairy man, captures do no more, and t isn't one of the squares on which a
+-- promoted pawn may give check
+pub record PromotesQuietly (rule : RuleSet) (p : Position) (v : CheckSquares) (t : ℕ) : Type 0 where
+  pub kinds : (k : Kind) → may_promote p k ≡ true → is_promotion false k ≡ true
+  pub plain : captures_do_more rule ≡ false
+  pub off : (bit_at v.promotions t == 1) ≡ false
+
+-- on each square off the word to which a pawn promotes, it promotes without check
+pub record ArePromotionTargets (rule : RuleSet) (p : Position) (v : CheckSquares) (w : ℕ) : Type
+    0 where
+  pub elsewhere : (x : Man) (t : ℕ) → t < 64 → is_promoting x t ≡ true
+      → (bit_at w t == 1) ≡ false → PromotesQuietly rule p v t
 
 -- a legal move from s gives no check, if it goes to a square not in the word
 pub record AreCheckTargets (rule : RuleSet) (p : Position) (s w : ℕ) : Type 0 where

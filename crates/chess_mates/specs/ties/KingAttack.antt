@@ -348,10 +348,11 @@ pub record AreCaptureSquares (v : KingAttack) (k w : ℕ) : Type 0 where
   pub plain : (f s : ℕ) (z : Man) → (bit_at w f == 1) ≡ true → IsAttacker v.men z s
       → is_hopper (gait_of z.kind) ≡ false
 
--- the word has each square on which one of these men's pawns may become a man who reaches k, whoever else stands on the board
-pub record ArePromotions (a : Attackers) (k w : ℕ) : Type 0 where
-  pub inside : (x z : Man) (t : ℕ) (men : List (Option Man)) → x.colour ≡ a.colour → t < 64
-      → is_promoting x t ≡ true → MayBecome a.fairy_promotions x t z
+-- the word has each square on which a pawn of colour c may promote to a man that reaches k, on any board; to
+-- a fairy man only if b
+pub record ArePromotions (c : Colour) (b : Bool) (k w : ℕ) : Type 0 where
+  pub inside : (x z : Man) (t : ℕ) (men : List (Option Man)) → x.colour ≡ c → t < 64
+      → is_promoting x t ≡ true → MayBecome b x t z
       → reaches_as men z.colour z.kind t k ≡ true → (bit_at w t == 1) ≡ true
 
 -- a rider; a nightrider only if the attackers have one
@@ -377,7 +378,7 @@ pub record IsField (v : KingAttack) (g : KingZone) : Type 0 where
       → IsReached v.hurdles (record { colour = c; kind = Bishop }) g.king g.diagonal
   pub lines : (c : Colour) (k : Kind) → MayRide v k
       → IsReached v.hurdles (record { colour = c; kind = k }) g.king g.lines
-  pub promotions : ArePromotions v.men g.king g.promotions
+  pub promotions : ArePromotions v.men.colour v.men.fairy_promotions g.king g.promotions
 
 -- no rook checks from a square to which it may castle, no king leaves a line of the zone, and there is no
 -- fairy man

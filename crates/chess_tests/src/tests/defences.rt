@@ -7,13 +7,48 @@ use std::process::Abort;
 
 // A name, the rule, the family, the number of its positions compared, and the least number of moves after
 // which threats must rule out a mate.
-const FAMILIES: [(&str, Rule, Family, u64, u32); 6] = [
+const FAMILIES: [(&str, Rule, Family, u64, u32); 11] = [
     ("flights", Circe, Family::Flights, 500, 300),
-    ("rebirths before mates", Circe, Family::Nets, 1_500, 5_000),
-    ("discovered checks", Circe, Family::Batteries, 500, 1_500),
-    ("springboards", Orthodox, Family::Hurdles, 500, 1_500),
+    ("rebirths before mates", Circe, Family::Nets, 900, 3_000),
+    ("discovered checks", Circe, Family::Batteries, 400, 1_200),
+    ("springboards", Orthodox, Family::Hurdles, 400, 1_200),
     ("reborn hurdles", Circe, Family::RebornHurdles, 500, 1_000),
     ("nightriders", Madrasi, Family::NightriderLines, 300, 1_000),
+    (
+        "promotions on opened lines",
+        Orthodox,
+        Family::OpenedLines,
+        200,
+        200,
+    ),
+    (
+        "underpromotions",
+        Orthodox,
+        Family::Underpromotions,
+        200,
+        200,
+    ),
+    (
+        "promotions to fairy men",
+        Orthodox,
+        Family::FairyPromotions,
+        150,
+        150,
+    ),
+    (
+        "promotions on opened lines in Circe",
+        Circe,
+        Family::OpenedLines,
+        150,
+        150,
+    ),
+    (
+        "underpromotions in Circe",
+        Circe,
+        Family::Underpromotions,
+        100,
+        100,
+    ),
 ];
 
 #[test]

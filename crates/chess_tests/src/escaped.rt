@@ -1,0 +1,99 @@
+//! Positions before a defence: whether a man who is said to have a safe defence has one.
+ghost use Rattle.std.specs.Prelude.{◌≡◌};
+ghost use Rattle.chess_core.specs.Diagrams.{position_of};
+ghost use Rattle.chess_core.specs.WellFormed.{IsWellFormed};
+
+use crate::defended::is_followed_by_mate;
+use crate::draw::Draw;
+use crate::family::Family;
+use crate::plain::{Plain, Rule};
+use chess_core::{Board, Diagram, Square};
+use chess_mates::kept_flights::KeptFlights;
+use chess_mates::threats::Threats;
+use chess_rules::words::only;
+use chess_rules::{Circe, LegalCursor, Madrasi, Orthodox, Rules};
+
+// What the filter says of the men in the positions of a family.
+#[derive(Clone, Copy)]
+pub(crate) struct Defended {
+    // The number of the first position in which a man without a safe defence is said to have one.
+    pub(crate) wrong: Option<u64>,
+    // How many men are said to have one.
+    pub(crate) taken: u32,
+}
+
+// Asks about each man of the side to move in `count` positions of the family under the rule.
+pub(crate) fn kept_flights(rule: Rule, family: Family, count: u64) -> Defended {
+    let mut defended = Defended {
+        wrong: None,
+        taken: 0,
+    };
+    for number in 0..count {
+        let diagram = family.diagram(&mut Draw::of(number));
+        if diagram.is_well_formed() {
+            for from in 0..64u8 {
+                match said_by(rule, &diagram, Square::numbered(from)) {
+                    Said::Nothing => {}
+                    Said::Right => defended.taken = defended.taken.saturating_add(1),
+                    Said::Wrong => defended.wrong = Some(number),
+                }
+            }
+        }
+        if defended.wrong.is_some() {
+            return defended;
+        }
+    }
+    defended
+}
+
+// What the filter says of one man.
+#[derive(Clone, Copy, PartialEq, Eq)]
+enum Said {
+    Nothing,
+    Right,
+    Wrong,
+}
+
+fn said_by(rule: Rule, diagram: &Diagram, from: Square) -> Said
+    requires { IsWellFormed (position_of diagram.now) }
+{
+    match rule {
+        Rule::Orthodox => said_of::<Orthodox>(rule, diagram, from),
+        Rule::Circe => said_of::<Circe>(rule, diagram, from),
+        Rule::Madrasi => said_of::<Madrasi>(rule, diagram, from),
+    }
+}
+
+fn said_of<R: Rules>(rule: Rule, diagram: &Diagram, from: Square) -> Said
+    requires { IsWellFormed (position_of diagram.now) }
+{
+    let mut board = Board::of(diagram);
+    let plain = Plain::of(&board);
+    let Some(king) = board.king_of(board.turn()) else {
+        return Said::Nothing;
+    };
+    if !Threats::are_known::<R>() {
+        return Said::Nothing;
+    }
+    let mut flights = KeptFlights::of::<R>(&board, king);
+    let known = LegalCursor::<R>::of(&board);
+    if !known.has_filtered(&mut flights, &mut board, only(Some(from))) {
+        return Said::Nothing;
+    }
+    if has_safe_move(rule, &plain, from) {
+        Said::Right
+    } else {
+        Said::Wrong
+    }
+}
+
+// Whether the man on the square has a legal move that no mate follows, by the plain rules.
+fn has_safe_move(rule: Rule, plain: &Plain, from: Square) -> bool {
+    let moves = plain.moves_but_for_check(rule);
+    for m in moves.as_slice() {
+        if m.from == from && plain.is_legal(rule, m) && !is_followed_by_mate(rule, plain, m) {
+            return true;
+        }
+    }
+    false
+}

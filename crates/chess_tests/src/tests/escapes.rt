@@ -1,0 +1,30 @@
+//! Defences after which the king keeps a flight, beside the plain rules.
+use crate::escaped::kept_flights;
+use crate::family::Family;
+use crate::plain::Rule;
+use crate::plain::Rule::{Madrasi, Orthodox};
+use std::process::Abort;
+
+// A name, the rule, the family, how many of its positions are compared, and how many men at least are said to have a safe
+// defence.
+const FAMILIES: [(&str, Rule, Family, u64, u32); 6] = [
+    ("pinned men", Orthodox, Family::Pins, 60, 6),
+    ("castling", Orthodox, Family::Castling, 60, 6),
+    ("kings in check", Orthodox, Family::KingSteps, 60, 6),
+    ("promotions", Orthodox, Family::Underpromotions, 60, 6),
+    ("en passant", Orthodox, Family::EnPassant, 60, 6),
+    ("paralysed men", Madrasi, Family::Paralysis, 60, 6),
+];
+
+#[test]
+fn escape_by_kept_flights(rt: HostRuntime) {
+    for (name, rule, family, count, least) in &FAMILIES {
+        let defended = kept_flights(*rule, *family, *count);
+        let (wrong, taken) = (defended.wrong, defended.taken);
+        assert!(rt;
+            wrong.is_none(),
+            "{name}: a man in number {wrong:?} has no safe defence"
+        );
+        assert!(rt; taken >= *least, "{name}: {taken} men have a safe defence");
+    }
+}
