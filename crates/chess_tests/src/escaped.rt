@@ -7,10 +7,10 @@ use crate::defended::is_followed_by_mate;
 use crate::draw::Draw;
 use crate::family::Family;
 use crate::plain::{Plain, Rule};
+use chess_attacks::words::only;
 use chess_core::{Board, Diagram, Square};
 use chess_mates::kept_flights::KeptFlights;
 use chess_mates::threats::Threats;
-use chess_rules::words::only;
 use chess_rules::{Circe, LegalCursor, Madrasi, Orthodox, Rules};
 
 // What the filter says of the men in the positions of a family.
