@@ -23,13 +23,13 @@ pub(crate) struct Texts<'a> {
 /// Contracts see the record `Posed`, and `IsSound` holds for every problem (`specs/Posed.antt`).
 #[derive(Clone, Copy)]
 pub struct Problem {
-    setup: Diagram,
-    aim: Stipulation,
-    fairy: Option<Condition>,
+    diagram: Diagram,
+    stipulation: Stipulation,
+    condition: Option<Condition>,
     switches: Switches,
-    limit: u32,
-    named: Text,
-    composer: Text,
+    max_solutions: u32,
+    title: Text,
+    author: Text,
 }
 
 impl Model for Problem {
@@ -38,37 +38,37 @@ impl Model for Problem {
     ghost Value = { Posed };
 
     ghost view = { λ p. record {
-      diagram = p.setup;
-      stipulation = p.aim;
-      condition = p.fairy;
+      diagram = p.diagram;
+      stipulation = p.stipulation;
+      condition = p.condition;
       set_play = p.switches.set_play;
       variation = p.switches.variation;
       no_board = p.switches.no_board;
-      max_solutions = p.limit;
-      title = p.named;
-      author = p.composer;
+      max_solutions = p.max_solutions;
+      title = p.title;
+      author = p.author;
     } };
 
     ghost invariant = { λ p. IsSound (record {
-      diagram = p.setup;
-      stipulation = p.aim;
-      condition = p.fairy;
+      diagram = p.diagram;
+      stipulation = p.stipulation;
+      condition = p.condition;
       set_play = p.switches.set_play;
       variation = p.switches.variation;
       no_board = p.switches.no_board;
-      max_solutions = p.limit;
-      title = p.named;
-      author = p.composer;
+      max_solutions = p.max_solutions;
+      title = p.title;
+      author = p.author;
     }) };
 
     ghost inverse = { λ v. record {
-      setup = v.diagram;
-      aim = v.stipulation;
-      fairy = v.condition;
+      diagram = v.diagram;
+      stipulation = v.stipulation;
+      condition = v.condition;
       switches = record { set_play = v.set_play; variation = v.variation; no_board = v.no_board };
-      limit = v.max_solutions;
-      named = v.title;
-      composer = v.author;
+      max_solutions = v.max_solutions;
+      title = v.title;
+      author = v.author;
     } };
 }
 
@@ -106,13 +106,13 @@ impl Problem {
         } }
     {
         Problem {
-            setup: *diagram,
-            aim: stipulation,
-            fairy: condition,
+            diagram: *diagram,
+            stipulation,
+            condition,
             switches,
-            limit: max_solutions,
-            named: *texts.title,
-            composer: *texts.author,
+            max_solutions,
+            title: *texts.title,
+            author: *texts.author,
         }
     }
 
@@ -121,14 +121,14 @@ impl Problem {
         ensures diagram { result ≡ self.now.diagram }
         ensures sound { IsSound self.now }
     {
-        self.setup
+        self.diagram
     }
 
     /// Returns the diagram by reference.
     pub fn setup(&self) -> &Diagram
         ensures { result.now ≡ self.now.diagram }
     {
-        &self.setup
+        &self.diagram
     }
 
     /// Returns the stipulation.
@@ -136,14 +136,14 @@ impl Problem {
         ensures stipulation { result ≡ self.now.stipulation }
         ensures sound { IsSound self.now }
     {
-        self.aim
+        self.stipulation
     }
 
     /// Returns the condition, if any.
     pub fn condition(&self) -> Option<Condition>
         ensures { result ≡ self.now.condition }
     {
-        self.fairy
+        self.condition
     }
 
     /// Returns whether to solve set play before the play.
@@ -173,20 +173,20 @@ impl Problem {
         ensures limit { result ≡ self.now.max_solutions }
         ensures sound { IsSound self.now }
     {
-        self.limit
+        self.max_solutions
     }
 
     /// The last title, empty if there is none.
     pub fn title(&self) -> &Text
         ensures { result.now ≡ self.now.title }
     {
-        &self.named
+        &self.title
     }
 
     /// The last author, empty if there is none.
     pub fn author(&self) -> &Text
         ensures { result.now ≡ self.now.author }
     {
-        &self.composer
+        &self.author
     }
 }
