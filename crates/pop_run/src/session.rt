@@ -12,7 +12,6 @@ ghost use Rattle.pop_run.specs.ties.Sessions.{HasMore, Steps, first_state, is_pr
 use crate::choice::Choice;
 use crate::solutions::print_sound;
 use crate::status::{Status, Step};
-use pop_input::fault_kind::FaultKind;
 use pop_input::item::{Fault, Item, Last};
 use pop_input::reader::Reader;
 use pop_print::print_fault;
