@@ -1,5 +1,5 @@
 -- Promoting pawns: where they may give check, and what they leave.
-use Rattle.chess_mates.proofs.Chess.{AreApproached, Attackers, Bishop, Bool, Colour, Kind, King, Knight, LeavesOne, LeavesUntaken, List, Man, Option, Pawn, Queen, Rook, and_parts, arith, bit_and, bit_at, bit_or, cases_Bool, eqb-true, false, false_by, false≢true, inl, inr, is_promoting, off_left, off_right, on_left, on_right, reaches_as, refl, rules, same_kind, subst, sym, true, ℕ, ◌<◌, ◌==◌, ◌∙◌, ◌≡◌}
+use Rattle.chess_mates.proofs.Chess.{AreApproached, Attackers, Bishop, Bool, Colour, Kind, King, Knight, LeavesOne, LeavesUntaken, List, Man, Option, Pawn, Queen, Rook, and_parts, arith, bit_and, bit_at, bit_or, cases_Bool, eqb-true, false, false_by, false≢true, inl, inr, is_promoting, off_left, off_right, on_left, on_right, reaches_as, refl, rules, same_kind, subst, sym, true, ℕ, ◌<◌, ◌==◌, ◌∙◌, ◌≡◌, RuleSet, Position, CheckSquares, captures_do_more}
 use Rattle.chess_mates.proofs.Becoming.{counted_left, piece_stays, reaches_counted, unchanged}
 use Rattle.chess_mates.proofs.CheckTargets.{last_rank_on}
 use Rattle.chess_mates.proofs.KindByKind.{man_is}
