@@ -8,7 +8,7 @@ import subprocess
 import tempfile
 import time
 from pathlib import Path
-from typing import Any, Dict, List, Optional, Tuple
+from typing import Any, Optional
 
 SECONDS_OF_AN_ANSWER = 60
 _FLAGS = (
@@ -53,7 +53,7 @@ class Browser:
         self._kept = b""
         self._number = 0
         self._session: Optional[str] = None
-        self.events: List[Dict[str, Any]] = []
+        self.events: list[dict[str, Any]] = []
         target = self.call("Target.createTarget", url="about:blank")["targetId"]
         attached = self.call("Target.attachToTarget", targetId=target, flatten=True)
         self._session = attached["sessionId"]
@@ -67,7 +67,7 @@ class Browser:
         os.close(self._out)
         self._room.cleanup()
 
-    def _message(self, seconds: float) -> Dict[str, Any]:
+    def _message(self, seconds: float) -> dict[str, Any]:
         end = time.monotonic() + seconds
         while b"\0" not in self._kept:
             ready, _, _ = select.select([self._in], [], [], max(0, end - time.monotonic()))
@@ -80,10 +80,10 @@ class Browser:
         message, self._kept = self._kept.split(b"\0", 1)
         return json.loads(message)
 
-    def call(self, method: str, **parameters: Any) -> Dict[str, Any]:
+    def call(self, method: str, **parameters: Any) -> dict[str, Any]:
         """Asks the browser for something and answers what it says."""
         self._number += 1
-        asked: Dict[str, Any] = {"id": self._number, "method": method, "params": parameters}
+        asked: dict[str, Any] = {"id": self._number, "method": method, "params": parameters}
         if self._session is not None:
             asked["sessionId"] = self._session
         data = json.dumps(asked).encode() + b"\0"
@@ -130,7 +130,7 @@ class Browser:
             mobile=False,
         )
 
-    def middle(self, selector: str) -> Tuple[float, float]:
+    def middle(self, selector: str) -> tuple[float, float]:
         """Where the middle of an element is, after it was scrolled into sight."""
         found = self.run(
             f"(() => {{ const it = document.querySelector({json.dumps(selector)});"
@@ -139,7 +139,7 @@ class Browser:
         )
         return found[0], found[1]
 
-    def mouse(self, kind: str, place: Tuple[float, float], button: str = "left") -> None:
+    def mouse(self, kind: str, place: tuple[float, float], button: str = "left") -> None:
         self.call(
             "Input.dispatchMouseEvent",
             type=kind,

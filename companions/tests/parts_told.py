@@ -9,9 +9,10 @@ import os
 import re
 import resource
 import subprocess
-from typing import Dict, List, NamedTuple, Optional, Sequence
+from collections.abc import Sequence
+from typing import NamedTuple, Optional
 
-from pops_many.program import MissingError, find_part_program
+from pops_companions.many.program import MissingError, find_part_program
 
 _TOTAL = re.compile(rb"^solutions: (\d+)(, stopped)?\n", re.MULTILINE)
 _MOST = b"\nOption MaxSolutions 4000000000 End"
@@ -32,7 +33,7 @@ class Told(NamedTuple):
 
     status: int
     listed: bytes
-    parts: Dict[str, List[bytes]]
+    parts: dict[str, list[bytes]]
 
 
 @functools.lru_cache(maxsize=64)
@@ -77,7 +78,7 @@ def _asked(path: str, text: bytes, depth: int) -> Optional[Told]:
     """What the program itself tells; all parts of a phase at once."""
     how = ["--depth", str(depth)]
     listed = _run([path, "--list", *how], text)
-    parts: Dict[str, List[bytes]] = {}
+    parts: dict[str, list[bytes]] = {}
     for phase, count in re.findall(r"(set|play) (\d+)", listed.stdout.decode("ascii")):
         parts[phase] = []
         if count != "0":
@@ -100,7 +101,7 @@ def _shared(text: bytes, depth: int) -> Told:
     stopped = [int(total[1]) for total in _TOTAL.finditer(_report(text)[len(head) :]) if total[2]]
     limit = min(stopped, default=float("inf"))
     is_help = head.rstrip(b"\n").rsplit(b"\n", 1)[-1].startswith(b"h")
-    parts: Dict[str, List[bytes]] = {}
+    parts: dict[str, list[bytes]] = {}
     counts = []
     for phase, lines in _phases(_unlimited(text)[len(head) :]).items():
         if lines == [b"not possible"]:
@@ -124,9 +125,9 @@ def _unlimited(text: bytes) -> bytes:
     return _report(text) if done.returncode < 0 else done.stdout
 
 
-def _phases(lines: bytes) -> Dict[str, List[bytes]]:
+def _phases(lines: bytes) -> dict[str, list[bytes]]:
     """The lines of each phase, without its total."""
-    phases: Dict[str, List[bytes]] = {}
+    phases: dict[str, list[bytes]] = {}
     name = ""
     for line in _TOTAL.sub(b"", lines).splitlines():
         if line in (b"set", b"play"):
@@ -137,10 +138,10 @@ def _phases(lines: bytes) -> Dict[str, List[bytes]]:
     return phases
 
 
-def _by_first_moves(lines: List[bytes], depth: int) -> List[List[bytes]]:
+def _by_first_moves(lines: list[bytes], depth: int) -> list[list[bytes]]:
     """The lines of a phase, those of each part together."""
-    parts: List[List[bytes]] = []
-    last: Optional[List[bytes]] = None
+    parts: list[list[bytes]] = []
+    last: Optional[list[bytes]] = None
     for line in lines:
         begins = last if line.startswith(b" ") else _moves(line)[:depth]
         if begins != last:
@@ -152,9 +153,9 @@ def _by_first_moves(lines: List[bytes], depth: int) -> List[List[bytes]]:
     return parts + [[]]
 
 
-def _moves(line: bytes) -> List[bytes]:
+def _moves(line: bytes) -> list[bytes]:
     """The half-moves of a line of help play."""
-    moves: List[bytes] = []
+    moves: list[bytes] = []
     for word in line.split(b" "):
         if word.startswith(b"ep."):
             moves[-1] += b" " + word
@@ -163,9 +164,9 @@ def _moves(line: bytes) -> List[bytes]:
     return moves
 
 
-def _limited(lines: List[bytes], limit: float) -> bytes:
+def _limited(lines: list[bytes], limit: float) -> bytes:
     """The report of a part, with so many solutions at the most."""
-    shown: List[bytes] = []
+    shown: list[bytes] = []
     count = 0
     for line in lines:
         if not line.startswith(b" "):

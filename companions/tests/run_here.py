@@ -4,10 +4,10 @@ import functools
 import io
 import sys
 from types import ModuleType
-from typing import List, Optional
+from typing import Optional
 from unittest import mock
 
-import support
+from tests import support
 
 _loaded = functools.lru_cache(maxsize=None)(support.loaded)
 
@@ -17,7 +17,7 @@ def companion(name: str, *words: str, text: bytes = b"") -> support.Outcome:
     module: ModuleType = _loaded(name)
     source = io.TextIOWrapper(io.BytesIO(text))
     output, error = io.TextIOWrapper(io.BytesIO(), "utf-8"), io.StringIO()
-    arguments: List[str] = [name, *words]
+    arguments: list[str] = [name, *words]
     status: Optional[object] = None
     with mock.patch.multiple(sys, argv=arguments, stdin=source, stdout=output, stderr=error):
         try:

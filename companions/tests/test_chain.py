@@ -6,9 +6,9 @@ import tempfile
 import unittest
 from pathlib import Path
 
-import support
-import test_fen2pop
-import test_pages
+from tests import support
+from tests import test_fen2pop
+from tests import test_pages
 
 
 class Chain(unittest.TestCase):

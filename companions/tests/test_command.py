@@ -6,7 +6,7 @@ import sys
 import tempfile
 import unittest
 
-import support
+from tests import support
 
 # More than a pipe holds, as a page, as JSON and as problems.
 REPORT = b"problem 1\ntitle: A title\n#1\nplay\n1.Ra1-a8#\nsolutions: 1\n\n" * 2_000

@@ -4,20 +4,20 @@ import io
 import tempfile
 import unittest
 from pathlib import Path
-from typing import List, Optional, Tuple
+from typing import Optional
 
-import run_here
-import support
-import test_soundness
+from tests import run_here
+from tests import support
+from tests import test_soundness
 
-from pops_review.matching import pairs_of
-from pops_texts.report import Item, read_report
+from pops_companions.review.matching import pairs_of
+from pops_companions.texts.report import Item, read_report
 
 MATE = "1.Ra1-a8#\n"
 FAULT = "line {line}: fault 14: square expected\n"
 
 
-def board(*men: Tuple[str, str]) -> str:
+def board(*men: tuple[str, str]) -> str:
     """A printed board with these men, each a letter with its square."""
     rows = {rank: ["."] * 8 for rank in range(8, 0, -1)}
     for letter, square in men:
@@ -42,11 +42,11 @@ def report(*problems: str) -> bytes:
     return text.encode()
 
 
-def items(*problems: str) -> List[Item]:
+def items(*problems: str) -> list[Item]:
     return list(read_report(io.BytesIO(report(*problems))))
 
 
-def numbers(old: List[str], new: List[str]) -> List[Tuple[Optional[int], Optional[int]]]:
+def numbers(old: list[str], new: list[str]) -> list[tuple[Optional[int], Optional[int]]]:
     """Which number of one report was matched with which of the other."""
     return [
         (pair.old and pair.old.number, pair.new and pair.new.number)
@@ -127,7 +127,7 @@ class Differences(unittest.TestCase):
             (Path(room) / "new").write_bytes(new)
             return run_here.companion("pops-compare", f"{room}/old", f"{room}/new")
 
-    def check(self, old: List[str], new: List[str], *lines: str) -> None:
+    def check(self, old: list[str], new: list[str], *lines: str) -> None:
         outcome = self.compared(report(*old), report(*new))
         self.assertEqual(outcome, (1, "".join(line + "\n" for line in lines).encode(), ""))
 

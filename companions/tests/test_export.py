@@ -3,18 +3,19 @@
 import re
 import tempfile
 import unittest
+from collections.abc import Sequence
 from dataclasses import replace
 from pathlib import Path
-from typing import NamedTuple, Sequence, Set
+from typing import NamedTuple
 
-import run_here
-import support
+from tests import run_here
+from tests import support
 
-from pops_export.problems import Problem, joined, options_of, read_problems
-from pops_export.yaml_form import solution_lines
-from pops_import.words import Unreadable
-from pops_import.yaml_text import documents
-from pops_texts.report import SoundItem, read_report
+from pops_companions.export.problems import Problem, joined, options_of, read_problems
+from pops_companions.export.yaml_form import solution_lines
+from pops_companions.import_.words import Unreadable
+from pops_companions.import_.yaml_text import documents
+from pops_companions.texts.report import SoundItem, read_report
 
 IMPORTED = sorted((Path(__file__).resolve().parent / "data" / "import").glob("*.pop"))
 TWINS = b"""\
@@ -41,7 +42,7 @@ class Same(NamedTuple):
     """
 
     problems: Sequence[Problem]
-    remarks: Set[str]
+    remarks: set[str]
 
 
 def same(text: str) -> Same:

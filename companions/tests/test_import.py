@@ -14,14 +14,14 @@ import sys
 import tempfile
 import unittest
 from pathlib import Path
-from typing import Any, Dict, List, NamedTuple
+from typing import Any, NamedTuple
 
-import support
+from tests import support
 
-from pops_import.language import ENGLISH, FRENCH, GERMAN, meaning
-from pops_import.origins import date_text, origin_of
-from pops_import.sections import wanted_of
-from pops_import.yaml_text import YamlError, documents
+from pops_companions.import_.language import ENGLISH, FRENCH, GERMAN, meaning
+from pops_companions.import_.origins import date_text, origin_of
+from pops_companions.import_.sections import wanted_of
+from pops_companions.import_.yaml_text import YamlError, documents
 
 DATA = Path(__file__).resolve().parent / "data" / "import"
 IMPORT = support.loaded("pops-import")
@@ -32,7 +32,7 @@ class Imported(NamedTuple):
 
     status: int
     output: bytes
-    told: List[str]
+    told: list[str]
 
 
 def imported(*words: str) -> Imported:
@@ -56,7 +56,7 @@ def imported_text(text: bytes, *words: str) -> Imported:
     return made._replace(told=[line.replace(str(source), "text") for line in made.told])
 
 
-def made_files() -> List[Path]:
+def made_files() -> list[Path]:
     files = sorted(path for path in DATA.iterdir() if path.suffix in (".inp", ".yaml"))
     assert len(files) > 15
     return files
@@ -329,7 +329,7 @@ def is_beginning(word: str, words: Any) -> bool:
     return any(other != word and other.startswith(word) for other in words)
 
 
-def table(text: str, title: str) -> List[List[str]]:
+def table(text: str, title: str) -> list[list[str]]:
     """The rows of the table whose first column has a title."""
     lines = text.split("\n")
     start = next(at for at, line in enumerate(lines) if line.startswith(f"| {title} |")) + 2
@@ -483,7 +483,7 @@ class Yaml(unittest.TestCase):
         self.assertEqual(found, [(2, {"a": "b"}), (6, "d"), (8, ["e"])])
 
     def test_keys_and_texts_know_their_lines(self) -> None:
-        value: Dict[Any, Any] = self.value("a: |\n  b\nc:\n  - d\n  - [e,\n  f]\n")
+        value: dict[Any, Any] = self.value("a: |\n  b\nc:\n  - d\n  - [e,\n  f]\n")
         self.assertEqual([key.line for key in value], [1, 3])
         texts = [value["a"], value["c"][0], *value["c"][1]]
         self.assertEqual([text.line for text in texts], [1, 4, 5, 6])

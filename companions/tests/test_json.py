@@ -6,14 +6,14 @@ import sys
 import tempfile
 import unittest
 from pathlib import Path
-from typing import Any, Dict, List
+from typing import Any
 
-import rebuilt
-import schema
-import support
+from tests import rebuilt
+from tests import schema
+from tests import support
 
 
-def objects(report: bytes, *words: str) -> List[Dict[str, Any]]:
+def objects(report: bytes, *words: str) -> list[dict[str, Any]]:
     outcome = support.companion("pops2json", *words, text=report)
     assert outcome.status == 0 and outcome.error == "", outcome
     lines = outcome.output.decode("utf-8").split("\n")

@@ -9,19 +9,18 @@ import sys
 import tempfile
 import unittest
 from pathlib import Path
-from typing import List, Tuple
 
-import made_inputs
-import support
-from six_problems import SIX, SixProblems
+from tests import made_inputs
+from tests import support
+from tests.six_problems import SIX, SixProblems
 
-from pops_many.cutting import Rest, cut, rest_of
-from pops_many.progress import Progress, duration
+from pops_companions.many.cutting import Rest, cut, rest_of
+from pops_companions.many.progress import Progress, duration
 
 MANY = support.loaded("pops-many")
 
 
-def solved(*words: str) -> Tuple[int, bytes]:
+def solved(*words: str) -> tuple[int, bytes]:
     """Status and output of pops-many, within this process."""
     target = io.BytesIO()
     settings = MANY.arguments(["--pops", support.pops(), *words])
@@ -59,7 +58,7 @@ class TextAfterTheEnd(unittest.TestCase):
 
 
 class Cutting(unittest.TestCase):
-    def blocks(self, text: bytes) -> List[bytes]:
+    def blocks(self, text: bytes) -> list[bytes]:
         return [text[piece.start : piece.stop] for piece in cut(text)]
 
     def test_words_that_end_a_problem(self) -> None:

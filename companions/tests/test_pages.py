@@ -4,9 +4,9 @@ import tempfile
 import unittest
 from html.parser import HTMLParser
 from pathlib import Path
-from typing import Dict, List, Optional, Tuple
+from typing import Optional
 
-import support
+from tests import support
 
 NAMES = {
     "k": "king",
@@ -29,10 +29,10 @@ class SeenArticle:
 
     def __init__(self, name: Optional[str]) -> None:
         self.name = name
-        self.links: List[Optional[str]] = []
-        self.words: List[str] = []
+        self.links: list[Optional[str]] = []
+        self.words: list[str] = []
         self.diagrams = 0
-        self.men: Dict[Tuple[float, float], Tuple[str, str]] = {}
+        self.men: dict[tuple[float, float], tuple[str, str]] = {}
 
 
 class SeenPage(HTMLParser):
@@ -40,9 +40,9 @@ class SeenPage(HTMLParser):
 
     def __init__(self, page: str):
         super().__init__()
-        self.articles: List[SeenArticle] = []
-        self.shapes: Dict[str, List[Dict[str, Optional[str]]]] = {}
-        self.open: List[Tuple[str, Dict[str, Optional[str]]]] = []
+        self.articles: list[SeenArticle] = []
+        self.shapes: dict[str, list[dict[str, Optional[str]]]] = {}
+        self.open: list[tuple[str, dict[str, Optional[str]]]] = []
         self.feed(page)
         self.close()
         assert not self.open, self.open
@@ -64,7 +64,7 @@ class SeenPage(HTMLParser):
     def handle_startendtag(self, tag: str, attributes: list) -> None:
         self._see(tag, dict(attributes))
 
-    def _see(self, tag: str, values: Dict[str, Optional[str]]) -> None:
+    def _see(self, tag: str, values: dict[str, Optional[str]]) -> None:
         article = self._inside
         if article is None:
             groups = [place["id"] for name, place in self.open if name == "g" and "id" in place]
@@ -113,7 +113,7 @@ class Diagrams(unittest.TestCase):
                 boards += article.diagrams
         self.assertGreater(boards, 50)
 
-    def squares(self, article: SeenArticle) -> Dict[str, Tuple[str, str]]:
+    def squares(self, article: SeenArticle) -> dict[str, tuple[str, str]]:
         """The men by square: the board begins 22 units from the left, a square has 45 units."""
         men = {}
         for (x, y), man in article.men.items():
@@ -123,7 +123,7 @@ class Diagrams(unittest.TestCase):
         return men
 
     @staticmethod
-    def wanted(item: support.PlainItem) -> Dict[str, Tuple[str, str]]:
+    def wanted(item: support.PlainItem) -> dict[str, tuple[str, str]]:
         men = {}
         for rank, line in zip("87654321", item.board):
             for file, letter in zip("abcdefgh", line):

@@ -2,12 +2,11 @@
 
 import io
 import unittest
-from typing import List
 
-import support
+from tests import support
 
-from pops_texts.chess import Colour, Kind, Man, Square
-from pops_texts.report import (
+from pops_companions.texts.chess import Colour, Kind, Man, Square
+from pops_companions.texts.report import (
     Castling,
     FaultyItem,
     HelpLine,
@@ -20,10 +19,10 @@ from pops_texts.report import (
     named_items,
     read_report,
 )
-from pops_texts.stipulation import Condition, Goal, Play, Stipulation
+from pops_companions.texts.stipulation import Condition, Goal, Play, Stipulation
 
 
-def read(text: str) -> List[Item]:
+def read(text: str) -> list[Item]:
     return list(read_report(io.BytesIO(text.encode())))
 
 

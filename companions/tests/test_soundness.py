@@ -6,19 +6,19 @@ import re
 import tempfile
 import unittest
 from pathlib import Path
-from typing import Dict, List, Optional, Tuple
+from typing import Optional
 
-import run_here
-import support
-import test_pages
+from tests import run_here
+from tests import support
+from tests import test_pages
 
-from pops_review.duals import Place, late_partings, tree_duals
-from pops_texts.given import given_problems
-from pops_review.judging import Judgement, Verdict, judged
-from pops_review.posing import AnswersError, ShortAnswers, posed_problems, shorter
-from pops_texts.problem_text import text_of_problems
-from pops_texts.report import HelpLine, Item, Node, SoundItem, read_report
-from pops_texts.stipulation import Stipulation
+from pops_companions.review.duals import Place, late_partings, tree_duals
+from pops_companions.texts.given import given_problems
+from pops_companions.review.judging import Judgement, Verdict, judged
+from pops_companions.review.posing import AnswersError, ShortAnswers, posed_problems, shorter
+from pops_companions.texts.problem_text import text_of_problems
+from pops_companions.texts.report import HelpLine, Item, Node, SoundItem, read_report
+from pops_companions.texts.stipulation import Stipulation
 
 COLLECTION = support.COMPANIONS / "data" / "soundness.pop"
 
@@ -56,7 +56,7 @@ SELF_TREE = """\
 """
 
 
-def items(text: str) -> List[Item]:
+def items(text: str) -> list[Item]:
     return list(read_report(io.BytesIO(text.encode())))
 
 
@@ -76,11 +76,11 @@ def solutions(one: Item) -> tuple:
     return one.phases[-1].solutions
 
 
-def judge(one: Item, wanted: int = 1, short: Optional[Tuple[str, ...]] = ()) -> Judgement:
+def judge(one: Item, wanted: int = 1, short: Optional[tuple[str, ...]] = ()) -> Judgement:
     return judged(one, wanted, short)
 
 
-def texts(judgement: Judgement) -> List[str]:
+def texts(judgement: Judgement) -> list[str]:
     return [finding.text for finding in judgement.findings]
 
 
@@ -233,7 +233,7 @@ class Judgements(unittest.TestCase):
 
 class Inputs(unittest.TestCase):
     def test_wanted_numbers(self) -> None:
-        cases: List[Tuple[str, Optional[int]]] = [
+        cases: list[tuple[str, Optional[int]]] = [
             ("Remark solutions 2", 2),
             ("rem Solutions: 3", 3),
             ("REMARK 2 solutions.", 2),
@@ -264,7 +264,7 @@ class Inputs(unittest.TestCase):
                 self.assertEqual(list(posed_problems(given_problems(text))), [])
 
     def test_shorter_stipulations(self) -> None:
-        cases: Dict[str, List[str]] = {
+        cases: dict[str, list[str]] = {
             "#3": ["#2"],
             "#1": [],
             "s=2": ["s=1"],
@@ -313,8 +313,8 @@ class StoredInputs(unittest.TestCase):
                         self.assertEqual(problem.stipulation, one.stipulation)
 
     def test_what_is_posed_is_the_same_position(self) -> None:
-        posed: List[List[str]] = []
-        originals: List[SoundItem] = []
+        posed: list[list[str]] = []
+        originals: list[SoundItem] = []
         for path in support.stored_inputs():
             report = list(read_report(io.BytesIO(support.stored_report(path).read_bytes())))
             for problem, one in zip(given_problems(path.read_bytes()), report):
@@ -409,7 +409,7 @@ class Collection(unittest.TestCase):
 
     def test_text(self) -> None:
         text = self.judged("--all").output.decode()
-        found: List[Tuple[str, List[str]]] = []
+        found: list[tuple[str, list[str]]] = []
         for line in text.splitlines()[:-1]:
             if line.startswith("problem "):
                 found.append((line.split(": ")[1], []))
@@ -507,7 +507,7 @@ class Unfinished(unittest.TestCase):
     ONE = "problem 1\n#1\nplay\n1.Ra1-a8#\nsolutions: 1\n\n"
     MARK = "unfinished: stopped after 5 s (six.pop, line 9)\n\n"
 
-    def found(self, text: str, *words: str) -> List[str]:
+    def found(self, text: str, *words: str) -> list[str]:
         outcome = run_here.companion("pops-test", *words, text=text.encode())
         self.assertEqual((outcome.status, outcome.error), (1, ""))
         return outcome.output.decode().splitlines()

@@ -5,19 +5,20 @@ import random
 import re
 import tempfile
 import unittest
+from collections.abc import Callable, Generator, Iterator, Mapping, Sequence
 from pathlib import Path
-from typing import Callable, Generator, Iterator, List, Mapping, Optional, Sequence, Tuple
+from typing import Optional
 from unittest import mock
 
-import made_inputs
-import parts_told
-import problems_in_parts
-import support
+from tests import made_inputs
+from tests import parts_told
+from tests import problems_in_parts
+from tests import support
 
-from pops_many.in_parts import ProblemInParts, Reader
-from pops_many.lots import Lot, Lots, numbers_of
-from pops_many.part_program import PartProgram
-from pops_many.parts import (
+from pops_companions.many.in_parts import ProblemInParts, Reader
+from pops_companions.many.lots import Lot, Lots, numbers_of
+from pops_companions.many.part_program import PartProgram
+from pops_companions.many.parts import (
     Part,
     PartsError,
     Phase,
@@ -28,9 +29,9 @@ from pops_many.parts import (
     solutions_in,
     up_to_totals,
 )
-from pops_many.program import PAUSE, Program
-from pops_many.progress import Progress
-from pops_many.tasks import UNFINISHED, Source, Task, tasks_of
+from pops_companions.many.program import PAUSE, Program
+from pops_companions.many.progress import Progress
+from pops_companions.many.tasks import UNFINISHED, Source, Task, tasks_of
 
 MANY = support.loaded("pops-many")
 # A program that is there; what it tells is asked for within this process.
@@ -43,7 +44,7 @@ class Slow(Program):
 
     cut = 0
 
-    def _one(self, text: bytes) -> Tuple[int, bytes]:
+    def _one(self, text: bytes) -> tuple[int, bytes]:
         status, report = super()._one(text)
         if self.seconds is None or status != 0:
             return status, report
@@ -54,7 +55,7 @@ class Slow(Program):
 class Told(PartProgram):
     """pops-part, asked for all parts of a phase at once."""
 
-    def _answer(self, words: Sequence[str], text: bytes) -> Tuple[int, bytes, bytes]:
+    def _answer(self, words: Sequence[str], text: bytes) -> tuple[int, bytes, bytes]:
         return 0, parts_told.answer(words, text), b""
 
     def _pieces(
@@ -64,7 +65,7 @@ class Told(PartProgram):
         yield from (text[begin : begin + 100] for begin in range(0, len(text), 100))
 
 
-def split(path: Path, *words: str) -> Tuple[int, bytes]:
+def split(path: Path, *words: str) -> tuple[int, bytes]:
     """Status and output of pops-many, each sound problem in parts, within this process."""
     target = io.BytesIO()
     settings = MANY.arguments(
@@ -121,7 +122,7 @@ class AsPops(BesidePops):
         self.assertGreater(cut, 80)
 
     @staticmethod
-    def depths(text: bytes) -> List[int]:
+    def depths(text: bytes) -> list[int]:
         """In help play 1 to 3, as long as there aren't too many parts."""
         if re.search(rb"\bh[#=]", text, re.IGNORECASE) is None:
             return [1]
@@ -173,13 +174,13 @@ class WrongJoiners(BesidePops):
             yield b"solutions: %d\n" % sum(count_in(report) or 0 for report in reports)
 
         never = mock.Mock(return_value=False)
-        with mock.patch("pops_many.in_parts._PhaseInParts._end_at_limit", never):
+        with mock.patch("pops_companions.many.in_parts._PhaseInParts._end_at_limit", never):
             self.are_refused({"_solutions": solutions})
 
     def test_the_last_part_whole(self) -> None:
         """All solutions of the parts up to the one in which the limit is reached."""
 
-        def all_of_them(of: ProblemInParts, solutions: List[bytes]) -> List[bytes]:
+        def all_of_them(of: ProblemInParts, solutions: list[bytes]) -> list[bytes]:
             return solutions
 
         self.are_refused({"_up_to_limit": all_of_them})
@@ -268,11 +269,11 @@ class Texts(unittest.TestCase):
 class Handed(unittest.TestCase):
     """How parts are handed out."""
 
-    def parts(self, phase: str, numbers: Sequence[int]) -> List[Part]:
+    def parts(self, phase: str, numbers: Sequence[int]) -> list[Part]:
         task = tasks_of([Source(None, b"")])[0]
         return [Part(task, phase, number, 1) for number in numbers]
 
-    def lots(self, parts: List[Part], alone: Sequence[int] = ()) -> Lots:
+    def lots(self, parts: list[Part], alone: Sequence[int] = ()) -> Lots:
         return Lots(parts, lambda part: part.number in alone)
 
     def next(self, lots: Lots) -> Lot:

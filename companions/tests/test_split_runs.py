@@ -8,12 +8,11 @@ import subprocess
 import sys
 import time
 import unittest
-from typing import List, Tuple
 
-import run_here
-import support
-from six_problems import SIX, wait_for
-from split_room import SplitRoom
+from tests import run_here
+from tests import support
+from tests.six_problems import SIX, wait_for
+from tests.split_room import SplitRoom
 
 
 class Runs(SplitRoom):
@@ -162,7 +161,7 @@ class Limits(SplitRoom):
 
 
 class Ends(SplitRoom):
-    def interrupted(self, sign: int, *more: str) -> Tuple[int, str]:
+    def interrupted(self, sign: int, *more: str) -> tuple[int, str]:
         """A run that waits at the fifth part of the play and gets a signal there."""
         program = self.pops_part("problem-play-5", "echo 1.Kh8-g8; exec sleep 60")
         run = self.started(*self.words_of_split(program, "--jobs", "1", *more))
@@ -257,7 +256,7 @@ class Ends(SplitRoom):
         terminal, other_side = pty.openpty()
         if columns:
             support.run(["stty", "-F", os.ttyname(other_side), "cols", str(columns)])
-        words: List[str] = [sys.executable, str(support.COMPANIONS / "pops-many")]
+        words: list[str] = [sys.executable, str(support.COMPANIONS / "pops-many")]
         # The eighth part of the set play waits longer than a line is shown.
         words += self.words_of_split(self.pops_part("problem-set-8", "sleep 0.6"), "--jobs", "1")
         done = subprocess.run(words, stdin=subprocess.DEVNULL, stderr=other_side)

@@ -1,5 +1,5 @@
 // @ts-check
-// What explanations of faults say: companions/pops_explain/explanations.json, which pops-explain reads too.
+// What explanations of faults say: companions/pops_companions/explain/explanations.json, which pops-explain reads too.
 'use strict';
 /** @typedef {{ from: number, to: number }} Span */
 /** @typedef {{ text: string, marks: Span[] }} Explanation what is wrong and what to do, with the places to look at */

@@ -1,0 +1,131 @@
+"""Runs of the program pops-part on this machine."""
+
+import signal
+import subprocess
+import tempfile
+from collections.abc import Callable, Generator, Iterator, Sequence
+from contextlib import closing
+
+from pops_companions.many.leash import Leashed
+from pops_companions.many.lots import Lot, numbers_of
+from pops_companions.many.parts import Key, Part, PartsError, Phase, count_in, phases_listed, up_to_totals
+from pops_companions.many.program import PAUSE, SOUND, RunError, Runs
+from pops_companions.many.tasks import whole_lines
+
+# In milliseconds, in place of PAUSE.
+_SHORT_PAUSE = 2
+
+
+def _whole(texts: Sequence[bytes]) -> bytes:
+    """The report of a part. RunError where its number of solutions lacks or is another one."""
+    report = b"".join(texts)
+    if count_in(report) is None:
+        raise RunError("the lines of a part don't end with their number")
+    return report
+
+
+def _pauses(lot: Lot, asked: Sequence[Part]) -> Callable[[], int]:
+    """How long a run on a lot may go on unread, in milliseconds, before each piece that it writes.
+
+    Where the last parts were taken from it, it isn't to go on for long behind those that are left.
+    """
+    before = len(asked)
+
+    def pause() -> int:
+        nonlocal before
+        left = len(lot)
+        came, before = before - left, left
+        return _SHORT_PAUSE if left <= max(came, 1) and lot.last is not asked[-1] else PAUSE
+
+    return pause
+
+
+class PartProgram(Runs):
+    """pops-part, which lists the parts of a problem and solves lots of them."""
+
+    def __init__(self, path: str, depth: int):
+        super().__init__("pops-part", [path])
+        self.depth = depth
+        # What parts had written that came to no end, as where they were stopped.
+        self.begun: dict[Key, bytes] = {}
+        self._at_work: dict[Key, Leashed] = {}
+        self._dropped: set[Key] = set()
+
+    def phases(self, text: bytes) -> list[Phase]:
+        """The phases of the one problem of an input. PartsError where they can't be told."""
+        status, listed, error = self._answer(["--list", "--depth", str(self.depth)], text)
+        if status != SOUND:
+            raise PartsError(self._reason(status, error))
+        return phases_listed(listed)
+
+    def _answer(self, words: Sequence[str], text: bytes) -> tuple[int, bytes, bytes]:
+        """Status, output and message of a run."""
+        leashed = self._started(words, subprocess.PIPE, subprocess.PIPE)
+        _, output, error = self._ended(leashed, text, None)
+        return leashed.run.returncode, output, error
+
+    def report(self, part: Part) -> bytes:
+        """The report of a part. RunError where it didn't come to its end."""
+        return next(self.reports(Lot([part])))[1]
+
+    def reports(self, lot: Lot) -> Iterator[tuple[Part, bytes]]:
+        """The parts that are left of a lot, each with its report as it comes, all from one run.
+
+        RunError at the first part that didn't come to its end.
+        """
+        asked = lot.left
+        words = ["--item", "1", "--phase", asked[0].phase, "--part", numbers_of(asked)]
+        words += ["--depth", str(asked[0].depth)]
+        written: list[bytes] = []
+        try:
+            with closing(self._pieces(words, asked[0], _pauses(lot, asked))) as pieces:
+                for text, is_total in up_to_totals(pieces):
+                    written.append(text)
+                    # (the last part asked for is whole once the run has ended well)
+                    if is_total and lot.first is not asked[-1]:
+                        report, written = _whole(written), []
+                        yield lot.pass_first(), report
+                        if not lot:
+                            return
+            if lot.first is not asked[-1]:
+                raise RunError(self._reason(SOUND, b""))
+            report = _whole(written)
+            yield lot.pass_first(), report
+        except RunError:
+            if written:
+                self.begun[lot.first.key] = whole_lines(b"".join(written))
+            raise
+
+    def _pieces(
+        self, words: Sequence[str], first: Part, pause: Callable[[], int]
+    ) -> Generator[bytes, None, None]:
+        """What a run on a lot writes, piece by piece after pauses; it may be dropped meanwhile.
+
+        RunError where it doesn't end well.
+        """
+        with tempfile.TemporaryFile() as errors:
+            leashed = self._started(words, subprocess.PIPE, errors)
+            with self._lock:
+                self._at_work[first.key] = leashed
+                if first.key in self._dropped:
+                    leashed.send(signal.SIGKILL)
+            try:
+                yield from self._written(leashed, first.text, pause)
+            finally:
+                with self._lock:
+                    del self._at_work[first.key]
+            status = leashed.run.returncode
+            if status != SOUND:
+                errors.seek(0)
+                raise RunError(self._reason(status, errors.read()))
+
+    def drop(self, part: Part) -> None:
+        """Stops the run that begins with a part that can't matter any more."""
+        with self._lock:
+            self._dropped.add(part.key)
+            if part.key in self._at_work:
+                self._at_work[part.key].send(signal.SIGKILL)
+
+    def is_over(self, part: Part) -> bool:
+        """Whether a part that came to no end was meant to."""
+        return self._stopped or part.key in self._dropped

@@ -1,0 +1,177 @@
+"""Parts of a problem: what tells them apart, and what the program pops-part says of them.
+
+A phase is cut by its first moves, one or a few of them. pops-part lists how many parts there are
+and solves each; in their order they make the phase.
+"""
+
+import re
+from collections.abc import Iterable, Iterator
+from typing import NamedTuple, Optional, Pattern
+
+from pops_companions.many.cutting import BLANKS, TEXT_LINES, short_forms
+from pops_companions.many.tasks import Task
+
+# A phase of more parts than that is cut too small.
+MOST_PARTS = 100_000
+
+_SOUND = b"sound\n\n"
+_LIST = re.compile(rb"1: (?:set (?:(?P<set>\d+)|(?P<barred>not possible)), )?play (?P<play>\d+)\n")
+_TOTAL = re.compile(rb"solutions: (\d+)(?:, stopped)?\n")
+# How a line begins that may be a total.
+_NUMBER_OF_SOLUTIONS = b"solutions: "
+_TEXT_LINE = re.compile(rb"(?<![^" + BLANKS + rb"])" + TEXT_LINES, re.IGNORECASE)
+_LIMIT = re.compile(short_forms("maxsolutions"), re.IGNORECASE)
+
+
+class PartsError(Exception):
+    """A problem that can't be cut into parts, with the reason."""
+
+
+class Phase(NamedTuple):
+    """A phase and how many parts it has; None where it isn't possible."""
+
+    name: str
+    parts: Optional[int]
+
+
+class Key(NamedTuple):
+    """What tells a part from all others of a run: a problem's place, and by how many moves it is
+    cut."""
+
+    place: int
+    phase: str
+    number: int
+    depth: int
+
+
+class Part(NamedTuple):
+    """One part of a phase of a problem, numbered from 1."""
+
+    task: Task
+    phase: str
+    number: int
+    depth: int
+
+    @property
+    def key(self) -> Key:
+        return Key(self.task.place, self.phase, self.number, self.depth)
+
+    @property
+    def text(self) -> bytes:
+        """The problem as an input of its own."""
+        return self.task.text_without_line_ends
+
+    @property
+    def shown(self) -> str:
+        """The part as messages name it."""
+        return f"part {self.number} of the {self.phase} of {self.task.shown}"
+
+
+def phases_listed(listed: bytes) -> list[Phase]:
+    """The phases that pops-part lists of one problem."""
+    found = _LIST.fullmatch(listed)
+    if found is None:
+        raise PartsError(f"pops-part lists no parts but {listed[:80]!r}")
+    phases = [Phase("play", int(found["play"]))]
+    if found["barred"]:
+        phases.insert(0, Phase("set", None))
+    elif found["set"]:
+        phases.insert(0, Phase("set", int(found["set"])))
+    if any((phase.parts or 0) > MOST_PARTS for phase in phases):
+        raise PartsError("more than 100,000 parts: a smaller --split-depth makes fewer")
+    return phases
+
+
+def limit_of(text: bytes) -> Optional[int]:
+    """The limit of the last MaxSolutions of a sound problem, where it has one.
+
+    Its number is the next word; text lines may stand before it.
+    """
+    limit = None
+    for after in _behind(_LIMIT, text):
+        if not after.isdigit():
+            raise PartsError("no number behind MaxSolutions")
+        limit = int(after)
+    return limit
+
+
+def _behind(word: Pattern[bytes], text: bytes) -> list[bytes]:
+    """The words behind each such word of a text; text lines may stand before it."""
+    words = _TEXT_LINE.sub(b"", text).split()
+    return [after for before, after in zip(words, words[1:]) if word.fullmatch(before)]
+
+
+def head_of(checked: bytes) -> bytes:
+    """The head of a sound problem's report, from that of `pops --check`."""
+    if not checked.endswith(b"\n" + _SOUND):
+        raise PartsError("pops --check doesn't call it sound")
+    return checked[: -len(_SOUND)]
+
+
+def solutions_in(lines: bytes) -> list[bytes]:
+    """The solutions: each a line, with the lines below it that stand further in."""
+    solutions: list[list[bytes]] = []
+    for line in lines.splitlines(keepends=True):
+        if line.startswith(b" ") and solutions:
+            solutions[-1].append(line)
+        else:
+            solutions.append([line])
+    return [b"".join(solution) for solution in solutions]
+
+
+def without_totals(lines: bytes) -> list[bytes]:
+    """The lines but those that tell how many solutions there are."""
+    return [line for line in lines.splitlines(keepends=True) if not is_total(line)]
+
+
+def is_total(line: bytes) -> bool:
+    """Whether a line tells how many solutions there are."""
+    return _TOTAL.fullmatch(line) is not None
+
+
+def up_to_totals(pieces: Iterable[bytes]) -> Iterator[tuple[bytes, bool]]:
+    """The same text in pieces of its own, with whether each ends with a total; none has another."""
+    rest = b""
+    for piece in pieces:
+        lines, end, rest = (rest + piece).rpartition(b"\n")
+        lines, begin = lines + end, 0
+        for stop in _ends_of_totals(lines):
+            yield lines[begin:stop], True
+            begin = stop
+        if begin < len(lines):
+            yield lines[begin:], False
+    if rest:
+        yield rest, False
+
+
+def _ends_of_totals(lines: bytes) -> Iterator[int]:
+    """Where the totals among whole lines end; other lines aren't looked at one by one."""
+    begin = 0
+    while True:
+        if not lines.startswith(_NUMBER_OF_SOLUTIONS, begin):
+            begin = lines.find(b"\n" + _NUMBER_OF_SOLUTIONS, begin) + 1
+            if begin == 0:
+                return
+        total = _TOTAL.match(lines, begin)
+        begin = lines.index(b"\n", begin) + 1
+        if total is not None:
+            yield begin
+
+
+def lines_without_total(report: bytes) -> bytes:
+    """The lines of a whole part's report but the last, which is its total."""
+    return report[: report.rfind(b"\n", 0, -1) + 1]
+
+
+def solutions_of(report: bytes) -> list[bytes]:
+    """The solutions of a part's report."""
+    return solutions_in(b"".join(without_totals(report)))
+
+
+def count_in(report: bytes) -> Optional[int]:
+    """How many solutions a part has; None where its report lacks this number or another one came."""
+    start = report.rfind(b"\n", 0, -1) + 1
+    total = _TOTAL.fullmatch(report, start)
+    lines = report[:start]
+    begun = lines.count(b"\n") - lines.count(b"\n ") - lines.startswith(b" ")
+    return begun if total is not None and int(total[1]) == begun else None

@@ -1,0 +1,235 @@
+"""Solves problems in parts, on this machine and on others, and puts their reports together."""
+
+from collections.abc import Callable, Iterator, Sequence
+from concurrent.futures import Future, ThreadPoolExecutor
+from queue import SimpleQueue
+from typing import NamedTuple, Optional, Union
+
+from pops_companions.many.in_parts import ProblemInParts, Tally
+from pops_companions.many.journal import Journal
+from pops_companions.many.lots import Lot, Lots
+from pops_companions.many.machines import Machines, MachinesError
+from pops_companions.many.part_program import PartProgram
+from pops_companions.many.parts import Part, PartsError, head_of, limit_of
+from pops_companions.many.parts_there import PartsThere
+from pops_companions.many.program import SOUND, Program, RunError
+from pops_companions.many.progress import Progress
+from pops_companions.many.tasks import Result, Task
+
+# A part that came to no end is tried so many times in all on this machine.
+_TRIES = 2
+
+
+class Came(NamedTuple):
+    """What came of a part: its report, or why it came to no end."""
+
+    part: Part
+    report: Optional[bytes]
+    error: str
+
+
+class Splitting:
+    """The problems of a run that took longer than a moment, cut into parts."""
+
+    def __init__(
+        self,
+        checking: Program,
+        program: PartProgram,
+        journal: Journal,
+        progress: Progress,
+        finish: Callable[[Result], None],
+    ):
+        self._checking = checking
+        self._program = program
+        self._journal = journal
+        self._progress = progress
+        self._finish = finish
+        self._problems: dict[int, ProblemInParts] = {}
+        self._failed: dict[int, tuple[Task, str]] = {}
+
+    @property
+    def failed(self) -> list[tuple[Task, str]]:
+        """The problems that came to no end, with the reasons."""
+        return list(self._failed.values())
+
+    def cut(self, tasks: Sequence[Task]) -> None:
+        """Cuts problems up that aren't yet."""
+        for task in tasks:
+            if task.place not in self._problems:
+                try:
+                    self._cut(task)
+                except (PartsError, RunError) as error:
+                    self._failed[task.place] = (task, str(error))
+
+    def _cut(self, task: Task) -> None:
+        """Lists a problem's parts, and takes up those that the journal has."""
+        checked = self._checking.solve(task)
+        if checked.status != SOUND:
+            self._finish(checked)
+            return
+        text = task.text_without_line_ends
+        head, phases = head_of(checked.report), self._program.phases(text)
+        problem = ProblemInParts(task, head, phases, limit_of(text), self._program.depth)
+        self._problems[task.place] = problem
+        for part in problem.parts():
+            if part.key in self._journal.parts:
+                problem.keep(part, self._journal.part(part))
+        self._join(problem)
+
+    def run(self, there: Optional[PartsThere], jobs: int) -> None:
+        """Solves the parts, so many at a time on this machine, where no others take them."""
+        self._tell()
+        barred: list[Part] = []
+        if there is not None:
+            sent = [part for part in self._left() if Machines.takes(part.task)]
+            try:
+                there.run(sent, self._keep, self._is_needless)
+            except MachinesError as error:
+                barred = sent
+                self._fail(sent, str(error))
+        keys = {part.key for part in barred}
+        self._run_here([part for part in self._left() if part.key not in keys], jobs)
+
+    def _fail(self, parts: Sequence[Part], reason: str) -> None:
+        for part in parts:
+            if not self._is_needless(part):
+                told = f"part {part.number} of the {part.phase}: {reason}"
+                self._failed.setdefault(part.task.place, (part.task, told))
+
+    def _left(self) -> Iterator[Part]:
+        for _, problem in sorted(self._problems.items()):
+            for part in problem.parts():
+                if not problem.is_needless(part):
+                    yield part
+
+    def _tell(self) -> None:
+        """Tells how far the first problem is that isn't done."""
+        for _, problem in sorted(self._problems.items()):
+            if not problem.is_done:
+                self._progress.begin_parts(self._parts_left())
+                self._progress.part(*self._how_far(problem))
+                return
+
+    def _how_far(self, problem: ProblemInParts) -> tuple[str, Tally, int, int]:
+        return problem.task.shown, problem.tally, problem.found, self._parts_left()
+
+    def _parts_left(self) -> int:
+        tallies = [problem.tally for problem in self._problems.values()]
+        return sum(of_all - done for done, of_all in tallies)
+
+    def _is_needless(self, part: Part) -> bool:
+        return self._problems[part.task.place].is_needless(part)
+
+    def _keep(self, part: Part, report: bytes) -> bool:
+        """Takes a part that is done; the problem's report is made with its last one.
+
+        Whether others matter no more by it.
+        """
+        if self._is_needless(part):
+            return False
+        problem = self._problems[part.task.place]
+        self._journal.keep_part(part, report)
+        fewer = problem.keep(part, report)
+        if self._progress.is_shown:
+            self._progress.part(*self._how_far(problem))
+        self._join(problem)
+        return fewer
+
+    def _join(self, problem: ProblemInParts) -> None:
+        """Hands on the report of a problem whose parts are done."""
+        task = problem.task
+        if not problem.is_done:
+            return
+        report = problem.report(self._journal.part)
+        # What pops wrote in its first moments is how the report begins.
+        if self._journal.has_unfinished(task.place):
+            if not report.startswith(self._journal.report(task.place)):
+                reason = "its parts don't make the report that pops begins"
+                self._failed[task.place] = (task, reason)
+                return
+        self._finish(Result(task, SOUND, report))
+
+    def _run_here(self, parts: Sequence[Part], jobs: int) -> None:
+        lots = Lots(parts, lambda part: self._problems[part.task.place].is_limited)
+        came: "SimpleQueue[Union[Came, Future[None]]]" = SimpleQueue()
+        try:
+            with ThreadPoolExecutor(jobs) as pool:
+                try:
+                    self._hand_out(lots, jobs, pool, came)
+                except BaseException:
+                    self._program.stop()
+                    raise
+        finally:
+            # What came while the run was stopped is kept too.
+            while not came.empty():
+                last = came.get()
+                if isinstance(last, Came) and last.report is not None:
+                    self._keep(last.part, last.report)
+
+    def _hand_out(
+        self,
+        lots: Lots,
+        jobs: int,
+        pool: ThreadPoolExecutor,
+        came: "SimpleQueue[Union[Came, Future[None]]]",
+    ) -> None:
+        """Hands lots out to so many runs at a time, and takes what comes of them."""
+        running: "dict[Future[None], Lot]" = {}
+        while True:
+            while len(running) < jobs:
+                lot = lots.next(self._is_needless)
+                if lot is None:
+                    break
+                future = pool.submit(self._go_through, lot, came.put)
+                running[future] = lot
+                future.add_done_callback(came.put)
+            if not running:
+                return
+            last = came.get()
+            if not isinstance(last, Came):
+                lots.end(running.pop(last))
+                last.result()
+            elif self._take(last):
+                for lot in running.values():
+                    left = lot.left
+                    if left and all(map(self._is_needless, left)):
+                        self._program.drop(left[0])
+
+    def _take(self, came: "Came") -> bool:
+        """Takes what came of a part. Whether others matter no more by it."""
+        if came.report is not None:
+            return self._keep(came.part, came.report)
+        self._fail([came.part], came.error)
+        return False
+
+    def _go_through(self, lot: Lot, hand_on: Callable[["Came"], None]) -> None:
+        """Hands on what comes of the parts of a lot.
+
+        One that came to no end is tried once more with those behind it, and then passed over.
+        """
+        tried = 0
+        while lot:
+            try:
+                for part, report in self._program.reports(lot):
+                    hand_on(Came(part, report, ""))
+                    tried = 0
+            except RunError as error:
+                tried += 1
+                is_over = self._program.is_over(lot.first)
+                if tried < _TRIES and not is_over:
+                    self._progress.say(f"{lot.first.shown}: {error}; tried once more")
+                    continue
+                hand_on(Came(lot.pass_first(), None, str(error)))
+                tried = 0
+                if is_over:
+                    return
+
+    def lines_found(self, place: int) -> Optional[tuple[bytes, str]]:
+        """What is known of a problem that isn't done, and how far it is; None of another one."""
+        problem = self._problems.get(place)
+        if problem is None:
+            return None
+        first = self._journal.report(place) if self._journal.has_unfinished(place) else b""
+        lines = problem.lines_found(self._journal.part, self._program.begun, first)
+        done, of_all = problem.tally
+        return lines, f"stopped with {done} of {of_all} parts done"

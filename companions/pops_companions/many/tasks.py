@@ -1,0 +1,113 @@
+"""What is to be run, and what came of it."""
+
+import re
+from collections.abc import Sequence
+from typing import NamedTuple, Optional
+
+from pops_companions.many.cutting import LONGEST_INPUT, Piece, cut
+from pops_companions.texts.command import Status
+
+# As many line ends are put before a problem at once. Of a problem further down, the first run goes
+# without them, and only a faulty one is run again with them: sound reports tell no lines.
+LINE_ENDS_AT_ONCE = 4096
+# In place of an exit status of pops: the run was stopped when its time was over.
+UNFINISHED = int(Status.UNFINISHED)
+
+_HEAD = b"problem 1\n"
+_FAULT = re.compile(rb"problem 1\nline \d+: fault ")
+
+
+class Source(NamedTuple):
+    """An input: a file by its name, or standard input. Without text it is left to pops itself."""
+
+    name: Optional[str]
+    text: Optional[bytes]
+
+    @property
+    def shown(self) -> str:
+        return self.name or "standard input"
+
+
+class Task(NamedTuple):
+    """One run of pops: a problem of a source, or all of a source that is left to pops."""
+
+    place: int
+    source: Source
+    piece: Optional[Piece]
+
+    @property
+    def shown(self) -> str:
+        """The problem as messages name it."""
+        if self.piece is None:
+            return self.source.shown
+        return f"problem {self.piece.number} ({self.where})"
+
+    @property
+    def where(self) -> str:
+        """Where a problem begins. For a problem alone."""
+        assert self.piece is not None
+        return f"{self.source.shown}, line {self.piece.line}"
+
+    @property
+    def text(self) -> bytes:
+        """The input of the first run. For a problem alone."""
+        assert self.piece is not None and self.source.text is not None
+        return self.piece.alone(self.source.text, self.piece.line_ends <= LINE_ENDS_AT_ONCE)
+
+    @property
+    def text_with_line_ends(self) -> bytes:
+        """The input that gives a fault its right line. For a problem alone."""
+        assert self.piece is not None and self.source.text is not None
+        return self.piece.alone(self.source.text, True)
+
+    @property
+    def text_without_line_ends(self) -> bytes:
+        """The shortest input, for a problem that is known to be sound."""
+        assert self.piece is not None and self.source.text is not None
+        return self.piece.alone(self.source.text, False)
+
+    def wants_line_ends(self, report: bytes) -> bool:
+        """Whether the report of the first run is a fault told with a wrong line."""
+        assert self.piece is not None
+        lacking = self.piece.number > 1 and self.piece.line_ends > LINE_ENDS_AT_ONCE
+        return lacking and _FAULT.match(report) is not None
+
+    def numbered(self, report: bytes) -> bytes:
+        """The report with the problem's number in its input."""
+        if self.piece is None:
+            return report
+        return b"problem %d\n" % self.piece.number + report[len(_HEAD) :]
+
+
+class Result(NamedTuple):
+    """A task's report, with its number, and the exit status of its run.
+
+    Of an unfinished one the report is the lines that were written in so many seconds.
+    """
+
+    task: Task
+    status: int
+    report: bytes
+    seconds: Optional[float] = None
+
+
+def is_whole(report: bytes) -> bool:
+    """Whether a run on one problem came to its end: its report is one item."""
+    return report.startswith(_HEAD) and report.endswith(b"\n\n")
+
+
+def whole_lines(report: bytes) -> bytes:
+    """What a run that was stopped had written, without a last line that was cut."""
+    return report[: report.rfind(b"\n") + 1]
+
+
+def tasks_of(sources: Sequence[Source]) -> list[Task]:
+    """All tasks of the inputs, in their order."""
+    tasks: list[Task] = []
+    for source in sources:
+        if source.text is None or len(source.text) > LONGEST_INPUT:
+            tasks.append(Task(len(tasks), source, None))
+        else:
+            for piece in cut(source.text):
+                tasks.append(Task(len(tasks), source, piece))
+    return tasks

@@ -1,0 +1,18 @@
+"""An input of pops that a companion reads next to its report."""
+
+import sys
+from typing import Optional
+
+from pops_companions.many.cutting import rest_of
+from pops_companions.texts import command
+from pops_companions.texts.given import GivenProblem, given_problems
+
+
+def read_given(companion: str, file: Optional[str]) -> list[GivenProblem]:
+    """The problems of an input; what follows its EndProblem is reported on standard error."""
+    with command.opened(file) as source:
+        text = source.read()
+    rest = rest_of(text)
+    if rest is not None:
+        print(f"{companion}: {file or 'standard input'}: {rest.text}", file=sys.stderr)
+    return given_problems(text)
