@@ -4,6 +4,7 @@ import base64
 import json
 import os
 import select
+import shutil
 import subprocess
 import tempfile
 import time
@@ -29,7 +30,7 @@ class Browser:
     """A headless Chromium with one page."""
 
     def __init__(self, program: str):
-        self._room = tempfile.TemporaryDirectory(prefix="pops-browser-", ignore_cleanup_errors=True)
+        self._room = tempfile.mkdtemp(prefix="pops-browser-")
         ours_in, theirs_out = os.pipe()
         theirs_in, ours_out = os.pipe()
 
@@ -40,7 +41,7 @@ class Browser:
             os.dup2(write, 4)
 
         self._process = subprocess.Popen(
-            [program, *_FLAGS, f"--user-data-dir={self._room.name}", "about:blank"],
+            [program, *_FLAGS, f"--user-data-dir={self._room}", "about:blank"],
             stdin=subprocess.DEVNULL,
             stdout=subprocess.DEVNULL,
             stderr=subprocess.DEVNULL,
@@ -65,7 +66,7 @@ class Browser:
         self._process.wait()
         os.close(self._in)
         os.close(self._out)
-        self._room.cleanup()
+        shutil.rmtree(self._room, ignore_errors=True)
 
     def _message(self, seconds: float) -> dict[str, Any]:
         end = time.monotonic() + seconds
@@ -78,7 +79,8 @@ class Browser:
                 raise BrowserError("the browser has gone")
             self._kept += part
         message, self._kept = self._kept.split(b"\0", 1)
-        return json.loads(message)
+        found: dict[str, Any] = json.loads(message)
+        return found
 
     def call(self, method: str, **parameters: Any) -> dict[str, Any]:
         """Asks the browser for something and answers what it says."""
@@ -94,7 +96,8 @@ class Browser:
             if message.get("id") == self._number:
                 if "error" in message:
                     raise BrowserError(f"{method}: {message['error']}")
-                return message["result"]
+                result: dict[str, Any] = message["result"]
+                return result
             self.events.append(message)
 
     def run(self, script: str) -> Any:

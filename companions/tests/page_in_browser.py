@@ -30,10 +30,10 @@ class Page:
             self.wrong.append(what)
 
     def told(self, identity: str) -> str:
-        return self.browser.run(f"document.getElementById('{identity}').textContent")
+        return str(self.browser.run(f"document.getElementById('{identity}').textContent"))
 
     def text(self) -> str:
-        return self.browser.run("document.getElementById('text').value")
+        return str(self.browser.run("document.getElementById('text').value"))
 
     def open(self, text: Optional[str] = None) -> None:
         self.browser.open(self.address, READY)

@@ -63,8 +63,8 @@ def _letter(kind: str) -> str:
 def _move(move: dict[str, Any]) -> str:
     mark = {None: "", "check": "+", "mate": "#", "stalemate": "="}[move["mark"]]
     if move["castling"] is not None:
-        return move["castling"] + mark
-    text = "" if move["man"] == "pawn" else _letter(move["man"])
+        return f"{move['castling']}{mark}"
+    text: str = "" if move["man"] == "pawn" else _letter(move["man"])
     text += move["from"] + ("*" if move["capture"] else "-") + move["to"]
     text += " ep." if move["en_passant"] else ""
     text += "=" + _letter(move["promotion"]) if move["promotion"] else ""

@@ -10,9 +10,8 @@ import unittest
 from collections.abc import Callable
 from pathlib import Path
 
-from tests import support
-
 from pops_companions.many import sessions
+from tests import support
 
 SIX = (
     b"BeginProblem"

@@ -2,11 +2,9 @@
 
 from pathlib import Path
 
-from tests import parts_told
-from tests import support
-from tests.six_problems import SixProblems
-
 from pops_companions.many.machines import PROBE
+from tests import parts_told, support
+from tests.six_problems import SixProblems
 
 # A helpmate of seven first moves, three of which have most solutions; its set play has nineteen.
 PROBLEM = b"""BeginProblem

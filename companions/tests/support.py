@@ -3,17 +3,20 @@
 import importlib
 import importlib.util
 import os
+import shutil
 import subprocess
 import sys
 import tempfile
-from collections.abc import Sequence
+import unittest
+from collections.abc import Callable, Sequence
 from pathlib import Path
 from types import ModuleType
-from typing import NamedTuple
+from typing import Any, NamedTuple, TypeVar
 
 COMPANIONS = Path(__file__).resolve().parent.parent
 REPOSITORY = COMPANIONS.parent
 PACKAGE = COMPANIONS / "pops_companions"
+Test = TypeVar("Test", bound=Callable[..., Any])
 
 # The rows as files: NAME.in, NAME.out and NAME.options.
 _ROOM = tempfile.TemporaryDirectory()
@@ -39,6 +42,12 @@ class Outcome(NamedTuple):
     status: int
     output: bytes
     error: str
+
+
+def needs(name: str) -> Callable[[Test], Test]:
+    """Leaves a test out, with a line that says so, where no such module or program is installed."""
+    is_there = shutil.which(name) is not None or importlib.util.find_spec(name) is not None
+    return unittest.skipUnless(is_there, f"{name} isn't installed")
 
 
 def pops() -> str:

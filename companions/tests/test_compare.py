@@ -6,12 +6,9 @@ import unittest
 from pathlib import Path
 from typing import Optional
 
-from tests import run_here
-from tests import support
-from tests import test_soundness
-
 from pops_companions.review.matching import pairs_of
 from pops_companions.texts.report import Item, read_report
+from tests import run_here, support, test_soundness
 
 MATE = "1.Ra1-a8#\n"
 FAULT = "line {line}: fault 14: square expected\n"
@@ -49,7 +46,7 @@ def items(*problems: str) -> list[Item]:
 def numbers(old: list[str], new: list[str]) -> list[tuple[Optional[int], Optional[int]]]:
     """Which number of one report was matched with which of the other."""
     return [
-        (pair.old and pair.old.number, pair.new and pair.new.number)
+        (pair.old.number if pair.old else None, pair.new.number if pair.new else None)
         for pair in pairs_of(items(*old), items(*new))
     ]
 
@@ -336,14 +333,15 @@ class Command(unittest.TestCase):
             self.assertEqual(target.read_text(), "1 problem: nothing differs\n")
 
     def test_mistakes_are_no_difference(self) -> None:
-        for words, text, status, said in (
+        cases: list[tuple[list[str], bytes, int, str]] = [
             (["-", self.MATE_IN_TWO], b"", 3, "standard input is empty: no report of pops"),
             (["-", self.MATE_IN_TWO], b"problem 1\n", 3, "is no report of pops: line 2"),
             (["nowhere", self.MATE_IN_TWO], b"", 3, "cannot open nowhere"),
             (["-", "-"], b"", 2, "only one of the reports"),
             ([self.MATE_IN_TWO], b"", 2, "NEW"),
             ([], b"", 2, "OLD"),
-        ):
+        ]
+        for words, text, status, said in cases:
             with self.subTest(words):
                 outcome = run_here.companion("pops-compare", *words, text=text)
                 self.assertEqual((outcome.status, outcome.output), (status, b""))

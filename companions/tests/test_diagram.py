@@ -11,9 +11,8 @@ import unittest
 import xml.etree.ElementTree as ElementTree
 from pathlib import Path
 
-from tests import support
-
 from pops_companions.texts.latex import authors
+from tests import support
 from tests.test_pages import NAMES
 
 SVG = "{http://www.w3.org/2000/svg}"
@@ -90,7 +89,9 @@ def men_of_latex(text: str) -> dict[str, str]:
     assert parts is not None, text
     men = {}
     for word in parts[3].split(", "):
-        colour, letters, squares = re.fullmatch(r"([ws])([A-Z]+)((?:[a-h][1-8])+)", word).groups()
+        found = re.fullmatch(r"([ws])([A-Z]+)((?:[a-h][1-8])+)", word)
+        assert found is not None, word
+        colour, letters, squares = found.groups()
         for square in re.findall("..", squares):
             assert square not in men
             men[square] = LETTERS[letters].upper() if colour == "w" else LETTERS[letters]
@@ -217,7 +218,8 @@ class Pictures(unittest.TestCase):
         if shutil.which("rsvg-convert") is None:
             print("test_diagram: no rsvg-convert here: no picture was made")
             return
-        for words, width in (([], 800), (["--width", "250"], 250)):
+        cases: list[tuple[list[str], int]] = [([], 800), (["--width", "250"], 250)]
+        for words, width in cases:
             (picture,) = drawn(REPORT.encode(), "--png", *words).values()
             self.assertEqual(picture[:8], b"\x89PNG\r\n\x1a\n")
             self.assertEqual(struct.unpack(">II", picture[16:24]), (width, width))

@@ -10,15 +10,13 @@ from collections.abc import Iterator
 from pathlib import Path
 from typing import NamedTuple
 
-from tests import made_inputs
-from tests import support
-
 from pops_companions.explain.explaining import ExplainedFault, explain
 from pops_companions.explain.sentences import DATA
 from pops_companions.explain.showing import marked
 from pops_companions.explain.vocabulary import foreign
 from pops_companions.import_.language import LANGUAGES, Twinning, foreign_words, meaning
 from pops_companions.texts.report import read_report
+from tests import made_inputs, support
 
 BASE = ["BeginProblem", "Pieces White Kg6 Ra1 Black Kg8", "Stipulation #1", "EndProblem"]
 WHOLE = "whole text:"

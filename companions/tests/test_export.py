@@ -8,14 +8,12 @@ from dataclasses import replace
 from pathlib import Path
 from typing import NamedTuple
 
-from tests import run_here
-from tests import support
-
 from pops_companions.export.problems import Problem, joined, options_of, read_problems
 from pops_companions.export.yaml_form import solution_lines
 from pops_companions.import_.words import Unreadable
 from pops_companions.import_.yaml_text import documents
 from pops_companions.texts.report import SoundItem, read_report
+from tests import run_here, support
 
 IMPORTED = sorted((Path(__file__).resolve().parent / "data" / "import").glob("*.pop"))
 TWINS = b"""\
@@ -72,7 +70,7 @@ class RoundTrips(unittest.TestCase):
                 continue
             wanted = same(text)
             for form in ("popeye", "yaml"):
-                for words in ([], ["--apart"]):
+                for words in ((), ("--apart",)):
                     with self.subTest(path.name, form=form, words=words):
                         self.assertEqual(same(exported(form, *words, str(path))), wanted)
                         tried += 1
@@ -196,13 +194,14 @@ class Command(unittest.TestCase):
         self.assertEqual(outcome.output.count(b"BeginProblem"), 1)
 
     def test_mistakes(self) -> None:
-        for words, status in (
+        cases: list[tuple[list[str], int]] = [
             ([], 2),
             (["--to", "pgn"], 2),
             (["--to", "popeye", "--report", "x"], 2),
             (["--to", "yaml", "nowhere.pop"], 3),
             (["--to", "yaml"], 1),
-        ):
+        ]
+        for words, status in cases:
             with self.subTest(words):
                 self.assertEqual(run_here.companion("pops-export", *words).status, status)
 

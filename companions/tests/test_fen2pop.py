@@ -269,8 +269,8 @@ def made_fen(chance: random.Random) -> str:
     turn = chance.choice("wb")
     crossed = "-"
     if chance.random() < 0.3:
-        pawn, row, crossed_rank = ("p", 3, "6") if turn == "w" else ("P", 4, "3")
-        files = [file for file in range(8) if squares[row][file] == pawn] or [chance.randrange(8)]
+        pawn, line, crossed_rank = ("p", 3, "6") if turn == "w" else ("P", 4, "3")
+        files = [file for file in range(8) if squares[line][file] == pawn] or [chance.randrange(8)]
         crossed = "abcdefgh"[files[0]] + crossed_rank
     rights = chance.choice(["-", "KQkq", "Kq", "Q"])
     return f"{'/'.join(ranks)} {turn} {rights} {crossed} 0 1"
@@ -306,7 +306,7 @@ class PlainPosition:
         """The first fault by the order of the words and of the tests at a problem's end."""
         men = "".join(self.rows)
         last_ranks = self.rows[0] + self.rows[7]
-        for king, pawn in ("KP", "kp"):
+        for king, pawn in (("K", "P"), ("k", "p")):
             if men.count(king) > 1:
                 return 7
             if pawn in last_ranks:

@@ -7,13 +7,11 @@ import unittest
 from pathlib import Path
 from typing import Optional
 
-from tests import run_here
-from tests import support
-
 from pops_companions.find.boards import board_of, differences, men_of, variants
 from pops_companions.find.collection import Collection, CollectionError
 from pops_companions.find.entries import Entry, men_in, mirrored_play, plays_of
 from pops_companions.texts.chess import Man, Square
+from tests import run_here, support
 
 MORPHY = "White Kc8 Ra1 Pb6 Black Ka8 Bb8 Pa7b7"
 
@@ -313,7 +311,7 @@ class Command(unittest.TestCase):
 
     def test_mistakes(self) -> None:
         self.added("morphy_1856.pop")
-        for words, status in (
+        cases: list[tuple[list[str], int]] = [
             ([], 2),
             (["--near", "a", "--author", "b"], 2),
             (["--near", "a", "--play", "b"], 2),
@@ -322,7 +320,8 @@ class Command(unittest.TestCase):
             (["--count", "3"], 2),
             (["--near", "nowhere.pop"], 3),
             (["--play", str(self.examples / "README.md")], 3),
-        ):
+        ]
+        for words, status in cases:
             with self.subTest(words):
                 self.assertEqual(self.run_on(*words).status, status)
 

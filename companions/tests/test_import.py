@@ -5,6 +5,7 @@ The made files of data/import have the wanted output (.pop) and the wanted lines
 """
 
 import contextlib
+import importlib.util
 import io
 import random
 import re
@@ -13,15 +14,16 @@ import subprocess
 import sys
 import tempfile
 import unittest
+from collections.abc import Mapping
 from pathlib import Path
 from typing import Any, NamedTuple
-
-from tests import support
+from unittest import mock
 
 from pops_companions.import_.language import ENGLISH, FRENCH, GERMAN, meaning
 from pops_companions.import_.origins import date_text, origin_of
 from pops_companions.import_.sections import wanted_of
 from pops_companions.import_.yaml_text import YamlError, documents
+from tests import run_here, support
 
 DATA = Path(__file__).resolve().parent / "data" / "import"
 IMPORT = support.loaded("pops-import")
@@ -57,8 +59,10 @@ def imported_text(text: bytes, *words: str) -> Imported:
 
 
 def made_files() -> list[Path]:
-    files = sorted(path for path in DATA.iterdir() if path.suffix in (".inp", ".yaml"))
-    assert len(files) > 15
+    """The collections of data/import; those in YAML where PyYAML is installed."""
+    suffixes = (".inp", ".yaml") if importlib.util.find_spec("yaml") else (".inp",)
+    files = sorted(path for path in DATA.iterdir() if path.suffix in suffixes)
+    assert len(files) > 12
     return files
 
 
@@ -87,8 +91,8 @@ class MadeFiles(unittest.TestCase):
                 self.assertEqual(imported(str(path)), (0, path.read_bytes(), []))
 
     def test_line_ends_of_other_systems(self) -> None:
-        for name in ("twins.inp", "german.inp", "olive.yaml"):
-            text = (DATA / name).read_bytes()
+        for path in made_files():
+            name, text = path.name, path.read_bytes()
             wanted = imported_text(text)
             for end in (b"\r\n", b"\r"):
                 with self.subTest(name, end=end):
@@ -152,14 +156,15 @@ class Origins(unittest.TestCase):
                 self.assertEqual(date_text(date), wanted)
 
     def test_parts_in_their_order(self) -> None:
-        for parts, wanted in (
+        cases: list[tuple[list[tuple[str, str]], tuple[str, str]]] = [
             ([("name", "Die Schwalbe"), ("date", "1977")], ("Die Schwalbe 1977", "")),
             ([("date", "1977-08"), ("name", "Die Schwalbe")], ("Die Schwalbe, August 1977", "")),
             ([("name", "feenschach"), ("problemid", "4711"), ("year", "1977"), ("month", "8")],
              ("feenschach, 4711, August 1977", "")),
             ([("name", "A"), ("volume", "3"), ("month", "8")], ("A", "volume 3, month 8")),
             ([], ("", "")),
-        ):  # fmt: skip
+        ]  # fmt: skip
+        for parts, wanted in cases:
             with self.subTest(parts):
                 self.assertEqual(origin_of(parts), wanted)
 
@@ -303,12 +308,13 @@ class Languages(unittest.TestCase):
 
     def test_the_words_of_the_document(self) -> None:
         """Its tables name all words that are taken, each with what it means."""
-        section = (support.COMPANIONS / "pops_import" / "WORDS.md").read_text("utf-8")
-        for title, places in (
+        section = (support.PACKAGE / "import_" / "WORDS.md").read_text("utf-8")
+        cases: list[tuple[str, list[Mapping[str, frozenset[Any]]]]] = [
             ("Command", [one.commands for one in (ENGLISH, GERMAN, FRENCH)]),
             ("Option", [one.options for one in (ENGLISH, GERMAN, FRENCH)]),
             ("Twin", [one.twinnings for one in (ENGLISH, GERMAN, FRENCH)]),
-        ):
+        ]
+        for title, places in cases:
             rows = table(section, title)
             for place, words in enumerate(places):
                 known = {}
@@ -396,6 +402,7 @@ class Texts(unittest.TestCase):
         self.assertIn(b"Title b)\nRemark both\n", made.output)
 
 
+@support.needs("yaml")
 class Yaml(unittest.TestCase):
     """The part of YAML that is read, by the definitions of YAML 1.2."""
 
@@ -501,6 +508,15 @@ class Yaml(unittest.TestCase):
             for document in documents(text):
                 with contextlib.suppress(YamlError):
                     document.node()
+
+
+class WithoutPyYaml(unittest.TestCase):
+    def test_yaml_is_refused_and_nothing_else(self) -> None:
+        with mock.patch.dict(sys.modules, {"yaml": None}):
+            made = run_here.companion("pops-import", str(DATA / "olive.yaml"))
+            self.assertEqual((made.status, made.output), (3, b""))
+            self.assertIn("needs PyYAML (Debian: python3-yaml), which isn't installed", made.error)
+            self.assertEqual(run_here.companion("pops-import", str(DATA / "twins.inp")).status, 0)
 
 
 class Robustness(unittest.TestCase):

@@ -4,11 +4,8 @@ import tempfile
 import unittest
 from pathlib import Path
 
-from tests import support
-from tests import test_pages
-from tests import test_soundness
-
 from pops_companions.review.judging_run import lines_below_head
+from tests import support, test_pages, test_soundness
 
 ONE = b"BeginProblem\nTitle A mate\nOrigin A & B 1900\nPieces White Kg6 Ra1 Black Kg8\nStipulation #1\n"
 TWO = b"NextProblem\nTitle A help\nPieces White Kg6 Ra1 Black Kh8\nStipulation h#1\nEndProblem\n"

@@ -10,12 +10,10 @@ import tempfile
 import unittest
 from pathlib import Path
 
-from tests import made_inputs
-from tests import support
-from tests.six_problems import SIX, SixProblems
-
 from pops_companions.many.cutting import Rest, cut, rest_of
 from pops_companions.many.progress import Progress, duration
+from tests import made_inputs, support
+from tests.six_problems import SIX, SixProblems
 
 MANY = support.loaded("pops-many")
 
@@ -238,7 +236,7 @@ class Interruptions(SixProblems):
         self.assertEqual(outcome.status, 6)
         self.assertEqual(outcome.output.count(b"solutions: 1\n"), 3)
         journal = outcome.error.split("--journal ")[1].strip()
-        self.addCleanup(lambda: os.path.exists(journal) and os.unlink(journal))
+        self.addCleanup(Path(journal).unlink, missing_ok=True)
         words = ["--pops", support.pops(), "--resume", "--journal", journal, str(self.input)]
         self.assertEqual(support.companion("pops-many", *words), (0, self.wanted, ""))
         self.assertFalse(os.path.exists(journal))

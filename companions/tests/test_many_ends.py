@@ -9,10 +9,9 @@ import tempfile
 import unittest
 from pathlib import Path
 
+from pops_companions.many import sessions
 from tests import support
 from tests.six_problems import SixProblems, has_worked, wait_for
-
-from pops_companions.many import sessions
 
 WAITS = "sleep 60 & sleep 61"
 

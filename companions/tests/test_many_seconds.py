@@ -3,10 +3,9 @@
 import subprocess
 import unittest
 
+from pops_companions.many.tasks import whole_lines
 from tests import support
 from tests.six_problems import SixProblems
-
-from pops_companions.many.tasks import whole_lines
 
 # On the fourth problem: two lines, the beginning of a third, and no end.
 TWO_LINES = "printf 'problem 1\\nline one\\nline two\\nline th'; exec sleep 60"

@@ -4,13 +4,11 @@ import tempfile
 import unittest
 from pathlib import Path
 
-from tests import run_here
-from tests import support
-from tests.test_explain import slips
-
 from pops_companions.explain.mending import further_faults, mend
 from pops_companions.explain.notices import notices
 from pops_companions.many.cutting import cut
+from tests import run_here, support
+from tests.test_explain import slips
 
 PIECES = "Pieces White Kg6 Ra1 Black Kg8"
 

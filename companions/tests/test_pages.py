@@ -51,7 +51,7 @@ class SeenPage(HTMLParser):
     def _inside(self) -> Optional[SeenArticle]:
         return self.articles[-1] if any(tag == "article" for tag, _ in self.open) else None
 
-    def handle_starttag(self, tag: str, attributes: list) -> None:
+    def handle_starttag(self, tag: str, attributes: list[tuple[str, Optional[str]]]) -> None:
         values = dict(attributes)
         if tag not in TAGS_WITHOUT_END:
             self.open.append((tag, values))
@@ -61,7 +61,7 @@ class SeenPage(HTMLParser):
             self.articles[-1].words.append("")
         self._see(tag, values)
 
-    def handle_startendtag(self, tag: str, attributes: list) -> None:
+    def handle_startendtag(self, tag: str, attributes: list[tuple[str, Optional[str]]]) -> None:
         self._see(tag, dict(attributes))
 
     def _see(self, tag: str, values: dict[str, Optional[str]]) -> None:
@@ -258,7 +258,8 @@ class Inputs(unittest.TestCase):
         self.assertIn("Die Schwalbe 1977", page.articles[0].words)
 
     def test_twins_share_a_diagram(self) -> None:
-        for words, said in ((["--input", "GIVEN"], "Move a1 b2"), ([], "white Ra1 to b2")):
+        cases: list[tuple[list[str], str]] = [(["--input", "GIVEN"], "Move a1 b2"), ([], "white Ra1 to b2")]
+        for words, said in cases:
             twins, other = self.shown(*words).articles
             self.assertEqual((twins.diagrams, len(twins.men), other.diagrams), (1, 3, 1))
             self.assertEqual(twins.words.count("A pair"), 1)

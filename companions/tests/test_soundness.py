@@ -6,19 +6,16 @@ import re
 import tempfile
 import unittest
 from pathlib import Path
-from typing import Optional
-
-from tests import run_here
-from tests import support
-from tests import test_pages
+from typing import Optional, Union
 
 from pops_companions.review.duals import Place, late_partings, tree_duals
-from pops_companions.texts.given import given_problems
 from pops_companions.review.judging import Judgement, Verdict, judged
 from pops_companions.review.posing import AnswersError, ShortAnswers, posed_problems, shorter
+from pops_companions.texts.given import given_problems
 from pops_companions.texts.problem_text import text_of_problems
 from pops_companions.texts.report import HelpLine, Item, Node, SoundItem, read_report
 from pops_companions.texts.stipulation import Stipulation
+from tests import run_here, support, test_pages
 
 COLLECTION = support.COMPANIONS / "data" / "soundness.pop"
 
@@ -71,9 +68,13 @@ def item(stipulation: str, play: str, *, set_play: Optional[str] = None, stopped
     return one
 
 
-def solutions(one: Item) -> tuple:
+def solutions(one: Item) -> tuple[Union[HelpLine, Node], ...]:
     assert isinstance(one, SoundItem) and one.phases is not None
     return one.phases[-1].solutions
+
+
+def nodes_of(one: Item) -> list[Node]:
+    return [it for it in solutions(one) if isinstance(it, Node)]
 
 
 def judge(one: Item, wanted: int = 1, short: Optional[tuple[str, ...]] = ()) -> Judgement:
@@ -92,8 +93,7 @@ def documented(program: str) -> str:
 
 class Duals(unittest.TestCase):
     def test_direct_play_by_length_and_place(self) -> None:
-        keys = [node for node in solutions(item("#3", DIRECT_TREE)) if isinstance(node, Node)]
-        duals = list(tree_duals(keys))
+        duals = list(tree_duals(nodes_of(item("#3", DIRECT_TREE))))
         self.assertEqual(
             [(dual.text, dual.move, dual.end, dual.place) for dual in duals],
             [
@@ -109,16 +109,15 @@ class Duals(unittest.TestCase):
         )
 
     def test_a_selfmate_has_choices_of_white_alone(self) -> None:
-        keys = [node for node in solutions(item("s#2", SELF_TREE)) if isinstance(node, Node)]
-        (dual,) = tree_duals(keys)
+        (dual,) = tree_duals(nodes_of(item("s#2", SELF_TREE)))
         self.assertEqual(dual.text, "1.Qa1-a2 Kh8-g8 2.Qa2-a8+ | Qa2-b3+")
         self.assertEqual((dual.move, dual.end, dual.place), (2, 2, Place.AT_THE_END))
 
     def test_what_a_pawn_becomes(self) -> None:
         tree = "1.e6-e7\n  1...Kh8-g8\n    2.e7-e8=Q#\n    2.e7-e8=R#\n"
-        (dual,) = tree_duals(solutions(item("#2", tree)))
+        (dual,) = tree_duals(nodes_of(item("#2", tree)))
         self.assertTrue(dual.by_promotion)
-        (other,) = tree_duals(solutions(item("#2", tree.replace("e8=R", "d8=R"))))
+        (other,) = tree_duals(nodes_of(item("#2", tree.replace("e8=R", "d8=R"))))
         self.assertFalse(other.by_promotion)
 
     def test_help_lines_that_part_late(self) -> None:
@@ -373,7 +372,7 @@ class Collection(unittest.TestCase):
     along the eighth rank leave Black b3-b2 alone.
     """
 
-    WANTED = [
+    WANTED: list[tuple[str, list[str]]] = [
         ("sound", []),
         ("unsound", ["cooked: 2 keys, 1 wanted"]),
         ("sound", ["1 dual at the mate: 1 on move 2; 1 by promotion alone",
@@ -388,6 +387,11 @@ class Collection(unittest.TestCase):
         ("unsound", ["cooked: 4 keys, 1 wanted"]),
         ("sound", []),
     ]  # fmt: skip
+
+    room: Path
+    report: Path
+    short: Path
+    words: list[str]
 
     @classmethod
     def setUpClass(cls) -> None:
@@ -479,12 +483,13 @@ class Collection(unittest.TestCase):
 
     def test_the_number_wanted_of_help_problems(self) -> None:
         report = str(support.REPOSITORY / "examples" / "game_array.report")
-        for words, said in (
+        cases: list[tuple[list[str], bytes]] = [
             (["--solutions", "8"], b"undecided"),
             (["--solutions", "7"], b"cooked: 8 solutions, 7 wanted"),
             (["--solutions", "9"], b"solutions missing: 8 solutions, 9 wanted"),
             ([], b"cooked: 8 solutions, 1 wanted"),
-        ):
+        ]
+        for words, said in cases:
             outcome = run_here.companion("pops-test", report, *words)
             self.assertEqual((outcome.status, outcome.error), (1, ""))
             self.assertIn(said, outcome.output)

@@ -7,13 +7,8 @@ import tempfile
 import unittest
 from collections.abc import Callable, Generator, Iterator, Mapping, Sequence
 from pathlib import Path
-from typing import Optional
+from typing import Any, Optional
 from unittest import mock
-
-from tests import made_inputs
-from tests import parts_told
-from tests import problems_in_parts
-from tests import support
 
 from pops_companions.many.in_parts import ProblemInParts, Reader
 from pops_companions.many.lots import Lot, Lots, numbers_of
@@ -32,6 +27,7 @@ from pops_companions.many.parts import (
 from pops_companions.many.program import PAUSE, Program
 from pops_companions.many.progress import Progress
 from pops_companions.many.tasks import UNFINISHED, Source, Task, tasks_of
+from tests import made_inputs, parts_told, problems_in_parts, support
 
 MANY = support.loaded("pops-many")
 # A program that is there; what it tells is asked for within this process.
@@ -154,7 +150,7 @@ class WrongJoiners(BesidePops):
         for limit in (10, 40)
     ]
 
-    def are_refused(self, wrong: Mapping[str, object]) -> None:
+    def are_refused(self, wrong: Mapping[str, Any]) -> None:
         """None of the texts is solved as pops does with that in place of the joiner's own."""
         for text in self.TEXTS:
             with self.subTest(text):
@@ -284,11 +280,12 @@ class Handed(unittest.TestCase):
 
     def test_lots_stand_one_behind_another(self) -> None:
         parts = self.parts("set", [1, 2, 3, 5, 6, 7]) + self.parts("play", range(8, 14))
-        for alone, wanted in (
+        cases: list[tuple[Sequence[int], str]] = [
             ([], "1..3 5..7 8..13"),
             ([2, 11], "1 2..3 5..7 8..10 11..13"),
             (range(20), "1 2 3 5 6 8 9 10 11 12 13"),
-        ):
+        ]
+        for alone, wanted in cases:
             lots = self.lots(parts, alone)
             found = [self.next(lots) for _ in wanted.split()]
             self.assertEqual([numbers_of(lot.left) for lot in found], wanted.split())
@@ -356,23 +353,25 @@ class Handed(unittest.TestCase):
         self.assertEqual([pause < PAUSE for pause in pauses], [False, True, True])
 
     def test_cut_soon_where_processors_have_nothing_to_do(self) -> None:
-        for words, problems, moment in (
+        cases: list[tuple[list[str], int, float]] = [
             ([], 3, 0.02),
             ([], 4, 2),
             (["--split-after", "7"], 3, 7),
             (["--split-after", "0.1"], 5, 0.1),
-        ):
+        ]
+        for words, problems, moment in cases:
             with self.subTest(words, problems=problems):
                 settings = MANY.arguments(["--split", *words])
                 self.assertEqual(MANY.moment_of(settings, problems, 4), moment)
 
     def test_depths(self) -> None:
-        for words, depth in (
+        cases: list[tuple[list[str], int]] = [
             ([], 2),
             (["--split-depth", "1"], 1),
             (["--sshlogin", "x"], 1),
             (["--sshlogin", "x", "--split-depth", "3"], 3),
-        ):
+        ]
+        for words, depth in cases:
             with self.subTest(words):
                 self.assertEqual(MANY.depth_of(MANY.arguments(["--split", *words])), depth)
 

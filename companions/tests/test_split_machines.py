@@ -6,13 +6,11 @@ import time
 import unittest
 from pathlib import Path
 
+from pops_companions.many.machines import logins_of
+from pops_companions.many.parallel import machine_of
 from tests import support
 from tests.six_problems import wait_for
 from tests.split_room import SplitRoom
-
-from pops_companions.many import sessions
-from pops_companions.many.machines import logins_of
-from pops_companions.many.parallel import machine_of
 
 # In the place of ssh: the command runs here, and knows the machine that it was for.
 _SSH = """#!/bin/bash

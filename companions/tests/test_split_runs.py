@@ -9,8 +9,7 @@ import sys
 import time
 import unittest
 
-from tests import run_here
-from tests import support
+from tests import run_here, support
 from tests.six_problems import SIX, wait_for
 from tests.split_room import SplitRoom
 

@@ -1,7 +1,8 @@
 """Says how two reports of pops differ, problem by problem."""
 
+import argparse
 from collections.abc import Iterator
-from typing import NoReturn
+from typing import NoReturn, Optional
 
 from pops_companions.review.differences import Counts, differences_of, heading
 from pops_companions.review.matching import Pair, pairs_of
@@ -14,7 +15,16 @@ from pops_companions.texts.report import Item
 NAME = "pops-compare"
 
 
-def arguments(words: list[str]) -> "command.argparse.Namespace":
+class Settings(argparse.Namespace):
+    """The words of the command line."""
+
+    old: str
+    new: str
+    output: Optional[str]
+    encoding: str
+
+
+def arguments(words: list[str]) -> Settings:
     parser = command.parser(
         NAME,
         "Says how two reports of pops differ, problem by problem: solutions, variations,\n"
@@ -30,7 +40,7 @@ def arguments(words: list[str]) -> "command.argparse.Namespace":
         "-o", "--output", metavar="FILE", help="the text (default: standard output)"
     )
     command.add_encoding(parser)
-    settings = parser.parse_args(words)
+    settings = parser.parse_args(words, Settings())
     if settings.old == settings.new == "-":
         parser.error("only one of the reports can be standard input")
     return settings

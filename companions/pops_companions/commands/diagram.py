@@ -1,11 +1,13 @@
 """Writes the diagrams of a report of pops, a file for each problem."""
 
+import argparse
 import os
 import shutil
 import subprocess
 import sys
 from collections import deque
 from collections.abc import Callable, Iterator
+from functools import partial
 from pathlib import Path
 from typing import NoReturn, Optional
 
@@ -24,6 +26,18 @@ NAME = "pops-diagram"
 _WIDTH = 800
 
 Drawing = Callable[[Group, Board], bytes]
+
+
+class Settings(argparse.Namespace):
+    """The words of the command line."""
+
+    report: Optional[str]
+    kind: str
+    output: Optional[str]
+    width: int
+    input: Optional[str]
+    apart: bool
+    encoding: str
 
 
 def svg(group: Group, board: Board, encoding: str) -> bytes:
@@ -51,7 +65,7 @@ def png_of(converter: str, width: int, drawing: bytes) -> bytes:
     return done.stdout
 
 
-def drawing_of(settings: "command.argparse.Namespace") -> Drawing:
+def drawing_of(settings: Settings) -> Drawing:
     """What makes the contents of a file."""
     encoding = settings.encoding
     if settings.kind == "svg":
@@ -65,7 +79,8 @@ def drawing_of(settings: "command.argparse.Namespace") -> Drawing:
             "--png needs rsvg-convert of librsvg (Debian: librsvg2-bin), which isn't on the PATH;"
             " --svg and --latex need nothing",
         )
-    return lambda group, board: png_of(converter, settings.width, svg(group, board, encoding))
+    as_png = partial(png_of, converter, settings.width)
+    return lambda group, board: as_png(svg(group, board, encoding))
 
 
 def beginning_of_names(place: Optional[str], report: Optional[str]) -> str:
@@ -76,7 +91,7 @@ def beginning_of_names(place: Optional[str], report: Optional[str]) -> str:
     return os.path.join(place, name) if place.endswith("/") or os.path.isdir(place) else place
 
 
-def arguments(words: list[str]) -> "command.argparse.Namespace":
+def arguments(words: list[str]) -> Settings:
     parser = command.parser(
         NAME,
         "Writes the diagrams of a report of pops, one file per problem, and prints their names.\n"
@@ -115,7 +130,7 @@ def arguments(words: list[str]) -> "command.argparse.Namespace":
         "--apart", action="store_true", help="with --latex: each twin in a file of its own"
     )
     command.add_encoding(parser)
-    settings = parser.parse_args(words)
+    settings = parser.parse_args(words, Settings())
     if not 1 <= settings.width <= 20_000:
         parser.error("--width needs a number from 1 to 20000")
     return settings

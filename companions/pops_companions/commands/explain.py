@@ -1,5 +1,6 @@
 """Explains the faults of problems: the word, what is wrong with it, and the likely cause."""
 
+import argparse
 import io
 import subprocess
 import sys
@@ -20,7 +21,18 @@ NAME = "pops-explain"
 STANDARD_INPUT = "-"
 
 
-def arguments(words: list[str]) -> "command.argparse.Namespace":
+class Settings(argparse.Namespace):
+    """The words of the command line."""
+
+    input: str
+    report: Optional[str]
+    output: Optional[str]
+    all: bool
+    fix: bool
+    pops: Optional[str]
+
+
+def arguments(words: list[str]) -> Settings:
     parser = command.parser(
         NAME,
         "Explains each fault of a text of problems: the line with the word marked, what is wrong\n"
@@ -47,7 +59,7 @@ def arguments(words: list[str]) -> "command.argparse.Namespace":
         " check it: the causes are guesses",
     )
     add("--pops", metavar="PROGRAM", help=LOOKED_FOR)
-    settings = parser.parse_args(words)
+    settings = parser.parse_args(words, Settings())
     if settings.input == settings.report == STANDARD_INPUT:
         parser.error("INPUT and REPORT can't both be standard input")
     if settings.fix and settings.input == STANDARD_INPUT:

@@ -17,7 +17,18 @@ from pops_companions.texts.titles import is_text, shown
 NAME = "pops-export"
 
 
-def arguments(words: list[str]) -> argparse.Namespace:
+class Settings(argparse.Namespace):
+    """The words of the command line."""
+
+    file: Optional[str]
+    to: str
+    report: Optional[str]
+    apart: bool
+    output: Optional[str]
+    encoding: str
+
+
+def arguments(words: list[str]) -> Settings:
     parser = command.parser(
         NAME,
         "Writes the problems of FILE as an input of Popeye, or in YAML as the Olive editor and\n"
@@ -36,7 +47,7 @@ def arguments(words: list[str]) -> argparse.Namespace:
     add("--apart", action="store_true", help="leave each twin a problem of its own")
     add("-o", "--output", metavar="OUTPUT", help="what is written (default: standard output)")
     command.add_encoding(parser)
-    settings = parser.parse_args(words)
+    settings = parser.parse_args(words, Settings())
     if settings.report is not None and settings.to != "yaml":
         parser.error("--report goes with --to yaml: an input of Popeye has no solutions")
     return settings
@@ -51,7 +62,7 @@ def read(file: Optional[str], encoding: str) -> str:
     return "".join(shown(line, encoding) for line in data.splitlines(keepends=True))
 
 
-def items_of(settings: argparse.Namespace) -> dict[int, SoundItem]:
+def items_of(settings: Settings) -> dict[int, SoundItem]:
     """The solved problems of the report by their numbers."""
     if settings.report is None:
         return {}
@@ -60,7 +71,7 @@ def items_of(settings: argparse.Namespace) -> dict[int, SoundItem]:
 
 
 def refuse_other_report(
-    problems: list[Exported], items: dict[int, SoundItem], settings: argparse.Namespace
+    problems: list[Exported], items: dict[int, SoundItem], settings: Settings
 ) -> None:
     """CommandError where the report isn't of the problems."""
     for one in problems:

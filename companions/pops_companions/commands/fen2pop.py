@@ -1,5 +1,6 @@
 """Turns positions in FEN or EPD into input of pops."""
 
+import argparse
 import re
 import sys
 from collections.abc import Iterator
@@ -15,6 +16,21 @@ from pops_companions.texts.stipulation import Condition, Stipulation
 NAME = "fen2pop"
 # So many positions whose colours are turned round are named.
 _TURNED_NAMED = 3
+
+
+class Settings(argparse.Namespace):
+    """The words of the command line."""
+
+    position: list[str]
+    file: list[str]
+    stipulation: Stipulation
+    title: str
+    author: str
+    condition: Optional[str]
+    options: list[str]
+    max_solutions: Optional[int]
+    keep_colours: bool
+    output: Optional[str]
 
 
 class Given(NamedTuple):
@@ -85,7 +101,7 @@ def mate_of(position: Position) -> Optional[Stipulation]:
     return Stipulation.of_text(f"#{int(moves)}") if re.fullmatch("[0-9]{1,3}", moves) else None
 
 
-def arguments(words: list[str]) -> "command.argparse.Namespace":
+def arguments(words: list[str]) -> Settings:
     parser = command.parser(
         NAME,
         "Turns positions in FEN or EPD into input for pops, one problem from each.\n\n"
@@ -146,7 +162,7 @@ def arguments(words: list[str]) -> "command.argparse.Namespace":
     )
     add("--keep-colours", action="store_true", help="ignore the side to move")
     add("-o", "--output", metavar="FILE", help="the input of pops (default: standard output)")
-    settings = parser.parse_args(words)
+    settings = parser.parse_args(words, Settings())
     if settings.max_solutions is not None:
         settings.options.append(f"MaxSolutions {settings.max_solutions}")
     return settings

@@ -18,7 +18,27 @@ MOST = 50
 _WORDS = ("author", "title", "stipulation", "condition", "men", "count")
 
 
-def arguments(words: list[str]) -> argparse.Namespace:
+class Settings(argparse.Namespace):
+    """The words of the command line."""
+
+    collection: str
+    add: Optional[list[str]]
+    near: Optional[str]
+    play: Optional[str]
+    report: Optional[str]
+    author: Optional[str]
+    title: Optional[str]
+    stipulation: Optional[str]
+    condition: Optional[str]
+    men: Optional[str]
+    count: Optional[str]
+    most: int
+    output: Optional[str]
+    encoding: str
+    wanted: Wanted
+
+
+def arguments(words: list[str]) -> Settings:
     parser = command.parser(
         NAME,
         "Keeps problems in COLLECTION, an SQLite file, and finds them again: by words and men, by\n"
@@ -57,7 +77,7 @@ def arguments(words: list[str]) -> argparse.Namespace:
     )
     add("-o", "--output", metavar="PAGE", help="an HTML page with the diagrams of what was found")
     command.add_encoding(parser)
-    settings = parser.parse_args(words)
+    settings = parser.parse_args(words, Settings())
     is_search = any(getattr(settings, name) is not None for name in _WORDS)
     actions_given = [settings.add, settings.near, settings.play]
     if is_search == any(it is not None for it in actions_given):
@@ -68,7 +88,7 @@ def arguments(words: list[str]) -> argparse.Namespace:
     return settings
 
 
-def wanted_of(parser: argparse.ArgumentParser, settings: argparse.Namespace) -> Wanted:
+def wanted_of(parser: argparse.ArgumentParser, settings: Settings) -> Wanted:
     """What found problems have to have."""
     try:
         men = dict(men_in(settings.men or ""))
@@ -106,7 +126,7 @@ def entries_in(file: str, encoding: str) -> tuple[list[Entry], bool]:
     return entries, not left_out
 
 
-def add(collection: Collection, settings: argparse.Namespace) -> Status:
+def add(collection: Collection, files: list[str], settings: Settings) -> Status:
     """Adds the problems of FILEs."""
     status = Status.GOOD
     plays = {}
@@ -115,7 +135,7 @@ def add(collection: Collection, settings: argparse.Namespace) -> Status:
             plays = plays_of(read(settings.report))
         except EntriesError as error:
             raise CommandError(Status.DEVICE, f"{settings.report}: {error}") from None
-    for file in settings.add:
+    for file in files:
         entries, is_whole = entries_in(file, settings.encoding)
         status = status if is_whole else Status.FAULTY
         with_play = (entry.with_play(plays.get(entry.number)) for entry in entries)
@@ -124,7 +144,7 @@ def add(collection: Collection, settings: argparse.Namespace) -> Status:
     return status
 
 
-def answers(collection: Collection, settings: argparse.Namespace) -> list[Answer]:
+def answers(collection: Collection, settings: Settings) -> list[Answer]:
     """What is found for each question."""
     file = settings.near or settings.play
     if file is None:
@@ -148,7 +168,7 @@ def answers(collection: Collection, settings: argparse.Namespace) -> list[Answer
     return made
 
 
-def find(collection: Collection, settings: argparse.Namespace) -> Status:
+def find(collection: Collection, settings: Settings) -> Status:
     """Prints what is found, and writes the page."""
     found = answers(collection, settings)
     if settings.output is not None:
@@ -165,7 +185,9 @@ def main(words: list[str]) -> Status:
     try:
         collection = Collection(settings.collection, new=settings.add is not None)
         try:
-            return (find if settings.add is None else add)(collection, settings)
+            if settings.add is None:
+                return find(collection, settings)
+            return add(collection, settings.add, settings)
         finally:
             collection.close()
     except CollectionError as error:

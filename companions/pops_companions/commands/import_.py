@@ -1,7 +1,8 @@
 """Turns inputs of Popeye and collections in YAML into input of pops."""
 
+import argparse
 import sys
-from collections.abc import Iterable
+from collections.abc import Iterable, Sequence
 from typing import NoReturn, Optional
 
 from pops_companions.import_.draft import Draft
@@ -14,6 +15,20 @@ from pops_companions.texts.problem_text import text_of_problems
 from pops_companions.texts.titles import is_text, shown
 
 NAME = "pops-import"
+
+
+class Settings(argparse.Namespace):
+    """The words of the command line."""
+
+    files: list[str]
+    output: Optional[str]
+    encoding: str
+
+    @property
+    def inputs(self) -> Sequence[Optional[str]]:
+        """The collections; None is standard input."""
+        inputs: list[Optional[str]] = [*self.files]
+        return inputs or [None]
 
 
 class Import:
@@ -103,9 +118,9 @@ def main(words: list[str]) -> Status:
         "-o", "--output", metavar="FILE", help="the input of pops (default: standard output)"
     )
     command.add_encoding(parser)
-    settings = parser.parse_args(words)
+    settings = parser.parse_args(words, Settings())
     made = Import()
-    for file in settings.files or [None]:
+    for file in settings.inputs:
         made.read(file, settings.encoding)
     if made.problems:
         text = text_of_problems(made.problems).encode("utf-8", "replace")

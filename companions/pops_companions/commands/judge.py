@@ -21,7 +21,24 @@ NAME = "pops-judge"
 SECONDS = 60.0
 
 
-def arguments(words: list[str]) -> argparse.Namespace:
+class Settings(argparse.Namespace):
+    """The words of the command line."""
+
+    collection: str
+    output: str
+    heading: Optional[str]
+    seconds: float
+    jobs: Optional[int]
+    solutions: int
+    resume: bool
+    apart: bool
+    all: bool
+    pops: Optional[str]
+    pops_tries: Optional[str]
+    encoding: str
+
+
+def arguments(words: list[str]) -> Settings:
     parser = command.parser(
         NAME,
         "Solves the problems of COLLECTION, looks for short solutions, and writes one sheet with a\n"
@@ -59,13 +76,13 @@ def arguments(words: list[str]) -> argparse.Namespace:
     add("--pops", metavar="PROGRAM", help=LOOKED_FOR)
     add("--pops-tries", metavar="PROGRAM", help=TRIES_LOOKED_FOR)
     command.add_encoding(parser)
-    settings = parser.parse_args(words)
+    settings = parser.parse_args(words, Settings())
     if not 0 <= settings.seconds < float("inf"):
         parser.error("--seconds needs a number from 0")
     return settings
 
 
-def runs_of(settings: argparse.Namespace) -> Runs:
+def runs_of(settings: Settings) -> Runs:
     """The programs, and how they are run."""
     try:
         pops = find(settings.pops)
@@ -85,7 +102,7 @@ def read_collection(name: str) -> bytes:
     return text
 
 
-def judge(settings: argparse.Namespace) -> Status:
+def judge(settings: Settings) -> Status:
     """Runs what is needed, writes the sheet and prints the verdicts."""
     text = read_collection(settings.collection)
     given = given_problems(text)

@@ -1,5 +1,6 @@
 """Solves many problems on all processors, and on other machines, as one run of pops would."""
 
+import argparse
 import math
 import os
 import signal
@@ -38,7 +39,38 @@ DEPTH_HERE = 2
 DEPTH_THERE = 1
 
 
-def arguments(words: list[str]) -> "command.argparse.Namespace":
+class Settings(argparse.Namespace):
+    """The words of the command line."""
+
+    files: list[str]
+    output: Optional[str]
+    each: bool
+    index: Optional[str]
+    jobs: Optional[int]
+    check: bool
+    no_board: bool
+    seconds: Optional[float]
+    unfinished: Optional[str]
+    split: bool
+    split_after: Optional[float]
+    split_depth: Optional[int]
+    pops_part: Optional[str]
+    resume: bool
+    journal: Optional[str]
+    pops: Optional[str]
+    sshlogin: list[str]
+    ssh: Optional[str]
+    remote_pops: str
+    remote_pops_part: Optional[str]
+
+    @property
+    def inputs(self) -> Sequence[Optional[str]]:
+        """The inputs; None is standard input."""
+        inputs: list[Optional[str]] = [*self.files]
+        return inputs or [None]
+
+
+def arguments(words: list[str]) -> Settings:
     parser = command.parser(
         NAME,
         "Solves the problems of each FILE, or of standard input, on all processors.\n"
@@ -125,7 +157,7 @@ def arguments(words: list[str]) -> "command.argparse.Namespace":
         help="pops-part on those machines (pops-part)",
     )
     add("--ssh", metavar="COMMAND", help="the ssh that GNU parallel uses, with its options")
-    settings = parser.parse_args(words)
+    settings = parser.parse_args(words, Settings())
     if settings.jobs is not None and settings.jobs < 1:
         parser.error("--jobs needs a number from 1")
     if settings.seconds is not None and not 0 < settings.seconds < math.inf:
@@ -145,7 +177,7 @@ def arguments(words: list[str]) -> "command.argparse.Namespace":
 
 
 def refuse_split(
-    parser: "command.argparse.ArgumentParser", settings: "command.argparse.Namespace"
+    parser: argparse.ArgumentParser, settings: Settings
 ) -> None:
     """Refuses what doesn't go together with parts, or is nothing without them."""
     if not settings.split:
@@ -161,14 +193,14 @@ def refuse_split(
         parser.error("--split-after needs a number above 0")
 
 
-def moment_of(settings: "command.argparse.Namespace", problems: int, jobs: int) -> float:
+def moment_of(settings: Settings, problems: int, jobs: int) -> float:
     """How many seconds a problem has before it is cut into parts."""
     if settings.split_after is not None:
         return float(settings.split_after)
     return SPLIT_SOON_AFTER if problems < jobs else SPLIT_AFTER
 
 
-def depth_of(settings: "command.argparse.Namespace") -> int:
+def depth_of(settings: Settings) -> int:
     """By how many half-moves help play is cut."""
     if settings.split_depth is not None:
         return int(settings.split_depth)
@@ -194,7 +226,7 @@ def read_source(name: Optional[str], progress: Progress) -> Source:
 
 
 def reports_of(
-    settings: "command.argparse.Namespace", tasks: Sequence[Task], run: bytes
+    settings: Settings, tasks: Sequence[Task], run: bytes
 ) -> list[Report]:
     """The reports that are to be written, with their files."""
     limited = settings.seconds is not None or settings.split or settings.resume
@@ -224,7 +256,7 @@ def reports_of(
     return reports + [report(of_file, path) for path, (_, of_file) in of_path.items()]
 
 
-def path_of_journal(settings: "command.argparse.Namespace") -> Optional[str]:
+def path_of_journal(settings: Settings) -> Optional[str]:
     """The journal that is named, else the one beside the report."""
     if settings.journal is None and settings.output is not None:
         return settings.output.rstrip("/") + ".journal"
@@ -232,7 +264,7 @@ def path_of_journal(settings: "command.argparse.Namespace") -> Optional[str]:
 
 
 def open_journal(
-    path: Optional[str], settings: "command.argparse.Namespace", run: bytes
+    path: Optional[str], settings: Settings, run: bytes
 ) -> Journal:
     """The run's journal; that of a run that stopped isn't overwritten."""
     try:
@@ -259,7 +291,7 @@ def try_out(targets: Sequence[Target]) -> None:
 
 def refuse_shared(read: Sequence[str], written: Sequence[str]) -> None:
     """Refuses what would be written over an input or over another file of the run."""
-    taken = set(map(os.path.realpath, read))
+    taken = {os.path.realpath(path) for path in read}
     for path in written:
         real = os.path.realpath(path)
         if real in taken:
@@ -285,7 +317,7 @@ def watch_signals() -> None:
             signal.signal(sign, stopped)
 
 
-def programs_of(settings: "command.argparse.Namespace", options: list[str]) -> Programs:
+def programs_of(settings: Settings, options: list[str]) -> Programs:
     """The programs on this machine."""
     try:
         pops = find(settings.pops)
@@ -300,7 +332,7 @@ def programs_of(settings: "command.argparse.Namespace", options: list[str]) -> P
 
 
 def elsewhere_of(
-    settings: "command.argparse.Namespace",
+    settings: Settings,
     options: list[str],
     programs: Programs,
     progress: Progress,
@@ -322,12 +354,12 @@ def elsewhere_of(
     return Elsewhere(machines, there)
 
 
-def solve(settings: "command.argparse.Namespace", output: BinaryIO) -> int:
+def solve(settings: Settings, output: BinaryIO) -> int:
     """Runs all that is asked for. Answers the exit status of the runs of pops."""
     options = ["--check"] * settings.check + ["--no-board"] * settings.no_board
     programs = programs_of(settings, options)
     progress = Progress(NAME)
-    sources = [read_source(name, progress) for name in settings.files or [None]]
+    sources = [read_source(name, progress) for name in settings.inputs]
     tasks = tasks_of(sources)
     jobs = settings.jobs or len(os.sched_getaffinity(0))
     if settings.split:

@@ -1,8 +1,9 @@
 """Turns a report of pops into a page of diagrams and solutions."""
 
+import argparse
 import sys
 from collections.abc import Iterator
-from typing import NoReturn
+from typing import NoReturn, Optional
 
 from pops_companions.texts import command
 from pops_companions.texts.command import Status
@@ -14,7 +15,19 @@ from pops_companions.texts.report_source import opened_unfinished_report
 NAME = "pops-page"
 
 
-def arguments(words: list[str]) -> "command.argparse.Namespace":
+class Settings(argparse.Namespace):
+    """The words of the command line."""
+
+    report: Optional[str]
+    output: Optional[str]
+    heading: str
+    input: Optional[str]
+    unfinished: Optional[str]
+    apart: bool
+    encoding: str
+
+
+def arguments(words: list[str]) -> Settings:
     parser = command.parser(
         NAME,
         "Turns a report of pops into an HTML page: for each problem a diagram with title and\n"
@@ -38,7 +51,7 @@ def arguments(words: list[str]) -> "command.argparse.Namespace":
     )
     add("--apart", action="store_true", help="show each twin as a problem of its own")
     command.add_encoding(parser)
-    return parser.parse_args(words)
+    return parser.parse_args(words, Settings())
 
 
 def main(words: list[str]) -> Status:

@@ -1,8 +1,9 @@
 """Writes a report of pops as JSON, one object an item."""
 
+import argparse
 import json
 from collections.abc import Iterator, Sequence
-from typing import NoReturn
+from typing import NoReturn, Optional
 
 from pops_companions.texts import command
 from pops_companions.texts.as_json import Json, item_object, schema
@@ -13,6 +14,17 @@ from pops_companions.texts.report import Item
 from pops_companions.texts.report_source import opened_report
 
 NAME = "pops2json"
+
+
+class Settings(argparse.Namespace):
+    """The words of the command line."""
+
+    report: Optional[str]
+    output: Optional[str]
+    input: Optional[str]
+    array: bool
+    schema: bool
+    encoding: str
 
 
 def object_of(item: Item, given: Sequence[GivenProblem], encoding: str) -> Json:
@@ -62,7 +74,7 @@ def main(words: list[str]) -> Status:
         "--schema", action="store_true", help="write the JSON Schema of an object; reads no report"
     )
     command.add_encoding(parser)
-    settings = parser.parse_args(words)
+    settings = parser.parse_args(words, Settings())
     if settings.schema:
         if settings.report is not None or settings.input is not None:
             parser.error("--schema reads no report")

@@ -1,12 +1,20 @@
 """Says which problems of a report of pops are sound, and what is wrong with the others."""
 
+import argparse
 from collections.abc import Iterator
 from typing import NoReturn, Optional
 
 from pops_companions.review.beside import Beside
 from pops_companions.review.judged_groups import JudgedGroup, judged_groups
 from pops_companions.review.judgement_page import page
-from pops_companions.review.judgement_text import COLUMNS, MOST_LINES, Tally, as_csv, as_text, csv_line
+from pops_companions.review.judgement_text import (
+    COLUMNS,
+    MOST_LINES,
+    Tally,
+    as_csv,
+    as_text,
+    csv_line,
+)
 from pops_companions.review.posing import posed_problems
 from pops_companions.review.reading import reviewed_unfinished_report
 from pops_companions.texts import command
@@ -17,7 +25,25 @@ from pops_companions.texts.problem_text import text_of_problems
 NAME = "pops-test"
 
 
-def arguments(words: list[str]) -> "command.argparse.Namespace":
+class Settings(argparse.Namespace):
+    """The words of the command line."""
+
+    text: Optional[str]
+    input: Optional[str]
+    solutions: int
+    pose: bool
+    short: Optional[str]
+    unfinished: Optional[str]
+    csv: bool
+    page: bool
+    heading: str
+    apart: bool
+    all: bool
+    output: Optional[str]
+    encoding: str
+
+
+def arguments(words: list[str]) -> Settings:
     parser = command.parser(
         NAME,
         "Says which problems of a report of pops are sound, and what is wrong with the others:\n"
@@ -72,7 +98,7 @@ def arguments(words: list[str]) -> "command.argparse.Namespace":
     add("--all", action="store_true", help=f"show all moves of a finding, not only {MOST_LINES}")
     add("-o", "--output", metavar="FILE", help="what is written (default: standard output)")
     command.add_encoding(parser)
-    settings = parser.parse_args(words)
+    settings = parser.parse_args(words, Settings())
     beside = (settings.input, settings.short, settings.unfinished, settings.csv, settings.page)
     if settings.pose and any(beside):
         parser.error("--pose goes only with an input and --output")
@@ -91,7 +117,7 @@ def pose(file: Optional[str], output: Optional[str]) -> None:
         target.write(text_of_problems(posed).encode("utf-8", "surrogateescape"))
 
 
-def test(settings: "command.argparse.Namespace") -> Status:
+def test(settings: Settings) -> Status:
     """Judges a report and writes what was found."""
     beside = Beside(NAME, settings.solutions, settings.input, settings.short)
     tally = Tally()
@@ -112,7 +138,7 @@ def test(settings: "command.argparse.Namespace") -> Status:
 def texts(
     judged: Iterator[JudgedGroup],
     tally: Tally,
-    settings: "command.argparse.Namespace",
+    settings: Settings,
     most: Optional[int],
 ) -> Iterator[str]:
     """What is written, piece by piece: text and CSV problem by problem."""

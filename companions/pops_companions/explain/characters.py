@@ -95,7 +95,8 @@ def plain(text: str) -> str:
 
 
 def _plain(character: str) -> str:
-    for table in (*_LIKE.values(), _FIGURINES):
+    tables: list[dict[str, str]] = [*_LIKE.values(), _FIGURINES]
+    for table in tables:
         if character in table:
             return table[character]
     if _is_wide(character):

@@ -96,8 +96,7 @@ def end_missing(text: bytes, reading: Reading) -> Explanation:
 def _causes_of_no_end(text: bytes, reading: Reading) -> Iterator[Optional[Explanation]]:
     yield _old_mac(text, reading)
     for line in reading.text_lines:
-        words = line.text.split()
-        closing = [word for word in words if named(word, ["EndProblem"]) and len(word) > 4]
+        closing = [word for word in line.text.split() if named(word, ["EndProblem"]) and len(word) > 4]
         if closing:
             yield at(
                 sentence("end_swallowed", opener=line.name, word=shown(closing[0])),

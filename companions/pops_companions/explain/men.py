@@ -15,8 +15,8 @@ from pops_companions.explain.reading import (
     Section,
     checkers,
     is_man,
-    king_of,
     kind_of,
+    king_of,
     to_be_mated,
 )
 from pops_companions.explain.sentences import sentence

@@ -10,7 +10,15 @@ from pops_companions.export.problems import Problem, read_problems
 from pops_companions.find.boards import board_of
 from pops_companions.import_.words import Unreadable
 from pops_companions.texts.chess import Colour, Kind, Man, Square
-from pops_companions.texts.report import HelpLine, Mark, Node, PhaseKind, ReportError, SoundItem, read_report
+from pops_companions.texts.report import (
+    HelpLine,
+    Mark,
+    Node,
+    PhaseKind,
+    ReportError,
+    SoundItem,
+    read_report,
+)
 from pops_companions.texts.titles import is_text, shown
 
 _REPORT = re.compile(rb"problem [1-9][0-9]*\r?\n")

@@ -240,14 +240,14 @@ class Language:
 
 
 def meaning(
-    word: str, table: Table[Meaning], preferred: AbstractSet[Meaning] = frozenset()
+    word: str, table: Table[Meaning], preferred: Optional[AbstractSet[Meaning]] = None
 ) -> Optional[Meaning]:
     """What a word of a table, or one that is short for it, means. None where that isn't certain.
 
     Where it is short for several, it means the preferred one.
     """
     meanings = table.get(word, frozenset())
-    if len(meanings) > 1:
+    if len(meanings) > 1 and preferred is not None:
         meanings = meanings & preferred
     return next(iter(meanings)) if len(meanings) == 1 else None
 

@@ -5,7 +5,14 @@ from collections.abc import Iterable
 from typing import Optional
 
 from pops_companions.import_.draft import Draft, Twin
-from pops_companions.import_.language import LANGUAGES, TEXT_COMMANDS, Command, Language, folded, meaning
+from pops_companions.import_.language import (
+    LANGUAGES,
+    TEXT_COMMANDS,
+    Command,
+    Language,
+    folded,
+    meaning,
+)
 from pops_companions.import_.men import PlacedMan, read_forsyth, read_men
 from pops_companions.import_.options import read_options
 from pops_companions.import_.sections import take_conditions, take_stipulation, take_wanted
@@ -119,7 +126,8 @@ class _Reader:
             word = self._words.peek()
             if word is None:
                 return
-            if len(word.key) >= _LEAST_LETTERS and self._command(word) in commands:
+            command = self._command(word) if len(word.key) >= _LEAST_LETTERS else None
+            if command is not None and command in commands:
                 return
             self._words.take()
 

@@ -5,7 +5,7 @@ import re
 from typing import Optional
 
 from pops_companions.import_.language import meaning, table_of
-from pops_companions.import_.words import Unreadable, Words
+from pops_companions.import_.words import Unreadable, Word, Words
 from pops_companions.texts.stipulation import Condition
 
 _LEAST_LETTERS = 3
@@ -37,15 +37,20 @@ def take_wanted(words: Words) -> tuple[Optional[int], str]:
 def take_stipulation(words: Words) -> str:
     """The word of a stipulation; its number may stand by itself."""
     word = words.peek()
-    if word is None or (
-        len(word.key) >= _LEAST_LETTERS and meaning(word.key, words.language.commands)
-    ):
+    if word is None or _is_command(word, words):
         raise Unreadable(words.line, "the stipulation is missing")
     text = words.take().text
     number = words.peek()
     if text[-1] in "#=" and number is not None and re.fullmatch(r"\d+(\.5)?", number.text):
         text += words.take().text
     return text
+
+
+def _is_command(word: Word, words: Words) -> bool:
+    """Whether a word is a command or short for one."""
+    if len(word.key) < _LEAST_LETTERS:
+        return False
+    return meaning(word.key, words.language.commands) is not None
 
 
 def take_conditions(words: Words, before: tuple[str, ...] = ()) -> tuple[str, ...]:
@@ -58,9 +63,10 @@ def take_conditions(words: Words, before: tuple[str, ...] = ()) -> tuple[str, ..
         word = words.peek()
         if word is None:
             break
-        if len(word.key) >= _LEAST_LETTERS and meaning(word.key, words.language.commands):
+        if _is_command(word, words):
             break
-        if conditions and words.of_twin and meaning(word.key, words.language.twinnings):
+        twinning = meaning(word.key, words.language.twinnings)
+        if conditions and words.of_twin and twinning is not None:
             break
         words.take()
         known = meaning(word.key, _CONDITIONS) if len(word.key) >= _LEAST_LETTERS else None

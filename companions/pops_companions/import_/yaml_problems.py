@@ -11,7 +11,7 @@ from pops_companions.import_.popeye import place
 from pops_companions.import_.sections import take_conditions, wanted_of
 from pops_companions.import_.twins import read_twin
 from pops_companions.import_.words import TextLine, Told, Unreadable, Words
-from pops_companions.import_.yaml_text import Node, Scalar, YamlError, documents
+from pops_companions.import_.yaml_text import Node, Scalar, YamlError, documents, line_of
 
 _COLOURS = ("white", "black", "neutral")
 # The twin that stands in place of the position itself.
@@ -32,7 +32,7 @@ def read_yaml(text: str) -> list[Draft]:
             draft = Draft(len(drafts) + 1, document.line)
             drafts.append(draft)
             if isinstance(problem, dict):
-                draft.line = min((key.line for key in problem), default=document.line)
+                draft.line = min(map(line_of, problem), default=document.line)
                 for key, value in problem.items():
                     _read_key(key, value, draft)
                 _read_origin(problem, draft)
@@ -42,7 +42,7 @@ def read_yaml(text: str) -> list[Draft]:
     return drafts
 
 
-def _read_key(key: Scalar, value: Node, draft: Draft) -> None:
+def _read_key(key: str, value: Node, draft: Draft) -> None:
     readers = {
         "title": _read_title,
         "author": _read_authors,
@@ -64,7 +64,7 @@ def _read_key(key: Scalar, value: Node, draft: Draft) -> None:
         draft.faults.append(error.told)
 
 
-def _read_later(_: Scalar, __: Node, ___: Draft) -> None:
+def _read_later(_: str, __: Node, ___: Draft) -> None:
     """Source and date are read together, after all keys."""
 
 
@@ -76,7 +76,7 @@ def _texts(node: Node) -> list[Scalar]:
         return [text for one in node for text in _texts(one)]
     if isinstance(node, dict):
         return [
-            Scalar(f"{key} {' '.join(_texts(value))}".rstrip(), key.line)
+            Scalar(f"{key} {' '.join(_texts(value))}".rstrip(), line_of(key))
             for key, value in node.items()
         ]
     return [node]
@@ -86,15 +86,15 @@ def _one_line(node: Node, between: str) -> str:
     return between.join(text.replace("\n", " ") for text in _texts(node))
 
 
-def _read_title(_: Scalar, value: Node, draft: Draft) -> None:
+def _read_title(_: str, value: Node, draft: Draft) -> None:
     draft.texts.append(TextLine(Command.TITLE, _one_line(value, "; ")))
 
 
-def _read_authors(_: Scalar, value: Node, draft: Draft) -> None:
+def _read_authors(_: str, value: Node, draft: Draft) -> None:
     draft.texts.append(TextLine(Command.AUTHOR, _one_line(value, "; ")))
 
 
-def _read_origin(keys: dict[Scalar, Node], draft: Draft) -> None:
+def _read_origin(keys: dict[str, Node], draft: Draft) -> None:
     """Source and date, which are one line."""
     parts: list[tuple[str, str]] = []
     for key, value in keys.items():
@@ -121,11 +121,11 @@ def _parts_of_origin(name: str, node: Node) -> Iterator[tuple[str, str]]:
             yield name, text
 
 
-def _read_stipulation(key: Scalar, value: Node, draft: Draft) -> None:
+def _read_stipulation(key: str, value: Node, draft: Draft) -> None:
     texts = _texts(value)
     if not texts:
         raise Unreadable(
-            key.line, "the stipulation is empty: in YAML # begins a comment, so put it in quotes"
+            line_of(key), "the stipulation is empty: in YAML # begins a comment, so put it in quotes"
         )
     text = " ".join(texts)
     stipulation, _, number = text.rpartition(" ")
@@ -137,7 +137,7 @@ def _read_stipulation(key: Scalar, value: Node, draft: Draft) -> None:
     draft.want(wanted, number)
 
 
-def _read_wanted(key: Scalar, value: Node, draft: Draft) -> None:
+def _read_wanted(key: str, value: Node, draft: Draft) -> None:
     """The number of solutions wanted: as it is, or as 2.1.1, of which the product is meant."""
     text = _one_line(value, " ")
     wanted = wanted_of(text)
@@ -147,12 +147,12 @@ def _read_wanted(key: Scalar, value: Node, draft: Draft) -> None:
         draft.want(wanted, text)
 
 
-def _read_comments(_: Scalar, value: Node, draft: Draft) -> None:
+def _read_comments(_: str, value: Node, draft: Draft) -> None:
     for text in _texts(value):
         draft.texts.extend(TextLine(Command.REMARK, line) for line in text.split("\n"))
 
 
-def _read_other(key: Scalar, value: Node, draft: Draft) -> None:
+def _read_other(key: str, value: Node, draft: Draft) -> None:
     """Keeps what pops has no word for: a Remark for each line."""
     for name, text in _named_texts(key, value):
         for line in text.split("\n"):
@@ -180,17 +180,17 @@ def _words_of(text: Scalar, read: Callable[[Words], None], draft: Draft, before:
     draft.tell_of_skipped(words)
 
 
-def _read_men(key: Scalar, value: Node, draft: Draft) -> None:
+def _read_men(key: str, value: Node, draft: Draft) -> None:
     if not isinstance(value, dict):
-        raise Unreadable(key.line, "algebraic holds no lists white and black")
+        raise Unreadable(line_of(key), "algebraic holds no lists white and black")
     for colour, node in value.items():
         if colour not in _COLOURS:
-            raise Unreadable(colour.line, f"{colour} is none of white, black and neutral")
+            raise Unreadable(line_of(colour), f"{colour} is none of white, black and neutral")
         for text in _texts(node):
             _words_of(text, lambda words: place(draft, read_men(words)), draft, f"{colour} ")
 
 
-def _read_conditions(_: Scalar, value: Node, draft: Draft) -> None:
+def _read_conditions(_: str, value: Node, draft: Draft) -> None:
     def read(words: Words) -> None:
         draft.setting.conditions = take_conditions(words, draft.setting.conditions)
 
@@ -198,18 +198,18 @@ def _read_conditions(_: Scalar, value: Node, draft: Draft) -> None:
         _words_of(text, read, draft)
 
 
-def _read_options(_: Scalar, value: Node, draft: Draft) -> None:
+def _read_options(_: str, value: Node, draft: Draft) -> None:
     for text in _texts(value):
         _words_of(text, lambda words: read_options(words, draft), draft)
 
 
-def _read_twins(key: Scalar, value: Node, draft: Draft) -> None:
+def _read_twins(key: str, value: Node, draft: Draft) -> None:
     if value is None:
         return
     if not isinstance(value, dict):
-        raise Unreadable(key.line, "twins holds no keys b, c ..")
+        raise Unreadable(line_of(key), "twins holds no keys b, c ..")
     for label, node in value.items():
-        twin = Twin(f"{label})", label.line)
+        twin = Twin(f"{label})", line_of(label))
         draft.twins.append(twin)
         if label == _FIRST_TWIN:
             draft.first = False

@@ -8,7 +8,15 @@ from contextlib import closing
 
 from pops_companions.many.leash import Leashed
 from pops_companions.many.lots import Lot, numbers_of
-from pops_companions.many.parts import Key, Part, PartsError, Phase, count_in, phases_listed, up_to_totals
+from pops_companions.many.parts import (
+    Key,
+    Part,
+    PartsError,
+    Phase,
+    count_in,
+    phases_listed,
+    up_to_totals,
+)
 from pops_companions.many.program import PAUSE, SOUND, RunError, Runs
 from pops_companions.many.tasks import whole_lines
 

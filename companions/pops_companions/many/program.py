@@ -49,7 +49,7 @@ def find(named: Optional[str]) -> str:
     places = ["pops"]
     if COMPANIONS.parts[-3:] == ("share", "pops", "companions"):
         places.insert(0, str(COMPANIONS.parents[2] / "bin" / "pops"))
-    for found in [_of_sources(repository, "pops"), *map(shutil.which, places)]:
+    for found in [_of_sources(repository, "pops"), *(shutil.which(it) for it in places)]:
         if found is not None:
             return _without_script(found)
     if _is_repository(repository):

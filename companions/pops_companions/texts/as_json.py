@@ -4,7 +4,16 @@ from pathlib import Path
 from typing import Any, Optional, Union
 
 from pops_companions.texts.given import GivenProblem
-from pops_companions.texts.report import Board, FaultyItem, HelpLine, Item, Node, Phase, PlayedMove, SoundItem
+from pops_companions.texts.report import (
+    Board,
+    FaultyItem,
+    HelpLine,
+    Item,
+    Node,
+    Phase,
+    PlayedMove,
+    SoundItem,
+)
 from pops_companions.texts.stipulation import Stipulation
 from pops_companions.texts.titles import shown
 
